@@ -1,0 +1,174 @@
+-- Logical lines read from left to right.
+use Rattle.std.proofs.Common.{◌≡◌, ℕ, zero, suc, ◌+◌, ◌-◌, ◌<◌, ◌≤◌, Bool, true, false, cond, List, [], ◌∷◌, ◌++◌, length, get_or, take, drop, Result, Ok, Err, Option, Some, None, refl, sym, ap, subst, ◌∙◌, append_assoc, arith, add-zero, eqb, ◌≢◌, length-drop}
+use Rattle.std.proofs.lemmas.Bool.{eqb-true, ltb-true}
+use Rattle.std.specs.Prelude.{map, nat_lt}
+use Rattle.std.proofs.lemmas.List.{drop-drop}
+use Rattle.plan_text.specs.Bytes.{line_feed, carriage_return, hash, dollar, begins_with}
+use Rattle.plan_text.specs.declared.fault.TextFault.{TextFault}
+use Rattle.plan_text.specs.declared.line_reader.Line.{Line}
+use Rattle.plan_text.specs.Lines.{newline_len, begins_newline, line_unit, comment_unit, indent_len, logical_len, Raw, raw_past, line_of, line_onto, collected, raw_lines, lines_of, max_source}
+use Rattle.plan_text.specs.Runs.{run}
+use Rattle.plan_text.proofs.RunLemmas.{run_end, run_some}
+use Rattle.plan_text.specs.declared.fault.TextFault.TheVariants.{SourceTooLong}
+use Rattle.std.proofs.lemmas.Bool.Decides.{nat_tests}
+
+-- what was found, in front of what is found in the rest
+abbrev pub with_front : List Line → Result (List Line) TextFault → Result (List Line) TextFault
+with_front front (Ok lines) = Ok (front ++ lines)
+with_front front (Err fault) = Err fault
+
+raw_skipped : (at : ℕ) (text : List ℕ) (n : ℕ) → raw_past at text n ≡ raw_past (at + n) (drop n text) 0
+raw_skipped at [] zero = refl
+raw_skipped at [] (suc n) = refl
+raw_skipped at (b ∷ rest) zero = rw (add-zero at) refl
+raw_skipped at (b ∷ rest) (suc n) = raw_skipped (at + 1) rest n ∙ ap (λ (k : ℕ). raw_past k (drop n rest) 0) (omega arith)
+
+comment_progress : (s : List ℕ) → begins_with hash s ≡ true → 0 < run comment_unit s
+comment_progress [] e = absurd cc
+comment_progress (c ∷ r) e = subst (λ (k : ℕ). 0 < run comment_unit (k ∷ r)) (sym (eqb-true c hash e)) (omega arith)
+
+line_unit_some : (b : ℕ) (rest : List ℕ) (v : Bool) → begins_newline (b ∷ rest) ≡ false → eqb b dollar ≡ v → 0 < line_unit (b ∷ rest)
+line_unit_some b rest true e f = rw (e, f) (omega arith)
+line_unit_some b rest false e f = rw (e, f) (omega arith)
+
+line_progress : (b : ℕ) (rest : List ℕ) (v : Bool) → begins_newline (b ∷ rest) ≡ v → 0 < run line_unit (b ∷ rest) + newline_len (drop (run line_unit (b ∷ rest)) (b ∷ rest))
+line_progress b rest true e =
+    let z : run line_unit (b ∷ rest) ≡ 0 = run_end line_unit (b ∷ rest) (rw e refl) in
+    subst (λ (k : ℕ). 0 < k + newline_len (drop k (b ∷ rest))) (sym z) (omega (arith, ltb-true 0 (newline_len (b ∷ rest)) e))
+line_progress b rest false e =
+    let some = run_some line_unit b rest (line_unit_some b rest (eqb b dollar) e refl) in
+    omega (arith, some)
+
+progress : (s : List ℕ) (v : Bool) → 0 < length s → begins_with hash (drop (indent_len s) s) ≡ v → 0 < logical_len s + newline_len (drop (logical_len s) s)
+progress [] v h e = absurd (omega arith)
+progress (b ∷ rest) true h e =
+    let z : logical_len (b ∷ rest) ≡ indent_len (b ∷ rest) + run comment_unit (drop (indent_len (b ∷ rest)) (b ∷ rest)) = ap (λ (v : Bool). cond v (indent_len (b ∷ rest) + run comment_unit (drop (indent_len (b ∷ rest)) (b ∷ rest))) (run line_unit (b ∷ rest))) e in
+    omega (arith, z, comment_progress (drop (indent_len (b ∷ rest)) (b ∷ rest)) e)
+progress (b ∷ rest) false h e =
+    let z : logical_len (b ∷ rest) ≡ run line_unit (b ∷ rest) = ap (λ (v : Bool). cond v (indent_len (b ∷ rest) + run comment_unit (drop (indent_len (b ∷ rest)) (b ∷ rest))) (run line_unit (b ∷ rest))) e in
+    subst (λ (k : ℕ). 0 < k + newline_len (drop k (b ∷ rest))) (sym z) (line_progress b rest (begins_newline (b ∷ rest)) refl)
+
+-- the first logical line, and the ones behind it
+raw_first : (at : ℕ) (s : List ℕ) (n : ℕ) → 0 < length s → n ≡ logical_len s + newline_len (drop (logical_len s) s) → 0 < n
+    → raw_past at s 0 ≡ record { at = at; bytes = take (logical_len s) s } ∷ raw_past (at + n) (drop n s) 0
+raw_first at [] n h e p = absurd (omega arith)
+raw_first at (b ∷ rest) n h e p =
+    ap (λ (k : ℕ). record { at = at; bytes = take (logical_len (b ∷ rest)) (b ∷ rest) } ∷ raw_past (at + 1) rest (k - 1)) (sym e)
+    ∙ ap (λ (v : List Raw). record { at = at; bytes = take (logical_len (b ∷ rest)) (b ∷ rest) } ∷ v) (raw_skipped (at + 1) rest (n - 1) ∙ later n p)
+  where
+    later : (n : ℕ) → 0 < n → raw_past (at + 1 + (n - 1)) (drop (n - 1) rest) 0 ≡ raw_past (at + n) (drop n (b ∷ rest)) 0
+    later zero p = absurd (omega arith)
+    later (suc n) p =
+        let e : suc n - 1 ≡ n = omega arith in
+        let f : at + 1 + (suc n - 1) ≡ at + suc n = omega arith in
+        ap (λ (k : ℕ). raw_past k (drop (suc n - 1) rest) 0) f ∙ ap (λ (k : ℕ). raw_past (at + suc n) (drop k rest) 0) e
+
+raw_read : (at : ℕ) (text : List ℕ) (len newline : ℕ) → at < length text → len ≡ logical_len (drop at text) → newline ≡ newline_len (drop len (drop at text))
+    → raw_past at (drop at text) 0 ≡ record { at = at; bytes = take len (drop at text) } ∷ raw_past (at + (len + newline)) (drop (at + (len + newline)) text) 0
+raw_read at text len newline h e f =
+    let l : 0 < length (drop at text) = omega (arith, length-drop at text) in
+    let n : len + newline ≡ logical_len (drop at text) + newline_len (drop (logical_len (drop at text)) (drop at text)) = subst (λ (k : ℕ). k + newline ≡ logical_len (drop at text) + newline_len (drop (logical_len (drop at text)) (drop at text))) (sym e) (ap (λ (k : ℕ). logical_len (drop at text) + k) (f ∙ ap (λ (k : ℕ). newline_len (drop k (drop at text))) e)) in
+    let p = progress (drop at text) (begins_with hash (drop (indent_len (drop at text)) (drop at text))) l refl in
+    raw_first at (drop at text) (len + newline) l n (omega (arith, n, p))
+    ∙ ap (λ (k : ℕ). record { at = at; bytes = take k (drop at text) } ∷ raw_past (at + (len + newline)) (drop (len + newline) (drop at text)) 0) (sym e)
+    ∙ ap (λ (v : List ℕ). record { at = at; bytes = take len (drop at text) } ∷ raw_past (at + (len + newline)) v 0) (drop-drop (len + newline) at text)
+
+-- one more logical line
+goes_on : (front : List Line) (raw : Raw) (more : List Raw) (line : Line) (all : Result (List Line) TextFault) → line_of raw ≡ Ok (Some line)
+    → with_front front (collected (map line_of (raw ∷ more))) ≡ all → with_front (front ++ line ∷ []) (collected (map line_of more)) ≡ all
+goes_on front raw more line all e so_far =
+    regroup (collected (map line_of more)) ∙ ap (λ (r : Result (Option Line) TextFault). with_front front (collected (r ∷ map line_of more))) (sym e) ∙ so_far
+  where
+    regroup : (r : Result (List Line) TextFault) → with_front (front ++ line ∷ []) r ≡ with_front front (line_onto line r)
+    regroup (Ok lines) = ap (λ (v : List Line). Ok v) (append_assoc front (line ∷ []) lines)
+    regroup (Err fault) = refl
+
+passes : (front : List Line) (raw : Raw) (more : List Raw) (all : Result (List Line) TextFault) → line_of raw ≡ Ok None
+    → with_front front (collected (map line_of (raw ∷ more))) ≡ all → with_front front (collected (map line_of more)) ≡ all
+passes front raw more all e so_far = ap (λ (r : Result (Option Line) TextFault). with_front front (collected (r ∷ map line_of more))) (sym e) ∙ so_far
+
+stops : (front : List Line) (raw : Raw) (more : List Raw) (fault : TextFault) (all : Result (List Line) TextFault) → line_of raw ≡ Err fault
+    → with_front front (collected (map line_of (raw ∷ more))) ≡ all → all ≡ Err fault
+stops front raw more fault all e so_far = sym so_far ∙ ap (λ (r : Result (Option Line) TextFault). with_front front (collected (r ∷ map line_of more))) e
+
+-- a text that isn't too long
+pub lines-short : (text : List ℕ) → length text ≤ max_source → lines_of text ≡ collected (map line_of (raw_lines text))
+lines-short text h = ap (λ (v : Bool). cond v (Err (SourceTooLong max_source)) (collected (map line_of (raw_lines text)))) (within (length text) h) where
+  within : (n : ℕ) → n ≤ max_source → nat_lt max_source n ≡ false
+  within n h = grind (arith, nat_tests)
+
+-- one turn of the reader: the line at the front of what is left, and how far it goes
+pub record Turn (text : List ℕ) (at : ℕ) (line : List ℕ) (newline : ℕ) : Type 0 where
+  pub read : raw_past at (drop at text) 0 ≡ record { at = at; bytes = line } ∷ raw_past (at + (length line + newline)) (drop (at + (length line + newline)) text) 0
+  pub goes : 0 < length line + newline
+
+pub turn : (text whole line behind : List ℕ) (at len newline : ℕ) → at < length text → whole ≡ drop at text → len ≡ logical_len whole → line ≡ take len whole → behind ≡ drop len whole
+    → newline ≡ newline_len behind → length line ≡ len → Turn text at line newline
+turn text whole line behind at len newline h w l f b n m =
+    let e : len ≡ logical_len (drop at text) = l ∙ ap logical_len w in
+    let g : newline ≡ newline_len (drop len (drop at text)) = n ∙ ap newline_len (b ∙ ap (drop len) w) in
+    let p = progress (drop at text) (begins_with hash (drop (indent_len (drop at text)) (drop at text))) (omega (arith, length-drop at text)) refl in
+    let x : newline_len (drop len (drop at text)) ≡ newline_len (drop (logical_len (drop at text)) (drop at text)) = ap (λ (k : ℕ). newline_len (drop k (drop at text))) e in
+    record {
+      read = raw_read at text len newline h e g
+          ∙ ap (λ (v : List ℕ). record { at = at; bytes = v } ∷ raw_past (at + (len + newline)) (drop (at + (len + newline)) text) 0) (sym (f ∙ ap (take len) w))
+          ∙ ap (λ (k : ℕ). record { at = at; bytes = line } ∷ raw_past (at + (k + newline)) (drop (at + (k + newline)) text) 0) (sym m);
+      goes = omega (arith, p, e, g, x, m);
+    }
+
+-- what is found in the text from offset `at` on, behind what was found before
+abbrev pub found_from : List Line → ℕ → List ℕ → Result (List Line) TextFault
+found_from front at text = with_front front (collected (map line_of (raw_past at (drop at text) 0)))
+
+module _ (text : List ℕ) (at : ℕ) (line : List ℕ) (newline : ℕ) (t : Turn text at line newline) (front : List Line) (all : Result (List Line) TextFault) (so_far : found_from front at text ≡ all) where
+  here : with_front front (collected (map line_of (record { at = at; bytes = line } ∷ raw_past (at + (length line + newline)) (drop (at + (length line + newline)) text) 0))) ≡ all
+  here = sym (ap (λ (v : List Raw). with_front front (collected (map line_of v))) t.read) ∙ so_far
+
+  pub turn_some : (l : Line) → line_of (record { at = at; bytes = line }) ≡ Ok (Some l) → found_from (front ++ l ∷ []) (at + (length line + newline)) text ≡ all
+  turn_some l e = goes_on front (record { at = at; bytes = line }) (raw_past (at + (length line + newline)) (drop (at + (length line + newline)) text) 0) l all e here
+
+  pub turn_none : line_of (record { at = at; bytes = line }) ≡ Ok None → found_from front (at + (length line + newline)) text ≡ all
+  turn_none e = passes front (record { at = at; bytes = line }) (raw_past (at + (length line + newline)) (drop (at + (length line + newline)) text) 0) all e here
+
+  pub turn_err : (fault : TextFault) → line_of (record { at = at; bytes = line }) ≡ Err fault → all ≡ Err fault
+  turn_err fault e = stops front (record { at = at; bytes = line }) (raw_past (at + (length line + newline)) (drop (at + (length line + newline)) text) 0) fault all e here
+
+-- no newline begins where neither this byte nor the next is a line feed
+no_newline : (b : ℕ) (rest : List ℕ) → b ≢ line_feed → begins_with line_feed rest ≡ false → begins_newline (b ∷ rest) ≡ false
+no_newline b rest h e = grind (arith, nat_tests, h, e)
+
+no_front : (rest : List ℕ) → (0 < length rest → get_or rest 0 0 ≢ line_feed) → begins_with line_feed rest ≡ false
+no_front [] h = refl
+no_front (b ∷ rest) h = let ne : b ≢ line_feed = h (omega arith) in grind (arith, nat_tests, ne)
+
+-- a comment without a line feed goes to the end
+pub comment_to_end : (text : List ℕ) → ((k : ℕ) → k < length text → get_or text k 0 ≢ line_feed) → run comment_unit text ≡ length text
+comment_to_end [] h = refl
+comment_to_end (b ∷ rest) h =
+    rw (no_newline b rest (h 0 (omega arith)) (no_front rest (λ l. h 1 (omega arith)))) (ap suc (comment_to_end rest (λ k l. h (suc k) (omega arith))))
+
+no_newline_here : (b : ℕ) (rest : List ℕ) → b ≢ line_feed → b ≢ carriage_return → begins_newline (b ∷ rest) ≡ false
+no_newline_here b rest h e = grind (arith, nat_tests, h, e)
+
+newline_here : (b : ℕ) (rest : List ℕ) → b ≡ line_feed → begins_newline (b ∷ rest) ≡ true
+newline_here b rest e = grind (arith, nat_tests, e)
+
+cr_lf_here : (b c : ℕ) (rest : List ℕ) → b ≡ carriage_return → c ≡ line_feed → begins_newline (b ∷ c ∷ rest) ≡ true
+cr_lf_here b c rest e f = grind (arith, nat_tests, e, f)
+
+-- a comment up to a line feed, right behind a carriage return
+pub comment_to_cr : (text : List ℕ) (n : ℕ) → suc n < length text → ((k : ℕ) → k < suc n → get_or text k 0 ≢ line_feed) → get_or text n 0 ≡ carriage_return → get_or text (suc n) 0 ≡ line_feed → run comment_unit text ≡ n
+comment_to_cr [] n l h e f = absurd (omega arith)
+comment_to_cr (b ∷ []) n l h e f = absurd (omega arith)
+comment_to_cr (b ∷ c ∷ rest) zero l h e f = rw (cr_lf_here b c rest e f) refl
+comment_to_cr (b ∷ c ∷ rest) (suc n) l h e f =
+    rw (no_newline b (c ∷ rest) (h 0 (omega arith)) (no_front (c ∷ rest) (λ _. h 1 (omega arith)))) (ap suc (comment_to_cr (c ∷ rest) n (omega arith) (λ k m. h (suc k) (omega arith)) e f))
+
+-- a comment up to a line feed alone
+pub comment_to_lf : (text : List ℕ) (n : ℕ) → n < length text → ((k : ℕ) → k < n → get_or text k 0 ≢ line_feed) → get_or text n 0 ≡ line_feed → ((m : ℕ) → suc m ≡ n → get_or text m 0 ≢ carriage_return) → run comment_unit text ≡ n
+comment_to_lf [] n l h e f = absurd (omega arith)
+comment_to_lf (b ∷ rest) zero l h e f = rw (newline_here b rest e) refl
+comment_to_lf (b ∷ rest) (suc zero) l h e f =
+    rw (no_newline_here b rest (h 0 (omega arith)) (f 0 refl)) (ap suc (comment_to_lf rest zero (omega arith) (λ k m. h (suc k) (omega arith)) e (λ m q. f (suc m) (ap suc q))))
+comment_to_lf (b ∷ rest) (suc (suc n)) l h e f =
+    rw (no_newline b rest (h 0 (omega arith)) (no_front rest (λ _. h 1 (omega arith)))) (ap suc (comment_to_lf rest (suc n) (omega arith) (λ k m. h (suc k) (omega arith)) e (λ m q. f (suc m) (ap suc q))))

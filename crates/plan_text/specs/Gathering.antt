@@ -1,0 +1,40 @@
+-- Pieces as the program gathers them, and how it sees what stands at one place.
+use Rattle.std.specs.Prelude.{◌≡◌, ℕ, List, [], ◌∷◌, ◌++◌, Result, Ok, Err, Option, Some, None}
+use Rattle.plan_text.specs.declared.fault.TextFault.{TextFault}
+use Rattle.plan_text.specs.declared.piece_reader.Gather.{Gather}
+use Rattle.plan_text.specs.declared.piece_reader.Found.{Found}
+use Rattle.plan_text.specs.declared.piece_reader.Found.TheVariants as found
+use Rattle.plan_text.specs.declared.piece_reader.Piece.{Piece}
+use Rattle.plan_text.specs.declared.piece_reader.Piece.TheVariants.{Literal}
+use Rattle.plan_text.specs.Pieces.{Sign, Byte, Name, Nothing, onto}
+
+abbrev pub sign_of : Found → Sign
+sign_of (found.Byte b) = Byte b
+sign_of (found.Name name) = Name name.now
+sign_of found.Nothing = Nothing
+
+abbrev pub seen : Option (Found × ℕ) → Option (Sign × ℕ)
+seen None = None
+seen (Some x) = Some (sign_of x.0, x.1)
+
+abbrev pub read : Result (Found × ℕ) TextFault → Result (Sign × ℕ) TextFault
+read (Ok x) = Ok (sign_of x.0, x.1)
+read (Err fault) = Err fault
+
+-- bytes in front of the pieces that follow
+abbrev pub bytes_onto : List ℕ → List Piece → List Piece
+bytes_onto [] more = more
+bytes_onto (b ∷ bytes) more = onto (Byte b) (bytes_onto bytes more)
+
+-- one piece of these bytes, or none where there is no byte
+abbrev pub whole : List ℕ → List Piece
+whole [] = []
+whole (b ∷ bytes) = Literal (b ∷ bytes) ∷ []
+
+-- what was gathered, in front of the pieces that follow
+abbrev pub gathered : Gather → List Piece → List Piece
+gathered g more = g.done.items ++ bytes_onto g.literal.items more
+
+-- new stands for old and what stands at one more place, whatever follows
+abbrev pub Gathers : Gather → Sign → Gather → Type 0
+Gathers old sign new = (more : List Piece) → gathered new more ≡ gathered old (onto sign more)

@@ -1,0 +1,9 @@
+pub mod Bytes
+pub mod Runs
+pub mod Lines
+pub mod Pieces
+pub mod Gathering
+pub mod Path
+pub mod Reducing
+pub mod Outcome
+pub mod Faults

@@ -1,0 +1,95 @@
+-- The logical lines of a text. (Ninja manual, "Lexical syntax": newlines are significant, `$` and a newline continue a line, a comment runs to the end of its line.)
+use Rattle.std.specs.Prelude.{ℕ, zero, suc, ◌+◌, ◌-◌, ◌==◌, nat_lt, Bool, ◌||◌, ◌&&◌, List, [], ◌∷◌, length, take, drop, if◌then◌else◌, Result, Ok, Err, Option, Some, None, map}
+use Rattle.std.specs.List.{prefix_len, position_or_len}
+use Rattle.plan_text.specs.Bytes.{nul, tab, line_feed, carriage_return, space, hash, dollar, is_space, begins_with}
+use Rattle.plan_text.specs.Runs.{run}
+use Rattle.plan_text.specs.declared.fault.TextFault.{TextFault}
+use Rattle.plan_text.specs.declared.fault.TextFault.TheVariants.{TabBlank, NulByte, SourceTooLong}
+use Rattle.plan_text.specs.declared.line_reader.Line.{Line}
+
+-- how long the newline is that a text begins with: LF or CR LF; 0 where there is none
+abbrev pub newline_len : List ℕ → ℕ
+newline_len [] = 0
+newline_len (b ∷ rest) = if b == line_feed then 1 else if b == carriage_return && begins_with line_feed rest then 2 else 0
+
+abbrev pub begins_newline : List ℕ → Bool
+begins_newline text = nat_lt 0 (newline_len text)
+
+-- what a `$` takes along: the newline behind it, else one byte
+abbrev pub taken_along : List ℕ → ℕ
+taken_along [] = 0
+taken_along (b ∷ rest) = if begins_newline (b ∷ rest) then newline_len (b ∷ rest) else 1
+
+-- a unit of a logical line: a byte, or a `$` with what it takes along; a newline is none
+abbrev pub line_unit : List ℕ → ℕ
+line_unit [] = 0
+line_unit (b ∷ rest) = if begins_newline (b ∷ rest) then 0 else if b == dollar then suc (taken_along rest) else 1
+
+-- a unit of a comment: a byte; a newline is none
+abbrev pub comment_unit : List ℕ → ℕ
+comment_unit [] = 0
+comment_unit (b ∷ rest) = if begins_newline (b ∷ rest) then 0 else 1
+
+-- a unit of a gap between words: a space, or `$` and a newline
+abbrev pub gap_unit : List ℕ → ℕ
+gap_unit [] = 0
+gap_unit (b ∷ rest) = if b == space then 1 else if b == dollar && begins_newline rest then suc (newline_len rest) else 0
+
+-- how many bytes of gaps a text begins with
+abbrev pub gap_len : List ℕ → ℕ
+gap_len text = run gap_unit text
+
+-- how many spaces a text begins with
+abbrev pub indent_len : List ℕ → ℕ
+indent_len text = prefix_len is_space text
+
+-- How long the logical line is that a text begins with, without its newline. Nothing continues a comment.
+abbrev pub logical_len : List ℕ → ℕ
+logical_len text =
+    let indent = indent_len text in
+    if begins_with hash (drop indent text) then indent + run comment_unit (drop indent text) else run line_unit text
+
+-- a logical line as it stands in the text: its offset, and its bytes
+pub record Raw : Type 0 where
+  pub at : ℕ
+  pub bytes : List ℕ
+
+-- the logical lines of a text past its first n bytes; the text stands at offset `at`
+abbrev pub raw_past : ℕ → List ℕ → ℕ → List Raw
+raw_past at [] n = []
+raw_past at (b ∷ rest) (suc n) = raw_past (at + 1) rest n
+raw_past at (b ∷ rest) zero =
+    let len = logical_len (b ∷ rest) in
+    record { at = at; bytes = take len (b ∷ rest) } ∷ raw_past (at + 1) rest (len + newline_len (drop len (b ∷ rest)) - 1)
+
+abbrev pub raw_lines : List ℕ → List Raw
+raw_lines text = raw_past 0 text 0
+
+-- What a logical line is: a tab may not stand in front of it, nor a NUL anywhere; spaces alone and a comment are no line.
+abbrev pub line_of : Raw → Result (Option Line) TextFault
+line_of raw =
+    let indent = indent_len raw.bytes in
+    let nul_at = position_or_len (λ b. b == nul) raw.bytes in
+    if begins_with tab (drop indent raw.bytes) then Err (TabBlank (raw.at + indent))
+    else if nat_lt nul_at (length raw.bytes) then Err (NulByte (raw.at + nul_at))
+    else if length raw.bytes == indent || begins_with hash (drop indent raw.bytes) then Ok None
+    else Ok (Some (record { indent = indent; start = raw.at + indent; «end» = raw.at + length raw.bytes }))
+
+abbrev pub line_onto : Line → Result (List Line) TextFault → Result (List Line) TextFault
+line_onto line (Ok lines) = Ok (line ∷ lines)
+line_onto line (Err fault) = Err fault
+
+-- each line, up to the first fault
+abbrev pub collected : List (Result (Option Line) TextFault) → Result (List Line) TextFault
+collected [] = Ok []
+collected (Err fault ∷ more) = Err fault
+collected (Ok None ∷ more) = collected more
+collected (Ok (Some line) ∷ more) = line_onto line (collected more)
+
+-- the most bytes that a source may have: 16 MiB
+abbrev pub max_source : ℕ
+max_source = 16777216
+
+-- the lines of a text, or its first fault
+abbrev pub lines_of : List ℕ → Result (List Line) TextFault
+lines_of text = if nat_lt max_source (length text) then Err (SourceTooLong max_source) else collected (map line_of (raw_lines text))

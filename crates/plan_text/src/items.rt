@@ -1,0 +1,53 @@
+//! Lists that contracts see as lists.
+
+ghost use Rattle.std.specs.Prelude.{◌≡◌, []};
+
+use std::alloc::Global;
+use std::marker::Model;
+
+/// A list of values. A contract sees it as the list, so that a type which holds it is compared as it stands.
+#[derive(Debug, Drop)]
+pub struct Items<T> {
+    held: Vec<T>,
+}
+
+impl<T> Model for Items<T> {
+    ghost use Rattle.std.specs.Prelude.{List};
+
+    ghost Value = { List T };
+
+    ghost view = { λ s. s.held.items };
+}
+
+impl<T> Items<T> {
+    /// The list of the items of a `Vec`.
+    pub fn new(held: Vec<T>) -> Self
+        ensures { result ≡ held.items }
+    {
+        Items { held }
+    }
+
+    /// The list without an item.
+    pub fn empty(alloc: Global) -> Self
+        ensures { result ≡ [] }
+    {
+        Items {
+            held: Vec::new(alloc),
+        }
+    }
+
+    /// The items, as a `Vec`.
+    pub fn into_vec(self) -> Vec<T>
+        ensures { result.items ≡ self }
+    {
+        let Items { held } = self;
+        held
+    }
+
+    /// The items, lent.
+    pub fn as_slice(&self) -> &[T]
+        ensures { result.now ≡ self.now }
+    {
+        &self.held
+    }
+}

@@ -1,0 +1,195 @@
+//! The logical lines of a text.
+
+ghost use Rattle.std.specs.Prelude.{◌≡◌, ◌==◌, ◌<◌, ◌≤◌, ◌+◌, length};
+ghost use Rattle.std.specs.List.{position_or_len};
+ghost use Rattle.plan_text.specs.Bytes.{begins_with};
+ghost use Rattle.plan_text.specs.Lines as syntax;
+ghost use Rattle.plan_text.specs.Runs as runs;
+ghost use Rattle.plan_text.specs.Outcome.{Meets};
+
+use crate::fault::TextFault;
+use crate::run_reader::{Unit, run_len};
+use memchr::memchr;
+use std::alloc::Global;
+
+/// The most bytes that a source may have: 16 MiB.
+const MAX_SOURCE: usize = 16_777_216;
+
+/// A logical line that is neither blank nor a comment.
+#[derive(Clone, Copy, Debug, PartialEq, Eq)]
+pub struct Line {
+    /// How many spaces it begins with.
+    pub indent: u32,
+    /// The offset of its first byte past these spaces.
+    pub start: u64,
+    /// The offset of the newline that ends it, or of the end of the text.
+    pub end: u64,
+}
+
+fn begins(text: &[u8], b: u8) -> bool
+    ensures { result ≡ begins_with b text.now }
+{
+    match text {
+        [] => false,
+        [first, ..] => *first == b,
+    }
+}
+
+/// How long the newline is that a text begins with, LF or CR LF; 0 where there is none.
+pub fn newline_len(text: &[u8]) -> usize
+    ensures len { result ≡ syntax.newline_len text.now }
+    ensures within { result ≤ length text.now }
+{
+    match text {
+        [b'\n', ..] => 1,
+        [b'\r', b'\n', ..] => 2,
+        _ => 0,
+    }
+}
+
+/// What a `$` takes along: the newline behind it, else one byte.
+fn taken_along(text: &[u8]) -> usize
+    ensures len { result ≡ syntax.taken_along text.now }
+    ensures within { result ≤ length text.now }
+{
+    if text.is_empty() {
+        return 0;
+    }
+    let newline = newline_len(text);
+    if newline > 0 { newline } else { 1 }
+}
+
+/// A byte of a logical line, or a `$` with what it takes along.
+struct LineUnit;
+
+impl Unit for LineUnit {
+    ghost size = { syntax.line_unit };
+
+    fn unit_len(text: &[u8]) -> usize {
+        if newline_len(text) > 0 {
+            return 0;
+        }
+        match text {
+            [] => 0,
+            [b'$', rest @ ..] => 1 + taken_along(rest),
+            _ => 1,
+        }
+    }
+}
+
+/// A space, or `$` and a newline.
+struct GapUnit;
+
+impl Unit for GapUnit {
+    ghost size = { syntax.gap_unit };
+
+    fn unit_len(text: &[u8]) -> usize {
+        match text {
+            [b' ', ..] => 1,
+            [b'$', rest @ ..] => {
+                let newline = newline_len(rest);
+                if newline > 0 { 1 + newline } else { 0 }
+            }
+            _ => 0,
+        }
+    }
+}
+
+/// How many bytes of a gap between words a text begins with: spaces, and each `$` with the newline behind it.
+pub fn gap_len(text: &[u8]) -> usize
+    ensures len { result ≡ syntax.gap_len text.now }
+    ensures within { result ≤ length text.now }
+{
+    run_len::<GapUnit>(text)
+}
+
+/// Up to the first newline, by a search for its last byte.
+fn comment_len(text: &[u8]) -> usize
+    ensures len { result ≡ runs.run syntax.comment_unit text.now }
+    ensures within { result ≤ length text.now }
+{
+    match memchr(b'\n', text) {
+        None => text.len(),
+        Some(at) => {
+            if at > 0 && text[at - 1] == b'\r' {
+                at - 1
+            } else {
+                at
+            }
+        }
+    }
+}
+
+/// How many spaces a text begins with.
+pub fn indent_len(text: &[u8]) -> usize
+    ensures len { result ≡ syntax.indent_len text.now }
+    ensures within { result ≤ length text.now }
+{
+    text.iter().take_while(|b| **b == b' ').count()
+}
+
+/// How long the logical line is that a text begins with, without its newline. A `$` continues it past a newline, but for a comment.
+pub fn logical_len(text: &[u8]) -> usize
+    ensures len { result ≡ syntax.logical_len text.now }
+    ensures within { result ≤ length text.now }
+{
+    let indent = indent_len(text);
+    let behind = &text[indent..];
+    if begins(behind, b'#') {
+        indent + comment_len(behind)
+    } else {
+        run_len::<LineUnit>(text)
+    }
+}
+
+/// The place of the first NUL, or the length.
+fn nul_at(text: &[u8]) -> usize
+    ensures { result ≡ position_or_len (λ b. b == 0) text.now }
+{
+    text.iter().take_while(|b| **b != 0).count()
+}
+
+/// What the logical line at this place is; nothing where it is blank or a comment.
+fn line_of(at: usize, bytes: &[u8]) -> Result<Option<Line>, TextFault>
+    requires { at + length bytes.now ≤ 16777216 }
+    ensures { result ≡ syntax.line_of (record { at = at; bytes = bytes.now }) }
+{
+    let indent = indent_len(bytes);
+    let behind = &bytes[indent..];
+    let nul = nul_at(bytes);
+    if begins(behind, b'\t') {
+        Err(TextFault::TabBlank((at + indent) as u64))
+    } else if nul < bytes.len() {
+        Err(TextFault::NulByte((at + nul) as u64))
+    } else if bytes.len() == indent || begins(behind, b'#') {
+        Ok(None)
+    } else {
+        Ok(Some(Line {
+            indent: indent as u32,
+            start: (at + indent) as u64,
+            end: (at + bytes.len()) as u64,
+        }))
+    }
+}
+
+/// The logical lines of a text without blank ones and comments, or the first place where no rule goes on.
+///
+/// Refused are a tab in front of a line, a NUL byte anywhere, and a text of more than 16 MiB. Other faults of a line are found by `pieces`.
+pub fn lines(alloc: Global, text: &[u8]) -> Result<Vec<Line>, TextFault>
+    ensures { Meets TextFault.Memory (λ v. v.items) result (syntax.lines_of text.now) }
+{
+    if text.len() > MAX_SOURCE {
+        return Err(TextFault::SourceTooLong(MAX_SOURCE as u64));
+    }
+    let mut found = Vec::new(alloc);
+    let mut at = 0;
+    while at < text.len() {
+        let rest = &text[at..];
+        let (line, behind) = rest.split_at(logical_len(rest));
+        if let Some(line) = line_of(at, line)? {
+            found.push(line)?;
+        }
+        at += line.len() + newline_len(behind);
+    }
+    Ok(found)
+}

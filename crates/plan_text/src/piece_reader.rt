@@ -1,0 +1,202 @@
+//! The pieces of a path or a value.
+
+ghost use Rattle.std.specs.Prelude.{◌≡◌, ◌==◌, ◌<◌, ◌≤◌, ◌+◌, ◌^◌, ◌++◌, [], IfOk, IfSome, OnOk, map, length, drop, slice_index};
+ghost use Rattle.std.specs.List.{prefix_len, take_while};
+ghost use Rattle.plan_text.specs.Bytes as bytes;
+ghost use Rattle.plan_text.specs.Pieces.{pieces_of, pieces_from};
+ghost use Rattle.plan_text.specs.Pieces as syntax;
+ghost use Rattle.plan_text.specs.Gathering.{seen, read, sign_of, Gathers, gathered, whole};
+ghost use Rattle.plan_text.specs.Outcome.{Meets};
+
+use crate::fault::TextFault;
+use crate::items::Items;
+use std::alloc::{AllocError, Global};
+use std::mem;
+
+/// Where a text stands.
+#[derive(Clone, Copy, Debug, PartialEq, Eq)]
+pub enum Mode {
+    /// In a path, where a tab is refused.
+    Path,
+    /// On the right of `=`.
+    Value,
+}
+
+/// A piece of a text.
+#[derive(Debug, Drop)]
+pub enum Piece {
+    /// Bytes that stand for themselves.
+    Literal(Items<u8>),
+    /// The name of a variable.
+    Reference(Items<u8>),
+}
+
+/// What stands at one place.
+#[derive(Clone, Copy)]
+enum Found<'a> {
+    Byte(u8),
+    Name(&'a [u8]),
+    Nothing,
+}
+
+/// Pieces, the last of which may go on.
+#[derive(Drop)]
+struct Gather {
+    alloc: Global,
+    done: Vec<Piece>,
+    literal: Vec<u8>,
+}
+
+fn is_bare_name_byte(b: u8) -> bool
+    ensures { result ≡ bytes.is_bare_name_byte b }
+{
+    b.is_ascii_alphanumeric() || b == b'_' || b == b'-'
+}
+
+fn is_name_byte(b: u8) -> bool
+    ensures { result ≡ bytes.is_name_byte b }
+{
+    is_bare_name_byte(b) || b == b'.'
+}
+
+fn bare_name_len(text: &[u8]) -> usize
+    ensures len { result ≡ prefix_len bytes.is_bare_name_byte text.now }
+    ensures within { result ≤ length text.now }
+{
+    text.iter().take_while(|b| is_bare_name_byte(**b)).count()
+}
+
+/// How many bytes of a name a text begins with.
+pub fn name_len(text: &[u8]) -> usize
+    ensures len { result ≡ prefix_len bytes.is_name_byte text.now }
+    ensures within { result ≤ length text.now }
+{
+    text.iter().take_while(|b| is_name_byte(**b)).count()
+}
+
+fn spaces_len(text: &[u8]) -> usize
+    ensures len { result ≡ prefix_len bytes.is_space text.now }
+    ensures within { result ≤ length text.now }
+{
+    text.iter().take_while(|b| **b == b' ').count()
+}
+
+fn braced(text: &[u8]) -> Option<(Found<'_>, usize)>
+    requires { length text.now + 1 < 2 ^ 64 }
+    ensures within { IfSome result (λ x. x.1 ≤ length text.now + 1) }
+    ensures found { seen result ≡ syntax.braced (take_while bytes.is_name_byte text.now) (drop (prefix_len bytes.is_name_byte text.now) text.now) }
+{
+    let (name, rest) = text.split_at(name_len(text));
+    match rest {
+        [b'}', ..] if !name.is_empty() => Some((Found::Name(name), name.len() + 2)),
+        _ => None,
+    }
+}
+
+/// What stands for `$` and the text behind it, and how many bytes of that text.
+fn escape(text: &[u8]) -> Option<(Found<'_>, usize)>
+    ensures found { seen result ≡ syntax.escape text.now }
+    ensures within { IfSome result (λ x. x.1 ≤ length text.now) }
+{
+    match text {
+        [] => None,
+        [b @ (b'$' | b' ' | b':'), ..] => Some((Found::Byte(*b), 1)),
+        [b'\n', rest @ ..] => Some((Found::Nothing, 1 + spaces_len(rest))),
+        [b'\r', b'\n', rest @ ..] => Some((Found::Nothing, 2 + spaces_len(rest))),
+        [b'{', rest @ ..] => braced(rest),
+        _ => {
+            let name = &text[..bare_name_len(text)];
+            if name.is_empty() {
+                None
+            } else {
+                Some((Found::Name(name), name.len()))
+            }
+        }
+    }
+}
+
+/// How many bytes what `$` stands for takes behind it, where the text behind a `$` makes it an escape.
+pub fn escape_len(text: &[u8]) -> Option<usize>
+    ensures len { result ≡ syntax.escape_size text.now }
+    ensures within { IfSome result (λ n. n ≤ length text.now) }
+{
+    match escape(text) {
+        Some((_, len)) => Some(len),
+        None => None,
+    }
+}
+
+fn sign_at(text: &[u8], base: usize, at: usize, mode: Mode) -> Result<(Found<'_>, usize), TextFault>
+    requires inside { at < length text.now }
+    requires fits { base + length text.now < 2 ^ 64 }
+    ensures within { IfOk result (λ x. at + 1 + x.1 ≤ length text.now) }
+    ensures sign { read result ≡ syntax.sign_at mode (base + at) (slice_index text.now at) (drop (at + 1) text.now) }
+{
+    let place = (base + at) as u64;
+    match text[at] {
+        b'$' => escape(&text[at + 1..]).ok_or(TextFault::BadEscape(place)),
+        0 => Err(TextFault::NulByte(place)),
+        b'\t' if mode == Mode::Path => Err(TextFault::TabBlank(place)),
+        b => Ok((Found::Byte(b), 0)),
+    }
+}
+
+impl Gather {
+    fn finish_literal(&mut self) -> Result<(), AllocError>
+        ensures literal { OnOk result (self.new.literal.items ≡ []) }
+        ensures done { OnOk result (self.new.done.items ≡ self.old.done.items ++ whole self.old.literal.items) }
+    {
+        if !self.literal.is_empty() {
+            let literal = mem::replace(&mut self.literal, Vec::new(self.alloc));
+            self.done.push(Piece::Literal(Items::new(literal)))?;
+        }
+        Ok(())
+    }
+
+    fn add(&mut self, found: Found<'_>) -> Result<(), AllocError>
+        ensures { OnOk result (Gathers self.old (sign_of found.entry) self.new) }
+    {
+        match found {
+            Found::Byte(b) => self.literal.push(b)?,
+            Found::Name(name) => {
+                self.finish_literal()?;
+                let name = Vec::from_slice(self.alloc, name)?;
+                self.done.push(Piece::Reference(Items::new(name)))?;
+            }
+            Found::Nothing => {}
+        }
+        Ok(())
+    }
+}
+
+/// The pieces of a text that stands at offset `base`, or the first place where no rule goes on.
+pub fn pieces_at(
+    alloc: Global,
+    text: &[u8],
+    base: usize,
+    mode: Mode,
+) -> Result<Vec<Piece>, TextFault>
+    requires { base + length text.now < 2 ^ 64 }
+    ensures { Meets TextFault.Memory (λ v. v.items) result (pieces_from mode base text.now) }
+{
+    let mut gather = Gather {
+        alloc,
+        done: Vec::new(alloc),
+        literal: Vec::new(alloc),
+    };
+    let mut at = 0;
+    while at < text.len() {
+        let (found, more) = sign_at(text, base, at, mode)?;
+        gather.add(found)?;
+        at += 1 + more;
+    }
+    gather.finish_literal()?;
+    Ok(gather.done)
+}
+
+/// The pieces of a text, or the first place where no rule goes on.
+pub fn pieces(alloc: Global, text: &[u8], mode: Mode) -> Result<Vec<Piece>, TextFault>
+    ensures { Meets TextFault.Memory (λ v. v.items) result (pieces_of mode text.now) }
+{
+    pieces_at(alloc, text, 0, mode)
+}
