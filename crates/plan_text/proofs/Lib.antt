@@ -1,5 +1,7 @@
 mod Rows
+mod Walks
 pub mod ReducingLemmas
 pub mod PieceLemmas
 pub mod RunLemmas
 pub mod LineLemmas
+pub mod SinkLemmas

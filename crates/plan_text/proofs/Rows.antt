@@ -82,3 +82,62 @@ line_7 = refl
 line_8 : lines_of (36 ∷ 10 ∷ codes "# c") ≡ Ok (line 0 0 5 ∷ [])
 unfolding line
 line_8 = refl
+
+path_6 : canonical_of (codes ".") ≡ Ok (codes ".")
+path_6 = refl
+
+path_7 : canonical_of (codes "./") ≡ Ok (codes ".")
+path_7 = refl
+
+path_8 : canonical_of (codes "/") ≡ Ok (codes "/")
+path_8 = refl
+
+path_9 : canonical_of (codes "//a") ≡ Ok (codes "/a")
+path_9 = refl
+
+path_10 : canonical_of (codes "a/./b") ≡ Ok (codes "a/b")
+path_10 = refl
+
+path_11 : canonical_of (codes "../..") ≡ Ok (codes "../..")
+path_11 = refl
+
+path_12 : canonical_of (codes "..a") ≡ Ok (codes "..a")
+path_12 = refl
+
+path_13 : canonical_of (codes "a/b/../../..") ≡ Ok (codes "..")
+path_13 = refl
+
+-- a `$` at the end, and `${}`, begin no escape
+piece_8 : pieces_of Value (codes "ab$") ≡ Err (BadEscape 2)
+piece_8 = refl
+
+piece_9 : pieces_of Value (codes "a${}") ≡ Err (BadEscape 1)
+piece_9 = refl
+
+-- a CR alone is a byte like others
+piece_10 : pieces_of Path (97 ∷ 13 ∷ 98 ∷ []) ≡ Ok (Literal (97 ∷ 13 ∷ 98 ∷ []) ∷ [])
+piece_10 = refl
+
+piece_11 : pieces_of Value (97 ∷ 36 ∷ 13 ∷ 98 ∷ []) ≡ Err (BadEscape 1)
+piece_11 = refl
+
+-- a newline behind `$`, and the spaces behind that, give no bytes
+piece_12 : pieces_of Value (36 ∷ 13 ∷ 10 ∷ 32 ∷ 32 ∷ []) ≡ Ok []
+piece_12 = refl
+
+piece_13 : pieces_of Value (36 ∷ 10 ∷ 32 ∷ 9 ∷ []) ≡ Ok (Literal (9 ∷ []) ∷ [])
+piece_13 = refl
+
+piece_14 : pieces_of Value (97 ∷ 0 ∷ 98 ∷ []) ≡ Err (NulByte 1)
+piece_14 = refl
+
+piece_15 : pieces_of Value (97 ∷ 9 ∷ 98 ∷ []) ≡ Ok (Literal (97 ∷ 9 ∷ 98 ∷ []) ∷ [])
+piece_15 = refl
+
+piece_16 : pieces_of Value (codes "$a.b") ≡ Ok (Reference (codes "a") ∷ Literal (codes ".b") ∷ [])
+piece_16 = refl
+
+-- a CR alone ends no line
+line_9 : lines_of (97 ∷ 13 ∷ 98 ∷ 10 ∷ 99 ∷ []) ≡ Ok (line 0 0 3 ∷ line 0 4 5 ∷ [])
+unfolding line
+line_9 = refl

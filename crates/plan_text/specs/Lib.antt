@@ -7,3 +7,4 @@ pub mod Path
 pub mod Reducing
 pub mod Outcome
 pub mod Faults
+pub mod Sinks

@@ -1,20 +1,21 @@
 -- Paths in canonical form: no part is empty or `.`, and `..` takes away the ordinary part before it.
 use Rattle.std.specs.Prelude.{ℕ, ◌==◌, Bool, true, false, List, [], ◌∷◌, if◌then◌else◌, Result, Ok, Err}
 use Rattle.std.specs.List.{slice_split, join_with_byte}
+use Rattle.plan_text.specs.Bytes.{dot, slash}
 use Rattle.plan_text.specs.declared.fault.TextFault.{TextFault}
 use Rattle.plan_text.specs.declared.fault.TextFault.TheVariants.{EmptyPath}
 
 -- whether a part is empty or `.`
 abbrev pub is_nothing : List ℕ → Bool
 is_nothing [] = true
-is_nothing (b ∷ []) = b == 46
+is_nothing (b ∷ []) = b == dot
 is_nothing (b ∷ c ∷ rest) = false
 
 -- whether a part is `..`
 abbrev pub is_up : List ℕ → Bool
 is_up [] = false
 is_up (b ∷ []) = false
-is_up (b ∷ c ∷ []) = if b == 46 then c == 46 else false
+is_up (b ∷ c ∷ []) = if b == dot then c == dot else false
 is_up (b ∷ c ∷ d ∷ rest) = false
 
 -- an ordinary part in front of the parts that stay of what follows it: `..` takes it away
@@ -38,18 +39,18 @@ without_ups (part ∷ parts) = if is_up part then without_ups parts else part �
 
 -- the parts between slashes
 abbrev pub parts_of : List ℕ → List (List ℕ)
-parts_of path = slice_split (λ b. b == 47) path
+parts_of path = slice_split (λ b. b == slash) path
 
 -- the path of these parts from the working folder
 abbrev pub relative : List (List ℕ) → List ℕ
-relative [] = 46 ∷ []
-relative (part ∷ parts) = join_with_byte 47 (part ∷ parts)
+relative [] = dot ∷ []
+relative (part ∷ parts) = join_with_byte slash (part ∷ parts)
 
 -- the path of these parts from the root
 abbrev pub rooted : List (List ℕ) → List ℕ
-rooted parts = 47 ∷ join_with_byte 47 (without_ups parts)
+rooted parts = slash ∷ join_with_byte slash (without_ups parts)
 
 -- the canonical form of a path
 abbrev pub canonical_of : List ℕ → Result (List ℕ) TextFault
 canonical_of [] = Err EmptyPath
-canonical_of (b ∷ rest) = Ok (if b == 47 then rooted (reduced (parts_of rest)) else relative (reduced (parts_of (b ∷ rest))))
+canonical_of (b ∷ rest) = Ok (if b == slash then rooted (reduced (parts_of rest)) else relative (reduced (parts_of (b ∷ rest))))

@@ -20,14 +20,14 @@ impl<T> Model for Items<T> {
 }
 
 impl<T> Items<T> {
-    /// The list of the items of a `Vec`.
+    /// The list of a `Vec`'s items, in their order.
     pub fn new(held: Vec<T>) -> Self
         ensures { result ≡ held.items }
     {
-        Items { held }
+        Self { held }
     }
 
-    /// The list without an item.
+    /// The list without an item. It takes no memory until it is a `Vec` again and grows.
     pub fn empty(alloc: Global) -> Self
         ensures { result ≡ [] }
     {
@@ -36,7 +36,7 @@ impl<T> Items<T> {
         }
     }
 
-    /// The items, as a `Vec`.
+    /// The items in their order, as a `Vec`.
     pub fn into_vec(self) -> Vec<T>
         ensures { result.items ≡ self }
     {
@@ -44,7 +44,7 @@ impl<T> Items<T> {
         held
     }
 
-    /// The items, lent.
+    /// The items in their order, lent.
     pub fn as_slice(&self) -> &[T]
         ensures { result.now ≡ self.now }
     {

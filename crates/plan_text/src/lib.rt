@@ -1,19 +1,35 @@
-//! The text of a manifest: its lines, the pieces of a line, canonical paths, and what bytes are written to.
+//! The text of a manifest, byte by byte, and what the crates above it share.
+//!
+//! - `lines`: the logical lines of a text; `logical_len`, `newline_len`, `indent_len`, `gap_len`, `name_len` and `escape_len` measure what
+//!   a text begins with, for a reader that goes on from there, and `run_len` does so for any sort of unit.
+//! - `pieces`: the bytes and the references to variables of a path or a value.
+//! - `canonical`: a path in its canonical form.
+//! - `TextFault`: why these refuse a text, with the offset of the byte.
+//! - `Items`: a list that contracts see as a list.
+//! - `Sink`, `Counted` and `write_all`: what bytes are written to, with a count of failures that only proofs read, a `Tally`.
+//!
+//! The rules are those of the Ninja manual's section "Lexical syntax", and where it says nothing this project's own choice; each item says which.
 #![tactic(auto)]
 
+mod counted;
 mod fault;
 mod items;
 mod line_reader;
 mod path;
 mod piece_reader;
 mod run_reader;
+mod sink;
+mod tally;
 
+pub use counted::Counted;
 pub use fault::TextFault;
 pub use items::Items;
 pub use line_reader::{Line, gap_len, indent_len, lines, logical_len, newline_len};
 pub use path::canonical;
 pub use piece_reader::{Mode, Piece, escape_len, name_len, pieces, pieces_at};
 pub use run_reader::{Unit, run_len};
+pub use sink::{Sink, SinkFault, write_all};
+pub use tally::Tally;
 
 #[cfg(test)]
 mod tests;

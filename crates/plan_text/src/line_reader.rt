@@ -2,7 +2,7 @@
 
 ghost use Rattle.std.specs.Prelude.{◌≡◌, ◌==◌, ◌<◌, ◌≤◌, ◌+◌, length};
 ghost use Rattle.std.specs.List.{position_or_len};
-ghost use Rattle.plan_text.specs.Bytes.{begins_with};
+ghost use Rattle.plan_text.specs.Bytes.{nul, begins_with};
 ghost use Rattle.plan_text.specs.Lines as syntax;
 ghost use Rattle.plan_text.specs.Runs as runs;
 ghost use Rattle.plan_text.specs.Outcome.{Meets};
@@ -15,12 +15,12 @@ use std::alloc::Global;
 /// The most bytes that a source may have: 16 MiB.
 const MAX_SOURCE: usize = 16_777_216;
 
-/// A logical line that is neither blank nor a comment.
+/// A logical line that is neither blank nor a comment. Offsets and counts are of bytes, from 0 at the front of the text.
 #[derive(Clone, Copy, Debug, PartialEq, Eq)]
 pub struct Line {
     /// How many spaces it begins with.
     pub indent: u32,
-    /// The offset of its first byte past these spaces.
+    /// The offset of its first byte past these spaces: the `$` of a continuation, where one stands there.
     pub start: u64,
     /// The offset of the newline that ends it, or of the end of the text.
     pub end: u64,
@@ -35,7 +35,9 @@ fn begins(text: &[u8], b: u8) -> bool
     }
 }
 
-/// How long the newline is that a text begins with, LF or CR LF; 0 where there is none.
+/// How many bytes the newline has that a text begins with: 1 for LF, 2 for CR LF, 0 where there is none.
+///
+/// That CR LF is a newline, and a CR alone a byte like others, is this project's own choice.
 pub fn newline_len(text: &[u8]) -> usize
     ensures len { result ≡ syntax.newline_len text.now }
     ensures within { result ≤ length text.now }
@@ -96,6 +98,7 @@ impl Unit for GapUnit {
 }
 
 /// How many bytes of a gap between words a text begins with: spaces, and each `$` with the newline behind it.
+/// (Ninja manual, "Lexical syntax": tokens are parted by spaces, and a `$` continues a line.)
 pub fn gap_len(text: &[u8]) -> usize
     ensures len { result ≡ syntax.gap_len text.now }
     ensures within { result ≤ length text.now }
@@ -120,7 +123,7 @@ fn comment_len(text: &[u8]) -> usize
     }
 }
 
-/// How many spaces a text begins with.
+/// How many spaces a text begins with. A `$` with a newline is none: an indent is of spaces alone, which is this project's own choice.
 pub fn indent_len(text: &[u8]) -> usize
     ensures len { result ≡ syntax.indent_len text.now }
     ensures within { result ≤ length text.now }
@@ -128,7 +131,8 @@ pub fn indent_len(text: &[u8]) -> usize
     text.iter().take_while(|b| **b == b' ').count()
 }
 
-/// How long the logical line is that a text begins with, without its newline. A `$` continues it past a newline, but for a comment.
+/// How many bytes the logical line has that a text begins with, without the newline that ends it. A `$` continues it past a newline, but
+/// for a comment, which is a line whose first byte past its spaces is `#`. (Ninja manual, "Lexical syntax".)
 pub fn logical_len(text: &[u8]) -> usize
     ensures len { result ≡ syntax.logical_len text.now }
     ensures within { result ≤ length text.now }
@@ -144,7 +148,7 @@ pub fn logical_len(text: &[u8]) -> usize
 
 /// The place of the first NUL, or the length.
 fn nul_at(text: &[u8]) -> usize
-    ensures { result ≡ position_or_len (λ b. b == 0) text.now }
+    ensures { result ≡ position_or_len (λ b. b == nul) text.now }
 {
     text.iter().take_while(|b| **b != 0).count()
 }
@@ -174,7 +178,10 @@ fn line_of(at: usize, bytes: &[u8]) -> Result<Option<Line>, TextFault>
 
 /// The logical lines of a text without blank ones and comments, or the first place where no rule goes on.
 ///
-/// Refused are a tab in front of a line, a NUL byte anywhere, and a text of more than 16 MiB. Other faults of a line are found by `pieces`.
+/// Newlines part lines, `$` and a newline continue one, and `#` begins a comment (Ninja manual, "Lexical syntax").
+///
+/// Refused are a text of more than 16 MiB (`SourceTooLong`), and then at the first line that has one a tab behind its indent (`TabBlank`), else a NUL byte (`NulByte`),
+/// in a comment too; these are this project's own choice. Other faults of a line are found by `pieces`. `Memory` may come in place of any answer.
 pub fn lines(alloc: Global, text: &[u8]) -> Result<Vec<Line>, TextFault>
     ensures { Meets TextFault.Memory (λ v. v.items) result (syntax.lines_of text.now) }
 {

@@ -13,21 +13,21 @@ use crate::items::Items;
 use std::alloc::{AllocError, Global};
 use std::mem;
 
-/// Where a text stands.
+/// Where a text stands, which decides what a tab is. This project's own choice.
 #[derive(Clone, Copy, Debug, PartialEq, Eq)]
 pub enum Mode {
     /// In a path, where a tab is refused.
     Path,
-    /// On the right of `=`.
+    /// On the right of `=`, where a tab is a byte like others.
     Value,
 }
 
-/// A piece of a text.
+/// A piece of a path or a value, as its bytes.
 #[derive(Debug, Drop)]
 pub enum Piece {
-    /// Bytes that stand for themselves.
+    /// Bytes that stand for themselves, escapes replaced by what they stand for. Two literals never stand side by side.
     Literal(Items<u8>),
-    /// The name of a variable.
+    /// The name of a variable, without `$` and braces.
     Reference(Items<u8>),
 }
 
@@ -66,7 +66,7 @@ fn bare_name_len(text: &[u8]) -> usize
     text.iter().take_while(|b| is_bare_name_byte(**b)).count()
 }
 
-/// How many bytes of a name a text begins with.
+/// How many bytes of a name a text begins with: letters and digits of ASCII, `_`, `-` and `.`. (Ninja manual, "Lexical syntax"; a name right behind `$` has no `.`.)
 pub fn name_len(text: &[u8]) -> usize
     ensures len { result ≡ prefix_len bytes.is_name_byte text.now }
     ensures within { result ≤ length text.now }
@@ -115,7 +115,9 @@ fn escape(text: &[u8]) -> Option<(Found<'_>, usize)>
     }
 }
 
-/// How many bytes what `$` stands for takes behind it, where the text behind a `$` makes it an escape.
+/// How many bytes behind a `$` belong to its escape, where the text that follows the `$` makes it one; None where it is none.
+///
+/// Escapes are `$$`, `$ `, `$:`, `$name`, `${name}`, and `$` with a newline and the spaces behind that (Ninja manual, "Lexical syntax").
 pub fn escape_len(text: &[u8]) -> Option<usize>
     ensures len { result ≡ syntax.escape_size text.now }
     ensures within { IfSome result (λ n. n ≤ length text.now) }
@@ -169,7 +171,7 @@ impl Gather {
     }
 }
 
-/// The pieces of a text that stands at offset `base`, or the first place where no rule goes on.
+/// `pieces` of a text that stands at offset `base` of a larger one: the offsets of faults count from the front of that.
 pub fn pieces_at(
     alloc: Global,
     text: &[u8],
@@ -194,7 +196,11 @@ pub fn pieces_at(
     Ok(gather.done)
 }
 
-/// The pieces of a text, or the first place where no rule goes on.
+/// The pieces of a path or a value, in their order, or the first place where no rule goes on.
+///
+/// A `$` is read as the Ninja manual's section "Lexical syntax" has it; `$` with a newline, and the spaces behind that, give no bytes. Every other byte stands for itself, a
+/// space, `:` or `|` too, so hand it one path at a time. Refused are a `$` that begins no escape (`BadEscape`), a NUL (`NulByte`), and in a
+/// path a tab (`TabBlank`). `Memory` may come in place of any answer.
 pub fn pieces(alloc: Global, text: &[u8], mode: Mode) -> Result<Vec<Piece>, TextFault>
     ensures { Meets TextFault.Memory (λ v. v.items) result (pieces_of mode text.now) }
 {

@@ -1,4 +1,7 @@
+//! Each public function once, on values from outside.
+
 use super::*;
+use std::io::{self, Write};
 use std::test::Fail;
 
 #[test]
@@ -7,6 +10,7 @@ fn canonical_paths(rt: HostRuntime) -> Result<(), Fail> {
         (b"a/../../b//./c/".as_slice(), b"../b/c".as_slice()),
         (b"/../x".as_slice(), b"/x".as_slice()),
         (b"a/..".as_slice(), b".".as_slice()),
+        (b"out/obj/../foo.o".as_slice(), b"out/foo.o".as_slice()),
     ] {
         let found = canonical(rt.alloc(), path)?;
         assert_eq!(rt; found.as_slice(), want);
@@ -15,21 +19,184 @@ fn canonical_paths(rt: HostRuntime) -> Result<(), Fail> {
     Ok(())
 }
 
+/// Whether a piece is a reference, and its bytes.
+fn seen(piece: &Piece) -> (bool, &[u8]) {
+    match piece {
+        Piece::Literal(bytes) => (false, bytes.as_slice()),
+        Piece::Reference(name) => (true, name.as_slice()),
+    }
+}
+
 #[test]
-fn bad_escape(rt: HostRuntime) {
+fn pieces_of_text(rt: HostRuntime) -> Result<(), Fail> {
+    let value = pieces(
+        rt.alloc(),
+        b"gcc\t$cflags-x -o ${out.d}$$ $\n    a$:b",
+        Mode::Value,
+    )?;
+    assert_eq!(rt; value.len(), 5);
+    assert_eq!(rt; seen(&value[0]), (false, b"gcc\t".as_slice()));
+    assert_eq!(rt; seen(&value[1]), (true, b"cflags-x".as_slice()));
+    assert_eq!(rt; seen(&value[2]), (false, b" -o ".as_slice()));
+    assert_eq!(rt; seen(&value[3]), (true, b"out.d".as_slice()));
+    assert_eq!(rt; seen(&value[4]), (false, b"$ a:b".as_slice()));
+    let path = pieces(rt.alloc(), b"$dir/other$ file.c", Mode::Path)?;
+    assert_eq!(rt; path.len(), 2);
+    assert_eq!(rt; seen(&path[0]), (true, b"dir".as_slice()));
+    assert_eq!(rt; seen(&path[1]), (false, b"/other file.c".as_slice()));
     assert!(rt;
         matches!(
             pieces(rt.alloc(), b"a$!", Mode::Value),
             Err(TextFault::BadEscape(1))
         )
     );
+    assert!(rt;
+        matches!(
+            pieces(rt.alloc(), b"a\tb", Mode::Path),
+            Err(TextFault::TabBlank(1))
+        )
+    );
+    assert!(rt;
+        matches!(
+            pieces_at(rt.alloc(), b"a\0b", 40, Mode::Value),
+            Err(TextFault::NulByte(41))
+        )
+    );
+    assert_eq!(rt; pieces_at(rt.alloc(), b"a$b", 40, Mode::Value)?.len(), 2);
+    Ok(())
 }
 
 #[test]
 fn logical_lines(rt: HostRuntime) -> Result<(), Fail> {
     let found = lines(rt.alloc(), b"x = $\n  1\n\n# c $\n  y = 2")?;
-    assert_eq!(rt; found.len(), 2);
-    assert_eq!(rt; found[1].indent, 2);
-    assert_eq!(rt; found[1].start, 19);
+    let first = Line {
+        indent: 0,
+        start: 0,
+        end: 9,
+    };
+    let second = Line {
+        indent: 2,
+        start: 19,
+        end: 24,
+    };
+    assert_eq!(rt; found.as_slice(), [first, second].as_slice());
+    let fault = lines(rt.alloc(), b"a\n \tb");
+    assert!(rt; matches!(fault, Err(TextFault::TabBlank(3))));
+    Ok(())
+}
+
+#[test]
+fn lengths(rt: HostRuntime) {
+    assert_eq!(rt; gap_len(b"  $\n $\r\n\tx"), 8);
+    assert_eq!(rt; indent_len(b"  $\n x"), 2);
+    assert_eq!(rt; newline_len(b"\r\n\n"), 2);
+    assert_eq!(rt; newline_len(b"\rx"), 0);
+    assert_eq!(rt; logical_len(b"a$\nb\r\nc"), 4);
+    assert_eq!(rt; logical_len(b" # b$\nc"), 5);
+    assert_eq!(rt; name_len(b"a-B_9.x=1"), 7);
+    assert_eq!(rt; escape_len(b"{a.b}c"), Some(5));
+    assert_eq!(rt; escape_len(b"a.b"), Some(1));
+    assert_eq!(rt; escape_len(b"\n  x"), Some(3));
+    assert_eq!(rt; escape_len(b"{}"), None);
+}
+
+/// Two bytes, as a pair.
+struct PairUnit;
+
+impl Unit for PairUnit {
+    ghost use Rattle.std.specs.Prelude.{ℕ, List, [], ◌∷◌};
+
+    ghost size = { elim [ [] ↦ 0 | x ∷ [] ↦ 0 | x ∷ y ∷ rest ↦ 2 ] };
+
+    fn unit_len(text: &[u8]) -> usize {
+        match text {
+            [_, _, ..] => 2,
+            _ => 0,
+        }
+    }
+}
+
+#[test]
+fn runs_of_pairs(rt: HostRuntime) {
+    assert_eq!(rt; run_len::<PairUnit>(b"abcde"), 4);
+}
+
+#[test]
+fn list_of_items(rt: HostRuntime) -> Result<(), Fail> {
+    let mut held = Vec::new(rt.alloc());
+    held.push(7)?;
+    let items = Items::new(held);
+    assert_eq!(rt; items.as_slice(), [7].as_slice());
+    let mut held = items.into_vec();
+    held.push(8)?;
+    assert_eq!(rt; held.as_slice(), [7, 8].as_slice());
+    let none: Items<u32> = Items::empty(rt.alloc());
+    assert_eq!(rt; none.as_slice().len(), 0);
+    Ok(())
+}
+
+#[test]
+fn fault_numbers(rt: HostRuntime) {
+    for (fault, number) in [
+        (TextFault::TabBlank(9), 1),
+        (TextFault::NulByte(9), 2),
+        (TextFault::BadEscape(9), 3),
+        (TextFault::SourceTooLong(9), 4),
+        (TextFault::Memory, 5),
+        (TextFault::EmptyPath, 6),
+    ] {
+        assert_eq!(rt; fault.number(), number);
+    }
+}
+
+/// Takes two bytes at a call, but for one call that fails.
+#[derive(Drop)]
+struct Faltering {
+    taken: Vec<u8>,
+    calls: u32,
+    failing: u32,
+}
+
+impl Write for Faltering {
+    fn write(&mut self, bytes: &[u8]) -> io::Result<usize> {
+        self.calls = self.calls.saturating_add(1);
+        if self.calls == self.failing {
+            return Err(io::Error::from(io::ErrorKind::BrokenPipe));
+        }
+        let n = bytes.len().min(2);
+        self.taken.extend_from_slice(&bytes[..n])?;
+        Ok(n)
+    }
+
+    fn flush(&mut self) -> io::Result<()> {
+        Ok(())
+    }
+}
+
+#[test]
+fn sinks(rt: HostRuntime) -> Result<(), Fail> {
+    let mut sink = Counted::new(Vec::new(rt.alloc()));
+    write_all(&mut sink, b"one ")?;
+    write_all(&mut sink, b"two")?;
+    let taken = sink.into_writer();
+    assert_eq!(rt; taken.as_slice(), b"one two".as_slice());
+
+    let mut sink = Counted::new(Faltering {
+        taken: Vec::new(rt.alloc()),
+        calls: 0,
+        failing: 3,
+    });
+    let failed = write_all(&mut sink, b"abcdefg");
+    assert!(rt; matches!(failed, Err(SinkFault)));
+    assert_eq!(rt;
+        format!(in rt.alloc(); "{SinkFault}")?.as_str(),
+        "a write failed"
+    );
+    let mut writer = sink.into_writer();
+    assert_eq!(rt; writer.taken.as_slice(), b"abcd".as_slice());
+    writer.flush()?;
+    let mut sink = Counted::new(writer);
+    write_all(&mut sink, b"xyz")?;
+    assert_eq!(rt; sink.into_writer().taken.as_slice(), b"abcdxyz".as_slice());
     Ok(())
 }

@@ -1,0 +1,24 @@
+use Rattle.std.proofs.Common.{◌≡◌, ◌++◌, ◌-◌, ℕ, List, length, take, drop, ap, ◌∙◌, append_assoc}
+use Rattle.std.proofs.KnownBytes.{Appends-trans}
+use Rattle.std.proofs.lemmas.List.{take-append-drop, take_rest}
+use Rattle.plan_text.proofs.SinkLemmas.{on_err, stopped}
+use Rattle.plan_text.proofs.sink.write_all.Goals as goal
+
+pub loop-rest-preserved : goal.loop-rest-preserved
+loop-rest-preserved g c =
+    let more : take c.in_ok-n.n c.loop-rest.rest.now ++ take (length c.loop-rest.rest.now - c.in_ok-n.n) (drop c.in_ok-n.n c.loop-rest.rest.now) ≡ c.loop-rest.rest.now =
+    ap (λ (v : List ℕ). take c.in_ok-n.n c.loop-rest.rest.now ++ v) (take_rest c.loop-rest.rest.now c.in_ok-n.n) ∙ take-append-drop c.in_ok-n.n c.loop-rest.rest.now in
+    let before = c.loop-rest.invariant.taken in
+    record {
+      kept = c.in_ok-n.ensures.failures ∙ c.loop-rest.invariant.kept;
+      taken = (
+        before.0 ++ take c.in_ok-n.n c.loop-rest.rest.now,
+        append_assoc before.0 (take c.in_ok-n.n c.loop-rest.rest.now) _ ∙ ap (λ (v : List ℕ). before.0 ++ v) more ∙ before.1,
+        Appends-trans _ _ _ before.0 (take c.in_ok-n.n c.loop-rest.rest.now) before.2 c.in_ok-n.ensures.taken,
+      );
+    }
+
+pub returns-in_err-n-clause-front : goal.returns-in_err-n-clause-front
+returns-in_err-n-clause-front g c =
+    let before = c.loop-rest.invariant.taken in
+    on_err c.from_residual.result (stopped _ _ _ before.0 c.loop-rest.rest.now _ before.1 before.2 c.in_err-n.ensures.taken)
