@@ -1,0 +1,4 @@
+mod Rows
+pub mod ReadingLemmas
+pub mod BlockLemmas
+pub mod ProgressLemmas

@@ -1,0 +1,135 @@
+-- Worked examples of statements.
+use Rattle.std.proofs.Common.{◌≡◌, ℕ, List, [], ◌∷◌, ◌++◌, Ok, Err, refl}
+use Rattle.std.specs.Prelude.{codes}
+use Rattle.plan_text.specs.declared.piece_reader.Piece.{Piece}
+use Rattle.plan_text.specs.declared.piece_reader.Piece.TheVariants.{Literal, Reference}
+use Rattle.plan_text.specs.declared.fault.TextFault.TheVariants.{BadEscape, NulByte, TabBlank}
+use Rattle.plan_parse.specs.declared.fault.ParseFault.TheVariants.{Text, NoCommand, UnexpectedIndent, ExpectedColon, ExpectedPath, UnknownRuleVariable, ExpectedLineEnd, ExpectedName, ExpectedEquals}
+use Rattle.plan_parse.specs.declared.statement.Binding.{Binding}
+use Rattle.plan_parse.specs.declared.statement.Statement.{Statement}
+use Rattle.plan_parse.specs.declared.statement.StatementKind.TheVariants as kind
+use Rattle.plan_parse.specs.Statements.{statements_of}
+
+abbrev lf : List ℕ
+lf = 10 ∷ []
+
+abbrev bind : List ℕ → List Piece → Binding
+bind name value = record { name = name; value = value }
+
+abbrev rule : ℕ → List ℕ → List Binding → Statement
+rule at name bindings = record { offset = at; kind = kind.Rule (record { name = name; bindings = bindings }) }
+
+abbrev build : ℕ → List (List Piece) → List ℕ → List (List Piece) → List Binding → Statement
+build at outputs name inputs bindings = record { offset = at; kind = kind.Build (record { outputs = outputs; rule = name; inputs = inputs; bindings = bindings }) }
+
+abbrev set : ℕ → List ℕ → List Piece → Statement
+set at name value = record { offset = at; kind = kind.Binding (bind name value) }
+
+empty_manifest : statements_of [] ≡ Ok []
+empty_manifest = refl
+
+demo : statements_of (codes "rule demo" ++ lf ++ codes "  command = echo \"this is a demo of $foo\"" ++ lf ++ codes "build out: demo" ++ lf ++ codes "  foo = bar" ++ lf)
+    ≡ Ok (rule 0 (codes "demo") (bind (codes "command") (Literal (codes "echo \"this is a demo of ") ∷ Reference (codes "foo") ∷ Literal (codes "\"") ∷ []) ∷ [])
+    ∷ build 52 ((Literal (codes "out") ∷ []) ∷ []) (codes "demo") [] (bind (codes "foo") (Literal (codes "bar") ∷ []) ∷ [])
+    ∷ [])
+demo = refl
+
+quoted_paths : statements_of (codes "spaced = foo bar" ++ lf ++ codes "rule t" ++ lf ++ codes "  command = touch $out" ++ lf ++ codes "build $spaced/baz other$ file: t")
+    ≡ Ok (set 0 (codes "spaced") (Literal (codes "foo bar") ∷ [])
+    ∷ rule 17 (codes "t") (bind (codes "command") (Literal (codes "touch ") ∷ Reference (codes "out") ∷ []) ∷ [])
+    ∷ build 47 ((Reference (codes "spaced") ∷ Literal (codes "/baz") ∷ []) ∷ (Literal (codes "other file") ∷ []) ∷ []) (codes "t") [] []
+    ∷ [])
+quoted_paths = refl
+
+block_before_file : statements_of (codes "build f$x: e a" ++ lf ++ codes "  x = 2" ++ lf)
+    ≡ Ok (build 0 ((Literal (codes "f") ∷ Reference (codes "x") ∷ []) ∷ []) (codes "e") ((Literal (codes "a") ∷ []) ∷ []) (bind (codes "x") (Literal (codes "2") ∷ []) ∷ []) ∷ [])
+block_before_file = refl
+
+bad_escape : statements_of (codes "x = a$!") ≡ Err (Text (BadEscape 5))
+bad_escape = refl
+
+-- the first block with a fault, whatever stands below it
+first_block : statements_of (codes "rule r" ++ lf ++ codes "x = a" ++ lf ++ 9 ∷ codes "y") ≡ Err (NoCommand 0)
+first_block = refl
+
+nul_in_comment : statements_of (codes "rule r" ++ lf ++ codes "# " ++ 0 ∷ 10 ∷ codes "  command = x") ≡ Err (Text (NulByte 9))
+nul_in_comment = refl
+
+indent_below_binding : statements_of (codes "x = 1" ++ lf ++ codes "  y = 2") ≡ Err (UnexpectedIndent 8)
+indent_below_binding = refl
+
+indent_in_front : statements_of (codes "  y = 2" ++ lf ++ codes "rule") ≡ Err (UnexpectedIndent 2)
+indent_in_front = refl
+
+no_colon : statements_of (codes "build a b") ≡ Err (ExpectedColon 9)
+no_colon = refl
+
+tab_in_path : statements_of (codes "build a" ++ 9 ∷ codes "b: r") ≡ Err (Text (TabBlank 7))
+tab_in_path = refl
+
+no_output : statements_of (codes "build : r") ≡ Err (ExpectedPath 6)
+no_output = refl
+
+bar_among_outputs : statements_of (codes "build a | b: r") ≡ Err (ExpectedPath 8)
+bar_among_outputs = refl
+
+bars_among_inputs : statements_of (codes "build a: r b || c") ≡ Err (ExpectedPath 13)
+bars_among_inputs = refl
+
+colon_among_inputs : statements_of (codes "build a: r b : c") ≡ Err (ExpectedLineEnd 13)
+colon_among_inputs = refl
+
+second_command : statements_of (codes "rule r" ++ lf ++ codes "  command = a" ++ lf ++ codes "  command = b") ≡ Err (NoCommand 23)
+second_command = refl
+
+bad_name : statements_of (codes "rule $!" ++ lf ++ codes "  command = a") ≡ Err (Text (BadEscape 5))
+bad_name = refl
+
+more_behind_name : statements_of (codes "rule a b" ++ lf ++ codes "  command = a") ≡ Err (ExpectedLineEnd 7)
+more_behind_name = refl
+
+unknown_variable : statements_of (codes "rule r" ++ lf ++ codes "  depfile = a" ++ lf ++ codes "  command = b") ≡ Err (UnknownRuleVariable 9)
+unknown_variable = refl
+
+-- a rule without a command counts before all else of its block
+absent_command : statements_of (codes "rule r" ++ lf ++ codes "  depfil = x") ≡ Err (NoCommand 0)
+absent_command = refl
+
+-- a faulty command is a command
+faulty_command : statements_of (codes "rule r" ++ lf ++ codes "  command = $!") ≡ Err (Text (BadEscape 19))
+faulty_command = refl
+
+-- a tab in front of a line of the block
+tab_in_front : statements_of (codes "rule r" ++ lf ++ 9 ∷ codes "command = x") ≡ Err (Text (TabBlank 7))
+tab_in_front = refl
+
+blank_tab_line : statements_of (codes "rule r" ++ lf ++ 9 ∷ 10 ∷ codes "  command = x") ≡ Err (Text (TabBlank 7))
+blank_tab_line = refl
+
+-- `$` and a newline in front of a line
+continued_nothing : statements_of (36 ∷ 10 ∷ []) ≡ Err (ExpectedName 2)
+continued_nothing = refl
+
+continued_indent : statements_of (32 ∷ 36 ∷ 10 ∷ []) ≡ Err (UnexpectedIndent 1)
+continued_indent = refl
+
+continued_binding : statements_of (36 ∷ 10 ∷ codes "x = 1") ≡ Ok (set 0 (codes "x") (Literal (codes "1") ∷ []) ∷ [])
+continued_binding = refl
+
+continued_rule : statements_of (36 ∷ 10 ∷ codes "rule") ≡ Err (NoCommand 0)
+continued_rule = refl
+
+no_comment : statements_of (36 ∷ 10 ∷ codes "# c") ≡ Err (ExpectedName 2)
+no_comment = refl
+
+later_keyword : statements_of (codes "x = 1" ++ lf ++ codes "default x") ≡ Err (ExpectedName 6)
+later_keyword = refl
+
+no_equals : statements_of (codes "x y") ≡ Err (ExpectedEquals 2)
+no_equals = refl
+
+nul_for_indent : statements_of (codes "x = 1" ++ lf ++ 32 ∷ 0 ∷ []) ≡ Err (Text (NulByte 7))
+nul_for_indent = refl
+
+tab_in_value : statements_of (codes "x =  a" ++ 9 ∷ []) ≡ Ok (set 0 (codes "x") (Literal (codes "a" ++ 9 ∷ []) ∷ []) ∷ [])
+tab_in_value = refl

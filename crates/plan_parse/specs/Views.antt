@@ -1,0 +1,6 @@
+-- What the program holds, without where it lies in memory.
+use Rattle.plan_parse.specs.declared.cursor.Cursor.{Cursor}
+use Rattle.plan_parse.specs.Reading.{Place}
+
+abbrev pub place_of : Cursor → Place
+place_of c = record { at = c.at; bytes = c.bytes.now }

@@ -1,0 +1,219 @@
+//! Reading a line from left to right.
+
+ghost use Rattle.std.specs.Prelude.{◌≡◌, ◌≤◌, length};
+ghost use Rattle.plan_text.specs.Bytes.{begins_with};
+ghost use Rattle.plan_text.specs.Outcome.{Meets, seen_by};
+ghost use Rattle.plan_parse.specs.Reading as syntax;
+ghost use Rattle.plan_parse.specs.Statements as statements;
+ghost use Rattle.plan_parse.specs.Views.{place_of};
+
+use crate::cursor::Cursor;
+use crate::fault::ParseFault;
+use crate::statement::Binding;
+use plan_text::{
+    Items, Mode, Piece, TextFault, Unit, escape_len, gap_len, name_len, pieces_at, run_len,
+};
+use std::alloc::Global;
+
+/// What is left past so many bytes.
+pub fn past(p: Cursor<'_>, n: usize) -> Cursor<'_>
+    requires { n ≤ length p.bytes.now }
+    ensures { place_of result ≡ syntax.past n (place_of p.entry) }
+{
+    Cursor {
+        at: p.at + n,
+        bytes: &p.bytes[n..],
+    }
+}
+
+/// What is left past spaces, and each `$` with the newline behind it.
+pub fn past_gap(p: Cursor<'_>) -> Cursor<'_>
+    ensures { place_of result ≡ syntax.past_gap (place_of p.entry) }
+{
+    past(p, gap_len(p.bytes))
+}
+
+/// Whether a text begins with this byte.
+pub fn begins(text: &[u8], b: u8) -> bool
+    ensures { result ≡ begins_with b text.now }
+{
+    match text {
+        [] => false,
+        [first, ..] => *first == b,
+    }
+}
+
+/// The fault of a place where something else was expected: a byte that stands nowhere comes first.
+pub fn refusal(p: Cursor<'_>, expected: ParseFault) -> ParseFault
+    ensures { result ≡ syntax.refusal expected (place_of p.entry) }
+{
+    let at = p.at as u64;
+    match p.bytes {
+        [b'\t', ..] => ParseFault::Text(TextFault::TabBlank(at)),
+        [0, ..] => ParseFault::Text(TextFault::NulByte(at)),
+        [b'$', rest @ ..] if escape_len(rest).is_none() => {
+            ParseFault::Text(TextFault::BadEscape(at))
+        }
+        _ => expected,
+    }
+}
+
+/// The name that stands here, empty where none does.
+pub fn name_of(p: Cursor<'_>) -> &[u8]
+    ensures { result.now ≡ syntax.name_of (place_of p.entry) }
+{
+    &p.bytes[..name_len(p.bytes)]
+}
+
+/// A name, and the place past it and the gap behind it.
+pub fn name_at(p: Cursor<'_>) -> Result<(&[u8], Cursor<'_>), ParseFault>
+    ensures { seen_by (λ x. (x.0.now, place_of x.1)) result ≡ syntax.name_at (place_of p.entry) }
+{
+    let len = name_len(p.bytes);
+    if len == 0 {
+        return Err(refusal(p, ParseFault::ExpectedName(p.at as u64)));
+    }
+    Ok((&p.bytes[..len], past_gap(past(p, len))))
+}
+
+/// One byte; the place past it and the gap behind it. The fault is that of another byte.
+fn byte_at(p: Cursor<'_>, b: u8, fault: ParseFault) -> Result<Cursor<'_>, ParseFault>
+    ensures { seen_by place_of result ≡ syntax.byte_at b (λ _. fault) (place_of p.entry) }
+{
+    if !begins(p.bytes, b) {
+        return Err(refusal(p, fault));
+    }
+    Ok(past_gap(past(p, 1)))
+}
+
+/// The end of the line.
+pub fn line_end_at(p: Cursor<'_>) -> Result<(), ParseFault>
+    ensures { result ≡ syntax.line_end_at (tt {0}) (place_of p.entry) }
+{
+    if p.bytes.is_empty() {
+        Ok(())
+    } else {
+        Err(refusal(p, ParseFault::ExpectedLineEnd(p.at as u64)))
+    }
+}
+
+/// A fault of the text, as one of the statements.
+fn of_text(fault: TextFault) -> ParseFault
+    ensures { result ≡ syntax.of_text fault }
+{
+    match fault {
+        TextFault::Memory => ParseFault::Memory,
+        TextFault::TabBlank(_)
+        | TextFault::NulByte(_)
+        | TextFault::BadEscape(_)
+        | TextFault::SourceTooLong(_)
+        | TextFault::EmptyPath => ParseFault::Text(fault),
+    }
+}
+
+/// The rest of the line, as a value.
+fn value_at(alloc: Global, p: Cursor<'_>) -> Result<Items<Piece>, ParseFault>
+    ensures { Meets ParseFault.Memory (λ v. v) result (syntax.value_at (place_of p.entry)) }
+{
+    match pieces_at(alloc, p.bytes, p.at, Mode::Value) {
+        Ok(value) => Ok(Items::new(value)),
+        Err(fault) => Err(of_text(fault)),
+    }
+}
+
+/// `name = value`.
+pub fn bound_at(alloc: Global, p: Cursor<'_>) -> Result<Binding, ParseFault>
+    ensures { Meets ParseFault.Memory (λ b. b) result (statements.bound_at (place_of p.entry)) }
+{
+    let (name, rest) = name_at(past_gap(p))?;
+    let rest = byte_at(rest, b'=', ParseFault::ExpectedEquals(rest.at as u64))?;
+    let value = value_at(alloc, rest)?;
+    let name = Items::new(Vec::from_slice(alloc, name)?);
+    Ok(Binding { name, value })
+}
+
+/// A byte of a path, or a `$` with its escape.
+struct PathUnit;
+
+impl Unit for PathUnit {
+    ghost size = { syntax.path_unit };
+
+    fn unit_len(text: &[u8]) -> usize {
+        match text {
+            [] | [b' ' | b':' | b'|', ..] => 0,
+            [b'$', rest @ ..] => 1 + escape_len(rest).unwrap_or(0),
+            _ => 1,
+        }
+    }
+}
+
+/// How long the path is that a text begins with.
+fn path_len(text: &[u8]) -> usize
+    ensures len { result ≡ syntax.path_len text.now }
+    ensures within { result ≤ length text.now }
+{
+    run_len::<PathUnit>(text)
+}
+
+/// The path that takes so many bytes.
+fn path_at(alloc: Global, p: Cursor<'_>, len: usize) -> Result<Items<Piece>, ParseFault>
+    requires { len ≤ length p.bytes.now }
+    ensures { Meets ParseFault.Memory (λ v. v) result (syntax.path_at (place_of p.entry) len) }
+{
+    match pieces_at(alloc, &p.bytes[..len], p.at, Mode::Path) {
+        Ok(path) => Ok(Items::new(path)),
+        Err(fault) => Err(of_text(fault)),
+    }
+}
+
+/// The paths of a list, and the place of the first byte that belongs to none.
+fn paths_at(alloc: Global, p: Cursor<'_>) -> Result<(Vec<Items<Piece>>, Cursor<'_>), ParseFault>
+    ensures { Meets ParseFault.Memory (λ x. (x.0.items, place_of x.1)) result (syntax.paths_at (place_of p.entry)) }
+{
+    let mut paths = Vec::new(alloc);
+    let mut rest = past_gap(p);
+    loop {
+        let len = path_len(rest.bytes);
+        if len == 0 {
+            return Ok((paths, rest));
+        }
+        paths.push(path_at(alloc, rest, len)?)?;
+        rest = past_gap(past(rest, len));
+    }
+}
+
+/// No `|` may stand here.
+fn no_bar(p: Cursor<'_>) -> Result<(), ParseFault>
+    ensures { result ≡ statements.no_bar (place_of p.entry) }
+{
+    if begins(p.bytes, b'|') {
+        return Err(ParseFault::ExpectedPath(p.at as u64));
+    }
+    Ok(())
+}
+
+/// `outputs:`, and the place behind it.
+pub fn outputs_at(
+    alloc: Global,
+    p: Cursor<'_>,
+) -> Result<(Vec<Items<Piece>>, Cursor<'_>), ParseFault>
+    ensures { Meets ParseFault.Memory (λ x. (x.0.items, place_of x.1)) result (statements.outputs_at (place_of p.entry)) }
+{
+    let (outputs, rest) = paths_at(alloc, p)?;
+    no_bar(rest)?;
+    if outputs.is_empty() {
+        return Err(refusal(rest, ParseFault::ExpectedPath(rest.at as u64)));
+    }
+    let behind = byte_at(rest, b':', ParseFault::ExpectedColon(rest.at as u64))?;
+    Ok((outputs, behind))
+}
+
+/// `inputs` and the end of the line.
+pub fn inputs_at(alloc: Global, p: Cursor<'_>) -> Result<Vec<Items<Piece>>, ParseFault>
+    ensures { Meets ParseFault.Memory (λ v. v.items) result (statements.inputs_at (place_of p.entry)) }
+{
+    let (inputs, rest) = paths_at(alloc, p)?;
+    no_bar(rest)?;
+    line_end_at(rest)?;
+    Ok(inputs)
+}

@@ -1,0 +1,54 @@
+//! What a manifest says.
+
+use plan_text::{Items, Piece};
+
+/// A name and its value: `name = value`.
+#[derive(Debug, Drop)]
+pub struct Binding {
+    /// The name.
+    pub name: Items<u8>,
+    /// The pieces of the value.
+    pub value: Items<Piece>,
+}
+
+/// A rule and the lines below it.
+#[derive(Debug, Drop)]
+pub struct Rule {
+    /// The name by which build lines ask for it.
+    pub name: Items<u8>,
+    /// Its variables in order, one of them `command`.
+    pub bindings: Items<Binding>,
+}
+
+/// A build line and the lines below it.
+#[derive(Debug, Drop)]
+pub struct Build {
+    /// The pieces of each output, at least one.
+    pub outputs: Items<Items<Piece>>,
+    /// The name of its rule.
+    pub rule: Items<u8>,
+    /// The pieces of each input.
+    pub inputs: Items<Items<Piece>>,
+    /// Its own variables in order.
+    pub bindings: Items<Binding>,
+}
+
+/// The sorts of statements.
+#[derive(Debug, Drop)]
+pub enum StatementKind {
+    /// `rule name` and its block.
+    Rule(Rule),
+    /// `build outputs: rule inputs` and its block.
+    Build(Build),
+    /// `name = value`.
+    Binding(Binding),
+}
+
+/// A statement, with the offset of its first byte.
+#[derive(Debug, Drop)]
+pub struct Statement {
+    /// How many bytes stand before it.
+    pub offset: u64,
+    /// What it says.
+    pub kind: StatementKind,
+}
