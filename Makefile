@@ -1,0 +1,33 @@
+# plan_ninja: see README.md.
+PREFIX ?= /usr/local
+PROGRAM = crates/plan_ninja/out/plan_ninja
+
+# Builds the proved program.
+.PHONY: all
+all:
+	@cd crates/plan_ninja && rt run -- --help > /dev/null
+	@echo "built and proved: $(PROGRAM)"
+
+# Runs the program, not yet proved, on the example.
+.PHONY: demo
+demo:
+	@cd crates/plan_ninja && rt try --data build.ninja=../../examples/demo/build.ninja -- commands build.ninja 2> out/demo.log \
+	  || { cat out/demo.log >&2; exit 1; }
+	@echo "(run without the proofs, by rt try; make proves and builds the program, make check is the whole gate)" >&2
+
+# The gate: every proof, test and must-fail edit, and then the rows of the command line.
+.PHONY: check
+check:
+	rt ci
+	python3 tests/fail_alloc.py $(PROGRAM)
+	python3 tests/run_rows.py $(PROGRAM)
+
+.PHONY: install
+install: all
+	install -d "$(DESTDIR)$(PREFIX)/bin"
+	install -m 755 $(PROGRAM) "$(DESTDIR)$(PREFIX)/bin/plan_ninja"
+
+# Times the program beside ninja; `make` first.
+.PHONY: bench
+bench:
+	python3 bench/run.py $(PROGRAM)

@@ -1,0 +1,61 @@
+#!/usr/bin/env python3
+"""Times `plan_ninja commands` beside `ninja -t commands` on manifests of 1,000, 10,000 and 100,000 edges.
+
+usage: run.py PROGRAM
+
+Prints for each size the median wall time of five runs and the peak memory of both, and their ratios (below 1: plan_ninja needs less).
+Before that it compares what both print. It is no test and asserts no time.
+"""
+import os
+import pathlib
+import shutil
+import statistics
+import subprocess
+import sys
+import tempfile
+import time
+
+import manifests
+
+SIZES = (1_000, 10_000, 100_000)
+RUNS = 5
+
+
+def measured(words, folder):
+    """Wall seconds and peak KiB of one run."""
+    begun = time.monotonic()
+    process = subprocess.Popen(words, cwd=folder, stdout=subprocess.DEVNULL, stderr=subprocess.DEVNULL)
+    _, status, usage = os.wait4(process.pid, 0)
+    if status != 0:
+        sys.exit(f"{words[0]} failed")
+    return time.monotonic() - begun, usage.ru_maxrss
+
+
+def median(words, folder):
+    measured(words, folder)
+    runs = [measured(words, folder) for _ in range(RUNS)]
+    return statistics.median(r[0] for r in runs), statistics.median(r[1] for r in runs)
+
+
+def sorted_lines(words, folder):
+    return sorted(subprocess.run(words, cwd=folder, capture_output=True, check=True).stdout.splitlines())
+
+
+def main():
+    program = str(pathlib.Path(sys.argv[1]).resolve())
+    ninja = shutil.which("ninja")
+    if ninja is None:
+        sys.exit("ninja is not installed (Debian: ninja-build)")
+    print("edges    plan_ninja           ninja                ratio of time, memory")
+    for edges in SIZES:
+        with tempfile.TemporaryDirectory() as folder:
+            (pathlib.Path(folder) / "build.ninja").write_text(manifests.flat(edges))
+            ours, theirs = [program, "commands", "build.ninja"], [ninja, "-t", "commands"]
+            if sorted_lines(ours, folder) != sorted_lines(theirs, folder):
+                sys.exit(f"{edges} edges: the commands differ")
+            (t, m), (u, n) = median(ours, folder), median(theirs, folder)
+            print(f"{edges:7d}  {t:7.3f} s {m // 1024:5.0f} MiB  {u:7.3f} s {n // 1024:5.0f} MiB  {t / u:.2f} {m / n:.2f}")
+
+
+if __name__ == "__main__":
+    main()

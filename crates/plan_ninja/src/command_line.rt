@@ -1,0 +1,77 @@
+//! The words of the command line.
+
+use clap::error::ErrorKind;
+use clap::{Arg, ArgAction, Command, Error};
+use std::alloc::{AllocError, Global};
+use std::rt::Env;
+use std::{env, io};
+
+/// What the command line asks for.
+#[derive(Clone, Copy)]
+pub enum Request<'a> {
+    /// The commands of the manifest at this path.
+    Commands(&'a str),
+}
+
+const ABOUT: &str =
+    "Reads Ninja manifests. What it prints is proved to be what the manifest means.";
+
+const COMMANDS_ABOUT: &str = "Prints the command of each build line of a manifest, in order";
+
+const COMMANDS_LONG_ABOUT: &str = "\
+Reads a manifest (build.ninja) and prints the command of each `build` line, in order and one a line, with its variables expanded. \
+Nothing is run.
+
+Where the manifest is refused nothing is printed but the reason, on standard error and with status 2: \
+`plan: NUMBER NAME FILE:OFFSET`, the offset in bytes from 0.";
+
+const FILE_HELP: &str = "The manifest to read, as build.ninja";
+
+/// The commands and arguments that the program knows.
+fn known<'a>(alloc: Global) -> Result<Command<'a>, AllocError> {
+    let file = Arg::new(alloc, "FILE")
+        .required(true)
+        .action(ArgAction::Set)
+        .help(FILE_HELP);
+    let commands = Command::new(alloc, "commands")
+        .about(COMMANDS_ABOUT)
+        .long_about(COMMANDS_LONG_ABOUT)
+        .arg(file)?;
+    Command::new(alloc, "plan_ninja")
+        .about(ABOUT)
+        .subcommand_required(true)
+        .arg_required_else_help(true)
+        .subcommand(commands)
+}
+
+/// The error of words that can't be read: one that is no text, or want of memory.
+fn unreadable(alloc: Global, error: &io::Error) -> Result<Error, AllocError> {
+    let mut command = known(alloc)?;
+    match error.kind() {
+        io::ErrorKind::InvalidData => {
+            command.error(ErrorKind::InvalidValue, "an argument is not valid UTF-8")
+        }
+        _ => Err(AllocError),
+    }
+}
+
+/// The words of the command line, the program's own name first.
+pub fn words_in<R: Env + AllocGlobal>(rt: &R) -> Result<Vec<String>, Error> {
+    match env::args(rt) {
+        Ok(words) => Ok(words.collect(rt.alloc())?),
+        Err(error) => Err(unreadable(rt.alloc(), &error)?),
+    }
+}
+
+/// What the words of the command line ask for, or the text that is shown in its place: an error, or help.
+pub fn request_in<'a>(alloc: Global, words: &'a [String]) -> Result<Request<'a>, Error> {
+    let mut command = known(alloc)?;
+    let matches = command.try_get_matches_from_mut(words)?;
+    match matches.subcommand() {
+        Some(("commands", found)) => match found.get_str("FILE") {
+            Some(path) => Ok(Request::Commands(path)),
+            None => Err(command.error(ErrorKind::MissingRequiredArgument, "FILE is missing")?),
+        },
+        _ => Err(command.error(ErrorKind::MissingSubcommand, "a command is missing")?),
+    }
+}

@@ -1,0 +1,123 @@
+//! Why the program refuses, as it is printed.
+
+ghost use Rattle.std.specs.Prelude.{◌≡◌, ◌⊎◌, IfOk};
+ghost use Rattle.plan_ninja.specs.Faults as defined;
+
+use plan_scope::ScopeFault;
+use plan_text::Items;
+use std::alloc::{AllocError, Global};
+
+/// Why the program refuses.
+#[derive(Debug, Drop)]
+pub struct PlanFault {
+    /// The number of the fault: 1 to 133.
+    pub number: u8,
+    /// What is printed behind its name, as ` build.ninja:5`.
+    pub rest: Items<u8>,
+}
+
+/// The name that is printed behind the number of a fault.
+fn name_of(number: u8) -> &'static str
+    ensures { result.now ≡ defined.name_of number }
+{
+    match number {
+        1 => "TabBlank",
+        2 => "NulByte",
+        3 => "BadEscape",
+        4 => "SourceTooLong",
+        10 => "ExpectedName",
+        11 => "ExpectedEquals",
+        12 => "ExpectedColon",
+        13 => "ExpectedPath",
+        14 => "UnexpectedIndent",
+        15 => "UnknownRuleVariable",
+        16 => "NoCommand",
+        19 => "ExpectedLineEnd",
+        20 => "SourceMissing",
+        30 => "DuplicateRule",
+        31 => "UnknownRule",
+        34 => "RuleCycle",
+        35 => "EmptyPath",
+        39 => "PathTooLong",
+        40 => "TextTooLong",
+        133 => "FileFault",
+        _ => "Memory",
+    }
+}
+
+impl PlanFault {
+    /// The line that is printed: `plan: NUMBER NAME`, the rest, and a newline.
+    pub fn line(&self, alloc: Global) -> Result<Vec<u8>, AllocError>
+        ensures { IfOk result (λ line. line.items ≡ defined.line_of self.now) }
+    {
+        let number = self.number.to_string(alloc)?;
+        let mut line = Vec::from_slice(alloc, b"plan: ")?;
+        line.extend_from_slice(number.as_bytes())?;
+        line.push(b' ')?;
+        line.extend_from_slice(name_of(self.number).as_bytes())?;
+        line.extend_from_slice(self.rest.as_slice())?;
+        line.push(b'\n')?;
+        Ok(line)
+    }
+}
+
+/// Want of memory of the program itself.
+pub fn no_memory(alloc: Global) -> PlanFault
+    ensures { result ≡ defined.no_memory }
+{
+    PlanFault {
+        number: 131,
+        rest: Items::empty(alloc),
+    }
+}
+
+/// ` PATH:OFFSET`
+fn place(alloc: Global, path: &[u8], offset: u64) -> Result<Vec<u8>, AllocError>
+    ensures { IfOk result (λ text. text.items ≡ defined.place path.now offset) }
+{
+    let digits = offset.to_string(alloc)?;
+    let mut text = Vec::new(alloc);
+    text.push(b' ')?;
+    text.extend_from_slice(path)?;
+    text.push(b':')?;
+    text.extend_from_slice(digits.as_bytes())?;
+    Ok(text)
+}
+
+/// A write to the standard output failed.
+pub fn output_failed(alloc: Global) -> Result<PlanFault, AllocError>
+    ensures { IfOk result (λ fault. fault ≡ defined.output_failed) }
+{
+    Ok(PlanFault {
+        number: 133,
+        rest: Items::new(Vec::from_slice(alloc, b" -")?),
+    })
+}
+
+/// What is printed behind the name of a fault.
+fn rest_of(alloc: Global, fault: &ScopeFault) -> Result<Vec<u8>, AllocError>
+    ensures { IfOk result (λ rest. rest.items ≡ defined.rest_of fault.now) }
+{
+    match fault {
+        ScopeFault::SourceMissing(path) => place(alloc, path.as_slice(), 0),
+        ScopeFault::Parse(path, fault) => match fault.offset() {
+            Some(offset) => place(alloc, path.as_slice(), offset),
+            None => Ok(Vec::new(alloc)),
+        },
+        ScopeFault::Refused(path, offset, _) => place(alloc, path.as_slice(), *offset),
+        ScopeFault::LoadMemory | ScopeFault::Memory => Ok(Vec::new(alloc)),
+    }
+}
+
+/// A fault of a manifest as it is printed, or want of memory where that finds none.
+pub fn shown(alloc: Global, fault: &ScopeFault) -> PlanFault
+    ensures { (result ≡ defined.shown fault.now) ⊎ (result ≡ defined.no_memory) }
+{
+    match rest_of(alloc, fault) {
+        Ok(rest) => PlanFault {
+            number: fault.number(),
+            rest: Items::new(rest),
+        },
+        Err(_) => no_memory(alloc),
+    }
+}

@@ -1,0 +1,60 @@
+//! The files of the system.
+
+use plan_scope::{Source, SourceFault};
+use plan_text::Tally;
+use std::alloc::Global;
+use std::io::{ErrorKind, Read};
+use std::rt::Files;
+use std::{fs, io, str};
+
+/// One byte more than a source may have, so that one which is too long is seen to be.
+const MAX_READ: u64 = 16_777_217;
+
+/// The files that lie in the system, by their paths.
+#[derive(Drop)]
+pub struct FileSource<'a, R> {
+    rt: &'a R,
+    failures: Tally,
+}
+
+impl<'a, R: Files> FileSource<'a, R> {
+    /// The files that the runtime reaches.
+    pub fn new(rt: &'a R) -> FileSource<'a, R> {
+        FileSource {
+            rt,
+            failures: Tally::new(),
+        }
+    }
+}
+
+/// Reads the file at a path, or the front of one that is too long for a source.
+fn read_file<R: Files>(rt: &R, alloc: Global, path: &[u8]) -> io::Result<Vec<u8>> {
+    let Ok(path) = str::from_utf8(path) else {
+        return Err(io::Error::from(ErrorKind::InvalidInput));
+    };
+    let mut bytes = Vec::new(alloc);
+    fs::open(rt, path)?.take(MAX_READ).read_to_end(&mut bytes)?;
+    Ok(bytes)
+}
+
+impl<R: Files> Source for FileSource<'_, R> {
+    ghost use Rattle.std.specs.Prelude.{◌≡◌};
+
+    ghost gives = { λ _ _ _. Unit {0} };
+
+    ghost failures = { λ s. s.failures.count };
+
+    fn read(&mut self, alloc: Global, path: &[u8]) -> Result<Vec<u8>, SourceFault> {
+        match read_file(self.rt, alloc, path) {
+            Ok(bytes) => Ok(bytes),
+            Err(error) => match error.kind() {
+                ErrorKind::NotFound | ErrorKind::NotADirectory => Err(SourceFault::Missing),
+                ErrorKind::OutOfMemory => Err(SourceFault::Memory),
+                _ => {
+                    self.failures = self.failures.next();
+                    Err(SourceFault::Failed)
+                }
+            },
+        }
+    }
+}

@@ -1,0 +1,95 @@
+//! plan_ninja: a builder for Ninja manifests. This is the program; the work is done in the crates below it.
+#![tactic(auto)]
+
+mod command_line;
+mod commands;
+mod fault;
+mod files;
+#[cfg(test)]
+mod tests;
+
+use crate::command_line::{Request, request_in, words_in};
+use crate::commands::do_commands;
+use crate::fault::{PlanFault, no_memory, output_failed};
+use crate::files::FileSource;
+use clap::Error;
+use clap::error::ErrorKind;
+use plan_text::Counted;
+use std::alloc::Global;
+use std::io;
+use std::io::{BufWriter, Write};
+use std::process::ExitCode;
+use std::rt::{Env, Files};
+
+/// The status of a program that was refused.
+const REFUSED: u8 = 2;
+
+/// How many bytes of output are written at once.
+const OUTPUT_BUFFER: usize = 65_536;
+
+/// Prints the commands of the manifest at this path, and says with which status the program ends.
+fn print_commands<R: Files + Print + AllocGlobal>(rt: &R, path: &str) -> Result<u8, PlanFault> {
+    let alloc = rt.alloc();
+    let Ok(buffer) = BufWriter::with_capacity(alloc, OUTPUT_BUFFER, io::writer(rt)) else {
+        return Err(no_memory(alloc));
+    };
+    let mut out = Counted::new(buffer);
+    let mut source = FileSource::new(rt);
+    let status = do_commands(alloc, &mut source, path.as_bytes(), &mut out)?;
+    match out.into_writer().flush() {
+        Ok(()) => Ok(status),
+        Err(_) => Err(output_failure(alloc)),
+    }
+}
+
+/// The fault of the standard output.
+fn output_failure(alloc: Global) -> PlanFault {
+    match output_failed(alloc) {
+        Ok(fault) => fault,
+        Err(_) => no_memory(alloc),
+    }
+}
+
+/// Prints why the program is refused.
+fn report<E: Print>(alloc: Global, errors: &E, fault: &PlanFault) -> u8 {
+    let _ = match fault.line(alloc) {
+        Ok(line) => errors.write_all(&line),
+        Err(_) => errors.write_all(b"plan: 131 Memory\n"),
+    };
+    REFUSED
+}
+
+/// Shows the text of an error of the command line, or the help that it asked for.
+fn show<R: Print + Eprint + AllocGlobal, E: Print>(rt: &R, errors: &E, error: &Error) -> u8 {
+    if error.kind() == ErrorKind::OutOfMemory {
+        return report(rt.alloc(), errors, &no_memory(rt.alloc()));
+    }
+    let printed = error.print(rt);
+    if error.use_stderr() {
+        return REFUSED;
+    }
+    match printed {
+        Ok(()) => 0,
+        Err(_) => report(rt.alloc(), errors, &output_failure(rt.alloc())),
+    }
+}
+
+/// Does what the words of the command line ask for, and says with which status the program ends.
+fn run<R: Env + Files + Print + Eprint + AllocGlobal, E: Print>(rt: &R, errors: &E) -> u8 {
+    let words = match words_in(rt) {
+        Ok(words) => words,
+        Err(error) => return show(rt, errors, &error),
+    };
+    match request_in(rt.alloc(), &words) {
+        Ok(Request::Commands(path)) => match print_commands(rt, path) {
+            Ok(status) => status,
+            Err(fault) => report(rt.alloc(), errors, &fault),
+        },
+        Err(error) => show(rt, errors, &error),
+    }
+}
+
+fn main(rt: HostRuntime) -> ExitCode {
+    let errors = rt.stderr();
+    ExitCode::from(run(&rt, &errors))
+}

@@ -1,0 +1,178 @@
+use crate::commands::do_commands;
+use crate::fault::{PlanFault, no_memory, output_failed, shown};
+use plan_scope::{ScopeFault, Source, SourceFault};
+use plan_text::{Counted, Items, Sink, SinkFault, Tally};
+use std::alloc::Global;
+use std::process::Abort;
+use std::test::Fail;
+
+const DEMO: &[u8] =
+    b"rule demo\n  command = echo \"this is a demo of $foo\"\nbuild out: demo\n  foo = bar\n";
+
+const DEMO_OUTPUT: &[u8] = b"echo \"this is a demo of bar\"\n";
+
+/// A file under any path; or a read that fails, where there is none.
+#[derive(Drop)]
+struct OneFile {
+    bytes: Option<&'static [u8]>,
+    failures: Tally,
+}
+
+impl OneFile {
+    fn new(bytes: Option<&'static [u8]>) -> OneFile {
+        OneFile {
+            bytes,
+            failures: Tally::new(),
+        }
+    }
+}
+
+impl Source for OneFile {
+    ghost gives = { λ _ _ _. Unit {0} };
+
+    ghost failures = { λ s. s.failures.count };
+
+    fn read(&mut self, alloc: Global, _path: &[u8]) -> Result<Vec<u8>, SourceFault> {
+        match self.bytes {
+            Some(bytes) => Vec::from_slice(alloc, bytes).map_err(|_| SourceFault::Memory),
+            None => {
+                self.failures = self.failures.next();
+                Err(SourceFault::Failed)
+            }
+        }
+    }
+}
+
+/// A sink that takes one byte at a time, `left` of them, and then fails.
+#[derive(Drop)]
+struct Narrow {
+    left: usize,
+    failures: Tally,
+}
+
+impl Sink for Narrow {
+    ghost failures = { λ s. s.failures.count };
+
+    ghost taken = { λ _. None };
+
+    fn write(&mut self, bytes: &[u8]) -> Result<usize, SinkFault> {
+        if self.left == 0 {
+            self.failures = self.failures.next();
+            return Err(SinkFault);
+        }
+        if bytes.is_empty() {
+            return Ok(0);
+        }
+        self.left -= 1;
+        Ok(1)
+    }
+}
+
+fn assert_refused(rt: &impl Abort, alloc: Global, fault: &PlanFault, line: &[u8]) {
+    match fault.line(alloc) {
+        Ok(found) => assert!(rt; found.as_slice() == line),
+        Err(_) => assert!(rt; false),
+    }
+}
+
+#[test]
+fn prints_the_demo(rt: HostRuntime) {
+    let mut out = Counted::new(Vec::new(rt.alloc()));
+    let status = do_commands(
+        rt.alloc(),
+        &mut OneFile::new(Some(DEMO)),
+        b"build.ninja",
+        &mut out,
+    );
+    assert!(rt; matches!(status, Ok(0)));
+    assert!(rt; out.into_writer().as_slice() == DEMO_OUTPUT);
+}
+
+/// Where memory is refused, nothing is printed, and the fault is one of memory.
+#[test]
+fn survives_refused_memory(rt: HostRuntime) {
+    let mut out = Counted::new(Vec::new(rt.alloc()));
+    match do_commands(
+        rt.alloc(),
+        &mut OneFile::new(Some(DEMO)),
+        b"build.ninja",
+        &mut out,
+    ) {
+        Ok(_) => assert!(rt; out.into_writer().as_slice() == DEMO_OUTPUT),
+        Err(fault) => {
+            assert!(rt; matches!(fault.number, 22 | 41 | 131 | 133));
+            assert!(rt; out.into_writer().len() < DEMO_OUTPUT.len());
+        }
+    }
+}
+
+#[test]
+fn says_where_a_fault_stands(rt: HostRuntime) {
+    let mut out = Counted::new(Vec::new(rt.alloc()));
+    match do_commands(
+        rt.alloc(),
+        &mut OneFile::new(Some(b"x = a$!")),
+        b"build.ninja",
+        &mut out,
+    ) {
+        Ok(_) => assert!(rt; false),
+        Err(fault) => assert_refused(
+            &rt,
+            rt.alloc(),
+            &fault,
+            b"plan: 3 BadEscape build.ninja:5\n",
+        ),
+    }
+    assert!(rt; out.into_writer().is_empty());
+}
+
+#[test]
+fn says_that_a_file_is_missing(rt: HostRuntime) {
+    let mut out = Counted::new(Vec::new(rt.alloc()));
+    match do_commands(rt.alloc(), &mut OneFile::new(None), b"a/b", &mut out) {
+        Ok(_) => assert!(rt; false),
+        Err(fault) => assert_refused(&rt, rt.alloc(), &fault, b"plan: 20 SourceMissing a/b:0\n"),
+    }
+}
+
+#[test]
+fn says_that_the_output_failed(rt: HostRuntime) {
+    for left in 0..DEMO_OUTPUT.len() {
+        let mut out = Narrow {
+            left,
+            failures: Tally::new(),
+        };
+        match do_commands(
+            rt.alloc(),
+            &mut OneFile::new(Some(DEMO)),
+            b"build.ninja",
+            &mut out,
+        ) {
+            Ok(_) => assert!(rt; false),
+            Err(fault) => assert_refused(&rt, rt.alloc(), &fault, b"plan: 133 FileFault -\n"),
+        }
+        assert!(rt; out.left == 0);
+    }
+}
+
+#[test]
+fn shows_faults(rt: HostRuntime) -> Result<(), Fail> {
+    let alloc = rt.alloc();
+    let path = Items::new(Vec::from_slice(alloc, b"d/e f")?);
+    let missing = shown(alloc, &ScopeFault::SourceMissing(path));
+    assert_refused(&rt, alloc, &missing, b"plan: 20 SourceMissing d/e f:0\n");
+    assert_refused(
+        &rt,
+        alloc,
+        &shown(alloc, &ScopeFault::LoadMemory),
+        b"plan: 22 Memory\n",
+    );
+    assert_refused(&rt, alloc, &no_memory(alloc), b"plan: 131 Memory\n");
+    assert_refused(
+        &rt,
+        alloc,
+        &output_failed(alloc)?,
+        b"plan: 133 FileFault -\n",
+    );
+    Ok(())
+}

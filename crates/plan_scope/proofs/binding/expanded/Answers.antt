@@ -1,0 +1,18 @@
+use Rattle.std.proofs.Common.{◌∙◌, ap}
+use Rattle.std.proofs.lemmas.List.{take_all}
+use Rattle.plan_scope.specs.Scopes.{expand, look}
+use Rattle.plan_scope.specs.Frames.{kept}
+use Rattle.plan_scope.proofs.Kept.{kept_taken, kept_expand, kept_look}
+use Rattle.plan_scope.proofs.binding.expanded.Goals as goal
+
+pub loop-piece-preserved : goal.loop-piece-preserved
+loop-piece-preserved c =
+    kept_taken (look c.args.above.now) c.args.pieces.now c.loop-piece.piece-index c.piece-item.result c.loop-piece.text.items c.append.new.out.items c.text_of.result.now
+    c.loop-piece-test.true c.piece-item.is c.loop-piece.invariant c.text_of.ensures c.in_ok-append.ensures
+
+pub returns : goal.returns
+returns c = λ meant h.
+    let above = c.args.above.now in
+    c.loop-piece.invariant
+    ∙ (ap (λ ps. kept (expand (look above) ps)) (take_all c.loop-piece.piece-index c.args.pieces.now c.loop-piece-test.false)
+    ∙ kept_expand (look above) (look meant) (kept_look above meant h) c.args.pieces.now)

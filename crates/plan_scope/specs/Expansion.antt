@@ -1,0 +1,86 @@
+-- The variables of a rule, expanded where the rule is used. (Ninja manual, "Rule variables" and "Variable expansion".)
+use Rattle.std.specs.Prelude.{ℕ, zero, suc, Bool, true, false, ◌||◌, ◌&&◌, ◌==◌, nat_le, List, [], ◌∷◌, ◌++◌, length, map, Option, Some, None, bytes_eq, if◌then◌else◌, flat_map, codes}
+use Rattle.std.specs.List.{list_any, list_all, join_with_byte}
+use Rattle.plan_text.specs.Bytes.{space, line_feed}
+use Rattle.plan_text.specs.declared.piece_reader.Piece.{Piece}
+use Rattle.plan_text.specs.declared.piece_reader.Piece.TheVariants.{Literal, Reference}
+use Rattle.plan_scope.specs.Scopes.{Text, Name, Bindings, last_of, look}
+
+-- A-Z a-z 0-9 _ + - . /
+abbrev pub is_plain : ℕ → Bool
+is_plain b =
+    (nat_le 65 b && nat_le b 90) || (nat_le 97 b && nat_le b 122) || (nat_le 48 b && nat_le b 57)
+    || b == 95 || b == 43 || b == 45 || b == 46 || b == 47
+
+-- a quote as it stands between quotes
+abbrev pub escaped : ℕ → Text
+escaped b = if b == 39 then codes "'\\''" else b ∷ []
+
+-- a path for a shell: as it is where each byte is plain, else between single quotes
+abbrev pub quoted : Text → Text
+quoted path = if list_all is_plain path then path else 39 ∷ flat_map escaped path ++ 39 ∷ []
+
+-- What the variables of an edge are looked up in, the nearest first: its paths, its build block, its rule, its file as it stands at the end.
+pub record Use : Type 0 where
+  pub inputs : List Text
+  pub outputs : List Text
+  pub block : Bindings Text
+  pub rule : Bindings (List Piece)
+  pub file : Bindings Text
+
+-- `in`, `out` and `in_newline`, each path shown in some way
+abbrev pub listed : (Text → Text) → Use → Name → Option Text
+listed show edge name =
+    if bytes_eq name (codes "in") then Some (join_with_byte space (map show edge.inputs))
+    else if bytes_eq name (codes "out") then Some (join_with_byte space (map show edge.outputs))
+    else if bytes_eq name (codes "in_newline") then Some (join_with_byte line_feed (map show edge.inputs))
+    else None
+
+-- What a name stands for: a text that is known, or pieces that the rule leaves to be expanded.
+pub data Meaning : Type 0 where
+  Known : Text → Meaning
+  Late : List Piece → Meaning
+
+abbrev pub or_known : Option Text → Meaning → Meaning
+or_known (Some text) other = Known text
+or_known None other = other
+
+abbrev pub or_late : Option (List Piece) → Meaning → Meaning
+or_late (Some pieces) other = Late pieces
+or_late None other = other
+
+-- the nearest that knows the name
+abbrev pub meaning_of : (Text → Text) → Use → Name → Meaning
+meaning_of show edge name =
+    or_known (listed show edge name) (or_known (last_of name edge.block) (or_late (last_of name edge.rule) (Known (look edge.file name))))
+
+-- both texts, joined, or a cycle
+abbrev pub both : Option Text → Option Text → Option Text
+both (Some a) (Some b) = Some (a ++ b)
+both (Some a) None = None
+both None b = None
+
+abbrev pub text_of_piece : (Name → Option Text) → Piece → Option Text
+text_of_piece value (Literal text) = Some text
+text_of_piece value (Reference name) = value name
+
+-- the values of the pieces, joined
+abbrev pub joined : (Name → Option Text) → List Piece → Option Text
+joined value [] = Some []
+joined value (piece ∷ more) = both (text_of_piece value piece) (joined value more)
+
+-- a meaning's text: none where the name is in use already
+abbrev pub text_of : Meaning → Bool → (List Piece → Option Text) → Option Text
+text_of (Known text) in_use inner = Some text
+text_of (Late pieces) true inner = None
+text_of (Late pieces) false inner = inner pieces
+
+-- A name's text, or none where the rule's variables refer to one another in a cycle. At most n names of the rule are not in use yet; with none left each is.
+abbrev pub text_within : ℕ → (Name → Meaning) → List Name → Name → Option Text
+text_within zero meaning in_use name = text_of (meaning name) true (λ pieces. None)
+text_within (suc n) meaning in_use name =
+    text_of (meaning name) (list_any (bytes_eq name) in_use) (joined (text_within n meaning (name ∷ in_use)))
+
+-- a variable of an edge, expanded for itself; its paths are shown in this way, also inside other variables
+abbrev pub variable : (Text → Text) → Use → Name → Option Text
+variable show edge name = text_within (length edge.rule) (meaning_of show edge) [] name

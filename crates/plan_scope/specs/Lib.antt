@@ -1,0 +1,10 @@
+pub mod Faults
+pub mod Sources
+pub mod Scopes
+pub mod Expansion
+pub mod Edges
+pub mod Frames
+pub mod Steps
+pub mod Uses
+pub mod Loading
+pub mod Evaluation

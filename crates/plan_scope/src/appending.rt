@@ -1,0 +1,104 @@
+//! Texts that are put together, as far as they are kept.
+
+ghost use Rattle.std.specs.Prelude.{◌≡◌, ◌++◌, OnOk};
+ghost use Rattle.std.specs.List.{join_with_byte, list_all};
+ghost use Rattle.plan_scope.specs.Expansion.{escaped, is_plain, quoted};
+ghost use Rattle.plan_scope.specs.Scopes.{is_too_long};
+ghost use Rattle.plan_scope.specs.Frames.{kept};
+ghost use Rattle.std.specs.Prelude.{map, flat_map, [], ◌∷◌, if◌then◌else◌};
+
+use plan_text::Items;
+use std::alloc::AllocError;
+
+/// The greatest length of an expanded text.
+pub const MAX_TEXT: usize = 1048576;
+
+/// Whether a text is too long.
+pub fn is_long(text: &[u8]) -> bool
+    ensures { result ≡ is_too_long text.now }
+{
+    text.len() > MAX_TEXT
+}
+
+/// Appends a text. Of a text that is too long no more is kept than shows it: one byte more than is allowed.
+pub fn append(out: &mut Vec<u8>, text: &[u8]) -> Result<(), AllocError>
+    ensures { OnOk result (kept out.new.items ≡ kept (out.old.items ++ text.now)) }
+{
+    let room = (MAX_TEXT + 1).saturating_sub(out.len());
+    if text.len() <= room {
+        out.extend_from_slice(text)?;
+    } else {
+        out.extend_from_slice(&text[..room])?;
+    }
+    Ok(())
+}
+
+/// Whether a shell takes the byte as it is.
+fn is_plain(byte: u8) -> bool
+    ensures { result ≡ is_plain byte }
+{
+    matches!(byte, b'A'..=b'Z' | b'a'..=b'z' | b'0'..=b'9' | b'_' | b'+' | b'-' | b'.' | b'/')
+}
+
+/// Appends a byte that stands between quotes.
+fn append_escaped(out: &mut Vec<u8>, byte: u8) -> Result<(), AllocError>
+    ensures { OnOk result (kept out.new.items ≡ kept (out.old.items ++ escaped byte)) }
+{
+    if byte == b'\'' {
+        append(out, b"'\\''")
+    } else {
+        append(out, &[byte])
+    }
+}
+
+/// Appends a path between quotes.
+fn append_between_quotes(out: &mut Vec<u8>, path: &[u8]) -> Result<(), AllocError>
+    ensures { OnOk result (kept out.new.items ≡ kept (out.old.items ++ (39 ∷ (flat_map escaped path.now ++ 39 ∷ [])))) }
+{
+    append(out, b"'")?;
+    for byte in path {
+        append_escaped(out, *byte)?;
+    }
+    append(out, b"'")
+}
+
+/// Whether a shell takes the path as it is.
+fn is_all_plain(path: &[u8]) -> bool
+    ensures { result ≡ list_all is_plain path.now }
+{
+    path.iter().all(|byte| is_plain(*byte))
+}
+
+/// Appends a path for a shell.
+pub fn append_quoted(out: &mut Vec<u8>, path: &[u8]) -> Result<(), AllocError>
+    ensures { OnOk result (kept out.new.items ≡ kept (out.old.items ++ quoted path.now)) }
+{
+    if is_all_plain(path) {
+        append(out, path)
+    } else {
+        append_between_quotes(out, path)
+    }
+}
+
+/// Appends what stands in front of a path of a list.
+fn append_separator(out: &mut Vec<u8>, is_first: bool, separator: u8) -> Result<(), AllocError>
+    ensures { OnOk result (kept out.new.items ≡ kept (out.old.items ++ (if is_first then [] else separator ∷ []))) }
+{
+    if is_first {
+        return Ok(());
+    }
+    append(out, &[separator])
+}
+
+/// Appends paths for a shell, this byte between each two.
+pub fn append_paths(out: &mut Vec<u8>, paths: &[Items<u8>], separator: u8) -> Result<(), AllocError>
+    ensures { OnOk result (kept out.new.items ≡ kept (out.old.items ++ join_with_byte separator (map quoted paths.now))) }
+{
+    let mut is_first = true;
+    for path in paths {
+        append_separator(out, is_first, separator)?;
+        append_quoted(out, path.as_slice())?;
+        is_first = false;
+    }
+    Ok(())
+}

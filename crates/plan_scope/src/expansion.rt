@@ -1,0 +1,152 @@
+//! The variables of a rule, expanded where the rule is used.
+
+ghost use Rattle.std.specs.Prelude.{◌≡◌, ◌∷◌, ℕ, List, IfOk, codes, length, map, option_map, bytes_eq, if◌then◌else◌};
+ghost use Rattle.std.specs.List.{join_with_byte, list_any};
+ghost use Rattle.plan_scope.specs.Scopes.{look};
+ghost use Rattle.plan_scope.specs.Expansion.{quoted, listed, meaning_of, text_within, text_of_piece, joined};
+ghost use Rattle.plan_scope.specs.Steps.{Appends};
+ghost use Rattle.plan_scope.specs.Uses.{use_of};
+
+use crate::appending::{append, append_paths};
+use crate::binding::text_in;
+use crate::fault::{Cause, LineFault};
+use crate::frame::Frame;
+use crate::rule_variables::RuleVariables;
+use plan_text::{Items, Piece};
+use std::alloc::{AllocError, Global};
+
+/// What the variables of an edge are looked up in, the nearest first.
+#[derive(Clone, Copy)]
+pub struct Use<'a> {
+    /// The paths of its inputs.
+    pub inputs: &'a [Items<u8>],
+    /// The paths of its outputs.
+    pub outputs: &'a [Items<u8>],
+    /// The variables of its build block.
+    pub block: &'a Frame<'a, Items<u8>>,
+    /// The variables of its rule.
+    pub rule: &'a RuleVariables<'a>,
+    /// The variables of its file.
+    pub file: &'a Frame<'a, Items<u8>>,
+}
+
+/// The paths that a name stands for, and the byte between each two.
+fn listed<'a>(edge: &Use<'a>, name: &[u8]) -> Option<(&'a [Items<u8>], u8)>
+    ensures { option_map (λ l. join_with_byte l.1 (map quoted l.0.now)) result ≡ listed quoted (use_of edge.now) name.now }
+{
+    if name == b"in".as_slice() {
+        return Some((edge.inputs, b' '));
+    }
+    if name == b"out".as_slice() {
+        return Some((edge.outputs, b' '));
+    }
+    if name == b"in_newline".as_slice() {
+        return Some((edge.inputs, b'\n'));
+    }
+    None
+}
+
+/// Appends a text that is known.
+fn append_known(out: &mut Vec<u8>, text: &[u8]) -> Result<(), LineFault>
+    ensures { Appends out.old.items out.new.items result (Some text.now) }
+{
+    append(out, text)?;
+    Ok(())
+}
+
+/// Appends paths, this byte between each two.
+fn append_listed(out: &mut Vec<u8>, paths: &[Items<u8>], separator: u8) -> Result<(), LineFault>
+    ensures { Appends out.old.items out.new.items result (Some (join_with_byte separator (map quoted paths.now))) }
+{
+    append_paths(out, paths, separator)?;
+    Ok(())
+}
+
+fn is_in_use(in_use: &[&[u8]], name: &[u8]) -> bool
+    ensures { result ≡ list_any (λ n. bytes_eq name.now n.now) in_use.now }
+{
+    in_use.iter().any(|used| name == *used)
+}
+
+/// The names in use, and one more.
+fn with_name<'a>(
+    alloc: Global,
+    name: &'a [u8],
+    in_use: &[&'a [u8]],
+) -> Result<Vec<&'a [u8]>, AllocError>
+    ensures { IfOk result (λ v. map (λ n. n.now) v.items ≡ name.now ∷ map (λ n. n.now) in_use.now) }
+{
+    let mut inner = Vec::new(alloc);
+    inner.push(name)?;
+    inner.extend_from_slice(in_use)?;
+    Ok(inner)
+}
+
+/// Appends a variable of an edge. At most `left` names of the rule are not in use yet.
+#[cycle(expansion)]
+pub fn append_variable<'a>(
+    alloc: Global,
+    edge: &'a Use<'a>,
+    left: usize,
+    in_use: &[&'a [u8]],
+    name: &'a [u8],
+    out: &mut Vec<u8>,
+) -> Result<(), LineFault>
+    ensures { Appends out.old.items out.new.items result (text_within left (meaning_of quoted (use_of edge.now)) (map (λ n. n.now) in_use.now) name.now) }
+{
+    match listed(edge, name) {
+        Some((paths, separator)) => return append_listed(out, paths, separator),
+        None => {}
+    }
+    let pieces = match edge.block.get(name) {
+        Some(text) => return append_known(out, text.as_slice()),
+        None => match edge.rule.get(name) {
+            Some(pieces) => pieces,
+            None => return append_known(out, text_in(edge.file, name)),
+        },
+    };
+    if left == 0 {
+        return Err(LineFault::Refused(Cause::RuleCycle));
+    }
+    if is_in_use(in_use, name) {
+        return Err(LineFault::Refused(Cause::RuleCycle));
+    }
+    let inner = with_name(alloc, name, in_use)?;
+    append_pieces(alloc, edge, left - 1, &inner, pieces, out)
+}
+
+/// Appends a piece of a variable of a rule.
+#[cycle(expansion)]
+fn append_piece<'a>(
+    alloc: Global,
+    edge: &'a Use<'a>,
+    left: usize,
+    in_use: &[&'a [u8]],
+    piece: &'a Piece,
+    out: &mut Vec<u8>,
+) -> Result<(), LineFault>
+    ensures { Appends out.old.items out.new.items result (text_of_piece (text_within left (meaning_of quoted (use_of edge.now)) (map (λ n. n.now) in_use.now)) piece.now) }
+{
+    match piece {
+        Piece::Literal(bytes) => append_known(out, bytes.as_slice()),
+        Piece::Reference(name) => append_variable(alloc, edge, left, in_use, name.as_slice(), out),
+    }
+}
+
+/// Appends the pieces of a variable of a rule.
+#[cycle(expansion)]
+fn append_pieces<'a>(
+    alloc: Global,
+    edge: &'a Use<'a>,
+    left: usize,
+    in_use: &[&'a [u8]],
+    pieces: &'a [Piece],
+    out: &mut Vec<u8>,
+) -> Result<(), LineFault>
+    ensures { Appends out.old.items out.new.items result (joined (text_within left (meaning_of quoted (use_of edge.now)) (map (λ n. n.now) in_use.now)) pieces.now) }
+{
+    for piece in pieces {
+        append_piece(alloc, edge, left, in_use, piece, out)?;
+    }
+    Ok(())
+}

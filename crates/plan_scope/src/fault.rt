@@ -1,0 +1,115 @@
+//! Why a manifest has no meaning.
+
+ghost use Rattle.std.specs.Prelude.{◌≡◌};
+ghost use Rattle.plan_scope.specs.Faults.{cause_number, number_of};
+ghost use Rattle.plan_scope.specs.declared.fault.LineFault.TheVariants as line;
+ghost use Rattle.plan_scope.specs.declared.fault.StatementFault.TheVariants as statement;
+
+use plan_parse::ParseFault;
+use plan_text::Items;
+use std::alloc::{AllocError, AllocFailed};
+
+/// Why a statement is refused.
+#[derive(Clone, Copy, Debug, PartialEq, Eq)]
+pub enum Cause {
+    /// A rule of this name stands above, or the name is `phony`.
+    DuplicateRule,
+    /// No rule of this name stands above.
+    UnknownRule,
+    /// A variable of a rule refers to itself.
+    RuleCycle,
+    /// A path without a byte.
+    EmptyPath,
+    /// A path of more than 4,096 bytes.
+    PathTooLong,
+    /// A text of more than 1,048,576 bytes.
+    TextTooLong,
+}
+
+impl Cause {
+    /// The number under which the cause is printed.
+    pub fn number(&self) -> u8
+        ensures { result ≡ cause_number self.now }
+    {
+        match self {
+            Cause::DuplicateRule => 30,
+            Cause::UnknownRule => 31,
+            Cause::RuleCycle => 34,
+            Cause::EmptyPath => 35,
+            Cause::PathTooLong => 39,
+            Cause::TextTooLong => 40,
+        }
+    }
+}
+
+/// Why a manifest is not read, or has no meaning.
+#[derive(Debug, Drop)]
+pub enum ScopeFault {
+    /// The file at this path is missing or can't be read.
+    SourceMissing(Items<u8>),
+    /// The file at this path is no list of statements; never for want of memory.
+    Parse(Items<u8>, ParseFault),
+    /// The statement at this offset of the file at this path is refused.
+    Refused(Items<u8>, u64, Cause),
+    /// Memory ran out while the file was read.
+    LoadMemory,
+    /// Memory ran out while the statements were evaluated.
+    Memory,
+}
+
+impl ScopeFault {
+    /// The number under which the fault is printed: 20 for a missing file, 22 and 41 for memory, else that of the statements' fault or of the cause.
+    pub fn number(&self) -> u8
+        ensures { result ≡ number_of self.now }
+    {
+        match self {
+            ScopeFault::SourceMissing(_) => 20,
+            ScopeFault::Parse(_, fault) => fault.number(),
+            ScopeFault::Refused(_, _, cause) => cause.number(),
+            ScopeFault::LoadMemory => 22,
+            ScopeFault::Memory => 41,
+        }
+    }
+}
+
+/// Why a statement tells nothing.
+#[derive(Clone, Copy)]
+pub enum LineFault {
+    /// The statement is refused.
+    Refused(Cause),
+    /// Memory ran out.
+    Memory,
+}
+
+impl From<AllocError> for LineFault {
+    ghost from_gives = { λ _ e. e ≡ line.Memory };
+
+    fn from(_e: AllocError) -> LineFault {
+        LineFault::Memory
+    }
+}
+
+impl<T: Drop> From<AllocFailed<T>> for LineFault {
+    ghost from_gives = { λ _ e. e ≡ line.Memory };
+
+    fn from(_e: AllocFailed<T>) -> LineFault {
+        LineFault::Memory
+    }
+}
+
+/// Why the statements of a file have no meaning.
+#[derive(Clone, Copy)]
+pub enum StatementFault {
+    /// The statement at this offset is refused.
+    Refused(u64, Cause),
+    /// Memory ran out.
+    Memory,
+}
+
+impl From<AllocError> for StatementFault {
+    ghost from_gives = { λ _ e. e ≡ statement.Memory };
+
+    fn from(_e: AllocError) -> StatementFault {
+        StatementFault::Memory
+    }
+}

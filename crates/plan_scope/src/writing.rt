@@ -1,0 +1,53 @@
+//! The commands of a manifest, written.
+
+ghost use Rattle.std.specs.Prelude.{◌≡◌, ◌+◌, [], ◌∷◌, ◌++◌, OnOk, OnErr};
+ghost use Rattle.std.specs.Io.KnownBytes.{Appends};
+ghost use Rattle.plan_text.specs.Bytes.{line_feed};
+ghost use Rattle.plan_text.specs.Sinks.{AppendsFront};
+ghost use Rattle.plan_scope.specs.Edges.{commands_of};
+
+use crate::manifest::{Edge, Manifest};
+use plan_text::{Sink, SinkFault, write_all};
+
+/// A write failed.
+#[derive(Clone, Copy, Debug, PartialEq, Eq)]
+pub struct WriteFault;
+
+impl From<SinkFault> for WriteFault {
+    fn from(_fault: SinkFault) -> WriteFault {
+        WriteFault
+    }
+}
+
+/// The text of an edge's command.
+pub fn command_text(edge: &Edge) -> &[u8]
+    ensures { result.now ≡ edge.now.command }
+{
+    edge.command.as_slice()
+}
+
+/// Writes some bytes and a newline.
+fn write_line<W: Sink>(line: &[u8], out: &mut W) -> Result<(), WriteFault>
+    ensures kept { OnOk result (W.failures out.new ≡ W.failures out.old) }
+    ensures written { OnOk result (Appends (W.taken out.old) (W.taken out.new) (line.now ++ line_feed ∷ [])) }
+    ensures failed { OnErr result (W.failures out.new ≡ W.failures out.old + 1) }
+    ensures front { OnErr result (AppendsFront (W.taken out.old) (W.taken out.new) (line.now ++ line_feed ∷ [])) }
+{
+    write_all(out, line)?;
+    write_all(out, b"\n")?;
+    Ok(())
+}
+
+/// Writes the command of each edge in order, a newline after each, and nothing else. At the first failed write it stops, and the sink took the bytes in front of it.
+pub fn write_commands<W: Sink>(manifest: &Manifest, out: &mut W) -> Result<(), WriteFault>
+    ensures kept { OnOk result (W.failures out.new ≡ W.failures out.old) }
+    ensures written { OnOk result (Appends (W.taken out.old) (W.taken out.new) (commands_of manifest.now)) }
+    ensures failed { OnErr result (W.failures out.new ≡ W.failures out.old + 1) }
+    ensures front { OnErr result (AppendsFront (W.taken out.old) (W.taken out.new) (commands_of manifest.now)) }
+{
+    let edges = manifest.edges.as_slice();
+    for edge in edges {
+        write_line(command_text(edge), out)?;
+    }
+    Ok(())
+}

@@ -1,0 +1,1 @@
+open('build.ninja','w').write('rule r\n  command = true\nbuild ' + 'a' * 4097 + ': r\n  y = ' + 'a' * 1048577 + '\n')

@@ -1,0 +1,1 @@
+open('build.ninja','wb').write(b'#'*16777216)

@@ -1,0 +1,1 @@
+open('build.ninja','wb').write(b'\n'*16777217)

@@ -1,0 +1,89 @@
+#!/usr/bin/env python3
+"""Runs the program on each folder of tests/rows and compares what it prints.
+
+usage: run_rows.py PROGRAM [NAME..]
+
+A row is a folder:
+  files/         copied to a fresh folder, in which the program runs
+  files.py       run there first, for files that are too large to keep
+  args           one word a line (default: commands build.ninja)
+  stdout stderr  what is printed (default: nothing)
+  stdout.has stderr.has   in place of these: lines that occur there
+  stdout.to      a file that standard output goes to, or the word `closed`
+  status         the exit status (default: 0)
+The last line is `N passed, M failed`.
+"""
+import os
+import pathlib
+import shutil
+import subprocess
+import sys
+import tempfile
+
+ROWS = pathlib.Path(__file__).resolve().parent / "rows"
+SECONDS = 60
+
+
+def text(row, name, default=b""):
+    path = row / name
+    return path.read_bytes() if path.exists() else default
+
+
+def prepared(row, folder):
+    if (row / "files").is_dir():
+        shutil.copytree(row / "files", folder, dirs_exist_ok=True)
+    if (row / "files.py").exists():
+        subprocess.run([sys.executable, str(row / "files.py")], cwd=folder, check=True)
+
+
+def closed_output():
+    os.close(1)
+
+
+def run(program, row, folder):
+    words = text(row, "args", b"commands\nbuild.ninja\n").split(b"\n")[:-1]
+    target = text(row, "stdout.to").decode().strip()
+    out = open(target, "wb") if target not in ("", "closed") else subprocess.PIPE
+    before = closed_output if target == "closed" else None
+    return subprocess.run(
+        [os.fsencode(program), *words], cwd=folder, stdin=subprocess.DEVNULL,
+        stdout=out, stderr=subprocess.PIPE, preexec_fn=before, timeout=SECONDS)
+
+
+def differences(row, done):
+    wanted = int(text(row, "status", b"0"))
+    if done.returncode != wanted:
+        yield f"status {done.returncode}, wanted {wanted}"
+    for name, found in (("stdout", done.stdout or b""), ("stderr", done.stderr)):
+        if (row / f"{name}.has").exists():
+            for line in text(row, f"{name}.has").splitlines():
+                if line not in found:
+                    yield f"{name} lacks {line!r}: {found[:200]!r}"
+        elif found != text(row, name):
+            yield f"{name} is {found[:200]!r}, wanted {text(row, name)[:200]!r}"
+
+
+def faults(program, row):
+    with tempfile.TemporaryDirectory() as folder:
+        prepared(row, folder)
+        try:
+            return list(differences(row, run(program, row, folder)))
+        except subprocess.TimeoutExpired:
+            return [f"no end within {SECONDS} seconds"]
+
+
+def main():
+    program = pathlib.Path(sys.argv[1]).resolve()
+    names = sys.argv[2:] or sorted(row.name for row in ROWS.iterdir() if row.is_dir())
+    failed = 0
+    for name in names:
+        found = faults(program, ROWS / name)
+        failed += bool(found)
+        for fault in found:
+            print(f"{name}: {fault}")
+    print(f"{len(names) - failed} passed, {failed} failed")
+    sys.exit(1 if failed else 0)
+
+
+if __name__ == "__main__":
+    main()
