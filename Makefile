@@ -11,8 +11,8 @@ all:
 # Runs the program, not yet proved, on the example.
 .PHONY: demo
 demo:
-	@cd crates/plan_ninja && rt try --data build.ninja=../../examples/demo/build.ninja -- commands build.ninja 2> out/demo.log \
-	  || { cat out/demo.log >&2; exit 1; }
+	@log=$$(mktemp); cd crates/plan_ninja && rt try --data build.ninja=../../examples/demo/build.ninja -- commands build.ninja 2> $$log \
+	  || { cat $$log >&2; rm -f $$log; exit 1; }; rm -f $$log
 	@echo "(run without the proofs, by rt try; make proves and builds the program, make check is the whole gate)" >&2
 
 # The gate: every proof, test and must-fail edit, and then the rows of the command line.

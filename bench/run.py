@@ -17,24 +17,27 @@ import time
 
 import manifests
 
+TIME = shutil.which("time")  # Debian: time
 SIZES = (1_000, 10_000, 100_000)
 RUNS = 5
 
 
 def measured(words, folder):
-    """Wall seconds and peak KiB of one run."""
+    """Wall seconds and peak KiB of one run; the peak is 0 where no `time` is installed."""
+    told = os.path.join(folder, "peak")
+    before = [TIME, "-f", "%M", "-o", told] if TIME else []
     begun = time.monotonic()
-    process = subprocess.Popen(words, cwd=folder, stdout=subprocess.DEVNULL, stderr=subprocess.DEVNULL)
-    _, status, usage = os.wait4(process.pid, 0)
+    status = subprocess.run([*before, *words], cwd=folder, stdout=subprocess.DEVNULL, stderr=subprocess.DEVNULL).returncode
+    seconds = time.monotonic() - begun
     if status != 0:
         sys.exit(f"{words[0]} failed")
-    return time.monotonic() - begun, usage.ru_maxrss
+    return seconds, int(pathlib.Path(told).read_text()) if TIME else 0
 
 
 def median(words, folder):
     measured(words, folder)
     runs = [measured(words, folder) for _ in range(RUNS)]
-    return statistics.median(r[0] for r in runs), statistics.median(r[1] for r in runs)
+    return [statistics.median(run[i] for run in runs) for i in (0, 1)]
 
 
 def sorted_lines(words, folder):
@@ -54,7 +57,8 @@ def main():
             if sorted_lines(ours, folder) != sorted_lines(theirs, folder):
                 sys.exit(f"{edges} edges: the commands differ")
             (t, m), (u, n) = median(ours, folder), median(theirs, folder)
-            print(f"{edges:7d}  {t:7.3f} s {m // 1024:5.0f} MiB  {u:7.3f} s {n // 1024:5.0f} MiB  {t / u:.2f} {m / n:.2f}")
+            ratios = f"{t / u:.2f} {m / n:.2f}" if TIME else f"{t / u:.2f}"
+            print(f"{edges:7d}  {t:7.3f} s {m / 1024:5.1f} MiB  {u:7.3f} s {n / 1024:5.1f} MiB  {ratios}", flush=True)
 
 
 if __name__ == "__main__":

@@ -1,5 +1,7 @@
 //! The files of the system.
 
+ghost use Rattle.std.specs.Prelude.{◌≡◌};
+
 use plan_scope::{Source, SourceFault};
 use plan_text::Tally;
 use std::alloc::Global;
@@ -18,8 +20,10 @@ pub struct FileSource<'a, R> {
 }
 
 impl<'a, R: Files> FileSource<'a, R> {
-    /// The files that the runtime reaches.
-    pub fn new(rt: &'a R) -> FileSource<'a, R> {
+    /// The files that the runtime reaches, no read of which has failed.
+    pub fn new(rt: &'a R) -> FileSource<'a, R>
+        ensures { result.failures.count ≡ 0 }
+    {
         FileSource {
             rt,
             failures: Tally::new(),

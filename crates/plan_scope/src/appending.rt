@@ -1,9 +1,9 @@
 //! Texts that are put together, as far as they are kept.
 
-ghost use Rattle.std.specs.Prelude.{◌≡◌, ◌++◌, OnOk};
+ghost use Rattle.std.specs.Prelude.{◌≡◌, ◌≤◌, ◌+◌, ◌++◌, length, OnOk};
 ghost use Rattle.std.specs.List.{join_with_byte, list_all};
 ghost use Rattle.plan_scope.specs.Expansion.{escaped, is_plain, quoted};
-ghost use Rattle.plan_scope.specs.Scopes.{is_too_long};
+ghost use Rattle.plan_scope.specs.Scopes.{is_too_long, max_text};
 ghost use Rattle.plan_scope.specs.Frames.{kept};
 ghost use Rattle.std.specs.Prelude.{map, flat_map, [], ◌∷◌, if◌then◌else◌};
 
@@ -22,7 +22,8 @@ pub fn is_long(text: &[u8]) -> bool
 
 /// Appends a text. Of a text that is too long no more is kept than shows it: one byte more than is allowed.
 pub fn append(out: &mut Vec<u8>, text: &[u8]) -> Result<(), AllocError>
-    ensures { OnOk result (kept out.new.items ≡ kept (out.old.items ++ text.now)) }
+    ensures appended { OnOk result (kept out.new.items ≡ kept (out.old.items ++ text.now)) }
+    ensures within { OnOk result (length out.old.items ≤ max_text + 1 → length out.new.items ≤ max_text + 1) }
 {
     let room = (MAX_TEXT + 1).saturating_sub(out.len());
     if text.len() <= room {

@@ -1,8 +1,8 @@
 //! Bindings, expanded at once.
 
-ghost use Rattle.std.specs.Prelude.{◌≡◌, [], ◌∷◌, ◌++◌, IfOk, OnOk, map, unwrap_or};
+ghost use Rattle.std.specs.Prelude.{◌≡◌, ◌≤◌, ◌+◌, length, [], ◌∷◌, ◌++◌, IfOk, OnOk, map, unwrap_or};
 ghost use Rattle.std.specs.List.{list_any};
-ghost use Rattle.plan_scope.specs.Scopes.{Bindings, Text, bound_by, bound_in, expand, is_too_long, last_of, look, value_of};
+ghost use Rattle.plan_scope.specs.Scopes.{Bindings, Text, bound_by, bound_in, expand, is_too_long, last_of, look, max_text, value_of};
 ghost use Rattle.plan_scope.specs.Edges.{block_of, paths_of};
 ghost use Rattle.plan_scope.specs.Frames.{Agrees, kept, look_near};
 
@@ -38,7 +38,8 @@ fn expanded<'a>(
     above: &'a Frame<'a, Items<u8>>,
     pieces: &'a [Piece],
 ) -> Result<Vec<u8>, AllocError>
-    ensures { IfOk result (λ text. (meant : Bindings Text) → Agrees above.now meant → kept text.items ≡ kept (expand (look meant) pieces.now)) }
+    ensures text { IfOk result (λ text. (meant : Bindings Text) → Agrees above.now meant → kept text.items ≡ kept (expand (look meant) pieces.now)) }
+    ensures within { IfOk result (λ text. length text.items ≤ max_text + 1) }
 {
     let mut text = Vec::new(alloc);
     for piece in pieces {
@@ -82,7 +83,8 @@ fn expanded_path<'a>(
     above: &'a Frame<'a, Items<u8>>,
     pieces: &'a [Piece],
 ) -> Result<Vec<u8>, AllocError>
-    ensures { IfOk result (λ text. (b m : Bindings Text) → Agrees block.now b → Agrees above.now m → kept text.items ≡ kept (expand (look_near b m) pieces.now)) }
+    ensures text { IfOk result (λ text. (b m : Bindings Text) → Agrees block.now b → Agrees above.now m → kept text.items ≡ kept (expand (look_near b m) pieces.now)) }
+    ensures within { IfOk result (λ text. length text.items ≤ max_text + 1) }
 {
     let mut text = Vec::new(alloc);
     for piece in pieces {

@@ -2,7 +2,7 @@
 
 use super::*;
 use plan_parse::{Binding, Build, ParseFault, Rule, Statement, StatementKind};
-use plan_text::{Items, Piece};
+use plan_text::{Counted, Items, Piece};
 use std::alloc::{AllocError, Global};
 use std::test::Fail;
 
@@ -74,39 +74,70 @@ fn tree(alloc: Global, first: Statement, second: Statement) -> Result<Tree, Allo
     })
 }
 
+/// An edge with this command.
+fn edge(alloc: Global, command: &[u8]) -> Result<Edge, AllocError> {
+    Ok(Edge {
+        outputs: Items::empty(alloc),
+        inputs: Items::empty(alloc),
+        command: text(alloc, command)?,
+    })
+}
+
 #[test]
-fn commands_of_edges(rt: HostRuntime) -> Result<(), Fail> {
+fn written_commands(rt: HostRuntime) -> Result<(), Fail> {
     let alloc = rt.alloc();
-    for (name, out, want) in [
-        (
-            b"foo".as_slice(),
-            b"out".as_slice(),
-            b"echo \"this is a demo of bar\"".as_slice(),
-        ),
-        (
-            b"out".as_slice(),
-            b"it's".as_slice(),
-            b"echo \"this is a demo of 'it'\\''s'\"".as_slice(),
-        ),
-        (
-            b"none".as_slice(),
-            b"out".as_slice(),
-            b"echo \"this is a demo of \"".as_slice(),
-        ),
-    ] {
-        let demo = rule(
-            alloc,
-            0,
-            command(alloc, b"echo \"this is a demo of ", name)?,
-        )?;
-        let found = evaluate(alloc, &tree(alloc, demo, build(alloc, 50, out)?)?);
-        let Ok(manifest) = found else {
-            panic!(rt; "no manifest");
-        };
-        let edges = manifest.edges.as_slice();
-        assert_eq!(rt; edges.len(), 1);
-        assert_eq!(rt; command_text(&edges[0]), want);
+    let mut edges = Vec::new(alloc);
+    edges.push(edge(alloc, b"cc a")?)?;
+    edges.push(edge(alloc, b"")?)?;
+    let manifest = Manifest {
+        edges: Items::new(edges),
+    };
+    let mut out = Counted::new(Vec::new(alloc));
+    assert!(rt; write_commands(&manifest, &mut out).is_ok());
+    assert_eq!(rt; out.into_writer().as_slice(), b"cc a\n\n".as_slice());
+    Ok(())
+}
+
+/// A rule with this command, and a build line below it.
+fn demo(alloc: Global, command: Items<Piece>, out: &[u8]) -> Result<Tree, AllocError> {
+    let rule = rule(alloc, 0, command)?;
+    let build = build(alloc, 40, out)?;
+    tree(alloc, rule, build)
+}
+
+/// The command of the only edge of a tree.
+fn only_command(alloc: Global, tree: &Tree) -> Result<Items<u8>, AllocError> {
+    match evaluate(alloc, tree) {
+        Ok(manifest) => match manifest.edges.as_slice() {
+            [edge] => text(alloc, command_text(edge)),
+            _ => text(alloc, b"not one edge"),
+        },
+        Err(_) => text(alloc, b"no manifest"),
     }
+}
+
+#[test]
+fn variable_of_a_block(rt: HostRuntime) -> Result<(), Fail> {
+    let alloc = rt.alloc();
+    let tree = demo(
+        alloc,
+        command(alloc, b"echo \"this is a demo of ", b"foo")?,
+        b"out",
+    )?;
+    let found = only_command(alloc, &tree)?;
+    assert_eq!(rt;
+        found.as_slice(),
+        b"echo \"this is a demo of bar\"".as_slice()
+    );
+    Ok(())
+}
+
+#[test]
+fn quoted_output(rt: HostRuntime) -> Result<(), Fail> {
+    let alloc = rt.alloc();
+    let tree = demo(alloc, command(alloc, b"touch ", b"out")?, b"it's")?;
+    let found = only_command(alloc, &tree)?;
+    assert_eq!(rt; found.as_slice(), b"touch 'it'\\''s'\"".as_slice());
     Ok(())
 }
 
@@ -125,44 +156,78 @@ fn refusal(alloc: Global, tree: &Tree) -> Option<(u64, Cause, u8)> {
 }
 
 #[test]
-fn refused_statements(rt: HostRuntime) -> Result<(), Fail> {
+fn rule_cycle(rt: HostRuntime) -> Result<(), Fail> {
     let alloc = rt.alloc();
-    let demo = rule(alloc, 30, literal(alloc, b"true")?)?;
-    let below = tree(alloc, build(alloc, 0, b"out")?, demo)?;
-    assert!(rt; matches!(refusal(alloc, &below), Some((0, Cause::UnknownRule, 31))));
-    let demo = rule(alloc, 0, literal(alloc, b"true")?)?;
-    let twice = tree(alloc, demo, rule(alloc, 30, literal(alloc, b"true")?)?)?;
-    assert!(rt; matches!(refusal(alloc, &twice), Some((30, Cause::DuplicateRule, 30))));
-    let looping = rule(alloc, 0, command(alloc, b"a", b"command")?)?;
-    let cycle = tree(alloc, looping, build(alloc, 40, b"")?)?;
-    assert!(rt; matches!(refusal(alloc, &cycle), Some((40, Cause::RuleCycle, 34))));
-    let demo = rule(alloc, 0, literal(alloc, b"true")?)?;
-    let empty = tree(alloc, demo, build(alloc, 40, b"")?)?;
-    assert!(rt; matches!(refusal(alloc, &empty), Some((40, Cause::EmptyPath, 35))));
+    let tree = demo(alloc, command(alloc, b"a", b"command")?, b"")?;
+    assert!(rt; matches!(refusal(alloc, &tree), Some((40, Cause::RuleCycle, 34))));
     Ok(())
 }
 
-/// A source without a file.
+#[test]
+fn empty_path(rt: HostRuntime) -> Result<(), Fail> {
+    let alloc = rt.alloc();
+    let tree = demo(alloc, literal(alloc, b"true")?, b"")?;
+    assert!(rt; matches!(refusal(alloc, &tree), Some((40, Cause::EmptyPath, 35))));
+    Ok(())
+}
+
+/// A build line above its rule.
+fn rule_below(alloc: Global) -> Result<Tree, AllocError> {
+    let build = build(alloc, 7, b"out")?;
+    let rule = rule(alloc, 30, literal(alloc, b"true")?)?;
+    tree(alloc, build, rule)
+}
+
+#[test]
+fn unknown_rule(rt: HostRuntime) -> Result<(), Fail> {
+    let tree = rule_below(rt.alloc())?;
+    assert!(rt;
+        matches!(
+            refusal(rt.alloc(), &tree),
+            Some((7, Cause::UnknownRule, 31))
+        )
+    );
+    Ok(())
+}
+
+/// A source of one file, `build.ninja`.
 #[derive(Drop)]
-struct Nothing;
+struct OneFile;
 
-impl Source for Nothing {
-    ghost use Rattle.std.specs.Prelude.{◌≡◌, None};
-
-    ghost gives = { λ _ _ answer. answer ≡ None };
+impl Source for OneFile {
+    ghost gives = { λ _ _ _. Unit {0} };
 
     ghost failures = { λ _. 0 };
 
-    fn read(&mut self, _alloc: Global, _path: &[u8]) -> Result<Vec<u8>, SourceFault> {
-        Err(SourceFault::Missing)
+    fn read(&mut self, alloc: Global, path: &[u8]) -> Result<Vec<u8>, SourceFault> {
+        if path != b"build.ninja".as_slice() {
+            return Err(SourceFault::Missing);
+        }
+        let mut bytes = Vec::new(alloc);
+        match bytes.extend_from_slice(b"x = 1\ny = $x\n") {
+            Ok(()) => Ok(bytes),
+            Err(_) => Err(SourceFault::Memory),
+        }
     }
 }
 
 #[test]
+fn loaded_file(rt: HostRuntime) -> Result<(), Fail> {
+    match load(rt.alloc(), &mut OneFile, b"build.ninja") {
+        Ok(tree) => {
+            assert_eq!(rt; tree.path.as_slice(), b"build.ninja".as_slice());
+            assert_eq!(rt; tree.statements.as_slice().len(), 2);
+        }
+        Err(_) => panic!(rt; "no tree"),
+    }
+    Ok(())
+}
+
+#[test]
 fn missing_file(rt: HostRuntime) -> Result<(), Fail> {
-    match load(rt.alloc(), &mut Nothing, b"build.ninja") {
+    match load(rt.alloc(), &mut OneFile, b"other.ninja") {
         Err(ScopeFault::SourceMissing(path)) => {
-            assert_eq!(rt; path.as_slice(), b"build.ninja".as_slice());
+            assert_eq!(rt; path.as_slice(), b"other.ninja".as_slice());
         }
         _ => panic!(rt; "no missing file"),
     }

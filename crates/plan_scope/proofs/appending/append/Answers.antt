@@ -4,8 +4,8 @@ use Rattle.plan_scope.specs.Scopes.{max_text}
 use Rattle.plan_scope.proofs.Kept.{both_long}
 use Rattle.plan_scope.proofs.appending.append.Goals as goal
 
-pub returns-in_ok-extend_from_slice-2 : goal.returns-in_ok-extend_from_slice-2
-returns-in_ok-extend_from_slice-2 c =
+pub returns-in_ok-extend_from_slice-2-clause-appended : goal.returns-in_ok-extend_from_slice-2-clause-appended
+returns-in_ok-extend_from_slice-2-clause-appended c =
     let long : max_text < length c.extend_from_slice-else-text-room.new.self.items = grind (arith, common_steps) in
     both_long c.extend_from_slice-else-text-room.new.self.items (c.args.out.now.items ++ c.args.text.now)
     long

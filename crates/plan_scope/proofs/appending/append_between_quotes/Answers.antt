@@ -22,4 +22,4 @@ returns c =
     (λ (e : kept c.append-2.new.out.items ≡ kept (c.loop-byte.out.items ++ 39 ∷ [])).
     kept_then before c.loop-byte.out.items c.append-2.new.out.items (39 ∷ flat_map escaped (take i path)) (39 ∷ []) c.loop-byte.invariant e
     ∙ ap (λ (p : List ℕ). kept (before ++ (39 ∷ (flat_map escaped p ++ 39 ∷ [])))) (take_all i path c.loop-byte-test.false))
-    c.append-2.ensures
+    c.append-2.ensures.appended

@@ -19,7 +19,7 @@ loop-binding-preserved c = λ meant h.
     let front = block_of meant (take i all) in
     let text = expand (look meant) b.value in
     let more = block_taken meant all i b c.loop-binding-test.true c.binding-item.is in
-    let same : kept c.in_ok-text.text.items ≡ kept text = c.in_ok-text.ensures meant h ∙ ap (λ ps. kept (expand (look meant) ps)) c.as_slice.ensures in
+    let same : kept c.in_ok-text.text.items ≡ kept text = c.in_ok-text.ensures.text meant h ∙ ap (λ ps. kept (expand (look meant) ps)) c.as_slice.ensures in
     let long : c.is_long-has_long.result ≡ is_too_long text = c.is_long-has_long.ensures ∙ (ap is_too_long c.deref.ensures.value ∙ long_kept c.in_ok-text.text.items text same) in (
       λ n.
           ap (option_map kept) (c.in_ok-set.ensures.bound n)

@@ -6,13 +6,15 @@ use Rattle.plan_scope.proofs.Kept.{kept_taken, kept_expand, kept_look}
 use Rattle.plan_scope.proofs.binding.expanded.Goals as goal
 
 pub loop-piece-preserved : goal.loop-piece-preserved
-loop-piece-preserved c =
-    kept_taken (look c.args.above.now) c.args.pieces.now c.loop-piece.piece-index c.piece-item.result c.loop-piece.text.items c.append.new.out.items c.text_of.result.now
-    c.loop-piece-test.true c.piece-item.is c.loop-piece.invariant c.text_of.ensures c.in_ok-append.ensures
+loop-piece-preserved c = (
+  kept_taken (look c.args.above.now) c.args.pieces.now c.loop-piece.piece-index c.piece-item.result c.loop-piece.text.items c.append.new.out.items c.text_of.result.now
+      c.loop-piece-test.true c.piece-item.is c.loop-piece.invariant.0 c.text_of.ensures c.in_ok-append.ensures.appended,
+  c.in_ok-append.ensures.within c.loop-piece.invariant.1,
+)
 
-pub returns : goal.returns
-returns c = λ meant h.
+pub returns-clause-text : goal.returns-clause-text
+returns-clause-text c = λ meant h.
     let above = c.args.above.now in
-    c.loop-piece.invariant
+    c.loop-piece.invariant.0
     ∙ (ap (λ ps. kept (expand (look above) ps)) (take_all c.loop-piece.piece-index c.args.pieces.now c.loop-piece-test.false)
     ∙ kept_expand (look above) (look meant) (kept_look above meant h) c.args.pieces.now)

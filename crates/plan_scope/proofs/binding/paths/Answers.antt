@@ -8,5 +8,5 @@ pub loop-path-preserved : goal.loop-path-preserved
 loop-path-preserved c = λ b m h k.
     paths_taken (expand (look_near b m)) c.args.paths.now c.loop-path.path-index c.path-item.result c.loop-path.texts.items c.push.new.self.items c.new.result
     c.loop-path-test.true c.path-item.is (c.loop-path.invariant b m h k)
-    (ap kept c.new.ensures ∙ (c.in_ok-text.ensures b m h k ∙ ap (λ ps. kept (expand (look_near b m) ps)) c.as_slice.ensures))
+    (ap kept c.new.ensures ∙ (c.in_ok-text.ensures.text b m h k ∙ ap (λ ps. kept (expand (look_near b m) ps)) c.as_slice.ensures))
     c.in_ok-push.ensures.items
