@@ -15,11 +15,12 @@ demo:
 	  || { cat $$log >&2; rm -f $$log; exit 1; }; rm -f $$log
 	@echo "(run without the proofs, by rt try; make proves and builds the program, make check is the whole gate)" >&2
 
-# The gate: every proof, test and must-fail edit, and then the rows of the command line.
+# The gate: every proof, test and must-fail edit; then the program: refused allocations, ninja's commands, and the rows of the command line.
 .PHONY: check
 check:
 	rt ci
 	python3 tests/fail_alloc.py $(PROGRAM)
+	python3 tests/against_ninja.py $(PROGRAM)
 	python3 tests/run_rows.py $(PROGRAM)
 
 .PHONY: install

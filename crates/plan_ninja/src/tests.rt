@@ -51,6 +51,8 @@ struct Narrow {
 }
 
 impl Sink for Narrow {
+    ghost use Rattle.std.specs.Prelude.{None};
+
     ghost failures = { λ s. s.failures.count };
 
     ghost taken = { λ _. None };

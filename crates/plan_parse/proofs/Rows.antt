@@ -16,8 +16,8 @@ lf = 10 ∷ []
 abbrev bind : List ℕ → List Piece → Binding
 bind name value = record { name = name; value = value }
 
-abbrev rule : ℕ → List ℕ → List Binding → Statement
-rule at name bindings = record { offset = at; kind = kind.Rule (record { name = name; bindings = bindings }) }
+abbrev rule_at : ℕ → List ℕ → List Binding → Statement
+rule_at at name bindings = record { offset = at; kind = kind.Rule (record { name = name; bindings = bindings }) }
 
 abbrev build : ℕ → List (List Piece) → List ℕ → List (List Piece) → List Binding → Statement
 build at outputs name inputs bindings = record { offset = at; kind = kind.Build (record { outputs = outputs; rule = name; inputs = inputs; bindings = bindings }) }
@@ -29,14 +29,14 @@ empty_manifest : statements_of [] ≡ Ok []
 empty_manifest = refl
 
 demo : statements_of (codes "rule demo" ++ lf ++ codes "  command = echo \"this is a demo of $foo\"" ++ lf ++ codes "build out: demo" ++ lf ++ codes "  foo = bar" ++ lf)
-    ≡ Ok (rule 0 (codes "demo") (bind (codes "command") (Literal (codes "echo \"this is a demo of ") ∷ Reference (codes "foo") ∷ Literal (codes "\"") ∷ []) ∷ [])
+    ≡ Ok (rule_at 0 (codes "demo") (bind (codes "command") (Literal (codes "echo \"this is a demo of ") ∷ Reference (codes "foo") ∷ Literal (codes "\"") ∷ []) ∷ [])
     ∷ build 52 ((Literal (codes "out") ∷ []) ∷ []) (codes "demo") [] (bind (codes "foo") (Literal (codes "bar") ∷ []) ∷ [])
     ∷ [])
 demo = refl
 
 quoted_paths : statements_of (codes "spaced = foo bar" ++ lf ++ codes "rule t" ++ lf ++ codes "  command = touch $out" ++ lf ++ codes "build $spaced/baz other$ file: t")
     ≡ Ok (set 0 (codes "spaced") (Literal (codes "foo bar") ∷ [])
-    ∷ rule 17 (codes "t") (bind (codes "command") (Literal (codes "touch ") ∷ Reference (codes "out") ∷ []) ∷ [])
+    ∷ rule_at 17 (codes "t") (bind (codes "command") (Literal (codes "touch ") ∷ Reference (codes "out") ∷ []) ∷ [])
     ∷ build 47 ((Reference (codes "spaced") ∷ Literal (codes "/baz") ∷ []) ∷ (Literal (codes "other file") ∷ []) ∷ []) (codes "t") [] []
     ∷ [])
 quoted_paths = refl
