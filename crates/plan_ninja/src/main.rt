@@ -1,6 +1,9 @@
 //! plan_ninja: a builder for Ninja manifests. This is the program; the work is done in the crates below it.
 #![tactic(auto)]
 
+ghost use Rattle.std.specs.Prelude.{◌≡◌, ◌⊎◌};
+ghost use Rattle.plan_ninja.specs.Faults as defined;
+
 mod command_line;
 mod commands;
 mod fault;
@@ -43,7 +46,9 @@ fn print_commands<R: Files + Print + AllocGlobal>(rt: &R, path: &str) -> Result<
 }
 
 /// The fault of the standard output.
-fn output_failure(alloc: Global) -> PlanFault {
+fn output_failure(alloc: Global) -> PlanFault
+    ensures { (result ≡ defined.output_failed) ⊎ (result ≡ defined.no_memory) }
+{
     match output_failed(alloc) {
         Ok(fault) => fault,
         Err(_) => no_memory(alloc),
@@ -51,7 +56,9 @@ fn output_failure(alloc: Global) -> PlanFault {
 }
 
 /// Prints why the program is refused.
-fn report<E: Print>(alloc: Global, errors: &E, fault: &PlanFault) -> u8 {
+fn report<E: Print>(alloc: Global, errors: &E, fault: &PlanFault) -> u8
+    ensures { result ≡ REFUSED }
+{
     let _ = match fault.line(alloc) {
         Ok(line) => errors.write_all(&line),
         Err(_) => errors.write_all(b"plan: 131 Memory\n"),
