@@ -1,5 +1,6 @@
 #!/usr/bin/env python3
-"""Times `plan_ninja commands` beside `ninja -t commands` on manifests of 1,000, 10,000 and 100,000 edges.
+"""Times `plan_ninja commands` beside `ninja -t commands` on manifests of 1,000, 10,000 and 100,000 edges: one flat file of commands with
+per-edge variables, and a tree of an included and many subninja files with depfiles, pools, phonies, implicit and order-only lists.
 
 usage: run.py PROGRAM
 
@@ -44,21 +45,28 @@ def sorted_lines(words, folder):
     return sorted(subprocess.run(words, cwd=folder, capture_output=True, check=True).stdout.splitlines())
 
 
+def compare(shape, edges, files, program, ninja):
+    with tempfile.TemporaryDirectory() as folder:
+        for path, text in files.items():
+            (pathlib.Path(folder) / path).write_text(text)
+        ours, theirs = [program, "commands", "build.ninja"], [ninja, "-t", "commands"]
+        if sorted_lines(ours, folder) != sorted_lines(theirs, folder):
+            sys.exit(f"{shape}, {edges} edges: the commands differ")
+        (t, m), (u, n) = median(ours, folder), median(theirs, folder)
+        ratios = f"{t / u:.2f} {m / n:.2f}" if TIME else f"{t / u:.2f}"
+        print(f"{shape}  {edges:7d}  {t:7.3f} s {m / 1024:5.1f} MiB  {u:7.3f} s {n / 1024:5.1f} MiB  {ratios}", flush=True)
+
+
 def main():
     program = str(pathlib.Path(sys.argv[1]).resolve())
     ninja = shutil.which("ninja")
     if ninja is None:
         sys.exit("ninja is not installed (Debian: ninja-build)")
-    print("edges    plan_ninja           ninja                ratio of time, memory")
+    print("        edges    plan_ninja           ninja                ratio of time, memory")
     for edges in SIZES:
-        with tempfile.TemporaryDirectory() as folder:
-            (pathlib.Path(folder) / "build.ninja").write_text(manifests.flat(edges))
-            ours, theirs = [program, "commands", "build.ninja"], [ninja, "-t", "commands"]
-            if sorted_lines(ours, folder) != sorted_lines(theirs, folder):
-                sys.exit(f"{edges} edges: the commands differ")
-            (t, m), (u, n) = median(ours, folder), median(theirs, folder)
-            ratios = f"{t / u:.2f} {m / n:.2f}" if TIME else f"{t / u:.2f}"
-            print(f"{edges:7d}  {t:7.3f} s {m / 1024:5.1f} MiB  {u:7.3f} s {n / 1024:5.1f} MiB  {ratios}", flush=True)
+        compare("flat", edges, {"build.ninja": manifests.flat(edges)}, program, ninja)
+    for edges in SIZES:
+        compare("tree", edges, manifests.tree(edges), program, ninja)
 
 
 if __name__ == "__main__":

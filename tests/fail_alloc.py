@@ -1,5 +1,5 @@
 #!/usr/bin/env python3
-"""Runs the program on the demo once for each of its allocations, and refuses that one.
+"""Runs the program on a small tree of manifests once for each of its allocations, and refuses that one.
 
 usage: fail_alloc.py PROGRAM
 
@@ -13,7 +13,47 @@ import subprocess
 import sys
 import tempfile
 
-DEMO = pathlib.Path(__file__).resolve().parent.parent / "examples" / "demo" / "build.ninja"
+# every statement, list of paths and sort of variable
+FILES = {
+    "build.ninja": r"""x = 1
+pool p
+  depth = $x
+rule e
+  command = echo $x $in $in_newline $description
+  description = ($out)
+  depfile = $out.d
+  deps = gcc
+  restat = 1
+  generator = $none
+  rspfile_content = $in
+  pool = p
+include ./${none}included.ninja
+subninja child.ninja
+build ./a$ b | c: e d//e ../f | g || h
+  x = it's
+build all: phony a$ b | c || child
+default all ./child
+""",
+    "included.ninja": r"""y = $x$x
+rule i
+  command = cat $in > $out
+build h: i d/../e
+""",
+    "child.ninja": r"""x = 2
+rule i
+  command = echo $x $y
+build child: i
+  pool = q
+subninja grandchild.ninja
+""",
+    "grandchild.ninja": r"""x = $x$y
+pool q
+  depth = 0
+build grandchild: i
+build | i: e
+default grandchild
+""",
+}
 REFUSALS = {f"plan: {number} Memory\n".encode() for number in (22, 41, 131)}
 
 LIBRARY = r"""
@@ -45,10 +85,15 @@ __attribute__((destructor)) static void count(void) {
 """
 
 
+def write(folder):
+    for name, text in FILES.items():
+        (pathlib.Path(folder) / name).write_text(text)
+
+
 def run(program, library, folder, refused):
     told = pathlib.Path(folder) / "allocations"
     env = {"LD_PRELOAD": library, "REFUSED_ALLOCATION": str(refused), "ALLOCATIONS_FILE": str(told)}
-    done = subprocess.run([program, "commands", DEMO], capture_output=True, env=env, timeout=60)
+    done = subprocess.run([program, "commands", "build.ninja"], cwd=folder, capture_output=True, env=env, timeout=60)
     return done, int(told.read_text())
 
 
@@ -67,6 +112,7 @@ def main():
     with tempfile.TemporaryDirectory() as folder:
         library = os.path.join(folder, "refusing.so")
         subprocess.run([compiler, "-shared", "-fPIC", "-o", library, "-xc", "-", "-ldl"], input=LIBRARY.encode(), check=True)
+        write(folder)
         whole, allocations = run(program, library, folder, 0)
         failed = 0
         for refused in range(1, allocations + 1):

@@ -1,72 +1,73 @@
 -- What `commands FILE` does.
-use Rattle.std.specs.Prelude.{◌≡◌, ◌+◌, ◌⊎◌, ℕ, List, Option, Some, None, Result, Ok, Err}
+use Rattle.std.specs.Prelude.{◌≡◌, ◌+◌, ◌⊎◌, ℕ, List, Option, Result, Ok, Err}
 use Rattle.std.specs.Io.KnownBytes.{Appends}
 use Rattle.plan_text.specs.Sinks.{AppendsFront}
+use Rattle.plan_scope.specs.Trees.{Line}
 use Rattle.plan_scope.specs.Scopes.{Text}
-use Rattle.plan_scope.specs.Loading.{tree_of}
+use Rattle.plan_scope.specs.Loading.{IsMissing, LoadsFirst}
 use Rattle.plan_scope.specs.Edges.{manifest_of, commands_of}
-use Rattle.plan_scope.specs.declared.manifest.Tree.{Tree}
 use Rattle.plan_scope.specs.declared.manifest.Manifest.{Manifest}
 use Rattle.plan_scope.specs.declared.fault.ScopeFault.{ScopeFault}
-use Rattle.plan_scope.specs.declared.fault.ScopeFault.TheVariants.{SourceMissing, LoadMemory, Memory}
+use Rattle.plan_scope.specs.declared.fault.ScopeFault.TheVariants.{LoadMemory, Memory}
 use Rattle.plan_ninja.specs.declared.fault.PlanFault.{PlanFault}
 use Rattle.plan_ninja.specs.Faults.{shown, no_memory, output_failed}
-
-abbrev pub manifest_from : Result Tree ScopeFault → Result Manifest ScopeFault
-manifest_from (Ok tree) = manifest_of tree
-manifest_from (Err fault) = Err fault
-
--- what a file with these bytes means
-abbrev pub meaning_of : Text → List ℕ → Result Manifest ScopeFault
-meaning_of path bytes = manifest_from (tree_of path bytes)
 
 abbrev pub output_by : Result Manifest ScopeFault → Result (List ℕ) ScopeFault
 output_by (Ok manifest) = Ok (commands_of manifest)
 output_by (Err fault) = Err fault
 
--- what is printed of a file with these bytes: the text of each edge's command and a newline, in order; or why it is refused
-abbrev pub output_of : Text → List ℕ → Result (List ℕ) ScopeFault
-output_of path bytes = output_by (meaning_of path bytes)
+-- what is printed of the lines of a tree: the text of each command and a newline, in order; or why they are refused
+abbrev pub output_of : List Line → Result (List ℕ) ScopeFault
+output_of lines = output_by (manifest_of lines)
 
--- the sink took all that is printed of some bytes that the source may give for the path
-pub record WritesAll (gives : Option (List ℕ) → Type 0) (path : Text) (old new : Option (List ℕ)) : Type 0 where
-  pub bytes : List ℕ
+-- what may be loaded from a path: all lines, or a fault
+abbrev pub MayLoad : Type 1
+MayLoad = Text → Result (List Line) ScopeFault → Type 0
+
+-- the sink took all that is printed of some lines that may be loaded from the path
+pub record WritesAll (loads : MayLoad) (path : Text) (old new : Option (List ℕ)) : Type 0 where
+  pub lines : List Line
   pub text : List ℕ
-  pub given : gives (Some bytes)
-  pub means : output_of path bytes ≡ Ok text
+  pub loaded : loads path (Ok lines)
+  pub means : output_of lines ≡ Ok text
   pub written : Appends old new text
 
--- some bytes that the source may give for the path are refused, for this cause
-pub record RefusesFile (gives : Option (List ℕ) → Type 0) (path : Text) (fault : PlanFault) : Type 0 where
-  pub bytes : List ℕ
+-- some lines that may be loaded from the path are refused, for this cause
+pub record RefusesLines (loads : MayLoad) (path : Text) (fault : PlanFault) : Type 0 where
+  pub lines : List Line
   pub cause : ScopeFault
-  pub given : gives (Some bytes)
-  pub means : output_of path bytes ≡ Err cause
+  pub loaded : loads path (Ok lines)
+  pub means : output_of lines ≡ Err cause
   pub says : fault ≡ shown cause
 
--- the source may say that there is no such file, or a read failed
-pub record MissesFile (gives : Option (List ℕ) → Type 0) (path : Text) (before now : ℕ) (fault : PlanFault) : Type 0 where
-  pub why : gives None ⊎ (now ≡ before + 1)
-  pub says : fault ≡ shown (SourceMissing path)
+-- loading from the path may be refused, for this cause
+pub record RefusesToLoad (loads : MayLoad) (path : Text) (fault : PlanFault) : Type 0 where
+  pub cause : ScopeFault
+  pub loaded : loads path (Err cause)
+  pub says : fault ≡ shown cause
 
 -- want of memory, of the loader, the evaluator or the program
 abbrev pub LacksMemory : PlanFault → Type 0
 LacksMemory fault = (fault ≡ shown LoadMemory) ⊎ ((fault ≡ shown Memory) ⊎ (fault ≡ no_memory))
 
 -- why there is nothing to print
-abbrev pub IsRefused : (Option (List ℕ) → Type 0) → Text → (before now : ℕ) → PlanFault → Type 0
-IsRefused gives path before now fault = RefusesFile gives path fault ⊎ (MissesFile gives path before now fault ⊎ LacksMemory fault)
+abbrev pub IsRefused : MayLoad → Text → PlanFault → Type 0
+IsRefused loads path fault = RefusesLines loads path fault ⊎ (RefusesToLoad loads path fault ⊎ LacksMemory fault)
 
--- the manifest is the meaning of some bytes that the source may give for the path
-abbrev pub IsMeant : (Option (List ℕ) → Type 0) → Text → Manifest → Type 0
-IsMeant gives path manifest = (bytes : List ℕ) × gives (Some bytes) × (meaning_of path bytes ≡ Ok manifest)
+-- the manifest is the meaning of some lines that may be loaded from the path
+abbrev pub IsMeant : MayLoad → Text → Manifest → Type 0
+IsMeant loads path manifest = (lines : List Line) × loads path (Ok lines) × (manifest_of lines ≡ Ok manifest)
 
--- a write failed, behind a front of what is printed of some bytes that the source may give for the path
-pub record FailsToWrite (gives : Option (List ℕ) → Type 0) (path : Text) (old new : Option (List ℕ)) (before now : ℕ) (fault : PlanFault) : Type 0 where
-  pub bytes : List ℕ
+-- a write failed, behind a front of what is printed of some lines that may be loaded from the path
+pub record FailsToWrite (loads : MayLoad) (path : Text) (old new : Option (List ℕ)) (before now : ℕ) (fault : PlanFault) : Type 0 where
+  pub lines : List Line
   pub text : List ℕ
-  pub given : gives (Some bytes)
-  pub means : output_of path bytes ≡ Ok text
+  pub loaded : loads path (Ok lines)
+  pub means : output_of lines ≡ Ok text
   pub front : AppendsFront old new text
   pub failed : now ≡ before + 1
   pub says : fault ≡ output_failed
+
+-- what may be loaded by what a source may give, where its count of failed reads was this before and is that now
+abbrev pub loading_by : (gives : Text → Option (List ℕ) → Type 0) → (before now : ℕ) → MayLoad
+loading_by gives before now = LoadsFirst gives (IsMissing gives before now)

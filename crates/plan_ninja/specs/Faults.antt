@@ -41,9 +41,12 @@ abbrev pub name_of : ℕ → List ℕ
 name_of n =
     if n == 1 then codes "TabBlank" else if n == 2 then codes "NulByte" else if n == 3 then codes "BadEscape" else if n == 4 then codes "SourceTooLong"
     else if n == 10 then codes "ExpectedName" else if n == 11 then codes "ExpectedEquals" else if n == 12 then codes "ExpectedColon" else if n == 13 then codes "ExpectedPath"
-    else if n == 14 then codes "UnexpectedIndent" else if n == 15 then codes "UnknownRuleVariable" else if n == 16 then codes "NoCommand" else if n == 19 then codes "ExpectedLineEnd"
-    else if n == 20 then codes "SourceMissing" else if n == 30 then codes "DuplicateRule" else if n == 31 then codes "UnknownRule" else if n == 34 then codes "RuleCycle"
-    else if n == 35 then codes "EmptyPath" else if n == 39 then codes "PathTooLong" else if n == 40 then codes "TextTooLong" else if n == 133 then codes "FileFault"
+    else if n == 14 then codes "UnexpectedIndent" else if n == 15 then codes "UnknownRuleVariable" else if n == 16 then codes "NoCommand" else if n == 17 then codes "BadPool"
+    else if n == 18 then codes "Validation" else if n == 19 then codes "ExpectedLineEnd"
+    else if n == 20 then codes "SourceMissing" else if n == 21 then codes "IncludeDepth" else if n == 30 then codes "DuplicateRule" else if n == 31 then codes "UnknownRule"
+    else if n == 32 then codes "DuplicatePool" else if n == 33 then codes "UnknownPool" else if n == 34 then codes "RuleCycle" else if n == 35 then codes "EmptyPath"
+    else if n == 36 then codes "Dyndep" else if n == 37 then codes "Rspfile" else if n == 38 then codes "DepsKind" else if n == 39 then codes "PathTooLong"
+    else if n == 40 then codes "TextTooLong" else if n == 42 then codes "BadDepth" else if n == 133 then codes "FileFault"
     else codes "Memory"
 
 -- the line that the program prints of a fault

@@ -6,10 +6,11 @@ use Rattle.std.proofs.lemmas.List.{drop_more, take_more, map_push}
 use Rattle.plan_parse.specs.declared.block.Member as the_member
 use Rattle.plan_parse.specs.Members.{member_of, members_of}
 use Rattle.plan_parse.specs.declared.fault.ParseFault.{ParseFault}
+use Rattle.plan_parse.specs.declared.owner.Owner.{Owner}
 use Rattle.plan_parse.specs.declared.statement.Binding.{Binding}
 use Rattle.plan_parse.specs.Reading.{◌>>=◌}
 use Rattle.plan_parse.specs.Blocks.{Member}
-use Rattle.plan_parse.specs.Statements.{each, rule_member_at, rule_members_at}
+use Rattle.plan_parse.specs.Statements.{each, owned_at, all_owned_at}
 
 -- what was read, in front of what is read of the rest
 abbrev pub in_front : {B : Type 0} → List B → Result (List B) ParseFault → Result (List B) ParseFault
@@ -34,18 +35,18 @@ pub stops : {A B : Type 0} (f : A → Result B ParseFault) (front : List B) (x :
     → in_front front (each f (x ∷ xs)) ≡ all → all ≡ Err fault
 stops f front x xs fault all e so_far = sym so_far ∙ ap (λ r. in_front front (r >>= λ y. each f xs >>= λ ys. Ok (y ∷ ys))) e
 
--- one more line of a rule
-pub one_more_of_rule : (front : List Binding) (above : List Member) (m : Member) (more : List Member) (b : Binding) (all : Result (List Binding) ParseFault) → rule_member_at above m ≡ Ok b
-    → in_front front (rule_members_at above (m ∷ more)) ≡ all → in_front (front ++ b ∷ []) (rule_members_at (above ++ m ∷ []) more) ≡ all
-one_more_of_rule front above m more b all e so_far =
-    regroup front b (rule_members_at (above ++ m ∷ []) more)
-    ∙ ap (λ r. in_front front (r >>= λ b. rule_members_at (above ++ m ∷ []) more >>= λ bs. Ok (b ∷ bs))) (sym e) ∙ so_far
+-- one more line of a rule or a pool
+pub one_more_owned : (owner : Owner) (front : List Binding) (above : List Member) (m : Member) (more : List Member) (b : Binding) (all : Result (List Binding) ParseFault) → owned_at owner above m ≡ Ok b
+    → in_front front (all_owned_at owner above (m ∷ more)) ≡ all → in_front (front ++ b ∷ []) (all_owned_at owner (above ++ m ∷ []) more) ≡ all
+one_more_owned owner front above m more b all e so_far =
+    regroup front b (all_owned_at owner (above ++ m ∷ []) more)
+    ∙ ap (λ r. in_front front (r >>= λ b. all_owned_at owner (above ++ m ∷ []) more >>= λ bs. Ok (b ∷ bs))) (sym e) ∙ so_far
 
--- a line of a rule with a fault
-pub rule_stops : (front : List Binding) (above : List Member) (m : Member) (more : List Member) (fault : ParseFault) (all : Result (List Binding) ParseFault) → rule_member_at above m ≡ Err fault
-    → in_front front (rule_members_at above (m ∷ more)) ≡ all → all ≡ Err fault
-rule_stops front above m more fault all e so_far =
-    sym so_far ∙ ap (λ r. in_front front (r >>= λ b. rule_members_at (above ++ m ∷ []) more >>= λ bs. Ok (b ∷ bs))) e
+-- a line of a rule or a pool with a fault
+pub owned_stops : (owner : Owner) (front : List Binding) (above : List Member) (m : Member) (more : List Member) (fault : ParseFault) (all : Result (List Binding) ParseFault) → owned_at owner above m ≡ Err fault
+    → in_front front (all_owned_at owner above (m ∷ more)) ≡ all → all ≡ Err fault
+owned_stops owner front above m more fault all e so_far =
+    sym so_far ∙ ap (λ r. in_front front (r >>= λ b. all_owned_at owner (above ++ m ∷ []) more >>= λ bs. Ok (b ∷ bs))) e
 
 -- the lines from one on
 pub members_from : (ms : List the_member.Member) (i : ℕ) (m : the_member.Member) → i < length ms → m ≡ get_or ms i m → members_of (drop i ms) ≡ member_of m ∷ members_of (drop (i + 1) ms)

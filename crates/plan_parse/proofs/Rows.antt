@@ -4,7 +4,7 @@ use Rattle.std.specs.Prelude.{codes}
 use Rattle.plan_text.specs.declared.piece_reader.Piece.{Piece}
 use Rattle.plan_text.specs.declared.piece_reader.Piece.TheVariants.{Literal, Reference}
 use Rattle.plan_text.specs.declared.fault.TextFault.TheVariants.{BadEscape, NulByte, TabBlank}
-use Rattle.plan_parse.specs.declared.fault.ParseFault.TheVariants.{Text, NoCommand, UnexpectedIndent, ExpectedColon, ExpectedPath, UnknownRuleVariable, ExpectedLineEnd, ExpectedName, ExpectedEquals}
+use Rattle.plan_parse.specs.declared.fault.ParseFault.TheVariants.{Text, NoCommand, BadPool, Validation, UnexpectedIndent, ExpectedColon, ExpectedPath, UnknownRuleVariable, ExpectedLineEnd, ExpectedName, ExpectedEquals}
 use Rattle.plan_parse.specs.declared.statement.Binding.{Binding}
 use Rattle.plan_parse.specs.declared.statement.Statement.{Statement}
 use Rattle.plan_parse.specs.declared.statement.StatementKind.TheVariants as kind
@@ -19,8 +19,26 @@ bind name value = record { name = name; value = value }
 abbrev rule_at : ℕ → List ℕ → List Binding → Statement
 rule_at at name bindings = record { offset = at; kind = kind.Rule (record { name = name; bindings = bindings }) }
 
+abbrev full_build : ℕ → (outputs implicit_outputs : List (List Piece)) → List ℕ → (inputs implicit_inputs order_only_inputs : List (List Piece)) → List Binding → Statement
+full_build at outputs implicit_outputs name inputs implicit_inputs order_only_inputs bindings = record {
+  offset = at;
+  kind = kind.Build (record {
+    outputs = outputs;
+    implicit_outputs = implicit_outputs;
+    rule = name;
+    inputs = inputs;
+    implicit_inputs = implicit_inputs;
+    order_only_inputs = order_only_inputs;
+    bindings = bindings;
+  });
+}
+
+-- a path of plain bytes
+abbrev plain : List ℕ → List Piece
+plain text = Literal text ∷ []
+
 abbrev build : ℕ → List (List Piece) → List ℕ → List (List Piece) → List Binding → Statement
-build at outputs name inputs bindings = record { offset = at; kind = kind.Build (record { outputs = outputs; rule = name; inputs = inputs; bindings = bindings }) }
+build at outputs name inputs bindings = full_build at outputs [] name inputs [] [] bindings
 
 abbrev set : ℕ → List ℕ → List Piece → Statement
 set at name value = record { offset = at; kind = kind.Binding (bind name value) }
@@ -70,11 +88,87 @@ tab_in_path = refl
 no_output : statements_of (codes "build : r") ≡ Err (ExpectedPath 6)
 no_output = refl
 
-bar_among_outputs : statements_of (codes "build a | b: r") ≡ Err (ExpectedPath 8)
-bar_among_outputs = refl
+all_lists : statements_of (codes "build a b | c: r d | e f || g")
+    ≡ Ok (full_build 0 (plain (codes "a") ∷ plain (codes "b") ∷ []) (plain (codes "c") ∷ []) (codes "r") (plain (codes "d") ∷ []) (plain (codes "e") ∷ plain (codes "f") ∷ []) (plain (codes "g") ∷ []) [] ∷ [])
+all_lists = refl
 
-bars_among_inputs : statements_of (codes "build a: r b || c") ≡ Err (ExpectedPath 13)
-bars_among_inputs = refl
+implicit_output_alone : statements_of (codes "build |a: r||b") ≡ Ok (full_build 0 [] (plain (codes "a") ∷ []) (codes "r") [] [] (plain (codes "b") ∷ []) [] ∷ [])
+implicit_output_alone = refl
+
+empty_lists : statements_of (codes "build a |: r | ||") ≡ Ok (full_build 0 (plain (codes "a") ∷ []) [] (codes "r") [] [] [] [] ∷ [])
+empty_lists = refl
+
+no_output_of_either_sort : statements_of (codes "build |: r") ≡ Err (ExpectedPath 7)
+no_output_of_either_sort = refl
+
+bars_among_outputs : statements_of (codes "build a || b: r") ≡ Err (ExpectedColon 8)
+bars_among_outputs = refl
+
+validation_among_outputs : statements_of (codes "build a |@ b: r") ≡ Err (ExpectedColon 8)
+validation_among_outputs = refl
+
+validation_for_an_output : statements_of (codes "build |@ b: r") ≡ Err (ExpectedPath 6)
+validation_for_an_output = refl
+
+validation : statements_of (codes "build a: r |@ b") ≡ Err (Validation 11)
+validation = refl
+
+validation_behind_order_only : statements_of (codes "build a: r || b |@ c") ≡ Err (Validation 16)
+validation_behind_order_only = refl
+
+bar_behind_order_only : statements_of (codes "build a: r || b | c") ≡ Err (ExpectedLineEnd 16)
+bar_behind_order_only = refl
+
+two_implicit_lists : statements_of (codes "build a: r | b | c") ≡ Err (ExpectedLineEnd 15)
+two_implicit_lists = refl
+
+one_pool : statements_of (codes "pool p" ++ lf ++ codes "  depth = $n") ≡ Ok (record { offset = 0; kind = kind.Pool (record { name = codes "p"; depth = Reference (codes "n") ∷ [] }) } ∷ [])
+one_pool = refl
+
+pool_without_depth : statements_of (codes "pool p" ++ lf ++ codes "  name = 4") ≡ Err (BadPool 0)
+pool_without_depth = refl
+
+pool_with_another_name : statements_of (codes "pool p" ++ lf ++ codes "  name = 4" ++ lf ++ codes "  depth = 4") ≡ Err (BadPool 9)
+pool_with_another_name = refl
+
+second_depth : statements_of (codes "pool p" ++ lf ++ codes "  depth = 4" ++ lf ++ codes "  depth = 4") ≡ Err (BadPool 21)
+second_depth = refl
+
+pool_without_name : statements_of (codes "pool" ++ lf ++ codes "  depth = 4") ≡ Err (ExpectedName 4)
+pool_without_name = refl
+
+two_defaults : statements_of (codes "default a $b") ≡ Ok (record { offset = 0; kind = kind.Default (plain (codes "a") ∷ (Reference (codes "b") ∷ []) ∷ []) } ∷ [])
+two_defaults = refl
+
+no_default : statements_of (codes "default") ≡ Err (ExpectedPath 7)
+no_default = refl
+
+bar_behind_defaults : statements_of (codes "default a | b") ≡ Err (ExpectedLineEnd 10)
+bar_behind_defaults = refl
+
+indent_below_default : statements_of (codes "default a" ++ lf ++ codes " b = c") ≡ Err (UnexpectedIndent 11)
+indent_below_default = refl
+
+one_include : statements_of (codes "include $dir/a.ninja") ≡ Ok (record { offset = 0; kind = kind.Include (Reference (codes "dir") ∷ Literal (codes "/a.ninja") ∷ []) } ∷ [])
+one_include = refl
+
+one_subninja : statements_of (codes "x = 1" ++ lf ++ codes "subninja a$ b") ≡ Ok (set 0 (codes "x") (plain (codes "1")) ∷ record { offset = 6; kind = kind.Subninja (plain (codes "a b")) } ∷ [])
+one_subninja = refl
+
+include_of_nothing : statements_of (codes "include ") ≡ Err (ExpectedPath 8)
+include_of_nothing = refl
+
+include_of_two : statements_of (codes "include a b") ≡ Err (ExpectedLineEnd 10)
+include_of_two = refl
+
+all_rule_variables : statements_of (codes "rule r" ++ lf ++ codes " command=1" ++ lf ++ codes " depfile=2" ++ lf ++ codes " deps=3" ++ lf ++ codes " msvc_deps_prefix=4" ++ lf ++ codes " description=5" ++ lf ++ codes " dyndep=6" ++ lf ++ codes " generator=7" ++ lf
+    ++ codes " in=8" ++ lf ++ codes " in_newline=9" ++ lf ++ codes " out=10" ++ lf ++ codes " restat=11" ++ lf ++ codes " rspfile=12" ++ lf ++ codes " rspfile_content=13" ++ lf ++ codes " pool=14")
+    ≡ Ok (rule_at 0 (codes "r")
+    (bind (codes "command") (plain (codes "1")) ∷ bind (codes "depfile") (plain (codes "2")) ∷ bind (codes "deps") (plain (codes "3")) ∷ bind (codes "msvc_deps_prefix") (plain (codes "4"))
+    ∷ bind (codes "description") (plain (codes "5")) ∷ bind (codes "dyndep") (plain (codes "6")) ∷ bind (codes "generator") (plain (codes "7")) ∷ bind (codes "in") (plain (codes "8"))
+    ∷ bind (codes "in_newline") (plain (codes "9")) ∷ bind (codes "out") (plain (codes "10")) ∷ bind (codes "restat") (plain (codes "11")) ∷ bind (codes "rspfile") (plain (codes "12"))
+    ∷ bind (codes "rspfile_content") (plain (codes "13")) ∷ bind (codes "pool") (plain (codes "14")) ∷ []) ∷ [])
+all_rule_variables = refl
 
 colon_among_inputs : statements_of (codes "build a: r b : c") ≡ Err (ExpectedLineEnd 13)
 colon_among_inputs = refl
@@ -88,7 +182,7 @@ bad_name = refl
 more_behind_name : statements_of (codes "rule a b" ++ lf ++ codes "  command = a") ≡ Err (ExpectedLineEnd 7)
 more_behind_name = refl
 
-unknown_variable : statements_of (codes "rule r" ++ lf ++ codes "  depfile = a" ++ lf ++ codes "  command = b") ≡ Err (UnknownRuleVariable 9)
+unknown_variable : statements_of (codes "rule r" ++ lf ++ codes "  depfil = a" ++ lf ++ codes "  command = b") ≡ Err (UnknownRuleVariable 9)
 unknown_variable = refl
 
 -- a rule without a command counts before all else of its block
@@ -121,9 +215,6 @@ continued_rule = refl
 
 no_comment : statements_of (36 ∷ 10 ∷ codes "# c") ≡ Err (ExpectedName 2)
 no_comment = refl
-
-later_keyword : statements_of (codes "x = 1" ++ lf ++ codes "default x") ≡ Err (ExpectedName 6)
-later_keyword = refl
 
 no_equals : statements_of (codes "x y") ≡ Err (ExpectedEquals 2)
 no_equals = refl

@@ -1,5 +1,5 @@
 -- The statements of a text, block by block. (Ninja manual, "Ninja file reference".)
-use Rattle.std.specs.Prelude.{ℕ, ◌==◌, nat_lt, Bool, false, not, ◌||◌, ◌&&◌, List, [], ◌∷◌, ◌++◌, length, if◌then◌else◌, Result, Ok, Err, codes}
+use Rattle.std.specs.Prelude.{ℕ, ◌+◌, ◌==◌, nat_lt, Bool, false, not, ◌||◌, ◌&&◌, List, [], ◌∷◌, ◌++◌, length, drop, if◌then◌else◌, Result, Ok, Err, codes}
 use Rattle.std.specs.List.{prefix_len, list_any}
 use Rattle.std.specs.Str.{bytes_eq}
 use Rattle.plan_text.specs.Bytes.{tab, space, colon, bar, equals_sign, begins_with}
@@ -8,10 +8,12 @@ use Rattle.plan_text.specs.declared.fault.TextFault.TheVariants.{SourceTooLong}
 use Rattle.plan_text.specs.declared.piece_reader.Piece.{Piece}
 use Rattle.plan_parse.specs.declared.fault.ParseFault.{ParseFault}
 use Rattle.plan_parse.specs.declared.fault.ParseFault.TheVariants as fault
+use Rattle.plan_parse.specs.declared.owner.Owner.{Owner}
+use Rattle.plan_parse.specs.declared.owner.Owner.TheVariants.{Rule, Pool}
 use Rattle.plan_parse.specs.declared.statement.Binding.{Binding}
 use Rattle.plan_parse.specs.declared.statement.StatementKind.TheVariants as kind
 use Rattle.plan_parse.specs.declared.statement.Statement.{Statement}
-use Rattle.plan_parse.specs.Reading.{◌>>=◌, Place, past, past_gap, refused, name_of, name_at, byte_at, line_end_at, value_at, paths_at}
+use Rattle.plan_parse.specs.Reading.{◌>>=◌, Place, past, past_gap, refused, name_of, name_at, byte_at, line_end_at, value_at, path_len, path_at, paths_at}
 use Rattle.plan_parse.specs.Blocks.{Member, Says, Faulty, Block, told_of, below, blocks_of}
 
 -- what each says, up to the first fault
@@ -46,68 +48,157 @@ is_named name (Faulty e) = false
 is_named name (Says p) = bytes_eq (first_word p) name
 
 -- the variables that a rule may bind
-abbrev pub is_rule_variable : List ℕ → Bool
-is_rule_variable name = bytes_eq name (codes "command")
+abbrev pub rule_variables : List (List ℕ)
+rule_variables =
+    codes "command" ∷ codes "depfile" ∷ codes "deps" ∷ codes "msvc_deps_prefix" ∷ codes "description" ∷ codes "dyndep" ∷ codes "generator"
+    ∷ codes "in" ∷ codes "in_newline" ∷ codes "out" ∷ codes "restat" ∷ codes "rspfile" ∷ codes "rspfile_content" ∷ codes "pool" ∷ []
 
--- a rule binds what it knows, and `command` once; the lines above this one are given
-abbrev pub rule_member_at : List Member → Member → Result Binding ParseFault
-rule_member_at above (Faulty e) = Err (fault.Text e)
-rule_member_at above (Says p) =
+-- the names that a rule or a pool may bind
+abbrev pub knows : Owner → List ℕ → Bool
+knows Rule name = list_any (bytes_eq name) rule_variables
+knows Pool name = bytes_eq name (codes "depth")
+
+-- the name that it binds exactly once
+abbrev pub wanted : Owner → List ℕ
+wanted Rule = codes "command"
+wanted Pool = codes "depth"
+
+-- the fault of a name that it doesn't know
+abbrev pub unknown : Owner → ℕ → ParseFault
+unknown Rule at = fault.UnknownRuleVariable at
+unknown Pool at = fault.BadPool at
+
+-- the fault of the name that it wants, where it is absent or stands there again
+abbrev pub not_once : Owner → ℕ → ParseFault
+not_once Rule at = fault.NoCommand at
+not_once Pool at = fault.BadPool at
+
+-- a rule or a pool binds what it knows, and what it wants once; the lines above this one are given
+abbrev pub owned_at : Owner → List Member → Member → Result Binding ParseFault
+owned_at owner above (Faulty e) = Err (fault.Text e)
+owned_at owner above (Says p) =
     name_at (past_gap p) >>= λ n.
-    (if not (is_rule_variable n.0) then Err (fault.UnknownRuleVariable (past_gap p).at)
-    else if bytes_eq n.0 (codes "command") && list_any (is_named (codes "command")) above then Err (fault.NoCommand (past_gap p).at)
+    (if not (knows owner n.0) then Err (unknown owner (past_gap p).at)
+    else if bytes_eq n.0 (wanted owner) && list_any (is_named (wanted owner)) above then Err (not_once owner (past_gap p).at)
     else bound_at p)
 
--- the lines of a rule in order, each with those above it
-abbrev pub rule_members_at : List Member → List Member → Result (List Binding) ParseFault
-rule_members_at above [] = Ok []
-rule_members_at above (m ∷ more) = rule_member_at above m >>= λ b. rule_members_at (above ++ m ∷ []) more >>= λ bs. Ok (b ∷ bs)
+-- the lines of a rule or a pool in order, each with those above it
+abbrev pub all_owned_at : Owner → List Member → List Member → Result (List Binding) ParseFault
+all_owned_at owner above [] = Ok []
+all_owned_at owner above (m ∷ more) = owned_at owner above m >>= λ b. all_owned_at owner (above ++ m ∷ []) more >>= λ bs. Ok (b ∷ bs)
 
 -- what is absent stands at the block's first byte, before all else of the block
-abbrev pub with_command : ℕ → List Member → Result (Unit {0}) ParseFault
-with_command at members = if list_any (is_named (codes "command")) members then Ok tt else Err (fault.NoCommand at)
+abbrev pub with_wanted : Owner → ℕ → List Member → Result (Unit {0}) ParseFault
+with_wanted owner at members = if list_any (is_named (wanted owner)) members then Ok tt else Err (not_once owner at)
 
 -- a name and the end of the line
 abbrev pub named_line : Place → Result (List ℕ) ParseFault
 named_line p = name_at p >>= λ n. line_end_at n.0 n.1
 
--- `rule name`, from its name on, and the lines below it
+-- a rule or a pool, from its name on, and the lines below it
+abbrev pub named_block : Owner → ℕ → Place → List Member → Result (List ℕ × List Binding) ParseFault
+named_block owner at p members =
+    with_wanted owner at members >>= λ _. named_line p >>= λ name. all_owned_at owner [] members >>= λ bindings. Ok (name, bindings)
+
+-- `rule name`
 abbrev pub rule_of : ℕ → Place → List Member → Result Statement ParseFault
-rule_of at p members =
-    with_command at members >>= λ _. named_line p >>= λ name. rule_members_at [] members >>= λ bindings.
-    Ok (record { offset = at; kind = kind.Rule (record { name = name; bindings = bindings }) })
+rule_of at p members = named_block Rule at p members >>= λ x. Ok (record { offset = at; kind = kind.Rule (record { name = x.0; bindings = x.1 }) })
 
--- no `|` may stand here
-abbrev pub no_bar : Place → Result (Unit {0}) ParseFault
-no_bar p = if begins_with bar p.bytes then Err (fault.ExpectedPath p.at) else Ok tt
+-- the value of a pool's one line
+abbrev pub depth_of : List Binding → List Piece
+depth_of [] = []
+depth_of (b ∷ bs) = b.value
 
-abbrev pub some_output : Place → List (List Piece) → Result (Unit {0}) ParseFault
-some_output p outputs = if length outputs == 0 then refused fault.ExpectedPath p else Ok tt
+-- `pool name`
+abbrev pub pool_of : ℕ → Place → List Member → Result Statement ParseFault
+pool_of at p members = named_block Pool at p members >>= λ x. Ok (record { offset = at; kind = kind.Pool (record { name = x.0; depth = depth_of x.1 }) })
 
--- `outputs:`, and the place behind it
-abbrev pub outputs_at : Place → Result (List (List Piece) × Place) ParseFault
+-- `@`
+abbrev pub at_sign : ℕ
+at_sign = 64
+
+-- `|`, and not `||` or `|@`
+abbrev pub is_bar : Place → Bool
+is_bar p = begins_with bar p.bytes && not (begins_with bar (drop 1 p.bytes) || begins_with at_sign (drop 1 p.bytes))
+
+-- `||`
+abbrev pub is_two_bars : Place → Bool
+is_two_bars p = begins_with bar p.bytes && begins_with bar (drop 1 p.bytes)
+
+-- `|@`
+abbrev pub is_validation : Place → Bool
+is_validation p = begins_with bar p.bytes && begins_with at_sign (drop 1 p.bytes)
+
+-- the list behind `|`, empty where none stands here
+abbrev pub implicit_at : Place → Result (List (List Piece) × Place) ParseFault
+implicit_at p = if is_bar p then paths_at (past 1 p) else Ok ([], p)
+
+-- the list behind `||`, empty where none stands here
+abbrev pub order_only_at : Place → Result (List (List Piece) × Place) ParseFault
+order_only_at p = if is_two_bars p then paths_at (past 2 p) else Ok ([], p)
+
+abbrev pub no_validation : Place → Result (Unit {0}) ParseFault
+no_validation p = if is_validation p then Err (fault.Validation p.at) else Ok tt
+
+-- one path or more in both lists
+abbrev pub some_path : Place → List (List Piece) → List (List Piece) → Result (Unit {0}) ParseFault
+some_path p paths more = if length paths + length more == 0 then refused fault.ExpectedPath p else Ok tt
+
+-- `outputs | implicit_outputs:`, and the place behind it
+abbrev pub outputs_at : Place → Result (List (List Piece) × List (List Piece) × Place) ParseFault
 outputs_at p =
-    paths_at p >>= λ outputs. no_bar outputs.1 >>= λ _. some_output outputs.1 outputs.0 >>= λ _.
-    byte_at colon fault.ExpectedColon outputs.1 >>= λ behind. Ok (outputs.0, behind)
+    paths_at p >>= λ outputs. implicit_at outputs.1 >>= λ implicit. some_path implicit.1 outputs.0 implicit.0 >>= λ _.
+    byte_at colon fault.ExpectedColon implicit.1 >>= λ behind. Ok (outputs.0, implicit.0, behind)
 
--- `inputs` and the end of the line
-abbrev pub inputs_at : Place → Result (List (List Piece)) ParseFault
-inputs_at p = paths_at p >>= λ inputs. no_bar inputs.1 >>= λ _. line_end_at inputs.0 inputs.1
+-- `inputs | implicit_inputs || order_only_inputs` and the end of the line
+abbrev pub inputs_at : Place → Result (List (List Piece) × List (List Piece) × List (List Piece)) ParseFault
+inputs_at p =
+    paths_at p >>= λ inputs. implicit_at inputs.1 >>= λ implicit. order_only_at implicit.1 >>= λ order_only.
+    no_validation order_only.1 >>= λ _. line_end_at (inputs.0, implicit.0, order_only.0) order_only.1
 
 -- `build outputs: rule inputs`, from its outputs on, and the lines below it
 abbrev pub build_of : ℕ → Place → List Member → Result Statement ParseFault
 build_of at p members =
-    outputs_at p >>= λ outputs. name_at outputs.1 >>= λ rule. inputs_at rule.1 >>= λ inputs. each member_at members >>= λ bindings.
-    Ok (record { offset = at; kind = kind.Build (record { outputs = outputs.0; rule = rule.0; inputs = inputs; bindings = bindings }) })
+    outputs_at p >>= λ outputs. name_at outputs.2 >>= λ rule. inputs_at rule.1 >>= λ inputs. each member_at members >>= λ bindings.
+    Ok (record {
+      offset = at;
+      kind = kind.Build (record {
+        outputs = outputs.0;
+        implicit_outputs = outputs.1;
+        rule = rule.0;
+        inputs = inputs.0;
+        implicit_inputs = inputs.1;
+        order_only_inputs = inputs.2;
+        bindings = bindings;
+      });
+    })
+
+-- one path or more, and the end of the line
+abbrev pub targets_at : Place → Result (List (List Piece)) ParseFault
+targets_at p = paths_at p >>= λ targets. some_path targets.1 targets.0 [] >>= λ _. line_end_at targets.0 targets.1
+
+-- `default targets`, from its targets on, and nothing below it
+abbrev pub default_of : ℕ → Place → List Member → Result Statement ParseFault
+default_of at p members = targets_at p >>= λ targets. alone members >>= λ _. Ok (record { offset = at; kind = kind.Default targets })
+
+abbrev pub some_byte : Place → Result (Unit {0}) ParseFault
+some_byte p = if path_len p.bytes == 0 then refused fault.ExpectedPath p else Ok tt
+
+-- one path, and the end of the line
+abbrev pub file_at : Place → Result (List Piece) ParseFault
+file_at p = some_byte p >>= λ _. path_at p (path_len p.bytes) >>= λ path. line_end_at path (past_gap (past (path_len p.bytes) p))
+
+-- `include path`, from its path on, and nothing below it
+abbrev pub include_of : ℕ → Place → List Member → Result Statement ParseFault
+include_of at p members = file_at p >>= λ path. alone members >>= λ _. Ok (record { offset = at; kind = kind.Include path })
+
+-- `subninja path`, from its path on, and nothing below it
+abbrev pub subninja_of : ℕ → Place → List Member → Result Statement ParseFault
+subninja_of at p members = file_at p >>= λ path. alone members >>= λ _. Ok (record { offset = at; kind = kind.Subninja path })
 
 -- `name = value`, and nothing below it
 abbrev pub binding_of : Place → List Member → Result Statement ParseFault
 binding_of p members = bound_at p >>= λ b. alone members >>= λ _. Ok (record { offset = p.at; kind = kind.Binding b })
-
--- keywords of statements that are not known yet
-abbrev pub is_later_keyword : List ℕ → Bool
-is_later_keyword word =
-    bytes_eq word (codes "pool") || bytes_eq word (codes "default") || bytes_eq word (codes "include") || bytes_eq word (codes "subninja")
 
 -- a statement, by the word that it begins with
 abbrev pub statement_of : Place → List Member → Result Statement ParseFault
@@ -116,7 +207,10 @@ statement_of p members =
     let behind = past_gap (past (length word) (past_gap p)) in
     if bytes_eq word (codes "rule") then rule_of p.at behind members
     else if bytes_eq word (codes "build") then build_of p.at behind members
-    else if is_later_keyword word then Err (fault.ExpectedName p.at)
+    else if bytes_eq word (codes "pool") then pool_of p.at behind members
+    else if bytes_eq word (codes "default") then default_of p.at behind members
+    else if bytes_eq word (codes "include") then include_of p.at behind members
+    else if bytes_eq word (codes "subninja") then subninja_of p.at behind members
     else binding_of p members
 
 abbrev pub statement_in : Block → Result Statement ParseFault

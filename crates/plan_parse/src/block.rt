@@ -1,9 +1,8 @@
 //! Blocks: a line, and the indented lines below it.
 
-ghost use Rattle.std.specs.Prelude.{◌≡◌, ◌==◌, ◌+◌, ◌<◌, ◌≤◌, ◌^◌, ◌||◌, List, [], length, codes};
+ghost use Rattle.std.specs.Prelude.{◌≡◌, ◌==◌, ◌+◌, ◌<◌, ◌≤◌, ◌^◌, ◌||◌, List, [], length};
 ghost use Rattle.std.specs.List.{prefix_len, position_or_len, list_any};
-ghost use Rattle.std.specs.Str.{bytes_eq};
-ghost use Rattle.plan_text.specs.Outcome.{Meets, seen_by};
+ghost use Rattle.plan_text.specs.Outcome.{Meets};
 ghost use Rattle.plan_parse.specs.Blocks as blocks;
 ghost use Rattle.plan_parse.specs.Statements as statements;
 ghost use Rattle.plan_parse.specs.Views.{place_of};
@@ -11,11 +10,10 @@ ghost use Rattle.plan_parse.specs.Members.{member_of, members_of, told_seen};
 
 use crate::cursor::Cursor;
 use crate::fault::ParseFault;
-use crate::reading::{
-    begins, bound_at, inputs_at, line_end_at, name_at, name_of, outputs_at, past, past_gap, refusal,
-};
-use crate::statement::{Binding, Build, Rule, Statement, StatementKind};
-use plan_text::{Items, TextFault, indent_len};
+use crate::owner::Owner;
+use crate::reading::{begins, bound_at, name_at, name_of, past, past_gap, refusal};
+use crate::statement::Binding;
+use plan_text::{TextFault, indent_len};
 use std::alloc::Global;
 
 /// A line of a block: what it says, past its indentation, or the fault of a comment.
@@ -115,16 +113,6 @@ fn first_word(p: Cursor<'_>) -> &[u8]
     name_of(past_gap(past(p, blanks_len(p.bytes))))
 }
 
-/// Whether a line binds `command`, well or not.
-fn binds_command(member: Member<'_>) -> bool
-    ensures { result ≡ statements.is_named (codes "command") (member_of member.entry) }
-{
-    match member {
-        Member::Says(p) => first_word(p) == b"command".as_slice(),
-        Member::Faulty(_) => false,
-    }
-}
-
 /// A line of a block as a binding.
 fn member_at(alloc: Global, member: Member<'_>) -> Result<Binding, ParseFault>
     ensures { Meets ParseFault.Memory (λ b. b) result (statements.member_at (member_of member.entry)) }
@@ -136,161 +124,88 @@ fn member_at(alloc: Global, member: Member<'_>) -> Result<Binding, ParseFault>
 }
 
 /// The lines of a block as bindings.
-fn bindings_at(alloc: Global, members: &[Member<'_>]) -> Result<Vec<Binding>, ParseFault>
+pub fn bindings_at(alloc: Global, members: &[Member<'_>]) -> Result<Vec<Binding>, ParseFault>
     ensures { Meets ParseFault.Memory (λ v. v.items) result (statements.each statements.member_at (members_of members.now)) }
 {
-    let mut found = Vec::new(alloc);
+    let mut found = Vec::with_capacity(alloc, members.len())?;
     for member in members {
         found.push(member_at(alloc, *member)?)?;
     }
     Ok(found)
 }
 
-/// What a rule's line binds, where `commanded` says whether a line above it binds `command`.
-fn rule_bound_at(alloc: Global, p: Cursor<'_>, commanded: bool) -> Result<Binding, ParseFault>
-    ensures { (above : List blocks.Member) → commanded ≡ list_any (statements.is_named (codes "command")) above →
-        Meets ParseFault.Memory (λ b. b) result (statements.rule_member_at above (blocks.Says (place_of p.entry))) }
+/// Whether a line binds this name, well or not.
+fn binds(member: Member<'_>, name: &[u8]) -> bool
+    ensures { result ≡ statements.is_named name.now (member_of member.entry) }
+{
+    match member {
+        Member::Says(p) => first_word(p) == name,
+        Member::Faulty(_) => false,
+    }
+}
+
+/// What a line of a rule or a pool binds, where `is_bound` says whether a line above it binds the name that is wanted once.
+fn owned_bound_at(
+    alloc: Global,
+    owner: Owner,
+    p: Cursor<'_>,
+    is_bound: bool,
+) -> Result<Binding, ParseFault>
+    ensures { (above : List blocks.Member) → is_bound ≡ list_any (statements.is_named (statements.wanted owner)) above →
+        Meets ParseFault.Memory (λ b. b) result (statements.owned_at owner above (blocks.Says (place_of p.entry))) }
 {
     let start = past_gap(p);
     let (name, _) = name_at(start)?;
-    if name != b"command".as_slice() {
-        return Err(ParseFault::UnknownRuleVariable(start.at as u64));
+    if !owner.knows(name) {
+        return Err(owner.unknown(start.at as u64));
     }
-    if commanded {
-        return Err(ParseFault::NoCommand(start.at as u64));
+    if is_bound && name == owner.wanted() {
+        return Err(owner.not_once(start.at as u64));
     }
     bound_at(alloc, p)
 }
 
-/// A rule's line, where `commanded` says whether a line above it binds `command`.
-fn rule_member_at(alloc: Global, member: Member<'_>, commanded: bool) -> Result<Binding, ParseFault>
-    ensures { (above : List blocks.Member) → commanded ≡ list_any (statements.is_named (codes "command")) above →
-        Meets ParseFault.Memory (λ b. b) result (statements.rule_member_at above (member_of member.entry)) }
+/// A line of a rule or a pool, where `is_bound` says whether a line above it binds the name that is wanted once.
+fn owned_at(
+    alloc: Global,
+    owner: Owner,
+    member: Member<'_>,
+    is_bound: bool,
+) -> Result<Binding, ParseFault>
+    ensures { (above : List blocks.Member) → is_bound ≡ list_any (statements.is_named (statements.wanted owner)) above →
+        Meets ParseFault.Memory (λ b. b) result (statements.owned_at owner above (member_of member.entry)) }
 {
     match member {
-        Member::Says(p) => rule_bound_at(alloc, p, commanded),
+        Member::Says(p) => owned_bound_at(alloc, owner, p, is_bound),
         Member::Faulty(fault) => Err(ParseFault::Text(fault)),
     }
 }
 
-/// The lines of a rule in order.
-fn rule_members_at(alloc: Global, members: &[Member<'_>]) -> Result<Vec<Binding>, ParseFault>
-    ensures { Meets ParseFault.Memory (λ v. v.items) result (statements.rule_members_at [] (members_of members.now)) }
+/// The lines of a rule or a pool in order.
+pub fn all_owned_at(
+    alloc: Global,
+    owner: Owner,
+    members: &[Member<'_>],
+) -> Result<Vec<Binding>, ParseFault>
+    ensures { Meets ParseFault.Memory (λ v. v.items) result (statements.all_owned_at owner [] (members_of members.now)) }
 {
-    let mut found = Vec::new(alloc);
-    let mut commanded = false;
+    let mut found = Vec::with_capacity(alloc, members.len())?;
+    let mut is_bound = false;
     for member in members {
-        found.push(rule_member_at(alloc, *member, commanded)?)?;
-        commanded |= binds_command(*member);
+        found.push(owned_at(alloc, owner, *member, is_bound)?)?;
+        is_bound |= binds(*member, owner.wanted());
     }
     Ok(found)
 }
 
-/// A rule binds `command`; where it doesn't, that counts before all else of its block.
-fn with_command(at: usize, members: &[Member<'_>]) -> Result<(), ParseFault>
-    ensures { result ≡ statements.with_command at (members_of members.now) }
+/// A rule or a pool binds what is wanted of it; where it doesn't, that counts before all else of its block.
+pub fn with_wanted(owner: Owner, at: usize, members: &[Member<'_>]) -> Result<(), ParseFault>
+    ensures { result ≡ statements.with_wanted owner at (members_of members.now) }
 {
     for member in members {
-        if binds_command(*member) {
+        if binds(*member, owner.wanted()) {
             return Ok(());
         }
     }
-    Err(ParseFault::NoCommand(at as u64))
-}
-
-/// A name and the end of the line.
-fn named_line(p: Cursor<'_>) -> Result<&[u8], ParseFault>
-    ensures { seen_by (λ name. name.now) result ≡ statements.named_line (place_of p.entry) }
-{
-    let (name, rest) = name_at(p)?;
-    line_end_at(rest)?;
-    Ok(name)
-}
-
-/// `rule name`, from its name on, and the lines below it.
-fn rule_of(
-    alloc: Global,
-    at: usize,
-    p: Cursor<'_>,
-    members: &[Member<'_>],
-) -> Result<Statement, ParseFault>
-    ensures { Meets ParseFault.Memory (λ s. s) result (statements.rule_of at (place_of p.entry) (members_of members.now)) }
-{
-    with_command(at, members)?;
-    let name = named_line(p)?;
-    let bindings = Items::new(rule_members_at(alloc, members)?);
-    let name = Items::new(Vec::from_slice(alloc, name)?);
-    Ok(Statement {
-        offset: at as u64,
-        kind: StatementKind::Rule(Rule { name, bindings }),
-    })
-}
-
-/// `build outputs: rule inputs`, from its outputs on, and the lines below it.
-fn build_of(
-    alloc: Global,
-    at: usize,
-    p: Cursor<'_>,
-    members: &[Member<'_>],
-) -> Result<Statement, ParseFault>
-    ensures { Meets ParseFault.Memory (λ s. s) result (statements.build_of at (place_of p.entry) (members_of members.now)) }
-{
-    let (outputs, rest) = outputs_at(alloc, p)?;
-    let (rule, rest) = name_at(rest)?;
-    let inputs = inputs_at(alloc, rest)?;
-    let bindings = bindings_at(alloc, members)?;
-    let rule = Vec::from_slice(alloc, rule)?;
-    Ok(Statement {
-        offset: at as u64,
-        kind: StatementKind::Build(Build {
-            outputs: Items::new(outputs),
-            rule: Items::new(rule),
-            inputs: Items::new(inputs),
-            bindings: Items::new(bindings),
-        }),
-    })
-}
-
-/// `name = value`, and nothing below it.
-fn binding_of(alloc: Global, p: Cursor<'_>, members: &[Member<'_>]) -> Result<Statement, ParseFault>
-    ensures { Meets ParseFault.Memory (λ s. s) result (statements.binding_of (place_of p.entry) (members_of members.now)) }
-{
-    let binding = bound_at(alloc, p)?;
-    alone(members)?;
-    Ok(Statement {
-        offset: p.at as u64,
-        kind: StatementKind::Binding(binding),
-    })
-}
-
-/// Whether a word begins statements that are not known yet.
-fn is_later_keyword(word: &[u8]) -> bool
-    ensures { result ≡ statements.is_later_keyword word.now }
-{
-    word == b"pool".as_slice()
-        || word == b"default".as_slice()
-        || word == b"include".as_slice()
-        || word == b"subninja".as_slice()
-}
-
-/// A statement, by the word that it begins with, and the lines below it.
-pub fn statement_of(
-    alloc: Global,
-    p: Cursor<'_>,
-    members: &[Member<'_>],
-) -> Result<Statement, ParseFault>
-    ensures { Meets ParseFault.Memory (λ s. s) result (statements.statement_of (place_of p.entry) (members_of members.now)) }
-{
-    let start = past_gap(p);
-    let word = name_of(start);
-    let behind = past_gap(past(start, word.len()));
-    if word == b"rule".as_slice() {
-        rule_of(alloc, p.at, behind, members)
-    } else if word == b"build".as_slice() {
-        build_of(alloc, p.at, behind, members)
-    } else if is_later_keyword(word) {
-        Err(ParseFault::ExpectedName(p.at as u64))
-    } else {
-        binding_of(alloc, p, members)
-    }
+    Err(owner.not_once(at as u64))
 }

@@ -10,20 +10,24 @@ use std::alloc::{AllocError, AllocFailed};
 /// Why a text is no list of statements. An offset is that of the byte where the thing was expected or stands, counted from 0.
 #[derive(Clone, Copy, Debug, PartialEq, Eq)]
 pub enum ParseFault {
-    /// A statement, a rule or a variable without its name; also a keyword of a statement that is not known yet.
+    /// A statement, a rule, a pool or a variable without its name.
     ExpectedName(u64),
     /// No `=` behind the name of a variable.
     ExpectedEquals(u64),
     /// No `:` behind the outputs of a build line.
     ExpectedColon(u64),
-    /// No output on a build line, or a `|` in a list of paths.
+    /// No output on a build line, no target of `default`, or no file of `include` or `subninja`.
     ExpectedPath(u64),
-    /// An indented line below no rule and no build line.
+    /// An indented line below no rule, no pool and no build line.
     UnexpectedIndent(u64),
     /// A variable that a rule doesn't know.
     UnknownRuleVariable(u64),
     /// A rule without a `command`, or its second one.
     NoCommand(u64),
+    /// A pool without a `depth`, its second one, or another variable of a pool.
+    BadPool(u64),
+    /// A validation: `|@` behind the inputs.
+    Validation(u64),
     /// More on a line than belongs there.
     ExpectedLineEnd(u64),
     /// Memory ran out.
@@ -45,6 +49,8 @@ impl ParseFault {
             ParseFault::UnexpectedIndent(_) => 14,
             ParseFault::UnknownRuleVariable(_) => 15,
             ParseFault::NoCommand(_) => 16,
+            ParseFault::BadPool(_) => 17,
+            ParseFault::Validation(_) => 18,
             ParseFault::ExpectedLineEnd(_) => 19,
             ParseFault::Memory => 22,
             ParseFault::Text(fault) => fault.number(),
@@ -63,6 +69,8 @@ impl ParseFault {
             | ParseFault::UnexpectedIndent(at)
             | ParseFault::UnknownRuleVariable(at)
             | ParseFault::NoCommand(at)
+            | ParseFault::BadPool(at)
+            | ParseFault::Validation(at)
             | ParseFault::ExpectedLineEnd(at) => Some(*at),
             ParseFault::Memory => None,
             ParseFault::Text(fault) => fault.offset(),

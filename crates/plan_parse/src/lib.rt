@@ -1,4 +1,4 @@
-//! The statements of a manifest: rules, build lines and bindings, each with the offset of its first byte.
+//! The statements of a manifest: rules, build lines, pools, defaults, other files and bindings, each with the offset of its first byte.
 //!
 //! `parse` goes over the logical lines once. A line without an indentation begins a block, and the indented lines below it belong to it. The
 //! answer is the statements of all blocks, or the first fault of the first block that has one.
@@ -7,13 +7,15 @@
 mod block;
 mod cursor;
 mod fault;
+mod owner;
 mod parser;
 mod reading;
 mod statement;
+mod statement_reader;
 
 pub use fault::ParseFault;
 pub use parser::parse;
-pub use statement::{Binding, Build, Rule, Statement, StatementKind};
+pub use statement::{Binding, Build, Pool, Rule, Statement, StatementKind};
 
 #[cfg(test)]
 mod tests;

@@ -6,10 +6,11 @@ ghost use Rattle.plan_parse.specs.Statements.{statements_of};
 ghost use Rattle.plan_parse.specs.Members.{told_by};
 ghost use Rattle.plan_parse.specs.Progress.{TakesLine, ReadsLine, state_of, ended};
 
-use crate::block::{Member, Told, alone, statement_of, told_in};
+use crate::block::{Member, Told, alone, told_in};
 use crate::cursor::Cursor;
 use crate::fault::ParseFault;
 use crate::statement::Statement;
+use crate::statement_reader::statement_of;
 use plan_text::{TextFault, logical_len, newline_len};
 use std::alloc::Global;
 

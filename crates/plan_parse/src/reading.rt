@@ -1,6 +1,6 @@
 //! Reading a line from left to right.
 
-ghost use Rattle.std.specs.Prelude.{◌≡◌, ◌≤◌, length};
+ghost use Rattle.std.specs.Prelude.{◌≡◌, ◌≤◌, [], ◌∷◌, ◌++◌, length, OnOk};
 ghost use Rattle.plan_text.specs.Bytes.{begins_with};
 ghost use Rattle.plan_text.specs.Outcome.{Meets, seen_by};
 ghost use Rattle.plan_parse.specs.Reading as syntax;
@@ -13,7 +13,10 @@ use crate::statement::Binding;
 use plan_text::{
     Items, Mode, Piece, TextFault, Unit, escape_len, gap_len, name_len, pieces_at, run_len,
 };
-use std::alloc::Global;
+use std::alloc::{AllocError, Global};
+
+/// The paths of a list, each as its pieces.
+type Paths = Vec<Items<Piece>>;
 
 /// What is left past so many bytes.
 pub fn past(p: Cursor<'_>, n: usize) -> Cursor<'_>
@@ -111,12 +114,20 @@ fn of_text(fault: TextFault) -> ParseFault
     }
 }
 
+/// The same pieces, without spare room where memory allows it.
+fn fitted(mut pieces: Vec<Piece>) -> Items<Piece>
+    ensures { result ≡ pieces.items }
+{
+    pieces.shrink_to_fit();
+    Items::new(pieces)
+}
+
 /// The rest of the line, as a value.
 fn value_at(alloc: Global, p: Cursor<'_>) -> Result<Items<Piece>, ParseFault>
     ensures { Meets ParseFault.Memory (λ v. v) result (syntax.value_at (place_of p.entry)) }
 {
     match pieces_at(alloc, p.bytes, p.at, Mode::Value) {
-        Ok(value) => Ok(Items::new(value)),
+        Ok(value) => Ok(fitted(value)),
         Err(fault) => Err(of_text(fault)),
     }
 }
@@ -161,13 +172,24 @@ fn path_at(alloc: Global, p: Cursor<'_>, len: usize) -> Result<Items<Piece>, Par
     ensures { Meets ParseFault.Memory (λ v. v) result (syntax.path_at (place_of p.entry) len) }
 {
     match pieces_at(alloc, &p.bytes[..len], p.at, Mode::Path) {
-        Ok(path) => Ok(Items::new(path)),
+        Ok(path) => Ok(fitted(path)),
         Err(fault) => Err(of_text(fault)),
     }
 }
 
+/// Appends a path. The first takes no more room than it needs, since most lists have one.
+fn add_path(paths: &mut Paths, path: Items<Piece>) -> Result<(), AllocError>
+    ensures { OnOk result (paths.new.items ≡ paths.old.items ++ path ∷ []) }
+{
+    if paths.is_empty() {
+        paths.reserve_exact(1)?;
+    }
+    paths.push(path)?;
+    Ok(())
+}
+
 /// The paths of a list, and the place of the first byte that belongs to none.
-fn paths_at(alloc: Global, p: Cursor<'_>) -> Result<(Vec<Items<Piece>>, Cursor<'_>), ParseFault>
+fn paths_at(alloc: Global, p: Cursor<'_>) -> Result<(Paths, Cursor<'_>), ParseFault>
     ensures { Meets ParseFault.Memory (λ x. (x.0.items, place_of x.1)) result (syntax.paths_at (place_of p.entry)) }
 {
     let mut paths = Vec::new(alloc);
@@ -177,43 +199,116 @@ fn paths_at(alloc: Global, p: Cursor<'_>) -> Result<(Vec<Items<Piece>>, Cursor<'
         if len == 0 {
             return Ok((paths, rest));
         }
-        paths.push(path_at(alloc, rest, len)?)?;
+        add_path(&mut paths, path_at(alloc, rest, len)?)?;
         rest = past_gap(past(rest, len));
     }
 }
 
-/// No `|` may stand here.
-fn no_bar(p: Cursor<'_>) -> Result<(), ParseFault>
-    ensures { result ≡ statements.no_bar (place_of p.entry) }
+/// `|`, and not `||` or `|@`.
+fn is_bar(p: Cursor<'_>) -> bool
+    ensures { result ≡ statements.is_bar (place_of p.entry) }
 {
-    if begins(p.bytes, b'|') {
-        return Err(ParseFault::ExpectedPath(p.at as u64));
+    begins(p.bytes, b'|') && !matches!(p.bytes, [_, b'|' | b'@', ..])
+}
+
+/// `||`.
+fn is_two_bars(p: Cursor<'_>) -> bool
+    ensures { result ≡ statements.is_two_bars (place_of p.entry) }
+{
+    matches!(p.bytes, [b'|', b'|', ..])
+}
+
+/// `|@`.
+fn is_validation(p: Cursor<'_>) -> bool
+    ensures { result ≡ statements.is_validation (place_of p.entry) }
+{
+    matches!(p.bytes, [b'|', b'@', ..])
+}
+
+/// The list behind `|`, empty where none stands here.
+fn implicit_at(alloc: Global, p: Cursor<'_>) -> Result<(Paths, Cursor<'_>), ParseFault>
+    ensures { Meets ParseFault.Memory (λ x. (x.0.items, place_of x.1)) result (statements.implicit_at (place_of p.entry)) }
+{
+    if is_bar(p) {
+        paths_at(alloc, past(p, 1))
+    } else {
+        Ok((Vec::new(alloc), p))
+    }
+}
+
+/// The list behind `||`, empty where none stands here.
+fn order_only_at(alloc: Global, p: Cursor<'_>) -> Result<(Paths, Cursor<'_>), ParseFault>
+    ensures { Meets ParseFault.Memory (λ x. (x.0.items, place_of x.1)) result (statements.order_only_at (place_of p.entry)) }
+{
+    if is_two_bars(p) {
+        paths_at(alloc, past(p, 2))
+    } else {
+        Ok((Vec::new(alloc), p))
+    }
+}
+
+/// No `|@` may stand here.
+fn no_validation(p: Cursor<'_>) -> Result<(), ParseFault>
+    ensures { result ≡ statements.no_validation (place_of p.entry) }
+{
+    if is_validation(p) {
+        return Err(ParseFault::Validation(p.at as u64));
     }
     Ok(())
 }
 
-/// `outputs:`, and the place behind it.
-pub fn outputs_at(
-    alloc: Global,
-    p: Cursor<'_>,
-) -> Result<(Vec<Items<Piece>>, Cursor<'_>), ParseFault>
-    ensures { Meets ParseFault.Memory (λ x. (x.0.items, place_of x.1)) result (statements.outputs_at (place_of p.entry)) }
+/// One path or more in both lists.
+fn some_path(p: Cursor<'_>, paths: &[Items<Piece>], more: &[Items<Piece>]) -> Result<(), ParseFault>
+    ensures { result ≡ statements.some_path (place_of p.entry) paths.now more.now }
 {
-    let (outputs, rest) = paths_at(alloc, p)?;
-    no_bar(rest)?;
-    if outputs.is_empty() {
-        return Err(refusal(rest, ParseFault::ExpectedPath(rest.at as u64)));
+    if paths.is_empty() && more.is_empty() {
+        return Err(refusal(p, ParseFault::ExpectedPath(p.at as u64)));
     }
-    let behind = byte_at(rest, b':', ParseFault::ExpectedColon(rest.at as u64))?;
-    Ok((outputs, behind))
+    Ok(())
 }
 
-/// `inputs` and the end of the line.
-pub fn inputs_at(alloc: Global, p: Cursor<'_>) -> Result<Vec<Items<Piece>>, ParseFault>
-    ensures { Meets ParseFault.Memory (λ v. v.items) result (statements.inputs_at (place_of p.entry)) }
+/// `outputs | implicit_outputs:`, and the place behind it.
+pub fn outputs_at(alloc: Global, p: Cursor<'_>) -> Result<(Paths, Paths, Cursor<'_>), ParseFault>
+    ensures { Meets ParseFault.Memory (λ x. (x.0.items, x.1.items, place_of x.2)) result (statements.outputs_at (place_of p.entry)) }
+{
+    let (outputs, rest) = paths_at(alloc, p)?;
+    let (implicit, rest) = implicit_at(alloc, rest)?;
+    some_path(rest, &outputs, &implicit)?;
+    let behind = byte_at(rest, b':', ParseFault::ExpectedColon(rest.at as u64))?;
+    Ok((outputs, implicit, behind))
+}
+
+/// `inputs | implicit_inputs || order_only_inputs` and the end of the line.
+pub fn inputs_at(alloc: Global, p: Cursor<'_>) -> Result<(Paths, Paths, Paths), ParseFault>
+    ensures { Meets ParseFault.Memory (λ x. (x.0.items, x.1.items, x.2.items)) result (statements.inputs_at (place_of p.entry)) }
 {
     let (inputs, rest) = paths_at(alloc, p)?;
-    no_bar(rest)?;
+    let (implicit, rest) = implicit_at(alloc, rest)?;
+    let (order_only, rest) = order_only_at(alloc, rest)?;
+    no_validation(rest)?;
     line_end_at(rest)?;
-    Ok(inputs)
+    Ok((inputs, implicit, order_only))
+}
+
+/// One path or more, and the end of the line.
+pub fn targets_at(alloc: Global, p: Cursor<'_>) -> Result<Paths, ParseFault>
+    ensures { Meets ParseFault.Memory (λ v. v.items) result (statements.targets_at (place_of p.entry)) }
+{
+    let (targets, rest) = paths_at(alloc, p)?;
+    some_path(rest, &targets, &[])?;
+    line_end_at(rest)?;
+    Ok(targets)
+}
+
+/// One path, and the end of the line.
+pub fn file_at(alloc: Global, p: Cursor<'_>) -> Result<Items<Piece>, ParseFault>
+    ensures { Meets ParseFault.Memory (λ v. v) result (statements.file_at (place_of p.entry)) }
+{
+    let len = path_len(p.bytes);
+    if len == 0 {
+        return Err(refusal(p, ParseFault::ExpectedPath(p.at as u64)));
+    }
+    let path = path_at(alloc, p, len)?;
+    line_end_at(past_gap(past(p, len)))?;
+    Ok(path)
 }

@@ -20,15 +20,30 @@ pub struct Rule {
     pub bindings: Items<Binding>,
 }
 
+/// A pool.
+#[derive(Debug, Drop)]
+pub struct Pool {
+    /// The name by which edges ask for it.
+    pub name: Items<u8>,
+    /// The pieces of its depth.
+    pub depth: Items<Piece>,
+}
+
 /// A build line and the lines below it.
 #[derive(Debug, Drop)]
 pub struct Build {
-    /// The pieces of each output, at least one.
+    /// The pieces of each explicit output.
     pub outputs: Items<Items<Piece>>,
+    /// Those of each implicit output, behind `|`; there is at least one output of either sort.
+    pub implicit_outputs: Items<Items<Piece>>,
     /// The name of its rule.
     pub rule: Items<u8>,
-    /// The pieces of each input.
+    /// The pieces of each explicit input.
     pub inputs: Items<Items<Piece>>,
+    /// Those of each implicit input, behind `|`.
+    pub implicit_inputs: Items<Items<Piece>>,
+    /// Those of each order-only input, behind `||`.
+    pub order_only_inputs: Items<Items<Piece>>,
     /// Its own variables in order.
     pub bindings: Items<Binding>,
 }
@@ -40,6 +55,14 @@ pub enum StatementKind {
     Rule(Rule),
     /// `build outputs: rule inputs` and its block.
     Build(Build),
+    /// `pool name` and its block.
+    Pool(Pool),
+    /// `default targets`: the pieces of each target, at least one.
+    Default(Items<Items<Piece>>),
+    /// `include path`: the pieces of the path.
+    Include(Items<Piece>),
+    /// `subninja path`: the pieces of the path.
+    Subninja(Items<Piece>),
     /// `name = value`.
     Binding(Binding),
 }

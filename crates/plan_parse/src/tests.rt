@@ -1,13 +1,12 @@
-//! Manifests from outside: the manual's example, and refusals of each sort.
+//! Manifests from outside: the examples of the manual and of ninja's own tests, and refusals of each sort.
 
 use super::*;
 use plan_text::{Items, Piece, TextFault};
 use std::alloc::{AllocError, Global};
 use std::test::Fail;
 
-/// The pieces of a text, each reference as `<name>`.
-fn spelled(alloc: Global, pieces: &Items<Piece>) -> Result<Vec<u8>, AllocError> {
-    let mut text = Vec::new(alloc);
+/// Appends the pieces of a text, each reference as `<name>`.
+fn spell(text: &mut Vec<u8>, pieces: &Items<Piece>) -> Result<(), AllocError> {
     for piece in pieces.as_slice() {
         match piece {
             Piece::Literal(bytes) => text.extend_from_slice(bytes.as_slice())?,
@@ -18,17 +17,48 @@ fn spelled(alloc: Global, pieces: &Items<Piece>) -> Result<Vec<u8>, AllocError> 
             }
         }
     }
-    Ok(text)
+    Ok(())
 }
 
 /// A text, and whether its pieces spell it.
 fn spells(alloc: Global, pieces: &Items<Piece>, want: &[u8]) -> Result<bool, AllocError> {
-    let text = spelled(alloc, pieces)?;
+    let mut text = Vec::new(alloc);
+    spell(&mut text, pieces)?;
     Ok(text.as_slice() == want)
 }
 
+/// A text, and whether the paths of a list spell it, each with a `;` behind it.
+fn lists(alloc: Global, paths: &Items<Items<Piece>>, want: &[u8]) -> Result<bool, AllocError> {
+    let mut text = Vec::new(alloc);
+    for path in paths.as_slice() {
+        spell(&mut text, path)?;
+        text.push(b';')?;
+    }
+    Ok(text.as_slice() == want)
+}
+
+/// A text, and whether bindings spell it, each as `name=value;`.
+fn binds(alloc: Global, bindings: &Items<Binding>, want: &[u8]) -> Result<bool, AllocError> {
+    let mut text = Vec::new(alloc);
+    for binding in bindings.as_slice() {
+        text.extend_from_slice(binding.name.as_slice())?;
+        text.push(b'=')?;
+        spell(&mut text, &binding.value)?;
+        text.push(b';')?;
+    }
+    Ok(text.as_slice() == want)
+}
+
+/// The fault of a text that is refused.
+fn refused(alloc: Global, text: &[u8]) -> Option<ParseFault> {
+    match parse(alloc, text) {
+        Ok(_) => None,
+        Err(fault) => Some(fault),
+    }
+}
+
 #[test]
-fn demo(rt: HostRuntime) -> Result<(), Fail> {
+fn demo_rule(rt: HostRuntime) -> Result<(), Fail> {
     let text =
         b"rule demo\n  command = echo \"this is a demo of $foo\"\nbuild out: demo\n  foo = bar\n";
     let found = parse(rt.alloc(), text.as_slice())?;
@@ -37,33 +67,27 @@ fn demo(rt: HostRuntime) -> Result<(), Fail> {
     assert_eq!(rt; found[1].offset, 52);
     match &found[0].kind {
         StatementKind::Rule(rule) => {
-            let bindings = rule.bindings.as_slice();
+            let want = b"command=echo \"this is a demo of <foo>\";";
             assert_eq!(rt; rule.name.as_slice(), b"demo".as_slice());
-            assert_eq!(rt; bindings.len(), 1);
-            assert_eq!(rt; bindings[0].name.as_slice(), b"command".as_slice());
-            assert!(rt;
-                spells(
-                    rt.alloc(),
-                    &bindings[0].value,
-                    b"echo \"this is a demo of <foo>\""
-                )?
-            );
+            assert!(rt; binds(rt.alloc(), &rule.bindings, want)?);
         }
         _ => assert!(rt; false, "a rule comes first"),
     }
-    match &found[1].kind {
+    Ok(())
+}
+
+#[test]
+fn demo_build(rt: HostRuntime) -> Result<(), Fail> {
+    let found = parse(rt.alloc(), b"build out: demo\n  foo = bar\n")?;
+    assert_eq!(rt; found.len(), 1);
+    match &found[0].kind {
         StatementKind::Build(build) => {
-            let bindings = build.bindings.as_slice();
-            let outputs = build.outputs.as_slice();
-            assert_eq!(rt; outputs.len(), 1);
-            assert!(rt; spells(rt.alloc(), &outputs[0], b"out")?);
+            assert!(rt; lists(rt.alloc(), &build.outputs, b"out;")?);
             assert_eq!(rt; build.rule.as_slice(), b"demo".as_slice());
-            assert_eq!(rt; build.inputs.as_slice().len(), 0);
-            assert_eq!(rt; bindings.len(), 1);
-            assert_eq!(rt; bindings[0].name.as_slice(), b"foo".as_slice());
-            assert!(rt; spells(rt.alloc(), &bindings[0].value, b"bar")?);
+            assert!(rt; lists(rt.alloc(), &build.inputs, b"")?);
+            assert!(rt; binds(rt.alloc(), &build.bindings, b"foo=bar;")?);
         }
-        _ => assert!(rt; false, "a build line comes next"),
+        _ => assert!(rt; false, "a build line"),
     }
     Ok(())
 }
@@ -76,16 +100,10 @@ fn quoted_paths(rt: HostRuntime) -> Result<(), Fail> {
     assert_eq!(rt; found.len(), 2);
     match (&found[0].kind, &found[1].kind) {
         (StatementKind::Binding(binding), StatementKind::Build(build)) => {
-            let outputs = build.outputs.as_slice();
-            let inputs = build.inputs.as_slice();
             assert_eq!(rt; binding.name.as_slice(), b"spaced".as_slice());
             assert!(rt; spells(rt.alloc(), &binding.value, b"foo bar")?);
-            assert_eq!(rt; outputs.len(), 2);
-            assert!(rt; spells(rt.alloc(), &outputs[0], b"<spaced>/baz")?);
-            assert!(rt; spells(rt.alloc(), &outputs[1], b"other file")?);
-            assert_eq!(rt; inputs.len(), 2);
-            assert!(rt; spells(rt.alloc(), &inputs[0], b"in:1")?);
-            assert!(rt; spells(rt.alloc(), &inputs[1], b"in2")?);
+            assert!(rt; lists(rt.alloc(), &build.outputs, b"<spaced>/baz;other file;")?);
+            assert!(rt; lists(rt.alloc(), &build.inputs, b"in:1;in2;")?);
         }
         _ => assert!(rt; false, "a binding and a build line"),
     }
@@ -93,12 +111,112 @@ fn quoted_paths(rt: HostRuntime) -> Result<(), Fail> {
 }
 
 #[test]
-fn refusals(rt: HostRuntime) {
+fn five_lists(rt: HostRuntime) -> Result<(), Fail> {
+    let text = b"build foo.o $dir/foo.d | foo.su: cc foo.c | foo.h bar.h || generated\n";
+    let found = parse(rt.alloc(), text.as_slice())?;
+    assert_eq!(rt; found.len(), 1);
+    match &found[0].kind {
+        StatementKind::Build(build) => {
+            assert!(rt; lists(rt.alloc(), &build.outputs, b"foo.o;<dir>/foo.d;")?);
+            assert!(rt; lists(rt.alloc(), &build.implicit_outputs, b"foo.su;")?);
+            assert_eq!(rt; build.rule.as_slice(), b"cc".as_slice());
+            assert!(rt; lists(rt.alloc(), &build.inputs, b"foo.c;")?);
+            assert!(rt; lists(rt.alloc(), &build.implicit_inputs, b"foo.h;bar.h;")?);
+            assert!(rt; lists(rt.alloc(), &build.order_only_inputs, b"generated;")?);
+        }
+        _ => assert!(rt; false, "a build line"),
+    }
+    Ok(())
+}
+
+#[test]
+fn pool(rt: HostRuntime) -> Result<(), Fail> {
+    let found = parse(
+        rt.alloc(),
+        b"# one at a time\npool link_pool\n  depth = 4\n",
+    )?;
+    assert_eq!(rt; found.len(), 1);
+    assert_eq!(rt; found[0].offset, 16);
+    match &found[0].kind {
+        StatementKind::Pool(pool) => {
+            assert_eq!(rt; pool.name.as_slice(), b"link_pool".as_slice());
+            assert!(rt; spells(rt.alloc(), &pool.depth, b"4")?);
+        }
+        _ => assert!(rt; false, "a pool"),
+    }
+    Ok(())
+}
+
+#[test]
+fn defaults(rt: HostRuntime) -> Result<(), Fail> {
+    let found = parse(rt.alloc(), b"third = c\ndefault a b\ndefault $third\n")?;
+    assert_eq!(rt; found.len(), 3);
+    match (&found[1].kind, &found[2].kind) {
+        (StatementKind::Default(two), StatementKind::Default(third)) => {
+            assert!(rt; lists(rt.alloc(), two, b"a;b;")?);
+            assert!(rt; lists(rt.alloc(), third, b"<third>;")?);
+        }
+        _ => assert!(rt; false, "two defaults"),
+    }
+    Ok(())
+}
+
+#[test]
+fn other_files(rt: HostRuntime) -> Result<(), Fail> {
+    let found = parse(
+        rt.alloc(),
+        b"include include.ninja\nsubninja $dir/test$ 1.ninja\n",
+    )?;
+    assert_eq!(rt; found.len(), 2);
+    match (&found[0].kind, &found[1].kind) {
+        (StatementKind::Include(included), StatementKind::Subninja(scoped)) => {
+            assert!(rt; spells(rt.alloc(), included, b"include.ninja")?);
+            assert!(rt; spells(rt.alloc(), scoped, b"<dir>/test 1.ninja")?);
+        }
+        _ => assert!(rt; false, "an include and a subninja"),
+    }
+    Ok(())
+}
+
+#[test]
+fn rule_variables(rt: HostRuntime) -> Result<(), Fail> {
+    let text =
+        b"rule cat\n  command = a\n  depfile = b\n  deps = c\n  msvc_deps_prefix = d\n  description = e\n  dyndep = f\n  generator = g\n  in = h\n  in_newline = i\n  out = j\n  restat = k\n  rspfile = l\n  rspfile_content = m\n  pool = n\n";
+    let want =
+        b"command=a;depfile=b;deps=c;msvc_deps_prefix=d;description=e;dyndep=f;generator=g;in=h;in_newline=i;out=j;restat=k;rspfile=l;rspfile_content=m;pool=n;";
+    let found = parse(rt.alloc(), text.as_slice())?;
+    assert_eq!(rt; found.len(), 1);
+    match &found[0].kind {
+        StatementKind::Rule(rule) => assert!(rt; binds(rt.alloc(), &rule.bindings, want)?),
+        _ => assert!(rt; false, "a rule"),
+    }
+    Ok(())
+}
+
+#[test]
+fn refused_lines(rt: HostRuntime) {
     for (text, fault) in [
+        (b"build a b".as_slice(), ParseFault::ExpectedColon(9)),
         (
-            b"x = a$!".as_slice(),
-            ParseFault::Text(TextFault::BadEscape(5)),
+            b"build a | b || c: r".as_slice(),
+            ParseFault::ExpectedColon(12),
         ),
+        (b"build | : r".as_slice(), ParseFault::ExpectedPath(8)),
+        (b"build a: r b |@ c".as_slice(), ParseFault::Validation(13)),
+        (b"default".as_slice(), ParseFault::ExpectedPath(7)),
+        (b"default :a".as_slice(), ParseFault::ExpectedPath(8)),
+        (b"include\n".as_slice(), ParseFault::ExpectedPath(7)),
+        (b"subninja a b".as_slice(), ParseFault::ExpectedLineEnd(11)),
+        (b"x y".as_slice(), ParseFault::ExpectedEquals(2)),
+        (b"= y".as_slice(), ParseFault::ExpectedName(0)),
+    ] {
+        assert_eq!(rt; refused(rt.alloc(), text), Some(fault));
+    }
+}
+
+#[test]
+fn refused_blocks(rt: HostRuntime) {
+    for (text, fault) in [
         (b"x = 1\nrule r\n".as_slice(), ParseFault::NoCommand(6)),
         (
             b"rule r\n  command = a\n  command = b".as_slice(),
@@ -109,29 +227,39 @@ fn refusals(rt: HostRuntime) {
             ParseFault::UnknownRuleVariable(9),
         ),
         (
-            b"x = 1\n  y = 2".as_slice(),
-            ParseFault::UnexpectedIndent(8),
-        ),
-        (
-            b"rule r\n\tcommand = a".as_slice(),
-            ParseFault::Text(TextFault::TabBlank(7)),
-        ),
-        (b"build a b".as_slice(), ParseFault::ExpectedColon(9)),
-        (
-            b"build a: r b || c".as_slice(),
-            ParseFault::ExpectedPath(13),
-        ),
-        (b"x y".as_slice(), ParseFault::ExpectedEquals(2)),
-        (b"default x".as_slice(), ParseFault::ExpectedName(0)),
-        (
             b"rule a b\n  command = a".as_slice(),
             ParseFault::ExpectedLineEnd(7),
         ),
+        (
+            b"x = 1\n  y = 2".as_slice(),
+            ParseFault::UnexpectedIndent(8),
+        ),
+        (b"pool foo\n".as_slice(), ParseFault::BadPool(0)),
+        (
+            b"pool foo\n  bar = 1\n  depth = 1".as_slice(),
+            ParseFault::BadPool(11),
+        ),
+        (
+            b"pool foo\n  depth = 4\n  depth = 4".as_slice(),
+            ParseFault::BadPool(23),
+        ),
+        (
+            b"default a\n  b = 1".as_slice(),
+            ParseFault::UnexpectedIndent(12),
+        ),
     ] {
-        match parse(rt.alloc(), text) {
-            Ok(_) => assert!(rt; false, "a text was taken"),
-            Err(found) => assert_eq!(rt; found, fault),
-        }
+        assert_eq!(rt; refused(rt.alloc(), text), Some(fault));
+    }
+}
+
+#[test]
+fn refused_bytes(rt: HostRuntime) {
+    for (text, fault) in [
+        (b"x = a$!".as_slice(), TextFault::BadEscape(5)),
+        (b"rule r\n\tcommand = a".as_slice(), TextFault::TabBlank(7)),
+        (b"include a\0".as_slice(), TextFault::NulByte(9)),
+    ] {
+        assert_eq!(rt; refused(rt.alloc(), text), Some(ParseFault::Text(fault)));
     }
 }
 
@@ -140,6 +268,8 @@ fn fault_numbers(rt: HostRuntime) {
     for (fault, number) in [
         (ParseFault::ExpectedName(9), 10),
         (ParseFault::UnknownRuleVariable(9), 15),
+        (ParseFault::BadPool(9), 17),
+        (ParseFault::Validation(9), 18),
         (ParseFault::ExpectedLineEnd(9), 19),
         (ParseFault::Memory, 22),
         (ParseFault::Text(TextFault::BadEscape(9)), 3),

@@ -1,144 +1,237 @@
--- One more statement evaluated.
-use Rattle.std.proofs.Common.{◌≡◌, ℕ, ◌+◌, ◌<◌, Bool, true, false, ◌||◌, cond, List, [], ◌∷◌, ◌++◌, length, Option, Some, None, Result, Ok, Err, refl, ap, sym, ◌∙◌, take, drop, get_or, bytes_eq, option_map, append-nil, append_assoc, subst}
-use Rattle.std.specs.Prelude.{codes, is_some, OnOk}
-use Rattle.std.specs.List.{list_any}
+-- One more line evaluated.
+use Rattle.std.proofs.Common.{◌≡◌, ◌≢◌, ℕ, ◌+◌, ◌<◌, Bool, true, false, ◌||◌, cond, eqb, List, [], ◌∷◌, ◌++◌, length, Option, Some, None, Result, Ok, Err, refl, ap, sym, ◌∙◌, take, drop, get_or, bytes_eq, option_map, append-nil, append_assoc, arith, length-append}
+use Rattle.std.specs.Prelude.{codes, OnOk, flat_map}
 use Rattle.std.proofs.lemmas.List.{take_more}
 use Rattle.std.proofs.lemmas.List.Concat.{flat_map-append}
+use Rattle.std.proofs.lemmas.List.Folds.{list_any-append}
 use Rattle.plan_text.specs.declared.piece_reader.Piece.{Piece}
 use Rattle.plan_parse.specs.declared.statement.Build.{Build}
-use Rattle.plan_parse.specs.declared.statement.Rule.{Rule}
-use Rattle.plan_parse.specs.declared.statement.Statement.{Statement}
 use Rattle.plan_parse.specs.declared.statement.StatementKind.{StatementKind}
-use Rattle.plan_parse.specs.declared.statement.StatementKind.TheVariants as kind
 use Rattle.plan_scope.specs.declared.fault.Cause.{Cause}
-use Rattle.plan_scope.specs.declared.fault.Cause.TheVariants.{DuplicateRule}
 use Rattle.plan_scope.specs.declared.fault.LineFault.{LineFault}
 use Rattle.plan_scope.specs.declared.fault.LineFault.TheVariants.{Refused, Memory}
-use Rattle.plan_scope.specs.declared.fault.StatementFault.{StatementFault}
+use Rattle.plan_scope.specs.declared.fault.ScopeFault.{ScopeFault}
+use Rattle.plan_scope.specs.declared.fault.ScopeFault.TheVariants as scope
 use Rattle.plan_scope.specs.declared.manifest.Edge.{Edge}
-use Rattle.plan_scope.specs.Scopes.{Text, Name, Bindings, last_of, or_else, bound_in, bound_by}
-use Rattle.plan_scope.specs.Edges.{late, rules_in, rules_of, edges_by, edges_in, in_front, edges_past, or_refused, cause_in, use_of, edge_of}
-use Rattle.plan_scope.specs.Frames.{kept, Agrees}
-use Rattle.plan_scope.specs.Steps.{Declares, GivesMore, GivesItems, alone, built_by, located_by, with_front}
-use Rattle.plan_scope.proofs.Bound.{bound_more, one_dropped}
-use Rattle.plan_scope.proofs.Seen.{last_of_push}
+use Rattle.plan_scope.specs.declared.manifest.DefaultTarget.{DefaultTarget}
+use Rattle.plan_scope.specs.declared.manifest.Pool.{Pool}
+use Rattle.plan_scope.specs.declared.manifest.Manifest.{Manifest}
+use Rattle.plan_scope.specs.Trees.{Line}
+use Rattle.plan_scope.specs.Scopes.{Text, Name, Bindings, Scoped, last_of, frame, nearest, or_else, in_own, bound_in, bound_by}
+use Rattle.plan_scope.specs.Edges.{built_by, builds_in, builds_of, edge_by, edge_with, given_by, phony_variables, use_of, given_past, console, edge_alone, pool_alone, defaults_alone, mapped, in_front, is_among, nothing, pools_in, pools_of, rules_in, rules_of, with_more, with_front}
+use Rattle.plan_scope.specs.Frames.{kept, AgreesIn, SameIn, SameNames}
+use Rattle.plan_scope.specs.Evaluation.{GivesMore, IsLocated, own_of}
+use Rattle.plan_scope.specs.Steps.{Gives}
+use Rattle.plan_scope.proofs.ListLemmas.{one_dropped}
+use Rattle.plan_scope.proofs.ScopeLemmas.{agrees_more, same_bound}
 
-rules_more : (above : List Statement) (s : Statement) → rules_of (above ++ s ∷ []) ≡ rules_of above ++ rules_in s.kind
-rules_more above s =
-    flat_map-append (λ (s : Statement). rules_in s.kind) above (s ∷ []) ∙ ap (λ (l : Bindings (Bindings (List Piece))). rules_of above ++ l) (append-nil (rules_in s.kind))
+-- names of pools with those of one more line
+pub pools_more : (above : List Line) (l : Line) → pools_of (above ++ l ∷ []) ≡ pools_of above ++ pools_in l.kind
+pools_more above l =
+    ap (λ (names : List Name). codes "console" ∷ names) (flat_map-append (λ (l : Line). pools_in l.kind) above (l ∷ []) ∙ ap (λ (names : List Name). flat_map (λ (l : Line). pools_in l.kind) above ++ names) (append-nil (pools_in l.kind)))
 
-known_by : {V : Type 0} (t : Bool) (o : Option V) (v : V) (x : Bool) → x ≡ is_some o → (t || x) ≡ is_some (or_else o (cond t (Some v) None))
-known_by true None v x e = refl
-known_by true (Some w) v x e = refl
-known_by false None v x e = e
-known_by false (Some w) v x e = e
+-- the same names, with the same behind them
+pub names_behind : (held meant more : List Name) → SameNames held meant → SameNames (held ++ more) (meant ++ more)
+names_behind held meant more same n =
+    list_any-append (bytes_eq n) held more ∙ (ap (λ (t : Bool). t || is_among more n) (same n) ∙ sym (list_any-append (bytes_eq n) meant more))
 
-any_known : {V : Type 0} (name : Name) (bs : Bindings V) → list_any (λ known. bytes_eq known.0 name) bs ≡ is_some (last_of name bs)
-any_known name [] = refl
-any_known name (b ∷ bs) = known_by (bytes_eq b.0 name) (last_of name bs) b.1 (list_any (λ known. bytes_eq known.0 name) bs) (any_known name bs)
+pub pools_taken : (all : List Line) (i : ℕ) (l : Line) (held now : List Name) → i < length all → l ≡ get_or all i l → SameNames held (pools_of (take i all))
+    → ((n : Name) → is_among now n ≡ is_among (held ++ pools_in l.kind) n) → SameNames now (pools_of (take (i + 1) all))
+pools_taken all i l held now lt e same h n =
+    let whole : pools_of (take (i + 1) all) ≡ pools_of (take i all) ++ pools_in l.kind =
+    ap pools_of (take_more all i l lt ∙ ap (λ x. take i all ++ x ∷ []) (sym e)) ∙ pools_more (take i all) l in
+    h n ∙ (names_behind held (pools_of (take i all)) (pools_in l.kind) same n ∙ ap (λ names. is_among names n) (sym whole))
 
-pub rule_given : (r : Result (Unit {0}) LineFault) (edges : List Edge) (all above : List Statement) (rule : Rule) (rules : Bindings (Bindings (List Piece)))
-    → ((n : Name) → last_of n rules ≡ last_of n (rules_of above))
-    → Declares r (bytes_eq rule.name (codes "phony") || is_some (last_of rule.name rules))
-    → GivesMore edges edges r (edges_in all above (kind.Rule rule))
-rule_given (Ok done) edges all above rule rules h d =
-    let same = any_known rule.name (rules_of above) ∙ ap is_some (sym (h rule.name)) in
-    let taken = ap (λ t. bytes_eq rule.name (codes "phony") || t) same ∙ d in
-    let none : List Edge = [] in
-    (none, ap (λ (t : Bool). cond {A = Result (List Edge) Cause} t (Err DuplicateRule) (Ok none)) taken, sym (append-nil edges))
-rule_given (Err (Refused cause)) edges all above rule rules h d =
-    let same = any_known rule.name (rules_of above) ∙ ap is_some (sym (h rule.name)) in
-    let taken = ap (λ t. bytes_eq rule.name (codes "phony") || t) same ∙ d.0 in
-    ap (λ (t : Bool). cond {A = Result (List Edge) Cause} t (Err DuplicateRule) (Ok [])) taken ∙ ap (λ c. Err c) (sym d.1)
-rule_given (Err Memory) edges all above rule rules h d = tt
+-- the own scope of a line
+pub own_bound : {V : Type 0} (scopes : List ℕ) (own : ℕ) (word name : Name) (v w : V) → own_of scopes ≡ Some own → word ≡ name → v ≡ w → (own, (word, v)) ∷ [] ≡ in_own scopes name w
+own_bound [] own word name v w e f g = cc
+own_bound (o ∷ outer) own word name v w e f g = cc
 
-last_of_same : {V : Type 0} (n name : Name) (v : V) (xs ys : Bindings V) → last_of n xs ≡ last_of n ys → last_of n (xs ++ (name, v) ∷ []) ≡ last_of n (ys ++ (name, v) ∷ [])
-last_of_same {V} n name v xs ys e =
-    last_of_push n xs (name, v) ∙ (ap (λ (o : Option V). cond (bytes_eq name n) (Some v) o) e ∙ sym (last_of_push n ys (name, v)))
+pub none_bound : {V : Type 0} (scopes : List ℕ) (name : Name) (v : V) → own_of scopes ≡ None → in_own scopes name v ≡ []
+none_bound [] name v e = refl
+none_bound (o ∷ outer) name v e = cc
 
-fits_by : (values : Bindings Text) (rules : Bindings (Bindings (List Piece))) (above : List Statement) (s : Statement) (k : StatementKind) → s.kind ≡ k
-    → Agrees values (bound_by above ++ bound_in (bound_by above) k) → ((n : Name) → last_of n rules ≡ last_of n (rules_of above ++ rules_in k))
-    → Agrees values (bound_by (above ++ s ∷ [])) × ((n : Name) → last_of n rules ≡ last_of n (rules_of (above ++ s ∷ [])))
-fits_by values rules above s k e h g =
-    let bound : bound_by (above ++ s ∷ []) ≡ bound_by above ++ bound_in (bound_by above) k = bound_more above s ∙ ap (λ k. bound_by above ++ bound_in (bound_by above) k) e in
-    let known : rules_of (above ++ s ∷ []) ≡ rules_of above ++ rules_in k = rules_more above s ∙ ap (λ k. rules_of above ++ rules_in k) e in (
-      λ n. h n ∙ ap (λ (bs : Bindings Text). option_map kept (last_of n bs)) (sym bound),
-      λ n. g n ∙ ap (λ (bs : Bindings (Bindings (List Piece))). last_of n bs) (sym known),
-    )
+-- what a manifest has behind one more edge, pool or some more targets
+pub edge_behind : (edges now : List Edge) (pools : List Pool) (defaults : List DefaultTarget) (edge : Edge) → now ≡ edges ++ edge ∷ []
+    → record { edges = now; pools = pools; defaults = defaults } ≡ with_more (record { edges = edges; pools = pools; defaults = defaults }) (edge_alone edge)
+edge_behind edges now pools defaults edge e =
+    ap (λ (l : List Edge). record { edges = l; pools = pools; defaults = defaults }) e
+    ∙ (ap (λ (l : List Pool). record { edges = edges ++ edge ∷ []; pools = l; defaults = defaults }) (sym (append-nil pools))
+    ∙ ap (λ (l : List DefaultTarget). record { edges = edges ++ edge ∷ []; pools = pools ++ []; defaults = l }) (sym (append-nil defaults)))
 
-agrees_nil : (values bound : Bindings Text) → Agrees values bound → Agrees values (bound ++ [])
-agrees_nil values bound h = λ n. h n ∙ ap (λ (bs : Bindings Text). option_map kept (last_of n bs)) (sym (append-nil bound))
+pub pool_behind : (edges : List Edge) (pools now : List Pool) (defaults : List DefaultTarget) (pool : Pool) → now ≡ pools ++ pool ∷ []
+    → record { edges = edges; pools = now; defaults = defaults } ≡ with_more (record { edges = edges; pools = pools; defaults = defaults }) (pool_alone pool)
+pool_behind edges pools now defaults pool e =
+    ap (λ (l : List Pool). record { edges = edges; pools = l; defaults = defaults }) e
+    ∙ (ap (λ (l : List Edge). record { edges = l; pools = pools ++ pool ∷ []; defaults = defaults }) (sym (append-nil edges))
+    ∙ ap (λ (l : List DefaultTarget). record { edges = edges ++ []; pools = pools ++ pool ∷ []; defaults = l }) (sym (append-nil defaults)))
 
-rules_nil : (n : Name) (rules known : Bindings (Bindings (List Piece))) → last_of n rules ≡ last_of n known → last_of n rules ≡ last_of n (known ++ [])
-rules_nil n rules known e = e ∙ ap (λ (bs : Bindings (Bindings (List Piece))). last_of n bs) (sym (append-nil known))
+pub targets_behind : (edges : List Edge) (pools : List Pool) (defaults now targets : List DefaultTarget) → now ≡ defaults ++ targets
+    → record { edges = edges; pools = pools; defaults = now } ≡ with_more (record { edges = edges; pools = pools; defaults = defaults }) (defaults_alone targets)
+targets_behind edges pools defaults now targets e =
+    ap (λ (l : List DefaultTarget). record { edges = edges; pools = pools; defaults = l }) e
+    ∙ (ap (λ (l : List Edge). record { edges = l; pools = pools; defaults = defaults ++ targets }) (sym (append-nil edges))
+    ∙ ap (λ (l : List Pool). record { edges = edges ++ []; pools = l; defaults = defaults ++ targets }) (sym (append-nil pools)))
 
-pub fits_rule : (values : Bindings Text) (rules now : Bindings (Bindings (List Piece))) (above : List Statement) (s : Statement) (r : Rule) → s.kind ≡ kind.Rule r
-    → Agrees values (bound_by above) → ((n : Name) → last_of n rules ≡ last_of n (rules_of above)) → ((n : Name) → last_of n now ≡ last_of n (rules ++ (r.name, late r.bindings) ∷ []))
-    → Agrees values (bound_by (above ++ s ∷ [])) × ((n : Name) → last_of n now ≡ last_of n (rules_of (above ++ s ∷ [])))
-fits_rule values rules now above s r e h g k =
-    fits_by values now above s (kind.Rule r) e (agrees_nil values (bound_by above) h)
-    (λ n. k n ∙ last_of_same n r.name (late r.bindings) rules (rules_of above) (g n))
+pub nothing_behind : (m : Manifest) → m ≡ with_more m nothing
+nothing_behind m =
+    ap (λ (l : List Edge). record { edges = l; pools = m.pools; defaults = m.defaults }) (sym (append-nil m.edges))
+    ∙ (ap (λ (l : List Pool). record { edges = m.edges ++ []; pools = l; defaults = m.defaults }) (sym (append-nil m.pools))
+    ∙ ap (λ (l : List DefaultTarget). record { edges = m.edges ++ []; pools = m.pools ++ []; defaults = l }) (sym (append-nil m.defaults)))
 
-pub fits_build : (values : Bindings Text) (rules : Bindings (Bindings (List Piece))) (above : List Statement) (s : Statement) (b : Build) → s.kind ≡ kind.Build b
-    → Agrees values (bound_by above) → ((n : Name) → last_of n rules ≡ last_of n (rules_of above))
-    → Agrees values (bound_by (above ++ s ∷ [])) × ((n : Name) → last_of n rules ≡ last_of n (rules_of (above ++ s ∷ [])))
-fits_build values rules above s b e h g =
-    fits_by values rules above s (kind.Build b) e (agrees_nil values (bound_by above) h) (λ n. rules_nil n rules (rules_of above) (g n))
+-- a fault stays one
+pub fault_kept : {A : Type 0} (f : A → Manifest) (before now : Manifest) (fault : LineFault) (meant : Result A Cause) → Gives {A = A} (Err fault) meant → GivesMore before now (Err fault) (mapped f meant)
+fault_kept f before now (Refused cause) meant e = ap (mapped f) e
+fault_kept f before now Memory meant e = tt
 
-pub fits_binding : (values : Bindings Text) (rules : Bindings (Bindings (List Piece))) (above : List Statement) (s : Statement) (k : StatementKind) → s.kind ≡ k → rules_in k ≡ []
-    → Agrees values (bound_by above ++ bound_in (bound_by above) k) → ((n : Name) → last_of n rules ≡ last_of n (rules_of above))
-    → Agrees values (bound_by (above ++ s ∷ [])) × ((n : Name) → last_of n rules ≡ last_of n (rules_of (above ++ s ∷ [])))
-fits_binding values rules above s k e z h g =
-    fits_by values rules above s k e h
-    (λ n. rules_nil n rules (rules_of above) (g n) ∙ ap (λ (bs : Bindings (Bindings (List Piece))). last_of n (rules_of above ++ bs)) (sym z))
+-- what no line gives
+pub fits_none : (bound : Scoped Text) (rules : Scoped (Bindings (List Piece))) (names : List Name) (edges : List Edge) → bound ≡ [] → rules ≡ [] → ((n : Name) → is_among names n ≡ is_among (codes "console" ∷ []) n) → edges ≡ []
+    → AgreesIn bound (bound_by []) × SameIn rules (rules_of []) × SameNames names (pools_of []) × (length edges ≡ length (builds_of []))
+fits_none bound rules names edges e f g h = (
+  λ s n. ap (λ (bs : Scoped Text). option_map kept (last_of n (frame s bs))) e,
+  λ s n. ap (λ (bs : Scoped (Bindings (List Piece))). last_of n (frame s bs)) f,
+  g,
+  ap (λ (l : List Edge). length l) h,
+)
 
-alone_refused : (o : Option Cause) (e : Edge) → or_refused o (e ∷ []) ≡ alone (or_refused o e)
-alone_refused None e = refl
-alone_refused (Some c) e = refl
+pub manifest_alone : (edges : List Edge) (before pools : List Pool) (defaults : List DefaultTarget) (name : Name) → edges ≡ [] → before ≡ [] → pools ≡ before ++ record { name = name; depth = 1 } ∷ [] → name ≡ codes "console" → defaults ≡ []
+    → record { edges = edges; pools = pools; defaults = defaults } ≡ pool_alone console
+manifest_alone edges before pools defaults name e f g h k =
+    let only : pools ≡ console ∷ [] = g ∙ (ap (λ (l : List Pool). l ++ record { name = name; depth = 1 } ∷ []) f ∙ ap (λ (n : Name). record { name = n; depth = 1 } ∷ []) h) in
+    ap (λ (l : List Edge). record { edges = l; pools = pools; defaults = defaults }) e
+    ∙ (ap (λ (l : List Pool). record { edges = []; pools = l; defaults = defaults }) only
+    ∙ ap (λ (l : List DefaultTarget). record { edges = []; pools = console ∷ []; defaults = l }) k)
 
--- the edges of a build line are its edge
-pub edges_alone : (all above : List Statement) (b : Build) (o : Option (Bindings (List Piece))) → edges_by all above b o ≡ alone (built_by (bound_by above) (bound_by all) b o)
-edges_alone all above b None = refl
-edges_alone all above b (Some rule) = alone_refused (cause_in (use_of all above b rule)) (edge_of (use_of all above b rule))
+or_else_assoc : {V : Type 0} (a b c : Option V) → or_else (or_else a b) c ≡ or_else a (or_else b c)
+or_else_assoc None b c = refl
+or_else_assoc (Some x) b c = refl
 
-pub taken_more : (all : List Statement) (i : ℕ) (s : Statement) → i < length all → s ≡ get_or all i s → take (i + 1) all ≡ take i all ++ s ∷ []
-taken_more all i s lt e = take_more all i s lt ∙ ap (λ x. take i all ++ x ∷ []) (sym e)
+or_else_none : {V : Type 0} (a : Option V) → a ≡ or_else a None
+or_else_none None = refl
+or_else_none (Some x) = refl
 
-past_at : (all : List Statement) (i : ℕ) (s : Statement) → i < length all → s ≡ get_or all i s
-    → edges_past all (take i all) (drop i all) ≡ in_front s.offset (edges_in all (take i all) s.kind) (edges_past all (take (i + 1) all) (drop (i + 1) all))
-past_at all i s lt e =
-    ap (edges_past all (take i all)) (one_dropped all i s lt e)
-    ∙ ap (λ (l : List Statement). in_front s.offset (edges_in all (take i all) s.kind) (edges_past all l (drop (i + 1) all))) (sym (taken_more all i s lt e))
+last_of_append : {V : Type 0} (n : Name) (a b : Bindings V) → last_of n (a ++ b) ≡ or_else (last_of n b) (last_of n a)
+last_of_append n [] b = or_else_none (last_of n b)
+last_of_append {V} n (x ∷ a) b =
+    let here : Option V = cond (bytes_eq x.0 n) (Some x.1) None in
+    ap (λ (o : Option V). or_else o here) (last_of_append n a b) ∙ or_else_assoc (last_of n b) (last_of n a) here
 
-front_more : (before edges : List Edge) (at : ℕ) (more : Result (List Edge) (ℕ × Cause)) → with_front (before ++ edges) more ≡ with_front before (in_front at (Ok edges) more)
-front_more before edges at (Ok more) = ap (λ (l : List Edge). Ok l) (append_assoc before edges more)
-front_more before edges at (Err e) = refl
+frame_append : {V : Type 0} (s : ℕ) (a b : Scoped V) → frame s (a ++ b) ≡ frame s a ++ frame s b
+frame_append s [] b = refl
+frame_append {V} s (x ∷ a) b =
+    ap (λ (rest : Bindings V). cond (eqb x.0 s) (x.1 ∷ rest) rest) (frame_append s a b)
+    ∙ elim (eqb x.0 s) as (λ t. cond t (x.1 ∷ (frame s a ++ frame s b)) (frame s a ++ frame s b) ≡ cond t (x.1 ∷ frame s a) (frame s a) ++ frame s b) [ true ↦ refl | false ↦ refl ]
 
--- one more statement that tells edges
-pub next_given : (all : List Statement) (i : ℕ) (s : Statement) (before now : List Edge) → i < length all → s ≡ get_or all i s
-    → GivesMore before now (Ok tt) (edges_in all (take i all) s.kind)
-    → with_front before (edges_past all (take i all) (drop i all)) ≡ edges_past all [] all
-    → with_front now (edges_past all (take (i + 1) all) (drop (i + 1) all)) ≡ edges_past all [] all
-next_given all i s before now lt e g h =
-    let more = edges_past all (take (i + 1) all) (drop (i + 1) all) in
-    ap (λ (l : List Edge). with_front l more) g.2
-    ∙ (front_more before g.0 s.offset more
-    ∙ (ap (λ (r : Result (List Edge) Cause). with_front before (in_front s.offset r more)) (sym g.1)
-    ∙ (ap (with_front before) (sym (past_at all i s lt e)) ∙ h)))
+-- the same values, with the same behind them
+pub same_behind : {V : Type 0} (held meant more : Scoped V) → SameIn held meant → SameIn (held ++ more) (meant ++ more)
+same_behind {V} held meant more same s n =
+    ap (last_of n) (frame_append s held more) ∙ (last_of_append n (frame s held) (frame s more)
+    ∙ (ap (or_else (last_of n (frame s more))) (same s n)
+    ∙ (sym (last_of_append n (frame s meant) (frame s more)) ∙ ap (last_of n) (sym (frame_append s meant more)))))
 
--- a statement that is refused
-pub fault_given : (all : List Statement) (i : ℕ) (s : Statement) (before now : List Edge) (fault : LineFault) (r : StatementFault) → i < length all → s ≡ get_or all i s
-    → GivesMore before now (Err fault) (edges_in all (take i all) s.kind)
-    → with_front before (edges_past all (take i all) (drop i all)) ≡ edges_past all [] all
-    → r ≡ located_by fault s.offset
-    → GivesItems (Err r) (edges_past all [] all)
-fault_given all i s before now (Refused cause) r lt e g h k =
-    let more = edges_past all (take (i + 1) all) (drop (i + 1) all) in
-    subst (λ (x : StatementFault). GivesItems (Err x) (edges_past all [] all)) (sym k)
-    (sym h ∙ (ap (with_front before) (past_at all i s lt e) ∙ ap (λ (r : Result (List Edge) Cause). with_front before (in_front s.offset r more)) g))
-fault_given all i s before now Memory r lt e g h k =
-    subst (λ (x : StatementFault). GivesItems (Err x) (edges_past all [] all)) (sym k) tt
+pub same_nearest : {V : Type 0} (held meant : Scoped V) → SameIn held meant → (scopes : List ℕ) (n : Name) → nearest held scopes n ≡ nearest meant scopes n
+same_nearest held meant same [] n = refl
+same_nearest held meant same (s ∷ outer) n =
+    ap (λ o. or_else o (nearest held outer n)) (same s n) ∙ ap (or_else (last_of n (frame s meant))) (same_nearest held meant same outer n)
+
+rules_more : (above : List Line) (l : Line) → rules_of (above ++ l ∷ []) ≡ rules_of above ++ rules_in l.scopes l.kind
+rules_more above l =
+    flat_map-append (λ (l : Line). rules_in l.scopes l.kind) above (l ∷ []) ∙ ap (λ (x : Scoped (Bindings (List Piece))). rules_of above ++ x) (append-nil (rules_in l.scopes l.kind))
+
+builds_more : (above : List Line) (l : Line) → length (builds_of (above ++ l ∷ [])) ≡ length (builds_of above) + length (builds_in l.kind)
+builds_more above l =
+    ap (λ (x : List Build). length x) (flat_map-append (λ (l : Line). builds_in l.kind) above (l ∷ []) ∙ ap (λ (x : List Build). builds_of above ++ x) (append-nil (builds_in l.kind)))
+    ∙ length-append (builds_of above) (builds_in l.kind)
+
+-- what is known of some lines: what is bound, the rules, the pools, the number of build lines
+abbrev pub Known : Scoped Text → Scoped (Bindings (List Piece)) → List Name → ℕ → List Line → Type 0
+Known bound rules names count above = AgreesIn bound (bound_by above) × SameIn rules (rules_of above) × SameNames names (pools_of above) × (count ≡ length (builds_of above))
+
+-- the same with one more line
+pub known_more : (bound : Scoped Text) (rules held : Scoped (Bindings (List Piece))) (names names_held : List Name) (count count_held : ℕ) (above : List Line) (l : Line) (k : StatementKind) → l.kind ≡ k
+    → AgreesIn bound (bound_by above ++ bound_in (bound_by above) l.scopes k)
+    → SameIn held (rules_of above) → SameIn rules (held ++ rules_in l.scopes k)
+    → SameNames names_held (pools_of above) → ((n : Name) → is_among names n ≡ is_among (names_held ++ pools_in k) n)
+    → count_held ≡ length (builds_of above) → count ≡ count_held + length (builds_in k)
+    → Known bound rules names count (above ++ l ∷ [])
+known_more bound rules held names names_held count count_held above l k e f g h i j m n = (
+  agrees_more bound above l l.scopes k refl (sym e) f,
+  λ s x.
+      h s x
+      ∙ (same_behind held (rules_of above) (rules_in l.scopes k) g s x
+      ∙ ap (λ (bs : Scoped (Bindings (List Piece))). last_of x (frame s bs)) (ap (λ (y : StatementKind). rules_of above ++ rules_in l.scopes y) (sym e) ∙ sym (rules_more above l))),
+  λ x.
+      j x
+      ∙ (names_behind names_held (pools_of above) (pools_in k) i x
+      ∙ ap (λ (ns : List Name). is_among ns x) (ap (λ (y : StatementKind). pools_of above ++ pools_in y) (sym e) ∙ sym (pools_more above l))),
+  n ∙ (ap (λ (c : ℕ). c + length (builds_in k)) m ∙ (ap (λ (y : StatementKind). length (builds_of above) + length (builds_in y)) (sym e) ∙ sym (builds_more above l))),
+)
+
+pub same_end : {V : Type 0} (held : Scoped V) → SameIn held (held ++ [])
+same_end {V} held s n = ap (λ (bs : Scoped V). last_of n (frame s bs)) (sym (append-nil held))
+
+pub names_end : (names : List Name) (n : Name) → is_among names n ≡ is_among (names ++ []) n
+names_end names n = ap (λ (ns : List Name). is_among ns n) (sym (append-nil names))
+
+-- with one more line that tells nothing of these
+pub known_same : (bound : Scoped Text) (rules : Scoped (Bindings (List Piece))) (names : List Name) (count : ℕ) (above : List Line) (l : Line) (k : StatementKind) → l.kind ≡ k
+    → bound_in (bound_by above) l.scopes k ≡ [] → rules_in l.scopes k ≡ [] → pools_in k ≡ [] → builds_in k ≡ []
+    → AgreesIn bound (bound_by above) → SameIn rules (rules_of above) → SameNames names (pools_of above) → count ≡ length (builds_of above)
+    → Known bound rules names count (above ++ l ∷ [])
+known_same bound rules names count above l k e f g h i agrees same known counted =
+    known_more bound rules rules names names count count above l k e
+    (λ s n. same_bound bound (bound_by above) agrees s n ∙ ap (λ (bs : Scoped Text). option_map kept (last_of n (frame s (bound_by above ++ bs)))) (sym f))
+    same (λ s n. same_end rules s n ∙ ap (λ (bs : Scoped (Bindings (List Piece))). last_of n (frame s (rules ++ bs))) (sym g))
+    known (λ n. names_end names n ∙ ap (λ (ns : List Name). is_among (names ++ ns) n) (sym h))
+    counted (let z : length (builds_in k) ≡ 0 = ap (λ (b : List Build). length b) i in omega (arith, z))
+
+-- the edge of a build line by the same rules
+pub built_same : (names : List Name) (held rules : Scoped (Bindings (List Piece))) (scopes : List ℕ) (h f : Name → Text) (b : Build) → SameIn held rules → built_by names held scopes h f b ≡ built_by names rules scopes h f b
+built_same names held rules scopes h f b same =
+    ap (λ (o : Option (Bindings (List Piece))). cond (bytes_eq b.rule (codes "phony")) (edge_with names h b (phony_variables (use_of h f b [])) true) (edge_by names h f b o)) (same_nearest held rules same scopes b.rule)
 
 pub on_ok_always : {T E P : Type 0} (r : Result T E) → P → OnOk r P
 on_ok_always (Ok x) p = p
 on_ok_always (Err e) p = tt
+
+pub taken_more : (all : List Line) (i : ℕ) (l : Line) → i < length all → l ≡ get_or all i l → take (i + 1) all ≡ take i all ++ l ∷ []
+taken_more all i l lt e = take_more all i l lt ∙ ap (λ x. take i all ++ x ∷ []) (sym e)
+
+past_at : (all : List Line) (i : ℕ) (l : Line) → i < length all → l ≡ get_or all i l
+    → given_past all (take i all) (drop i all) ≡ in_front l (given_by all (take i all) l.scopes l.kind) (given_past all (take (i + 1) all) (drop (i + 1) all))
+past_at all i l lt e =
+    ap (given_past all (take i all)) (one_dropped all i l lt e)
+    ∙ ap (λ (x : List Line). in_front l (given_by all (take i all) l.scopes l.kind) (given_past all x (drop (i + 1) all))) (sym (taken_more all i l lt e))
+
+with_more_assoc : (a b c : Manifest) → with_more (with_more a b) c ≡ with_more a (with_more b c)
+with_more_assoc a b c =
+    ap (λ (l : List Edge). record { edges = l; pools = (a.pools ++ b.pools) ++ c.pools; defaults = (a.defaults ++ b.defaults) ++ c.defaults }) (append_assoc a.edges b.edges c.edges)
+    ∙ (ap (λ (l : List Pool). record { edges = a.edges ++ (b.edges ++ c.edges); pools = l; defaults = (a.defaults ++ b.defaults) ++ c.defaults }) (append_assoc a.pools b.pools c.pools)
+    ∙ ap (λ (l : List DefaultTarget). record { edges = a.edges ++ (b.edges ++ c.edges); pools = a.pools ++ (b.pools ++ c.pools); defaults = l }) (append_assoc a.defaults b.defaults c.defaults))
+
+front_more : (before given : Manifest) (l : Line) (more : Result Manifest ScopeFault) → with_front (with_more before given) more ≡ with_front before (in_front l (Ok given) more)
+front_more before given l (Ok more) = ap (λ (m : Manifest). Ok m) (with_more_assoc before given more)
+front_more before given l (Err e) = refl
+
+-- one more line that is well
+pub next_given : (all : List Line) (i : ℕ) (l : Line) (before now : Manifest) (meant : Result Manifest ScopeFault) → i < length all → l ≡ get_or all i l
+    → GivesMore before now (Ok tt) (given_by all (take i all) l.scopes l.kind)
+    → with_front before (given_past all (take i all) (drop i all)) ≡ meant
+    → with_front now (given_past all (take (i + 1) all) (drop (i + 1) all)) ≡ meant
+next_given all i l before now meant lt e g h =
+    let more = given_past all (take (i + 1) all) (drop (i + 1) all) in
+    ap (λ (m : Manifest). with_front m more) g.2
+    ∙ (front_more before g.0 l more
+    ∙ (ap (λ (r : Result Manifest Cause). with_front before (in_front l r more)) (sym g.1)
+    ∙ (ap (with_front before) (sym (past_at all i l lt e)) ∙ h)))
+
+-- a line that is refused
+pub fault_given : (all : List Line) (i : ℕ) (l : Line) (before now : Manifest) (meant : Result Manifest ScopeFault) (fault : LineFault) (r : ScopeFault) → i < length all → l ≡ get_or all i l
+    → GivesMore before now (Err fault) (given_by all (take i all) l.scopes l.kind)
+    → with_front before (given_past all (take i all) (drop i all)) ≡ meant
+    → IsLocated fault l r
+    → r ≢ scope.Memory → meant ≡ Err r
+fault_given all i l before now meant (Refused cause) r lt e g h k not =
+    let more = given_past all (take (i + 1) all) (drop (i + 1) all) in
+    sym h ∙ (ap (with_front before) (past_at all i l lt e) ∙ (ap (λ (r : Result Manifest Cause). with_front before (in_front l r more)) g ∙ ap (λ (f : ScopeFault). Err f) (sym (k not))))
+fault_given all i l before now meant Memory r lt e g h k not = elim (not k) [ ]

@@ -2,8 +2,8 @@
 use Rattle.std.proofs.Common.{◌≡◌, ℕ, zero, suc, true, false, ◌||◌, ◌<◌, ◌+◌, List, [], ◌∷◌, ◌++◌, length, map, Option, Some, None, refl, ap, sym, ◌∙◌, bytes_eq, append_assoc, get_or, drop, drop-cons, add-one, Bor, option_map}
 use Rattle.std.specs.List.{list_any}
 use Rattle.plan_text.specs.declared.piece_reader.Piece.{Piece}
-use Rattle.plan_scope.specs.Scopes.{Text, Name, last_of, look}
-use Rattle.plan_scope.specs.Expansion.{Use, quoted, listed, Meaning, Known, Late, or_known, or_late, meaning_of, both, text_of_piece, joined, text_of, text_within}
+use Rattle.plan_scope.specs.Scopes.{Text, Name, last_of}
+use Rattle.plan_scope.specs.Expansion.{Use, listed, Meaning, Known, Late, or_known, or_late, meaning_of, both, text_of_piece, joined, text_of, text_within}
 use Rattle.plan_scope.specs.Frames.{kept}
 use Rattle.plan_scope.proofs.Kept.{kept_append}
 
@@ -64,25 +64,25 @@ pub within_none : (meaning : Name → Meaning) (n : ℕ) (in_use : List Name) (n
 within_none meaning n in_use name pieces e z =
     ap (λ i. text_within i meaning in_use name) z ∙ ap (λ x. text_of x true (λ _. None)) e
 
-pub is_listed : (edge : Use) (name : Name) (t : Text) → Some t ≡ listed quoted edge name → meaning_of quoted edge name ≡ Known t
-is_listed edge name t e = ap (λ o. or_known o (or_known (last_of name edge.block) (or_late (last_of name edge.rule) (Known (look edge.file name))))) (sym e)
+pub is_listed : (show : Text → Text) (edge : Use) (name : Name) (t : Text) → Some t ≡ listed show edge name → meaning_of show edge name ≡ Known t
+is_listed show edge name t e = ap (λ o. or_known o (or_known (last_of name edge.block) (or_late (last_of name edge.rule) (Known (edge.file name))))) (sym e)
 
-pub is_of_block : (edge : Use) (name : Name) (t : Text) → None ≡ listed quoted edge name → Some t ≡ last_of name edge.block → meaning_of quoted edge name ≡ Known t
-is_of_block edge name t e f =
-    ap (λ o. or_known o (or_known (last_of name edge.block) (or_late (last_of name edge.rule) (Known (look edge.file name))))) (sym e)
-    ∙ ap (λ o. or_known o (or_late (last_of name edge.rule) (Known (look edge.file name)))) (sym f)
+pub is_of_block : (show : Text → Text) (edge : Use) (name : Name) (t : Text) → None ≡ listed show edge name → Some t ≡ last_of name edge.block → meaning_of show edge name ≡ Known t
+is_of_block show edge name t e f =
+    ap (λ o. or_known o (or_known (last_of name edge.block) (or_late (last_of name edge.rule) (Known (edge.file name))))) (sym e)
+    ∙ ap (λ o. or_known o (or_late (last_of name edge.rule) (Known (edge.file name)))) (sym f)
 
-pub is_late : (edge : Use) (name : Name) (ps : List Piece) → None ≡ listed quoted edge name → None ≡ last_of name edge.block → Some ps ≡ last_of name edge.rule → meaning_of quoted edge name ≡ Late ps
-is_late edge name ps e f g =
-    ap (λ o. or_known o (or_known (last_of name edge.block) (or_late (last_of name edge.rule) (Known (look edge.file name))))) (sym e)
-    ∙ (ap (λ o. or_known o (or_late (last_of name edge.rule) (Known (look edge.file name)))) (sym f)
-    ∙ ap (λ o. or_late o (Known (look edge.file name))) (sym g))
+pub is_late : (show : Text → Text) (edge : Use) (name : Name) (ps : List Piece) → None ≡ listed show edge name → None ≡ last_of name edge.block → Some ps ≡ last_of name edge.rule → meaning_of show edge name ≡ Late ps
+is_late show edge name ps e f g =
+    ap (λ o. or_known o (or_known (last_of name edge.block) (or_late (last_of name edge.rule) (Known (edge.file name))))) (sym e)
+    ∙ (ap (λ o. or_known o (or_late (last_of name edge.rule) (Known (edge.file name)))) (sym f)
+    ∙ ap (λ o. or_late o (Known (edge.file name))) (sym g))
 
-pub is_of_file : (edge : Use) (name : Name) → None ≡ listed quoted edge name → None ≡ last_of name edge.block → None ≡ last_of name edge.rule → meaning_of quoted edge name ≡ Known (look edge.file name)
-is_of_file edge name e f g =
-    ap (λ o. or_known o (or_known (last_of name edge.block) (or_late (last_of name edge.rule) (Known (look edge.file name))))) (sym e)
-    ∙ (ap (λ o. or_known o (or_late (last_of name edge.rule) (Known (look edge.file name)))) (sym f)
-    ∙ ap (λ o. or_late o (Known (look edge.file name))) (sym g))
+pub is_of_file : (show : Text → Text) (edge : Use) (name : Name) → None ≡ listed show edge name → None ≡ last_of name edge.block → None ≡ last_of name edge.rule → meaning_of show edge name ≡ Known (edge.file name)
+is_of_file show edge name e f g =
+    ap (λ o. or_known o (or_known (last_of name edge.block) (or_late (last_of name edge.rule) (Known (edge.file name))))) (sym e)
+    ∙ (ap (λ o. or_known o (or_late (last_of name edge.rule) (Known (edge.file name)))) (sym f)
+    ∙ ap (λ o. or_late o (Known (edge.file name))) (sym g))
 
 pub list_any_now : (name : List ℕ) (ns : List (Bor (List ℕ))) → list_any (bytes_eq name) (map (λ n. n.now) ns) ≡ list_any (λ n. bytes_eq name n.now) ns
 list_any_now name [] = refl

@@ -8,9 +8,9 @@ use Rattle.std.specs.Prelude.{codes}
 use Rattle.std.proofs.lemmas.Bool.{lt-ltb, le-ltb, cases_lt, ne_eqb}
 use Rattle.plan_text.specs.declared.piece_reader.Piece.{Piece}
 use Rattle.plan_text.specs.declared.piece_reader.Piece.TheVariants.{Literal, Reference}
-use Rattle.plan_scope.specs.Scopes.{Text, Name, Bindings, last_of, look, value_of, expand, max_text, is_too_long}
+use Rattle.plan_scope.specs.Scopes.{Text, Name, value_of, expand, max_text, is_too_long}
 use Rattle.plan_scope.specs.Expansion.{is_plain, escaped, quoted}
-use Rattle.plan_scope.specs.Frames.{kept, Agrees}
+use Rattle.plan_scope.specs.Frames.{kept}
 
 pub kept_long : (a : Text) → max_text < length a → kept a ≡ None
 unfolding kept
@@ -63,18 +63,19 @@ quoted_by a b (inr h) = both_long (quoted a) (quoted b) (omega (arith, length_qu
 pub kept_quoted : (a b : Text) → kept a ≡ kept b → kept (quoted a) ≡ kept (quoted b)
 kept_quoted a b e = quoted_by a b (same_from_kept a b e)
 
-pub kept_paths : (s : ℕ) (ps qs : List Text) → map kept ps ≡ map kept qs → kept (join_with_byte s (map quoted ps)) ≡ kept (join_with_byte s (map quoted qs))
-kept_paths s [] [] e = refl
-kept_paths s [] (q ∷ qs) e = cc
-kept_paths s (p ∷ ps) [] e = cc
-kept_paths s (p ∷ []) (q ∷ []) e = let k : kept p ≡ kept q = cc in kept_quoted p q k
-kept_paths s (p ∷ []) (q ∷ r ∷ qs) e = cc
-kept_paths s (p ∷ o ∷ ps) (q ∷ []) e = cc
-kept_paths s (p ∷ o ∷ ps) (q ∷ r ∷ qs) e =
+pub kept_paths : (f : Text → Text) → ((a b : Text) → kept a ≡ kept b → kept (f a) ≡ kept (f b))
+    → (s : ℕ) (ps qs : List Text) → map kept ps ≡ map kept qs → kept (join_with_byte s (map f ps)) ≡ kept (join_with_byte s (map f qs))
+kept_paths f h s [] [] e = refl
+kept_paths f h s [] (q ∷ qs) e = cc
+kept_paths f h s (p ∷ ps) [] e = cc
+kept_paths f h s (p ∷ []) (q ∷ []) e = let k : kept p ≡ kept q = cc in h p q k
+kept_paths f h s (p ∷ []) (q ∷ r ∷ qs) e = cc
+kept_paths f h s (p ∷ o ∷ ps) (q ∷ []) e = cc
+kept_paths f h s (p ∷ o ∷ ps) (q ∷ r ∷ qs) e =
     let k : kept p ≡ kept q = cc in
     let m : map kept (o ∷ ps) ≡ map kept (r ∷ qs) = cc in
-    kept_append (quoted p) (quoted q) (s ∷ join_with_byte s (map quoted (o ∷ ps))) (s ∷ join_with_byte s (map quoted (r ∷ qs))) (kept_quoted p q k)
-    (kept_append (s ∷ []) (s ∷ []) (join_with_byte s (map quoted (o ∷ ps))) (join_with_byte s (map quoted (r ∷ qs))) refl (kept_paths s (o ∷ ps) (r ∷ qs) m))
+    kept_append (f p) (f q) (s ∷ join_with_byte s (map f (o ∷ ps))) (s ∷ join_with_byte s (map f (r ∷ qs))) (h p q k)
+    (kept_append (s ∷ []) (s ∷ []) (join_with_byte s (map f (o ∷ ps))) (join_with_byte s (map f (r ∷ qs))) refl (kept_paths f h s (o ∷ ps) (r ∷ qs) m))
 
 kept_value : (f g : Name → Text) → ((n : Name) → kept (f n) ≡ kept (g n)) → (p : Piece) → kept (value_of f p) ≡ kept (value_of g p)
 kept_value f g h (Literal t) = refl
@@ -90,9 +91,6 @@ kept_or None (Some y) a b e f = cc
 kept_or (Some x) None a b e f = cc
 kept_or (Some x) (Some y) a b e f = cc
 
-pub kept_look : (stored meant : Bindings Text) → Agrees stored meant → (n : Name) → kept (look stored n) ≡ kept (look meant n)
-kept_look stored meant h n = kept_or (last_of n stored) (last_of n meant) [] [] (h n) refl
-
 -- one text appended behind another
 pub kept_then : (before middle now x y : Text) → kept middle ≡ kept (before ++ x) → kept now ≡ kept (middle ++ y) → kept now ≡ kept (before ++ (x ++ y))
 kept_then before middle now x y e f =
@@ -106,23 +104,23 @@ begins_at : (ps : List Text) → begins ps ≡ eqb (length ps) 0
 begins_at [] = refl
 begins_at (p ∷ ps) = sym (ne_eqb (length (p ∷ ps)) 0 (λ e. omega arith))
 
-join_push : (s : ℕ) (ps : List Text) (p : Text) → join_with_byte s (map quoted (ps ++ p ∷ [])) ≡ join_with_byte s (map quoted ps) ++ (cond (begins ps) [] (s ∷ []) ++ quoted p)
-join_push s [] p = refl
-join_push s (q ∷ []) p = refl
-join_push s (q ∷ r ∷ ps) p =
-    ap (λ (t : Text). quoted q ++ (s ∷ t)) (join_push s (r ∷ ps) p)
-    ∙ sym (append_assoc (quoted q) (s ∷ join_with_byte s (map quoted (r ∷ ps))) (s ∷ quoted p))
+join_push : (f : Text → Text) (s : ℕ) (ps : List Text) (p : Text) → join_with_byte s (map f (ps ++ p ∷ [])) ≡ join_with_byte s (map f ps) ++ (cond (begins ps) [] (s ∷ []) ++ f p)
+join_push f s [] p = refl
+join_push f s (q ∷ []) p = refl
+join_push f s (q ∷ r ∷ ps) p =
+    ap (λ (t : Text). f q ++ (s ∷ t)) (join_push f s (r ∷ ps) p)
+    ∙ sym (append_assoc (f q) (s ∷ join_with_byte s (map f (r ∷ ps))) (s ∷ f p))
 
 -- one more path of a list
-pub join_taken : (s : ℕ) (ps : List Text) (i : ℕ) (p : Text) (b : Bool) → i < length ps → p ≡ get_or ps i p → b ≡ eqb i 0
-    → (join_with_byte s (map quoted (take i ps)) ++ cond b [] (s ∷ [])) ++ quoted p ≡ join_with_byte s (map quoted (take (i + 1) ps))
-join_taken s ps i p b h e f =
+pub join_taken : (f : Text → Text) (s : ℕ) (ps : List Text) (i : ℕ) (p : Text) (b : Bool) → i < length ps → p ≡ get_or ps i p → b ≡ eqb i 0
+    → (join_with_byte s (map f (take i ps)) ++ cond b [] (s ∷ [])) ++ f p ≡ join_with_byte s (map f (take (i + 1) ps))
+join_taken f s ps i p b h e z =
     let n : length (take i ps) ≡ i = grind (arith, common_steps) in
-    let first : b ≡ begins (take i ps) = f ∙ (ap (λ k. eqb k 0) (sym n) ∙ sym (begins_at (take i ps))) in
-    append_assoc (join_with_byte s (map quoted (take i ps))) (cond b [] (s ∷ [])) (quoted p)
-    ∙ (ap (λ (t : Bool). join_with_byte s (map quoted (take i ps)) ++ (cond t [] (s ∷ []) ++ quoted p)) first
-    ∙ (sym (join_push s (take i ps) p)
-    ∙ ap (λ (l : List Text). join_with_byte s (map quoted l)) (ap (λ (x : Text). take i ps ++ x ∷ []) e ∙ sym (take_more ps i p h))))
+    let first : b ≡ begins (take i ps) = z ∙ (ap (λ k. eqb k 0) (sym n) ∙ sym (begins_at (take i ps))) in
+    append_assoc (join_with_byte s (map f (take i ps))) (cond b [] (s ∷ [])) (f p)
+    ∙ (ap (λ (t : Bool). join_with_byte s (map f (take i ps)) ++ (cond t [] (s ∷ []) ++ f p)) first
+    ∙ (sym (join_push f s (take i ps) p)
+    ∙ ap (λ (l : List Text). join_with_byte s (map f l)) (ap (λ (x : Text). take i ps ++ x ∷ []) e ∙ sym (take_more ps i p h))))
 
 -- one more item, each with a text
 pub flat_map_taken : {X : Type 0} (f : X → Text) (xs : List X) (i : ℕ) (d : X) → i < length xs → flat_map f (take (i + 1) xs) ≡ flat_map f (take i xs) ++ f (get_or xs i d)

@@ -1,8 +1,15 @@
-mod Rows
+pub mod Rows
 pub mod Seen
+pub mod ScopedSeen
 pub mod Kept
+pub mod ScopeLemmas
 pub mod Expanding
-pub mod Bound
-pub mod Meant
+pub mod CanonicalLemmas
+pub mod PathLemmas
+pub mod VariableLemmas
+pub mod ListLemmas
+pub mod NameLemmas
+pub mod DepthLemmas
+pub mod LoadLemmas
 pub mod Evaluated
 pub mod WritingLemmas

@@ -1,15 +1,16 @@
--- Worked examples of scopes and expansion, from the bytes of a file on.
-use Rattle.std.proofs.Common.{◌≡◌, ℕ, List, [], ◌∷◌, ◌++◌, Result, Ok, Err, refl}
-use Rattle.std.specs.Prelude.{codes}
-use Rattle.plan_text.specs.declared.fault.TextFault.TheVariants.{BadEscape}
-use Rattle.plan_parse.specs.declared.fault.ParseFault.TheVariants as parse
-use Rattle.plan_scope.specs.declared.fault.Cause.TheVariants.{DuplicateRule, UnknownRule, RuleCycle, EmptyPath}
+-- Worked examples of scopes and expansion, from the bytes of files on.
+use Rattle.std.proofs.Common.{◌≡◌, ℕ, List, [], ◌∷◌, ◌++◌, ◌⊎◌, inl, inr, map, Option, Some, Result, Ok, Err, refl}
+use Rattle.std.specs.Prelude.{codes, true, false}
+use Rattle.plan_parse.specs.declared.fault.ParseFault.{ParseFault}
+use Rattle.plan_parse.specs.declared.statement.Statement.{Statement}
+use Rattle.plan_parse.specs.Statements.{statements_of}
+use Rattle.plan_scope.specs.declared.fault.Cause.TheVariants.{IncludeDepth, DuplicateRule, UnknownRule, DuplicatePool, UnknownPool, RuleCycle, EmptyPath, Dyndep, Rspfile, DepsKind, BadDepth}
 use Rattle.plan_scope.specs.declared.fault.ScopeFault.{ScopeFault}
-use Rattle.plan_scope.specs.declared.fault.ScopeFault.TheVariants.{Parse, Refused}
-use Rattle.plan_scope.specs.declared.manifest.Tree.{Tree}
+use Rattle.plan_scope.specs.declared.fault.ScopeFault.TheVariants.{Refused, SourceMissing}
 use Rattle.plan_scope.specs.declared.manifest.Manifest.{Manifest}
+use Rattle.plan_scope.specs.Trees.{Line}
 use Rattle.plan_scope.specs.Edges.{manifest_of, commands_of}
-use Rattle.plan_scope.specs.Loading.{tree_of}
+use Rattle.plan_scope.specs.Loading.{LoadsFirst, LoadsWithin}
 
 abbrev lf : List ℕ
 lf = 10 ∷ []
@@ -21,12 +22,19 @@ abbrev shown : Result Manifest ScopeFault → Result (List ℕ) ScopeFault
 shown (Ok m) = Ok (commands_of m)
 shown (Err e) = Err e
 
-abbrev meant : Result Tree ScopeFault → Result (List ℕ) ScopeFault
-meant (Ok tree) = shown (manifest_of tree)
-meant (Err e) = Err e
+-- the statements of a file as lines
+abbrev lines : List ℕ → List ℕ → Result (List Statement) ParseFault → List Line
+lines path scopes (Ok statements) = map (λ s. record { path = path; scopes = scopes; offset = s.offset; kind = s.kind }) statements
+lines path scopes (Err e) = []
+
+abbrev manifest : List ℕ → Result Manifest ScopeFault
+manifest bytes = manifest_of (lines name (0 ∷ []) (statements_of bytes))
 
 abbrev commands : List ℕ → Result (List ℕ) ScopeFault
-commands bytes = meant (tree_of name bytes)
+commands bytes = shown (manifest bytes)
+
+abbrev rule_r : List ℕ
+rule_r = codes "rule r" ++ lf ++ codes "  command = true" ++ lf
 
 empty_manifest : commands [] ≡ Ok []
 empty_manifest = refl
@@ -47,15 +55,9 @@ block_before_file : commands (codes "rule e" ++ lf ++ codes "  command = echo $x
     ≡ Ok (codes "echo 2 f1" ++ lf)
 block_before_file = refl
 
-bad_escape : commands (codes "x = a$!") ≡ Err (Parse name (parse.Text (BadEscape 5)))
-bad_escape = refl
-
 -- the rule must stand above
 rule_below : commands (codes "build a: r" ++ lf ++ codes "rule r" ++ lf ++ codes "  command = true") ≡ Err (Refused name 0 UnknownRule)
 rule_below = refl
-
-phony_unknown : commands (codes "build a: phony") ≡ Err (Refused name 0 UnknownRule)
-phony_unknown = refl
 
 rule_twice : commands (codes "rule r" ++ lf ++ codes "  command = a" ++ lf ++ codes "rule r" ++ lf ++ codes "  command = b") ≡ Err (Refused name 21 DuplicateRule)
 rule_twice = refl
@@ -83,3 +85,154 @@ block_scope = refl
 in_of_file : commands (codes "in = f" ++ lf ++ codes "x = $in" ++ lf ++ codes "rule r" ++ lf ++ codes "  command = $x $in" ++ lf ++ codes "build $in: r a" ++ lf ++ codes "  in = b")
     ≡ Ok (codes "f a" ++ lf)
 in_of_file = refl
+
+-- paths are quoted in a command and a description, also inside the variables that these refer to, and not in other variables
+quoting : manifest (codes "rule r" ++ lf ++ codes "  command = c $rspfile_content" ++ lf ++ codes "  description = d $in" ++ lf ++ codes "  depfile = $in.d" ++ lf ++ codes "  rspfile_content = $out" ++ lf ++ codes "build a$ b/./c | d: r e$ f | .//g || h")
+    ≡ Ok (record {
+      edges = record {
+        outputs = codes "a b/c" ∷ [];
+        implicit_outputs = codes "d" ∷ [];
+        inputs = codes "e f" ∷ [];
+        implicit_inputs = codes "g" ∷ [];
+        order_only_inputs = codes "h" ∷ [];
+        command = codes "c 'a b/c'";
+        description = codes "d 'e f'";
+        depfile = codes "e f.d";
+        restat = false;
+        generator = false;
+        phony = false;
+        pool = [];
+      } ∷ [];
+      pools = record { name = codes "console"; depth = 1 } ∷ [];
+      defaults = [];
+    })
+quoting = refl
+
+phony : commands (codes "build a: phony b" ++ lf ++ codes "  command = x") ≡ Ok []
+phony = refl
+
+unknown_pool : commands (codes "pool p" ++ lf ++ codes "  depth = 4" ++ lf ++ codes "rule r" ++ lf ++ codes "  command = true" ++ lf ++ codes "  pool = q" ++ lf ++ codes "build a: r") ≡ Err (Refused name 54 UnknownPool)
+unknown_pool = refl
+
+-- a pool may stand below
+pool_below : commands (codes "rule r" ++ lf ++ codes "  command = $pool" ++ lf ++ codes "  pool = q" ++ lf ++ codes "build a: r" ++ lf ++ codes "pool q" ++ lf ++ codes "  depth = 0") ≡ Ok (codes "q" ++ lf)
+pool_below = refl
+
+pool_twice : commands (codes "pool p" ++ lf ++ codes " depth = 1" ++ lf ++ codes "pool p" ++ lf ++ codes " depth = x") ≡ Err (Refused name 18 DuplicatePool)
+pool_twice = refl
+
+console_declared : commands (codes "pool console" ++ lf ++ codes " depth = 1") ≡ Err (Refused name 0 DuplicatePool)
+console_declared = refl
+
+greatest_depth : manifest (codes "pool p" ++ lf ++ codes " depth = 1000000") ≡ Ok (record { edges = []; pools = record { name = codes "console"; depth = 1 } ∷ record { name = codes "p"; depth = 1000000 } ∷ []; defaults = [] })
+greatest_depth = refl
+
+depth_too_great : commands (codes "pool p" ++ lf ++ codes " depth = 1000001") ≡ Err (Refused name 0 BadDepth)
+depth_too_great = refl
+
+eight_digits : commands (codes "pool p" ++ lf ++ codes " depth = 00000001") ≡ Err (Refused name 0 BadDepth)
+eight_digits = refl
+
+blank_behind_depth : commands (codes "pool p" ++ lf ++ codes " depth = 1 ") ≡ Err (Refused name 0 BadDepth)
+blank_behind_depth = refl
+
+-- dyndep set by one block alone
+one_dyndep : commands (codes "rule r" ++ lf ++ codes "  command = true" ++ lf ++ codes "  dyndep = $dd" ++ lf ++ codes "build a: r" ++ lf ++ codes "build b: r" ++ lf ++ codes "  dd = x") ≡ Err (Refused name 50 Dyndep)
+one_dyndep = refl
+
+no_dyndep : commands (codes "rule r" ++ lf ++ codes "  command = true" ++ lf ++ codes "  dyndep = $dd" ++ lf ++ codes "build a: r" ++ lf ++ codes "build b: r") ≡ Ok (codes "true" ++ lf ++ codes "true" ++ lf)
+no_dyndep = refl
+
+phony_with_dyndep : commands (codes "dyndep = x" ++ lf ++ codes "build a: phony") ≡ Err (Refused name 11 Dyndep)
+phony_with_dyndep = refl
+
+response_file : commands (rule_r ++ codes "build a: r" ++ lf ++ codes " rspfile = $out.rsp") ≡ Err (Refused name 24 Rspfile)
+response_file = refl
+
+other_deps : commands (rule_r ++ codes "build a: r" ++ lf ++ codes " deps = msvc") ≡ Err (Refused name 24 DepsKind)
+other_deps = refl
+
+gcc_deps : commands (rule_r ++ codes "build a: r" ++ lf ++ codes " deps = gcc") ≡ Ok (codes "true" ++ lf)
+gcc_deps = refl
+
+-- the least number first: a pool before a cycle, a cycle before an empty path, that before a response file
+least_number : commands (codes "rule r" ++ lf ++ codes "  command = $command" ++ lf ++ codes "build a: r $none" ++ lf ++ codes " pool = q" ++ lf ++ codes " rspfile = x") ≡ Err (Refused name 28 UnknownPool)
+least_number = refl
+
+cycle_first : commands (codes "rule r" ++ lf ++ codes "  command = true" ++ lf ++ codes "  restat = $restat" ++ lf ++ codes "build a: r $none" ++ lf ++ codes " rspfile = x") ≡ Err (Refused name 43 RuleCycle)
+cycle_first = refl
+
+empty_first : commands (rule_r ++ codes "build a: r || $none" ++ lf ++ codes " rspfile = x") ≡ Err (Refused name 24 EmptyPath)
+empty_first = refl
+
+-- defaults count the build lines above them
+defaults : manifest (codes "default x/../a" ++ lf ++ codes "build a: phony" ++ lf ++ codes "default a b")
+    ≡ Ok (record {
+      edges = record {
+        outputs = codes "a" ∷ [];
+        implicit_outputs = [];
+        inputs = [];
+        implicit_inputs = [];
+        order_only_inputs = [];
+        command = [];
+        description = [];
+        depfile = [];
+        restat = false;
+        generator = false;
+        phony = true;
+        pool = [];
+      } ∷ [];
+      pools = record { name = codes "console"; depth = 1 } ∷ [];
+      defaults = record { path = codes "a"; edges_above = 0 } ∷ record { path = codes "a"; edges_above = 1 } ∷ record { path = codes "b"; edges_above = 1 } ∷ [];
+    })
+defaults = refl
+
+empty_default : commands (codes "default $none") ≡ Err (Refused name 0 EmptyPath)
+empty_default = refl
+
+-- a file taken in by another
+abbrev front : List ℕ
+front = codes "rule e" ++ lf ++ codes "  command = echo $x" ++ lf ++ codes "x = 1" ++ lf
+
+abbrev child : List ℕ
+child = codes "x = 2" ++ lf ++ codes "build c: e"
+
+abbrev taken_in : List ℕ → List ℕ → Result (List ℕ) ScopeFault
+taken_in word scopes =
+    shown (manifest_of (lines name (0 ∷ []) (statements_of (front ++ word ++ codes " c.ninja")) ++ lines (codes "c.ninja") scopes (statements_of child) ++ lines name (0 ∷ []) (statements_of (codes "build p: e"))))
+
+-- a subninja file opens a scope, an included one goes on in that of its line
+by_subninja : taken_in (codes "subninja") (3 ∷ 0 ∷ []) ≡ Ok (codes "echo 2" ++ lf ++ codes "echo 1" ++ lf)
+by_subninja = refl
+
+by_include : taken_in (codes "include") (0 ∷ []) ≡ Ok (codes "echo 2" ++ lf ++ codes "echo 2" ++ lf)
+by_include = refl
+
+-- a subninja file may declare a rule of its parent anew, an included one may not
+rule_anew : shown (manifest_of (lines name (0 ∷ []) (statements_of rule_r) ++ lines (codes "c") (1 ∷ 0 ∷ []) (statements_of (codes "rule r" ++ lf ++ codes "  command = false" ++ lf ++ codes "build c: r")) ++ lines name (0 ∷ []) (statements_of (codes "build p: r"))))
+    ≡ Ok (codes "false" ++ lf ++ codes "true" ++ lf)
+rule_anew = refl
+
+rule_again : shown (manifest_of (lines name (0 ∷ []) (statements_of rule_r) ++ lines (codes "c") (0 ∷ []) (statements_of (codes "x = 1" ++ lf ++ rule_r)))) ≡ Err (Refused (codes "c") 6 DuplicateRule)
+rule_again = refl
+
+-- a source with two files
+abbrev gives : List ℕ → Option (List ℕ) → Type 0
+gives path bytes = ((path ≡ name) × (bytes ≡ Some (codes "subninja c"))) ⊎ ((path ≡ codes "c") × (bytes ≡ Some (codes "x = 1")))
+
+-- its tree
+two_files : LoadsFirst gives (λ path. ⊥) name (Ok (lines name (0 ∷ []) (statements_of (codes "subninja c")) ++ lines (codes "c") (1 ∷ 0 ∷ []) (statements_of (codes "x = 1"))))
+unfolding LoadsWithin
+two_files =
+    let front = lines name (0 ∷ []) (statements_of (codes "subninja c")) in
+    let back = lines (codes "c") (1 ∷ 0 ∷ []) (statements_of (codes "x = 1")) in
+    inr (codes "subninja c", inl (refl, refl), (Ok (front ++ back), inr (codes "x = 1", inr (refl, refl), refl), refl))
+
+-- at depth 64 nothing is taken in, whatever the path
+too_deep : LoadsWithin gives (λ path. ⊥) 0 name (0 ∷ []) [] (Err (Refused name 0 IncludeDepth))
+unfolding LoadsWithin
+too_deep = inr (codes "subninja c", inl (refl, refl), refl)
+
+missing_file : LoadsFirst gives (λ path. path ≡ codes "d") (codes "d") (Err (SourceMissing (codes "d")))
+unfolding LoadsWithin
+missing_file = inl (refl, refl)

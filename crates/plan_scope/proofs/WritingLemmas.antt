@@ -1,5 +1,5 @@
 -- What a sink took of several parts that are written in turn.
-use Rattle.std.proofs.Common.{◌≡◌, ◌++◌, ◌∷◌, ℕ, ◌+◌, ◌<◌, ◌≤◌, List, [], length, take, drop, Option, ap, sym, subst, ◌∙◌, append_assoc, arith, get_or}
+use Rattle.std.proofs.Common.{◌≡◌, ◌++◌, ◌∷◌, ℕ, ◌+◌, ◌<◌, List, length, take, drop, Option, ap, sym, subst, ◌∙◌, append_assoc, arith, get_or}
 use Rattle.std.proofs.lemmas.List.{length-append, take-append-le, drop_more}
 use Rattle.std.proofs.Math.Seq.{take-append-add}
 use Rattle.std.proofs.KnownBytes.{Appends-trans}

@@ -1,117 +1,311 @@
--- The edges of a file, each by the statements above it and by all of them.
-use Rattle.std.specs.Prelude.{ℕ, Bool, ◌||◌, List, [], ◌∷◌, ◌++◌, length, map, Option, Some, None, Result, Ok, Err, ◌==◌, bytes_eq, nat_lt, if◌then◌else◌, unwrap_or, flat_map, codes, is_none}
-use Rattle.std.specs.List.{list_any}
+-- What the lines of a tree mean, each by the lines above it and by all of them.
+use Rattle.std.specs.Prelude.{ℕ, ◌*◌, ◌+◌, ◌-◌, Bool, true, false, not, ◌||◌, ◌&&◌, List, [], ◌∷◌, ◌++◌, length, map, Option, Some, None, Result, Ok, Err, bytes_eq, nat_le, if◌then◌else◌, unwrap_or, flat_map, codes, is_none, is_some}
+use Rattle.std.specs.List.{list_any, list_all}
 use Rattle.plan_text.specs.Bytes.{line_feed}
+use Rattle.plan_text.specs.Path.{canonical_of}
+use Rattle.plan_text.specs.declared.fault.TextFault.{TextFault}
 use Rattle.plan_text.specs.declared.piece_reader.Piece.{Piece}
 use Rattle.plan_parse.specs.declared.statement.Binding.{Binding}
 use Rattle.plan_parse.specs.declared.statement.Build.{Build}
-use Rattle.plan_parse.specs.declared.statement.Statement.{Statement}
 use Rattle.plan_parse.specs.declared.statement.StatementKind.{StatementKind}
 use Rattle.plan_parse.specs.declared.statement.StatementKind.TheVariants as kind
 use Rattle.plan_scope.specs.declared.fault.Cause.{Cause}
-use Rattle.plan_scope.specs.declared.fault.Cause.TheVariants.{DuplicateRule, UnknownRule, RuleCycle, EmptyPath, PathTooLong, TextTooLong}
+use Rattle.plan_scope.specs.declared.fault.Cause.TheVariants.{DuplicateRule, UnknownRule, DuplicatePool, UnknownPool, RuleCycle, EmptyPath, Dyndep, Rspfile, DepsKind, PathTooLong, TextTooLong, BadDepth}
 use Rattle.plan_scope.specs.declared.fault.ScopeFault.{ScopeFault}
 use Rattle.plan_scope.specs.declared.fault.ScopeFault.TheVariants.{Refused}
+use Rattle.plan_scope.specs.declared.manifest.DefaultTarget.{DefaultTarget}
 use Rattle.plan_scope.specs.declared.manifest.Edge.{Edge}
 use Rattle.plan_scope.specs.declared.manifest.Manifest.{Manifest}
-use Rattle.plan_scope.specs.declared.manifest.Tree.{Tree}
-use Rattle.plan_scope.specs.Scopes.{Text, Bindings, last_of, look, expand, bound_by, is_too_long, max_path}
-use Rattle.plan_scope.specs.Expansion.{Use, quoted, variable}
-
--- the variables of a rule, not expanded yet
-abbrev pub late : List Binding → Bindings (List Piece)
-late bindings = map (λ b. (b.name, b.value)) bindings
-
--- the rule that a statement declares
-abbrev pub rules_in : StatementKind → Bindings (Bindings (List Piece))
-rules_in (kind.Rule r) = (r.name, late r.bindings) ∷ []
-rules_in (kind.Build b) = []
-rules_in (kind.Binding b) = []
-
-abbrev pub rules_of : List Statement → Bindings (Bindings (List Piece))
-rules_of statements = flat_map (λ s. rules_in s.kind) statements
-
--- the right sides of a build block, expanded at once by the bindings above it
-abbrev pub block_of : Bindings Text → List Binding → Bindings Text
-block_of above bindings = map (λ b. (b.name, expand (look above) b.value)) bindings
-
--- paths on a build line see its own block first; a list of paths is split before they are expanded
-abbrev pub paths_of : Bindings Text → Bindings Text → List (List Piece) → List Text
-paths_of above block paths = map (expand (λ name. unwrap_or (last_of name block) (look above name))) paths
-
--- what the variables of an edge are looked up in: all statements of the file, those above its build line, the line itself and its rule
-abbrev pub use_of : List Statement → List Statement → Build → Bindings (List Piece) → Use
-use_of all above b rule =
-    let block = block_of (bound_by above) b.bindings in
-    record {
-      inputs = paths_of (bound_by above) block b.inputs;
-      outputs = paths_of (bound_by above) block b.outputs;
-      block = block;
-      rule = rule;
-      file = bound_by all;
-    }
-
--- the command of an edge, none where it refers to itself
-abbrev pub command_of : Use → Option Text
-command_of edge = variable quoted edge (codes "command")
+use Rattle.plan_scope.specs.declared.manifest.Pool.{Pool}
+use Rattle.plan_scope.specs.declared.variables.Variables.{Variables}
+use Rattle.plan_scope.specs.Trees.{Line}
+use Rattle.plan_scope.specs.Scopes.{Text, Name, Bindings, Scoped, last_of, frame, nearest, look, expand, in_own, bound_by, is_too_long, is_long_path, is_empty}
+use Rattle.plan_scope.specs.Expansion.{Use, plain, quoted, variable}
 
 -- the first of these causes that stands
 abbrev pub first_of : List (Bool × Cause) → Option Cause
 first_of [] = None
 first_of (x ∷ more) = if x.0 then Some x.1 else first_of more
 
--- why a build line with a rule is refused: the cause of the least number
-abbrev pub cause_in : Use → Option Cause
-cause_in edge =
-    let paths = edge.outputs ++ edge.inputs in
-    let texts = unwrap_or (command_of edge) [] ∷ map (λ b. b.1) edge.block in
-    first_of (
-    (is_none (command_of edge), RuleCycle)
-    ∷ (list_any (λ path. length path == 0) paths, EmptyPath)
-    ∷ (list_any (λ path. nat_lt max_path (length path)) paths, PathTooLong)
-    ∷ (list_any is_too_long texts, TextTooLong)
-    ∷ [])
-
-abbrev pub edge_of : Use → Edge
-edge_of edge = record { outputs = edge.outputs; inputs = edge.inputs; command = unwrap_or (command_of edge) [] }
-
 abbrev pub or_refused : {A : Type 0} → Option Cause → A → Result A Cause
 or_refused (Some cause) x = Err cause
 or_refused None x = Ok x
 
--- the edge of a build line, or why it is refused; a line without a known rule has no other cause
-abbrev pub edges_by : List Statement → List Statement → Build → Option (Bindings (List Piece)) → Result (List Edge) Cause
-edges_by all above b None = Err UnknownRule
-edges_by all above b (Some rule) = or_refused (cause_in (use_of all above b rule)) (edge_of (use_of all above b rule) ∷ [])
+-- the variables of a rule, not expanded yet
+abbrev pub late : List Binding → Bindings (List Piece)
+late bindings = map (λ b. (b.name, b.value)) bindings
 
--- the edges of a statement, by all statements of the file and those above it
-abbrev pub edges_in : List Statement → List Statement → StatementKind → Result (List Edge) Cause
-edges_in all above (kind.Rule r) =
-    if bytes_eq r.name (codes "phony") || list_any (λ known. bytes_eq known.0 r.name) (rules_of above) then Err DuplicateRule else Ok []
-edges_in all above (kind.Build b) = edges_by all above b (last_of b.rule (rules_of above))
-edges_in all above (kind.Binding b) = Ok []
+-- the rule that a line declares, in its own scope
+abbrev pub rules_in : List ℕ → StatementKind → Scoped (Bindings (List Piece))
+rules_in scopes (kind.Rule r) = in_own scopes r.name (late r.bindings)
+rules_in scopes (kind.Build b) = []
+rules_in scopes (kind.Pool p) = []
+rules_in scopes (kind.Default targets) = []
+rules_in scopes (kind.Include path) = []
+rules_in scopes (kind.Subninja path) = []
+rules_in scopes (kind.Binding b) = []
 
-abbrev pub in_front : ℕ → Result (List Edge) Cause → Result (List Edge) (ℕ × Cause) → Result (List Edge) (ℕ × Cause)
-in_front at (Err cause) more = Err (at, cause)
-in_front at (Ok edges) (Ok more) = Ok (edges ++ more)
-in_front at (Ok edges) (Err e) = Err e
+abbrev pub rules_of : List Line → Scoped (Bindings (List Piece))
+rules_of lines = flat_map (λ l. rules_in l.scopes l.kind) lines
 
--- the edges of the statements behind those above, or the first cause with its statement's offset
-abbrev pub edges_past : List Statement → List Statement → List Statement → Result (List Edge) (ℕ × Cause)
-edges_past all above [] = Ok []
-edges_past all above (s ∷ more) = in_front s.offset (edges_in all above s.kind) (edges_past all (above ++ s ∷ []) more)
+-- whether a line's own scope has a rule of this name
+abbrev pub has_own : {V : Type 0} → Scoped V → List ℕ → Name → Bool
+has_own bound [] name = false
+has_own bound (own ∷ outer) name = is_some (last_of name (frame own bound))
 
-abbrev pub manifest_by : Text → Result (List Edge) (ℕ × Cause) → Result Manifest ScopeFault
-manifest_by path (Ok edges) = Ok (record { edges = edges })
-manifest_by path (Err e) = Err (Refused path e.0 e.1)
+-- a rule is declared once in a scope, and `phony` nowhere
+abbrev pub is_taken : Scoped (Bindings (List Piece)) → List ℕ → Name → Bool
+is_taken rules scopes name = bytes_eq name (codes "phony") || has_own rules scopes name
 
--- what a tree means
-abbrev pub manifest_of : Tree → Result Manifest ScopeFault
-manifest_of tree = manifest_by tree.path (edges_past tree.statements [] tree.statements)
+-- the name of the pool that a line declares
+abbrev pub pools_in : StatementKind → List Name
+pools_in (kind.Pool p) = p.name ∷ []
+pools_in (kind.Rule r) = []
+pools_in (kind.Build b) = []
+pools_in (kind.Default targets) = []
+pools_in (kind.Include path) = []
+pools_in (kind.Subninja path) = []
+pools_in (kind.Binding b) = []
 
--- an edge's command and a newline
+-- pools are shared by all files; `console` is always there
+abbrev pub pools_of : List Line → List Name
+pools_of lines = codes "console" ∷ flat_map (λ l. pools_in l.kind) lines
+
+abbrev pub is_among : List Name → Name → Bool
+is_among names name = list_any (bytes_eq name) names
+
+-- one to seven digits
+abbrev pub is_digit : ℕ → Bool
+is_digit b = nat_le 48 b && nat_le b 57
+
+abbrev pub is_number : Text → Bool
+is_number text = not (is_empty text) && nat_le (length text) 7 && list_all is_digit text
+
+-- the number that digits mean, behind these
+abbrev pub number_past : ℕ → Text → ℕ
+number_past n [] = n
+number_past n (b ∷ more) = number_past (n * 10 + (b - 48)) more
+
+abbrev pub max_depth : ℕ
+max_depth = 1000000
+
+-- the depth of a pool
+abbrev pub depth_in : Text → Option ℕ
+depth_in text = if is_number text && nat_le (number_past 0 text) max_depth then Some (number_past 0 text) else None
+
+-- the canonical form of a path; a path that has no byte, or is too long, stays as it is
+abbrev pub canonical_or : Text → Result Text TextFault → Text
+canonical_or text (Ok path) = path
+canonical_or text (Err fault) = text
+
+abbrev pub path_of : Text → Text
+path_of text = if is_long_path text then text else canonical_or text (canonical_of text)
+
+-- the right sides of a build block, expanded at once by what names stand for above it
+abbrev pub block_of : (Name → Text) → List Binding → Bindings Text
+block_of here bindings = map (λ b. (b.name, expand here b.value)) bindings
+
+-- what a name stands for on a build line: its own block comes first
+abbrev pub near : (Name → Text) → Bindings Text → Name → Text
+near here block name = unwrap_or (last_of name block) (here name)
+
+-- a list of paths is split before they are expanded
+abbrev pub paths_of : (Name → Text) → List (List Piece) → List Text
+paths_of here paths = map (expand here) paths
+
+-- all paths of a build line as expanded
+abbrev pub all_paths : (Name → Text) → Build → List Text
+all_paths here b =
+    paths_of here b.outputs ++ paths_of here b.implicit_outputs ++ paths_of here b.inputs ++ paths_of here b.implicit_inputs ++ paths_of here b.order_only_inputs
+
+-- What the variables of an edge are looked up in: what names stand for above its line and, once the whole tree was read, in its file; the line itself; its rule.
+abbrev pub use_of : (here file : Name → Text) → Build → Bindings (List Piece) → Use
+use_of here file b rule =
+    let block = block_of here b.bindings in
+    record {
+      inputs = map path_of (paths_of (near here block) b.inputs);
+      outputs = map path_of (paths_of (near here block) b.outputs);
+      block = block;
+      rule = rule;
+      file = file;
+    }
+
+-- the variables of an edge; paths in its command and its description are quoted
+abbrev pub variables_of : Use → Variables
+variables_of edge = record {
+  command = variable quoted edge (codes "command");
+  depfile = variable plain edge (codes "depfile");
+  deps = variable plain edge (codes "deps");
+  description = variable quoted edge (codes "description");
+  dyndep = variable plain edge (codes "dyndep");
+  generator = variable plain edge (codes "generator");
+  pool = variable plain edge (codes "pool");
+  restat = variable plain edge (codes "restat");
+  rspfile = variable plain edge (codes "rspfile");
+}
+
+-- a phony has no rule, and looks up `dyndep` alone
+abbrev pub phony_variables : Use → Variables
+phony_variables edge = record {
+  command = Some [];
+  depfile = Some [];
+  deps = Some [];
+  description = Some [];
+  dyndep = variable plain edge (codes "dyndep");
+  generator = Some [];
+  pool = Some [];
+  restat = Some [];
+  rspfile = Some [];
+}
+
+abbrev pub all_variables : Variables → List (Option Text)
+all_variables v = v.command ∷ v.depfile ∷ v.deps ∷ v.description ∷ v.dyndep ∷ v.generator ∷ v.pool ∷ v.restat ∷ v.rspfile ∷ []
+
+-- the text of a variable; where its expansion meets a cycle it has none, and nothing else is found in it
+abbrev pub text_in : Option Text → Text
+text_in text = unwrap_or text []
+
+abbrev pub is_present : Option Text → Bool
+is_present text = not (is_empty (text_in text))
+
+-- a text that isn't empty names a pool; one that is too long names none
+abbrev pub names_no_pool : List Name → Text → Bool
+names_no_pool pools text = not (is_empty text) && (is_too_long text || not (is_among pools text))
+
+abbrev pub is_other_deps : Text → Bool
+is_other_deps text = not (is_empty text) && not (bytes_eq text (codes "gcc"))
+
+-- what a build line with a rule may be refused for, the least number first: by the pools of the tree, its variables, its paths as expanded, and its block
+abbrev pub causes_of : List Name → Variables → List Text → Bindings Text → List (Bool × Cause)
+causes_of pools v paths block =
+    (names_no_pool pools (text_in v.pool), UnknownPool)
+    ∷ (list_any is_none (all_variables v), RuleCycle)
+    ∷ (list_any is_empty paths, EmptyPath)
+    ∷ (is_present v.dyndep, Dyndep)
+    ∷ (is_present v.rspfile, Rspfile)
+    ∷ (is_other_deps (text_in v.deps), DepsKind)
+    ∷ (list_any is_long_path paths, PathTooLong)
+    ∷ (list_any (λ text. is_too_long (text_in text)) (all_variables v) || list_any (λ b. is_too_long b.1) block, TextTooLong)
+    ∷ []
+
+-- the edge of a build line
+abbrev pub edge_of : (Name → Text) → Build → Variables → Bool → Edge
+edge_of here b v is_phony = record {
+  outputs = map path_of (paths_of here b.outputs);
+  implicit_outputs = map path_of (paths_of here b.implicit_outputs);
+  inputs = map path_of (paths_of here b.inputs);
+  implicit_inputs = map path_of (paths_of here b.implicit_inputs);
+  order_only_inputs = map path_of (paths_of here b.order_only_inputs);
+  command = text_in v.command;
+  description = text_in v.description;
+  depfile = text_in v.depfile;
+  restat = is_present v.restat;
+  generator = is_present v.generator;
+  phony = is_phony;
+  pool = text_in v.pool;
+}
+
+-- The edge of a build line, or why it is refused, by the pools of the tree, what names stand for above the line, and its variables.
+abbrev pub edge_with : List Name → (Name → Text) → Build → Variables → Bool → Result Edge Cause
+edge_with pools here b v is_phony =
+    let block = block_of here b.bindings in
+    or_refused (first_of (causes_of pools v (all_paths (near here block) b) block)) (edge_of (near here block) b v is_phony)
+
+-- the same by its rule; a line without a known rule has no other cause
+abbrev pub edge_by : List Name → (here file : Name → Text) → Build → Option (Bindings (List Piece)) → Result Edge Cause
+edge_by pools here file b None = Err UnknownRule
+edge_by pools here file b (Some rule) = edge_with pools here b (variables_of (use_of here file b rule)) false
+
+-- what a build line gives, by the pools of the tree and the rules above it
+abbrev pub built_by : List Name → Scoped (Bindings (List Piece)) → List ℕ → (here file : Name → Text) → Build → Result Edge Cause
+built_by pools rules scopes here file b =
+    if bytes_eq b.rule (codes "phony") then edge_with pools here b (phony_variables (use_of here file b [])) true
+    else edge_by pools here file b (nearest rules scopes b.rule)
+
+-- a pool, by the names of those above it and the text of its depth
+abbrev pub pool_by : List Name → Name → Text → Result Pool Cause
+pool_by above name text =
+    or_refused (first_of ((is_among above name, DuplicatePool) ∷ (is_too_long text, TextTooLong) ∷ (is_none (depth_in text), BadDepth) ∷ []))
+    (record { name = name; depth = unwrap_or (depth_in text) 0 })
+
+-- a target, by how many build lines stand above it
+abbrev pub target_at : ℕ → Text → DefaultTarget
+target_at edges_above path = record { path = path_of path; edges_above = edges_above }
+
+-- the targets of a line
+abbrev pub targets_by : ℕ → List Text → Result (List DefaultTarget) Cause
+targets_by edges_above paths =
+    or_refused (first_of ((list_any is_empty paths, EmptyPath) ∷ (list_any is_long_path paths, PathTooLong) ∷ []))
+    (map (target_at edges_above) paths)
+
+abbrev pub builds_in : StatementKind → List Build
+builds_in (kind.Build b) = b ∷ []
+builds_in (kind.Rule r) = []
+builds_in (kind.Pool p) = []
+builds_in (kind.Default targets) = []
+builds_in (kind.Include path) = []
+builds_in (kind.Subninja path) = []
+builds_in (kind.Binding b) = []
+
+abbrev pub builds_of : List Line → List Build
+builds_of lines = flat_map (λ l. builds_in l.kind) lines
+
+-- what one line adds to a manifest
+abbrev pub nothing : Manifest
+nothing = record { edges = []; pools = []; defaults = [] }
+
+abbrev pub edge_alone : Edge → Manifest
+edge_alone edge = record { edges = edge ∷ []; pools = []; defaults = [] }
+
+abbrev pub pool_alone : Pool → Manifest
+pool_alone pool = record { edges = []; pools = pool ∷ []; defaults = [] }
+
+abbrev pub defaults_alone : List DefaultTarget → Manifest
+defaults_alone targets = record { edges = []; pools = []; defaults = targets }
+
+abbrev pub with_more : Manifest → Manifest → Manifest
+with_more m n = record { edges = m.edges ++ n.edges; pools = m.pools ++ n.pools; defaults = m.defaults ++ n.defaults }
+
+abbrev pub mapped : {A B : Type 0} → (A → B) → Result A Cause → Result B Cause
+mapped f (Ok x) = Ok (f x)
+mapped f (Err cause) = Err cause
+
+-- what a line gives, by all lines of the tree and those above it
+abbrev pub given_by : List Line → List Line → List ℕ → StatementKind → Result Manifest Cause
+given_by all above scopes (kind.Rule r) = if is_taken (rules_of above) scopes r.name then Err DuplicateRule else Ok nothing
+given_by all above scopes (kind.Build b) = mapped edge_alone (built_by (pools_of all) (rules_of above) scopes (look (bound_by above) scopes) (look (bound_by all) scopes) b)
+given_by all above scopes (kind.Pool p) = mapped pool_alone (pool_by (pools_of above) p.name (expand (look (bound_by above) scopes) p.depth))
+given_by all above scopes (kind.Default targets) = mapped defaults_alone (targets_by (length (builds_of above)) (paths_of (look (bound_by above) scopes) targets))
+given_by all above scopes (kind.Include path) = Ok nothing
+given_by all above scopes (kind.Subninja path) = Ok nothing
+given_by all above scopes (kind.Binding b) = Ok nothing
+
+abbrev pub in_front : Line → Result Manifest Cause → Result Manifest ScopeFault → Result Manifest ScopeFault
+in_front l (Err cause) more = Err (Refused l.path l.offset cause)
+in_front l (Ok given) (Ok more) = Ok (with_more given more)
+in_front l (Ok given) (Err fault) = Err fault
+
+-- what the lines behind those above give, or the fault of the first line with one
+abbrev pub given_past : List Line → List Line → List Line → Result Manifest ScopeFault
+given_past all above [] = Ok nothing
+given_past all above (l ∷ more) = in_front l (given_by all above l.scopes l.kind) (given_past all (above ++ l ∷ []) more)
+
+-- the pool that is there without a line
+abbrev pub console : Pool
+console = record { name = codes "console"; depth = 1 }
+
+-- these, in front of what follows
+abbrev pub with_front : Manifest → Result Manifest ScopeFault → Result Manifest ScopeFault
+with_front front (Ok more) = Ok (with_more front more)
+with_front front (Err fault) = Err fault
+
+-- what the lines of a tree mean
+abbrev pub manifest_of : List Line → Result Manifest ScopeFault
+manifest_of lines = with_front (pool_alone console) (given_past lines [] lines)
+
+-- an edge's command and a newline; nothing of a phony
 abbrev pub command_line : Edge → List ℕ
-command_line edge = edge.command ++ line_feed ∷ []
+command_line edge = if edge.phony then [] else edge.command ++ line_feed ∷ []
 
 -- the commands of the edges in order, a newline after each
 abbrev pub commands_of : Manifest → List ℕ

@@ -4,7 +4,7 @@ use Rattle.std.specs.List.{list_any, list_all, join_with_byte}
 use Rattle.plan_text.specs.Bytes.{space, line_feed}
 use Rattle.plan_text.specs.declared.piece_reader.Piece.{Piece}
 use Rattle.plan_text.specs.declared.piece_reader.Piece.TheVariants.{Literal, Reference}
-use Rattle.plan_scope.specs.Scopes.{Text, Name, Bindings, last_of, look}
+use Rattle.plan_scope.specs.Scopes.{Text, Name, Bindings, last_of}
 
 -- A-Z a-z 0-9 _ + - . /
 abbrev pub is_plain : ℕ → Bool
@@ -20,13 +20,17 @@ escaped b = if b == 39 then codes "'\\''" else b ∷ []
 abbrev pub quoted : Text → Text
 quoted path = if list_all is_plain path then path else 39 ∷ flat_map escaped path ++ 39 ∷ []
 
--- What the variables of an edge are looked up in, the nearest first: its paths, its build block, its rule, its file as it stands at the end.
+-- a path as it is
+abbrev pub plain : Text → Text
+plain path = path
+
+-- What the variables of an edge are looked up in, the nearest first: its explicit paths, its build block, its rule, and what names stand for in its file once the whole tree was read.
 pub record Use : Type 0 where
   pub inputs : List Text
   pub outputs : List Text
   pub block : Bindings Text
   pub rule : Bindings (List Piece)
-  pub file : Bindings Text
+  pub file : Name → Text
 
 -- `in`, `out` and `in_newline`, each path shown in some way
 abbrev pub listed : (Text → Text) → Use → Name → Option Text
@@ -52,7 +56,7 @@ or_late None other = other
 -- the nearest that knows the name
 abbrev pub meaning_of : (Text → Text) → Use → Name → Meaning
 meaning_of show edge name =
-    or_known (listed show edge name) (or_known (last_of name edge.block) (or_late (last_of name edge.rule) (Known (look edge.file name))))
+    or_known (listed show edge name) (or_known (last_of name edge.block) (or_late (last_of name edge.rule) (Known (edge.file name))))
 
 -- both texts, joined, or a cycle
 abbrev pub both : Option Text → Option Text → Option Text

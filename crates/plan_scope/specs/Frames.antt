@@ -1,13 +1,8 @@
--- What the code keeps of texts, bindings and edges.
-use Rattle.std.specs.Prelude.{◌≡◌, ℕ, List, [], ◌∷◌, ◌++◌, Option, Some, None, Result, if◌then◌else◌, option_map, unwrap_or}
+-- What the code keeps of texts and bindings.
+use Rattle.std.specs.Prelude.{◌≡◌, ℕ, List, [], ◌∷◌, ◌++◌, Option, Some, None, if◌then◌else◌, option_map}
 use Rattle.std.specs.Borrow.{Bor}
-use Rattle.plan_text.specs.declared.piece_reader.Piece.{Piece}
-use Rattle.plan_parse.specs.declared.statement.Build.{Build}
-use Rattle.plan_scope.specs.declared.fault.Cause.{Cause}
-use Rattle.plan_scope.specs.declared.manifest.Edge.{Edge}
-use Rattle.plan_scope.specs.Scopes.{Text, Name, Bindings, last_of, is_too_long, look}
-use Rattle.plan_scope.specs.Expansion.{Use}
-use Rattle.plan_scope.specs.Edges.{block_of, paths_of, cause_in, edge_of, or_refused}
+use Rattle.plan_scope.specs.Scopes.{Text, Name, Bindings, Scoped, last_of, frame, is_too_long}
+use Rattle.plan_scope.specs.Edges.{is_among}
 
 -- A text, unless it is too long. Of a text that is too long the code keeps no more than shows it.
 unfoldable pub kept : Text → Option Text
@@ -17,27 +12,23 @@ kept text = if is_too_long text then None else Some text
 abbrev pub Agrees : Bindings Text → Bindings Text → Type 0
 Agrees stored meant = (name : Name) → option_map kept (last_of name stored) ≡ option_map kept (last_of name meant)
 
--- the text of a name on a build line: its own block comes first
-abbrev pub look_near : Bindings Text → Bindings Text → Name → Text
-look_near block above name = unwrap_or (last_of name block) (look above name)
+-- the same in each scope
+abbrev pub AgreesIn : Scoped Text → Scoped Text → Type 0
+AgreesIn stored meant = (scope : ℕ) (name : Name) → option_map kept (last_of name (frame scope stored)) ≡ option_map kept (last_of name (frame scope meant))
+
+-- names that stand for the same texts, as far as texts are kept
+abbrev pub StandsFor : (Name → Text) → (Name → Text) → Type 0
+StandsFor stored meant = (name : Name) → kept (stored name) ≡ kept (meant name)
+
+-- the same values for the same names in each scope
+abbrev pub SameIn : {V : Type 0} → Scoped V → Scoped V → Type 0
+SameIn {V} stored meant = (scope : ℕ) (name : Name) → last_of name (frame scope stored) ≡ last_of name (frame scope meant)
+
+-- the same names
+abbrev pub SameNames : List Name → List Name → Type 0
+SameNames stored meant = (name : Name) → is_among stored name ≡ is_among meant name
 
 -- the entries of a map as bindings
 abbrev pub shown : {V : Type 0} → List (Bor (List ℕ) × V) → Bindings V
 shown [] = []
 shown (e ∷ es) = shown es ++ (e.0.now, e.1) ∷ []
-
--- what the variables of an edge are looked up in, by the bindings above it and those of the whole file
-abbrev pub use_by : Bindings Text → Bindings Text → Build → Bindings (List Piece) → Use
-use_by above file b rule =
-    let block = block_of above b.bindings in
-    record {
-      inputs = paths_of above block b.inputs;
-      outputs = paths_of above block b.outputs;
-      block = block;
-      rule = rule;
-      file = file;
-    }
-
--- the edge, or why its build line is refused
-abbrev pub edge_by : Use → Result Edge Cause
-edge_by edge = or_refused (cause_in edge) (edge_of edge)

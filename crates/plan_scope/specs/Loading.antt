@@ -1,41 +1,111 @@
--- The tree of a file.
-use Rattle.std.specs.Prelude.{◌≡◌, ℕ, ◌+◌, ◌⊎◌, List, [], ◌∷◌, ◌++◌, Option, Some, None, Result, Ok, Err, if◌then◌else◌}
-use Rattle.std.specs.List.{list_any}
+-- The lines of a file and of all files that it takes in.
+use Rattle.std.specs.Prelude.{◌≡◌, ℕ, zero, suc, ◌+◌, ◌⊎◌, ◌==◌, List, [], ◌∷◌, ◌++◌, length, Option, Some, None, Result, Ok, Err, if◌then◌else◌}
 use Rattle.plan_parse.specs.declared.fault.ParseFault.{ParseFault}
 use Rattle.plan_parse.specs.declared.statement.Statement.{Statement}
+use Rattle.plan_parse.specs.declared.statement.StatementKind.{StatementKind}
+use Rattle.plan_parse.specs.declared.statement.StatementKind.TheVariants as kind
 use Rattle.plan_parse.specs.Statements.{statements_of}
-use Rattle.plan_scope.specs.declared.fault.Cause.TheVariants.{TextTooLong}
+use Rattle.plan_scope.specs.declared.fault.Cause.{Cause}
+use Rattle.plan_scope.specs.declared.fault.Cause.TheVariants.{IncludeDepth, EmptyPath, PathTooLong, TextTooLong}
 use Rattle.plan_scope.specs.declared.fault.ScopeFault.{ScopeFault}
 use Rattle.plan_scope.specs.declared.fault.ScopeFault.TheVariants.{SourceMissing, Parse, Refused, LoadMemory}
-use Rattle.plan_scope.specs.declared.manifest.Tree.{Tree}
-use Rattle.plan_scope.specs.Scopes.{Text, Bindings, bound_in, is_too_long}
+use Rattle.plan_scope.specs.declared.tree.Tree.{Tree}
+use Rattle.plan_scope.specs.Trees.{Line}
+use Rattle.plan_scope.specs.Scopes.{Text, Name, look, expand, bound_by, is_too_long, is_long_path, is_empty}
+use Rattle.plan_scope.specs.Edges.{first_of}
 
--- the offset of the first right side behind these bindings that is too long
-abbrev pub too_long_past : Bindings Text → List Statement → Option ℕ
-too_long_past above [] = None
-too_long_past above (s ∷ more) =
-    if list_any (λ b. is_too_long b.1) (bound_in above s.kind) then Some s.offset else too_long_past (above ++ bound_in above s.kind) more
+-- the path of the file that a statement takes in
+abbrev pub taken_by : (Name → Text) → StatementKind → Option Text
+taken_by here (kind.Include path) = Some (expand here path)
+taken_by here (kind.Subninja path) = Some (expand here path)
+taken_by here (kind.Rule r) = None
+taken_by here (kind.Build b) = None
+taken_by here (kind.Pool p) = None
+taken_by here (kind.Default targets) = None
+taken_by here (kind.Binding b) = None
 
-abbrev pub tree_by : Text → List Statement → Option ℕ → Result Tree ScopeFault
-tree_by path statements None = Ok (record { path = path; statements = statements })
-tree_by path statements (Some offset) = Err (Refused path offset TextTooLong)
+-- The scopes of the lines taken in: an included file goes on in the scope of the line, a subninja file opens one of its own. That is numbered by how many lines stand above the file's first.
+abbrev pub scopes_in : ℕ → List ℕ → StatementKind → List ℕ
+scopes_in lines scopes (kind.Subninja path) = lines ∷ scopes
+scopes_in lines scopes (kind.Include path) = scopes
+scopes_in lines scopes (kind.Rule r) = scopes
+scopes_in lines scopes (kind.Build b) = scopes
+scopes_in lines scopes (kind.Pool p) = scopes
+scopes_in lines scopes (kind.Default targets) = scopes
+scopes_in lines scopes (kind.Binding b) = scopes
 
-abbrev pub tree_from : Text → Result (List Statement) ParseFault → Result Tree ScopeFault
-tree_from path (Ok statements) = tree_by path statements (too_long_past [] statements)
-tree_from path (Err fault) = Err (Parse path fault)
+-- why no file may be taken in from a path, where so many files more may be open
+abbrev pub cause_of_path : ℕ → Text → Option Cause
+cause_of_path left path = first_of ((left == 0, IncludeDepth) ∷ (is_empty path, EmptyPath) ∷ (is_long_path path, PathTooLong) ∷ [])
 
--- the tree of a file with these bytes
-abbrev pub tree_of : Text → List ℕ → Result Tree ScopeFault
-tree_of path bytes = tree_from path (statements_of bytes)
+-- why a statement can't be loaded
+abbrev pub cause_to_load : ℕ → (Name → Text) → StatementKind → Option Cause
+cause_to_load left here (kind.Binding b) = if is_too_long (expand here b.value) then Some TextTooLong else None
+cause_to_load left here (kind.Include path) = cause_of_path left (expand here path)
+cause_to_load left here (kind.Subninja path) = cause_of_path left (expand here path)
+cause_to_load left here (kind.Rule r) = None
+cause_to_load left here (kind.Build b) = None
+cause_to_load left here (kind.Pool p) = None
+cause_to_load left here (kind.Default targets) = None
 
--- What is answered for the file at a path: what its bytes mean, which the source may give; or that it is missing, where the source may say so or a read failed. Want of memory tells nothing.
-abbrev pub Loads : (Text → Option (List ℕ) → Type 0) → (before now : ℕ) → Text → Result Tree ScopeFault → Type 0
+-- what may be answered for a file: its path, its scopes, the lines above it, and the answer, all lines so far or a fault
+abbrev pub Takes : Type 1
+Takes = Text → List ℕ → List Line → Result (List Line) ScopeFault → Type 0
+
+-- what may be answered for what follows these lines
+abbrev pub Next : Type 1
+Next = List Line → Result (List Line) ScopeFault → Type 0
+
+-- the first fault counts
+abbrev pub GoesOn : Next → Result (List Line) ScopeFault → Result (List Line) ScopeFault → Type 0
+GoesOn next (Ok lines) out = next lines out
+GoesOn next (Err fault) out = out ≡ Err fault
+
+-- a line that is refused, one that takes in no file, and one that takes in this file
+abbrev pub LoadsLine : Takes → Next → List Line → Line → Option Cause → Option Text → Result (List Line) ScopeFault → Type 0
+LoadsLine takes next above l (Some cause) file out = out ≡ Err (Refused l.path l.offset cause)
+LoadsLine takes next above l None None out = next (above ++ l ∷ []) out
+LoadsLine takes next above l None (Some file) out =
+    (inner : Result (List Line) ScopeFault) × takes file (scopes_in (length above + 1) l.scopes l.kind) (above ++ l ∷ []) inner × GoesOn next inner out
+
+-- the statements of a file in order, behind the lines above
+abbrev pub LoadsAll : Takes → ℕ → Text → List ℕ → List Line → List Statement → Result (List Line) ScopeFault → Type 0
+LoadsAll takes left path scopes above [] out = out ≡ Ok above
+LoadsAll takes left path scopes above (s ∷ more) out =
+    let here = look (bound_by above) scopes in
+    LoadsLine takes (λ lines out. LoadsAll takes left path scopes lines more out) above (record { path = path; scopes = scopes; offset = s.offset; kind = s.kind })
+    (cause_to_load left here s.kind) (taken_by here s.kind) out
+
+abbrev pub LoadsParsed : Takes → ℕ → Text → List ℕ → List Line → Result (List Statement) ParseFault → Result (List Line) ScopeFault → Type 0
+LoadsParsed takes left path scopes above (Ok statements) out = LoadsAll takes left path scopes above statements out
+LoadsParsed takes left path scopes above (Err fault) out = out ≡ Err (Parse path fault)
+
+-- A file: it is missing, where the source may say so or its read failed; or it has bytes that the source may give.
+abbrev pub LoadsFile : (gives : Text → Option (List ℕ) → Type 0) → (missing : Text → Type 0) → Takes → ℕ → Takes
+LoadsFile gives missing takes left path scopes above out =
+    ((out ≡ Err (SourceMissing path)) × missing path)
+    ⊎ ((bytes : List ℕ) × gives path (Some bytes) × LoadsParsed takes left path scopes above (statements_of bytes) out)
+
+-- a file, where so many files more may be open
+unfoldable pub LoadsWithin : (gives : Text → Option (List ℕ) → Type 0) → (missing : Text → Type 0) → ℕ → Takes
+LoadsWithin gives missing zero = LoadsFile gives missing (λ path scopes above out. ⊥) 0
+LoadsWithin gives missing (suc left) = LoadsFile gives missing (LoadsWithin gives missing left) (suc left)
+
+-- at most 64 files are open at once
+abbrev pub max_files : ℕ
+max_files = 64
+
+-- the first file has scope 0
+abbrev pub LoadsFirst : (gives : Text → Option (List ℕ) → Type 0) → (missing : Text → Type 0) → Text → Result (List Line) ScopeFault → Type 0
+LoadsFirst gives missing path out = LoadsWithin gives missing 63 path (0 ∷ []) [] out
+
+-- a read that failed raised the count; one that found no file didn't
+abbrev pub IsMissing : (gives : Text → Option (List ℕ) → Type 0) → (before now : ℕ) → Text → Type 0
+IsMissing gives before now path = (gives path None × (now ≡ before)) ⊎ (now ≡ before + 1)
+
+-- What is answered for the manifest at a path, by what the source may give. Want of memory tells nothing; the count of failed reads rises where a read failed, and then alone.
+abbrev pub Loads : (gives : Text → Option (List ℕ) → Type 0) → (before now : ℕ) → Text → Result Tree ScopeFault → Type 0
+Loads gives before now path (Ok tree) = (now ≡ before) × LoadsFirst gives (IsMissing gives before now) path (Ok tree.lines)
 Loads gives before now path (Err LoadMemory) = now ≡ before
-Loads gives before now path (Err (SourceMissing p)) = (p ≡ path) × ((gives path None × (now ≡ before)) ⊎ (now ≡ before + 1))
-Loads gives before now path answer = (now ≡ before) × (bytes : List ℕ) × gives path (Some bytes) × (tree_of path bytes ≡ answer)
-
--- what was answered is the tree that is meant, unless memory ran out
-abbrev pub IsTree : Result Tree ScopeFault → Result Tree ScopeFault → Type 0
-IsTree (Err LoadMemory) meant = Unit {0}
-IsTree (Err (SourceMissing path)) meant = ⊥
-IsTree answer meant = meant ≡ answer
+Loads gives before now path (Err (SourceMissing file)) = LoadsFirst gives (IsMissing gives before now) path (Err (SourceMissing file))
+Loads gives before now path (Err fault) = (now ≡ before) × LoadsFirst gives (IsMissing gives before now) path (Err fault)

@@ -1,10 +1,10 @@
 -- What names are bound to. (Ninja manual, "Variable expansion" and "Evaluation and scoping".)
-use Rattle.std.specs.Prelude.{ℕ, Bool, List, [], ◌∷◌, ◌++◌, Option, Some, None, bytes_eq, nat_lt, length, if◌then◌else◌, unwrap_or, flat_map}
+use Rattle.std.specs.Prelude.{ℕ, Bool, List, [], ◌∷◌, ◌++◌, Option, Some, None, ◌==◌, bytes_eq, nat_lt, length, if◌then◌else◌, unwrap_or, flat_map}
 use Rattle.plan_text.specs.declared.piece_reader.Piece.{Piece}
 use Rattle.plan_text.specs.declared.piece_reader.Piece.TheVariants.{Literal, Reference}
-use Rattle.plan_parse.specs.declared.statement.Statement.{Statement}
 use Rattle.plan_parse.specs.declared.statement.StatementKind.{StatementKind}
 use Rattle.plan_parse.specs.declared.statement.StatementKind.TheVariants as kind
+use Rattle.plan_scope.specs.Trees.{Line}
 
 abbrev pub Text : Type 0
 Text = List ℕ
@@ -25,9 +25,23 @@ abbrev pub last_of : {V : Type 0} → Name → Bindings V → Option V
 last_of name [] = None
 last_of name (b ∷ bs) = or_else (last_of name bs) (if bytes_eq b.0 name then Some b.1 else None)
 
--- the last binding of a name; the empty text where there is none
-abbrev pub look : Bindings Text → Name → Text
-look bindings name = unwrap_or (last_of name bindings) []
+-- names with what they are bound to, each in a scope, in the order of the tree
+abbrev pub Scoped : Type 0 → Type 0
+Scoped V = List (ℕ × (Name × V))
+
+-- the bindings of one scope
+abbrev pub frame : {V : Type 0} → ℕ → Scoped V → Bindings V
+frame scope [] = []
+frame scope (b ∷ bs) = if b.0 == scope then b.1 ∷ frame scope bs else frame scope bs
+
+-- what the last binding in the nearest scope that has one gives
+abbrev pub nearest : {V : Type 0} → Scoped V → List ℕ → Name → Option V
+nearest bound [] name = None
+nearest bound (scope ∷ outer) name = or_else (last_of name (frame scope bound)) (nearest bound outer name)
+
+-- the text of a name, empty where no scope binds it
+abbrev pub look : Scoped Text → List ℕ → Name → Text
+look bound scopes name = unwrap_or (nearest bound scopes name) []
 
 abbrev pub value_of : (Name → Text) → Piece → Text
 value_of value (Literal text) = text
@@ -37,20 +51,29 @@ value_of value (Reference name) = value name
 abbrev pub expand : (Name → Text) → List Piece → Text
 expand value pieces = flat_map (value_of value) pieces
 
+-- a binding in the own scope of a line, the first that it sees
+abbrev pub in_own : {V : Type 0} → List ℕ → Name → V → Scoped V
+in_own [] name value = []
+in_own (own ∷ outer) name value = (own, (name, value)) ∷ []
+
 -- what a statement binds, its right side expanded at once by the bindings above it
-abbrev pub bound_in : Bindings Text → StatementKind → Bindings Text
-bound_in above (kind.Binding b) = (b.name, expand (look above) b.value) ∷ []
-bound_in above (kind.Rule r) = []
-bound_in above (kind.Build b) = []
+abbrev pub bound_in : Scoped Text → List ℕ → StatementKind → Scoped Text
+bound_in above scopes (kind.Binding b) = in_own scopes b.name (expand (look above scopes) b.value)
+bound_in above scopes (kind.Rule r) = []
+bound_in above scopes (kind.Build b) = []
+bound_in above scopes (kind.Pool p) = []
+bound_in above scopes (kind.Default targets) = []
+bound_in above scopes (kind.Include path) = []
+bound_in above scopes (kind.Subninja path) = []
 
--- these bindings, and those of the statements behind them
-abbrev pub bound_past : Bindings Text → List Statement → Bindings Text
+-- these bindings, and those of the lines behind them
+abbrev pub bound_past : Scoped Text → List Line → Scoped Text
 bound_past above [] = above
-bound_past above (s ∷ more) = bound_past (above ++ bound_in above s.kind) more
+bound_past above (l ∷ more) = bound_past (above ++ bound_in above l.scopes l.kind) more
 
--- what the statements of a file bind
-abbrev pub bound_by : List Statement → Bindings Text
-bound_by statements = bound_past [] statements
+-- what lines bind
+abbrev pub bound_by : List Line → Scoped Text
+bound_by lines = bound_past [] lines
 
 -- an expanded text has at most 1,048,576 bytes
 abbrev pub max_text : ℕ
@@ -62,3 +85,9 @@ is_too_long text = nat_lt max_text (length text)
 -- a path as expanded has at most 4,096 bytes
 abbrev pub max_path : ℕ
 max_path = 4096
+
+abbrev pub is_long_path : Text → Bool
+is_long_path path = nat_lt max_path (length path)
+
+abbrev pub is_empty : Text → Bool
+is_empty text = length text == 0

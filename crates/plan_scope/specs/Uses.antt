@@ -1,6 +1,7 @@
--- What an edge's variables are looked up in, as the code holds it.
-use Rattle.plan_scope.specs.declared.expansion.Use.{Use as Held}
-use Rattle.plan_scope.specs.Expansion.{Use}
+-- What names stand for, as the code holds it.
+use Rattle.plan_scope.specs.declared.scope.Scope.{Scope}
+use Rattle.plan_scope.specs.Scopes.{Text, Name, look}
 
-abbrev pub use_of : Held → Use
-use_of edge = record { inputs = edge.inputs.now; outputs = edge.outputs.now; block = edge.block.now; rule = edge.rule.now; file = edge.file.now }
+-- what names stand for in a scope
+abbrev pub names_in : Scope → Name → Text
+names_in scope = look scope.bound.now scope.scopes.now

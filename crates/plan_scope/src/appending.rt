@@ -5,10 +5,20 @@ ghost use Rattle.std.specs.List.{join_with_byte, list_all};
 ghost use Rattle.plan_scope.specs.Expansion.{escaped, is_plain, quoted};
 ghost use Rattle.plan_scope.specs.Scopes.{is_too_long, max_text};
 ghost use Rattle.plan_scope.specs.Frames.{kept};
+ghost use Rattle.plan_scope.specs.Shows.{shown_as};
 ghost use Rattle.std.specs.Prelude.{map, flat_map, [], ◌∷◌, if◌then◌else◌};
 
 use plan_text::Items;
 use std::alloc::AllocError;
+
+/// How a path is shown.
+#[derive(Clone, Copy)]
+pub enum Show {
+    /// As it is.
+    Plain,
+    /// For a shell.
+    Quoted,
+}
 
 /// The greatest length of an expanded text.
 pub const MAX_TEXT: usize = 1048576;
@@ -71,13 +81,23 @@ fn is_all_plain(path: &[u8]) -> bool
 }
 
 /// Appends a path for a shell.
-pub fn append_quoted(out: &mut Vec<u8>, path: &[u8]) -> Result<(), AllocError>
+fn append_quoted(out: &mut Vec<u8>, path: &[u8]) -> Result<(), AllocError>
     ensures { OnOk result (kept out.new.items ≡ kept (out.old.items ++ quoted path.now)) }
 {
     if is_all_plain(path) {
         append(out, path)
     } else {
         append_between_quotes(out, path)
+    }
+}
+
+/// Appends a path as it is shown.
+fn append_shown(out: &mut Vec<u8>, show: Show, path: &[u8]) -> Result<(), AllocError>
+    ensures { OnOk result (kept out.new.items ≡ kept (out.old.items ++ shown_as show path.now)) }
+{
+    match show {
+        Show::Plain => append(out, path),
+        Show::Quoted => append_quoted(out, path),
     }
 }
 
@@ -91,14 +111,19 @@ fn append_separator(out: &mut Vec<u8>, is_first: bool, separator: u8) -> Result<
     append(out, &[separator])
 }
 
-/// Appends paths for a shell, this byte between each two.
-pub fn append_paths(out: &mut Vec<u8>, paths: &[Items<u8>], separator: u8) -> Result<(), AllocError>
-    ensures { OnOk result (kept out.new.items ≡ kept (out.old.items ++ join_with_byte separator (map quoted paths.now))) }
+/// Appends paths as they are shown, this byte between each two.
+pub fn append_paths(
+    out: &mut Vec<u8>,
+    show: Show,
+    paths: &[Items<u8>],
+    separator: u8,
+) -> Result<(), AllocError>
+    ensures { OnOk result (kept out.new.items ≡ kept (out.old.items ++ join_with_byte separator (map (shown_as show) paths.now))) }
 {
     let mut is_first = true;
     for path in paths {
         append_separator(out, is_first, separator)?;
-        append_quoted(out, path.as_slice())?;
+        append_shown(out, show, path.as_slice())?;
         is_first = false;
     }
     Ok(())

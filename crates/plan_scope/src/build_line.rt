@@ -1,117 +1,187 @@
 //! The edge of a build line.
 
-ghost use Rattle.std.specs.Prelude.{◌≡◌, ◌==◌, ◌++◌, length, nat_lt};
-ghost use Rattle.std.specs.List.{list_any};
-ghost use Rattle.plan_scope.specs.Scopes.{Bindings, Text, max_path};
-ghost use Rattle.plan_scope.specs.Edges.{command_of, first_of};
-ghost use Rattle.plan_scope.specs.Frames.{Agrees, edge_by, use_by};
-ghost use Rattle.plan_scope.specs.Steps.{Gives, IsCommand, edge_from, last_causes};
-ghost use Rattle.plan_scope.specs.Uses.{use_of};
+ghost use Rattle.std.specs.Prelude.{◌≡◌, [], List, IfOk, true, false};
+ghost use Rattle.plan_scope.specs.Scopes.{Name, Text};
+ghost use Rattle.plan_scope.specs.Edges.{edge_with, first_of, names_no_pool, or_refused, phony_variables, use_of, variables_of};
+ghost use Rattle.plan_scope.specs.Frames.{SameNames, StandsFor};
+ghost use Rattle.plan_scope.specs.HeldUses.{use_of as held_use};
+ghost use Rattle.plan_scope.specs.Parts.{IsRead, causes_from, edge_from, use_from};
+ghost use Rattle.plan_scope.specs.Steps.{Gives};
+ghost use Rattle.plan_scope.specs.Uses.{names_in};
 
 use crate::appending::is_long;
-use crate::binding::{block, paths};
-use crate::expansion::{Use, append_variable};
+use crate::build_texts::{
+    BlockTexts, Paths, block, canonical_forms, expanded_paths, has_empty_path, has_long_path,
+};
+use crate::edge_variables::{
+    has_cycle, has_long_text, into_text, is_other_deps, is_present, text_of, variables,
+    variables_of_phony,
+};
+use crate::expansion::Use;
 use crate::fault::{Cause, LineFault};
-use crate::frame::Frame;
 use crate::manifest::Edge;
+use crate::pool_names::PoolNames;
 use crate::rule_variables::RuleVariables;
+use crate::scope::Scope;
+use crate::variables::Variables;
 use plan_parse::Build;
-use plan_text::Items;
-use std::alloc::Global;
+use std::alloc::{AllocError, Global};
 
-/// The greatest length of a path.
-const MAX_PATH: usize = 4096;
-
-/// The command of an edge.
-fn command<'a>(alloc: Global, edge: &'a Use<'a>) -> Result<Vec<u8>, LineFault>
-    ensures { IsCommand result (command_of (use_of edge.now)) }
-{
-    let mut out = Vec::new(alloc);
-    append_variable(alloc, edge, edge.rule.len(), &[], b"command", &mut out)?;
-    Ok(out)
+/// What is read of a build line before its variables are looked up.
+#[derive(Drop)]
+pub struct Parts<'a> {
+    /// Its block.
+    pub block: BlockTexts<'a>,
+    /// The canonical forms of its paths.
+    pub paths: Paths,
+    /// Whether a path as expanded has no byte.
+    pub has_empty: bool,
+    /// Whether a path as expanded is too long.
+    pub has_long: bool,
 }
 
-/// Whether a path has no byte.
-fn has_empty(paths: &[Items<u8>]) -> bool
-    ensures { result ≡ list_any (λ path. length path == 0) paths.now }
+/// What is read of a build line, by what names stand for above it.
+fn read_parts<'a>(alloc: Global, here: Scope<'a>, build: &'a Build) -> Result<Parts<'a>, AllocError>
+    ensures { IfOk result (λ parts. (h : Name → Text) → StandsFor (names_in here.entry) h → IsRead h build.now parts) }
 {
-    paths.iter().any(|path| path.as_slice().is_empty())
+    let block = block(alloc, here, build.bindings.as_slice())?;
+    let paths = expanded_paths(alloc, &block.values, here, build)?;
+    let has_empty = has_empty_path(&paths);
+    let has_long = has_long_path(&paths);
+    let paths = canonical_forms(alloc, paths)?;
+    Ok(Parts {
+        block,
+        paths,
+        has_empty,
+        has_long,
+    })
 }
 
-/// Whether a path is too long.
-fn has_long(paths: &[Items<u8>]) -> bool
-    ensures { result ≡ list_any (λ path. nat_lt max_path (length path)) paths.now }
+/// Whether a text asks for a pool that isn't there.
+fn names_no_pool(pools: &PoolNames, text: &[u8]) -> bool
+    ensures { result ≡ names_no_pool pools.now text.now }
 {
-    paths.iter().any(|path| path.as_slice().len() > MAX_PATH)
+    if text.is_empty() {
+        return false;
+    }
+    if is_long(text) {
+        return true;
+    }
+    !pools.contains(text)
 }
 
-/// Why an edge is refused that has a command.
-fn cause(
-    outputs: &[Items<u8>],
-    inputs: &[Items<u8>],
-    command: &[u8],
-    block_has_long: bool,
-) -> Option<Cause>
-    ensures { result ≡ first_of (last_causes (outputs.now ++ inputs.now) command.now block_has_long) }
+/// Why a build line with these variables is refused.
+fn cause(pools: &PoolNames, parts: &Parts, variables: &Variables) -> Option<Cause>
+    ensures { result ≡ first_of (causes_from pools.now variables.now parts.now) }
 {
-    if has_empty(outputs) | has_empty(inputs) {
+    if names_no_pool(pools, text_of(&variables.pool)) {
+        return Some(Cause::UnknownPool);
+    }
+    if has_cycle(variables) {
+        return Some(Cause::RuleCycle);
+    }
+    if parts.has_empty {
         return Some(Cause::EmptyPath);
     }
-    if has_long(outputs) | has_long(inputs) {
+    if is_present(&variables.dyndep) {
+        return Some(Cause::Dyndep);
+    }
+    if is_present(&variables.rspfile) {
+        return Some(Cause::Rspfile);
+    }
+    if is_other_deps(text_of(&variables.deps)) {
+        return Some(Cause::DepsKind);
+    }
+    if parts.has_long {
         return Some(Cause::PathTooLong);
     }
-    if is_long(command) | block_has_long {
+    if has_long_text(variables) | parts.block.has_long {
         return Some(Cause::TextTooLong);
     }
     None
 }
 
-/// The edge with these paths and this command, unless it is refused.
-fn checked(
-    outputs: Items<Items<u8>>,
-    inputs: Items<Items<u8>>,
-    command: Vec<u8>,
-    block_has_long: bool,
-) -> Result<Edge, LineFault>
-    ensures { Gives result (edge_from outputs inputs command.items block_has_long) }
+/// The edge with these paths and variables.
+fn made(alloc: Global, paths: Paths, variables: Variables, phony: bool) -> Edge
+    ensures { result ≡ edge_from paths variables phony }
 {
-    match cause(
-        outputs.as_slice(),
-        inputs.as_slice(),
-        &command,
-        block_has_long,
-    ) {
-        Some(cause) => Err(LineFault::Refused(cause)),
-        None => Ok(Edge {
-            outputs,
-            inputs,
-            command: Items::new(command),
-        }),
+    let restat = is_present(&variables.restat);
+    let generator = is_present(&variables.generator);
+    Edge {
+        outputs: paths.outputs,
+        implicit_outputs: paths.implicit_outputs,
+        inputs: paths.inputs,
+        implicit_inputs: paths.implicit_inputs,
+        order_only_inputs: paths.order_only_inputs,
+        command: into_text(alloc, variables.command),
+        description: into_text(alloc, variables.description),
+        depfile: into_text(alloc, variables.depfile),
+        restat,
+        generator,
+        phony,
+        pool: into_text(alloc, variables.pool),
     }
 }
 
-/// The edge of a build line with this rule, by the bindings above it and those of its file.
+/// The edge with these variables, unless it is refused.
+fn checked(
+    alloc: Global,
+    pools: &PoolNames,
+    parts: Parts,
+    variables: Variables,
+    phony: bool,
+) -> Result<Edge, LineFault>
+    ensures { Gives result (or_refused (first_of (causes_from pools.now variables parts.entry)) (edge_from parts.entry.paths variables phony)) }
+{
+    match cause(pools, &parts, &variables) {
+        Some(cause) => Err(LineFault::Refused(cause)),
+        None => Ok(made(alloc, parts.paths, variables, phony)),
+    }
+}
+
+/// What the variables of an edge are looked up in.
+fn use_with<'a>(parts: &'a Parts<'a>, rule: &'a RuleVariables<'a>, file: Scope<'a>) -> Use<'a>
+    ensures { held_use result ≡ use_from parts.now rule.now (names_in file.entry) }
+{
+    Use {
+        inputs: parts.paths.inputs.as_slice(),
+        outputs: parts.paths.outputs.as_slice(),
+        block: &parts.block.values,
+        rule,
+        file,
+    }
+}
+
+/// The edge of a build line with this rule, by the pools of the tree and by what names stand for above the line and, once the whole tree was read, in its file.
 pub fn edge<'a>(
     alloc: Global,
-    above: &'a Frame<'a, Items<u8>>,
-    file: &'a Frame<'a, Items<u8>>,
+    pools: &PoolNames<'a>,
+    here: Scope<'a>,
+    file: Scope<'a>,
     rule: &'a RuleVariables<'a>,
     build: &'a Build,
 ) -> Result<Edge, LineFault>
-    ensures { (a f : Bindings Text) → Agrees above.now a → Agrees file.now f → Gives result (edge_by (use_by a f build.now rule.now)) }
+    ensures { (names : List Name) (h f : Name → Text) → SameNames pools.now names → StandsFor (names_in here.entry) h → StandsFor (names_in file.entry) f → Gives result (edge_with names h build.now (variables_of (use_of h f build.now rule.now)) false) }
 {
-    let block = block(alloc, &*above, build.bindings.as_slice())?;
-    let outputs = paths(alloc, &block.values, &*above, build.outputs.as_slice())?;
-    let inputs = paths(alloc, &block.values, &*above, build.inputs.as_slice())?;
-    let used = Use {
-        inputs: inputs.as_slice(),
-        outputs: outputs.as_slice(),
-        block: &block.values,
-        rule: &*rule,
-        file: &*file,
-    };
-    match command(alloc, &used) {
-        Ok(command) => checked(outputs, inputs, command, block.has_long),
-        Err(fault) => Err(fault),
-    }
+    let parts = read_parts(alloc, here, build)?;
+    let used = use_with(&parts, &*rule, file);
+    let variables = variables(alloc, &used)?;
+    checked(alloc, pools, parts, variables, false)
+}
+
+/// The edge of a phony build line, by the same.
+pub fn phony_edge<'a>(
+    alloc: Global,
+    pools: &PoolNames<'a>,
+    here: Scope<'a>,
+    file: Scope<'a>,
+    build: &'a Build,
+) -> Result<Edge, LineFault>
+    ensures { (names : List Name) (h f : Name → Text) → SameNames pools.now names → StandsFor (names_in here.entry) h → StandsFor (names_in file.entry) f → Gives result (edge_with names h build.now (phony_variables (use_of h f build.now [])) true) }
+{
+    let parts = read_parts(alloc, here, build)?;
+    let rule = RuleVariables::none(alloc);
+    let used = use_with(&parts, &rule, file);
+    let variables = variables_of_phony(alloc, &used)?;
+    checked(alloc, pools, parts, variables, true)
 }

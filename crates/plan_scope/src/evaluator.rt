@@ -1,167 +1,376 @@
-//! What the statements of a tree mean.
+//! What the lines of a tree mean.
 
-ghost use Rattle.std.specs.Prelude.{◌≡◌, ◌≢◌, ◌||◌, [], ◌∷◌, ◌++◌, ℕ, List, OnOk, bytes_eq, codes, is_some};
+ghost use Rattle.std.specs.Prelude.{◌≡◌, ◌≢◌, ◌+◌, ◌||◌, ℕ, List, [], ◌∷◌, ◌++◌, length, OnOk, IfOk, bytes_eq, codes, option_map};
 ghost use Rattle.plan_text.specs.Outcome.{Meets};
-ghost use Rattle.plan_parse.specs.declared.statement.Statement.{Statement as StatementMeant};
-ghost use Rattle.plan_scope.specs.Scopes.{Bindings, Text, bound_by, last_of};
-ghost use Rattle.plan_scope.specs.Edges.{edges_in, edges_past, late, manifest_by, manifest_of};
-ghost use Rattle.plan_scope.specs.Frames.{Agrees};
-ghost use Rattle.plan_scope.specs.Steps.{Declares, Gives, GivesMore, GivesItems, alone, built_by, located_by};
-ghost use Rattle.plan_scope.specs.Evaluation.{Fits};
+ghost use Rattle.plan_scope.specs.Trees.{Line as LineMeant};
+ghost use Rattle.plan_scope.specs.Scopes.{Name, Text, expand, in_own, look};
+ghost use Rattle.plan_scope.specs.Edges.{built_by, console, defaults_alone, edge_alone, edge_by, given_by, given_past, has_own, is_among, is_taken, late, manifest_of, mapped, paths_of, pool_alone, pool_by, pools_in, pools_of, targets_by, with_front};
+ghost use Rattle.plan_scope.specs.Frames.{SameIn, SameNames, StandsFor};
+ghost use Rattle.plan_scope.specs.Uses.{names_in};
+ghost use Rattle.plan_scope.specs.Steps.{Gives};
+ghost use Rattle.plan_scope.specs.Evaluation.{Declares, Fits, GivesMore, IsLocated, Knows, manifest_in, own_of};
 
-use crate::binding::{bind_statement, file_frame};
-use crate::build_line::edge;
-use crate::fault::{Cause, LineFault, ScopeFault, StatementFault};
-use crate::frame::Frame;
+use crate::build_line::{edge, phony_edge};
+use crate::defaults::targets;
+use crate::fault::{Cause, LineFault, ScopeFault};
 use crate::loader::copied;
-use crate::manifest::{Edge, Manifest, Tree};
+use crate::manifest::{DefaultTarget, Edge, Manifest, Pool};
+use crate::pool_names::PoolNames;
+use crate::pools::pool;
 use crate::rule_variables::RuleVariables;
-use plan_parse::{Build, Rule, Statement, StatementKind};
-use plan_text::Items;
-use std::alloc::Global;
+use crate::scope::{Scope, bind, bound_by_lines};
+use crate::scoped::Scoped;
+use crate::tree::{Line, Tree};
+use plan_parse::{Build, Rule, StatementKind};
+use plan_text::{Items, Piece};
+use std::alloc::{AllocError, Global};
 
-/// What the statements so far give.
+/// What all lines of the tree give.
+#[derive(Drop)]
+pub struct Whole<'a> {
+    /// What is bound in all scopes.
+    pub bound: Scoped<Items<u8>>,
+    /// The names of the pools.
+    pub pool_names: PoolNames<'a>,
+}
+
+/// What the lines so far give.
 #[derive(Drop)]
 pub struct Evaluation<'a> {
-    /// The variables of the file.
-    pub values: Frame<'a, Items<u8>>,
-    /// The rules.
-    pub rules: Frame<'a, RuleVariables<'a>>,
+    /// What is bound in all scopes.
+    pub bound: Scoped<Items<u8>>,
+    /// The rules in all scopes.
+    pub rules: Scoped<RuleVariables<'a>>,
+    /// The names of the pools.
+    pub pool_names: PoolNames<'a>,
     /// The edges.
     pub edges: Vec<Edge>,
+    /// The pools.
+    pub pools: Vec<Pool>,
+    /// The targets of `default` statements.
+    pub defaults: Vec<DefaultTarget>,
+}
+
+/// The name of the pool that is there without a line.
+const CONSOLE: &[u8] = b"console";
+
+/// Takes the name of a pool that a line declares.
+fn insert_declared<'a>(names: &mut PoolNames<'a>, kind: &'a StatementKind) -> Result<(), AllocError>
+    ensures { OnOk result ((n : List ℕ) → is_among names.new n ≡ is_among (names.old ++ pools_in kind.now) n) }
+{
+    match kind {
+        StatementKind::Pool(declared) => names.insert(declared.name.as_slice()),
+        _ => Ok(()),
+    }
+}
+
+/// The names of the pools of a tree.
+fn pool_names<'a>(alloc: Global, lines: &'a [Line]) -> Result<PoolNames<'a>, AllocError>
+    ensures { IfOk result (λ names. SameNames names (pools_of lines.now)) }
+{
+    let mut names = PoolNames::new(alloc);
+    names.insert(CONSOLE)?;
+    for line in lines {
+        insert_declared(&mut names, line.kind())?;
+    }
+    Ok(names)
+}
+
+/// What all lines give.
+fn known_of_all<'a>(alloc: Global, lines: &'a [Line]) -> Result<Whole<'a>, AllocError>
+    ensures { IfOk result (λ w. Knows w lines.now) }
+{
+    Ok(Whole {
+        bound: bound_by_lines(alloc, lines)?,
+        pool_names: pool_names(alloc, lines)?,
+    })
+}
+
+/// What no line gives: the pool `console`.
+fn start<'a>(alloc: Global) -> Result<Evaluation<'a>, AllocError>
+    ensures { IfOk result (λ e. Fits e [] × (manifest_in e ≡ pool_alone console)) }
+{
+    let mut pool_names = PoolNames::new(alloc);
+    pool_names.insert(CONSOLE)?;
+    let mut pools = Vec::new(alloc);
+    pools.push(Pool {
+        name: copied(alloc, CONSOLE)?,
+        depth: 1,
+    })?;
+    Ok(Evaluation {
+        bound: Scoped::new(alloc),
+        rules: Scoped::new(alloc),
+        pool_names,
+        edges: Vec::new(alloc),
+        pools,
+        defaults: Vec::new(alloc),
+    })
+}
+
+/// The own scope of a line.
+fn own_scope(scopes: &[usize]) -> Option<usize>
+    ensures { result ≡ own_of scopes.now }
+{
+    match scopes {
+        [] => None,
+        [own, ..] => Some(*own),
+    }
+}
+
+/// Whether the own scope of a line has a rule of this name.
+fn has_own<'a>(rules: &Scoped<RuleVariables<'a>>, scopes: &[usize], name: &[u8]) -> bool
+    ensures { result ≡ has_own rules.now scopes.now name.now }
+{
+    match own_scope(scopes) {
+        Some(own) => rules.own(own, name).is_some(),
+        None => false,
+    }
+}
+
+/// Whether a rule's name is that of edges without a command.
+fn is_phony(name: &[u8]) -> bool
+    ensures { result ≡ bytes_eq name.now (codes "phony") }
+{
+    name == b"phony".as_slice()
 }
 
 /// Whether no rule may be declared under this name.
-fn is_taken<'a>(rules: &Frame<'a, RuleVariables<'a>>, name: &[u8]) -> bool
-    ensures { result ≡ (bytes_eq name.now (codes "phony") || is_some (last_of name.now rules.now)) }
+fn is_taken<'a>(rules: &Scoped<RuleVariables<'a>>, scopes: &[usize], name: &[u8]) -> bool
+    ensures { result ≡ is_taken rules.now scopes.now name.now }
 {
-    name == b"phony".as_slice() || rules.get(name).is_some()
+    is_phony(name) || has_own(rules, scopes, name)
+}
+
+/// Gives a rule its name in the own scope of a line.
+fn set_own<'a>(
+    alloc: Global,
+    rules: &mut Scoped<RuleVariables<'a>>,
+    scopes: &[usize],
+    rule: &'a Rule,
+) -> Result<(), AllocError>
+    ensures { OnOk result (SameIn rules.new (rules.old ++ in_own scopes.now rule.now.name (late rule.now.bindings))) }
+{
+    let Some(own) = own_scope(scopes) else {
+        return Ok(());
+    };
+    let variables = RuleVariables::new(alloc, rule.bindings.as_slice())?;
+    rules.set(alloc, own, rule.name.as_slice(), variables)
 }
 
 /// Declares a rule for the build lines below it.
 fn declare<'a>(
     alloc: Global,
-    rules: &mut Frame<'a, RuleVariables<'a>>,
+    rules: &mut Scoped<RuleVariables<'a>>,
+    scopes: &[usize],
     rule: &'a Rule,
 ) -> Result<(), LineFault>
-    ensures taken { Declares result (bytes_eq rule.now.name (codes "phony") || is_some (last_of rule.now.name rules.old)) }
-    ensures known { OnOk result ((n : List ℕ) → last_of n rules.new ≡ last_of n (rules.old ++ (rule.now.name, late rule.now.bindings) ∷ [])) }
+    ensures taken { Declares result (is_taken rules.old scopes.now rule.now.name) }
+    ensures known { OnOk result (SameIn rules.new (rules.old ++ in_own scopes.now rule.now.name (late rule.now.bindings))) }
 {
-    if is_taken(rules, rule.name.as_slice()) {
+    if is_taken(rules, scopes, rule.name.as_slice()) {
         return Err(LineFault::Refused(Cause::DuplicateRule));
     }
-    let variables = RuleVariables::new(alloc, rule.bindings.as_slice())?;
-    rules.set(rule.name.as_slice(), variables)?;
+    set_own(alloc, rules, scopes, rule)?;
     Ok(())
 }
 
-/// The edge of a build line, by the rules and the bindings above it and the bindings of its file.
-fn built<'a>(
+/// The edge of a build line whose rule was looked up.
+fn ruled<'a>(
     alloc: Global,
-    rules: &'a Frame<'a, RuleVariables<'a>>,
-    above: &'a Frame<'a, Items<u8>>,
-    file: &'a Frame<'a, Items<u8>>,
+    pools: &PoolNames<'a>,
+    here: Scope<'a>,
+    file: Scope<'a>,
+    rule: Option<&'a RuleVariables<'a>>,
     build: &'a Build,
 ) -> Result<Edge, LineFault>
-    ensures { (a f : Bindings Text) → Agrees above.now a → Agrees file.now f → Gives result (built_by a f build.now (last_of build.now.rule rules.now)) }
+    ensures { (names : List Name) (h f : Name → Text) → SameNames pools.now names → StandsFor (names_in here.entry) h → StandsFor (names_in file.entry) f → Gives result (edge_by names h f build.now (option_map (λ r. r.now) rule.entry)) }
 {
-    match rules.get(build.rule.as_slice()) {
-        Some(rule) => edge(alloc, above, file, rule, build),
+    match rule {
+        Some(rule) => edge(alloc, pools, here, file, rule, build),
         None => Err(LineFault::Refused(Cause::UnknownRule)),
     }
+}
+
+/// The edge of a build line.
+fn built<'a>(
+    alloc: Global,
+    pools: &PoolNames<'a>,
+    rules: &'a Scoped<RuleVariables<'a>>,
+    here: Scope<'a>,
+    file: Scope<'a>,
+    build: &'a Build,
+) -> Result<Edge, LineFault>
+    ensures { (names : List Name) (h f : Name → Text) → SameNames pools.now names → StandsFor (names_in here.entry) h → StandsFor (names_in file.entry) f → Gives result (built_by names rules.now here.entry.scopes.now h f build.now) }
+{
+    if is_phony(build.rule.as_slice()) {
+        return phony_edge(alloc, pools, here, file, build);
+    }
+    let rule = rules.nearest(here.scopes, build.rule.as_slice());
+    ruled(alloc, pools, here, file, rule, build)
 }
 
 /// Takes a build line into account.
 fn step_build<'a>(
     alloc: Global,
+    whole: &Whole<'a>,
     so_far: &mut Evaluation<'a>,
-    file: &Frame<'a, Items<u8>>,
+    scopes: &'a [usize],
     build: &'a Build,
 ) -> Result<(), LineFault>
-    ensures edges { (a f : Bindings Text) → Agrees so_far.old.values a → Agrees file.now f → GivesMore so_far.old.edges.items so_far.new.edges.items result (alone (built_by a f build.now (last_of build.now.rule so_far.old.rules))) }
-    ensures values { so_far.new.values ≡ so_far.old.values }
+    ensures given { (names : List Name) (h f : Name → Text) → SameNames whole.now.pool_names names → StandsFor (look so_far.old.bound scopes.now) h → StandsFor (look whole.now.bound scopes.now) f
+        → GivesMore (manifest_in so_far.old) (manifest_in so_far.new) result (mapped edge_alone (built_by names so_far.old.rules scopes.now h f build.now)) }
+    ensures count { OnOk result (length so_far.new.edges.items ≡ length so_far.old.edges.items + 1) }
+    ensures bound { so_far.new.bound ≡ so_far.old.bound }
     ensures rules { so_far.new.rules ≡ so_far.old.rules }
+    ensures names { so_far.new.pool_names ≡ so_far.old.pool_names }
 {
-    let edge = built(alloc, &so_far.rules, &so_far.values, &*file, build)?;
+    let here = Scope {
+        bound: &so_far.bound,
+        scopes,
+    };
+    let file = Scope {
+        bound: &whole.bound,
+        scopes,
+    };
+    let edge = built(alloc, &whole.pool_names, &so_far.rules, here, file, build)?;
     so_far.edges.push(edge)?;
     Ok(())
 }
 
-/// Takes a statement into account.
-fn step<'a>(
+/// Takes a pool into account.
+fn step_pool<'a>(
     alloc: Global,
     so_far: &mut Evaluation<'a>,
-    file: &Frame<'a, Items<u8>>,
-    kind: &'a StatementKind,
+    scopes: &'a [usize],
+    declared: &'a plan_parse::Pool,
 ) -> Result<(), LineFault>
-    ensures edges { (all above : List StatementMeant) → Fits so_far.old above → Agrees file.now (bound_by all) → GivesMore so_far.old.edges.items so_far.new.edges.items result (edges_in all above kind.now) }
-    ensures fits { OnOk result ((above : List StatementMeant) (s : StatementMeant) → s.kind ≡ kind.now → Fits so_far.old above → Fits so_far.new (above ++ s ∷ [])) }
+    ensures given { (names : List Name) (h : Name → Text) → SameNames so_far.old.pool_names names → StandsFor (look so_far.old.bound scopes.now) h
+        → GivesMore (manifest_in so_far.old) (manifest_in so_far.new) result (mapped pool_alone (pool_by names declared.now.name (expand h declared.now.depth))) }
+    ensures count { so_far.new.edges ≡ so_far.old.edges }
+    ensures bound { so_far.new.bound ≡ so_far.old.bound }
+    ensures rules { so_far.new.rules ≡ so_far.old.rules }
+    ensures names { OnOk result ((n : List ℕ) → is_among so_far.new.pool_names n ≡ is_among (so_far.old.pool_names ++ declared.now.name ∷ []) n) }
 {
-    match kind {
-        StatementKind::Rule(rule) => declare(alloc, &mut so_far.rules, rule),
-        StatementKind::Build(build) => step_build(alloc, so_far, file, build),
+    let here = Scope {
+        bound: &so_far.bound,
+        scopes,
+    };
+    match pool(alloc, &so_far.pool_names, here, declared) {
+        Ok(pool) => so_far.pools.push(pool)?,
+        Err(fault) => return Err(fault),
+    }
+    so_far.pool_names.insert(declared.name.as_slice())?;
+    Ok(())
+}
+
+/// Takes a `default` statement into account.
+fn step_default<'a>(
+    alloc: Global,
+    so_far: &mut Evaluation<'a>,
+    scopes: &'a [usize],
+    paths: &'a [Items<Piece>],
+) -> Result<(), LineFault>
+    ensures given { (h : Name → Text) → StandsFor (look so_far.old.bound scopes.now) h
+        → GivesMore (manifest_in so_far.old) (manifest_in so_far.new) result (mapped defaults_alone (targets_by (length so_far.old.edges.items) (paths_of h paths.now))) }
+    ensures count { so_far.new.edges ≡ so_far.old.edges }
+    ensures bound { so_far.new.bound ≡ so_far.old.bound }
+    ensures rules { so_far.new.rules ≡ so_far.old.rules }
+    ensures names { so_far.new.pool_names ≡ so_far.old.pool_names }
+{
+    let here = Scope {
+        bound: &so_far.bound,
+        scopes,
+    };
+    match targets(alloc, so_far.edges.as_slice().len(), here, paths) {
+        Ok(mut found) => so_far.defaults.append(&mut found)?,
+        Err(fault) => return Err(fault),
+    }
+    Ok(())
+}
+
+/// Takes a line into account.
+fn step<'a>(
+    alloc: Global,
+    whole: &Whole<'a>,
+    so_far: &mut Evaluation<'a>,
+    line: &'a Line,
+) -> Result<(), LineFault>
+    ensures given { (all above : List LineMeant) → Fits so_far.old above → Knows whole.now all → GivesMore (manifest_in so_far.old) (manifest_in so_far.new) result (given_by all above line.now.scopes line.now.kind) }
+    ensures fits { OnOk result ((above : List LineMeant) → Fits so_far.old above → Fits so_far.new (above ++ line.now ∷ [])) }
+{
+    let scopes = line.scopes();
+    match line.kind() {
+        StatementKind::Rule(rule) => declare(alloc, &mut so_far.rules, scopes, rule),
+        StatementKind::Build(build) => step_build(alloc, whole, so_far, scopes, build),
+        StatementKind::Pool(declared) => step_pool(alloc, so_far, scopes, declared),
+        StatementKind::Default(paths) => step_default(alloc, so_far, scopes, paths.as_slice()),
+        StatementKind::Include(_) => Ok(()),
+        StatementKind::Subninja(_) => Ok(()),
         StatementKind::Binding(_) => {
-            bind_statement(alloc, &mut so_far.values, kind)?;
+            bind(alloc, &mut so_far.bound, scopes, line.kind())?;
             Ok(())
         }
     }
 }
 
-/// Why a statement at this offset tells nothing.
-fn located(fault: LineFault, offset: u64) -> StatementFault
-    ensures { result ≡ located_by fault offset }
+/// The fault of a line, with its place.
+fn located(alloc: Global, line: &Line, fault: LineFault) -> ScopeFault
+    ensures { IsLocated fault line.now result }
 {
     match fault {
-        LineFault::Refused(cause) => StatementFault::Refused(offset, cause),
-        LineFault::Memory => StatementFault::Memory,
+        LineFault::Refused(cause) => match copied(alloc, line.path()) {
+            Ok(path) => ScopeFault::Refused(path, line.offset(), cause),
+            Err(_) => ScopeFault::Memory,
+        },
+        LineFault::Memory => ScopeFault::Memory,
     }
 }
 
-/// The edges of the statements of a file.
-fn edges(alloc: Global, statements: &[Statement]) -> Result<Vec<Edge>, StatementFault>
-    ensures { GivesItems result (edges_past statements.now [] statements.now) }
+/// What all lines of a tree give.
+fn given<'a>(
+    alloc: Global,
+    whole: &Whole<'a>,
+    mut so_far: Evaluation<'a>,
+    lines: &'a [Line],
+) -> Result<Evaluation<'a>, ScopeFault>
+    requires { Fits so_far [] × Knows whole.now lines.now }
+    ensures { Meets ScopeFault.Memory manifest_in result (with_front (manifest_in so_far.entry) (given_past lines.now [] lines.now)) }
 {
-    let file = file_frame(alloc, statements)?;
-    let mut so_far = Evaluation {
-        values: Frame::new(alloc),
-        rules: Frame::new(alloc),
-        edges: Vec::new(alloc),
-    };
-    for statement in statements {
-        match step(alloc, &mut so_far, &file, &statement.kind) {
+    for line in lines {
+        match step(alloc, whole, &mut so_far, line) {
             Ok(()) => {}
-            Err(fault) => return Err(located(fault, statement.offset)),
+            Err(fault) => return Err(located(alloc, line, fault)),
         }
     }
-    let Evaluation { edges, .. } = so_far;
-    Ok(edges)
+    Ok(so_far)
 }
 
-/// The fault of a statement of the file at this path.
-fn refused(alloc: Global, path: &[u8], offset: u64, cause: Cause) -> ScopeFault
-    ensures { result ≢ ScopeFault.Memory → result ≡ ScopeFault.Refused path.now offset cause }
+/// What the lines of a tree give, `console` among the pools.
+fn evaluated<'a>(alloc: Global, lines: &'a [Line]) -> Result<Evaluation<'a>, ScopeFault>
+    ensures { Meets ScopeFault.Memory manifest_in result (manifest_of lines.now) }
 {
-    match copied(alloc, path) {
-        Ok(path) => ScopeFault::Refused(path, offset, cause),
-        Err(_) => ScopeFault::Memory,
-    }
+    let whole = known_of_all(alloc, lines)?;
+    let so_far = start(alloc)?;
+    given(alloc, &whole, so_far, lines)
 }
 
-/// What the statements of a tree mean.
+/// What the lines of a tree mean.
 ///
 /// # Errors
 ///
-/// `Refused` with the first statement that is at fault, and the cause of the least number that it has; `Memory`.
+/// `Refused` with the first line that is at fault, and the cause of the least number that it has; `Memory`.
 pub fn evaluate(alloc: Global, tree: &Tree) -> Result<Manifest, ScopeFault>
-    ensures { Meets ScopeFault.Memory (λ m. m) result (manifest_of tree.now) }
+    ensures { Meets ScopeFault.Memory (λ m. m) result (manifest_of tree.now.lines) }
 {
-    match edges(alloc, tree.statements.as_slice()) {
-        Ok(edges) => Ok(Manifest {
-            edges: Items::new(edges),
-        }),
-        Err(StatementFault::Refused(offset, cause)) => {
-            Err(refused(alloc, tree.path.as_slice(), offset, cause))
-        }
-        Err(StatementFault::Memory) => Err(ScopeFault::Memory),
-    }
+    let Evaluation {
+        edges,
+        pools,
+        defaults,
+        ..
+    } = evaluated(alloc, tree.lines.as_slice())?;
+    Ok(Manifest {
+        edges: Items::new(edges),
+        pools: Items::new(pools),
+        defaults: Items::new(defaults),
+    })
 }

@@ -2,37 +2,38 @@
 
 ghost use Rattle.std.specs.Prelude.{◌≡◌, ◌∷◌, ℕ, List, IfOk, codes, length, map, option_map, bytes_eq, if◌then◌else◌};
 ghost use Rattle.std.specs.List.{join_with_byte, list_any};
-ghost use Rattle.plan_scope.specs.Scopes.{look};
-ghost use Rattle.plan_scope.specs.Expansion.{quoted, listed, meaning_of, text_within, text_of_piece, joined};
+ghost use Rattle.plan_scope.specs.Scopes.{Text};
+ghost use Rattle.plan_scope.specs.Expansion.{listed, meaning_of, text_within, text_of_piece, joined};
+ghost use Rattle.plan_scope.specs.Shows.{shown_as};
 ghost use Rattle.plan_scope.specs.Steps.{Appends};
-ghost use Rattle.plan_scope.specs.Uses.{use_of};
+ghost use Rattle.plan_scope.specs.HeldUses.{use_of};
 
-use crate::appending::{append, append_paths};
-use crate::binding::text_in;
+use crate::appending::{Show, append, append_paths};
 use crate::fault::{Cause, LineFault};
 use crate::frame::Frame;
 use crate::rule_variables::RuleVariables;
+use crate::scope::{Scope, text_in};
 use plan_text::{Items, Piece};
 use std::alloc::{AllocError, Global};
 
 /// What the variables of an edge are looked up in, the nearest first.
 #[derive(Clone, Copy)]
 pub struct Use<'a> {
-    /// The paths of its inputs.
+    /// The canonical paths of its explicit inputs.
     pub inputs: &'a [Items<u8>],
-    /// The paths of its outputs.
+    /// The canonical paths of its explicit outputs.
     pub outputs: &'a [Items<u8>],
     /// The variables of its build block.
     pub block: &'a Frame<'a, Items<u8>>,
     /// The variables of its rule.
     pub rule: &'a RuleVariables<'a>,
-    /// The variables of its file.
-    pub file: &'a Frame<'a, Items<u8>>,
+    /// What names stand for in its file once the whole tree was read.
+    pub file: Scope<'a>,
 }
 
 /// The paths that a name stands for, and the byte between each two.
 fn listed<'a>(edge: &Use<'a>, name: &[u8]) -> Option<(&'a [Items<u8>], u8)>
-    ensures { option_map (λ l. join_with_byte l.1 (map quoted l.0.now)) result ≡ listed quoted (use_of edge.now) name.now }
+    ensures { (show : Text → Text) → option_map (λ l. join_with_byte l.1 (map show l.0.now)) result ≡ listed show (use_of edge.now) name.now }
 {
     if name == b"in".as_slice() {
         return Some((edge.inputs, b' '));
@@ -54,11 +55,16 @@ fn append_known(out: &mut Vec<u8>, text: &[u8]) -> Result<(), LineFault>
     Ok(())
 }
 
-/// Appends paths, this byte between each two.
-fn append_listed(out: &mut Vec<u8>, paths: &[Items<u8>], separator: u8) -> Result<(), LineFault>
-    ensures { Appends out.old.items out.new.items result (Some (join_with_byte separator (map quoted paths.now))) }
+/// Appends paths as they are shown, this byte between each two.
+fn append_listed(
+    out: &mut Vec<u8>,
+    show: Show,
+    paths: &[Items<u8>],
+    separator: u8,
+) -> Result<(), LineFault>
+    ensures { Appends out.old.items out.new.items result (Some (join_with_byte separator (map (shown_as show) paths.now))) }
 {
-    append_paths(out, paths, separator)?;
+    append_paths(out, show, paths, separator)?;
     Ok(())
 }
 
@@ -87,15 +93,16 @@ fn with_name<'a>(
 pub fn append_variable<'a>(
     alloc: Global,
     edge: &'a Use<'a>,
+    show: Show,
     left: usize,
     in_use: &[&'a [u8]],
     name: &'a [u8],
     out: &mut Vec<u8>,
 ) -> Result<(), LineFault>
-    ensures { Appends out.old.items out.new.items result (text_within left (meaning_of quoted (use_of edge.now)) (map (λ n. n.now) in_use.now) name.now) }
+    ensures { Appends out.old.items out.new.items result (text_within left (meaning_of (shown_as show) (use_of edge.now)) (map (λ n. n.now) in_use.now) name.now) }
 {
     match listed(edge, name) {
-        Some((paths, separator)) => return append_listed(out, paths, separator),
+        Some((paths, separator)) => return append_listed(out, show, paths, separator),
         None => {}
     }
     let pieces = match edge.block.get(name) {
@@ -112,7 +119,7 @@ pub fn append_variable<'a>(
         return Err(LineFault::Refused(Cause::RuleCycle));
     }
     let inner = with_name(alloc, name, in_use)?;
-    append_pieces(alloc, edge, left - 1, &inner, pieces, out)
+    append_pieces(alloc, edge, show, left - 1, &inner, pieces, out)
 }
 
 /// Appends a piece of a variable of a rule.
@@ -120,16 +127,25 @@ pub fn append_variable<'a>(
 fn append_piece<'a>(
     alloc: Global,
     edge: &'a Use<'a>,
+    show: Show,
     left: usize,
     in_use: &[&'a [u8]],
     piece: &'a Piece,
     out: &mut Vec<u8>,
 ) -> Result<(), LineFault>
-    ensures { Appends out.old.items out.new.items result (text_of_piece (text_within left (meaning_of quoted (use_of edge.now)) (map (λ n. n.now) in_use.now)) piece.now) }
+    ensures { Appends out.old.items out.new.items result (text_of_piece (text_within left (meaning_of (shown_as show) (use_of edge.now)) (map (λ n. n.now) in_use.now)) piece.now) }
 {
     match piece {
         Piece::Literal(bytes) => append_known(out, bytes.as_slice()),
-        Piece::Reference(name) => append_variable(alloc, edge, left, in_use, name.as_slice(), out),
+        Piece::Reference(name) => append_variable(
+            alloc,
+            edge,
+            show,
+            left,
+            in_use,
+            name.as_slice(),
+            out,
+        ),
     }
 }
 
@@ -138,15 +154,16 @@ fn append_piece<'a>(
 fn append_pieces<'a>(
     alloc: Global,
     edge: &'a Use<'a>,
+    show: Show,
     left: usize,
     in_use: &[&'a [u8]],
     pieces: &'a [Piece],
     out: &mut Vec<u8>,
 ) -> Result<(), LineFault>
-    ensures { Appends out.old.items out.new.items result (joined (text_within left (meaning_of quoted (use_of edge.now)) (map (λ n. n.now) in_use.now)) pieces.now) }
+    ensures { Appends out.old.items out.new.items result (joined (text_within left (meaning_of (shown_as show) (use_of edge.now)) (map (λ n. n.now) in_use.now)) pieces.now) }
 {
     for piece in pieces {
-        append_piece(alloc, edge, left, in_use, piece, out)?;
+        append_piece(alloc, edge, show, left, in_use, piece, out)?;
     }
     Ok(())
 }

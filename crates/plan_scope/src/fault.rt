@@ -3,7 +3,7 @@
 ghost use Rattle.std.specs.Prelude.{◌≡◌};
 ghost use Rattle.plan_scope.specs.Faults.{cause_number, number_of};
 ghost use Rattle.plan_scope.specs.declared.fault.LineFault.TheVariants as line;
-ghost use Rattle.plan_scope.specs.declared.fault.StatementFault.TheVariants as statement;
+ghost use Rattle.plan_scope.specs.declared.fault.ScopeFault.TheVariants as scope;
 
 use plan_parse::ParseFault;
 use plan_text::Items;
@@ -12,18 +12,32 @@ use std::alloc::{AllocError, AllocFailed};
 /// Why a statement is refused.
 #[derive(Clone, Copy, Debug, PartialEq, Eq)]
 pub enum Cause {
-    /// A rule of this name stands above, or the name is `phony`.
+    /// The 64 files above it are open already.
+    IncludeDepth,
+    /// A rule of this name stands above in the same scope, or the name is `phony`.
     DuplicateRule,
     /// No rule of this name stands above.
     UnknownRule,
+    /// A pool of this name stands above, or the name is `console`.
+    DuplicatePool,
+    /// The tree has no pool of this name.
+    UnknownPool,
     /// A variable of a rule refers to itself.
     RuleCycle,
     /// A path without a byte.
     EmptyPath,
+    /// A `dyndep` that isn't empty.
+    Dyndep,
+    /// An `rspfile` that isn't empty.
+    Rspfile,
+    /// A `deps` that is neither empty nor `gcc`.
+    DepsKind,
     /// A path of more than 4,096 bytes.
     PathTooLong,
     /// A text of more than 1,048,576 bytes.
     TextTooLong,
+    /// A `depth` that isn't one to seven digits, or above 1,000,000.
+    BadDepth,
 }
 
 impl Cause {
@@ -32,12 +46,19 @@ impl Cause {
         ensures { result ≡ cause_number self.now }
     {
         match self {
+            Cause::IncludeDepth => 21,
             Cause::DuplicateRule => 30,
             Cause::UnknownRule => 31,
+            Cause::DuplicatePool => 32,
+            Cause::UnknownPool => 33,
             Cause::RuleCycle => 34,
             Cause::EmptyPath => 35,
+            Cause::Dyndep => 36,
+            Cause::Rspfile => 37,
+            Cause::DepsKind => 38,
             Cause::PathTooLong => 39,
             Cause::TextTooLong => 40,
+            Cause::BadDepth => 42,
         }
     }
 }
@@ -97,19 +118,21 @@ impl<T: Drop> From<AllocFailed<T>> for LineFault {
     }
 }
 
-/// Why the statements of a file have no meaning.
-#[derive(Clone, Copy)]
-pub enum StatementFault {
-    /// The statement at this offset is refused.
-    Refused(u64, Cause),
-    /// Memory ran out.
-    Memory,
+impl From<AllocError> for ScopeFault {
+    ghost from_gives = { λ _ e. e ≡ scope.Memory };
+
+    fn from(_e: AllocError) -> ScopeFault {
+        ScopeFault::Memory
+    }
 }
 
-impl From<AllocError> for StatementFault {
-    ghost from_gives = { λ _ e. e ≡ statement.Memory };
-
-    fn from(_e: AllocError) -> StatementFault {
-        StatementFault::Memory
-    }
+/// Why the statements of a file are not there.
+#[derive(Clone, Copy)]
+pub enum ReadFault {
+    /// The file is missing or can't be read.
+    Missing,
+    /// Its bytes are no list of statements.
+    Parse(ParseFault),
+    /// Memory ran out.
+    Memory,
 }

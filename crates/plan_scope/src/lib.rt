@@ -2,23 +2,34 @@
 #![tactic(auto)]
 
 mod appending;
-mod binding;
 mod build_line;
+mod build_texts;
+mod canonical_paths;
+mod defaults;
+mod edge_variables;
 mod evaluator;
 mod expansion;
 mod fault;
 mod frame;
+mod loaded;
 mod loader;
 mod manifest;
+mod pool_names;
+mod pools;
 mod rule_variables;
+mod scope;
+mod scoped;
 mod source;
+mod tree;
+mod variables;
 mod writing;
 
 pub use evaluator::evaluate;
 pub use fault::{Cause, ScopeFault};
 pub use loader::load;
-pub use manifest::{Edge, Manifest, Tree};
+pub use manifest::{DefaultTarget, Edge, Manifest, Pool};
 pub use source::{Source, SourceFault};
+pub use tree::{File, Line, Tree};
 pub use writing::{WriteFault, command_text, write_commands};
 
 #[cfg(test)]

@@ -1,16 +1,31 @@
 //! Trees from a source.
 
-ghost use Rattle.std.specs.Prelude.{◌≡◌, ◌↔◌, [], ℕ, List, Option, IfOk};
-ghost use Rattle.plan_scope.specs.Loading.{IsTree, Loads, too_long_past, tree_by, tree_from, tree_of};
+ghost use Rattle.std.specs.Prelude.{◌≡◌, ◌↔◌, ◌<◌, ◌≤◌, ◌+◌, ◌-◌, [], ◌∷◌, ◌++◌, ℕ, List, Option, Some, IfOk, IfErr, length};
+ghost use Rattle.std.specs.List.{list_any};
+ghost use Rattle.plan_scope.specs.Scopes.{Name, Text, bound_by, bound_in, expand, is_too_long, look};
+ghost use Rattle.plan_scope.specs.Frames.{StandsFor};
+ghost use Rattle.plan_scope.specs.Loading.{Loads, LoadsAll, LoadsWithin, cause_of_path, cause_to_load, scopes_in, taken_by};
+ghost use Rattle.plan_scope.specs.Taking.{Answers, IsBound, IsRead, IsRefusal, IsTaken, LoadsOne, takes_in};
+ghost use Rattle.plan_scope.specs.Uses.{names_in};
 
-use crate::binding::bind_statement;
-use crate::fault::{Cause, ScopeFault};
-use crate::frame::Frame;
-use crate::manifest::Tree;
+use crate::fault::{Cause, LineFault, ReadFault, ScopeFault};
+use crate::loaded::Loaded;
+use crate::scope::{Scope, bind, expanded};
 use crate::source::{Source, SourceFault};
-use plan_parse::{ParseFault, Statement, parse};
-use plan_text::Items;
+use crate::tree::{File, Line, Tree};
+use plan_parse::{ParseFault, Statement, StatementKind, parse};
+use plan_text::{Items, Piece};
 use std::alloc::{AllocError, Global};
+use std::rc::Rc;
+
+/// How many files more may be open beside the first.
+const MORE_FILES: usize = 63;
+
+/// The greatest length of a path.
+const MAX_PATH: usize = 4096;
+
+/// The first file's scope.
+const FIRST_SCOPE: usize = 0;
 
 /// A copy of a text.
 pub fn copied(alloc: Global, text: &[u8]) -> Result<Items<u8>, AllocError>
@@ -21,54 +36,227 @@ pub fn copied(alloc: Global, text: &[u8]) -> Result<Items<u8>, AllocError>
     Ok(Items::new(copy))
 }
 
-/// The offset of the first statement of a file that binds a name to a text that is too long.
-fn first_too_long(alloc: Global, statements: &[Statement]) -> Result<Option<u64>, AllocError>
-    ensures { IfOk result (λ offset. offset ≡ too_long_past [] statements.now) }
+/// The fault of a line.
+fn refused(alloc: Global, line: &Line, cause: Cause) -> ScopeFault
+    ensures { IsRefusal line.now cause result }
 {
-    let mut frame = Frame::new(alloc);
-    for statement in statements {
-        if bind_statement(alloc, &mut frame, &statement.kind)? {
-            return Ok(Some(statement.offset));
-        }
+    match copied(alloc, line.path()) {
+        Ok(path) => ScopeFault::Refused(path, line.offset(), cause),
+        Err(_) => ScopeFault::LoadMemory,
     }
-    Ok(None)
 }
 
-/// The tree of these statements, unless a right side is too long.
-fn tree_within(
+/// The statements of the file at a path.
+fn read_statements<S: Source>(
     alloc: Global,
-    path: Items<u8>,
-    statements: Vec<Statement>,
-) -> Result<Tree, ScopeFault>
-    ensures { IsTree result (tree_by path statements.items (too_long_past [] statements.items)) }
+    source: &mut S,
+    path: &[u8],
+) -> Result<Items<Statement>, ReadFault>
+    ensures read { IsRead (S.gives source.old) (S.failures source.old) (S.failures source.new) path.now result }
+    ensures same { (p : List ℕ) (bytes : Option (List ℕ)) → S.gives source.new p bytes ↔ S.gives source.old p bytes }
 {
-    match first_too_long(alloc, &statements) {
-        Ok(None) => Ok(Tree {
-            path,
-            statements: Items::new(statements),
-        }),
-        Ok(Some(offset)) => Err(ScopeFault::Refused(path, offset, Cause::TextTooLong)),
+    let bytes = match source.read(alloc, path) {
+        Ok(bytes) => bytes,
+        Err(SourceFault::Missing) => return Err(ReadFault::Missing),
+        Err(SourceFault::Failed) => return Err(ReadFault::Missing),
+        Err(SourceFault::Memory) => return Err(ReadFault::Memory),
+    };
+    match parse(alloc, &bytes) {
+        Ok(statements) => Ok(Items::new(statements)),
+        Err(ParseFault::Memory) => Err(ReadFault::Memory),
+        Err(fault) => Err(ReadFault::Parse(fault)),
+    }
+}
+
+/// The path of a file to take in, where so many more may be open.
+fn taken_path<'a>(
+    alloc: Global,
+    scope: Scope<'a>,
+    pieces: &'a [Piece],
+    left: usize,
+) -> Result<Option<Items<u8>>, LineFault>
+    ensures { (meant : Name → Text) → StandsFor (names_in scope.entry) meant → IsTaken (cause_of_path left (expand meant pieces.now)) (Some (expand meant pieces.now)) result }
+{
+    if left == 0 {
+        return Err(LineFault::Refused(Cause::IncludeDepth));
+    }
+    let path = expanded(alloc, scope, pieces)?;
+    if path.is_empty() {
+        return Err(LineFault::Refused(Cause::EmptyPath));
+    }
+    if path.len() > MAX_PATH {
+        return Err(LineFault::Refused(Cause::PathTooLong));
+    }
+    Ok(Some(Items::new(path)))
+}
+
+/// The path of the file that a line takes in, if it takes in any.
+fn taken(
+    alloc: Global,
+    loaded: &Loaded,
+    line: &Line,
+    left: usize,
+) -> Result<Option<Items<u8>>, LineFault>
+    ensures { IsTaken (cause_to_load left (look (bound_by loaded.now) line.now.scopes) line.now.kind) (taken_by (look (bound_by loaded.now) line.now.scopes) line.now.kind) result }
+{
+    let scope = Scope {
+        bound: &loaded.bound,
+        scopes: line.scopes(),
+    };
+    match line.kind() {
+        StatementKind::Include(path) => taken_path(alloc, scope, path.as_slice(), left),
+        StatementKind::Subninja(path) => taken_path(alloc, scope, path.as_slice(), left),
+        StatementKind::Rule(_) => Ok(None),
+        StatementKind::Build(_) => Ok(None),
+        StatementKind::Pool(_) => Ok(None),
+        StatementKind::Default(_) => Ok(None),
+        StatementKind::Binding(_) => Ok(None),
+    }
+}
+
+/// The scopes of the lines that a line takes in. The file's first stands behind so many lines.
+fn scopes_taken(
+    alloc: Global,
+    lines: usize,
+    scopes: &[usize],
+    kind: &StatementKind,
+) -> Result<Items<usize>, AllocError>
+    ensures { IfOk result (λ inner. inner ≡ scopes_in lines scopes.now kind.now) }
+{
+    let mut inner = Vec::new(alloc);
+    if matches!(kind, StatementKind::Subninja(_)) {
+        inner.push(lines)?;
+    }
+    inner.extend_from_slice(scopes)?;
+    Ok(Items::new(inner))
+}
+
+/// One more line, with what it binds, unless its text is too long.
+fn with_line(alloc: Global, loaded: Loaded, line: Line) -> Result<Loaded, ScopeFault>
+    ensures { IsBound loaded line (list_any (λ b. is_too_long b.1.1) (bound_in (bound_by loaded) line.scopes line.kind)) result }
+{
+    let Loaded {
+        mut lines,
+        mut bound,
+    } = loaded;
+    match bind(alloc, &mut bound, line.scopes(), line.kind()) {
+        Ok(true) => return Err(refused(alloc, &line, Cause::TextTooLong)),
+        Ok(false) => {}
+        Err(_) => return Err(ScopeFault::LoadMemory),
+    }
+    match lines.push(line) {
+        Ok(()) => Ok(Loaded { lines, bound }),
         Err(_) => Err(ScopeFault::LoadMemory),
     }
 }
 
-/// The tree of a file with these bytes.
-fn tree(alloc: Global, path: Items<u8>, bytes: &[u8]) -> Result<Tree, ScopeFault>
-    ensures { IsTree result (tree_of path bytes.now) }
+/// Takes in the file at a path, for the lines behind these. So many files more may be open beside it.
+#[cycle(loading)]
+fn take_file<S: Source>(
+    alloc: Global,
+    source: &mut S,
+    loaded: Loaded,
+    path: Items<u8>,
+    scopes: Items<usize>,
+    left: usize,
+) -> Result<Loaded, ScopeFault>
+    requires { 0 < length scopes }
+    ensures loaded { Answers (S.gives source.old) (S.failures source.old) (S.failures source.new) (λ missing out. LoadsWithin (S.gives source.old) missing left path scopes loaded out) result }
+    ensures same { (p : List ℕ) (bytes : Option (List ℕ)) → S.gives source.new p bytes ↔ S.gives source.old p bytes }
 {
-    match parse(alloc, bytes) {
-        Ok(statements) => tree_within(alloc, path, statements),
-        Err(ParseFault::Memory) => Err(ScopeFault::LoadMemory),
-        Err(fault) => Err(ScopeFault::Parse(path, fault)),
+    let statements = match read_statements(alloc, source, path.as_slice()) {
+        Ok(statements) => statements,
+        Err(ReadFault::Missing) => return Err(ScopeFault::SourceMissing(path)),
+        Err(ReadFault::Parse(fault)) => return Err(ScopeFault::Parse(path, fault)),
+        Err(ReadFault::Memory) => return Err(ScopeFault::LoadMemory),
+    };
+    match Rc::new(alloc, File { path, scopes }) {
+        Ok(file) => take_all(alloc, source, loaded, file, statements, left),
+        Err(_) => Err(ScopeFault::LoadMemory),
     }
 }
 
-/// Reads the file at this path, and answers its tree. Want of memory, also the source's and the reader's, is `LoadMemory`.
+/// Takes in the statements of a file.
+#[cycle(loading)]
+fn take_all<S: Source>(
+    alloc: Global,
+    source: &mut S,
+    loaded: Loaded,
+    file: Rc<File>,
+    statements: Items<Statement>,
+    left: usize,
+) -> Result<Loaded, ScopeFault>
+    requires { 0 < length file.value.scopes }
+    ensures loaded { Answers (S.gives source.old) (S.failures source.old) (S.failures source.new) (λ missing out. LoadsAll (takes_in (S.gives source.old) missing left) left file.value.path file.value.scopes loaded statements out) result }
+    ensures same { (p : List ℕ) (bytes : Option (List ℕ)) → S.gives source.new p bytes ↔ S.gives source.old p bytes }
+{
+    let mut lines = loaded;
+    for statement in statements.into_vec() {
+        let Ok(file) = file.clone() else {
+            return Err(ScopeFault::LoadMemory);
+        };
+        lines = match take_line(alloc, source, lines, Line { file, statement }, left) {
+            Ok(lines) => lines,
+            Err(fault) => return Err(fault),
+        };
+    }
+    Ok(lines)
+}
+
+/// Takes in a line, and the lines of the file that it takes in.
+#[cycle(loading)]
+fn take_line<S: Source>(
+    alloc: Global,
+    source: &mut S,
+    loaded: Loaded,
+    line: Line,
+    left: usize,
+) -> Result<Loaded, ScopeFault>
+    requires { 0 < length line.scopes }
+    ensures loaded { Answers (S.gives source.old) (S.failures source.old) (S.failures source.new) (λ missing out. LoadsOne (takes_in (S.gives source.old) missing left) left loaded line out) result }
+    ensures same { (p : List ℕ) (bytes : Option (List ℕ)) → S.gives source.new p bytes ↔ S.gives source.old p bytes }
+{
+    match taken(alloc, &loaded, &line, left) {
+        Ok(None) => with_line(alloc, loaded, line),
+        Ok(Some(path)) => take_path(alloc, source, loaded, line, path, left),
+        Err(LineFault::Refused(cause)) => Err(refused(alloc, &line, cause)),
+        Err(LineFault::Memory) => Err(ScopeFault::LoadMemory),
+    }
+}
+
+/// Takes in a line that takes in the file at this path, and the file's lines. Such a line binds nothing.
+#[cycle(loading)]
+fn take_path<S: Source>(
+    alloc: Global,
+    source: &mut S,
+    loaded: Loaded,
+    line: Line,
+    path: Items<u8>,
+    left: usize,
+) -> Result<Loaded, ScopeFault>
+    requires scopes { 0 < length line.scopes }
+    requires left { 0 < left }
+    ensures loaded { Answers (S.gives source.old) (S.failures source.old) (S.failures source.new) (λ missing out. LoadsWithin (S.gives source.old) missing (left - 1) path (scopes_in (length loaded + 1) line.scopes line.kind) (loaded ++ line ∷ []) out) result }
+    ensures same { (p : List ℕ) (bytes : Option (List ℕ)) → S.gives source.new p bytes ↔ S.gives source.old p bytes }
+{
+    let count = loaded.lines.len() + 1;
+    let Ok(scopes) = scopes_taken(alloc, count, line.scopes(), line.kind()) else {
+        return Err(ScopeFault::LoadMemory);
+    };
+    let Ok(lines) = with_line(alloc, loaded, line) else {
+        return Err(ScopeFault::LoadMemory);
+    };
+    take_file(alloc, source, lines, path, scopes, left - 1)
+}
+
+/// Reads the file at this path and all files that it takes in: an `include` or `subninja` line is followed by the lines of its file.
+/// Want of memory, also the source's and the reader's, is `LoadMemory`.
 ///
 /// # Errors
 ///
-/// `SourceMissing` where the source has no such file or its read fails, `Parse` where its bytes are no list of statements,
-/// and `Refused` where it binds a name to a text that is too long.
+/// The first in the order of the lines: `SourceMissing` where the source has no such file or its read fails, `Parse` where a file's
+/// bytes are no list of statements, and `Refused` where a line binds a name to a text that is too long, takes in a file from an
+/// empty path or one of more than 4,096 bytes, or stands in a file with 63 others open above it.
 pub fn load<S: Source>(alloc: Global, source: &mut S, path: &[u8]) -> Result<Tree, ScopeFault>
     ensures loaded { Loads (S.gives source.old) (S.failures source.old) (S.failures source.new) path.now result }
     ensures same { (p : List ℕ) (bytes : Option (List ℕ)) → S.gives source.new p bytes ↔ S.gives source.old p bytes }
@@ -76,10 +264,15 @@ pub fn load<S: Source>(alloc: Global, source: &mut S, path: &[u8]) -> Result<Tre
     let Ok(name) = copied(alloc, path) else {
         return Err(ScopeFault::LoadMemory);
     };
-    match source.read(alloc, path) {
-        Ok(bytes) => tree(alloc, name, &bytes),
-        Err(SourceFault::Missing) => Err(ScopeFault::SourceMissing(name)),
-        Err(SourceFault::Failed) => Err(ScopeFault::SourceMissing(name)),
-        Err(SourceFault::Memory) => Err(ScopeFault::LoadMemory),
+    let mut scopes = Vec::new(alloc);
+    let Ok(()) = scopes.push(FIRST_SCOPE) else {
+        return Err(ScopeFault::LoadMemory);
+    };
+    let none = Loaded::new(alloc);
+    match take_file(alloc, source, none, name, Items::new(scopes), MORE_FILES) {
+        Ok(loaded) => Ok(Tree {
+            lines: loaded.into_lines(),
+        }),
+        Err(fault) => Err(fault),
     }
 }

@@ -1,26 +1,52 @@
-//! Trees of statements, and what they mean.
+//! What a tree means.
 
-use plan_parse::Statement;
 use plan_text::Items;
 
-/// The statements of a manifest, and the path of the file that they were read from.
-#[derive(Debug, Drop)]
-pub struct Tree {
-    /// The path of the file, as it was asked for.
-    pub path: Items<u8>,
-    /// Its statements in order.
-    pub statements: Items<Statement>,
-}
-
-/// What a build line makes, from what, and how.
+/// What a build line makes, from what, and how. Its paths are canonical.
 #[derive(Debug, Drop)]
 pub struct Edge {
-    /// The paths of its outputs, at least one.
+    /// The explicit outputs.
     pub outputs: Items<Items<u8>>,
-    /// The paths of its inputs.
+    /// The implicit outputs; there is at least one output of either sort.
+    pub implicit_outputs: Items<Items<u8>>,
+    /// The explicit inputs.
     pub inputs: Items<Items<u8>>,
-    /// The text of its command.
+    /// The implicit inputs.
+    pub implicit_inputs: Items<Items<u8>>,
+    /// The order-only inputs.
+    pub order_only_inputs: Items<Items<u8>>,
+    /// The text of its command; empty for a phony.
     pub command: Items<u8>,
+    /// What is shown in place of the command, where it isn't empty.
+    pub description: Items<u8>,
+    /// The path of its depfile as expanded; empty where it has none.
+    pub depfile: Items<u8>,
+    /// Whether outputs that its command leaves alone count as if they had never needed building.
+    pub restat: bool,
+    /// Whether it makes the manifest's own files: a change of its command alone doesn't run it.
+    pub generator: bool,
+    /// Whether it only gives its inputs other names.
+    pub phony: bool,
+    /// The name of its pool; empty where it has none.
+    pub pool: Items<u8>,
+}
+
+/// A pool of edges.
+#[derive(Debug, Drop)]
+pub struct Pool {
+    /// The name by which edges ask for it.
+    pub name: Items<u8>,
+    /// How many of its edges may run at once, at most 1,000,000; 0 is no limit.
+    pub depth: u64,
+}
+
+/// A target of a `default` statement.
+#[derive(Debug, Drop)]
+pub struct DefaultTarget {
+    /// Its canonical path.
+    pub path: Items<u8>,
+    /// How many build lines stand above the statement.
+    pub edges_above: usize,
 }
 
 /// What a tree means.
@@ -28,4 +54,8 @@ pub struct Edge {
 pub struct Manifest {
     /// An edge for each build line, in their order.
     pub edges: Items<Edge>,
+    /// `console`, and then the pools in their order.
+    pub pools: Items<Pool>,
+    /// The targets of all `default` statements in their order.
+    pub defaults: Items<DefaultTarget>,
 }

@@ -1,6 +1,6 @@
 //! The variables of a rule by name.
 
-ghost use Rattle.std.specs.Prelude.{◌≡◌, length, IfOk, option_map};
+ghost use Rattle.std.specs.Prelude.{◌≡◌, [], length, IfOk, option_map};
 ghost use Rattle.plan_scope.specs.Scopes.{last_of};
 ghost use Rattle.plan_scope.specs.Edges.{late};
 
@@ -40,6 +40,16 @@ impl<'a> RuleVariables<'a> {
             last.set(binding.name.as_slice(), binding.value.as_slice())?;
         }
         Ok(RuleVariables { bindings, last })
+    }
+
+    /// No variable.
+    pub fn none(alloc: Global) -> Self
+        ensures { result ≡ [] }
+    {
+        RuleVariables {
+            bindings: &[],
+            last: Frame::new(alloc),
+        }
     }
 
     /// How many lines bind one.

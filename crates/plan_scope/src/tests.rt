@@ -1,233 +1,183 @@
-//! Each public function once, on values from outside.
+//! Each public function once, on files and trees from outside.
 
 use super::*;
-use plan_parse::{Binding, Build, ParseFault, Rule, Statement, StatementKind};
-use plan_text::{Counted, Items, Piece};
-use std::alloc::{AllocError, Global};
+use plan_text::{Counted, Items};
+use std::alloc::Global;
 use std::test::Fail;
 
-fn text(alloc: Global, bytes: &[u8]) -> Result<Items<u8>, AllocError> {
-    let mut copy = Vec::new(alloc);
-    copy.extend_from_slice(bytes)?;
-    Ok(Items::new(copy))
-}
-
-fn literal(alloc: Global, bytes: &[u8]) -> Result<Items<Piece>, AllocError> {
-    let mut pieces = Vec::new(alloc);
-    pieces.push(Piece::Literal(text(alloc, bytes)?))?;
-    Ok(Items::new(pieces))
-}
-
-/// `echo "this is a demo of $NAME"`, or what stands in place of its front.
-fn command(alloc: Global, front: &[u8], name: &[u8]) -> Result<Items<Piece>, AllocError> {
-    let mut pieces = Vec::new(alloc);
-    pieces.push(Piece::Literal(text(alloc, front)?))?;
-    pieces.push(Piece::Reference(text(alloc, name)?))?;
-    pieces.push(Piece::Literal(text(alloc, b"\"")?))?;
-    Ok(Items::new(pieces))
-}
-
-/// A rule `demo` with this command.
-fn rule(alloc: Global, offset: u64, command: Items<Piece>) -> Result<Statement, AllocError> {
-    let mut bindings = Vec::new(alloc);
-    bindings.push(Binding {
-        name: text(alloc, b"command")?,
-        value: command,
-    })?;
-    Ok(Statement {
-        offset,
-        kind: StatementKind::Rule(Rule {
-            name: text(alloc, b"demo")?,
-            bindings: Items::new(bindings),
-        }),
-    })
-}
-
-/// `build OUT: demo`, and `foo = bar` below it.
-fn build(alloc: Global, offset: u64, out: &[u8]) -> Result<Statement, AllocError> {
-    let mut outputs = Vec::new(alloc);
-    outputs.push(literal(alloc, out)?)?;
-    let mut bindings = Vec::new(alloc);
-    bindings.push(Binding {
-        name: text(alloc, b"foo")?,
-        value: literal(alloc, b"bar")?,
-    })?;
-    Ok(Statement {
-        offset,
-        kind: StatementKind::Build(Build {
-            outputs: Items::new(outputs),
-            rule: text(alloc, b"demo")?,
-            inputs: Items::empty(alloc),
-            bindings: Items::new(bindings),
-        }),
-    })
-}
-
-/// The tree of two statements.
-fn tree(alloc: Global, first: Statement, second: Statement) -> Result<Tree, AllocError> {
-    let mut statements = Vec::new(alloc);
-    statements.push(first)?;
-    statements.push(second)?;
-    Ok(Tree {
-        path: text(alloc, b"build.ninja")?,
-        statements: Items::new(statements),
-    })
-}
-
-/// An edge with this command.
-fn edge(alloc: Global, command: &[u8]) -> Result<Edge, AllocError> {
-    Ok(Edge {
-        outputs: Items::empty(alloc),
-        inputs: Items::empty(alloc),
-        command: text(alloc, command)?,
-    })
-}
-
-#[test]
-fn written_commands(rt: HostRuntime) -> Result<(), Fail> {
-    let alloc = rt.alloc();
-    let mut edges = Vec::new(alloc);
-    edges.push(edge(alloc, b"cc a")?)?;
-    edges.push(edge(alloc, b"")?)?;
-    let manifest = Manifest {
-        edges: Items::new(edges),
-    };
-    let mut out = Counted::new(Vec::new(alloc));
-    assert!(rt; write_commands(&manifest, &mut out).is_ok());
-    assert_eq!(rt; out.into_writer().as_slice(), b"cc a\n\n".as_slice());
-    Ok(())
-}
-
-/// A rule with this command, and a build line below it.
-fn demo(alloc: Global, command: Items<Piece>, out: &[u8]) -> Result<Tree, AllocError> {
-    let rule = rule(alloc, 0, command)?;
-    let build = build(alloc, 40, out)?;
-    tree(alloc, rule, build)
-}
-
-/// The command of the only edge of a tree.
-fn only_command(alloc: Global, tree: &Tree) -> Result<Items<u8>, AllocError> {
-    match evaluate(alloc, tree) {
-        Ok(manifest) => match manifest.edges.as_slice() {
-            [edge] => text(alloc, command_text(edge)),
-            _ => text(alloc, b"not one edge"),
-        },
-        Err(_) => text(alloc, b"no manifest"),
-    }
-}
-
-#[test]
-fn variable_of_a_block(rt: HostRuntime) -> Result<(), Fail> {
-    let alloc = rt.alloc();
-    let tree = demo(
-        alloc,
-        command(alloc, b"echo \"this is a demo of ", b"foo")?,
-        b"out",
-    )?;
-    let found = only_command(alloc, &tree)?;
-    assert_eq!(rt;
-        found.as_slice(),
-        b"echo \"this is a demo of bar\"".as_slice()
-    );
-    Ok(())
-}
-
-#[test]
-fn quoted_output(rt: HostRuntime) -> Result<(), Fail> {
-    let alloc = rt.alloc();
-    let tree = demo(alloc, command(alloc, b"touch ", b"out")?, b"it's")?;
-    let found = only_command(alloc, &tree)?;
-    assert_eq!(rt; found.as_slice(), b"touch 'it'\\''s'\"".as_slice());
-    Ok(())
-}
-
-/// Where and why a tree is refused, with the number of the fault.
-fn refusal(alloc: Global, tree: &Tree) -> Option<(u64, Cause, u8)> {
-    match evaluate(alloc, tree) {
-        Ok(_) => None,
-        Err(fault) => {
-            let number = fault.number();
-            match fault {
-                ScopeFault::Refused(_, offset, cause) => Some((offset, cause, number)),
-                _ => None,
-            }
-        }
-    }
-}
-
-#[test]
-fn rule_cycle(rt: HostRuntime) -> Result<(), Fail> {
-    let alloc = rt.alloc();
-    let tree = demo(alloc, command(alloc, b"a", b"command")?, b"")?;
-    assert!(rt; matches!(refusal(alloc, &tree), Some((40, Cause::RuleCycle, 34))));
-    Ok(())
-}
-
-#[test]
-fn empty_path(rt: HostRuntime) -> Result<(), Fail> {
-    let alloc = rt.alloc();
-    let tree = demo(alloc, literal(alloc, b"true")?, b"")?;
-    assert!(rt; matches!(refusal(alloc, &tree), Some((40, Cause::EmptyPath, 35))));
-    Ok(())
-}
-
-/// A build line above its rule.
-fn rule_below(alloc: Global) -> Result<Tree, AllocError> {
-    let build = build(alloc, 7, b"out")?;
-    let rule = rule(alloc, 30, literal(alloc, b"true")?)?;
-    tree(alloc, build, rule)
-}
-
-#[test]
-fn unknown_rule(rt: HostRuntime) -> Result<(), Fail> {
-    let tree = rule_below(rt.alloc())?;
-    assert!(rt;
-        matches!(
-            refusal(rt.alloc(), &tree),
-            Some((7, Cause::UnknownRule, 31))
-        )
-    );
-    Ok(())
-}
-
-/// A source of one file, `build.ninja`.
+/// A source of a few files.
 #[derive(Drop)]
-struct OneFile;
+struct Files;
 
-impl Source for OneFile {
+/// The bytes of a file.
+fn bytes_of(path: &[u8]) -> Option<&'static [u8]> {
+    if path == b"build.ninja".as_slice() {
+        return Some(b"x = 1\ninclude a.ninja\nsubninja b.ninja\ny = $x\n");
+    }
+    if path == b"a.ninja".as_slice() {
+        return Some(b"z = 2\n");
+    }
+    if path == b"b.ninja".as_slice() {
+        return Some(b"x = 3\ninclude a.ninja\n");
+    }
+    if path == b"by_name.ninja".as_slice() {
+        return Some(b"p = a\ninclude $p.ninja\n");
+    }
+    if path == b"no_file.ninja".as_slice() {
+        return Some(b"x = 1\nsubninja none.ninja\n");
+    }
+    if path == b"no_path.ninja".as_slice() {
+        return Some(b"x = 1\ninclude $none\n");
+    }
+    if path == b"parent.ninja".as_slice() {
+        return Some(b"include no_path.ninja\n");
+    }
+    if path == b"itself.ninja".as_slice() {
+        return Some(b"include itself.ninja\n");
+    }
+    if path == b"no_statement.ninja".as_slice() {
+        return Some(b"include wrong.ninja\n");
+    }
+    if path == b"wrong.ninja".as_slice() {
+        return Some(b"?\n");
+    }
+    None
+}
+
+impl Source for Files {
     ghost gives = { λ _ _ _. Unit {0} };
 
     ghost failures = { λ _. 0 };
 
     fn read(&mut self, alloc: Global, path: &[u8]) -> Result<Vec<u8>, SourceFault> {
-        if path != b"build.ninja".as_slice() {
+        let Some(text) = bytes_of(path) else {
             return Err(SourceFault::Missing);
-        }
+        };
         let mut bytes = Vec::new(alloc);
-        match bytes.extend_from_slice(b"x = 1\ny = $x\n") {
+        match bytes.extend_from_slice(text) {
             Ok(()) => Ok(bytes),
             Err(_) => Err(SourceFault::Memory),
         }
     }
 }
 
-#[test]
-fn loaded_file(rt: HostRuntime) -> Result<(), Fail> {
-    match load(rt.alloc(), &mut OneFile, b"build.ninja") {
-        Ok(tree) => {
-            assert_eq!(rt; tree.path.as_slice(), b"build.ninja".as_slice());
-            assert_eq!(rt; tree.statements.as_slice().len(), 2);
-        }
-        Err(_) => panic!(rt; "no tree"),
+/// Whether the tree of a file has so many lines.
+fn has_lines(alloc: Global, path: &[u8], count: usize) -> bool {
+    match load(alloc, &mut Files, path) {
+        Ok(tree) => tree.lines.as_slice().len() == count,
+        Err(_) => false,
     }
+}
+
+/// Whether a line of the tree of a file stands at this place, and sees these scopes.
+fn is_at(
+    alloc: Global,
+    tree: &[u8],
+    index: usize,
+    path: &[u8],
+    offset: u64,
+    scopes: &[usize],
+) -> bool {
+    let Ok(tree) = load(alloc, &mut Files, tree) else {
+        return false;
+    };
+    match tree.lines.as_slice().get(index) {
+        Some(line) => line.path() == path && line.offset() == offset && line.scopes() == scopes,
+        None => false,
+    }
+}
+
+/// Whether a file is refused at this place for this cause.
+fn is_refused(alloc: Global, path: &[u8], at: &[u8], offset: u64, cause: Cause) -> bool {
+    match load(alloc, &mut Files, path) {
+        Err(ScopeFault::Refused(file, place, why)) => {
+            file.as_slice() == at && place == offset && why == cause
+        }
+        _ => false,
+    }
+}
+
+#[test]
+fn all_lines(rt: HostRuntime) -> Result<(), Fail> {
+    assert!(rt; has_lines(rt.alloc(), b"build.ninja", 8));
+    Ok(())
+}
+
+#[test]
+fn include_line(rt: HostRuntime) -> Result<(), Fail> {
+    assert!(rt; is_at(rt.alloc(), b"build.ninja", 1, b"build.ninja", 6, &[0]));
+    Ok(())
+}
+
+#[test]
+fn included_line(rt: HostRuntime) -> Result<(), Fail> {
+    assert!(rt; is_at(rt.alloc(), b"build.ninja", 2, b"a.ninja", 0, &[0]));
+    Ok(())
+}
+
+#[test]
+fn subninja_line(rt: HostRuntime) -> Result<(), Fail> {
+    assert!(rt; is_at(rt.alloc(), b"build.ninja", 3, b"build.ninja", 22, &[0]));
+    Ok(())
+}
+
+#[test]
+fn line_of_subninja(rt: HostRuntime) -> Result<(), Fail> {
+    assert!(rt; is_at(rt.alloc(), b"build.ninja", 4, b"b.ninja", 0, &[4, 0]));
+    Ok(())
+}
+
+#[test]
+fn line_included_by_subninja(rt: HostRuntime) -> Result<(), Fail> {
+    assert!(rt; is_at(rt.alloc(), b"build.ninja", 6, b"a.ninja", 0, &[4, 0]));
+    Ok(())
+}
+
+#[test]
+fn line_behind_subninja(rt: HostRuntime) -> Result<(), Fail> {
+    assert!(rt; is_at(rt.alloc(), b"build.ninja", 7, b"build.ninja", 39, &[0]));
+    Ok(())
+}
+
+#[test]
+fn path_by_name(rt: HostRuntime) -> Result<(), Fail> {
+    assert!(rt; is_at(rt.alloc(), b"by_name.ninja", 2, b"a.ninja", 0, &[0]));
+    Ok(())
+}
+
+#[test]
+fn empty_path(rt: HostRuntime) -> Result<(), Fail> {
+    assert!(rt;
+        is_refused(
+            rt.alloc(),
+            b"parent.ninja",
+            b"no_path.ninja",
+            6,
+            Cause::EmptyPath
+        )
+    );
+    Ok(())
+}
+
+#[test]
+fn file_in_itself(rt: HostRuntime) -> Result<(), Fail> {
+    assert!(rt;
+        is_refused(
+            rt.alloc(),
+            b"itself.ninja",
+            b"itself.ninja",
+            0,
+            Cause::IncludeDepth
+        )
+    );
     Ok(())
 }
 
 #[test]
 fn missing_file(rt: HostRuntime) -> Result<(), Fail> {
-    match load(rt.alloc(), &mut OneFile, b"other.ninja") {
+    match load(rt.alloc(), &mut Files, b"no_file.ninja") {
         Err(ScopeFault::SourceMissing(path)) => {
-            assert_eq!(rt; path.as_slice(), b"other.ninja".as_slice());
+            assert_eq!(rt; path.as_slice(), b"none.ninja".as_slice());
         }
         _ => panic!(rt; "no missing file"),
     }
@@ -235,16 +185,169 @@ fn missing_file(rt: HostRuntime) -> Result<(), Fail> {
 }
 
 #[test]
-fn numbers(rt: HostRuntime) -> Result<(), Fail> {
-    let alloc = rt.alloc();
-    assert_eq!(rt; ScopeFault::SourceMissing(text(alloc, b"a")?).number(), 20);
-    assert_eq!(rt;
-        ScopeFault::Parse(text(alloc, b"a")?, ParseFault::NoCommand(0)).number(),
-        16
-    );
+fn no_statement(rt: HostRuntime) -> Result<(), Fail> {
+    match load(rt.alloc(), &mut Files, b"no_statement.ninja") {
+        Err(ScopeFault::Parse(path, _)) => {
+            assert_eq!(rt; path.as_slice(), b"wrong.ninja".as_slice());
+        }
+        _ => panic!(rt; "statements"),
+    }
+    Ok(())
+}
+
+/// A file under any path.
+#[derive(Drop)]
+struct OneFile(&'static [u8]);
+
+impl Source for OneFile {
+    ghost gives = { λ _ _ _. Unit {0} };
+
+    ghost failures = { λ _. 0 };
+
+    fn read(&mut self, alloc: Global, _path: &[u8]) -> Result<Vec<u8>, SourceFault> {
+        Vec::from_slice(alloc, self.0).map_err(|_| SourceFault::Memory)
+    }
+}
+
+/// What a manifest means.
+fn meaning(alloc: Global, text: &'static [u8]) -> Result<Manifest, ScopeFault> {
+    let tree = load(alloc, &mut OneFile(text), b"build.ninja")?;
+    evaluate(alloc, &tree)
+}
+
+/// Whether the commands of a manifest are printed so.
+fn prints(alloc: Global, text: &'static [u8], wanted: &[u8]) -> bool {
+    let Ok(manifest) = meaning(alloc, text) else {
+        return false;
+    };
+    let mut out = Counted::new(Vec::new(alloc));
+    write_commands(&manifest, &mut out).is_ok() && out.into_writer().as_slice() == wanted
+}
+
+/// The only edge of a manifest.
+fn only_edge(manifest: &Manifest) -> Option<&Edge> {
+    match manifest.edges.as_slice() {
+        [edge] => Some(edge),
+        _ => None,
+    }
+}
+
+/// Whether a list has this path alone.
+fn is_only(paths: &Items<Items<u8>>, wanted: &[u8]) -> bool {
+    match paths.as_slice() {
+        [path] => path.as_slice() == wanted,
+        _ => false,
+    }
+}
+
+#[test]
+fn demo(rt: HostRuntime) {
+    let text =
+        b"rule demo\n  command = echo \"this is a demo of $foo\"\nbuild out: demo\n  foo = bar\n";
+    assert!(rt; prints(rt.alloc(), text, b"echo \"this is a demo of bar\"\n"));
+}
+
+#[test]
+fn quoted_paths(rt: HostRuntime) {
+    let text = b"spaced = foo bar\nrule t\n  command = touch $out\nbuild $spaced/baz it's: t\n";
+    assert!(rt; prints(rt.alloc(), text, b"touch 'foo bar/baz' 'it'\\''s'\n"));
+}
+
+#[test]
+fn phonies_are_not_printed(rt: HostRuntime) {
+    let text = b"rule r\n  command = $in_newline\nbuild a: phony b\nbuild b: r c d | e\n";
+    assert!(rt; prints(rt.alloc(), text, b"c\nd\n"));
+}
+
+#[test]
+fn lists_of_an_edge(rt: HostRuntime) -> Result<(), Fail> {
+    let text = b"rule r\n  command = c\nbuild ./a | b//c: r d | e/../f || g\n";
+    let Ok(manifest) = meaning(rt.alloc(), text) else {
+        panic!(rt; "no manifest");
+    };
+    let Some(edge) = only_edge(&manifest) else {
+        panic!(rt; "not one edge");
+    };
+    assert!(rt; is_only(&edge.outputs, b"a"));
+    assert!(rt; is_only(&edge.implicit_outputs, b"b/c"));
+    assert!(rt; is_only(&edge.inputs, b"d"));
+    assert!(rt; is_only(&edge.implicit_inputs, b"f"));
+    assert!(rt; is_only(&edge.order_only_inputs, b"g"));
+    assert_eq!(rt; command_text(edge), b"c".as_slice());
+    Ok(())
+}
+
+#[test]
+fn texts_of_an_edge(rt: HostRuntime) -> Result<(), Fail> {
+    let text =
+        b"pool p\n  depth = 3\nrule r\n  command = c\n  description = D $out\n  depfile = $out.d\n  restat = 1\n  pool = p\nbuild a$ b: r\n";
+    let Ok(manifest) = meaning(rt.alloc(), text) else {
+        panic!(rt; "no manifest");
+    };
+    let Some(edge) = only_edge(&manifest) else {
+        panic!(rt; "not one edge");
+    };
+    assert_eq!(rt; edge.description.as_slice(), b"D 'a b'".as_slice());
+    assert_eq!(rt; edge.depfile.as_slice(), b"a b.d".as_slice());
+    assert_eq!(rt; edge.pool.as_slice(), b"p".as_slice());
+    assert!(rt; edge.restat && !edge.generator && !edge.phony);
+    Ok(())
+}
+
+#[test]
+fn pools_and_defaults(rt: HostRuntime) -> Result<(), Fail> {
+    let text = b"build a: phony\ndefault ./a\npool p\n  depth = 1000000\n";
+    let Ok(manifest) = meaning(rt.alloc(), text) else {
+        panic!(rt; "no manifest");
+    };
+    match manifest.pools.as_slice() {
+        [console, pool] => {
+            assert_eq!(rt; console.name.as_slice(), b"console".as_slice());
+            assert_eq!(rt; console.depth, 1);
+            assert_eq!(rt; pool.name.as_slice(), b"p".as_slice());
+            assert_eq!(rt; pool.depth, 1_000_000);
+        }
+        _ => panic!(rt; "not two pools"),
+    }
+    match manifest.defaults.as_slice() {
+        [target] => {
+            assert_eq!(rt; target.path.as_slice(), b"a".as_slice());
+            assert_eq!(rt; target.edges_above, 1);
+        }
+        _ => panic!(rt; "not one default"),
+    }
+    Ok(())
+}
+
+#[test]
+fn unknown_pool(rt: HostRuntime) -> Result<(), Fail> {
+    let text = b"pool p\n  depth = 4\nrule r\n  command = true\n  pool = q\nbuild a: r\n";
+    match meaning(rt.alloc(), text) {
+        Err(ScopeFault::Refused(path, offset, cause)) => {
+            assert_eq!(rt; path.as_slice(), b"build.ninja".as_slice());
+            assert_eq!(rt; offset, 54);
+            assert_eq!(rt; cause, Cause::UnknownPool);
+        }
+        _ => panic!(rt; "a pool was taken"),
+    }
+    Ok(())
+}
+
+#[test]
+fn numbers_of_causes(rt: HostRuntime) {
+    for (cause, number) in [
+        (Cause::IncludeDepth, 21),
+        (Cause::DuplicateRule, 30),
+        (Cause::UnknownPool, 33),
+        (Cause::DepsKind, 38),
+        (Cause::BadDepth, 42),
+    ] {
+        assert_eq!(rt; cause.number(), number);
+    }
+}
+
+#[test]
+fn numbers_of_faults(rt: HostRuntime) {
     assert_eq!(rt; ScopeFault::LoadMemory.number(), 22);
     assert_eq!(rt; ScopeFault::Memory.number(), 41);
-    assert_eq!(rt; Cause::PathTooLong.number(), 39);
-    assert_eq!(rt; Cause::TextTooLong.number(), 40);
-    Ok(())
 }

@@ -4,7 +4,7 @@ ghost use Rattle.std.specs.Prelude.{◌≡◌, ◌+◌, [], ◌∷◌, ◌++◌,
 ghost use Rattle.std.specs.Io.KnownBytes.{Appends};
 ghost use Rattle.plan_text.specs.Bytes.{line_feed};
 ghost use Rattle.plan_text.specs.Sinks.{AppendsFront};
-ghost use Rattle.plan_scope.specs.Edges.{commands_of};
+ghost use Rattle.plan_scope.specs.Edges.{command_line, commands_of};
 
 use crate::manifest::{Edge, Manifest};
 use plan_text::{Sink, SinkFault, write_all};
@@ -38,7 +38,20 @@ fn write_line<W: Sink>(line: &[u8], out: &mut W) -> Result<(), WriteFault>
     Ok(())
 }
 
-/// Writes the command of each edge in order, a newline after each, and nothing else. At the first failed write it stops, and the sink took the bytes in front of it.
+/// Writes the command of an edge and a newline; nothing of a phony.
+fn write_command<W: Sink>(edge: &Edge, out: &mut W) -> Result<(), WriteFault>
+    ensures kept { OnOk result (W.failures out.new ≡ W.failures out.old) }
+    ensures written { OnOk result (Appends (W.taken out.old) (W.taken out.new) (command_line edge.now)) }
+    ensures failed { OnErr result (W.failures out.new ≡ W.failures out.old + 1) }
+    ensures front { OnErr result (AppendsFront (W.taken out.old) (W.taken out.new) (command_line edge.now)) }
+{
+    if edge.phony {
+        return Ok(());
+    }
+    write_line(command_text(edge), out)
+}
+
+/// Writes the command of each edge that isn't a phony, in order, a newline after each, and nothing else. At the first failed write it stops, and the sink took the bytes in front of it.
 pub fn write_commands<W: Sink>(manifest: &Manifest, out: &mut W) -> Result<(), WriteFault>
     ensures kept { OnOk result (W.failures out.new ≡ W.failures out.old) }
     ensures written { OnOk result (Appends (W.taken out.old) (W.taken out.new) (commands_of manifest.now)) }
@@ -47,7 +60,7 @@ pub fn write_commands<W: Sink>(manifest: &Manifest, out: &mut W) -> Result<(), W
 {
     let edges = manifest.edges.as_slice();
     for edge in edges {
-        write_line(command_text(edge), out)?;
+        write_command(edge, out)?;
     }
     Ok(())
 }

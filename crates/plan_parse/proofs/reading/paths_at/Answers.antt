@@ -32,8 +32,8 @@ loop-alloc-preserved c =
     c.past_gap-rest-in-loop-alloc.ensures ∙ ap (λ (p : Place). syntax.past_gap p) c.past.ensures in
     record {
       over = ap (λ (p : Place). gap_len p.bytes) place ∙ gap_over (syntax.past c.path_len-len.result (place_of c.loop-alloc.rest));
-      same = ap (λ (p : Place). with_front c.push.new.self.items (syntax.paths_at p)) place
-          ∙ ap (λ (v : List (List Piece)). with_front v (syntax.paths_at (syntax.past_gap (syntax.past c.path_len-len.result (place_of c.loop-alloc.rest))))) c.in_ok-push.ensures.items
+      same = ap (λ (p : Place). with_front c.add_path.new.paths.items (syntax.paths_at p)) place
+          ∙ ap (λ (v : List (List Piece)). with_front v (syntax.paths_at (syntax.past_gap (syntax.past c.path_len-len.result (place_of c.loop-alloc.rest))))) c.in_ok-add_path.ensures
           ∙ reads_path c.loop-alloc.paths.items (place_of c.loop-alloc.rest) c.path_len-len.result c.in_ok-path_at.field-0 (syntax.paths_at (place_of c.args.p))
           c.loop-alloc.invariant.over c.path_len-len.ensures.len (omega (arith, c.if-len-eq0.false)) c.path_len-len.ensures.within c.in_ok-path_at.ensures c.loop-alloc.invariant.same;
     }

@@ -1,0 +1,79 @@
+//! What a rule or a pool binds.
+
+ghost use Rattle.std.specs.Prelude.{◌≡◌};
+ghost use Rattle.std.specs.List.{list_any};
+ghost use Rattle.std.specs.Str.{bytes_eq};
+ghost use Rattle.plan_parse.specs.Statements as statements;
+
+use crate::fault::ParseFault;
+
+/// Whose lines the lines of a block are, where not every name may stand in it.
+#[derive(Clone, Copy)]
+pub enum Owner {
+    /// A rule: it knows many names, and binds `command` once.
+    Rule,
+    /// A pool: it binds `depth`, once, and nothing else.
+    Pool,
+}
+
+/// Whether a rule may bind this name.
+fn is_rule_variable(name: &[u8]) -> bool
+    ensures { result ≡ list_any (bytes_eq name.now) statements.rule_variables }
+{
+    name == b"command".as_slice()
+        || name == b"depfile".as_slice()
+        || name == b"deps".as_slice()
+        || name == b"msvc_deps_prefix".as_slice()
+        || name == b"description".as_slice()
+        || name == b"dyndep".as_slice()
+        || name == b"generator".as_slice()
+        || name == b"in".as_slice()
+        || name == b"in_newline".as_slice()
+        || name == b"out".as_slice()
+        || name == b"restat".as_slice()
+        || name == b"rspfile".as_slice()
+        || name == b"rspfile_content".as_slice()
+        || name == b"pool".as_slice()
+}
+
+impl Owner {
+    /// Whether it may bind this name.
+    pub fn knows(self, name: &[u8]) -> bool
+        ensures { result ≡ statements.knows self name.now }
+    {
+        match self {
+            Owner::Rule => is_rule_variable(name),
+            Owner::Pool => name == b"depth".as_slice(),
+        }
+    }
+
+    /// The name that it binds exactly once.
+    pub fn wanted(self) -> &'static [u8]
+        ensures { result.now ≡ statements.wanted self }
+    {
+        match self {
+            Owner::Rule => b"command".as_slice(),
+            Owner::Pool => b"depth".as_slice(),
+        }
+    }
+
+    /// The fault of a name that it doesn't know.
+    pub fn unknown(self, at: u64) -> ParseFault
+        ensures { result ≡ statements.unknown self at }
+    {
+        match self {
+            Owner::Rule => ParseFault::UnknownRuleVariable(at),
+            Owner::Pool => ParseFault::BadPool(at),
+        }
+    }
+
+    /// The fault of the name that it wants, where it is absent or stands there again.
+    pub fn not_once(self, at: u64) -> ParseFault
+        ensures { result ≡ statements.not_once self at }
+    {
+        match self {
+            Owner::Rule => ParseFault::NoCommand(at),
+            Owner::Pool => ParseFault::BadPool(at),
+        }
+    }
+}

@@ -1,0 +1,210 @@
+//! Statements: the line that begins one, by its first word, and the lines below it.
+
+ghost use Rattle.std.specs.Prelude.{◌≡◌};
+ghost use Rattle.plan_text.specs.Outcome.{Meets, seen_by};
+ghost use Rattle.plan_parse.specs.Statements as statements;
+ghost use Rattle.plan_parse.specs.Views.{place_of};
+ghost use Rattle.plan_parse.specs.Members.{members_of};
+
+use crate::block::{Member, all_owned_at, alone, bindings_at, with_wanted};
+use crate::cursor::Cursor;
+use crate::fault::ParseFault;
+use crate::owner::Owner;
+use crate::reading::{
+    bound_at, file_at, inputs_at, line_end_at, name_at, name_of, outputs_at, past, past_gap,
+    targets_at,
+};
+use crate::statement::{Binding, Build, Pool, Rule, Statement, StatementKind};
+use plan_text::{Items, Piece};
+use std::alloc::Global;
+
+/// A name and the end of the line.
+fn named_line(p: Cursor<'_>) -> Result<&[u8], ParseFault>
+    ensures { seen_by (λ name. name.now) result ≡ statements.named_line (place_of p.entry) }
+{
+    let (name, rest) = name_at(p)?;
+    line_end_at(rest)?;
+    Ok(name)
+}
+
+/// A rule or a pool, from its name on, and the lines below it.
+fn named_block(
+    alloc: Global,
+    owner: Owner,
+    at: usize,
+    p: Cursor<'_>,
+    members: &[Member<'_>],
+) -> Result<(Items<u8>, Vec<Binding>), ParseFault>
+    ensures { Meets ParseFault.Memory (λ x. (x.0, x.1.items)) result (statements.named_block owner at (place_of p.entry) (members_of members.now)) }
+{
+    with_wanted(owner, at, members)?;
+    let name = named_line(p)?;
+    let bindings = all_owned_at(alloc, owner, members)?;
+    let name = Items::new(Vec::from_slice(alloc, name)?);
+    Ok((name, bindings))
+}
+
+/// `rule name`, from its name on, and the lines below it.
+fn rule_of(
+    alloc: Global,
+    at: usize,
+    p: Cursor<'_>,
+    members: &[Member<'_>],
+) -> Result<Statement, ParseFault>
+    ensures { Meets ParseFault.Memory (λ s. s) result (statements.rule_of at (place_of p.entry) (members_of members.now)) }
+{
+    let (name, bindings) = named_block(alloc, Owner::Rule, at, p, members)?;
+    Ok(Statement {
+        offset: at as u64,
+        kind: StatementKind::Rule(Rule {
+            name,
+            bindings: Items::new(bindings),
+        }),
+    })
+}
+
+/// The value of a pool's one line.
+fn depth_of(alloc: Global, bindings: Vec<Binding>) -> Items<Piece>
+    ensures { result ≡ statements.depth_of bindings.items }
+{
+    match bindings.into_iter().next() {
+        Some(binding) => binding.value,
+        None => Items::empty(alloc),
+    }
+}
+
+/// `pool name`, from its name on, and the lines below it.
+fn pool_of(
+    alloc: Global,
+    at: usize,
+    p: Cursor<'_>,
+    members: &[Member<'_>],
+) -> Result<Statement, ParseFault>
+    ensures { Meets ParseFault.Memory (λ s. s) result (statements.pool_of at (place_of p.entry) (members_of members.now)) }
+{
+    let (name, bindings) = named_block(alloc, Owner::Pool, at, p, members)?;
+    let depth = depth_of(alloc, bindings);
+    Ok(Statement {
+        offset: at as u64,
+        kind: StatementKind::Pool(Pool { name, depth }),
+    })
+}
+
+/// `build outputs: rule inputs`, from its outputs on, and the lines below it.
+fn build_of(
+    alloc: Global,
+    at: usize,
+    p: Cursor<'_>,
+    members: &[Member<'_>],
+) -> Result<Statement, ParseFault>
+    ensures { Meets ParseFault.Memory (λ s. s) result (statements.build_of at (place_of p.entry) (members_of members.now)) }
+{
+    let (outputs, implicit_outputs, rest) = outputs_at(alloc, p)?;
+    let (rule, rest) = name_at(rest)?;
+    let (inputs, implicit_inputs, order_only_inputs) = inputs_at(alloc, rest)?;
+    let bindings = bindings_at(alloc, members)?;
+    let rule = Vec::from_slice(alloc, rule)?;
+    Ok(Statement {
+        offset: at as u64,
+        kind: StatementKind::Build(Build {
+            outputs: Items::new(outputs),
+            implicit_outputs: Items::new(implicit_outputs),
+            rule: Items::new(rule),
+            inputs: Items::new(inputs),
+            implicit_inputs: Items::new(implicit_inputs),
+            order_only_inputs: Items::new(order_only_inputs),
+            bindings: Items::new(bindings),
+        }),
+    })
+}
+
+/// `default targets`, from its targets on, and nothing below it.
+fn default_of(
+    alloc: Global,
+    at: usize,
+    p: Cursor<'_>,
+    members: &[Member<'_>],
+) -> Result<Statement, ParseFault>
+    ensures { Meets ParseFault.Memory (λ s. s) result (statements.default_of at (place_of p.entry) (members_of members.now)) }
+{
+    let targets = targets_at(alloc, p)?;
+    alone(members)?;
+    Ok(Statement {
+        offset: at as u64,
+        kind: StatementKind::Default(Items::new(targets)),
+    })
+}
+
+/// `include path`, from its path on, and nothing below it.
+fn include_of(
+    alloc: Global,
+    at: usize,
+    p: Cursor<'_>,
+    members: &[Member<'_>],
+) -> Result<Statement, ParseFault>
+    ensures { Meets ParseFault.Memory (λ s. s) result (statements.include_of at (place_of p.entry) (members_of members.now)) }
+{
+    let path = file_at(alloc, p)?;
+    alone(members)?;
+    Ok(Statement {
+        offset: at as u64,
+        kind: StatementKind::Include(path),
+    })
+}
+
+/// `subninja path`, from its path on, and nothing below it.
+fn subninja_of(
+    alloc: Global,
+    at: usize,
+    p: Cursor<'_>,
+    members: &[Member<'_>],
+) -> Result<Statement, ParseFault>
+    ensures { Meets ParseFault.Memory (λ s. s) result (statements.subninja_of at (place_of p.entry) (members_of members.now)) }
+{
+    let path = file_at(alloc, p)?;
+    alone(members)?;
+    Ok(Statement {
+        offset: at as u64,
+        kind: StatementKind::Subninja(path),
+    })
+}
+
+/// `name = value`, and nothing below it.
+fn binding_of(alloc: Global, p: Cursor<'_>, members: &[Member<'_>]) -> Result<Statement, ParseFault>
+    ensures { Meets ParseFault.Memory (λ s. s) result (statements.binding_of (place_of p.entry) (members_of members.now)) }
+{
+    let binding = bound_at(alloc, p)?;
+    alone(members)?;
+    Ok(Statement {
+        offset: p.at as u64,
+        kind: StatementKind::Binding(binding),
+    })
+}
+
+/// A statement, by the word that it begins with, and the lines below it.
+pub fn statement_of(
+    alloc: Global,
+    p: Cursor<'_>,
+    members: &[Member<'_>],
+) -> Result<Statement, ParseFault>
+    ensures { Meets ParseFault.Memory (λ s. s) result (statements.statement_of (place_of p.entry) (members_of members.now)) }
+{
+    let start = past_gap(p);
+    let word = name_of(start);
+    let behind = past_gap(past(start, word.len()));
+    if word == b"rule".as_slice() {
+        rule_of(alloc, p.at, behind, members)
+    } else if word == b"build".as_slice() {
+        build_of(alloc, p.at, behind, members)
+    } else if word == b"pool".as_slice() {
+        pool_of(alloc, p.at, behind, members)
+    } else if word == b"default".as_slice() {
+        default_of(alloc, p.at, behind, members)
+    } else if word == b"include".as_slice() {
+        include_of(alloc, p.at, behind, members)
+    } else if word == b"subninja".as_slice() {
+        subninja_of(alloc, p.at, behind, members)
+    } else {
+        binding_of(alloc, p, members)
+    }
+}

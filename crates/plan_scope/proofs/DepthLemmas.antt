@@ -1,0 +1,61 @@
+-- Numbers that grow with their digits.
+use Rattle.std.proofs.Common.{◌≡◌, ◌≤◌, ◌<◌, ℕ, ◌+◌, ◌-◌, ◌*◌, Bool, true, false, List, [], ◌∷◌, refl, ap, sym, ◌∙◌, arith}
+use Rattle.std.proofs.Common.{inl, inr, Option, Some, None, Result, Err, cond, length}
+use Rattle.std.proofs.lemmas.Bool.{lt-leb, lt-ltb}
+use Rattle.std.specs.Prelude.{nat_le, is_none, unwrap_or}
+use Rattle.plan_scope.specs.declared.fault.Cause.{Cause}
+use Rattle.plan_scope.specs.declared.fault.Cause.TheVariants.{DuplicatePool, TextTooLong, BadDepth}
+use Rattle.plan_scope.specs.declared.manifest.Pool.{Pool}
+use Rattle.plan_scope.specs.Scopes.{Name, Text, is_too_long, max_text}
+use Rattle.plan_scope.specs.Edges.{depth_in, first_of, is_among, mapped, number_past, max_depth, or_refused, pool_by}
+use Rattle.plan_scope.specs.Frames.{kept}
+use Rattle.plan_scope.specs.Evaluation.{depth_by}
+use Rattle.plan_scope.proofs.Kept.{Same, same_from_kept}
+
+-- more digits make no number less
+pub number_grows : (n : ℕ) (digits : List ℕ) → n ≤ number_past n digits
+number_grows n [] = omega arith
+number_grows n (b ∷ more) = let e : n * 10 + (b - 48) ≤ number_past (n * 10 + (b - 48)) more = number_grows (n * 10 + (b - 48)) more in omega (arith, e)
+
+-- once a number is too great it stays so
+pub too_great : (n : ℕ) (digits : List ℕ) (all : ℕ) → number_past n digits ≡ all → max_depth < n → cond {A = Option ℕ} (nat_le all max_depth) (Some all) None ≡ None
+too_great n digits all e h =
+    let g = number_grows n digits in
+    let more : max_depth < all = omega (arith, e, g, h) in
+    ap (λ t. cond {A = Option ℕ} t (Some all) None) (lt-leb all max_depth more)
+
+long_depth : (text : Text) → max_text < length text → depth_by text ≡ Err TextTooLong
+long_depth text h =
+    ap (λ t. or_refused (first_of ((t, TextTooLong) ∷ (is_none (depth_in text), BadDepth) ∷ [])) (unwrap_or (depth_in text) 0)) (lt-ltb max_text (length text) h)
+
+same_depth : (a b : Text) → Same a b → depth_by a ≡ depth_by b
+same_depth a b (inl e) = ap depth_by e
+same_depth a b (inr h) = long_depth a h.0 ∙ sym (long_depth b h.1)
+
+-- the depth in a text of which as much is kept
+pub kept_depth : (a b : Text) → kept a ≡ kept b → depth_by a ≡ depth_by b
+kept_depth a b e = same_depth a b (same_from_kept a b e)
+
+-- the pool of a name and the depth in a text
+abbrev pub pool_from : Name → Bool → Result ℕ Cause → Result Pool Cause
+pool_from name true depth = Err DuplicatePool
+pool_from name false depth = mapped (λ d. record { name = name; depth = d }) depth
+
+pool_at : (name : Name) (taken long none : Bool) (depth : ℕ)
+    → or_refused (first_of ((taken, DuplicatePool) ∷ (long, TextTooLong) ∷ (none, BadDepth) ∷ [])) (record { name = name; depth = depth })
+    ≡ pool_from name taken (or_refused (first_of ((long, TextTooLong) ∷ (none, BadDepth) ∷ [])) depth)
+pool_at name true long none depth = refl
+pool_at name false true none depth = refl
+pool_at name false false true depth = refl
+pool_at name false false false depth = refl
+
+pub pool_is : (above : List Name) (name : Name) (text : Text) → pool_by above name text ≡ pool_from name (is_among above name) (depth_by text)
+pool_is above name text = pool_at name (is_among above name) (is_too_long text) (is_none (depth_in text)) (unwrap_or (depth_in text) 0)
+
+-- what is held of the names of pools, of a pool's own name and of its depth gives the pool
+pub pool_held : (held names : List Name) (word name : Name) (t text : Text) (b taken : Bool) (r : Result ℕ Cause) → ((n : Name) → is_among held n ≡ is_among names n) → word ≡ name → b ≡ is_among held word → b ≡ taken
+    → kept t ≡ kept text → r ≡ depth_by t → pool_by names name text ≡ pool_from name taken r
+pool_held held names word name t text b taken r same e f g k l =
+    let known : is_among names name ≡ taken = sym (same name) ∙ (ap (is_among held) (sym e) ∙ (sym f ∙ g)) in
+    let depth : depth_by text ≡ r = sym (kept_depth t text k) ∙ sym l in
+    pool_is names name text ∙ (ap (λ x. pool_from name x (depth_by text)) known ∙ ap (pool_from name taken) depth)

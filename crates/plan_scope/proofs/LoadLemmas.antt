@@ -1,0 +1,318 @@
+-- What is loaded, piece by piece.
+use Rattle.std.proofs.Common.{◌≡◌, ℕ, zero, suc, ◌+◌, ◌-◌, ◌<◌, ◌≤◌, inl, inr, Bool, true, false, ◌==◌, List, [], ◌∷◌, ◌++◌, length, Option, Some, None, Result, Ok, Err, refl, ap, sym, subst, ◌∙◌, append-nil, arith}
+use Rattle.std.proofs.lemmas.Bool.{lt-ltb, le-ltb, ne_eqb}
+use Rattle.plan_text.specs.declared.piece_reader.Piece.{Piece}
+use Rattle.plan_parse.specs.declared.fault.ParseFault.{ParseFault}
+use Rattle.plan_parse.specs.declared.statement.Statement.{Statement}
+use Rattle.plan_parse.specs.declared.statement.StatementKind.{StatementKind}
+use Rattle.plan_parse.specs.declared.statement.StatementKind.TheVariants as kind
+use Rattle.plan_parse.specs.Statements.{statements_of}
+use Rattle.plan_scope.specs.declared.fault.Cause.{Cause}
+use Rattle.plan_scope.specs.declared.fault.Cause.TheVariants.{IncludeDepth, EmptyPath, PathTooLong}
+use Rattle.plan_scope.specs.declared.fault.LineFault.{LineFault}
+use Rattle.plan_scope.specs.declared.fault.ScopeFault.{ScopeFault}
+use Rattle.plan_scope.specs.declared.fault.ScopeFault.TheVariants.{SourceMissing, Parse, Refused, LoadMemory, Memory}
+use Rattle.plan_scope.specs.declared.tree.Tree.{Tree}
+use Rattle.plan_scope.specs.Trees.{Line}
+use Rattle.plan_scope.specs.Scopes.{Text, Name, Scoped, look, expand, bound_by, bound_in, is_long_path, is_empty, max_path}
+use Rattle.plan_scope.specs.Frames.{kept, AgreesIn}
+use Rattle.plan_scope.specs.Loading.{Takes, Next, GoesOn, LoadsLine, LoadsAll, LoadsParsed, LoadsFile, LoadsWithin, LoadsFirst, Loads, IsMissing, cause_of_path, cause_to_load, scopes_in, taken_by}
+use Rattle.plan_scope.specs.Edges.{first_of}
+use Rattle.plan_scope.specs.Taking.{Answers, LoadsOne, IsTaken, never, takes_in}
+use Rattle.plan_scope.proofs.ScopeLemmas.{agrees_more}
+use Rattle.plan_scope.proofs.Kept.{Same, same_from_kept}
+
+abbrev pub Gives : Type 1
+Gives = Text → Option (List ℕ) → Type 0
+
+abbrev pub Missing : Type 1
+Missing = Text → Type 0
+
+abbrev pub Outcome : Type 0
+Outcome = Result (List Line) ScopeFault
+
+goes_wider : (next more : Next) (inner out : Outcome) → ((lines : List Line) (o : Outcome) → next lines o → more lines o) → GoesOn next inner out → GoesOn more inner out
+goes_wider next more (Ok lines) out h r = h lines out r
+goes_wider next more (Err fault) out h r = r
+
+line_wider : (takes wide : Takes) (next more : Next) → ((path : Text) (scopes : List ℕ) (above : List Line) (out : Outcome) → takes path scopes above out → wide path scopes above out)
+    → ((lines : List Line) (o : Outcome) → next lines o → more lines o)
+    → (above : List Line) (l : Line) (cause : Option Cause) (file : Option Text) (out : Outcome) → LoadsLine takes next above l cause file out → LoadsLine wide more above l cause file out
+line_wider takes wide next more t n above l (Some cause) file out r = r
+line_wider takes wide next more t n above l None None out r = n (above ++ l ∷ []) out r
+line_wider takes wide next more t n above l None (Some file) out r =
+    (r.0, t file (scopes_in (length above + 1) l.scopes l.kind) (above ++ l ∷ []) r.0 r.1, goes_wider next more r.0 out n r.2)
+
+-- what takes in more files loads as much
+pub all_wider : (takes wide : Takes) → ((path : Text) (scopes : List ℕ) (above : List Line) (out : Outcome) → takes path scopes above out → wide path scopes above out)
+    → (left : ℕ) (path : Text) (scopes : List ℕ) (statements : List Statement) (above : List Line) (out : Outcome)
+    → LoadsAll takes left path scopes above statements out → LoadsAll wide left path scopes above statements out
+all_wider takes wide t left path scopes [] above out r = r
+all_wider takes wide t left path scopes (s ∷ more) above out r =
+    line_wider takes wide (λ lines o. LoadsAll takes left path scopes lines more o) (λ lines o. LoadsAll wide left path scopes lines more o) t
+    (λ lines o. all_wider takes wide t left path scopes more lines o) above (record { path = path; scopes = scopes; offset = s.offset; kind = s.kind })
+    (cause_to_load left (look (bound_by above) scopes) s.kind) (taken_by (look (bound_by above) scopes) s.kind) out r
+
+parsed_wider : (takes wide : Takes) → ((path : Text) (scopes : List ℕ) (above : List Line) (out : Outcome) → takes path scopes above out → wide path scopes above out)
+    → (left : ℕ) (path : Text) (scopes : List ℕ) (above : List Line) (parsed : Result (List Statement) ParseFault) (out : Outcome)
+    → LoadsParsed takes left path scopes above parsed out → LoadsParsed wide left path scopes above parsed out
+parsed_wider takes wide t left path scopes above (Ok statements) out r = all_wider takes wide t left path scopes statements above out r
+parsed_wider takes wide t left path scopes above (Err fault) out r = r
+
+file_wider : (g h : Gives) (m n : Missing) (takes wide : Takes) (left : ℕ) → ((p : Text) (bytes : Option (List ℕ)) → g p bytes → h p bytes) → ((p : Text) → m p → n p)
+    → ((path : Text) (scopes : List ℕ) (above : List Line) (out : Outcome) → takes path scopes above out → wide path scopes above out)
+    → (path : Text) (scopes : List ℕ) (above : List Line) (out : Outcome) → LoadsFile g m takes left path scopes above out → LoadsFile h n wide left path scopes above out
+file_wider g h m n takes wide left gh mn t path scopes above out (inl r) = inl (r.0, mn path r.1)
+file_wider g h m n takes wide left gh mn t path scopes above out (inr r) =
+    inr (r.0, gh path (Some r.0) r.1, parsed_wider takes wide t left path scopes above (statements_of r.0) out r.2)
+
+-- what gives more, or misses more, loads as much
+pub within_wider : (g h : Gives) (m n : Missing) → ((p : Text) (bytes : Option (List ℕ)) → g p bytes → h p bytes) → ((p : Text) → m p → n p)
+    → (left : ℕ) (path : Text) (scopes : List ℕ) (above : List Line) (out : Outcome) → LoadsWithin g m left path scopes above out → LoadsWithin h n left path scopes above out
+unfolding LoadsWithin
+within_wider g h m n gh mn zero path scopes above out r =
+    file_wider g h m n (λ path scopes above out. ⊥) (λ path scopes above out. ⊥) 0 gh mn (λ path scopes above out x. x) path scopes above out r
+within_wider g h m n gh mn (suc left) path scopes above out r =
+    file_wider g h m n (LoadsWithin g m left) (LoadsWithin h n left) (suc left) gh mn (within_wider g h m n gh mn left) path scopes above out r
+
+pub takes_wider : (g h : Gives) (m n : Missing) → ((p : Text) (bytes : Option (List ℕ)) → g p bytes → h p bytes) → ((p : Text) → m p → n p)
+    → (left : ℕ) (path : Text) (scopes : List ℕ) (above : List Line) (out : Outcome) → takes_in g m left path scopes above out → takes_in h n left path scopes above out
+takes_wider g h m n gh mn zero path scopes above out r = r
+takes_wider g h m n gh mn (suc left) path scopes above out r = within_wider g h m n gh mn left path scopes above out r
+
+file_is : (g : Gives) (m : Missing) (left : ℕ) (path : Text) (scopes : List ℕ) (above : List Line) (out : Outcome) → LoadsFile g m (takes_in g m left) left path scopes above out → LoadsWithin g m left path scopes above out
+unfolding LoadsWithin
+file_is g m zero path scopes above out r = r
+file_is g m (suc left) path scopes above out r = r
+
+missing_wider : (g h : Gives) (b c n : ℕ) → ((p : Text) (bytes : Option (List ℕ)) → g p bytes → h p bytes) → b ≡ c → (p : Text) → IsMissing g b n p → IsMissing h c n p
+missing_wider g h b c n gh e p (inl r) = inl (gh p None r.0, r.1 ∙ e)
+missing_wider g h b c n gh e p (inr r) = inr (r ∙ ap (λ (x : ℕ). x + 1) e)
+
+-- an answer by what is loaded, where the same count of failed reads stood before
+pub answers_wider : (g h : Gives) (b c n : ℕ) (R S : Missing → Outcome → Type 0) (result : Outcome) → ((p : Text) (bytes : Option (List ℕ)) → g p bytes → h p bytes) → b ≡ c
+    → ((m k : Missing) → ((p : Text) → m p → k p) → R m result → S k result) → Answers g b n R result → Answers h c n S result
+answers_wider g h b c n R S (Ok lines) gh e f r = (r.0 ∙ e, f never never (λ p x. x) r.1)
+answers_wider g h b c n R S (Err LoadMemory) gh e f r = r ∙ e
+answers_wider g h b c n R S (Err (SourceMissing path)) gh e f r = f (IsMissing g b n) (IsMissing h c n) (missing_wider g h b c n gh e) r
+answers_wider g h b c n R S (Err (Parse path fault)) gh e f r = (r.0 ∙ e, f never never (λ p x. x) r.1)
+answers_wider g h b c n R S (Err (Refused path offset cause)) gh e f r = (r.0 ∙ e, f never never (λ p x. x) r.1)
+answers_wider g h b c n R S (Err Memory) gh e f r = (r.0 ∙ e, f never never (λ p x. x) r.1)
+
+-- a file that is missing
+pub missing_file : (g : Gives) (b n left : ℕ) (asked path : Text) (scopes : List ℕ) (above : List Line) → asked ≡ path → IsMissing g b n asked → LoadsWithin g (IsMissing g b n) left path scopes above (Err (SourceMissing path))
+missing_file g b n left asked path scopes above e r = file_is g (IsMissing g b n) left path scopes above (Err (SourceMissing path)) (inl (refl, subst (IsMissing g b n) e r))
+
+-- a file that is no list of statements
+pub unparsed_file : (g : Gives) (left : ℕ) (asked path : Text) (scopes : List ℕ) (above : List Line) (fault : ParseFault) → asked ≡ path
+    → ((bytes : List ℕ) × g asked (Some bytes) × (statements_of bytes ≡ Err fault)) → LoadsWithin g never left path scopes above (Err (Parse path fault))
+unparsed_file g left asked path scopes above fault e r =
+    file_is g never left path scopes above (Err (Parse path fault))
+    (inr (r.0, subst (λ (p : Text). g p (Some r.0)) e r.1, subst (λ (x : Result (List Statement) ParseFault). LoadsParsed (takes_in g never left) left path scopes above x (Err (Parse path fault))) (sym r.2) refl))
+
+-- a file with these statements
+pub parsed_file : (g h : Gives) (b c n left : ℕ) (asked path : Text) (scopes : List ℕ) (above : List Line) (statements : List Statement) (result : Outcome) → asked ≡ path
+    → ((p : Text) (bytes : Option (List ℕ)) → g p bytes → h p bytes) → b ≡ c
+    → ((bytes : List ℕ) × h asked (Some bytes) × (statements_of bytes ≡ Ok statements))
+    → Answers g b n (λ missing out. LoadsAll (takes_in g missing left) left path scopes above statements out) result
+    → Answers h c n (λ missing out. LoadsWithin h missing left path scopes above out) result
+parsed_file g h b c n left asked path scopes above statements result e gh s r a =
+    answers_wider g h b c n (λ missing out. LoadsAll (takes_in g missing left) left path scopes above statements out) (λ missing out. LoadsWithin h missing left path scopes above out) result gh s
+    (λ m k mk x. file_is h k left path scopes above result
+    (inr (
+      r.0,
+      subst (λ (p : Text). h p (Some r.0)) e r.1,
+      subst (λ (y : Result (List Statement) ParseFault). LoadsParsed (takes_in h k left) left path scopes above y result) (sym r.2)
+          (all_wider (takes_in g m left) (takes_in h k left) (takes_wider g h m k gh mk left) left path scopes statements above result x),
+    ))) a
+
+goes_then : (next more : Next) (inner : Outcome) (lines : List Line) (out : Outcome) → ((mid : List Line) → next mid (Ok lines) → more mid out) → GoesOn next inner (Ok lines) → GoesOn more inner out
+goes_then next more (Ok mid) lines out h r = h mid r
+goes_then next more (Err fault) lines out h r = cc
+
+line_then : (takes : Takes) (next more : Next) (above : List Line) (l : Line) (lines : List Line) (out : Outcome) → ((mid : List Line) → next mid (Ok lines) → more mid out)
+    → (cause : Option Cause) (file : Option Text) → LoadsLine takes next above l cause file (Ok lines) → LoadsLine takes more above l cause file out
+line_then takes next more above l lines out h (Some cause) file r = cc
+line_then takes next more above l lines out h None None r = h (above ++ l ∷ []) r
+line_then takes next more above l lines out h None (Some file) r = (r.0, r.1, goes_then next more r.0 lines out h r.2)
+
+-- statements, and those behind them
+pub all_then : (takes : Takes) (left : ℕ) (path : Text) (scopes : List ℕ) (front back : List Statement) (above lines : List Line) (out : Outcome)
+    → LoadsAll takes left path scopes above front (Ok lines) → LoadsAll takes left path scopes lines back out → LoadsAll takes left path scopes above (front ++ back) out
+all_then takes left path scopes [] back above lines out r q =
+    let e : lines ≡ above = cc in
+    subst (λ (x : List Line). LoadsAll takes left path scopes x back out) e q
+all_then takes left path scopes (s ∷ more) back above lines out r q =
+    line_then takes (λ mid o. LoadsAll takes left path scopes mid more o) (λ mid o. LoadsAll takes left path scopes mid (more ++ back) o) above (record { path = path; scopes = scopes; offset = s.offset; kind = s.kind }) lines out
+    (λ mid x. all_then takes left path scopes more back mid lines out x q)
+    (cause_to_load left (look (bound_by above) scopes) s.kind) (taken_by (look (bound_by above) scopes) s.kind) r
+
+goes_stop : (more : Next) (inner : Outcome) (fault : ScopeFault) → GoesOn (λ lines out. out ≡ Ok lines) inner (Err fault) → GoesOn more inner (Err fault)
+goes_stop more (Ok lines) fault r = cc
+goes_stop more (Err other) fault r = r
+
+-- the fault of a line is that of all
+pub one_stops : (takes : Takes) (more : Next) (above : List Line) (l : Line) (fault : ScopeFault) (cause : Option Cause) (file : Option Text)
+    → LoadsLine takes (λ lines out. out ≡ Ok lines) above l cause file (Err fault) → LoadsLine takes more above l cause file (Err fault)
+one_stops takes more above l fault (Some cause) file r = r
+one_stops takes more above l fault None None r = cc
+one_stops takes more above l fault None (Some file) r = (r.0, r.1, goes_stop more r.0 fault r.2)
+
+one_wider : (g h : Gives) (m n : Missing) → ((p : Text) (bytes : Option (List ℕ)) → g p bytes → h p bytes) → ((p : Text) → m p → n p)
+    → (left : ℕ) (above : List Line) (l : Line) (out : Outcome) → LoadsOne (takes_in g m left) left above l out → LoadsOne (takes_in h n left) left above l out
+one_wider g h m n gh mn left above l out r =
+    line_wider (takes_in g m left) (takes_in h n left) (λ lines o. o ≡ Ok lines) (λ lines o. o ≡ Ok lines) (takes_wider g h m n gh mn left) (λ lines o x. x) above l
+    (cause_to_load left (look (bound_by above) l.scopes) l.kind) (taken_by (look (bound_by above) l.scopes) l.kind) out r
+
+-- one more statement is loaded
+pub goes_on : (g h : Gives) (left : ℕ) (path : Text) (scopes : List ℕ) (front : List Statement) (s : Statement) (above mid lines : List Line)
+    → ((p : Text) (bytes : Option (List ℕ)) → g p bytes → h p bytes)
+    → LoadsAll (takes_in h never left) left path scopes above front (Ok mid)
+    → LoadsOne (takes_in g never left) left mid (record { path = path; scopes = scopes; offset = s.offset; kind = s.kind }) (Ok lines)
+    → LoadsAll (takes_in h never left) left path scopes above (front ++ s ∷ []) (Ok lines)
+goes_on g h left path scopes front s above mid lines gh r q =
+    all_then (takes_in h never left) left path scopes front (s ∷ []) above mid (Ok lines) r
+    (one_wider g h never never gh (λ p x. x) left mid (record { path = path; scopes = scopes; offset = s.offset; kind = s.kind }) (Ok lines) q)
+
+-- a statement is not loaded
+pub stops : (g h : Gives) (b c n left : ℕ) (path : Text) (scopes : List ℕ) (front : List Statement) (s : Statement) (back all : List Statement) (above mid : List Line) (fault : ScopeFault)
+    → ((p : Text) (bytes : Option (List ℕ)) → g p bytes → h p bytes) → b ≡ c → front ++ s ∷ back ≡ all
+    → LoadsAll (takes_in h never left) left path scopes above front (Ok mid)
+    → Answers g b n (λ missing out. LoadsOne (takes_in g missing left) left mid (record { path = path; scopes = scopes; offset = s.offset; kind = s.kind }) out) (Err fault)
+    → Answers h c n (λ missing out. LoadsAll (takes_in h missing left) left path scopes above all out) (Err fault)
+stops g h b c n left path scopes front s back all above mid fault gh e w r a =
+    let l : Line = record { path = path; scopes = scopes; offset = s.offset; kind = s.kind } in
+    answers_wider g h b c n (λ missing out. LoadsOne (takes_in g missing left) left mid l out) (λ missing out. LoadsAll (takes_in h missing left) left path scopes above all out) (Err fault) gh e
+    (λ m k mk x. subst (λ (x : List Statement). LoadsAll (takes_in h k left) left path scopes above x (Err fault)) w
+    (all_then (takes_in h k left) left path scopes front (s ∷ back) above mid (Err fault)
+    (all_wider (takes_in h never left) (takes_in h k left) (takes_wider h h never k (λ p bytes x. x) (λ p x. absurd x) left) left path scopes front above (Ok mid) r)
+    (one_stops (takes_in h k left) (λ lines o. LoadsAll (takes_in h k left) left path scopes lines back o) mid l fault
+    (cause_to_load left (look (bound_by mid) scopes) s.kind) (taken_by (look (bound_by mid) scopes) s.kind)
+    (one_wider g h m k gh mk left mid l (Err fault) x)))) a
+
+-- a line that takes in a file
+pub takes_file : (g : Gives) (b n left : ℕ) (above : List Line) (l : Line) (path : Text) (result : Outcome)
+    → cause_to_load left (look (bound_by above) l.scopes) l.kind ≡ None → taken_by (look (bound_by above) l.scopes) l.kind ≡ Some path → 0 < left
+    → Answers g b n (λ missing out. LoadsWithin g missing (left - 1) path (scopes_in (length above + 1) l.scopes l.kind) (above ++ l ∷ []) out) result
+    → Answers g b n (λ missing out. LoadsOne (takes_in g missing left) left above l out) result
+takes_file g b n left above l path result none some lt a =
+    let one : suc (left - 1) ≡ left = omega (arith, lt) in
+    answers_wider g g b b n (λ missing out. LoadsWithin g missing (left - 1) path (scopes_in (length above + 1) l.scopes l.kind) (above ++ l ∷ []) out)
+    (λ missing out. LoadsOne (takes_in g missing left) left above l out) result (λ p bytes x. x) refl
+    (λ m k mk x. subst (λ (c : Option Cause). LoadsLine (takes_in g k left) (λ lines out. out ≡ Ok lines) above l c (taken_by (look (bound_by above) l.scopes) l.kind) result) (sym none)
+    (subst (λ (f : Option Text). LoadsLine (takes_in g k left) (λ lines out. out ≡ Ok lines) above l None f result) (sym some) (
+      result,
+      subst (λ (i : ℕ). takes_in g k i path (scopes_in (length above + 1) l.scopes l.kind) (above ++ l ∷ []) result) one
+          (within_wider g g m k (λ p bytes x. x) mk (left - 1) path (scopes_in (length above + 1) l.scopes l.kind) (above ++ l ∷ []) result x),
+      ends result,
+    ))) a
+  where
+    ends : (out : Outcome) → GoesOn (λ lines o. o ≡ Ok lines) out out
+    ends (Ok lines) = refl
+    ends (Err fault) = refl
+
+abbrev three : Bool → Bool → Bool → Option Cause
+three deep empty long = first_of ((deep, IncludeDepth) ∷ (empty, EmptyPath) ∷ (long, PathTooLong) ∷ [])
+
+same_cause : (left : ℕ) (a b : Text) → Same a b → cause_of_path left a ≡ cause_of_path left b
+same_cause left a b (inl e) = ap (cause_of_path left) e
+same_cause left a b (inr h) =
+    let p : is_empty a ≡ false = ne_eqb (length a) 0 (λ e. omega (arith, e, h.0)) in
+    let q : is_empty b ≡ false = ne_eqb (length b) 0 (λ e. omega (arith, e, h.1)) in
+    let r : is_long_path a ≡ true = lt-ltb max_path (length a) (omega (arith, h.0)) in
+    let s : is_long_path b ≡ true = lt-ltb max_path (length b) (omega (arith, h.1)) in
+    ap (λ (t : Bool). three (left == 0) t (is_long_path a)) (p ∙ sym q) ∙ ap (λ (t : Bool). three (left == 0) (is_empty b) t) (r ∙ sym s)
+
+-- a path without a byte
+pub empty_refused : (left : ℕ) (a b : Text) → kept a ≡ kept b → ((left ≡ 0) → ⊥) → is_empty a ≡ true → cause_of_path left b ≡ Some EmptyPath
+empty_refused left a b k n e =
+    sym (same_cause left a b (same_from_kept a b k))
+    ∙ (ap (λ (t : Bool). three t (is_empty a) (is_long_path a)) (ne_eqb left 0 n)
+    ∙ ap (λ (t : Bool). three false t (is_long_path a)) e)
+
+-- a path that is too long
+pub long_refused : (left : ℕ) (a b : Text) → kept a ≡ kept b → ((left ≡ 0) → ⊥) → is_empty a ≡ false → max_path < length a → cause_of_path left b ≡ Some PathTooLong
+long_refused left a b k n e lt =
+    sym (same_cause left a b (same_from_kept a b k))
+    ∙ (ap (λ (t : Bool). three t (is_empty a) (is_long_path a)) (ne_eqb left 0 n)
+    ∙ (ap (λ (t : Bool). three false t (is_long_path a)) e
+    ∙ ap (λ (t : Bool). three false false t) (lt-ltb max_path (length a) lt)))
+
+same_short : (a b : Text) → length a ≤ max_path → Same a b → a ≡ b
+same_short a b le (inl e) = e
+same_short a b le (inr h) = let f : ⊥ = omega (arith, le, h.0) in absurd f
+
+-- a path that is taken
+pub path_taken : (left : ℕ) (a b x : Text) → kept a ≡ kept b → ((left ≡ 0) → ⊥) → is_empty a ≡ false → length a ≤ max_path → x ≡ a → (cause_of_path left b ≡ None) × (Some b ≡ Some x)
+path_taken left a b x k n e le f = (
+  sym (same_cause left a b (same_from_kept a b k))
+      ∙ (ap (λ (t : Bool). three t (is_empty a) (is_long_path a)) (ne_eqb left 0 n)
+      ∙ (ap (λ (t : Bool). three false t (is_long_path a)) e
+      ∙ ap (λ (t : Bool). three false false t) (le-ltb max_path (length a) le))),
+  ap (λ (y : Text). Some y) (sym (f ∙ same_short a b le (same_from_kept a b k))),
+)
+
+-- the file of a line that takes it in
+pub taken_of : (left : ℕ) (here : Name → Text) (pieces given : List Piece) (kind : StatementKind) (cause : Option Cause) (file : Option Text) (result : Result (Option Text) LineFault) → given ≡ pieces
+    → cause ≡ cause_of_path left (expand here pieces) → file ≡ Some (expand here pieces)
+    → IsTaken (cause_of_path left (expand here given)) (Some (expand here given)) result → IsTaken cause file result
+taken_of left here pieces given kind cause file result e f g r =
+    subst (λ (x : Option Cause). IsTaken x file result) (sym f)
+    (subst (λ (x : Option Text). IsTaken (cause_of_path left (expand here pieces)) x result) (sym g)
+    (subst (λ (p : List Piece). IsTaken (cause_of_path left (expand here p)) (Some (expand here p)) result) e r))
+
+-- a line that is pushed
+pub pushed_bound : (now : Scoped Text) (above lines : List Line) (l : Line) (scopes : List ℕ) (kind : StatementKind) → scopes ≡ l.scopes → kind ≡ l.kind → lines ≡ above ++ l ∷ []
+    → AgreesIn now (bound_by above ++ bound_in (bound_by above) scopes kind) → AgreesIn now (bound_by lines)
+pushed_bound now above lines l scopes kind e f g h = subst (λ (x : List Line). AgreesIn now (bound_by x)) (sym g) (agrees_more now above l scopes kind e f h)
+
+-- where a file may be taken in, one more may be open
+pub one_more : (left : ℕ) (here : Name → Text) (k : StatementKind) (path : Text) → cause_to_load left here k ≡ None → taken_by here k ≡ Some path → 0 < left
+one_more zero here (kind.Include p) path c f = cc
+one_more zero here (kind.Subninja p) path c f = cc
+one_more (suc left) here k path c f = omega arith
+one_more left here (kind.Rule r) path c f = cc
+one_more left here (kind.Build b) path c f = cc
+one_more left here (kind.Pool p) path c f = cc
+one_more left here (kind.Default targets) path c f = cc
+one_more left here (kind.Binding b) path c f = cc
+
+-- the lines taken in see a scope
+pub some_scope : (n : ℕ) (scopes inner : List ℕ) (k : StatementKind) → 0 < length scopes → inner ≡ scopes_in n scopes k → 0 < length inner
+some_scope n scopes inner k lt e = subst (λ (s : List ℕ). 0 < length s) (sym e) (seen k)
+  where
+    seen : (k : StatementKind) → 0 < length (scopes_in n scopes k)
+    seen (kind.Subninja path) = omega arith
+    seen (kind.Include path) = lt
+    seen (kind.Rule r) = lt
+    seen (kind.Build b) = lt
+    seen (kind.Pool p) = lt
+    seen (kind.Default targets) = lt
+    seen (kind.Binding b) = lt
+
+first : (g : Gives) (m n : Missing) (name path : Text) (scopes : List ℕ) (above : List Line) (out : Outcome) → ((p : Text) → m p → n p) → name ≡ path → scopes ≡ 0 ∷ [] → above ≡ []
+    → LoadsWithin g m 63 name scopes above out → LoadsFirst g n path out
+first g m n name path scopes above out mn e f h r =
+    within_wider g g m n (λ p bytes x. x) mn 63 path (0 ∷ []) [] out
+    (subst (λ (x : Text). LoadsWithin g m 63 x (0 ∷ []) [] out) e
+    (subst (λ (x : List ℕ). LoadsWithin g m 63 name x [] out) f
+    (subst (λ (x : List Line). LoadsWithin g m 63 name scopes x out) h r)))
+
+-- a tree that is loaded
+pub tree_loaded : (g : Gives) (b n : ℕ) (name path : Text) (scopes : List ℕ) (above lines : List Line) (tree : Tree) → name ≡ path → scopes ≡ 0 ∷ [] → above ≡ [] → tree.lines ≡ lines
+    → Answers g b n (λ missing out. LoadsWithin g missing 63 name scopes above out) (Ok lines) → Loads g b n path (Ok tree)
+tree_loaded g b n name path scopes above lines tree e f h k r =
+    (r.0, subst (λ (x : List Line). LoadsFirst g (IsMissing g b n) path (Ok x)) (sym k) (first g never (IsMissing g b n) name path scopes above (Ok lines) (λ p x. absurd x) e f h r.1))
+
+-- a tree that isn't
+pub tree_failed : (g : Gives) (b n : ℕ) (name path : Text) (scopes : List ℕ) (above : List Line) (fault : ScopeFault) → name ≡ path → scopes ≡ 0 ∷ [] → above ≡ []
+    → Answers g b n (λ missing out. LoadsWithin g missing 63 name scopes above out) (Err fault) → Loads g b n path (Err fault)
+tree_failed g b n name path scopes above LoadMemory e f h r = r
+tree_failed g b n name path scopes above (SourceMissing file) e f h r = first g (IsMissing g b n) (IsMissing g b n) name path scopes above (Err (SourceMissing file)) (λ p x. x) e f h r
+tree_failed g b n name path scopes above (Parse file fault) e f h r = (r.0, first g never (IsMissing g b n) name path scopes above (Err (Parse file fault)) (λ p x. absurd x) e f h r.1)
+tree_failed g b n name path scopes above (Refused file offset cause) e f h r = (r.0, first g never (IsMissing g b n) name path scopes above (Err (Refused file offset cause)) (λ p x. absurd x) e f h r.1)
+tree_failed g b n name path scopes above Memory e f h r = (r.0, first g never (IsMissing g b n) name path scopes above (Err Memory) (λ p x. absurd x) e f h r.1)
+
+pub none_left : {A : Type 0} (front back all : List A) → length back ≡ 0 → front ++ back ≡ all → front ≡ all
+none_left front [] all e f = sym (append-nil front) ∙ f
+none_left front (x ∷ back) all e f = let g : ⊥ = omega (arith, e) in absurd g

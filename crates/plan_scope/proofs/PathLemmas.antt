@@ -1,0 +1,190 @@
+-- Blocks and paths of which as much is kept.
+use Rattle.std.proofs.Common.{◌≡◌, ℕ, ◌+◌, ◌<◌, ◌≤◌, Bool, true, false, ◌||◌, List, [], ◌∷◌, ◌++◌, length, map, Option, Ok, Err, refl, ap, sym, ◌∙◌, cond, inl, inr, arith, take, get_or, append_assoc}
+use Rattle.std.specs.List.{list_any}
+use Rattle.std.proofs.lemmas.Bool.{lt-ltb, ltb-false, ne_eqb}
+use Rattle.std.proofs.lemmas.List.{map_more, map-append}
+use Rattle.std.proofs.lemmas.List.Folds.{list_any-append}
+use Rattle.plan_parse.specs.declared.statement.Binding.{Binding}
+use Rattle.plan_text.specs.Path.{canonical_of}
+use Rattle.plan_scope.specs.Scopes.{Text, Name, Bindings, last_of, expand, max_text, max_path, is_too_long, is_long_path, is_empty}
+use Rattle.plan_scope.specs.declared.fault.Cause.TheVariants.{EmptyPath, PathTooLong}
+use Rattle.plan_scope.specs.declared.manifest.DefaultTarget.{DefaultTarget}
+use Rattle.plan_scope.specs.Edges.{block_of, near, path_of, canonical_or, first_of, or_refused, target_at, targets_by}
+use Rattle.plan_scope.specs.declared.build_texts.Paths.{Paths}
+use Rattle.plan_scope.specs.Frames.{kept, Agrees, StandsFor}
+use Rattle.plan_scope.specs.Paths.{all_in, canonical_paths, has_long, kept_in}
+use Rattle.plan_scope.proofs.Kept.{Same, same_from_kept, kept_or}
+
+pub kept_near : (block b : Bindings Text) (here m : Name → Text) → Agrees block b → StandsFor here m → StandsFor (near here block) (near m b)
+kept_near block b here m h k n = kept_or (last_of n block) (last_of n b) (here n) (m n) (h n) (k n)
+
+-- one more line of a block
+pub block_taken : (here : Name → Text) (all : List Binding) (i : ℕ) (b : Binding) → i < length all → b ≡ get_or all i b → block_of here (take (i + 1) all) ≡ block_of here (take i all) ++ (b.name, expand here b.value) ∷ []
+block_taken here all i b lt e =
+    let entry : Binding → Name × Text = λ x. (x.name, expand here x.value) in
+    map_more entry all i b lt ∙ ap (λ x. block_of here (take i all) ++ entry x ∷ []) (sym e)
+
+or_false : (t : Bool) → (t || false) ≡ t
+or_false true = refl
+or_false false = refl
+
+-- whether a text of a block is too long, with one more line
+pub long_push : (xs : Bindings Text) (x : Name × Text) → list_any (λ b. is_too_long b.1) (xs ++ x ∷ []) ≡ (list_any (λ b. is_too_long b.1) xs || is_too_long x.1)
+long_push xs x =
+    list_any-append (λ b. is_too_long b.1) xs (x ∷ [])
+    ∙ ap (λ (t : Bool). list_any (λ b. is_too_long b.1) xs || t) (or_false (is_too_long x.1))
+
+pub any_kept : (test : Text → Bool) → ((a b : Text) → kept a ≡ kept b → test a ≡ test b) → (ps qs : List Text) → map kept ps ≡ map kept qs → list_any test ps ≡ list_any test qs
+any_kept test h [] [] e = refl
+any_kept test h [] (q ∷ qs) e = cc
+any_kept test h (p ∷ ps) [] e = cc
+any_kept test h (p ∷ ps) (q ∷ qs) e =
+    let k : kept p ≡ kept q = cc in
+    let l : map kept ps ≡ map kept qs = cc in
+    ap (λ t. t || list_any test ps) (h p q k) ∙ ap (λ t. test q || t) (any_kept test h ps qs l)
+
+empty_same : (a b : Text) → Same a b → is_empty a ≡ is_empty b
+empty_same a b (inl e) = ap is_empty e
+empty_same a b (inr h) = ne_eqb (length a) 0 (λ e. omega arith) ∙ sym (ne_eqb (length b) 0 (λ e. omega arith))
+
+pub empty_kept : (a b : Text) → kept a ≡ kept b → is_empty a ≡ is_empty b
+empty_kept a b e = empty_same a b (same_from_kept a b e)
+
+far_same : (a b : Text) → Same a b → is_long_path a ≡ is_long_path b
+far_same a b (inl e) = ap is_long_path e
+far_same a b (inr h) = lt-ltb max_path (length a) (omega arith) ∙ sym (lt-ltb max_path (length b) (omega arith))
+
+pub far_kept : (a b : Text) → kept a ≡ kept b → is_long_path a ≡ is_long_path b
+far_kept a b e = far_same a b (same_from_kept a b e)
+
+exact_same : (a b : Text) → Same a b → length a ≤ max_text → a ≡ b
+exact_same a b (inl e) l = e
+exact_same a b (inr h) l = absurd (omega arith)
+
+-- a text that isn't too long is kept whole
+pub exact_kept : (a b : Text) → kept a ≡ kept b → length a ≤ max_text → a ≡ b
+exact_kept a b e l = exact_same a b (same_from_kept a b e) l
+
+pub or_parts : (x y : Bool) → (x || y) ≡ false → (x ≡ false) × (y ≡ false)
+or_parts true y e = cc
+or_parts false y e = (refl, e)
+
+-- paths are kept whole where none is too long
+pub exact_paths : (ps qs : List Text) → map kept ps ≡ map kept qs → list_any is_long_path ps ≡ false → ps ≡ qs
+exact_paths [] [] e f = refl
+exact_paths [] (q ∷ qs) e f = cc
+exact_paths (p ∷ ps) [] e f = cc
+exact_paths (p ∷ ps) (q ∷ qs) e f =
+    let k : kept p ≡ kept q = cc in
+    let l : map kept ps ≡ map kept qs = cc in
+    let parts = or_parts (is_long_path p) (list_any is_long_path ps) f in
+    let short = ltb-false max_path (length p) parts.0 in
+    let first : p ≡ q = exact_same p q (same_from_kept p q k) (omega arith) in
+    let others : ps ≡ qs = exact_paths ps qs l parts.1 in
+    cc
+
+-- a path that is too long stays as it is
+far_stays : (a : Text) → max_text < length a → path_of a ≡ a
+far_stays a h = ap (λ (t : Bool). cond t a (canonical_or a (canonical_of a))) (lt-ltb max_path (length a) (omega arith))
+
+path_same : (a b : Text) → kept a ≡ kept b → Same a b → kept (path_of a) ≡ kept (path_of b)
+path_same a b e (inl s) = ap (λ t. kept (path_of t)) s
+path_same a b e (inr h) = ap kept (far_stays a h.0) ∙ (e ∙ ap kept (sym (far_stays b h.1)))
+
+pub kept_path : (a b : Text) → kept a ≡ kept b → kept (path_of a) ≡ kept (path_of b)
+kept_path a b e = path_same a b e (same_from_kept a b e)
+
+pub kept_canonical : (ps qs : List Text) → map kept ps ≡ map kept qs → map kept (map path_of ps) ≡ map kept (map path_of qs)
+kept_canonical [] [] e = refl
+kept_canonical [] (q ∷ qs) e = cc
+kept_canonical (p ∷ ps) [] e = cc
+kept_canonical (p ∷ ps) (q ∷ qs) e =
+    let k : kept p ≡ kept q = cc in
+    let l : map kept ps ≡ map kept qs = cc in
+    ap (λ o. o ∷ map kept (map path_of ps)) (kept_path p q k) ∙ ap (λ os. kept (path_of q) ∷ os) (kept_canonical ps qs l)
+
+-- one more canonical form
+-- one more item of a list that is handed out from its front
+pub item_pushed : {A B : Type 0} (f : A → B) (done now : List B) (old new : List A) (all : List B) (x : A) (y : B) → done ++ map f old ≡ all → old ≡ x ∷ new → y ≡ f x → now ≡ done ++ y ∷ [] → now ++ map f new ≡ all
+item_pushed {A} {B} f done now old new all x y h e g n =
+    ap (λ (l : List B). l ++ map f new) n
+    ∙ (append_assoc done (y ∷ []) (map f new)
+    ∙ (ap (λ (t : B). done ++ t ∷ map f new) g
+    ∙ (ap (λ (l : List A). done ++ map f l) (sym e) ∙ h)))
+
+pub none_left : {X : Type 0} (l : List X) → length l ≡ 0 → l ≡ []
+none_left [] h = refl
+none_left (x ∷ xs) h = absurd (omega arith)
+
+-- what is kept of each list
+pub record KeptLists (p q : Paths) : Type 0 where
+  pub outputs : map kept p.outputs ≡ map kept q.outputs
+  pub implicit_outputs : map kept p.implicit_outputs ≡ map kept q.implicit_outputs
+  pub inputs : map kept p.inputs ≡ map kept q.inputs
+  pub implicit_inputs : map kept p.implicit_inputs ≡ map kept q.implicit_inputs
+  pub order_only_inputs : map kept p.order_only_inputs ≡ map kept q.order_only_inputs
+
+pub kept_lists : (p q : Paths) → kept_in p ≡ kept_in q → KeptLists p q
+kept_lists p q e = record { outputs = cc; implicit_outputs = cc; inputs = cc; implicit_inputs = cc; order_only_inputs = cc }
+
+five : {X Y : Type 0} (f : X → X → X → X → X → Y) (a b c d e k l m n o : X) → a ≡ k → b ≡ l → c ≡ m → d ≡ n → e ≡ o → f a b c d e ≡ f k l m n o
+five f a b c d e k l m n o p q r s t = cc
+
+pub kept_forms : (p q : Paths) → kept_in p ≡ kept_in q → kept_in (canonical_paths p) ≡ kept_in (canonical_paths q)
+kept_forms p q e =
+    let s = kept_lists p q e in
+    five (λ (a b c d e : List (Option Text)). a ∷ b ∷ c ∷ d ∷ e ∷ []) _ _ _ _ _ _ _ _ _ _
+    (kept_canonical p.outputs q.outputs s.outputs) (kept_canonical p.implicit_outputs q.implicit_outputs s.implicit_outputs) (kept_canonical p.inputs q.inputs s.inputs)
+    (kept_canonical p.implicit_inputs q.implicit_inputs s.implicit_inputs) (kept_canonical p.order_only_inputs q.order_only_inputs s.order_only_inputs)
+
+append_kept : (a b c d : List Text) → map kept a ≡ map kept b → map kept c ≡ map kept d → map kept (a ++ c) ≡ map kept (b ++ d)
+append_kept a b c d e f = map-append kept a c ∙ (ap (λ l. l ++ map kept c) e ∙ (ap (λ l. map kept b ++ l) f ∙ sym (map-append kept b d)))
+
+pub any_in : (test : Text → Bool) → ((a b : Text) → kept a ≡ kept b → test a ≡ test b) → (p q : Paths) → kept_in p ≡ kept_in q → list_any test (all_in p) ≡ list_any test (all_in q)
+any_in test h p q e =
+    let s = kept_lists p q e in
+    any_kept test h (all_in p) (all_in q)
+    (append_kept (p.outputs ++ p.implicit_outputs ++ p.inputs ++ p.implicit_inputs) (q.outputs ++ q.implicit_outputs ++ q.inputs ++ q.implicit_inputs) p.order_only_inputs q.order_only_inputs
+    (append_kept (p.outputs ++ p.implicit_outputs ++ p.inputs) (q.outputs ++ q.implicit_outputs ++ q.inputs) p.implicit_inputs q.implicit_inputs
+    (append_kept (p.outputs ++ p.implicit_outputs) (q.outputs ++ q.implicit_outputs) p.inputs q.inputs
+    (append_kept p.outputs q.outputs p.implicit_outputs q.implicit_outputs s.outputs s.implicit_outputs)
+    s.inputs) s.implicit_inputs) s.order_only_inputs)
+
+any_parts : (test : Text → Bool) (a b : List Text) → list_any test (a ++ b) ≡ false → (list_any test a ≡ false) × (list_any test b ≡ false)
+any_parts test a b e = or_parts (list_any test a) (list_any test b) (sym (list_any-append test a b) ∙ e)
+
+-- where no path is too long, they are kept whole
+pub exact_forms : (p q : Paths) → kept_in p ≡ kept_in q → has_long p ≡ false → p ≡ q
+exact_forms p q e f =
+    let s = kept_lists p q e in
+    let four = any_parts is_long_path (p.outputs ++ p.implicit_outputs ++ p.inputs ++ p.implicit_inputs) p.order_only_inputs f in
+    let three = any_parts is_long_path (p.outputs ++ p.implicit_outputs ++ p.inputs) p.implicit_inputs four.0 in
+    let two = any_parts is_long_path (p.outputs ++ p.implicit_outputs) p.inputs three.0 in
+    let one = any_parts is_long_path p.outputs p.implicit_outputs two.0 in
+    five (λ (a b c d e : List Text). record { outputs = a; implicit_outputs = b; inputs = c; implicit_inputs = d; order_only_inputs = e }) _ _ _ _ _ _ _ _ _ _
+    (exact_paths p.outputs q.outputs s.outputs one.0) (exact_paths p.implicit_outputs q.implicit_outputs s.implicit_outputs one.1) (exact_paths p.inputs q.inputs s.inputs two.1)
+    (exact_paths p.implicit_inputs q.implicit_inputs s.implicit_inputs three.1) (exact_paths p.order_only_inputs q.order_only_inputs s.order_only_inputs four.1)
+
+-- what is held of the paths of targets decides why they are refused
+targets_at : (n : ℕ) (held meant : List Text) → map kept held ≡ map kept meant
+    → targets_by n meant ≡ or_refused (first_of ((list_any is_empty held, EmptyPath) ∷ (list_any is_long_path held, PathTooLong) ∷ [])) (map (target_at n) meant)
+targets_at n held meant e =
+    sym (ap (λ t. or_refused (first_of ((t, EmptyPath) ∷ (list_any is_long_path held, PathTooLong) ∷ [])) (map (target_at n) meant)) (any_kept is_empty empty_kept held meant e)
+    ∙ ap (λ t. or_refused (first_of ((list_any is_empty meant, EmptyPath) ∷ (t, PathTooLong) ∷ [])) (map (target_at n) meant)) (any_kept is_long_path far_kept held meant e))
+
+pub targets_empty : (n : ℕ) (held meant : List Text) → map kept held ≡ map kept meant → list_any is_empty held ≡ true → targets_by n meant ≡ Err EmptyPath
+targets_empty n held meant e f =
+    targets_at n held meant e ∙ ap (λ t. or_refused (first_of ((t, EmptyPath) ∷ (list_any is_long_path held, PathTooLong) ∷ [])) (map (target_at n) meant)) f
+
+pub targets_long : (n : ℕ) (held meant : List Text) → map kept held ≡ map kept meant → list_any is_empty held ≡ false → list_any is_long_path held ≡ true → targets_by n meant ≡ Err PathTooLong
+targets_long n held meant e f g =
+    targets_at n held meant e
+    ∙ (ap (λ t. or_refused (first_of ((t, EmptyPath) ∷ (list_any is_long_path held, PathTooLong) ∷ [])) (map (target_at n) meant)) f
+    ∙ ap (λ t. or_refused (first_of ((false, EmptyPath) ∷ (t, PathTooLong) ∷ [])) (map (target_at n) meant)) g)
+
+pub targets_made : (n : ℕ) (held meant : List Text) (made : List DefaultTarget) → map kept held ≡ map kept meant → list_any is_empty held ≡ false → list_any is_long_path held ≡ false → made ≡ map (target_at n) held → targets_by n meant ≡ Ok made
+targets_made n held meant made e f g h =
+    targets_at n held meant e
+    ∙ (ap (λ t. or_refused (first_of ((t, EmptyPath) ∷ (list_any is_long_path held, PathTooLong) ∷ [])) (map (target_at n) meant)) f
+    ∙ (ap (λ t. or_refused (first_of ((false, EmptyPath) ∷ (t, PathTooLong) ∷ [])) (map (target_at n) meant)) g
+    ∙ (ap (λ (l : List Text). Ok (map (target_at n) l)) (sym (exact_paths held meant e g)) ∙ ap (λ (l : List DefaultTarget). Ok l) (sym h))))

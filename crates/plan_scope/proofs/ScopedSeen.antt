@@ -1,0 +1,73 @@
+-- What values by scope and name show of their map.
+use Rattle.std.proofs.Common.{◌≡◌, ℕ, Bool, true, false, ◌&&◌, List, [], ◌∷◌, ◌++◌, ◌==◌, Option, Some, None, refl, ap, sym, ◌∙◌, bytes_eq, cond, Vec}
+use Rattle.std.specs.Map.{lookup}
+use Rattle.indexmap.specs.IndexMap.{insert_entry}
+use Rattle.std.specs.declared.alloc.Global.{Global}
+use Rattle.plan_scope.specs.Scopes.{Name, Bindings, Scoped, last_of, frame, or_else}
+use Rattle.plan_scope.specs.Keys.{same_key, same_key_equiv, key_of, scoped_by}
+use Rattle.plan_scope.proofs.Seen.{last_of_push}
+
+-- one more binding, and what is then bound in a scope
+pub frame_push : {V : Type 0} (s : ℕ) (bs : Scoped V) (b : ℕ × (Name × V)) → frame s (bs ++ b ∷ []) ≡ frame s bs ++ cond (b.0 == s) (b.1 ∷ []) []
+frame_push {V} s [] b = elim (b.0 == s) as (λ t. ◌≡◌ {A = Bindings V} (cond t (b.1 ∷ []) []) (cond t (b.1 ∷ []) [])) [ true ↦ refl | false ↦ refl ]
+frame_push {V} s (x ∷ xs) b =
+    elim (x.0 == s) as (λ t. ◌≡◌ {A = Bindings V} (cond t (x.1 ∷ frame s (xs ++ b ∷ [])) (frame s (xs ++ b ∷ []))) (cond t (x.1 ∷ frame s xs) (frame s xs) ++ cond (b.0 == s) (b.1 ∷ []) []))
+    [ true ↦ ap (λ (l : Bindings V). x.1 ∷ l) (frame_push s xs b) | false ↦ frame_push s xs b ]
+
+none_more : {V : Type 0} (n : Name) (bs : Bindings V) → last_of n (bs ++ []) ≡ last_of n bs
+none_more n [] = refl
+none_more {V} n (x ∷ xs) = ap (λ (o : Option V). or_else o (cond (bytes_eq x.0 n) (Some x.1) None)) (none_more n xs)
+
+pub last_in_push : {V : Type 0} (s : ℕ) (n : Name) (bs : Scoped V) (b : ℕ × (Name × V))
+    → last_of n (frame s (bs ++ b ∷ [])) ≡ cond (same_key (b.0, b.1.0) (s, n)) (Some b.1.1) (last_of n (frame s bs))
+last_in_push {V} s n bs b =
+    ap (last_of n) (frame_push s bs b)
+    ∙ elim (b.0 == s) as (λ t. last_of n (frame s bs ++ cond t (b.1 ∷ []) []) ≡ cond (t && bytes_eq b.1.0 n) (Some b.1.1) (last_of n (frame s bs)))
+    [ true ↦ last_of_push n (frame s bs) b.1 | false ↦ none_more n (frame s bs) ]
+
+pub last_in_scoped : {V : Type 0} (s : ℕ) (n : Name) (es : List ((ℕ × Vec ℕ Global) × V)) → last_of n (frame s (scoped_by es)) ≡ lookup (λ k. same_key (s, n) (key_of k)) es
+last_in_scoped s n [] = refl
+last_in_scoped {V} s n (e ∷ es) =
+    last_in_push s n (scoped_by es) (e.0.0, (e.0.1.items, e.1))
+    ∙ (ap (λ (t : Bool). cond t (Some e.1) (last_of n (frame s (scoped_by es)))) (same_key_equiv.symm (key_of e.0) (s, n))
+    ∙ ap (λ (o : Option V). cond (same_key (s, n) (key_of e.0)) (Some e.1) o) (last_in_scoped s n es))
+
+both_same : {V : Type 0} (q k e : ℕ × Name) (v w : V) (rest : Option V) → same_key k e ≡ false → (t u : Bool) → same_key q e ≡ t → same_key k q ≡ u
+    → ◌≡◌ {A = Option V} (cond t (Some w) (cond u (Some v) rest)) (cond u (Some v) (cond t (Some w) rest))
+both_same q k e v w rest h false u a b = refl
+both_same q k e v w rest h true false a b = refl
+both_same q k e v w rest h true true a b = let c = same_key_equiv.congr k q e b in cc
+
+inserted_at : {V : Type 0} (q : ℕ × Name) (es : List ((ℕ × Vec ℕ Global) × V)) (e : (ℕ × Vec ℕ Global) × V) (k : ℕ × Vec ℕ Global) (v : V)
+    → lookup (λ x. same_key q (key_of x)) (insert_entry (λ x y. same_key (key_of x) (key_of y)) es k v) ≡ cond (same_key (key_of k) q) (Some v) (lookup (λ x. same_key q (key_of x)) es)
+    → (t : Bool) → same_key (key_of k) (key_of e.0) ≡ t
+    → lookup (λ x. same_key q (key_of x)) (cond t ((e.0, v) ∷ es) (e ∷ insert_entry (λ x y. same_key (key_of x) (key_of y)) es k v))
+    ≡ cond (same_key (key_of k) q) (Some v) (cond (same_key q (key_of e.0)) (Some e.1) (lookup (λ x. same_key q (key_of x)) es))
+inserted_at {V} q es e k v more true h =
+    let rest : Option V = lookup (λ x. same_key q (key_of x)) es in
+    let there : same_key (key_of k) q ≡ same_key q (key_of e.0) = same_key_equiv.congr (key_of k) (key_of e.0) q h ∙ same_key_equiv.symm (key_of e.0) q in
+    ap (λ (t : Bool). cond t (Some v) rest) (sym there)
+    ∙ (elim (same_key (key_of k) q) as (λ t. cond t (Some v) rest ≡ cond t (Some v) (cond t (Some e.1) rest)) [ true ↦ refl | false ↦ refl ]
+    ∙ ap (λ (t : Bool). cond (same_key (key_of k) q) (Some v) (cond t (Some e.1) rest)) there)
+inserted_at {V} q es e k v more false h =
+    ap (λ (o : Option V). cond (same_key q (key_of e.0)) (Some e.1) o) more
+    ∙ both_same q (key_of k) (key_of e.0) v e.1 (lookup (λ x. same_key q (key_of x)) es) h (same_key q (key_of e.0)) (same_key (key_of k) q) refl refl
+
+-- what is bound after an insertion
+pub lookup_inserted : {V : Type 0} (q : ℕ × Name) (es : List ((ℕ × Vec ℕ Global) × V)) (k : ℕ × Vec ℕ Global) (v : V)
+    → lookup (λ x. same_key q (key_of x)) (insert_entry (λ x y. same_key (key_of x) (key_of y)) es k v) ≡ cond (same_key (key_of k) q) (Some v) (lookup (λ x. same_key q (key_of x)) es)
+lookup_inserted {V} q [] k v = ap (λ (t : Bool). cond {A = Option V} t (Some v) None) (same_key_equiv.symm q (key_of k))
+lookup_inserted {V} q (e ∷ es) k v = inserted_at q es e k v (lookup_inserted q es k v) (same_key (key_of k) (key_of e.0)) refl
+
+-- after a name was bound anew
+pub set_scoped : {V : Type 0} (es fs : List ((ℕ × Vec ℕ Global) × V)) (key : ℕ × Vec ℕ Global) (name : Name) (value : V) → key.1.items ≡ name
+    → fs ≡ insert_entry (λ x y. same_key (key_of x) (key_of y)) es key value
+    → (s : ℕ) (n : Name) → last_of n (frame s (scoped_by fs)) ≡ last_of n (frame s (scoped_by es ++ (key.0, (name, value)) ∷ []))
+set_scoped {V} es fs key name value e f s n =
+    let own : key_of key ≡ (key.0, name) = ap (λ (x : Name). (key.0, x)) e in
+    ap (λ (xs : List ((ℕ × Vec ℕ Global) × V)). last_of n (frame s (scoped_by xs))) f
+    ∙ (last_in_scoped s n (insert_entry (λ x y. same_key (key_of x) (key_of y)) es key value)
+    ∙ (lookup_inserted (s, n) es key value
+    ∙ (ap (λ (x : ℕ × Name). cond (same_key x (s, n)) (Some value) (lookup (λ k. same_key (s, n) (key_of k)) es)) own
+    ∙ (ap (λ (o : Option V). cond (same_key (key.0, name) (s, n)) (Some value) o) (sym (last_in_scoped s n es))
+    ∙ sym (last_in_push s n (scoped_by es) (key.0, (name, value)))))))

@@ -1,0 +1,54 @@
+//! The lines of a tree that are loaded so far.
+
+ghost use Rattle.std.specs.Prelude.{◌≡◌, []};
+ghost use Rattle.std.specs.List.{list_any};
+ghost use Rattle.plan_scope.specs.Scopes.{bound_by, bound_in, is_too_long, look};
+ghost use Rattle.plan_scope.specs.Frames.{AgreesIn};
+
+use crate::scoped::Scoped;
+use crate::tree::Line;
+use plan_text::Items;
+use std::alloc::Global;
+use std::marker::Model;
+
+/// The lines that are loaded so far, and what they bind.
+#[derive(Drop)]
+pub struct Loaded {
+    /// The lines.
+    pub lines: Vec<Line>,
+    /// What they bind.
+    pub bound: Scoped<Items<u8>>,
+}
+
+impl Model for Loaded {
+    ghost use Rattle.std.specs.Prelude.{List};
+    ghost use Rattle.plan_scope.specs.Trees as trees;
+    ghost use Rattle.plan_scope.specs.Scopes.{bound_by};
+    ghost use Rattle.plan_scope.specs.Frames.{AgreesIn};
+
+    ghost Value = { List trees.Line };
+
+    ghost view = { λ l. l.lines.items };
+
+    ghost invariant = { λ l. AgreesIn l.bound (bound_by l.lines.items) };
+}
+
+impl Loaded {
+    /// No line.
+    pub fn new(alloc: Global) -> Self
+        ensures { result ≡ [] }
+    {
+        Loaded {
+            lines: Vec::new(alloc),
+            bound: Scoped::new(alloc),
+        }
+    }
+
+    /// The lines.
+    pub fn into_lines(self) -> Items<Line>
+        ensures { result ≡ self }
+    {
+        let Loaded { lines, bound: _ } = self;
+        Items::new(lines)
+    }
+}

@@ -1,0 +1,97 @@
+//! Pools and their depths.
+
+ghost use Rattle.std.specs.Prelude.{◌≡◌, ◌≤◌, nat_le, if◌then◌else◌, Some, None, List, [], length};
+ghost use Rattle.std.specs.List.{list_all};
+ghost use Rattle.plan_scope.specs.Scopes.{Name, Text, expand};
+ghost use Rattle.plan_scope.specs.Edges.{depth_in, is_digit, is_number, max_depth, number_past, pool_by};
+ghost use Rattle.plan_scope.specs.Frames.{SameNames, StandsFor};
+ghost use Rattle.plan_scope.specs.Evaluation.{depth_by};
+ghost use Rattle.plan_scope.specs.Steps.{Gives};
+ghost use Rattle.plan_scope.specs.Uses.{names_in};
+
+use crate::appending::is_long;
+use crate::fault::{Cause, LineFault};
+use crate::loader::copied;
+use crate::manifest::Pool;
+use crate::pool_names::PoolNames;
+use crate::scope::{Scope, expanded};
+use std::alloc::Global;
+
+/// The greatest depth of a pool.
+const MAX_DEPTH: u64 = 1_000_000;
+
+/// The most digits of a depth.
+const MAX_DIGITS: usize = 7;
+
+/// Whether each byte is a digit.
+fn is_all_digits(text: &[u8]) -> bool
+    ensures { result ≡ list_all is_digit text.now }
+{
+    text.iter().all(|b| matches!(*b, b'0'..=b'9'))
+}
+
+/// Whether a text is one to seven digits.
+fn is_number(text: &[u8]) -> bool
+    ensures { result ≡ is_number text.now }
+{
+    !text.is_empty() && text.len() <= MAX_DIGITS && is_all_digits(text)
+}
+
+/// The number that digits mean, unless it is above the greatest depth.
+fn number(digits: &[u8]) -> Option<u64>
+    ensures { result ≡ (if nat_le (number_past 0 digits.now) max_depth then Some (number_past 0 digits.now) else None) }
+{
+    let mut number = 0;
+    for digit in digits {
+        number = number * 10 + u64::from(digit.saturating_sub(b'0'));
+        if number > MAX_DEPTH {
+            return None;
+        }
+    }
+    Some(number)
+}
+
+/// The depth that a text says.
+fn depth_in(text: &[u8]) -> Option<u64>
+    ensures { result ≡ depth_in text.now }
+{
+    if !is_number(text) {
+        return None;
+    }
+    number(text)
+}
+
+/// The depth that a text says, or why it is refused.
+fn depth(text: &[u8]) -> Result<u64, Cause>
+    ensures { result ≡ depth_by text.now }
+{
+    if is_long(text) {
+        return Err(Cause::TextTooLong);
+    }
+    match depth_in(text) {
+        Some(depth) => Ok(depth),
+        None => Err(Cause::BadDepth),
+    }
+}
+
+/// The pool that a line declares, by the names of those above it.
+pub fn pool<'a>(
+    alloc: Global,
+    above: &PoolNames<'a>,
+    here: Scope<'a>,
+    declared: &'a plan_parse::Pool,
+) -> Result<Pool, LineFault>
+    ensures { (names : List Name) (h : Name → Text) → SameNames above.now names → StandsFor (names_in here.entry) h → Gives result (pool_by names declared.now.name (expand h declared.now.depth)) }
+{
+    if above.contains(declared.name.as_slice()) {
+        return Err(LineFault::Refused(Cause::DuplicatePool));
+    }
+    let text = expanded(alloc, here, declared.depth.as_slice())?;
+    match depth(&text) {
+        Ok(depth) => {
+            let name = copied(alloc, declared.name.as_slice())?;
+            Ok(Pool { name, depth })
+        }
+        Err(cause) => Err(LineFault::Refused(cause)),
+    }
+}

@@ -1,0 +1,142 @@
+//! What names stand for at a place of a tree.
+
+ghost use Rattle.std.specs.Prelude.{◌≡◌, ◌≤◌, ◌+◌, [], ◌∷◌, ◌++◌, List, length, IfOk, OnOk};
+ghost use Rattle.std.specs.List.{list_any};
+ghost use Rattle.plan_scope.specs.Scopes.{Name, Scoped as Bound, Text, bound_by, bound_in, expand, in_own, is_too_long, look, max_text, value_of};
+ghost use Rattle.plan_scope.specs.Frames.{AgreesIn, StandsFor, kept};
+ghost use Rattle.plan_scope.specs.Uses.{names_in};
+
+use crate::appending::{MAX_TEXT, append, is_long};
+use crate::scoped::Scoped;
+use crate::tree::Line;
+use plan_parse::{Binding, StatementKind};
+use plan_text::{Items, Piece};
+use std::alloc::{AllocError, Global};
+
+/// What names stand for at a place of a tree.
+#[derive(Clone, Copy)]
+pub struct Scope<'a> {
+    /// What is bound in all scopes.
+    pub bound: &'a Scoped<Items<u8>>,
+    /// The scopes that are seen there, the nearest first.
+    pub scopes: &'a [usize],
+}
+
+/// The text of a name, empty where no scope binds it.
+pub fn text_in<'a>(scope: Scope<'a>, name: &[u8]) -> &'a [u8]
+    ensures { result.now ≡ names_in scope.entry name.now }
+{
+    match scope.bound.nearest(scope.scopes, name) {
+        Some(text) => text.as_slice(),
+        None => &[],
+    }
+}
+
+/// The text of a piece of a right side.
+fn text_of<'a>(scope: Scope<'a>, piece: &'a Piece) -> &'a [u8]
+    ensures { result.now ≡ value_of (names_in scope.entry) piece.now }
+{
+    match piece {
+        Piece::Literal(bytes) => bytes.as_slice(),
+        Piece::Reference(name) => text_in(scope, name.as_slice()),
+    }
+}
+
+/// How many bytes the literal pieces of a text have, at most as many as are kept: room to begin with.
+pub fn literal_len(pieces: &[Piece]) -> usize {
+    let mut len = 0_usize;
+    for piece in pieces {
+        if let Piece::Literal(bytes) = piece {
+            len = len.saturating_add(bytes.as_slice().len());
+        }
+    }
+    len.min(MAX_TEXT + 1)
+}
+
+/// The text of a right side.
+pub fn expanded<'a>(
+    alloc: Global,
+    scope: Scope<'a>,
+    pieces: &'a [Piece],
+) -> Result<Vec<u8>, AllocError>
+    ensures text { IfOk result (λ text. (meant : Name → Text) → StandsFor (names_in scope.entry) meant → kept text.items ≡ kept (expand meant pieces.now)) }
+    ensures within { IfOk result (λ text. length text.items ≤ max_text + 1) }
+{
+    let mut text = Vec::with_capacity(alloc, literal_len(pieces))?;
+    for piece in pieces {
+        append(&mut text, text_of(scope, piece))?;
+    }
+    Ok(text)
+}
+
+/// Binds a name in a scope, by what is bound above. Answers whether its text is too long.
+fn bind_in(
+    alloc: Global,
+    bound: &mut Scoped<Items<u8>>,
+    own: usize,
+    scopes: &[usize],
+    binding: &Binding,
+) -> Result<bool, AllocError>
+    ensures bound { OnOk result ((meant : Bound Text) → AgreesIn bound.old meant → AgreesIn bound.new (meant ++ (own, (binding.now.name, expand (look meant scopes.now) binding.now.value)) ∷ [])) }
+    ensures long { IfOk result (λ long. (meant : Bound Text) → AgreesIn bound.old meant → long ≡ is_too_long (expand (look meant scopes.now) binding.now.value)) }
+{
+    let text = expanded(
+        alloc,
+        Scope {
+            bound: &*bound,
+            scopes,
+        },
+        binding.value.as_slice(),
+    )?;
+    let long = is_long(&text);
+    bound.set(alloc, own, binding.name.as_slice(), Items::new(text))?;
+    Ok(long)
+}
+
+/// Binds a name in the own scope of a line, by what is bound above. Answers whether its text is too long.
+fn bind_own(
+    alloc: Global,
+    bound: &mut Scoped<Items<u8>>,
+    scopes: &[usize],
+    binding: &Binding,
+) -> Result<bool, AllocError>
+    ensures bound { OnOk result ((meant : Bound Text) → AgreesIn bound.old meant → AgreesIn bound.new (meant ++ in_own scopes.now binding.now.name (expand (look meant scopes.now) binding.now.value))) }
+    ensures long { IfOk result (λ long. (meant : Bound Text) → AgreesIn bound.old meant → long ≡ list_any (λ b. is_too_long b.1.1) (in_own scopes.now binding.now.name (expand (look meant scopes.now) binding.now.value))) }
+{
+    match scopes {
+        [] => Ok(false),
+        [own, ..] => bind_in(alloc, bound, *own, scopes, binding),
+    }
+}
+
+/// Binds what a statement of a file binds, by what is bound above it. Answers whether a text is too long.
+pub fn bind(
+    alloc: Global,
+    bound: &mut Scoped<Items<u8>>,
+    scopes: &[usize],
+    kind: &StatementKind,
+) -> Result<bool, AllocError>
+    ensures bound { OnOk result ((meant : Bound Text) → AgreesIn bound.old meant → AgreesIn bound.new (meant ++ bound_in meant scopes.now kind.now)) }
+    ensures long { IfOk result (λ long. (meant : Bound Text) → AgreesIn bound.old meant → long ≡ list_any (λ b. is_too_long b.1.1) (bound_in meant scopes.now kind.now)) }
+{
+    match kind {
+        StatementKind::Binding(binding) => bind_own(alloc, bound, scopes, binding),
+        StatementKind::Rule(_) => Ok(false),
+        StatementKind::Build(_) => Ok(false),
+        StatementKind::Pool(_) => Ok(false),
+        StatementKind::Default(_) => Ok(false),
+        StatementKind::Include(_) => Ok(false),
+        StatementKind::Subninja(_) => Ok(false),
+    }
+}
+
+/// What lines bind.
+pub fn bound_by_lines(alloc: Global, lines: &[Line]) -> Result<Scoped<Items<u8>>, AllocError>
+    ensures { IfOk result (λ bound. AgreesIn bound (bound_by lines.now)) }
+{
+    let mut bound = Scoped::new(alloc);
+    for line in lines {
+        bind(alloc, &mut bound, line.scopes(), line.kind())?;
+    }
+    Ok(bound)
+}

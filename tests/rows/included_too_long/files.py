@@ -1,0 +1,1 @@
+open('c.ninja','w').write('#' * 16777217)

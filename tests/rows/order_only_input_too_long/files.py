@@ -1,0 +1,1 @@
+open('build.ninja','w').write('rule r\n  command = true\nbuild o: r a || ' + 'a' * 4097 + '\n')

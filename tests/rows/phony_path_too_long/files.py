@@ -1,0 +1,1 @@
+open('build.ninja','w').write('build a: phony ' + 'a' * 4097 + '\n')

@@ -1,0 +1,1 @@
+open('build.ninja','w').write('x = ' + 'a' * 600000 + '\nrule r\n  command = true\n  pool = $x$x\nbuild o: r\n')
