@@ -1,12 +1,15 @@
 """Makes manifests like those of a C project: one flat file, or a tree of files."""
 
-RULES = """\
+VARIABLES = """\
 cflags = -O2 -Wall -Wextra -std=c11
 ldflags = -Wl,--as-needed
 builddir = out
 cc = gcc
 ar = ar
 
+"""
+
+RULES = """\
 rule compile
   command = $cc -MMD -MF $out.d $defines $includes $cflags $extra -c $in -o $out
 
@@ -37,7 +40,7 @@ def archive_edge(module):
 
 def flat(edges):
     """A manifest of this many edges, one in 51 of them an archive of the 50 objects above it."""
-    parts = [RULES]
+    parts = [VARIABLES, RULES]
     modules, more = divmod(edges, 51)
     for module in range(modules):
         parts += [compile_edge(n) for n in range(module * 50, module * 50 + 50)]
@@ -73,13 +76,7 @@ rule generate
   generator = 1
 """
 
-VARIABLES = """\
-cflags = -O2 -Wall -Wextra -std=c11
-ldflags = -Wl,--as-needed
-builddir = out
-cc = gcc
-ar = ar
-
+TOP = """\
 include rules.ninja
 
 build $builddir/config.h: generate config.in | gen.py
@@ -103,7 +100,7 @@ def module_file(module, sources):
 
 def tree(edges):
     """Files of a project of about this many edges: a module of 48 sources in each subninja file, rules in an included one."""
-    files, includes = {"rules.ninja": SHARED}, [VARIABLES]
+    files, includes = {"rules.ninja": SHARED}, [VARIABLES, TOP]
     for module in range(max(1, edges // 50)):
         path = f"m{module}.ninja"
         files[path] = module_file(module, range(module * 48, module * 48 + 48))

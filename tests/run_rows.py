@@ -5,7 +5,7 @@ usage: run_rows.py PROGRAM [NAME..]
 
 A row is a folder:
   files/         copied to a fresh folder, in which the program runs
-  files.py       run there first, for files that are too large to keep
+  files.py       run there first, for files that are too large or too many to keep; row_files.py has what several share
   args           one word a line (default: commands build.ninja)
   stdout stderr  what is printed (default: nothing)
   stdout.has stderr.has   in place of these: lines that occur there
@@ -33,7 +33,8 @@ def prepared(row, folder):
     if (row / "files").is_dir():
         shutil.copytree(row / "files", folder, dirs_exist_ok=True)
     if (row / "files.py").exists():
-        subprocess.run([sys.executable, str(row / "files.py")], cwd=folder, check=True)
+        found = {**os.environ, "PYTHONPATH": str(ROWS.parent)}
+        subprocess.run([sys.executable, str(row / "files.py")], cwd=folder, env=found, check=True)
 
 
 def closed_output():
