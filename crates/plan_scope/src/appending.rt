@@ -23,6 +23,9 @@ pub enum Show {
 /// The greatest length of an expanded text.
 pub const MAX_TEXT: usize = 1048576;
 
+/// The greatest length of a path as expanded.
+pub const MAX_PATH: usize = 4096;
+
 /// Whether a text is too long.
 pub fn is_long(text: &[u8]) -> bool
     ensures { result ≡ is_too_long text.now }

@@ -8,7 +8,7 @@ ghost use Rattle.plan_scope.specs.Frames.{Agrees, StandsFor, kept};
 ghost use Rattle.plan_scope.specs.Paths.{canonical_paths, has_empty, has_long, kept_in, texts_of};
 ghost use Rattle.plan_scope.specs.Uses.{names_in};
 
-use crate::appending::{append, is_long};
+use crate::appending::{MAX_PATH, append, is_long};
 use crate::canonical_paths::is_canonical;
 use crate::frame::Frame;
 use crate::scope::{Scope, expanded, literal_len, text_in};
@@ -130,9 +130,6 @@ pub fn expanded_paths<'a>(
         order_only_inputs: expanded_list(alloc, block, here, build.order_only_inputs.as_slice())?,
     })
 }
-
-/// The greatest length of a path.
-const MAX_PATH: usize = 4096;
 
 /// Whether a path is too long.
 fn is_long_path(path: &[u8]) -> bool

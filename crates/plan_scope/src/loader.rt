@@ -8,6 +8,7 @@ ghost use Rattle.plan_scope.specs.Loading.{Loads, LoadsAll, LoadsWithin, cause_o
 ghost use Rattle.plan_scope.specs.Taking.{Answers, IsBound, IsRead, IsRefusal, IsTaken, LoadsOne, takes_in};
 ghost use Rattle.plan_scope.specs.Uses.{names_in};
 
+use crate::appending::MAX_PATH;
 use crate::fault::{Cause, LineFault, ReadFault, ScopeFault};
 use crate::loaded::Loaded;
 use crate::scope::{Scope, bind, expanded};
@@ -20,9 +21,6 @@ use std::rc::Rc;
 
 /// How many files more may be open beside the first.
 const MORE_FILES: usize = 63;
-
-/// The greatest length of a path.
-const MAX_PATH: usize = 4096;
 
 /// The first file's scope.
 const FIRST_SCOPE: usize = 0;
