@@ -15,20 +15,27 @@ demo:
 	  || { cat $$log >&2; rm -f $$log; exit 1; }; rm -f $$log
 	@echo "(run without the proofs, by rt try; make proves and builds the program, make check is the whole gate)" >&2
 
-# The gate: every proof, test and must-fail edit; then the program: refused allocations, ninja's commands, and the rows of the command line.
+# The gate: every proof, test and must-fail edit; then the program: refused allocations, ninja's commands, the rows of the command line, and real trees.
 .PHONY: check
 check:
+	python3 tests/manifest_names.py
 	rt ci
 	python3 tests/fail_alloc.py $(PROGRAM)
 	python3 tests/against_ninja.py $(PROGRAM)
 	python3 tests/run_rows.py $(PROGRAM)
+	python3 tests/real/real.py --short $(PROGRAM)
+
+# Compares the commands of many trees of CMake and Meson with ninja's, upstream projects among them (from Debian's mirror); `make` first.
+.PHONY: real
+real:
+	python3 tests/real/real.py $(PROGRAM)
 
 .PHONY: install
 install: all
 	install -d "$(DESTDIR)$(PREFIX)/bin"
 	install -m 755 $(PROGRAM) "$(DESTDIR)$(PREFIX)/bin/plan_ninja"
 
-# Times the program beside ninja; `make` first.
+# Times the program beside ninja and make; `make` first.
 .PHONY: bench
 bench:
 	python3 bench/run.py $(PROGRAM)

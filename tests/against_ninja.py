@@ -1,16 +1,22 @@
 #!/usr/bin/env python3
-"""Compares the commands of random trees of manifests with those that ninja prints.
+"""Compares the commands of random trees of manifests, and why random graphs are refused, with what ninja prints.
 
 usage: against_ninja.py PROGRAM [COUNT [SEED]]
 
-A tree that ninja refuses (as two build lines of one output, which is found later than here) is passed over; one that plan_ninja alone
-refuses is a failure. What ninja means otherwise is not written: a rule's variable bound in a file too (ninja lets it hide the rule's own
+COUNT trees are written, whose edges wait for those above them alone. One that ninja refuses is passed over; one that plan_ninja alone refuses
+is a failure. What ninja means otherwise is not written: a rule's variable bound in a file too (ninja lets it hide the rule's own
 where the build line has no block), a pool below its use or named by a variable, `..` behind a root, and what ninja refuses (`in`, `out`,
-`in_newline` and `rspfile_content` alone in a rule). The last line is `N passed, M failed`; without ninja (Debian: ninja-build) nothing is
-compared.
+`in_newline` and `rspfile_content` alone in a rule).
+
+And COUNT graphs, which may have each fault of one. Not written is what ninja takes otherwise: a phony with an own output among its inputs
+that has another output or an implicit input too (ninja finds a cycle), and a target of `default` that is only an input above it (ninja
+takes it). Of a cycle the names are not compared, since there may be several.
+
+The last line is `N passed, M failed`; without ninja (Debian: ninja-build) nothing is compared.
 """
 import pathlib
 import random
+import re
 import shutil
 import subprocess
 import sys
@@ -97,10 +103,9 @@ class Writer:
     def build(self, scope):
         first = self.rule(scope) if not scope.seen and self.chance(0.9) else ""
         rule = "phony" if not scope.seen or self.chance(0.15) else self.pick(scope.seen)
-        outputs = [self.output(), *self.some(self.output, 2)]
-        head = " ".join(outputs) + self.listed("|", self.output)
-        head = "| " + head if self.chance(0.05) and "|" not in head else head
         tail = " ".join(self.some(self.input, 3)) + self.listed("|", self.input) + self.listed("||", self.input)
+        head = " ".join([self.output(), *self.some(self.output, 2)]) + self.listed("|", self.output)
+        head = "| " + head if self.chance(0.05) and "|" not in head else head
         return f"{first}build {head}: {rule} {tail}\n" + self.block() + self.pool_use()
 
     def pool(self):
@@ -108,7 +113,9 @@ class Writer:
         return f"pool {self.pools[-1]}\n  depth = {self.pick(['0', '1', '007', '1000000'])}\n"
 
     def default(self):
-        return f"default {self.pick(self.outputs)}\n" if self.outputs else ""
+        """An output above that is the same wherever it is expanded."""
+        fixed = [path for path in self.outputs if not re.search(r"\$[\w{]", path)]
+        return f"default {self.pick(fixed)}\n" if fixed else ""
 
     def taken_in(self, scope, depth):
         if depth == DEEPEST:
@@ -137,6 +144,51 @@ class Writer:
         return self.files
 
 
+class GraphWriter:
+    """Writes random graphs: the text of a manifest, whose paths are numbers in several spellings."""
+
+    def __init__(self, seed):
+        self.random = random.Random(seed)
+
+    def chance(self, part):
+        return self.random.random() < part
+
+    def any(self):
+        return self.random.randrange(self.paths)
+
+    def some(self, make, most):
+        return [make() for _ in range(self.random.randint(0, most))]
+
+    def output(self):
+        """A path that no line above makes, or once in a while any."""
+        return self.fresh.pop() if self.fresh and not self.chance(0.04) else self.any()
+
+    def spelled(self, sign, paths):
+        return sign + " ".join(self.random.choice(["", "./", "d/../"]) + str(path) for path in paths) if paths else ""
+
+    def build(self):
+        lists = [self.output(), *self.some(self.output, 1)], self.some(self.output, 1), self.some(self.any, 2), self.some(self.any, 1), self.some(self.any, 1)
+        outputs, implicit_outputs, inputs, implicit_inputs, order_only = lists
+        own = {*outputs, *implicit_outputs} & {*inputs, *implicit_inputs, *order_only}
+        odd = own and (len(outputs) > 1 or implicit_outputs or implicit_inputs)
+        rule = "phony" if not odd and self.chance(0.3) else "r"
+        self.made |= {*outputs, *implicit_outputs}
+        self.used |= {*inputs, *implicit_inputs, *order_only}
+        signs = ["build ", " | ", f": {rule} ", " | ", " || "]
+        spelled = [self.spelled(sign, paths) for sign, paths in zip(signs, lists)]
+        return "".join(spelled[:2]) + (spelled[2] or f": {rule}") + "".join(spelled[3:]) + "\n"
+
+    def default(self):
+        path = self.any()
+        return f"default {path}\n" if path in self.made or path not in self.used and self.chance(0.1) else ""
+
+    def graph(self):
+        self.paths = self.random.randint(6, 40)
+        self.fresh, self.made, self.used = self.random.sample(range(self.paths), self.paths), set(), set()
+        lines = [self.build() + self.default() for _ in range(self.random.randint(1, 9))]
+        return "rule r\n  command = $out: $in\n" + "".join(lines)
+
+
 def write(files, folder):
     (folder / "d").mkdir(exist_ok=True)
     for name, text in files.items():
@@ -158,6 +210,52 @@ def of_ninja(ninja, folder):
     return lines([ninja, "-t", "commands", *paths], folder)
 
 
+def fault_of_ninja(ninja, folder, paths):
+    """What plan_ninja would print where ninja refuses; of a cycle the name of the fault alone."""
+    found = subprocess.run([ninja, "-t", "targets", "all"], cwd=folder, capture_output=True, timeout=60)
+    said = found.stderr.decode()
+    if twice := re.search(r"multiple rules generate (\S+)", said):
+        return f"plan: 50 TwoProducers {twice[1]}"
+    if unknown := re.search(r"unknown target '(\S+)'", said):
+        return f"plan: 52 UnknownDefault {unknown[1]}"
+    targets = [line.rpartition(b": ")[0] for line in found.stdout.split(b"\n") if line]
+    for path in range(paths):
+        (folder / str(path)).touch()
+    done = subprocess.run([ninja, "-n", *targets], cwd=folder, capture_output=True, timeout=60)
+    return "plan: 51 Cycle" if b"dependency cycle" in done.stderr else done.stderr.decode() if done.returncode else ""
+
+
+def graphs(program, ninja, folder, count, seed):
+    """How many random graphs plan_ninja and ninja refuse for the same fault, or neither; and how many not."""
+    writer, passed = GraphWriter(seed), 0
+    for _ in range(count):
+        text = writer.graph()
+        (folder / "build.ninja").write_text(text)
+        done = subprocess.run([program, "commands", "build.ninja"], cwd=folder, capture_output=True, timeout=60)
+        said = re.sub("(51 Cycle).*", r"\1", done.stderr.decode().strip())
+        theirs = fault_of_ninja(ninja, folder, writer.paths)
+        passed += said == theirs
+        if said != theirs:
+            print(f"differs: {text!r}: {said!r}, ninja: {theirs!r}")
+    return passed, count - passed
+
+
+def trees(program, ninja, folder, count, seed):
+    """How many random trees have the same commands; and how many not."""
+    writer, passed, failed = Writer(seed), 0, 0
+    for _ in range(count):
+        files = writer.tree()
+        write(files, folder)
+        theirs = of_ninja(ninja, folder)
+        if theirs is None:
+            continue
+        same = lines([program, "commands", "build.ninja"], folder) == theirs
+        passed, failed = passed + same, failed + (not same)
+        if not same:
+            print(f"differs: {files!r}")
+    return passed, failed
+
+
 def main():
     program = str(pathlib.Path(sys.argv[1]).resolve())
     count = int(sys.argv[2]) if len(sys.argv) > 2 else 300
@@ -166,18 +264,11 @@ def main():
     if ninja is None:
         print("no ninja: nothing was compared")
         return
-    writer, passed, failed = Writer(seed), 0, 0
-    with tempfile.TemporaryDirectory() as folder:
-        for _ in range(count):
-            files = writer.tree()
-            write(files, pathlib.Path(folder))
-            theirs = of_ninja(ninja, folder)
-            if theirs is None:
-                continue
-            same = lines([program, "commands", "build.ninja"], folder) == theirs
-            passed, failed = passed + same, failed + (not same)
-            if not same:
-                print(f"differs: {files!r}")
+    passed, failed = 0, 0
+    for compare in (trees, graphs):
+        with tempfile.TemporaryDirectory() as folder:
+            same, other = compare(program, ninja, pathlib.Path(folder), count, seed)
+            passed, failed = passed + same, failed + other
     print(f"{passed} passed, {failed} failed")
     sys.exit(1 if failed else 0)
 

@@ -1,9 +1,9 @@
 #!/usr/bin/env python3
-"""Runs the program on a small tree of manifests once for each of its allocations, and refuses that one.
+"""Runs the program on small trees of manifests once for each of its allocations, and refuses that one.
 
 usage: fail_alloc.py PROGRAM
 
-Each run has to end in a fault of memory (status 2, `plan: 22 Memory`, 41 or 131, nothing on standard output), or to print all that it
+Each run has to end in a fault of memory (status 2, `plan: 22 Memory`, 41, 54 or 131, nothing on standard output), or to print all that it
 prints with ample memory. Needs a C compiler, for the library that refuses. The last line is `N passed, M failed`.
 """
 import os
@@ -14,7 +14,7 @@ import sys
 import tempfile
 
 # every statement, list of paths and sort of variable
-FILES = {
+TREE = {
     "build.ninja": r"""x = 1
 pool p
   depth = $x
@@ -54,7 +54,29 @@ build | i: e
 default grandchild
 """,
 }
-REFUSALS = {f"plan: {number} Memory\n".encode() for number in (22, 41, 131)}
+
+RULE = """rule r
+  command = $out
+"""
+
+# every list of paths, edges that wait for several others, more than once for one, and for none
+GRAPH = RULE + """build a b | c: r d e e | f d || g
+build d: r e | g || f
+build e | f g: phony h e
+build h: r source
+default c d
+default a
+"""
+
+# the files of each tree, and what is said of it
+TREES = [
+    (TREE, b""),
+    ({"build.ninja": GRAPH}, b""),
+    ({"build.ninja": RULE + "build a: r\nbuild b | a: r\n"}, b"plan: 50 TwoProducers a\n"),
+    ({"build.ninja": RULE + "build s: r a\nbuild a b: r c\nbuild c: r | d\nbuild d: r || b\n"}, b"plan: 51 Cycle a -> c -> d\n"),
+    ({"build.ninja": RULE + "build a: r\ndefault a b\n"}, b"plan: 52 UnknownDefault b\n"),
+]
+REFUSALS = {f"plan: {number} Memory\n".encode() for number in (22, 41, 54, 131)}
 
 LIBRARY = r"""
 #define _GNU_SOURCE
@@ -85,8 +107,8 @@ __attribute__((destructor)) static void count(void) {
 """
 
 
-def write(folder):
-    for name, text in FILES.items():
+def write(files, folder):
+    for name, text in files.items():
         (pathlib.Path(folder) / name).write_text(text)
 
 
@@ -94,13 +116,24 @@ def run(program, library, folder, refused):
     told = pathlib.Path(folder) / "allocations"
     env = {"LD_PRELOAD": library, "REFUSED_ALLOCATION": str(refused), "ALLOCATIONS_FILE": str(told)}
     done = subprocess.run([program, "commands", "build.ninja"], cwd=folder, capture_output=True, env=env, timeout=60)
-    return done, int(told.read_text())
+    return (done.returncode, done.stdout, done.stderr), int(told.read_text())
 
 
-def is_right(done, output):
-    if done.returncode == 0:
-        return (done.stdout, done.stderr) == (output, b"")
-    return done.returncode == 2 and done.stdout == b"" and done.stderr in REFUSALS
+def is_want_of_memory(status, output, errors):
+    return status == 2 and output == b"" and errors in REFUSALS
+
+
+def faults(program, library, folder, said):
+    """How many allocations the program makes for the tree in the folder, and those whose refusal ends otherwise."""
+    whole, allocations = run(program, library, folder, 0)
+    if allocations == 0 or whole[0] != (2 if said else 0) or whole[2] != said:
+        sys.exit(f"with ample memory: {whole}, {allocations} allocations")
+    found = []
+    for refused in range(1, allocations + 1):
+        done, _ = run(program, library, folder, refused)
+        if done != whole and not is_want_of_memory(*done):
+            found.append(f"allocation {refused}: {done}")
+    return allocations, found
 
 
 def main():
@@ -109,20 +142,18 @@ def main():
     if compiler is None:
         print("no C compiler: no allocation was refused")
         return
-    with tempfile.TemporaryDirectory() as folder:
-        library = os.path.join(folder, "refusing.so")
+    passed, failed = 0, 0
+    with tempfile.TemporaryDirectory() as home:
+        library = os.path.join(home, "refusing.so")
         subprocess.run([compiler, "-shared", "-fPIC", "-o", library, "-xc", "-", "-ldl"], input=LIBRARY.encode(), check=True)
-        write(folder)
-        whole, allocations = run(program, library, folder, 0)
-        failed = 0
-        for refused in range(1, allocations + 1):
-            done, _ = run(program, library, folder, refused)
-            if not is_right(done, whole.stdout):
-                failed += 1
-                print(f"allocation {refused}: status {done.returncode}, {done.stdout!r}, {done.stderr!r}")
-    if whole.returncode != 0 or allocations == 0:
-        sys.exit(f"with ample memory: status {whole.returncode}, {allocations} allocations")
-    print(f"{allocations - failed} passed, {failed} failed")
+        for files, said in TREES:
+            folder = tempfile.mkdtemp(dir=home)
+            write(files, folder)
+            allocations, found = faults(program, library, folder, said)
+            passed, failed = passed + allocations - len(found), failed + len(found)
+            for fault in found:
+                print(fault)
+    print(f"{passed} passed, {failed} failed")
     sys.exit(1 if failed else 0)
 
 

@@ -8,7 +8,7 @@ A row is a folder:
   files.py       run there first, for files that are too large or too many to keep; row_files.py has what several share
   args           one word a line (default: commands build.ninja)
   stdout stderr  what is printed (default: nothing)
-  stdout.has stderr.has   in place of these: lines that occur there
+  stdout.has stderr.has   in place of these: what occurs there, one a line
   stdout.to      a file that standard output goes to, or the word `closed`
   status         the exit status (default: 0)
 The last line is `N passed, M failed`.

@@ -1,5 +1,5 @@
 -- What `commands FILE` does.
-use Rattle.std.specs.Prelude.{◌≡◌, ◌+◌, ◌⊎◌, ℕ, List, Option, Result, Ok, Err}
+use Rattle.std.specs.Prelude.{◌≡◌, ◌+◌, ◌⊎◌, ℕ, List, Option, None, Result, Ok, Err}
 use Rattle.std.specs.Io.KnownBytes.{Appends}
 use Rattle.plan_text.specs.Sinks.{AppendsFront}
 use Rattle.plan_scope.specs.Trees.{Line}
@@ -9,35 +9,35 @@ use Rattle.plan_scope.specs.Edges.{manifest_of, commands_of}
 use Rattle.plan_scope.specs.declared.manifest.Manifest.{Manifest}
 use Rattle.plan_scope.specs.declared.fault.ScopeFault.{ScopeFault}
 use Rattle.plan_scope.specs.declared.fault.ScopeFault.TheVariants.{LoadMemory, Memory}
+use Rattle.plan_graph.specs.Cycles.{AreRanks}
+use Rattle.plan_graph.specs.Graph.{Refuses, all_waits, first_fault}
+use Rattle.plan_graph.specs.declared.fault.GraphFault.{GraphFault}
 use Rattle.plan_ninja.specs.declared.fault.PlanFault.{PlanFault}
-use Rattle.plan_ninja.specs.Faults.{shown, no_memory, output_failed}
+use Rattle.plan_ninja.specs.Faults.{shown, shown_graph, graph_memory, no_memory, output_failed}
 
-abbrev pub output_by : Result Manifest ScopeFault → Result (List ℕ) ScopeFault
-output_by (Ok manifest) = Ok (commands_of manifest)
-output_by (Err fault) = Err fault
-
--- what is printed of the lines of a tree: the text of each command and a newline, in order; or why they are refused
-abbrev pub output_of : List Line → Result (List ℕ) ScopeFault
-output_of lines = output_by (manifest_of lines)
+-- the manifest has a graph: nothing is at fault, and no edge waits for itself, through others too
+abbrev pub HasGraph : Manifest → Type 0
+HasGraph m = (first_fault m ≡ None) × (ranks : List ℕ) × AreRanks (all_waits m.edges) ranks
 
 -- what may be loaded from a path: all lines, or a fault
 abbrev pub MayLoad : Type 1
 MayLoad = Text → Result (List Line) ScopeFault → Type 0
 
--- the sink took all that is printed of some lines that may be loaded from the path
+-- the sink took the commands of the manifest that some lines mean which may be loaded from the path, the text of each and a newline, in order; and the manifest has a graph
 pub record WritesAll (loads : MayLoad) (path : Text) (old new : Option (List ℕ)) : Type 0 where
   pub lines : List Line
-  pub text : List ℕ
+  pub manifest : Manifest
   pub loaded : loads path (Ok lines)
-  pub means : output_of lines ≡ Ok text
-  pub written : Appends old new text
+  pub means : manifest_of lines ≡ Ok manifest
+  pub graph : HasGraph manifest
+  pub written : Appends old new (commands_of manifest)
 
 -- some lines that may be loaded from the path are refused, for this cause
 pub record RefusesLines (loads : MayLoad) (path : Text) (fault : PlanFault) : Type 0 where
   pub lines : List Line
   pub cause : ScopeFault
   pub loaded : loads path (Ok lines)
-  pub means : output_of lines ≡ Err cause
+  pub means : manifest_of lines ≡ Err cause
   pub says : fault ≡ shown cause
 
 -- loading from the path may be refused, for this cause
@@ -46,25 +46,40 @@ pub record RefusesToLoad (loads : MayLoad) (path : Text) (fault : PlanFault) : T
   pub loaded : loads path (Err cause)
   pub says : fault ≡ shown cause
 
--- want of memory, of the loader, the evaluator or the program
+-- the manifest that some lines mean which may be loaded from the path has no graph, for this cause
+pub record RefusesGraph (loads : MayLoad) (path : Text) (fault : PlanFault) : Type 0 where
+  pub lines : List Line
+  pub manifest : Manifest
+  pub cause : GraphFault
+  pub loaded : loads path (Ok lines)
+  pub means : manifest_of lines ≡ Ok manifest
+  pub refused : Refuses manifest cause
+  pub says : fault ≡ shown_graph manifest cause
+
+-- want of memory, of the loader, the evaluator, the graph or the program
 abbrev pub LacksMemory : PlanFault → Type 0
-LacksMemory fault = (fault ≡ shown LoadMemory) ⊎ ((fault ≡ shown Memory) ⊎ (fault ≡ no_memory))
+LacksMemory fault = (fault ≡ shown LoadMemory) ⊎ ((fault ≡ shown Memory) ⊎ ((fault ≡ graph_memory) ⊎ (fault ≡ no_memory)))
+
+-- the manifest has no graph, for the cause that is printed; or memory ran out
+abbrev pub LacksGraph : Manifest → PlanFault → Type 0
+LacksGraph manifest fault = ((cause : GraphFault) × Refuses manifest cause × (fault ≡ shown_graph manifest cause)) ⊎ (fault ≡ no_memory)
 
 -- why there is nothing to print
 abbrev pub IsRefused : MayLoad → Text → PlanFault → Type 0
-IsRefused loads path fault = RefusesLines loads path fault ⊎ (RefusesToLoad loads path fault ⊎ LacksMemory fault)
+IsRefused loads path fault = RefusesLines loads path fault ⊎ (RefusesToLoad loads path fault ⊎ (RefusesGraph loads path fault ⊎ LacksMemory fault))
 
 -- the manifest is the meaning of some lines that may be loaded from the path
 abbrev pub IsMeant : MayLoad → Text → Manifest → Type 0
 IsMeant loads path manifest = (lines : List Line) × loads path (Ok lines) × (manifest_of lines ≡ Ok manifest)
 
--- a write failed, behind a front of what is printed of some lines that may be loaded from the path
+-- a write failed, behind a front of the commands of the manifest that some lines mean which may be loaded from the path; and the manifest has a graph
 pub record FailsToWrite (loads : MayLoad) (path : Text) (old new : Option (List ℕ)) (before now : ℕ) (fault : PlanFault) : Type 0 where
   pub lines : List Line
-  pub text : List ℕ
+  pub manifest : Manifest
   pub loaded : loads path (Ok lines)
-  pub means : output_of lines ≡ Ok text
-  pub front : AppendsFront old new text
+  pub means : manifest_of lines ≡ Ok manifest
+  pub graph : HasGraph manifest
+  pub front : AppendsFront old new (commands_of manifest)
   pub failed : now ≡ before + 1
   pub says : fault ≡ output_failed
 

@@ -1,12 +1,15 @@
 //! The command `commands`.
 
-ghost use Rattle.std.specs.Prelude.{◌≡◌, ◌⊎◌, IfOk, IfErr};
-ghost use Rattle.plan_ninja.specs.Commands.{WritesAll, IsRefused, IsMeant, FailsToWrite, loading_by};
+ghost use Rattle.std.specs.Prelude.{◌≡◌, ◌⊎◌, IfOk, IfErr, OnOk};
+ghost use Rattle.plan_ninja.specs.Commands.{WritesAll, HasGraph, IsRefused, IsMeant, LacksGraph, FailsToWrite, loading_by};
 
 use crate::fault::{PlanFault, no_memory, output_failed, shown};
+use crate::graph_fault::shown_graph;
+use plan_graph::graph;
 use plan_scope::{Manifest, Source, evaluate, load, write_commands};
 use plan_text::Sink;
 use std::alloc::Global;
+use std::mem::forget;
 
 /// What the manifest at the path means.
 fn manifest_at<S: Source>(alloc: Global, source: &mut S, path: &[u8]) -> Result<Manifest, PlanFault>
@@ -23,9 +26,20 @@ fn manifest_at<S: Source>(alloc: Global, source: &mut S, path: &[u8]) -> Result<
     }
 }
 
+/// Refuses a manifest that has no graph.
+fn check_graph(alloc: Global, manifest: &Manifest) -> Result<(), PlanFault>
+    ensures graph { OnOk result (HasGraph manifest.now) }
+    ensures refused { IfErr result (λ fault. LacksGraph manifest.now fault) }
+{
+    match graph(alloc, manifest) {
+        Ok(_) => Ok(()),
+        Err(fault) => Err(shown_graph(alloc, manifest, &fault)),
+    }
+}
+
 /// Writes the command of each edge of the manifest at the path that isn't a phony, in order, a newline after each, and answers the status 0.
 ///
-/// Where the manifest, or a file that it takes in, is missing or refused, nothing is written, and the fault says why and where. Where a write fails, the fault is that of the output.
+/// Where the manifest, or a file that it takes in, is missing or refused, or the manifest has no graph, nothing is written, and the fault says why and where. Where a write fails, the fault is that of the output.
 pub fn do_commands<S: Source, W: Sink>(
     alloc: Global,
     source: &mut S,
@@ -38,10 +52,14 @@ pub fn do_commands<S: Source, W: Sink>(
         ⊎ FailsToWrite (loading_by (S.gives source.old) (S.failures source.old) (S.failures source.new)) path.now (W.taken out.old) (W.taken out.new) (W.failures out.old) (W.failures out.new) fault) }
 {
     let manifest = manifest_at(alloc, source, path)?;
+    check_graph(alloc, &manifest)?;
     let Ok(failed) = output_failed(alloc) else {
         return Err(no_memory(alloc));
     };
-    match write_commands(&manifest, out) {
+    let written = write_commands(&manifest, out);
+    // It is not freed piece by piece: the program ends soon.
+    forget(manifest);
+    match written {
         Ok(()) => Ok(0),
         Err(_) => Err(failed),
     }

@@ -12,7 +12,7 @@ use std::alloc::{AllocError, Global};
 pub struct PlanFault {
     /// The number of the fault: 1 to 133.
     pub number: u8,
-    /// What is printed behind its name, as ` build.ninja:5`.
+    /// What is printed behind its name, as ` build.ninja:5` or ` a -> b`.
     pub rest: Items<u8>,
 }
 
@@ -49,6 +49,10 @@ fn name_of(number: u8) -> &'static str
         39 => "PathTooLong",
         40 => "TextTooLong",
         42 => "BadDepth",
+        50 => "TwoProducers",
+        51 => "Cycle",
+        52 => "UnknownDefault",
+        53 => "TooManyEdges",
         133 => "FileFault",
         _ => "Memory",
     }

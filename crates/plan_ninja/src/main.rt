@@ -8,6 +8,7 @@ mod command_line;
 mod commands;
 mod fault;
 mod files;
+mod graph_fault;
 #[cfg(test)]
 mod tests;
 

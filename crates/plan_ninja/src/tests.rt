@@ -1,6 +1,8 @@
 use crate::commands::do_commands;
 use crate::fault::{PlanFault, no_memory, output_failed, shown};
-use plan_scope::{ScopeFault, Source, SourceFault};
+use crate::graph_fault::shown_graph;
+use plan_graph::GraphFault;
+use plan_scope::{Manifest, ScopeFault, Source, SourceFault};
 use plan_text::{Counted, Items, Sink, SinkFault, Tally};
 use std::alloc::Global;
 use std::process::Abort;
@@ -77,6 +79,21 @@ fn assert_refused(rt: &impl Abort, alloc: Global, fault: &PlanFault, line: &[u8]
     }
 }
 
+/// The manifest is refused with this line, and nothing is printed of it.
+fn assert_manifest_refused(rt: &impl Abort, alloc: Global, manifest: &'static [u8], line: &[u8]) {
+    let mut out = Counted::new(Vec::new(alloc));
+    match do_commands(
+        alloc,
+        &mut OneFile::new(Some(manifest)),
+        b"build.ninja",
+        &mut out,
+    ) {
+        Ok(_) => assert!(rt; false),
+        Err(fault) => assert_refused(rt, alloc, &fault, line),
+    }
+    assert!(rt; out.into_writer().is_empty());
+}
+
 #[test]
 fn prints_the_demo(rt: HostRuntime) {
     let mut out = Counted::new(Vec::new(rt.alloc()));
@@ -102,7 +119,7 @@ fn survives_refused_memory(rt: HostRuntime) {
     ) {
         Ok(_) => assert!(rt; out.into_writer().as_slice() == DEMO_OUTPUT),
         Err(fault) => {
-            assert!(rt; matches!(fault.number, 22 | 41 | 131 | 133));
+            assert!(rt; matches!(fault.number, 22 | 41 | 54 | 131 | 133));
             assert!(rt; out.into_writer().len() < DEMO_OUTPUT.len());
         }
     }
@@ -110,22 +127,40 @@ fn survives_refused_memory(rt: HostRuntime) {
 
 #[test]
 fn says_where_a_fault_stands(rt: HostRuntime) {
-    let mut out = Counted::new(Vec::new(rt.alloc()));
-    match do_commands(
-        rt.alloc(),
-        &mut OneFile::new(Some(b"x = a$!")),
-        b"build.ninja",
-        &mut out,
-    ) {
-        Ok(_) => assert!(rt; false),
-        Err(fault) => assert_refused(
-            &rt,
-            rt.alloc(),
-            &fault,
-            b"plan: 3 BadEscape build.ninja:5\n",
-        ),
-    }
-    assert!(rt; out.into_writer().is_empty());
+    let line = b"plan: 3 BadEscape build.ninja:5\n";
+    assert_manifest_refused(&rt, rt.alloc(), b"x = a$!", line);
+}
+
+#[test]
+fn says_which_path_has_two_producers(rt: HostRuntime) {
+    let manifest = b"build a: phony\nbuild b | ./a: phony\n";
+    assert_manifest_refused(&rt, rt.alloc(), manifest, b"plan: 50 TwoProducers a\n");
+}
+
+#[test]
+fn says_which_edges_are_a_cycle(rt: HostRuntime) {
+    let manifest = b"build z a: phony c\nbuild | b: phony || a\nbuild c: phony | b\n";
+    assert_manifest_refused(&rt, rt.alloc(), manifest, b"plan: 51 Cycle z -> c -> b\n");
+}
+
+#[test]
+fn says_which_default_nothing_makes(rt: HostRuntime) {
+    let manifest = b"build a: phony b\ndefault a b\n";
+    assert_manifest_refused(&rt, rt.alloc(), manifest, b"plan: 52 UnknownDefault b\n");
+}
+
+#[test]
+fn shows_faults_of_graphs(rt: HostRuntime) {
+    let alloc = rt.alloc();
+    let manifest = Manifest {
+        edges: Items::empty(alloc),
+        pools: Items::empty(alloc),
+        defaults: Items::empty(alloc),
+    };
+    let too_many = shown_graph(alloc, &manifest, &GraphFault::TooManyEdges);
+    assert_refused(&rt, alloc, &too_many, b"plan: 53 TooManyEdges\n");
+    let memory = shown_graph(alloc, &manifest, &GraphFault::Memory);
+    assert_refused(&rt, alloc, &memory, b"plan: 54 Memory\n");
 }
 
 #[test]

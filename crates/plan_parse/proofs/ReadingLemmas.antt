@@ -1,13 +1,16 @@
 -- Reading paths from left to right.
-use Rattle.std.proofs.Common.{◌≡◌, ℕ, zero, suc, ◌+◌, ◌-◌, ◌<◌, ◌≤◌, List, [], ◌∷◌, ◌++◌, length, drop, Result, Ok, Err, refl, sym, ap, ◌∙◌, append_assoc, arith, add-zero, eqb, true, false}
+use Rattle.std.proofs.Common.{◌≡◌, ℕ, zero, suc, ◌+◌, ◌-◌, ◌<◌, ◌≤◌, List, [], ◌∷◌, ◌++◌, length, drop, Result, Ok, Err, refl, sym, ap, ◌∙◌, append_assoc, arith, add-zero, eqb, ◌==◌, Bool, true, false, not, ◌||◌, cond, unwrap_or}
 use Rattle.std.specs.Prelude.{nat_lt}
+use Rattle.std.specs.List.{prefix_len}
 use Rattle.std.proofs.lemmas.List.{append-nil}
 use Rattle.std.proofs.lemmas.Bool.Decides.{nat_tests}
 use Rattle.plan_text.specs.Lines.{gap_unit, gap_len}
+use Rattle.plan_text.specs.Bytes.{dollar}
+use Rattle.plan_text.specs.Pieces.{escape_size}
 use Rattle.plan_text.specs.Runs.{and_more, run_past, run}
 use Rattle.plan_text.specs.declared.piece_reader.Piece.{Piece}
 use Rattle.plan_parse.specs.declared.fault.ParseFault.{ParseFault}
-use Rattle.plan_parse.specs.Reading.{◌>>=◌, Place, past, past_gap, path_len, path_at, path_onto, paths_past, paths_at}
+use Rattle.plan_parse.specs.Reading.{◌>>=◌, Place, past, past_gap, ends_path, path_unit, path_len, path_at, path_onto, paths_past, paths_at}
 
 -- paths that were read, in front of those that follow
 abbrev pub with_front : List (List Piece) → Result (List (List Piece) × Place) ParseFault → Result (List (List Piece) × Place) ParseFault
@@ -49,6 +52,24 @@ paths_skipped at (b ∷ rest) zero h = rw (add-zero at) refl
 paths_skipped at (b ∷ rest) (suc n) h = paths_skipped (at + 1) rest n (omega arith) ∙ ap (λ (k : ℕ). paths_past k (drop n rest) 0) place where
   place : at + 1 + n ≡ at + suc n
   place = omega arith
+
+path_unit_go : (size : ℕ) (e d : Bool) → not (e || d) ≡ true → cond e 0 (cond d size 1) ≡ 1
+path_unit_go size false false h = refl
+path_unit_go size false true h = absurd cc
+path_unit_go size true d h = absurd cc
+
+plain_go : (b : ℕ) (rest : List ℕ) (n : ℕ) (v : Bool) → not (ends_path b || b == dollar) ≡ v → path_len rest ≡ n + path_len (drop n rest) → path_len (b ∷ rest) ≡ cond v (1 + n) 0 + path_len (drop (cond v (1 + n) 0) (b ∷ rest))
+plain_go b rest n false e more = omega arith
+plain_go b rest n true e more =
+    let one : path_len (b ∷ rest) ≡ suc (path_len rest) = ap (λ (k : ℕ). and_more k (λ n. run_past path_unit rest n)) (path_unit_go (suc (unwrap_or (escape_size rest) 0)) (ends_path b) (b == dollar) e) in
+    let next : 1 + n ≡ suc n = omega arith in
+    let left : path_len (drop (1 + n) (b ∷ rest)) ≡ path_len (drop n rest) = ap (λ (k : ℕ). path_len (drop k (b ∷ rest))) next in
+    omega (arith, one, more, left)
+
+-- bytes of a path that begin no escape
+pub path_plain : (text : List ℕ) → path_len text ≡ prefix_len (λ b. not (ends_path b || b == dollar)) text + path_len (drop (prefix_len (λ b. not (ends_path b || b == dollar)) text) text)
+path_plain [] = refl
+path_plain (b ∷ rest) = plain_go b rest (prefix_len (λ b. not (ends_path b || b == dollar)) rest) (not (ends_path b || b == dollar)) refl (path_plain rest)
 
 some_test : (n : ℕ) → 0 < n → nat_lt 0 n ≡ true
 some_test n h = grind (arith, nat_tests)

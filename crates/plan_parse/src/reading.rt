@@ -1,7 +1,8 @@
 //! Reading a line from left to right.
 
-ghost use Rattle.std.specs.Prelude.{◌≡◌, ◌≤◌, [], ◌∷◌, ◌++◌, length, OnOk};
-ghost use Rattle.plan_text.specs.Bytes.{begins_with};
+ghost use Rattle.std.specs.Prelude.{◌≡◌, ◌==◌, ◌≤◌, ◌||◌, not, [], ◌∷◌, ◌++◌, length, OnOk};
+ghost use Rattle.std.specs.List.{prefix_len};
+ghost use Rattle.plan_text.specs.Bytes.{dollar, begins_with};
 ghost use Rattle.plan_text.specs.Outcome.{Meets, seen_by};
 ghost use Rattle.plan_parse.specs.Reading as syntax;
 ghost use Rattle.plan_parse.specs.Statements as statements;
@@ -11,12 +12,12 @@ use crate::cursor::Cursor;
 use crate::fault::ParseFault;
 use crate::statement::Binding;
 use plan_text::{
-    Items, Mode, Piece, TextFault, Unit, escape_len, gap_len, name_len, pieces_at, run_len,
+    Mode, PieceList, SmallText, TextFault, Unit, escape_len, gap_len, name_len, pieces_at, run_len,
 };
 use std::alloc::{AllocError, Global};
 
 /// The paths of a list, each as its pieces.
-type Paths = Vec<Items<Piece>>;
+type Paths = Vec<PieceList>;
 
 /// What is left past so many bytes.
 pub fn past(p: Cursor<'_>, n: usize) -> Cursor<'_>
@@ -114,20 +115,12 @@ fn of_text(fault: TextFault) -> ParseFault
     }
 }
 
-/// The same pieces, without spare room where memory allows it.
-fn fitted(mut pieces: Vec<Piece>) -> Items<Piece>
-    ensures { result ≡ pieces.items }
-{
-    pieces.shrink_to_fit();
-    Items::new(pieces)
-}
-
 /// The rest of the line, as a value.
-fn value_at(alloc: Global, p: Cursor<'_>) -> Result<Items<Piece>, ParseFault>
+fn value_at(alloc: Global, p: Cursor<'_>) -> Result<PieceList, ParseFault>
     ensures { Meets ParseFault.Memory (λ v. v) result (syntax.value_at (place_of p.entry)) }
 {
     match pieces_at(alloc, p.bytes, p.at, Mode::Value) {
-        Ok(value) => Ok(fitted(value)),
+        Ok(value) => Ok(value),
         Err(fault) => Err(of_text(fault)),
     }
 }
@@ -139,8 +132,18 @@ pub fn bound_at(alloc: Global, p: Cursor<'_>) -> Result<Binding, ParseFault>
     let (name, rest) = name_at(past_gap(p))?;
     let rest = byte_at(rest, b'=', ParseFault::ExpectedEquals(rest.at as u64))?;
     let value = value_at(alloc, rest)?;
-    let name = Items::new(Vec::from_slice(alloc, name)?);
+    let name = SmallText::new(alloc, name)?;
     Ok(Binding { name, value })
+}
+
+/// How many bytes a text begins with that neither end a path nor begin an escape.
+fn plain_len(text: &[u8]) -> usize
+    ensures len { result ≡ prefix_len (λ b. not (syntax.ends_path b || b == dollar)) text.now }
+    ensures within { result ≤ length text.now }
+{
+    text.iter()
+        .take_while(|b| !matches!(**b, b' ' | b':' | b'|' | b'$'))
+        .count()
 }
 
 /// A byte of a path, or a `$` with its escape.
@@ -148,6 +151,10 @@ struct PathUnit;
 
 impl Unit for PathUnit {
     ghost size = { syntax.path_unit };
+
+    fn plain_len(text: &[u8]) -> usize {
+        plain_len(text)
+    }
 
     fn unit_len(text: &[u8]) -> usize {
         match text {
@@ -167,18 +174,18 @@ fn path_len(text: &[u8]) -> usize
 }
 
 /// The path that takes so many bytes.
-fn path_at(alloc: Global, p: Cursor<'_>, len: usize) -> Result<Items<Piece>, ParseFault>
+fn path_at(alloc: Global, p: Cursor<'_>, len: usize) -> Result<PieceList, ParseFault>
     requires { len ≤ length p.bytes.now }
     ensures { Meets ParseFault.Memory (λ v. v) result (syntax.path_at (place_of p.entry) len) }
 {
     match pieces_at(alloc, &p.bytes[..len], p.at, Mode::Path) {
-        Ok(path) => Ok(fitted(path)),
+        Ok(path) => Ok(path),
         Err(fault) => Err(of_text(fault)),
     }
 }
 
 /// Appends a path. The first takes no more room than it needs, since most lists have one.
-fn add_path(paths: &mut Paths, path: Items<Piece>) -> Result<(), AllocError>
+fn add_path(paths: &mut Paths, path: PieceList) -> Result<(), AllocError>
     ensures { OnOk result (paths.new.items ≡ paths.old.items ++ path ∷ []) }
 {
     if paths.is_empty() {
@@ -188,7 +195,7 @@ fn add_path(paths: &mut Paths, path: Items<Piece>) -> Result<(), AllocError>
     Ok(())
 }
 
-/// The paths of a list, and the place of the first byte that belongs to none.
+/// The paths of a list, without spare room where memory allows it, and the place of the first byte that belongs to none.
 fn paths_at(alloc: Global, p: Cursor<'_>) -> Result<(Paths, Cursor<'_>), ParseFault>
     ensures { Meets ParseFault.Memory (λ x. (x.0.items, place_of x.1)) result (syntax.paths_at (place_of p.entry)) }
 {
@@ -197,6 +204,7 @@ fn paths_at(alloc: Global, p: Cursor<'_>) -> Result<(Paths, Cursor<'_>), ParseFa
     loop {
         let len = path_len(rest.bytes);
         if len == 0 {
+            paths.shrink_to_fit();
             return Ok((paths, rest));
         }
         add_path(&mut paths, path_at(alloc, rest, len)?)?;
@@ -258,7 +266,7 @@ fn no_validation(p: Cursor<'_>) -> Result<(), ParseFault>
 }
 
 /// One path or more in both lists.
-fn some_path(p: Cursor<'_>, paths: &[Items<Piece>], more: &[Items<Piece>]) -> Result<(), ParseFault>
+fn some_path(p: Cursor<'_>, paths: &[PieceList], more: &[PieceList]) -> Result<(), ParseFault>
     ensures { result ≡ statements.some_path (place_of p.entry) paths.now more.now }
 {
     if paths.is_empty() && more.is_empty() {
@@ -301,7 +309,7 @@ pub fn targets_at(alloc: Global, p: Cursor<'_>) -> Result<Paths, ParseFault>
 }
 
 /// One path, and the end of the line.
-pub fn file_at(alloc: Global, p: Cursor<'_>) -> Result<Items<Piece>, ParseFault>
+pub fn file_at(alloc: Global, p: Cursor<'_>) -> Result<PieceList, ParseFault>
     ensures { Meets ParseFault.Memory (λ v. v) result (statements.file_at (place_of p.entry)) }
 {
     let len = path_len(p.bytes);

@@ -1,21 +1,21 @@
 //! What a manifest says.
 
-use plan_text::{Items, Piece};
+use plan_text::{Items, PieceList, SmallText};
 
 /// A name and its value: `name = value`.
 #[derive(Debug, Drop)]
 pub struct Binding {
     /// The name.
-    pub name: Items<u8>,
+    pub name: SmallText,
     /// The pieces of the value.
-    pub value: Items<Piece>,
+    pub value: PieceList,
 }
 
 /// A rule and the lines below it.
 #[derive(Debug, Drop)]
 pub struct Rule {
     /// The name by which build lines ask for it.
-    pub name: Items<u8>,
+    pub name: SmallText,
     /// Its variables in order, one of them `command`.
     pub bindings: Items<Binding>,
 }
@@ -24,26 +24,26 @@ pub struct Rule {
 #[derive(Debug, Drop)]
 pub struct Pool {
     /// The name by which edges ask for it.
-    pub name: Items<u8>,
+    pub name: SmallText,
     /// The pieces of its depth.
-    pub depth: Items<Piece>,
+    pub depth: PieceList,
 }
 
 /// A build line and the lines below it.
 #[derive(Debug, Drop)]
 pub struct Build {
     /// The pieces of each explicit output.
-    pub outputs: Items<Items<Piece>>,
+    pub outputs: Items<PieceList>,
     /// Those of each implicit output, behind `|`; there is at least one output of either sort.
-    pub implicit_outputs: Items<Items<Piece>>,
+    pub implicit_outputs: Items<PieceList>,
     /// The name of its rule.
-    pub rule: Items<u8>,
+    pub rule: SmallText,
     /// The pieces of each explicit input.
-    pub inputs: Items<Items<Piece>>,
+    pub inputs: Items<PieceList>,
     /// Those of each implicit input, behind `|`.
-    pub implicit_inputs: Items<Items<Piece>>,
+    pub implicit_inputs: Items<PieceList>,
     /// Those of each order-only input, behind `||`.
-    pub order_only_inputs: Items<Items<Piece>>,
+    pub order_only_inputs: Items<PieceList>,
     /// Its own variables in order.
     pub bindings: Items<Binding>,
 }
@@ -58,11 +58,11 @@ pub enum StatementKind {
     /// `pool name` and its block.
     Pool(Pool),
     /// `default targets`: the pieces of each target, at least one.
-    Default(Items<Items<Piece>>),
+    Default(Items<PieceList>),
     /// `include path`: the pieces of the path.
-    Include(Items<Piece>),
+    Include(PieceList),
     /// `subninja path`: the pieces of the path.
-    Subninja(Items<Piece>),
+    Subninja(PieceList),
     /// `name = value`.
     Binding(Binding),
 }

@@ -15,7 +15,7 @@ use crate::reading::{
     targets_at,
 };
 use crate::statement::{Binding, Build, Pool, Rule, Statement, StatementKind};
-use plan_text::{Items, Piece};
+use plan_text::{Items, PieceList, SmallText};
 use std::alloc::Global;
 
 /// A name and the end of the line.
@@ -34,13 +34,13 @@ fn named_block(
     at: usize,
     p: Cursor<'_>,
     members: &[Member<'_>],
-) -> Result<(Items<u8>, Vec<Binding>), ParseFault>
+) -> Result<(SmallText, Vec<Binding>), ParseFault>
     ensures { Meets ParseFault.Memory (λ x. (x.0, x.1.items)) result (statements.named_block owner at (place_of p.entry) (members_of members.now)) }
 {
     with_wanted(owner, at, members)?;
     let name = named_line(p)?;
     let bindings = all_owned_at(alloc, owner, members)?;
-    let name = Items::new(Vec::from_slice(alloc, name)?);
+    let name = SmallText::new(alloc, name)?;
     Ok((name, bindings))
 }
 
@@ -64,12 +64,12 @@ fn rule_of(
 }
 
 /// The value of a pool's one line.
-fn depth_of(alloc: Global, bindings: Vec<Binding>) -> Items<Piece>
+fn depth_of(alloc: Global, bindings: Vec<Binding>) -> PieceList
     ensures { result ≡ statements.depth_of bindings.items }
 {
     match bindings.into_iter().next() {
         Some(binding) => binding.value,
-        None => Items::empty(alloc),
+        None => PieceList::empty(alloc),
     }
 }
 
@@ -103,13 +103,13 @@ fn build_of(
     let (rule, rest) = name_at(rest)?;
     let (inputs, implicit_inputs, order_only_inputs) = inputs_at(alloc, rest)?;
     let bindings = bindings_at(alloc, members)?;
-    let rule = Vec::from_slice(alloc, rule)?;
+    let rule = SmallText::new(alloc, rule)?;
     Ok(Statement {
         offset: at as u64,
         kind: StatementKind::Build(Build {
             outputs: Items::new(outputs),
             implicit_outputs: Items::new(implicit_outputs),
-            rule: Items::new(rule),
+            rule,
             inputs: Items::new(inputs),
             implicit_inputs: Items::new(implicit_inputs),
             order_only_inputs: Items::new(order_only_inputs),

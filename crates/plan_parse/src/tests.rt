@@ -1,12 +1,12 @@
 //! Manifests from outside: the examples of the manual and of ninja's own tests, and refusals of each sort.
 
 use super::*;
-use plan_text::{Items, Piece, TextFault};
+use plan_text::{Items, Piece, PieceList, TextFault};
 use std::alloc::{AllocError, Global};
 use std::test::Fail;
 
 /// Appends the pieces of a text, each reference as `<name>`.
-fn spell(text: &mut Vec<u8>, pieces: &Items<Piece>) -> Result<(), AllocError> {
+fn spell(text: &mut Vec<u8>, pieces: &PieceList) -> Result<(), AllocError> {
     for piece in pieces.as_slice() {
         match piece {
             Piece::Literal(bytes) => text.extend_from_slice(bytes.as_slice())?,
@@ -21,14 +21,14 @@ fn spell(text: &mut Vec<u8>, pieces: &Items<Piece>) -> Result<(), AllocError> {
 }
 
 /// A text, and whether its pieces spell it.
-fn spells(alloc: Global, pieces: &Items<Piece>, want: &[u8]) -> Result<bool, AllocError> {
+fn spells(alloc: Global, pieces: &PieceList, want: &[u8]) -> Result<bool, AllocError> {
     let mut text = Vec::new(alloc);
     spell(&mut text, pieces)?;
     Ok(text.as_slice() == want)
 }
 
 /// A text, and whether the paths of a list spell it, each with a `;` behind it.
-fn lists(alloc: Global, paths: &Items<Items<Piece>>, want: &[u8]) -> Result<bool, AllocError> {
+fn lists(alloc: Global, paths: &Items<PieceList>, want: &[u8]) -> Result<bool, AllocError> {
     let mut text = Vec::new(alloc);
     for path in paths.as_slice() {
         spell(&mut text, path)?;

@@ -138,7 +138,7 @@ rules_more : (above : List Line) (l : Line) → rules_of (above ++ l ∷ []) ≡
 rules_more above l =
     flat_map-append (λ (l : Line). rules_in l.scopes l.kind) above (l ∷ []) ∙ ap (λ (x : Scoped (Bindings (List Piece))). rules_of above ++ x) (append-nil (rules_in l.scopes l.kind))
 
-builds_more : (above : List Line) (l : Line) → length (builds_of (above ++ l ∷ [])) ≡ length (builds_of above) + length (builds_in l.kind)
+pub builds_more : (above : List Line) (l : Line) → length (builds_of (above ++ l ∷ [])) ≡ length (builds_of above) + length (builds_in l.kind)
 builds_more above l =
     ap (λ (x : List Build). length x) (flat_map-append (λ (l : Line). builds_in l.kind) above (l ∷ []) ∙ ap (λ (x : List Build). builds_of above ++ x) (append-nil (builds_in l.kind)))
     ∙ length-append (builds_of above) (builds_in l.kind)

@@ -1,6 +1,7 @@
 -- Steps of an expansion.
-use Rattle.std.proofs.Common.{◌≡◌, ℕ, zero, suc, true, false, ◌||◌, ◌<◌, ◌+◌, List, [], ◌∷◌, ◌++◌, length, map, Option, Some, None, refl, ap, sym, ◌∙◌, bytes_eq, append_assoc, get_or, drop, drop-cons, add-one, Bor, option_map}
+use Rattle.std.proofs.Common.{◌≡◌, ℕ, zero, suc, true, false, ◌||◌, ◌<◌, ◌+◌, List, [], ◌∷◌, ◌++◌, length, map, Option, Some, None, refl, ap, sym, ◌∙◌, bytes_eq, append_assoc, arith, eqb, get_or, drop, drop-cons, add-one, Bor, option_map}
 use Rattle.std.specs.List.{list_any}
+use Rattle.std.proofs.lemmas.Bool.{ne_eqb}
 use Rattle.plan_text.specs.declared.piece_reader.Piece.{Piece}
 use Rattle.plan_scope.specs.Scopes.{Text, Name, last_of}
 use Rattle.plan_scope.specs.Expansion.{Use, listed, Meaning, Known, Late, or_known, or_late, meaning_of, both, text_of_piece, joined, text_of, text_within}
@@ -87,3 +88,7 @@ is_of_file show edge name e f g =
 pub list_any_now : (name : List ℕ) (ns : List (Bor (List ℕ))) → list_any (bytes_eq name) (map (λ n. n.now) ns) ≡ list_any (λ n. bytes_eq name n.now) ns
 list_any_now name [] = refl
 list_any_now name (n ∷ ns) = ap (λ b. bytes_eq name n.now || b) (list_any_now name ns)
+
+pub none_used : {X : Type 0} (xs : List X) → eqb (length xs) 0 ≡ true → xs ≡ []
+none_used [] e = refl
+none_used (x ∷ xs) e = let f : eqb (length (x ∷ xs)) 0 ≡ false = ne_eqb (length (x ∷ xs)) 0 (λ e. omega arith) in cc

@@ -1,5 +1,5 @@
 -- Blocks and paths of which as much is kept.
-use Rattle.std.proofs.Common.{◌≡◌, ℕ, ◌+◌, ◌<◌, ◌≤◌, Bool, true, false, ◌||◌, List, [], ◌∷◌, ◌++◌, length, map, Option, Ok, Err, refl, ap, sym, ◌∙◌, cond, inl, inr, arith, take, get_or, append_assoc}
+use Rattle.std.proofs.Common.{◌≡◌, ℕ, ◌+◌, ◌<◌, ◌≤◌, Bool, true, false, ◌||◌, List, [], ◌∷◌, ◌++◌, length, map, Option, Ok, Err, refl, ap, sym, ◌∙◌, cond, inl, inr, arith, take, get_or}
 use Rattle.std.specs.List.{list_any}
 use Rattle.std.proofs.lemmas.Bool.{lt-ltb, ltb-false, ne_eqb}
 use Rattle.std.proofs.lemmas.List.{map_more, map-append}
@@ -12,7 +12,7 @@ use Rattle.plan_scope.specs.declared.manifest.DefaultTarget.{DefaultTarget}
 use Rattle.plan_scope.specs.Edges.{block_of, near, path_of, canonical_or, first_of, or_refused, target_at, targets_by}
 use Rattle.plan_scope.specs.declared.build_texts.Paths.{Paths}
 use Rattle.plan_scope.specs.Frames.{kept, Agrees, StandsFor}
-use Rattle.plan_scope.specs.Paths.{all_in, canonical_paths, has_long, kept_in}
+use Rattle.plan_scope.specs.Paths.{IsListOf, all_in, canonical_paths, has_long, kept_in}
 use Rattle.plan_scope.proofs.Kept.{Same, same_from_kept, kept_or}
 
 pub kept_near : (block b : Bindings Text) (here m : Name → Text) → Agrees block b → StandsFor here m → StandsFor (near here block) (near m b)
@@ -103,19 +103,6 @@ kept_canonical (p ∷ ps) (q ∷ qs) e =
     let l : map kept ps ≡ map kept qs = cc in
     ap (λ o. o ∷ map kept (map path_of ps)) (kept_path p q k) ∙ ap (λ os. kept (path_of q) ∷ os) (kept_canonical ps qs l)
 
--- one more canonical form
--- one more item of a list that is handed out from its front
-pub item_pushed : {A B : Type 0} (f : A → B) (done now : List B) (old new : List A) (all : List B) (x : A) (y : B) → done ++ map f old ≡ all → old ≡ x ∷ new → y ≡ f x → now ≡ done ++ y ∷ [] → now ++ map f new ≡ all
-item_pushed {A} {B} f done now old new all x y h e g n =
-    ap (λ (l : List B). l ++ map f new) n
-    ∙ (append_assoc done (y ∷ []) (map f new)
-    ∙ (ap (λ (t : B). done ++ t ∷ map f new) g
-    ∙ (ap (λ (l : List A). done ++ map f l) (sym e) ∙ h)))
-
-pub none_left : {X : Type 0} (l : List X) → length l ≡ 0 → l ≡ []
-none_left [] h = refl
-none_left (x ∷ xs) h = absurd (omega arith)
-
 -- what is kept of each list
 pub record KeptLists (p q : Paths) : Type 0 where
   pub outputs : map kept p.outputs ≡ map kept q.outputs
@@ -127,7 +114,7 @@ pub record KeptLists (p q : Paths) : Type 0 where
 pub kept_lists : (p q : Paths) → kept_in p ≡ kept_in q → KeptLists p q
 kept_lists p q e = record { outputs = cc; implicit_outputs = cc; inputs = cc; implicit_inputs = cc; order_only_inputs = cc }
 
-five : {X Y : Type 0} (f : X → X → X → X → X → Y) (a b c d e k l m n o : X) → a ≡ k → b ≡ l → c ≡ m → d ≡ n → e ≡ o → f a b c d e ≡ f k l m n o
+pub five : {X Y : Type 0} (f : X → X → X → X → X → Y) (a b c d e k l m n o : X) → a ≡ k → b ≡ l → c ≡ m → d ≡ n → e ≡ o → f a b c d e ≡ f k l m n o
 five f a b c d e k l m n o p q r s t = cc
 
 pub kept_forms : (p q : Paths) → kept_in p ≡ kept_in q → kept_in (canonical_paths p) ≡ kept_in (canonical_paths q)
@@ -188,3 +175,29 @@ targets_made n held meant made e f g h =
     ∙ (ap (λ t. or_refused (first_of ((t, EmptyPath) ∷ (list_any is_long_path held, PathTooLong) ∷ [])) (map (target_at n) meant)) f
     ∙ (ap (λ t. or_refused (first_of ((false, EmptyPath) ∷ (t, PathTooLong) ∷ [])) (map (target_at n) meant)) g
     ∙ (ap (λ (l : List Text). Ok (map (target_at n) l)) (sym (exact_paths held meant e g)) ∙ ap (λ (l : List DefaultTarget). Ok l) (sym h))))
+
+any_push : (test : Text → Bool) (xs : List Text) (x : Text) → list_any test (xs ++ x ∷ []) ≡ (list_any test xs || test x)
+any_push test xs x = list_any-append test xs (x ∷ []) ∙ ap (λ (t : Bool). list_any test xs || t) (or_false (test x))
+
+-- one more path that is read
+pub list_more : (texts forms now : List Text) (empty long e l : Bool) (t f : Text) → IsListOf texts forms empty long → f ≡ path_of t → now ≡ forms ++ f ∷ [] → e ≡ is_empty t → l ≡ is_long_path t
+    → IsListOf (texts ++ t ∷ []) now (empty || e) (long || l)
+list_more texts forms now empty long e l t f h c n i j = (
+  n ∙ (ap (λ (x : List Text). x ++ f ∷ []) h.0 ∙ (ap (λ (x : Text). map path_of texts ++ x ∷ []) c ∙ sym (map-append path_of texts (t ∷ [])))),
+  ap (λ (x : Bool). x || e) h.1 ∙ (ap (λ (x : Bool). list_any is_empty texts || x) i ∙ sym (any_push is_empty texts t)),
+  ap (λ (x : Bool). x || l) h.2 ∙ (ap (λ (x : Bool). list_any is_long_path texts || x) j ∙ sym (any_push is_long_path texts t)),
+)
+
+any_five : (test : Text → Bool) (a b c d e : List Text) → list_any test (a ++ b ++ c ++ d ++ e) ≡ ((((list_any test a || list_any test b) || list_any test c) || list_any test d) || list_any test e)
+any_five test a b c d e =
+    list_any-append test (a ++ b ++ c ++ d) e
+    ∙ ap (λ (t : Bool). t || list_any test e) (list_any-append test (a ++ b ++ c) d
+    ∙ ap (λ (t : Bool). t || list_any test d) (list_any-append test (a ++ b) c
+    ∙ ap (λ (t : Bool). t || list_any test c) (list_any-append test a b)))
+
+-- whether a path of some list passes a test
+pub any_of_five : (test : Text → Bool) (p : Paths) (a b c d e : Bool) → a ≡ list_any test p.outputs → b ≡ list_any test p.implicit_outputs → c ≡ list_any test p.inputs → d ≡ list_any test p.implicit_inputs → e ≡ list_any test p.order_only_inputs
+    → ((((a || b) || c) || d) || e) ≡ list_any test (all_in p)
+any_of_five test p a b c d e h i j k l =
+    five (λ (a b c d e : Bool). (((a || b) || c) || d) || e) _ _ _ _ _ _ _ _ _ _ h i j k l
+    ∙ sym (any_five test p.outputs p.implicit_outputs p.inputs p.implicit_inputs p.order_only_inputs)

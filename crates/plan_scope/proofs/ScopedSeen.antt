@@ -1,10 +1,12 @@
 -- What values by scope and name show of their map.
-use Rattle.std.proofs.Common.{◌≡◌, ℕ, Bool, true, false, ◌&&◌, List, [], ◌∷◌, ◌++◌, ◌==◌, Option, Some, None, refl, ap, sym, ◌∙◌, bytes_eq, cond, Vec}
+use Rattle.std.proofs.Common.{◌≡◌, ◌<◌, ℕ, zero, suc, Bool, true, false, ◌&&◌, List, [], ◌∷◌, ◌++◌, ◌==◌, Option, Some, None, refl, ap, sym, ◌∙◌, bytes_eq, cond, nat_eq, slice_index_or, slice_set, subst, Vec}
+use Rattle.std.proofs.lemmas.List.{get_or-set_same, length-set}
+use Rattle.std.proofs.lemmas.Slice.Eq.{bytes_eq-Decides}
 use Rattle.std.specs.Map.{lookup}
 use Rattle.indexmap.specs.IndexMap.{insert_entry}
 use Rattle.std.specs.declared.alloc.Global.{Global}
-use Rattle.plan_scope.specs.Scopes.{Name, Bindings, Scoped, last_of, frame, or_else}
-use Rattle.plan_scope.specs.Keys.{same_key, same_key_equiv, key_of, scoped_by}
+use Rattle.plan_scope.specs.Scopes.{Name, Bindings, Scoped, last_of, frame, nearest, or_else}
+use Rattle.plan_scope.specs.Keys.{IsMarked, mark_of, marks, same_key, same_key_equiv, key_of, scoped_by}
 use Rattle.plan_scope.proofs.Seen.{last_of_push}
 
 -- one more binding, and what is then bound in a scope
@@ -71,3 +73,42 @@ set_scoped {V} es fs key name value e f s n =
     ∙ (ap (λ (x : ℕ × Name). cond (same_key x (s, n)) (Some value) (lookup (λ k. same_key (s, n) (key_of k)) es)) own
     ∙ (ap (λ (o : Option V). cond (same_key (key.0, name) (s, n)) (Some value) o) (sym (last_in_scoped s n es))
     ∙ sym (last_in_push s n (scoped_by es) (key.0, (name, value)))))))
+
+-- a name that no scope has
+pub nearest_none : {V : Type 0} (bound : Scoped V) (name : Name) → ((s : ℕ) → last_of name (frame s bound) ≡ None) → (scopes : List ℕ) → nearest bound scopes name ≡ None
+nearest_none bound name h [] = refl
+nearest_none {V} bound name h (s ∷ outer) = ap (λ (o : Option V). or_else o (nearest bound outer name)) (h s) ∙ nearest_none bound name h outer
+
+-- what has no mark after one more was set had none before
+unmarked_before : (l : List Bool) (i j : ℕ) → slice_index_or (slice_set l i true) j false ≡ false → slice_index_or l j false ≡ false
+unmarked_before [] i j e = refl
+unmarked_before (x ∷ xs) zero zero e = cc
+unmarked_before (x ∷ xs) zero (suc j) e = e
+unmarked_before (x ∷ xs) (suc i) zero e = e
+unmarked_before (x ∷ xs) (suc i) (suc j) e = unmarked_before xs i j e
+
+and_true : (x y : Bool) → (x && y) ≡ true → y ≡ true
+and_true true y e = e
+and_true false y e = cc
+
+marked_at : {V : Type 0} (es : List ((ℕ × Vec ℕ Global) × V)) (marked : List Bool) (i scope : ℕ) (name : Name) (value : V) → IsMarked marked es → i ≡ mark_of name → i < marks
+    → (s : ℕ) (n : Name) → slice_index_or (slice_set marked i true) (mark_of n) false ≡ false
+    → (t : Bool) → same_key (scope, name) (s, n) ≡ t → ◌≡◌ {A = Option V} (cond t (Some value) (last_of n (frame s (scoped_by es)))) None
+marked_at {V} es marked i scope name value h m lt s n e true k =
+    let same : name ≡ n = (bytes_eq-Decides name n).0 (and_true (nat_eq scope s) (bytes_eq name n) k) in
+    let at : i ≡ mark_of n = m ∙ ap mark_of same in
+    let there : slice_index_or (slice_set marked i true) i false ≡ true = get_or-set_same marked i true false (subst (λ x. i < x) (sym h.0) lt) in
+    let no : true ≡ false = sym there ∙ (ap (λ j. slice_index_or (slice_set marked i true) j false) at ∙ e) in
+    cc
+marked_at es marked i scope name value h m lt s n e false k = h.1 s n (unmarked_before marked i (mark_of n) e)
+
+-- after a name was bound anew and its mark was set
+pub marked_set : {V : Type 0} (es fs : List ((ℕ × Vec ℕ Global) × V)) (marked : List Bool) (i : ℕ) (key : ℕ × Vec ℕ Global) (name : Name) (value : V) → IsMarked marked es → i ≡ mark_of name → i < marks
+    → key.1.items ≡ name → fs ≡ insert_entry (λ x y. same_key (key_of x) (key_of y)) es key value → IsMarked (slice_set marked i true) fs
+marked_set es fs marked i key name value h m lt k f = (
+  length-set marked i true ∙ h.0,
+  λ s n e.
+      set_scoped es fs key name value k f s n
+      ∙ (last_in_push s n (scoped_by es) (key.0, (name, value))
+      ∙ marked_at es marked i key.0 name value h m lt s n e (same_key (key.0, name) (s, n)) refl),
+)

@@ -1,5 +1,5 @@
 -- What the code keeps of texts and bindings.
-use Rattle.std.specs.Prelude.{◌≡◌, ℕ, List, [], ◌∷◌, ◌++◌, Option, Some, None, if◌then◌else◌, option_map}
+use Rattle.std.specs.Prelude.{◌≡◌, ℕ, List, [], ◌∷◌, ◌++◌, Option, Some, None, if◌then◌else◌, option_map, map}
 use Rattle.std.specs.Borrow.{Bor}
 use Rattle.plan_scope.specs.Scopes.{Text, Name, Bindings, Scoped, last_of, frame, is_too_long}
 use Rattle.plan_scope.specs.Edges.{is_among}
@@ -32,3 +32,11 @@ SameNames stored meant = (name : Name) → is_among stored name ≡ is_among mea
 abbrev pub shown : {V : Type 0} → List (Bor (List ℕ) × V) → Bindings V
 shown [] = []
 shown (e ∷ es) = shown es ++ (e.0.now, e.1) ∷ []
+
+-- the entries that are held one by one as bindings
+abbrev pub listed : {V : Type 0} → List (Bor (List ℕ) × V) → Bindings V
+listed es = map (λ e. (e.0.now, e.1)) es
+
+-- how many are held so at most
+abbrev pub most_few : ℕ
+most_few = 8

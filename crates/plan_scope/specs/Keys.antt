@@ -1,12 +1,12 @@
 -- Values by scope and name, as a map holds them.
-use Rattle.std.specs.Prelude.{◌≡◌, ℕ, Bool, true, List, [], ◌∷◌, ◌++◌, ◌&&◌, Vec, bytes_eq, nat_eq}
+use Rattle.std.specs.Prelude.{◌≡◌, ◌+◌, ◌*◌, ◌%◌, ℕ, Bool, true, false, List, [], ◌∷◌, ◌++◌, ◌&&◌, None, Vec, bytes_eq, length, nat_eq, slice_index_or}
 use Rattle.std.specs.Cmp.{IsEquivalence, and_equiv, on_equiv, nat_eq_equiv}
 use Rattle.std.specs.Cmp.Lexicographic.{nat_list_eq_equiv}
 use Rattle.std.specs.Hash as fed
 use Rattle.std.specs.Cmp.Rules.{hashing}
 use Rattle.std.proofs.Common.{rules}
 use Rattle.std.specs.declared.alloc.Global.{Global}
-use Rattle.plan_scope.specs.Scopes.{Name, Scoped}
+use Rattle.plan_scope.specs.Scopes.{Name, Scoped, frame, last_of}
 
 -- the same scope and the same name
 abbrev pub same_key : ℕ × Name → ℕ × Name → Bool
@@ -30,3 +30,16 @@ key_of k = (k.0, k.1.items)
 abbrev pub scoped_by : {V : Type 0} → List ((ℕ × Vec ℕ Global) × V) → Scoped V
 scoped_by [] = []
 scoped_by (e ∷ es) = scoped_by es ++ (e.0.0, (e.0.1.items, e.1)) ∷ []
+
+-- how many marks names have
+abbrev pub marks : ℕ
+marks = 64
+
+-- the mark of a name
+abbrev pub mark_of : Name → ℕ
+mark_of [] = 0
+mark_of (b ∷ rest) = (b + 3 * (length (b ∷ rest) % marks)) % marks
+
+-- no scope has a name without its mark
+abbrev pub IsMarked : {V : Type 0} → List Bool → List ((ℕ × Vec ℕ Global) × V) → Type 0
+IsMarked marked es = (length marked ≡ marks) × ((scope : ℕ) (name : Name) → slice_index_or marked (mark_of name) false ≡ false → last_of name (frame scope (scoped_by es)) ≡ None)

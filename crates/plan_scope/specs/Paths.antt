@@ -1,9 +1,10 @@
 -- The paths of a build line, as the code holds them.
-use Rattle.std.specs.Prelude.{Bool, not, ◌&&◌, List, [], ◌∷◌, ◌++◌, map, Option}
+use Rattle.std.specs.Prelude.{◌≡◌, Bool, not, ◌&&◌, List, [], ◌∷◌, ◌++◌, map, Option}
 use Rattle.std.specs.List.{list_any}
 use Rattle.plan_text.specs.Path.{is_nothing, is_up}
 use Rattle.plan_parse.specs.declared.statement.Build.{Build}
 use Rattle.plan_scope.specs.declared.build_texts.Paths.{Paths}
+use Rattle.plan_scope.specs.declared.build_texts.PathTexts.{PathTexts}
 use Rattle.plan_scope.specs.Scopes.{Text, Name, is_empty, is_long_path}
 use Rattle.plan_scope.specs.Edges.{path_of, paths_of}
 use Rattle.plan_scope.specs.Frames.{kept}
@@ -44,3 +45,11 @@ has_long p = list_any is_long_path (all_in p)
 -- neither empty nor `.` nor `..`
 abbrev pub is_ordinary : Text → Bool
 is_ordinary part = not (is_nothing part) && not (is_up part)
+
+-- the canonical forms of a list of paths, and what is seen of these as expanded
+abbrev pub IsListOf : List Text → List Text → Bool → Bool → Type 0
+IsListOf texts forms empty long = (forms ≡ map path_of texts) × (empty ≡ list_any is_empty texts) × (long ≡ list_any is_long_path texts)
+
+-- the same of the paths of a build line
+abbrev pub AreRead : Paths → PathTexts → Type 0
+AreRead texts read = (read.paths ≡ canonical_paths texts) × (read.has_empty ≡ has_empty texts) × (read.has_long ≡ has_long texts)

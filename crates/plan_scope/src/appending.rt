@@ -8,7 +8,7 @@ ghost use Rattle.plan_scope.specs.Frames.{kept};
 ghost use Rattle.plan_scope.specs.Shows.{shown_as};
 ghost use Rattle.std.specs.Prelude.{map, flat_map, [], ◌∷◌, if◌then◌else◌};
 
-use plan_text::Items;
+use plan_text::SmallText;
 use std::alloc::AllocError;
 
 /// How a path is shown.
@@ -38,6 +38,9 @@ pub fn append(out: &mut Vec<u8>, text: &[u8]) -> Result<(), AllocError>
     ensures appended { OnOk result (kept out.new.items ≡ kept (out.old.items ++ text.now)) }
     ensures within { OnOk result (length out.old.items ≤ max_text + 1 → length out.new.items ≤ max_text + 1) }
 {
+    if text.is_empty() {
+        return Ok(());
+    }
     let room = (MAX_TEXT + 1).saturating_sub(out.len());
     if text.len() <= room {
         out.extend_from_slice(text)?;
@@ -51,7 +54,8 @@ pub fn append(out: &mut Vec<u8>, text: &[u8]) -> Result<(), AllocError>
 fn is_plain(byte: u8) -> bool
     ensures { result ≡ is_plain byte }
 {
-    matches!(byte, b'A'..=b'Z' | b'a'..=b'z' | b'0'..=b'9' | b'_' | b'+' | b'-' | b'.' | b'/')
+    matches!(byte, b'a'..=b'z')
+        || matches!(byte, b'A'..=b'Z' | b'0'..=b'9' | b'_' | b'+' | b'-' | b'.' | b'/')
 }
 
 /// Appends a byte that stands between quotes.
@@ -118,7 +122,7 @@ fn append_separator(out: &mut Vec<u8>, is_first: bool, separator: u8) -> Result<
 pub fn append_paths(
     out: &mut Vec<u8>,
     show: Show,
-    paths: &[Items<u8>],
+    paths: &[SmallText],
     separator: u8,
 ) -> Result<(), AllocError>
     ensures { OnOk result (kept out.new.items ≡ kept (out.old.items ++ join_with_byte separator (map (shown_as show) paths.now))) }

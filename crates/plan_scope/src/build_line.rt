@@ -10,9 +10,7 @@ ghost use Rattle.plan_scope.specs.Steps.{Gives};
 ghost use Rattle.plan_scope.specs.Uses.{names_in};
 
 use crate::appending::is_long;
-use crate::build_texts::{
-    BlockTexts, Paths, block, canonical_forms, expanded_paths, has_empty_path, has_long_path,
-};
+use crate::build_texts::{BlockTexts, Paths, block, read_paths};
 use crate::edge_variables::{
     has_cycle, has_long_text, into_text, is_other_deps, is_present, text_of, variables,
     variables_of_phony,
@@ -45,15 +43,12 @@ fn read_parts<'a>(alloc: Global, here: Scope<'a>, build: &'a Build) -> Result<Pa
     ensures { IfOk result (λ parts. (h : Name → Text) → StandsFor (names_in here.entry) h → IsRead h build.now parts) }
 {
     let block = block(alloc, here, build.bindings.as_slice())?;
-    let paths = expanded_paths(alloc, &block.values, here, build)?;
-    let has_empty = has_empty_path(&paths);
-    let has_long = has_long_path(&paths);
-    let paths = canonical_forms(alloc, paths)?;
+    let read = read_paths(alloc, &block.values, here, build)?;
     Ok(Parts {
         block,
-        paths,
-        has_empty,
-        has_long,
+        paths: read.paths,
+        has_empty: read.has_empty,
+        has_long: read.has_long,
     })
 }
 

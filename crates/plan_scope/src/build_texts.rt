@@ -1,19 +1,19 @@
 //! The texts of a build line: its block and its paths.
 
-ghost use Rattle.std.specs.Prelude.{◌≡◌, ◌≤◌, ◌+◌, length, IfOk, map, unwrap_or};
+ghost use Rattle.std.specs.Prelude.{◌≡◌, ◌≤◌, ◌+◌, List, length, IfOk, OnOk, map};
 ghost use Rattle.std.specs.List.{list_any};
 ghost use Rattle.plan_scope.specs.Scopes.{Bindings, Name, Text, expand, is_empty, is_long_path, is_too_long, max_text, value_of};
 ghost use Rattle.plan_scope.specs.Edges.{block_of, near, path_of, paths_of};
 ghost use Rattle.plan_scope.specs.Frames.{Agrees, StandsFor, kept};
-ghost use Rattle.plan_scope.specs.Paths.{canonical_paths, has_empty, has_long, kept_in, texts_of};
+ghost use Rattle.plan_scope.specs.Paths.{AreRead, IsListOf, kept_in, texts_of};
 ghost use Rattle.plan_scope.specs.Uses.{names_in};
 
 use crate::appending::{MAX_PATH, append, is_long};
 use crate::canonical_paths::is_canonical;
 use crate::frame::Frame;
-use crate::scope::{Scope, expanded, literal_len, text_in};
+use crate::scope::{Scope, expanded, text_in};
 use plan_parse::{Binding, Build};
-use plan_text::{Items, Piece, TextFault, canonical};
+use plan_text::{Items, Piece, PieceList, SmallText, TextFault, canonical};
 use std::alloc::{AllocError, Global};
 
 /// The variables of a build block.
@@ -64,71 +64,21 @@ fn text_of<'a>(block: &'a Frame<'a, Items<u8>>, here: Scope<'a>, piece: &'a Piec
     }
 }
 
-/// A path of a build line.
-fn expanded_path<'a>(
-    alloc: Global,
+/// Puts a path of a build line together in a buffer, in place of what that held.
+fn expand_path<'a>(
     block: &'a Frame<'a, Items<u8>>,
     here: Scope<'a>,
     pieces: &'a [Piece],
-) -> Result<Vec<u8>, AllocError>
-    ensures text { IfOk result (λ text. (b : Bindings Text) (m : Name → Text) → Agrees block.now b → StandsFor (names_in here.entry) m → kept text.items ≡ kept (expand (near m b) pieces.now)) }
-    ensures within { IfOk result (λ text. length text.items ≤ max_text + 1) }
+    buffer: &mut Vec<u8>,
+) -> Result<(), AllocError>
+    ensures text { OnOk result ((b : Bindings Text) (m : Name → Text) → Agrees block.now b → StandsFor (names_in here.entry) m → kept buffer.new.items ≡ kept (expand (near m b) pieces.now)) }
+    ensures within { OnOk result (length buffer.new.items ≤ max_text + 1) }
 {
-    let mut text = Vec::with_capacity(alloc, literal_len(pieces))?;
+    buffer.clear();
     for piece in pieces {
-        append(&mut text, text_of(block, here, piece))?;
+        append(buffer, text_of(block, here, piece))?;
     }
-    Ok(text)
-}
-
-/// The paths of a list.
-fn expanded_list<'a>(
-    alloc: Global,
-    block: &'a Frame<'a, Items<u8>>,
-    here: Scope<'a>,
-    paths: &'a [Items<Piece>],
-) -> Result<Items<Items<u8>>, AllocError>
-    ensures { IfOk result (λ texts. (b : Bindings Text) (m : Name → Text) → Agrees block.now b → StandsFor (names_in here.entry) m → map kept texts ≡ map kept (paths_of (near m b) paths.now)) }
-{
-    let mut texts = Vec::with_capacity(alloc, paths.len())?;
-    for path in paths {
-        let text = expanded_path(alloc, block, here, path.as_slice())?;
-        texts.push(Items::new(text))?;
-    }
-    Ok(Items::new(texts))
-}
-
-/// The paths of a build line.
-#[derive(Drop)]
-pub struct Paths {
-    /// The explicit outputs.
-    pub outputs: Items<Items<u8>>,
-    /// The implicit outputs.
-    pub implicit_outputs: Items<Items<u8>>,
-    /// The explicit inputs.
-    pub inputs: Items<Items<u8>>,
-    /// The implicit inputs.
-    pub implicit_inputs: Items<Items<u8>>,
-    /// The order-only inputs.
-    pub order_only_inputs: Items<Items<u8>>,
-}
-
-/// The paths of a build line as expanded, by its block and what names stand for above it.
-pub fn expanded_paths<'a>(
-    alloc: Global,
-    block: &'a Frame<'a, Items<u8>>,
-    here: Scope<'a>,
-    build: &'a Build,
-) -> Result<Paths, AllocError>
-    ensures { IfOk result (λ paths. (b : Bindings Text) (m : Name → Text) → Agrees block.now b → StandsFor (names_in here.entry) m → kept_in paths ≡ kept_in (texts_of (near m b) build.now)) }
-{
-    Ok(Paths {
-        outputs: expanded_list(alloc, block, here, build.outputs.as_slice())?,
-        implicit_outputs: expanded_list(alloc, block, here, build.implicit_outputs.as_slice())?,
-        inputs: expanded_list(alloc, block, here, build.inputs.as_slice())?,
-        implicit_inputs: expanded_list(alloc, block, here, build.implicit_inputs.as_slice())?,
-        order_only_inputs: expanded_list(alloc, block, here, build.order_only_inputs.as_slice())?,
-    })
+    Ok(())
 }
 
 /// Whether a path is too long.
@@ -136,6 +86,168 @@ fn is_long_path(path: &[u8]) -> bool
     ensures { result ≡ is_long_path path.now }
 {
     path.len() > MAX_PATH
+}
+
+/// The canonical form of a path. A path that has no byte, or is too long, stays as it is.
+pub fn canonical_path(alloc: Global, path: &[u8]) -> Result<SmallText, AllocError>
+    ensures { IfOk result (λ form. form ≡ path_of path.now) }
+{
+    if is_long_path(path) {
+        return SmallText::new(alloc, path);
+    }
+    if is_canonical(path) {
+        return SmallText::new(alloc, path);
+    }
+    match canonical(alloc, path) {
+        Ok(form) => SmallText::new(alloc, &form),
+        Err(TextFault::Memory) => Err(AllocError),
+        Err(_) => SmallText::new(alloc, path),
+    }
+}
+
+/// What is read of a list of paths.
+#[derive(Drop)]
+pub struct PathList {
+    /// Their canonical forms.
+    pub forms: Items<SmallText>,
+    /// Whether a path as expanded has no byte.
+    pub has_empty: bool,
+    /// Whether a path as expanded is too long.
+    pub has_long: bool,
+}
+
+/// The paths of a list. They are put together in a buffer, whatever that held, so that a path takes no more memory than it needs.
+fn read_list<'a>(
+    alloc: Global,
+    block: &'a Frame<'a, Items<u8>>,
+    here: Scope<'a>,
+    paths: &'a [PieceList],
+    buffer: &mut Vec<u8>,
+) -> Result<PathList, AllocError>
+    ensures { IfOk result (λ list. (texts : List Text) × IsListOf texts list.forms list.has_empty list.has_long × ((b : Bindings Text) (m : Name → Text) → Agrees block.now b → StandsFor (names_in here.entry) m → map kept texts ≡ map kept (paths_of (near m b) paths.now))) }
+{
+    let mut forms = Vec::with_capacity(alloc, paths.len())?;
+    let mut has_empty = false;
+    let mut has_long = false;
+    for path in paths {
+        expand_path(block, here, path.as_slice(), buffer)?;
+        has_empty |= buffer.is_empty();
+        has_long |= is_long_path(buffer);
+        forms.push(canonical_path(alloc, buffer)?)?;
+    }
+    Ok(PathList {
+        forms: Items::new(forms),
+        has_empty,
+        has_long,
+    })
+}
+
+/// The paths of a build line.
+#[derive(Drop)]
+pub struct Paths {
+    /// The explicit outputs.
+    pub outputs: Items<SmallText>,
+    /// The implicit outputs.
+    pub implicit_outputs: Items<SmallText>,
+    /// The explicit inputs.
+    pub inputs: Items<SmallText>,
+    /// The implicit inputs.
+    pub implicit_inputs: Items<SmallText>,
+    /// The order-only inputs.
+    pub order_only_inputs: Items<SmallText>,
+}
+
+/// What is read of the paths of a build line.
+#[derive(Drop)]
+pub struct PathTexts {
+    /// Their canonical forms.
+    pub paths: Paths,
+    /// Whether a path as expanded has no byte.
+    pub has_empty: bool,
+    /// Whether a path as expanded is too long.
+    pub has_long: bool,
+}
+
+/// What is read of five lists.
+fn together(
+    outputs: PathList,
+    implicit_outputs: PathList,
+    inputs: PathList,
+    implicit_inputs: PathList,
+    order_only_inputs: PathList,
+) -> PathTexts
+    ensures { (texts : Paths)
+        → IsListOf texts.outputs outputs.forms outputs.has_empty outputs.has_long
+        → IsListOf texts.implicit_outputs implicit_outputs.forms implicit_outputs.has_empty implicit_outputs.has_long
+        → IsListOf texts.inputs inputs.forms inputs.has_empty inputs.has_long
+        → IsListOf texts.implicit_inputs implicit_inputs.forms implicit_inputs.has_empty implicit_inputs.has_long
+        → IsListOf texts.order_only_inputs order_only_inputs.forms order_only_inputs.has_empty order_only_inputs.has_long
+        → AreRead texts result }
+{
+    PathTexts {
+        has_empty: outputs.has_empty
+            | implicit_outputs.has_empty
+            | inputs.has_empty
+            | implicit_inputs.has_empty
+            | order_only_inputs.has_empty,
+        has_long: outputs.has_long
+            | implicit_outputs.has_long
+            | inputs.has_long
+            | implicit_inputs.has_long
+            | order_only_inputs.has_long,
+        paths: Paths {
+            outputs: outputs.forms,
+            implicit_outputs: implicit_outputs.forms,
+            inputs: inputs.forms,
+            implicit_inputs: implicit_inputs.forms,
+            order_only_inputs: order_only_inputs.forms,
+        },
+    }
+}
+
+/// How many bytes a buffer of paths has room for at first, enough for most.
+const BUFFER: usize = 500;
+
+/// The paths of a build line, by its block and what names stand for above it.
+pub fn read_paths<'a>(
+    alloc: Global,
+    block: &'a Frame<'a, Items<u8>>,
+    here: Scope<'a>,
+    build: &'a Build,
+) -> Result<PathTexts, AllocError>
+    ensures { IfOk result (λ read. (texts : Paths) × AreRead texts read × ((b : Bindings Text) (m : Name → Text) → Agrees block.now b → StandsFor (names_in here.entry) m → kept_in texts ≡ kept_in (texts_of (near m b) build.now))) }
+{
+    let mut buffer = Vec::with_capacity(alloc, BUFFER)?;
+    let outputs = read_list(alloc, block, here, build.outputs.as_slice(), &mut buffer)?;
+    let implicit_outputs = read_list(
+        alloc,
+        block,
+        here,
+        build.implicit_outputs.as_slice(),
+        &mut buffer,
+    )?;
+    let inputs = read_list(alloc, block, here, build.inputs.as_slice(), &mut buffer)?;
+    let implicit_inputs = read_list(
+        alloc,
+        block,
+        here,
+        build.implicit_inputs.as_slice(),
+        &mut buffer,
+    )?;
+    let order_only_inputs = read_list(
+        alloc,
+        block,
+        here,
+        build.order_only_inputs.as_slice(),
+        &mut buffer,
+    )?;
+    Ok(together(
+        outputs,
+        implicit_outputs,
+        inputs,
+        implicit_inputs,
+        order_only_inputs,
+    ))
 }
 
 /// Whether a path of a list has no byte.
@@ -150,74 +262,4 @@ pub fn list_has_long(paths: &[Items<u8>]) -> bool
     ensures { result ≡ list_any is_long_path paths.now }
 {
     paths.iter().any(|path| is_long_path(path.as_slice()))
-}
-
-/// Whether a path has no byte.
-pub fn has_empty_path(paths: &Paths) -> bool
-    ensures { result ≡ has_empty paths.now }
-{
-    list_has_empty(paths.outputs.as_slice())
-        | list_has_empty(paths.implicit_outputs.as_slice())
-        | list_has_empty(paths.inputs.as_slice())
-        | list_has_empty(paths.implicit_inputs.as_slice())
-        | list_has_empty(paths.order_only_inputs.as_slice())
-}
-
-/// Whether a path is too long.
-pub fn has_long_path(paths: &Paths) -> bool
-    ensures { result ≡ has_long paths.now }
-{
-    list_has_long(paths.outputs.as_slice())
-        | list_has_long(paths.implicit_outputs.as_slice())
-        | list_has_long(paths.inputs.as_slice())
-        | list_has_long(paths.implicit_inputs.as_slice())
-        | list_has_long(paths.order_only_inputs.as_slice())
-}
-
-/// The canonical form of a path. A path that has no byte, or is too long, stays as it is.
-pub fn canonical_path(alloc: Global, path: Items<u8>) -> Result<Items<u8>, AllocError>
-    ensures { IfOk result (λ form. form ≡ path_of path) }
-{
-    if is_long_path(path.as_slice()) {
-        return Ok(path);
-    }
-    if is_canonical(path.as_slice()) {
-        return Ok(path);
-    }
-    match canonical(alloc, path.as_slice()) {
-        Ok(form) => Ok(Items::new(form)),
-        Err(TextFault::Memory) => Err(AllocError),
-        Err(_) => Ok(path),
-    }
-}
-
-/// The canonical forms of the paths of a list.
-fn canonical_list(alloc: Global, paths: Items<Items<u8>>) -> Result<Items<Items<u8>>, AllocError>
-    ensures { IfOk result (λ forms. forms ≡ map path_of paths) }
-{
-    let mut forms = Vec::with_capacity(alloc, paths.as_slice().len())?;
-    for path in paths.into_vec() {
-        forms.push(canonical_path(alloc, path)?)?;
-    }
-    Ok(Items::new(forms))
-}
-
-/// The canonical forms of the paths of a build line.
-pub fn canonical_forms(alloc: Global, paths: Paths) -> Result<Paths, AllocError>
-    ensures { IfOk result (λ forms. forms ≡ canonical_paths paths) }
-{
-    let Paths {
-        outputs,
-        implicit_outputs,
-        inputs,
-        implicit_inputs,
-        order_only_inputs,
-    } = paths;
-    Ok(Paths {
-        outputs: canonical_list(alloc, outputs)?,
-        implicit_outputs: canonical_list(alloc, implicit_outputs)?,
-        inputs: canonical_list(alloc, inputs)?,
-        implicit_inputs: canonical_list(alloc, implicit_inputs)?,
-        order_only_inputs: canonical_list(alloc, order_only_inputs)?,
-    })
 }

@@ -11,18 +11,18 @@ use crate::build_texts::{canonical_path, list_has_empty, list_has_long};
 use crate::fault::{Cause, LineFault};
 use crate::manifest::DefaultTarget;
 use crate::scope::{Scope, expanded};
-use plan_text::{Items, Piece};
+use plan_text::{Items, PieceList};
 use std::alloc::{AllocError, Global};
 
 /// The paths of targets as expanded.
 fn expanded_targets<'a>(
     alloc: Global,
     here: Scope<'a>,
-    paths: &'a [Items<Piece>],
+    paths: &'a [PieceList],
 ) -> Result<Items<Items<u8>>, AllocError>
     ensures { IfOk result (λ texts. (m : Name → Text) → StandsFor (names_in here.entry) m → map kept texts ≡ map kept (paths_of m paths.now)) }
 {
-    let mut texts = Vec::new(alloc);
+    let mut texts = Vec::with_capacity(alloc, paths.len())?;
     for path in paths {
         let text = expanded(alloc, here, path.as_slice())?;
         texts.push(Items::new(text))?;
@@ -34,13 +34,13 @@ fn expanded_targets<'a>(
 fn made(
     alloc: Global,
     edges_above: usize,
-    paths: Items<Items<u8>>,
+    paths: &[Items<u8>],
 ) -> Result<Vec<DefaultTarget>, AllocError>
-    ensures { IfOk result (λ v. v.items ≡ map (target_at edges_above) paths) }
+    ensures { IfOk result (λ v. v.items ≡ map (target_at edges_above) paths.now) }
 {
-    let mut targets = Vec::new(alloc);
-    for path in paths.into_vec() {
-        let path = canonical_path(alloc, path)?;
+    let mut targets = Vec::with_capacity(alloc, paths.len())?;
+    for path in paths {
+        let path = canonical_path(alloc, path.as_slice())?;
         targets.push(DefaultTarget { path, edges_above })?;
     }
     Ok(targets)
@@ -51,7 +51,7 @@ pub fn targets<'a>(
     alloc: Global,
     edges_above: usize,
     here: Scope<'a>,
-    targets: &'a [Items<Piece>],
+    targets: &'a [PieceList],
 ) -> Result<Vec<DefaultTarget>, LineFault>
     ensures { (h : Name → Text) → StandsFor (names_in here.entry) h → GivesItems result (targets_by edges_above (paths_of h targets.now)) }
 {
@@ -62,5 +62,5 @@ pub fn targets<'a>(
     if list_has_long(paths.as_slice()) {
         return Err(LineFault::Refused(Cause::PathTooLong));
     }
-    Ok(made(alloc, edges_above, paths)?)
+    Ok(made(alloc, edges_above, paths.as_slice())?)
 }

@@ -12,22 +12,28 @@ ghost use Rattle.plan_scope.specs.Shows.{shown_as};
 use crate::appending::{Show, is_long};
 use crate::expansion::{Use, append_variable};
 use crate::fault::LineFault;
+use crate::loader::copied;
 use crate::variables::Variables;
 use plan_text::Items;
 use std::alloc::{AllocError, Global};
 
+/// How many bytes a buffer has room for at first, enough for most commands.
+const BUFFER: usize = 1000;
+
 /// A variable of an edge, expanded for itself; none where its expansion meets a name that is in use already.
+/// It is put together in a buffer, whatever that held, so that the text takes no more memory than it needs.
 fn variable<'a>(
     alloc: Global,
     edge: &'a Use<'a>,
     show: Show,
     name: &'a [u8],
+    buffer: &mut Vec<u8>,
 ) -> Result<Option<Items<u8>>, AllocError>
     ensures { IfOk result (λ text. option_map kept text ≡ option_map kept (variable (shown_as show) (use_of edge.now) name.now)) }
 {
-    let mut out = Vec::new(alloc);
-    match append_variable(alloc, edge, show, edge.rule.len(), &[], name, &mut out) {
-        Ok(()) => Ok(Some(Items::new(out))),
+    buffer.clear();
+    match append_variable(alloc, edge, show, edge.rule.len(), &[], name, buffer) {
+        Ok(()) => Ok(Some(copied(alloc, buffer)?)),
         Err(LineFault::Refused(_)) => Ok(None),
         Err(LineFault::Memory) => Err(AllocError),
     }
@@ -37,16 +43,17 @@ fn variable<'a>(
 pub fn variables<'a>(alloc: Global, edge: &'a Use<'a>) -> Result<Variables, AllocError>
     ensures { IfOk result (λ v. map (option_map kept) (all_variables v) ≡ map (option_map kept) (all_variables (variables_of (use_of edge.now)))) }
 {
+    let mut buffer = Vec::with_capacity(alloc, BUFFER)?;
     Ok(Variables {
-        command: variable(alloc, edge, Show::Quoted, b"command")?,
-        depfile: variable(alloc, edge, Show::Plain, b"depfile")?,
-        deps: variable(alloc, edge, Show::Plain, b"deps")?,
-        description: variable(alloc, edge, Show::Quoted, b"description")?,
-        dyndep: variable(alloc, edge, Show::Plain, b"dyndep")?,
-        generator: variable(alloc, edge, Show::Plain, b"generator")?,
-        pool: variable(alloc, edge, Show::Plain, b"pool")?,
-        restat: variable(alloc, edge, Show::Plain, b"restat")?,
-        rspfile: variable(alloc, edge, Show::Plain, b"rspfile")?,
+        command: variable(alloc, edge, Show::Quoted, b"command", &mut buffer)?,
+        depfile: variable(alloc, edge, Show::Plain, b"depfile", &mut buffer)?,
+        deps: variable(alloc, edge, Show::Plain, b"deps", &mut buffer)?,
+        description: variable(alloc, edge, Show::Quoted, b"description", &mut buffer)?,
+        dyndep: variable(alloc, edge, Show::Plain, b"dyndep", &mut buffer)?,
+        generator: variable(alloc, edge, Show::Plain, b"generator", &mut buffer)?,
+        pool: variable(alloc, edge, Show::Plain, b"pool", &mut buffer)?,
+        restat: variable(alloc, edge, Show::Plain, b"restat", &mut buffer)?,
+        rspfile: variable(alloc, edge, Show::Plain, b"rspfile", &mut buffer)?,
     })
 }
 
@@ -54,7 +61,8 @@ pub fn variables<'a>(alloc: Global, edge: &'a Use<'a>) -> Result<Variables, Allo
 pub fn variables_of_phony<'a>(alloc: Global, edge: &'a Use<'a>) -> Result<Variables, AllocError>
     ensures { IfOk result (λ v. map (option_map kept) (all_variables v) ≡ map (option_map kept) (all_variables (phony_variables (use_of edge.now)))) }
 {
-    let dyndep = variable(alloc, edge, Show::Plain, b"dyndep")?;
+    let mut buffer = Vec::new(alloc);
+    let dyndep = variable(alloc, edge, Show::Plain, b"dyndep", &mut buffer)?;
     Ok(Variables {
         command: Some(Items::empty(alloc)),
         depfile: Some(Items::empty(alloc)),

@@ -1,10 +1,10 @@
 //! What the lines of a tree mean.
 
-ghost use Rattle.std.specs.Prelude.{◌≡◌, ◌≢◌, ◌+◌, ◌||◌, ℕ, List, [], ◌∷◌, ◌++◌, length, OnOk, IfOk, bytes_eq, codes, option_map};
+ghost use Rattle.std.specs.Prelude.{◌≡◌, ◌≢◌, ◌≤◌, ◌+◌, ◌||◌, ℕ, List, [], ◌∷◌, ◌++◌, length, OnOk, IfOk, bytes_eq, codes, option_map};
 ghost use Rattle.plan_text.specs.Outcome.{Meets};
 ghost use Rattle.plan_scope.specs.Trees.{Line as LineMeant};
 ghost use Rattle.plan_scope.specs.Scopes.{Name, Text, expand, in_own, look};
-ghost use Rattle.plan_scope.specs.Edges.{built_by, console, defaults_alone, edge_alone, edge_by, given_by, given_past, has_own, is_among, is_taken, late, manifest_of, mapped, paths_of, pool_alone, pool_by, pools_in, pools_of, targets_by, with_front};
+ghost use Rattle.plan_scope.specs.Edges.{built_by, builds_in, builds_of, console, defaults_alone, edge_alone, edge_by, given_by, given_past, has_own, is_among, is_taken, late, manifest_of, mapped, paths_of, pool_alone, pool_by, pools_in, pools_of, targets_by, with_front};
 ghost use Rattle.plan_scope.specs.Frames.{SameIn, SameNames, StandsFor};
 ghost use Rattle.plan_scope.specs.Uses.{names_in};
 ghost use Rattle.plan_scope.specs.Steps.{Gives};
@@ -22,7 +22,7 @@ use crate::scope::{Scope, bind, bound_by_lines};
 use crate::scoped::Scoped;
 use crate::tree::{Line, Tree};
 use plan_parse::{Build, Rule, StatementKind};
-use plan_text::{Items, Piece};
+use plan_text::{Items, PieceList};
 use std::alloc::{AllocError, Global};
 
 /// What all lines of the tree give.
@@ -86,10 +86,33 @@ fn known_of_all<'a>(alloc: Global, lines: &'a [Line]) -> Result<Whole<'a>, Alloc
     })
 }
 
-/// What no line gives: the pool `console`.
-fn start<'a>(alloc: Global) -> Result<Evaluation<'a>, AllocError>
+/// How many edges a line may give.
+fn edges_of(kind: &StatementKind) -> usize
+    ensures edges { result ≡ length (builds_in kind.now) }
+    ensures within { result ≤ 1 }
+{
+    match kind {
+        StatementKind::Build(_) => 1,
+        _ => 0,
+    }
+}
+
+/// How many edges lines may give.
+fn edges_of_all(lines: &[Line]) -> usize
+    ensures { result ≡ length (builds_of lines.now) }
+{
+    let mut edges = 0;
+    for line in lines {
+        edges += edges_of(line.kind());
+    }
+    edges
+}
+
+/// What no line gives, the pool `console`, with room for so many edges.
+fn start<'a>(alloc: Global, edges: usize) -> Result<Evaluation<'a>, AllocError>
     ensures { IfOk result (λ e. Fits e [] × (manifest_in e ≡ pool_alone console)) }
 {
+    let edges = Vec::with_capacity(alloc, edges)?;
     let mut pool_names = PoolNames::new(alloc);
     pool_names.insert(CONSOLE)?;
     let mut pools = Vec::new(alloc);
@@ -101,7 +124,7 @@ fn start<'a>(alloc: Global) -> Result<Evaluation<'a>, AllocError>
         bound: Scoped::new(alloc),
         rules: Scoped::new(alloc),
         pool_names,
-        edges: Vec::new(alloc),
+        edges,
         pools,
         defaults: Vec::new(alloc),
     })
@@ -268,7 +291,7 @@ fn step_default<'a>(
     alloc: Global,
     so_far: &mut Evaluation<'a>,
     scopes: &'a [usize],
-    paths: &'a [Items<Piece>],
+    paths: &'a [PieceList],
 ) -> Result<(), LineFault>
     ensures given { (h : Name → Text) → StandsFor (look so_far.old.bound scopes.now) h
         → GivesMore (manifest_in so_far.old) (manifest_in so_far.new) result (mapped defaults_alone (targets_by (length so_far.old.edges.items) (paths_of h paths.now))) }
@@ -350,7 +373,7 @@ fn evaluated<'a>(alloc: Global, lines: &'a [Line]) -> Result<Evaluation<'a>, Sco
     ensures { Meets ScopeFault.Memory manifest_in result (manifest_of lines.now) }
 {
     let whole = known_of_all(alloc, lines)?;
-    let so_far = start(alloc)?;
+    let so_far = start(alloc, edges_of_all(lines))?;
     given(alloc, &whole, so_far, lines)
 }
 

@@ -13,16 +13,16 @@ use crate::fault::{Cause, LineFault};
 use crate::frame::Frame;
 use crate::rule_variables::RuleVariables;
 use crate::scope::{Scope, text_in};
-use plan_text::{Items, Piece};
+use plan_text::{Items, Piece, SmallText};
 use std::alloc::{AllocError, Global};
 
 /// What the variables of an edge are looked up in, the nearest first.
 #[derive(Clone, Copy)]
 pub struct Use<'a> {
     /// The canonical paths of its explicit inputs.
-    pub inputs: &'a [Items<u8>],
+    pub inputs: &'a [SmallText],
     /// The canonical paths of its explicit outputs.
-    pub outputs: &'a [Items<u8>],
+    pub outputs: &'a [SmallText],
     /// The variables of its build block.
     pub block: &'a Frame<'a, Items<u8>>,
     /// The variables of its rule.
@@ -32,7 +32,7 @@ pub struct Use<'a> {
 }
 
 /// The paths that a name stands for, and the byte between each two.
-fn listed<'a>(edge: &Use<'a>, name: &[u8]) -> Option<(&'a [Items<u8>], u8)>
+fn listed<'a>(edge: &Use<'a>, name: &[u8]) -> Option<(&'a [SmallText], u8)>
     ensures { (show : Text → Text) → option_map (λ l. join_with_byte l.1 (map show l.0.now)) result ≡ listed show (use_of edge.now) name.now }
 {
     if name == b"in".as_slice() {
@@ -59,7 +59,7 @@ fn append_known(out: &mut Vec<u8>, text: &[u8]) -> Result<(), LineFault>
 fn append_listed(
     out: &mut Vec<u8>,
     show: Show,
-    paths: &[Items<u8>],
+    paths: &[SmallText],
     separator: u8,
 ) -> Result<(), LineFault>
     ensures { Appends out.old.items out.new.items result (Some (join_with_byte separator (map (shown_as show) paths.now))) }
@@ -117,6 +117,9 @@ pub fn append_variable<'a>(
     }
     if is_in_use(in_use, name) {
         return Err(LineFault::Refused(Cause::RuleCycle));
+    }
+    if in_use.is_empty() {
+        return append_pieces(alloc, edge, show, left - 1, &[name], pieces, out);
     }
     let inner = with_name(alloc, name, in_use)?;
     append_pieces(alloc, edge, show, left - 1, &inner, pieces, out)

@@ -1,25 +1,48 @@
 //! Values by name.
 
-ghost use Rattle.std.specs.Prelude.{◌≡◌, ℕ, List, [], ◌∷◌, ◌++◌, OnOk, OnErr, option_map};
+ghost use Rattle.std.specs.Prelude.{◌≡◌, ◌<◌, ℕ, List, [], ◌∷◌, ◌++◌, OnOk, OnErr, option_map, length};
 ghost use Rattle.plan_scope.specs.Scopes.{last_of};
+ghost use Rattle.plan_scope.specs.Frames.{listed, shown};
 
 use indexmap::IndexMap;
 use std::alloc::{AllocError, Global};
 use std::marker::Model;
 
-/// Values by name, the last for each.
+/// Values by name, the last for each. Most frames have few, which are found sooner one by one than by their hashes.
 #[derive(Drop)]
 pub struct Frame<'a, V> {
-    values: IndexMap<&'a [u8], V>,
+    /// The first values, in the order in which they were set.
+    few: Vec<(&'a [u8], V)>,
+    /// Those that were set once there were few already.
+    more: IndexMap<&'a [u8], V>,
 }
 
 impl<'a, V> Model for Frame<'a, V> {
+    ghost use Rattle.std.specs.Prelude.{◌≡◌, ◌<◌, [], ◌++◌, length};
     ghost use Rattle.plan_scope.specs.Scopes.{Bindings};
-    ghost use Rattle.plan_scope.specs.Frames.{shown};
+    ghost use Rattle.plan_scope.specs.Frames.{listed, most_few, shown};
 
     ghost Value = { Bindings V };
 
-    ghost view = { λ f. shown f.values.entries };
+    ghost view = { λ f. listed f.few.items ++ shown f.more.entries };
+
+    ghost invariant = { λ f. length f.few.items < most_few → f.more.entries ≡ [] };
+}
+
+/// How many values are held one by one.
+const FEW: usize = 8;
+
+/// The last value of a name.
+fn last_among<'b, 'a, V>(few: &'b [(&'a [u8], V)], name: &[u8]) -> Option<&'b V>
+    ensures { option_map (λ v. v.now) result ≡ last_of name.now (listed few.now) }
+{
+    let mut last = None;
+    for entry in few {
+        if entry.0 == name {
+            last = Some(&entry.1);
+        }
+    }
+    last
 }
 
 impl<'a, V> Frame<'a, V> {
@@ -28,7 +51,8 @@ impl<'a, V> Frame<'a, V> {
         ensures { result ≡ [] }
     {
         Frame {
-            values: IndexMap::new(alloc),
+            few: Vec::new(alloc),
+            more: IndexMap::new(alloc),
         }
     }
 
@@ -36,9 +60,12 @@ impl<'a, V> Frame<'a, V> {
     pub fn get(&self, name: &[u8]) -> Option<&V>
         ensures { option_map (λ v. v.now) result ≡ last_of name.now self.now }
     {
-        match self.values.get(name) {
+        if self.few.len() < FEW {
+            return last_among(&self.few, name);
+        }
+        match self.more.get(name) {
             Some(value) => Some(value),
-            None => None,
+            None => last_among(&self.few, name),
         }
     }
 }
@@ -48,7 +75,11 @@ impl<'a, V: Drop> Frame<'a, V> {
     pub fn set(&mut self, name: &'a [u8], value: V) -> Result<(), AllocError>
         ensures bound { OnOk result ((n : List ℕ) → last_of n self.new ≡ last_of n (self.old ++ (name.now, value) ∷ [])) }
     {
-        self.values.insert(name, value)?;
+        if self.few.len() < FEW {
+            self.few.push((name, value))?;
+            return Ok(());
+        }
+        self.more.insert(name, value)?;
         Ok(())
     }
 }

@@ -1,6 +1,6 @@
 //! The lines of a tree that are loaded so far.
 
-ghost use Rattle.std.specs.Prelude.{◌≡◌, []};
+ghost use Rattle.std.specs.Prelude.{◌≡◌, [], IfOk};
 ghost use Rattle.std.specs.List.{list_any};
 ghost use Rattle.plan_scope.specs.Scopes.{bound_by, bound_in, is_too_long, look};
 ghost use Rattle.plan_scope.specs.Frames.{AgreesIn};
@@ -8,7 +8,7 @@ ghost use Rattle.plan_scope.specs.Frames.{AgreesIn};
 use crate::scoped::Scoped;
 use crate::tree::Line;
 use plan_text::Items;
-use std::alloc::Global;
+use std::alloc::{AllocError, Global};
 use std::marker::Model;
 
 /// The lines that are loaded so far, and what they bind.
@@ -42,6 +42,15 @@ impl Loaded {
             lines: Vec::new(alloc),
             bound: Scoped::new(alloc),
         }
+    }
+
+    /// The same lines, with room for so many more.
+    pub fn with_room(self, more: usize) -> Result<Loaded, AllocError>
+        ensures { IfOk result (λ loaded. loaded ≡ self) }
+    {
+        let Loaded { mut lines, bound } = self;
+        lines.reserve(more)?;
+        Ok(Loaded { lines, bound })
     }
 
     /// The lines.

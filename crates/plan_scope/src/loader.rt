@@ -168,6 +168,9 @@ fn take_file<S: Source>(
         Err(ReadFault::Parse(fault)) => return Err(ScopeFault::Parse(path, fault)),
         Err(ReadFault::Memory) => return Err(ScopeFault::LoadMemory),
     };
+    let Ok(loaded) = loaded.with_room(statements.as_slice().len()) else {
+        return Err(ScopeFault::LoadMemory);
+    };
     match Rc::new(alloc, File { path, scopes }) {
         Ok(file) => take_all(alloc, source, loaded, file, statements, left),
         Err(_) => Err(ScopeFault::LoadMemory),

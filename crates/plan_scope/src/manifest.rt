@@ -1,20 +1,20 @@
 //! What a tree means.
 
-use plan_text::Items;
+use plan_text::{Items, SmallText};
 
 /// What a build line makes, from what, and how. Its paths are canonical.
 #[derive(Debug, Drop)]
 pub struct Edge {
     /// The explicit outputs.
-    pub outputs: Items<Items<u8>>,
+    pub outputs: Items<SmallText>,
     /// The implicit outputs; there is at least one output of either sort.
-    pub implicit_outputs: Items<Items<u8>>,
+    pub implicit_outputs: Items<SmallText>,
     /// The explicit inputs.
-    pub inputs: Items<Items<u8>>,
+    pub inputs: Items<SmallText>,
     /// The implicit inputs.
-    pub implicit_inputs: Items<Items<u8>>,
+    pub implicit_inputs: Items<SmallText>,
     /// The order-only inputs.
-    pub order_only_inputs: Items<Items<u8>>,
+    pub order_only_inputs: Items<SmallText>,
     /// The text of its command; empty for a phony.
     pub command: Items<u8>,
     /// What is shown in place of the command, where it isn't empty.
@@ -44,7 +44,7 @@ pub struct Pool {
 #[derive(Debug, Drop)]
 pub struct DefaultTarget {
     /// Its canonical path.
-    pub path: Items<u8>,
+    pub path: SmallText,
     /// How many build lines stand above the statement.
     pub edges_above: usize,
 }

@@ -43,7 +43,7 @@ fn text_of<'a>(scope: Scope<'a>, piece: &'a Piece) -> &'a [u8]
 }
 
 /// How many bytes the literal pieces of a text have, at most as many as are kept: room to begin with.
-pub fn literal_len(pieces: &[Piece]) -> usize
+fn literal_len(pieces: &[Piece]) -> usize
     ensures { result ≤ max_text + 1 }
 {
     let mut len = 0_usize;

@@ -1,9 +1,9 @@
 //! Values by scope and name.
 
-ghost use Rattle.std.specs.Prelude.{◌≡◌, ℕ, List, [], ◌∷◌, ◌++◌, OnOk, option_map};
+ghost use Rattle.std.specs.Prelude.{◌≡◌, ◌<◌, ℕ, List, [], ◌∷◌, ◌++◌, OnOk, option_map};
 ghost use Rattle.std.specs.Cmp.{on_equiv, on_per, partial_equiv_from_equiv};
 ghost use Rattle.plan_scope.specs.Scopes.{frame, last_of, nearest};
-ghost use Rattle.plan_scope.specs.Keys.{key_input, key_of, same_key, same_key_equiv, same_key_fed};
+ghost use Rattle.plan_scope.specs.Keys.{key_input, key_of, mark_of, marks, same_key, same_key_equiv, same_key_fed};
 
 use indexmap::{Equivalent, IndexMap};
 use std::alloc::{AllocError, Global};
@@ -54,19 +54,37 @@ impl<'a> Equivalent<(usize, Vec<u8>)> for Named<'a> {
     }
 }
 
+/// How many marks names have.
+const MARKS: usize = 64;
+
+/// The mark of a name: names that have different marks differ.
+fn mark(name: &[u8]) -> usize
+    ensures mark { result ≡ mark_of name.now }
+    ensures within { result < marks }
+{
+    match name {
+        [] => 0,
+        [first, ..] => (usize::from(*first) + 3 * (name.len() % MARKS)) % MARKS,
+    }
+}
+
 /// Values by scope and name, the last for each.
 #[derive(Drop)]
 pub struct Scoped<V> {
     values: IndexMap<(usize, Vec<u8>), V>,
+    /// Whether a name of this mark was set. Most names that are looked up in vain are told by that, without a hash for each scope.
+    marked: [bool; MARKS],
 }
 
 impl<V> Model for Scoped<V> {
     ghost use Rattle.plan_scope.specs.Scopes as scopes;
-    ghost use Rattle.plan_scope.specs.Keys.{scoped_by};
+    ghost use Rattle.plan_scope.specs.Keys.{IsMarked, scoped_by};
 
     ghost Value = { scopes.Scoped V };
 
     ghost view = { λ s. scoped_by s.values.entries };
+
+    ghost invariant = { λ s. IsMarked s.marked s.values.entries };
 }
 
 impl<V> Scoped<V> {
@@ -76,6 +94,7 @@ impl<V> Scoped<V> {
     {
         Scoped {
             values: IndexMap::new(alloc),
+            marked: [false; MARKS],
         }
     }
 
@@ -93,6 +112,9 @@ impl<V> Scoped<V> {
     pub fn nearest(&self, scopes: &[usize], name: &[u8]) -> Option<&V>
         ensures { option_map (λ v. v.now) result ≡ nearest self.now scopes.now name.now }
     {
+        if !self.marked[mark(name)] {
+            return None;
+        }
         for scope in scopes {
             match self.own(*scope, name) {
                 Some(value) => return Some(value),
@@ -117,6 +139,7 @@ impl<V: Drop> Scoped<V> {
         let mut own_name = Vec::new(alloc);
         own_name.extend_from_slice(name)?;
         self.values.insert((scope, own_name), value)?;
+        self.marked[mark(name)] = true;
         Ok(())
     }
 }

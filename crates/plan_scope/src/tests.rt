@@ -1,7 +1,7 @@
 //! Each public function once, on files and trees from outside.
 
 use super::*;
-use plan_text::{Counted, Items};
+use plan_text::{Counted, Items, SmallText};
 use std::alloc::Global;
 use std::test::Fail;
 
@@ -233,7 +233,7 @@ fn only_edge(manifest: &Manifest) -> Option<&Edge> {
 }
 
 /// Whether a list has this path alone.
-fn is_only(paths: &Items<Items<u8>>, wanted: &[u8]) -> bool {
+fn is_only(paths: &Items<SmallText>, wanted: &[u8]) -> bool {
     match paths.as_slice() {
         [path] => path.as_slice() == wanted,
         _ => false,
@@ -257,6 +257,13 @@ fn quoted_paths(rt: HostRuntime) {
 fn phonies_are_not_printed(rt: HostRuntime) {
     let text = b"rule r\n  command = $in_newline\nbuild a: phony b\nbuild b: r c d | e\n";
     assert!(rt; prints(rt.alloc(), text, b"c\nd\n"));
+}
+
+#[test]
+fn many_variables_of_a_block(rt: HostRuntime) {
+    let text =
+        b"rule r\n  command = $a $b $c $d $e $f $g $h $i $j\nbuild o: r\n  a = 1\n  b = 2\n  c = 3\n  d = 4\n  e = 5\n  f = 6\n  g = 7\n  h = 8\n  i = 9\n  j = 10\n  a = 11\n  i = 12\n";
+    assert!(rt; prints(rt.alloc(), text, b"11 2 3 4 5 6 7 8 12 10\n"));
 }
 
 #[test]

@@ -1,12 +1,13 @@
 -- Logical lines read from left to right.
-use Rattle.std.proofs.Common.{◌≡◌, ℕ, zero, suc, ◌+◌, ◌-◌, ◌<◌, ◌≤◌, Bool, true, false, cond, List, [], ◌∷◌, ◌++◌, length, get_or, take, drop, Result, Ok, Err, Option, Some, None, refl, sym, ap, subst, ◌∙◌, append_assoc, arith, add-zero, eqb, ◌≢◌, length-drop}
+use Rattle.std.proofs.Common.{◌≡◌, ℕ, zero, suc, ◌+◌, ◌-◌, ◌<◌, ◌≤◌, ◌==◌, Bool, ◌||◌, ◌&&◌, true, false, cond, List, [], ◌∷◌, ◌++◌, length, get_or, take, drop, Result, Ok, Err, Option, Some, None, refl, sym, ap, subst, ◌∙◌, append_assoc, arith, add-zero, eqb, ◌≢◌, length-drop}
 use Rattle.std.proofs.lemmas.Bool.{eqb-true, ltb-true}
 use Rattle.std.specs.Prelude.{map, nat_lt}
 use Rattle.std.proofs.lemmas.List.{drop-drop}
+use Rattle.memchr.specs.Find.{is_byte3}
 use Rattle.plan_text.specs.Bytes.{line_feed, carriage_return, hash, dollar, begins_with}
 use Rattle.plan_text.specs.declared.fault.TextFault.{TextFault}
 use Rattle.plan_text.specs.declared.line_reader.Line.{Line}
-use Rattle.plan_text.specs.Lines.{newline_len, begins_newline, line_unit, comment_unit, indent_len, logical_len, Raw, raw_past, line_of, line_onto, collected, raw_lines, lines_of, max_source}
+use Rattle.plan_text.specs.Lines.{newline_len, begins_newline, taken_along, line_unit, comment_unit, indent_len, logical_len, Raw, raw_past, line_of, line_onto, collected, raw_lines, lines_of, max_source}
 use Rattle.plan_text.specs.Runs.{run}
 use Rattle.plan_text.proofs.RunLemmas.{run_end, run_some}
 use Rattle.plan_text.specs.declared.fault.TextFault.TheVariants.{SourceTooLong}
@@ -172,3 +173,13 @@ comment_to_lf (b ∷ rest) (suc zero) l h e f =
     rw (no_newline_here b rest (h 0 (omega arith)) (f 0 refl)) (ap suc (comment_to_lf rest zero (omega arith) (λ k m. h (suc k) (omega arith)) e (λ m q. f (suc m) (ap suc q))))
 comment_to_lf (b ∷ rest) (suc (suc n)) l h e f =
     rw (no_newline b rest (h 0 (omega arith)) (no_front rest (λ _. h 1 (omega arith)))) (ap suc (comment_to_lf rest (suc n) (omega arith) (λ k m. h (suc k) (omega arith)) e (λ m q. f (suc m) (ap suc q))))
+
+unit_go : (rest : ℕ) (f r d l : Bool) → (f || r || d) ≡ false → cond (nat_lt 0 (cond f 1 (cond (r && l) 2 0))) 0 (cond d (suc rest) 1) ≡ 1
+unit_go rest false false false l e = refl
+unit_go rest false false true l e = absurd cc
+unit_go rest false true d l e = absurd cc
+unit_go rest true r d l e = absurd cc
+
+-- a byte that is no newline's and no `$` is a unit of a line
+pub line_plain : (b : ℕ) (rest : List ℕ) → is_byte3 line_feed carriage_return dollar b ≡ false → line_unit (b ∷ rest) ≡ 1
+line_plain b rest e = unit_go (taken_along rest) (b == line_feed) (b == carriage_return) (b == dollar) (begins_with line_feed rest) e

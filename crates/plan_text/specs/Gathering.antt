@@ -1,11 +1,14 @@
 -- Pieces as the program gathers them, and how it sees what stands at one place.
-use Rattle.std.specs.Prelude.{◌≡◌, ℕ, List, [], ◌∷◌, ◌++◌, Result, Ok, Err, Option, Some, None}
+use Rattle.std.specs.Prelude.{◌≡◌, ℕ, ◌==◌, Bool, ◌||◌, List, [], ◌∷◌, ◌++◌, Result, Ok, Err, Option, Some, None}
 use Rattle.plan_text.specs.declared.fault.TextFault.{TextFault}
 use Rattle.plan_text.specs.declared.piece_reader.Gather.{Gather}
 use Rattle.plan_text.specs.declared.piece_reader.Found.{Found}
 use Rattle.plan_text.specs.declared.piece_reader.Found.TheVariants as found
 use Rattle.plan_text.specs.declared.piece_reader.Piece.{Piece}
 use Rattle.plan_text.specs.declared.piece_reader.Piece.TheVariants.{Literal}
+use Rattle.plan_text.specs.declared.piece_reader.Mode.{Mode}
+use Rattle.plan_text.specs.declared.piece_reader.Mode.TheVariants as mode
+use Rattle.plan_text.specs.Bytes.{nul, tab, dollar}
 use Rattle.plan_text.specs.Pieces.{Sign, Byte, Name, Nothing, onto}
 
 abbrev pub sign_of : Found → Sign
@@ -21,6 +24,11 @@ abbrev pub read : Result (Found × ℕ) TextFault → Result (Sign × ℕ) TextF
 read (Ok x) = Ok (sign_of x.0, x.1)
 read (Err fault) = Err fault
 
+-- whether a byte doesn't stand for itself
+abbrev pub is_special : Mode → ℕ → Bool
+is_special mode.Path b = b == dollar || b == nul || b == tab
+is_special mode.Value b = b == dollar || b == nul
+
 -- bytes in front of the pieces that follow
 abbrev pub bytes_onto : List ℕ → List Piece → List Piece
 bytes_onto [] more = more
@@ -33,7 +41,7 @@ whole (b ∷ bytes) = Literal (b ∷ bytes) ∷ []
 
 -- what was gathered, in front of the pieces that follow
 abbrev pub gathered : Gather → List Piece → List Piece
-gathered g more = g.done.items ++ bytes_onto g.literal.items more
+gathered g more = g.done.items ++ bytes_onto g.literal more
 
 -- new stands for old and what stands at one more place, whatever follows
 abbrev pub Gathers : Gather → Sign → Gather → Type 0

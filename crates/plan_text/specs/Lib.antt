@@ -2,6 +2,8 @@ pub mod Bytes
 pub mod Runs
 pub mod Lines
 pub mod Pieces
+pub mod SmallTexts
+pub mod PieceLists
 pub mod Gathering
 pub mod Path
 pub mod Reducing

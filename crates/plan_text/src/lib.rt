@@ -6,6 +6,7 @@
 //! - `canonical`: a path in its canonical form.
 //! - `TextFault`: why these refuse a text, with the offset of the byte.
 //! - `Items`: a list that contracts see as a list.
+//! - `SmallText`, `PieceList`: a text, and a list of pieces, that take no allocation where they are short. Contracts see them as lists too.
 //! - `Sink`, `Counted` and `write_all`: what bytes are written to, with a count of failures that only proofs read, a `Tally`.
 //!
 //! The rules are those of the Ninja manual's section "Lexical syntax", and where it says nothing this project's own choice; each item says which.
@@ -13,12 +14,15 @@
 
 mod counted;
 mod fault;
+mod front;
 mod items;
 mod line_reader;
 mod path;
+mod piece_list;
 mod piece_reader;
 mod run_reader;
 mod sink;
+mod small_text;
 mod tally;
 
 pub use counted::Counted;
@@ -26,9 +30,11 @@ pub use fault::TextFault;
 pub use items::Items;
 pub use line_reader::{Line, gap_len, indent_len, lines, logical_len, newline_len};
 pub use path::canonical;
+pub use piece_list::PieceList;
 pub use piece_reader::{Mode, Piece, escape_len, name_len, pieces, pieces_at};
 pub use run_reader::{Unit, run_len};
 pub use sink::{Sink, SinkFault, write_all};
+pub use small_text::SmallText;
 pub use tally::Tally;
 
 #[cfg(test)]

@@ -9,7 +9,7 @@ ghost use Rattle.plan_text.specs.Outcome.{Meets};
 
 use crate::fault::TextFault;
 use crate::run_reader::{Unit, run_len};
-use memchr::memchr;
+use memchr::{memchr, memchr3};
 use std::alloc::Global;
 
 /// The most bytes that a source may have: 16 MiB.
@@ -66,6 +66,10 @@ struct LineUnit;
 
 impl Unit for LineUnit {
     ghost size = { syntax.line_unit };
+
+    fn plain_len(text: &[u8]) -> usize {
+        memchr3(b'\n', b'\r', b'$', text).unwrap_or(text.len())
+    }
 
     fn unit_len(text: &[u8]) -> usize {
         if newline_len(text) > 0 {

@@ -1,15 +1,17 @@
 //! The pieces of a path or a value.
 
 ghost use Rattle.std.specs.Prelude.{◌≡◌, ◌==◌, ◌<◌, ◌≤◌, ◌+◌, ◌^◌, ◌++◌, [], IfOk, IfSome, OnOk, map, length, drop, slice_index};
-ghost use Rattle.std.specs.List.{prefix_len, take_while};
+ghost use Rattle.std.specs.List.{prefix_len, position_or_len, take_while};
 ghost use Rattle.plan_text.specs.Bytes as bytes;
 ghost use Rattle.plan_text.specs.Pieces.{pieces_of, pieces_from};
 ghost use Rattle.plan_text.specs.Pieces as syntax;
-ghost use Rattle.plan_text.specs.Gathering.{seen, read, sign_of, Gathers, gathered, whole};
+ghost use Rattle.plan_text.specs.Gathering.{seen, read, sign_of, is_special, Gathers, gathered, whole};
 ghost use Rattle.plan_text.specs.Outcome.{Meets};
 
 use crate::fault::TextFault;
-use crate::items::Items;
+use crate::piece_list::PieceList;
+use crate::small_text::SmallText;
+use memchr::{memchr2, memchr3};
 use std::alloc::{AllocError, Global};
 use std::mem;
 
@@ -26,9 +28,9 @@ pub enum Mode {
 #[derive(Debug, Drop)]
 pub enum Piece {
     /// Bytes that stand for themselves, escapes replaced by what they stand for. Two literals never stand side by side.
-    Literal(Items<u8>),
+    Literal(SmallText),
     /// The name of a variable, without `$` and braces.
-    Reference(Items<u8>),
+    Reference(SmallText),
 }
 
 /// What stands at one place.
@@ -44,7 +46,7 @@ enum Found<'a> {
 struct Gather {
     alloc: Global,
     done: Vec<Piece>,
-    literal: Vec<u8>,
+    literal: SmallText,
 }
 
 fn is_bare_name_byte(b: u8) -> bool
@@ -143,14 +145,42 @@ fn sign_at(text: &[u8], base: usize, at: usize, mode: Mode) -> Result<(Found<'_>
     }
 }
 
+/// How many bytes a text begins with that stand for themselves.
+fn plain_len(text: &[u8], mode: Mode) -> usize
+    ensures len { result ≡ position_or_len (is_special mode) text.now }
+    ensures within { result ≤ length text.now }
+{
+    match mode {
+        Mode::Path => memchr3(b'$', 0, b'\t', text).unwrap_or(text.len()),
+        Mode::Value => memchr2(b'$', 0, text).unwrap_or(text.len()),
+    }
+}
+
 impl Gather {
-    fn finish_literal(&mut self) -> Result<(), AllocError>
-        ensures literal { OnOk result (self.new.literal.items ≡ []) }
-        ensures done { OnOk result (self.new.done.items ≡ self.old.done.items ++ whole self.old.literal.items) }
+    /// Takes bytes that stand for themselves.
+    fn add_plain(&mut self, bytes: &[u8]) -> Result<(), AllocError>
+        ensures literal { OnOk result (self.new.literal ≡ self.old.literal ++ bytes.now) }
+        ensures done { OnOk result (self.new.done.items ≡ self.old.done.items) }
     {
-        if !self.literal.is_empty() {
-            let literal = mem::replace(&mut self.literal, Vec::new(self.alloc));
-            self.done.push(Piece::Literal(Items::new(literal)))?;
+        if bytes.is_empty() {
+            return Ok(());
+        }
+        let literal = mem::replace(&mut self.literal, SmallText::empty());
+        self.literal = literal.with(self.alloc, bytes)?;
+        Ok(())
+    }
+
+    /// Ends the literal, where another piece follows: the first two take no more room than they need, since most texts have no others.
+    fn finish_literal(&mut self) -> Result<(), AllocError>
+        ensures literal { OnOk result (self.new.literal ≡ []) }
+        ensures done { OnOk result (self.new.done.items ≡ self.old.done.items ++ whole self.old.literal) }
+    {
+        if self.done.is_empty() {
+            self.done.reserve_exact(2)?;
+        }
+        if !self.literal.as_slice().is_empty() {
+            let literal = mem::replace(&mut self.literal, SmallText::empty());
+            self.done.push(Piece::Literal(literal))?;
         }
         Ok(())
     }
@@ -159,15 +189,61 @@ impl Gather {
         ensures { OnOk result (Gathers self.old (sign_of found.entry) self.new) }
     {
         match found {
-            Found::Byte(b) => self.literal.push(b)?,
+            Found::Byte(b) => self.add_plain(&[b])?,
             Found::Name(name) => {
                 self.finish_literal()?;
-                let name = Vec::from_slice(self.alloc, name)?;
-                self.done.push(Piece::Reference(Items::new(name)))?;
+                let name = SmallText::new(self.alloc, name)?;
+                self.done.push(Piece::Reference(name))?;
             }
             Found::Nothing => {}
         }
         Ok(())
+    }
+
+    /// The pieces, where no byte follows.
+    fn finish(self) -> Result<PieceList, AllocError>
+        ensures { IfOk result (λ pieces. pieces ≡ self.done.items ++ whole self.literal) }
+    {
+        let Gather {
+            mut done,
+            literal,
+            ..
+        } = self;
+        if literal.as_slice().is_empty() {
+            return Ok(PieceList::new(done));
+        }
+        let last = Piece::Literal(literal);
+        if done.is_empty() {
+            return Ok(PieceList::one(last));
+        }
+        done.reserve_exact(1)?;
+        done.push(last)?;
+        Ok(PieceList::new(done))
+    }
+}
+
+/// `pieces_at` of any text.
+fn gathered_at(alloc: Global, text: &[u8], base: usize, mode: Mode) -> Result<PieceList, TextFault>
+    requires { base + length text.now < 2 ^ 64 }
+    ensures { Meets TextFault.Memory (λ v. v) result (pieces_from mode base text.now) }
+{
+    let mut gather = Gather {
+        alloc,
+        done: Vec::new(alloc),
+        literal: SmallText::empty(),
+    };
+    let mut at = 0;
+    loop {
+        let rest = &text[at..];
+        let plain = plain_len(rest, mode);
+        gather.add_plain(&rest[..plain])?;
+        at += plain;
+        if at == text.len() {
+            return Ok(gather.finish()?);
+        }
+        let (found, more) = sign_at(text, base, at, mode)?;
+        gather.add(found)?;
+        at += 1 + more;
     }
 }
 
@@ -177,23 +253,15 @@ pub fn pieces_at(
     text: &[u8],
     base: usize,
     mode: Mode,
-) -> Result<Vec<Piece>, TextFault>
+) -> Result<PieceList, TextFault>
     requires { base + length text.now < 2 ^ 64 }
-    ensures { Meets TextFault.Memory (λ v. v.items) result (pieces_from mode base text.now) }
+    ensures { Meets TextFault.Memory (λ v. v) result (pieces_from mode base text.now) }
 {
-    let mut gather = Gather {
-        alloc,
-        done: Vec::new(alloc),
-        literal: Vec::new(alloc),
-    };
-    let mut at = 0;
-    while at < text.len() {
-        let (found, more) = sign_at(text, base, at, mode)?;
-        gather.add(found)?;
-        at += 1 + more;
+    if text.is_empty() || plain_len(text, mode) < text.len() {
+        return gathered_at(alloc, text, base, mode);
     }
-    gather.finish_literal()?;
-    Ok(gather.done)
+    let literal = SmallText::new(alloc, text)?;
+    Ok(PieceList::one(Piece::Literal(literal)))
 }
 
 /// The pieces of a path or a value, in their order, or the first place where no rule goes on.
@@ -201,8 +269,8 @@ pub fn pieces_at(
 /// A `$` is read as the Ninja manual's section "Lexical syntax" has it; `$` with a newline, and the spaces behind that, give no bytes. Every other byte stands for itself, a
 /// space, `:` or `|` too, so hand it one path at a time. Refused are a `$` that begins no escape (`BadEscape`), a NUL (`NulByte`), and in a
 /// path a tab (`TabBlank`). `Memory` may come in place of any answer.
-pub fn pieces(alloc: Global, text: &[u8], mode: Mode) -> Result<Vec<Piece>, TextFault>
-    ensures { Meets TextFault.Memory (λ v. v.items) result (pieces_of mode text.now) }
+pub fn pieces(alloc: Global, text: &[u8], mode: Mode) -> Result<PieceList, TextFault>
+    ensures { Meets TextFault.Memory (λ v. v) result (pieces_of mode text.now) }
 {
     pieces_at(alloc, text, 0, mode)
 }

@@ -19,50 +19,94 @@ fn canonical_paths(rt: HostRuntime) -> Result<(), Fail> {
     Ok(())
 }
 
-/// Whether a piece is a reference, and its bytes.
-fn seen(piece: &Piece) -> (bool, &[u8]) {
-    match piece {
-        Piece::Literal(bytes) => (false, bytes.as_slice()),
-        Piece::Reference(name) => (true, name.as_slice()),
+/// Whether a list has a literal of these bytes at a place.
+fn has_literal(list: &PieceList, at: usize, bytes: &[u8]) -> bool {
+    match list.as_slice().get(at) {
+        Some(Piece::Literal(text)) => text.as_slice() == bytes,
+        _ => false,
+    }
+}
+
+/// Whether a list has a reference to a variable of this name at a place.
+fn has_reference(list: &PieceList, at: usize, name: &[u8]) -> bool {
+    match list.as_slice().get(at) {
+        Some(Piece::Reference(text)) => text.as_slice() == name,
+        _ => false,
     }
 }
 
 #[test]
 fn pieces_of_text(rt: HostRuntime) -> Result<(), Fail> {
-    let value = pieces(
-        rt.alloc(),
-        b"gcc\t$cflags-x -o ${out.d}$$ $\n    a$:b",
-        Mode::Value,
-    )?;
-    assert_eq!(rt; value.len(), 5);
-    assert_eq!(rt; seen(&value[0]), (false, b"gcc\t".as_slice()));
-    assert_eq!(rt; seen(&value[1]), (true, b"cflags-x".as_slice()));
-    assert_eq!(rt; seen(&value[2]), (false, b" -o ".as_slice()));
-    assert_eq!(rt; seen(&value[3]), (true, b"out.d".as_slice()));
-    assert_eq!(rt; seen(&value[4]), (false, b"$ a:b".as_slice()));
+    let text = b"gcc\t$cflags-x -o ${out.d}$$ $\n    a$:b";
+    let value = pieces(rt.alloc(), text.as_slice(), Mode::Value)?;
+    assert_eq!(rt; value.as_slice().len(), 5);
+    assert!(rt; has_literal(&value, 0, b"gcc\t"));
+    assert!(rt; has_reference(&value, 1, b"cflags-x"));
+    assert!(rt; has_literal(&value, 2, b" -o "));
+    assert!(rt; has_reference(&value, 3, b"out.d"));
+    assert!(rt; has_literal(&value, 4, b"$ a:b"));
     let path = pieces(rt.alloc(), b"$dir/other$ file.c", Mode::Path)?;
-    assert_eq!(rt; path.len(), 2);
-    assert_eq!(rt; seen(&path[0]), (true, b"dir".as_slice()));
-    assert_eq!(rt; seen(&path[1]), (false, b"/other file.c".as_slice()));
-    assert!(rt;
-        matches!(
-            pieces(rt.alloc(), b"a$!", Mode::Value),
-            Err(TextFault::BadEscape(1))
-        )
+    assert_eq!(rt; path.as_slice().len(), 2);
+    assert!(rt; has_reference(&path, 0, b"dir"));
+    assert!(rt; has_literal(&path, 1, b"/other file.c"));
+    Ok(())
+}
+
+#[test]
+fn one_piece(rt: HostRuntime) -> Result<(), Fail> {
+    let text = b"a/rather/long$ path/that/goes/on/behind/its$:escapes.c";
+    let path = pieces(rt.alloc(), text.as_slice(), Mode::Path)?;
+    let want = b"a/rather/long path/that/goes/on/behind/its:escapes.c";
+    assert_eq!(rt; path.as_slice().len(), 1);
+    assert!(rt; has_literal(&path, 0, want.as_slice()));
+    assert_eq!(rt; pieces(rt.alloc(), b"$x", Mode::Path)?.as_slice().len(), 1);
+    assert_eq!(rt; pieces(rt.alloc(), b"", Mode::Value)?.as_slice().len(), 0);
+    assert_eq!(rt;
+        pieces(rt.alloc(), b"$\n  ", Mode::Value)?.as_slice().len(),
+        0
     );
-    assert!(rt;
-        matches!(
-            pieces(rt.alloc(), b"a\tb", Mode::Path),
-            Err(TextFault::TabBlank(1))
-        )
-    );
-    assert!(rt;
-        matches!(
-            pieces_at(rt.alloc(), b"a\0b", 40, Mode::Value),
-            Err(TextFault::NulByte(41))
-        )
-    );
-    assert_eq!(rt; pieces_at(rt.alloc(), b"a$b", 40, Mode::Value)?.len(), 2);
+    let tab = pieces_at(rt.alloc(), b"a\tb", 40, Mode::Value)?;
+    assert!(rt; has_literal(&tab, 0, b"a\tb"));
+    Ok(())
+}
+
+#[test]
+fn refused_pieces(rt: HostRuntime) {
+    for (text, mode, fault) in [
+        (b"a$!".as_slice(), Mode::Value, TextFault::BadEscape(41)),
+        (b"a\tb".as_slice(), Mode::Path, TextFault::TabBlank(41)),
+        (b"a\0b".as_slice(), Mode::Value, TextFault::NulByte(41)),
+        (b"a$$b\0".as_slice(), Mode::Path, TextFault::NulByte(44)),
+    ] {
+        let refused = match pieces_at(rt.alloc(), text, 40, mode) {
+            Ok(_) => None,
+            Err(found) => Some(found),
+        };
+        assert_eq!(rt; refused, Some(fault));
+    }
+}
+
+#[test]
+fn list_of_pieces(rt: HostRuntime) -> Result<(), Fail> {
+    let name = SmallText::new(rt.alloc(), b"in")?;
+    let one = PieceList::one(Piece::Reference(name));
+    assert!(rt; has_reference(&one, 0, b"in"));
+    let mut held = Vec::new(rt.alloc());
+    held.push(Piece::Literal(SmallText::new(rt.alloc(), b"a")?))?;
+    let list = PieceList::new(held);
+    assert!(rt; has_literal(&list, 0, b"a"));
+    assert_eq!(rt; PieceList::empty(rt.alloc()).as_slice().len(), 0);
+    Ok(())
+}
+
+#[test]
+fn short_and_long_texts(rt: HostRuntime) -> Result<(), Fail> {
+    assert_eq!(rt; SmallText::empty().as_slice(), b"".as_slice());
+    let full = SmallText::new(rt.alloc(), b"123456789 123456789 123456789 ")?;
+    assert_eq!(rt; full.as_slice().len(), 30);
+    let long = full.with(rt.alloc(), b"1")?.with(rt.alloc(), b"23")?;
+    let want = b"123456789 123456789 123456789 123";
+    assert_eq!(rt; long.as_slice(), want.as_slice());
     Ok(())
 }
 

@@ -1,1 +1,2 @@
-open('build.ninja','w').write('rule r\n  command = true\nbuild a: r\ndefault ' + 'a' * 4096 + '\n')
+path = 'a' * 4096
+open('build.ninja','w').write(f'rule r\n  command = true\nbuild {path}: r\ndefault {path}\n')

@@ -1,2 +1,4 @@
-open('c.ninja','w').write('build a: r\n')
-open('build.ninja','w').write('rule r\n  command = true\n' + 'include c.ninja\nsubninja c.ninja\n' * 35)
+words = ['include', 'subninja'] * 35
+for number in range(70):
+    open(f'c{number}','w').write(f'build a{number}: r\n')
+open('build.ninja','w').write('rule r\n  command = true\n' + ''.join(f'{word} c{number}\n' for number, word in enumerate(words)))

@@ -1,4 +1,4 @@
-use Rattle.std.proofs.Common.{◌≡◌, List, ap, ◌∙◌, sym, arith}
+use Rattle.std.proofs.Common.{◌≡◌, List, Ok, ap, ◌∙◌, sym, arith}
 use Rattle.std.proofs.lemmas.Result.{err_from_is_err_and}
 use Rattle.plan_text.specs.Lines.{gap_len}
 use Rattle.plan_text.specs.declared.piece_reader.Piece.{Piece}
@@ -18,7 +18,9 @@ loop-alloc-init c = record {
 }
 
 pub returns-then-len-eq0 : goal.returns-then-len-eq0
-returns-then-len-eq0 c = ends c.loop-alloc.paths.items (place_of c.loop-alloc.rest) (syntax.paths_at (place_of c.args.p)) c.loop-alloc.invariant.over (sym c.path_len-len.ensures.len ∙ c.if-len-eq0.true) c.loop-alloc.invariant.same
+returns-then-len-eq0 c =
+    ends c.loop-alloc.paths.items (place_of c.loop-alloc.rest) (syntax.paths_at (place_of c.args.p)) c.loop-alloc.invariant.over (sym c.path_len-len.ensures.len ∙ c.if-len-eq0.true) c.loop-alloc.invariant.same
+    ∙ ap (λ (v : List (List Piece)). Ok (v, place_of c.loop-alloc.rest)) (sym c.shrink_to_fit.ensures.items)
 
 pub returns-in_err-path_at : goal.returns-in_err-path_at
 returns-in_err-path_at c =

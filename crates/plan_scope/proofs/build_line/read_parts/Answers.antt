@@ -12,15 +12,15 @@ pub returns : goal.returns
 returns c = λ h s.
     let b = c.args.build.now in
     let block = c.in_ok-block.block in
-    let texts = c.in_ok-paths.paths in
-    let forms = c.in_ok-paths-2.ensures in
+    let texts = c.in_ok-read.ensures.0 in
+    let seen = c.in_ok-read.ensures.1 in
     let values = subst (λ x. Agrees block.values (block_of h x)) c.as_slice.ensures (c.in_ok-block.ensures.values h s) in
-    let same = c.in_ok-paths.ensures (block_of h b.bindings) h values s in
+    let same = c.in_ok-read.ensures.2 (block_of h b.bindings) h values s in
     record {
       values = values;
       long_value = c.in_ok-block.ensures.long h s ∙ ap (λ x. list_any (λ y. is_too_long y.1) (block_of h x)) c.as_slice.ensures;
-      paths = ap kept_in forms ∙ kept_forms texts (texts_in h b) same;
-      exact = λ e. forms ∙ ap canonical_paths (exact_forms texts (texts_in h b) same (sym c.has_long_path-has_long.ensures ∙ e));
-      empty_path = c.has_empty_path-has_empty.ensures ∙ any_in is_empty empty_kept texts (texts_in h b) same;
-      long_path = c.has_long_path-has_long.ensures ∙ any_in is_long_path far_kept texts (texts_in h b) same;
+      paths = ap kept_in seen.0 ∙ kept_forms texts (texts_in h b) same;
+      exact = λ e. seen.0 ∙ ap canonical_paths (exact_forms texts (texts_in h b) same (sym seen.2 ∙ e));
+      empty_path = seen.1 ∙ any_in is_empty empty_kept texts (texts_in h b) same;
+      long_path = seen.2 ∙ any_in is_long_path far_kept texts (texts_in h b) same;
     }

@@ -7,8 +7,8 @@ use Rattle.plan_scope.proofs.evaluator.start.Goals as goal
 
 pub returns : goal.returns
 returns c =
-    let fits = fits_none c.new.result c.new-2.result c.insert.new.self c.new-3.result.items c.new.ensures c.new-2.ensures
-    (λ n. c.in_ok-insert.ensures.names n ∙ ap (λ (l : List Name). is_among (l ++ codes "console" ∷ []) n) c.new-pool_names.ensures) c.new-3.ensures.items in (
+    let fits = fits_none c.new.result c.new-2.result c.insert.new.self c.in_ok-edges.edges.items c.new.ensures c.new-2.ensures
+    (λ n. c.in_ok-insert.ensures.names n ∙ ap (λ (l : List Name). is_among (l ++ codes "console" ∷ []) n) c.new-pool_names.ensures) c.in_ok-edges.ensures.items in (
       record { bound = fits.0; rules = fits.1; names = fits.2; count = fits.3 },
-      manifest_alone c.new-3.result.items c.new-pools.result.items c.push.new.self.items c.new-4.result.items c.in_ok-copied.field-0 c.new-3.ensures.items c.new-pools.ensures.items c.in_ok-push.ensures.items c.in_ok-copied.ensures c.new-4.ensures.items,
+      manifest_alone c.in_ok-edges.edges.items c.new-pools.result.items c.push.new.self.items c.new-3.result.items c.in_ok-copied.field-0 c.in_ok-edges.ensures.items c.new-pools.ensures.items c.in_ok-push.ensures.items c.in_ok-copied.ensures c.new-3.ensures.items,
     )

@@ -4,6 +4,7 @@ use Rattle.plan_parse.specs.declared.statement.Statement.{Statement}
 use Rattle.plan_scope.specs.declared.fault.ScopeFault.TheVariants.{Parse}
 use Rattle.plan_scope.specs.declared.tree.File.{File}
 use Rattle.plan_scope.specs.declared.fault.ReadFault.{ReadFault}
+use Rattle.plan_scope.specs.Trees.{Line}
 use Rattle.plan_scope.specs.Scopes.{Name, Text, bound_by, look}
 use Rattle.plan_scope.specs.Loading.{LoadsAll, LoadsWithin, cause_to_load, taken_by}
 use Rattle.plan_scope.specs.Taking.{Answers, IsRead, IsTaken, LoadsOne, never, takes_in}
@@ -95,10 +96,12 @@ take_file-returns-in-Ok-new-clause-loaded g t c =
     let here = g.S.Source.gives c.read_statements.new.source in
     let before = g.S.Source.failures c.read_statements.new.source in
     let now = g.S.Source.failures c.take_all.new.source in
+    let all = λ (l : List Line). Answers here before now (λ missing out. LoadsAll (takes_in here missing c.args.left) c.args.left c.args.path c.args.scopes l c.in-Ok.statements out) c.take_all.result in
     parsed_file here (g.S.Source.gives c.args.source.now) before (g.S.Source.failures c.args.source.now) now c.args.left c.as_slice.result.now c.args.path c.args.scopes c.args.loaded c.in-Ok.statements c.take_all.result
     c.as_slice.ensures (λ p bytes. (c.read_statements.ensures.same p bytes).0) read.0 (read.1, read.2, read.3)
-    (subst (λ (f : File). Answers here before now (λ missing out. LoadsAll (takes_in here missing c.args.left) c.args.left f.path f.scopes c.args.loaded c.in-Ok.statements out) c.take_all.result)
-    c.in-Ok-new.ensures.ok c.take_all.ensures.loaded)
+    (subst all c.in-Ok-with_room.ensures
+    (subst (λ (f : File). Answers here before now (λ missing out. LoadsAll (takes_in here missing c.args.left) c.args.left f.path f.scopes c.in-Ok-with_room.loaded c.in-Ok.statements out) c.take_all.result)
+    c.in-Ok-new.ensures.ok c.take_all.ensures.loaded))
 
 pub take_line-take_path-requires : goal.take_line-take_path-requires
 take_line-take_path-requires g t c κs within =

@@ -1,0 +1,9 @@
+pub mod FileLemmas
+pub mod ReadingLemmas
+pub mod MemberLemmas
+pub mod WaitLemmas
+pub mod WalkLemmas
+pub mod TableLemmas
+pub mod GraphLemmas
+pub mod LawLemmas
+pub mod Rows

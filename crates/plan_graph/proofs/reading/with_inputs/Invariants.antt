@@ -1,0 +1,6 @@
+use Rattle.std.proofs.Common.{◌≡◌, drop}
+use Rattle.plan_graph.specs.Reading as reading
+use Rattle.plan_graph.proofs.reading.with_inputs.Given as goal
+
+abbrev pub invariant-loop-input : goal.invariant-loop-input
+invariant-loop-input l = reading.with_inputs l.own l.files (drop l.input-index l.inputs) ≡ reading.with_inputs l.own l.fn.files l.inputs

@@ -1,0 +1,6 @@
+use Rattle.std.proofs.Common.{◌≡◌, drop}
+use Rattle.plan_graph.specs.Reading as reading
+use Rattle.plan_graph.proofs.reading.with_outputs.Given as goal
+
+abbrev pub invariant-loop-output : goal.invariant-loop-output
+invariant-loop-output l = reading.with_outputs l.files l.number (drop l.output-index l.outputs) ≡ reading.with_outputs l.fn.files l.number l.outputs

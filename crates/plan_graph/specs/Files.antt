@@ -1,0 +1,43 @@
+-- What is known of paths.
+use Rattle.std.specs.Prelude.{ℕ, Bool, false, List, [], ◌∷◌, ◌++◌, Option, None, map, bytes_eq, if◌then◌else◌}
+use Rattle.plan_scope.specs.Edges.{is_among}
+use Rattle.plan_graph.specs.declared.files.File.{File}
+
+abbrev pub Path : Type 0
+Path = List ℕ
+
+-- a path that no edge makes or uses
+abbrev pub unknown : File
+unknown = record { maker = None; is_used = false }
+
+-- paths, each with what is known of it
+abbrev pub Table : Type 0
+Table = List (Path × File)
+
+-- what is known of a path
+abbrev pub file_of : Path → Table → File
+file_of path [] = unknown
+file_of path (f ∷ fs) = if bytes_eq path f.0 then f.1 else file_of path fs
+
+-- a path with what is known of it now: in its place, or behind all others
+abbrev pub with_file : Table → Path → File → Table
+with_file [] path file = (path, file) ∷ []
+with_file (f ∷ fs) path file = if bytes_eq path f.0 then (f.0, file) ∷ fs else f ∷ with_file fs path file
+
+abbrev pub maker_in : Table → Path → Option ℕ
+maker_in files path = (file_of path files).maker
+
+abbrev pub is_used : Table → Path → Bool
+is_used files path = (file_of path files).is_used
+
+abbrev pub paths_in : Table → List Path
+paths_in files = map (λ f. f.0) files
+
+-- one path more, unless it is there
+abbrev pub with_path : List Path → Path → List Path
+with_path paths path = if is_among paths path then paths else paths ++ path ∷ []
+
+-- each path once, where it first stands
+abbrev pub with_paths : List Path → List Path → List Path
+with_paths seen [] = seen
+with_paths seen (path ∷ more) = with_paths (with_path seen path) more

@@ -1,0 +1,117 @@
+-- The build graph of a manifest. Edges are named by their numbers in the manifest, from 0.
+use Rattle.std.specs.Prelude.{◌≡◌, ℕ, ◌+◌, Bool, not, List, [], ◌∷◌, ◌++◌, length, map, take, drop, Option, Some, None, Result, Ok, Err, nat_le, if◌then◌else◌, filter, flat_map}
+use Rattle.std.specs.List.{list_any, prefix_len}
+use Rattle.plan_scope.specs.declared.manifest.DefaultTarget.{DefaultTarget}
+use Rattle.plan_scope.specs.declared.manifest.Edge.{Edge}
+use Rattle.plan_scope.specs.declared.manifest.Manifest.{Manifest}
+use Rattle.plan_scope.specs.Scopes.{or_else}
+use Rattle.plan_scope.specs.Edges.{is_among}
+use Rattle.plan_graph.specs.declared.fault.GraphFault.{GraphFault}
+use Rattle.plan_graph.specs.declared.fault.GraphFault.TheVariants.{TwoProducers, Cycle, UnknownDefault, TooManyEdges, Memory}
+use Rattle.plan_graph.specs.declared.edges.Graph.{Graph as GraphMeant}
+use Rattle.plan_graph.specs.Files.{Path, maker_in, paths_in, with_paths}
+use Rattle.plan_graph.specs.Cycles.{AreRanks, IsCycle, IsLeastFirst}
+
+-- explicit outputs before implicit ones
+abbrev pub outputs_of : Edge → List Path
+outputs_of e = e.outputs ++ e.implicit_outputs
+
+-- inputs of any sort, as they are named
+abbrev pub inputs_named : Edge → List Path
+inputs_named e = e.inputs ++ (e.implicit_inputs ++ e.order_only_inputs)
+
+-- a phony loses its own outputs from its inputs
+abbrev pub inputs_of : Edge → List Path
+inputs_of e = if e.phony then filter (λ p. not (is_among (outputs_of e) p)) (inputs_named e) else inputs_named e
+
+-- an edge that makes one of these paths
+abbrev pub makes_any : List Path → Edge → Bool
+makes_any paths e = list_any (is_among (outputs_of e)) paths
+
+-- the numbers, from n on, of the edges at which the test gives true
+abbrev pub numbers_from : ℕ → (Edge → Bool) → List Edge → List ℕ
+numbers_from n test [] = []
+numbers_from n test (e ∷ es) = if test e then n ∷ numbers_from (n + 1) test es else numbers_from (n + 1) test es
+
+-- what an edge waits for, ascending: each edge that makes one of its inputs
+abbrev pub waits_of : List Edge → Edge → List ℕ
+waits_of edges e = numbers_from 0 (makes_any (inputs_of e)) edges
+
+abbrev pub all_waits : List Edge → List (List ℕ)
+all_waits edges = map (waits_of edges) edges
+
+-- the number, from n on, of the first edge that makes a path
+abbrev pub maker_from : ℕ → List Edge → Path → Option ℕ
+maker_from n [] path = None
+maker_from n (e ∷ es) path = if is_among (outputs_of e) path then Some n else maker_from (n + 1) es path
+
+abbrev pub maker_of : List Edge → Path → Option ℕ
+maker_of edges path = maker_from 0 edges path
+
+-- each path that build lines name, once, where it first stands
+abbrev pub files_of : List Edge → List Path
+files_of edges = with_paths [] (flat_map (λ e. outputs_of e ++ inputs_named e) edges)
+
+-- an edge with an output that is no input of any edge (Ninja manual, "Default target statements")
+abbrev pub is_last : List Edge → Edge → Bool
+is_last edges e = list_any (λ o. not (is_among (flat_map inputs_of edges) o)) (outputs_of e)
+
+-- what is built where no target is asked for: what `default` statements name, else each edge that is last
+abbrev pub default_edges : List Edge → List DefaultTarget → List ℕ
+default_edges edges [] = numbers_from 0 (is_last edges) edges
+default_edges edges (d ∷ ds) = numbers_from 0 (makes_any (map (λ t. t.path) (d ∷ ds))) edges
+
+-- the first of these outputs that stands above already: in front of it, or among these paths
+abbrev pub made_twice : List Path → List Path → Option GraphFault
+made_twice above [] = None
+made_twice above (o ∷ os) = if is_among above o then Some (TwoProducers o) else made_twice (above ++ o ∷ []) os
+
+-- the first of these targets that no edge above makes
+abbrev pub unmade : List Edge → List DefaultTarget → Option GraphFault
+unmade above [] = None
+unmade above (d ∷ ds) = if is_among (flat_map outputs_of above) d.path then unmade above ds else Some (UnknownDefault d.path)
+
+abbrev pub max_edges : ℕ
+max_edges = 1048576
+
+abbrev pub one_too_many : List Edge → Option GraphFault
+one_too_many above = if nat_le max_edges (length above) then Some TooManyEdges else None
+
+-- how many of these targets of `default` statements stand above the build line behind these edges
+abbrev pub due_len : List Edge → List DefaultTarget → ℕ
+due_len above defaults = prefix_len (λ d. nat_le d.edges_above (length above)) defaults
+
+-- the first fault in the order of reading, past these edges: of the targets that are left, and of the edges that are left
+abbrev pub fault_past : List Edge → List DefaultTarget → List Edge → Option GraphFault
+fault_past above defaults [] = unmade above defaults
+fault_past above defaults (e ∷ es) =
+    let due = due_len above defaults in
+    or_else (unmade above (take due defaults))
+    (or_else (made_twice (flat_map outputs_of above) (outputs_of e))
+    (or_else (one_too_many above)
+    (fault_past (above ++ e ∷ []) (drop due defaults) es)))
+
+abbrev pub first_fault : Manifest → Option GraphFault
+first_fault m = fault_past [] m.defaults m.edges
+
+-- the graph of a manifest
+pub record IsGraph (m : Manifest) (g : GraphMeant) : Type 0 where
+  pub sound : first_fault m ≡ None
+  pub files : paths_in g.files ≡ files_of m.edges
+  pub makers : (path : Path) → maker_in g.files path ≡ maker_of m.edges path
+  pub waits : g.waits ≡ all_waits m.edges
+  pub ranks : AreRanks g.waits g.ranks
+  pub defaults : g.defaults ≡ default_edges m.edges m.defaults
+
+-- why a manifest has no graph; a cycle only where nothing else is at fault
+abbrev pub Refuses : Manifest → GraphFault → Type 0
+Refuses m (Cycle es) = (first_fault m ≡ None) × IsCycle (all_waits m.edges) es × IsLeastFirst es
+Refuses m Memory = Unit {0}
+Refuses m (TwoProducers path) = first_fault m ≡ Some (TwoProducers path)
+Refuses m (UnknownDefault path) = first_fault m ≡ Some (UnknownDefault path)
+Refuses m TooManyEdges = first_fault m ≡ Some TooManyEdges
+
+-- what is said of a manifest: its graph, or why it has none
+abbrev pub GraphIs : Manifest → Result GraphMeant GraphFault → Type 0
+GraphIs m (Ok g) = IsGraph m g
+GraphIs m (Err fault) = Refuses m fault

@@ -1,0 +1,76 @@
+-- What the code knows of paths past some build lines.
+use Rattle.std.specs.Prelude.{ℕ, ◌+◌, Bool, false, not, ◌||◌, ◌==◌, List, [], ◌∷◌, take, drop, Option, Some, None, Result, Ok, Err, nat_le, if◌then◌else◌, is_some}
+use Rattle.std.specs.List.{prefix_len}
+use Rattle.plan_scope.specs.declared.manifest.DefaultTarget.{DefaultTarget}
+use Rattle.plan_scope.specs.declared.manifest.Edge.{Edge}
+use Rattle.plan_scope.specs.declared.manifest.Manifest.{Manifest}
+use Rattle.plan_graph.specs.declared.fault.GraphFault.{GraphFault}
+use Rattle.plan_graph.specs.declared.fault.GraphFault.TheVariants.{TwoProducers, UnknownDefault, TooManyEdges}
+use Rattle.plan_graph.specs.declared.files.File.{File}
+use Rattle.plan_graph.specs.Files.{Path, Table, file_of, maker_in, with_file}
+use Rattle.plan_graph.specs.Graph.{inputs_named, max_edges, outputs_of}
+
+infixl 10 ◌>>=◌
+abbrev pub ◌>>=◌ : {A B : Type 0} → Result A GraphFault → (A → Result B GraphFault) → Result B GraphFault
+Ok x >>= f = f x
+Err fault >>= f = Err fault
+
+-- a file that this edge makes
+abbrev pub made : ℕ → File → File
+made number file = record { maker = Some number; is_used = file.is_used }
+
+-- a table with one output more of this edge, unless it has a maker
+abbrev pub with_output : Table → ℕ → Path → File → Result Table GraphFault
+with_output files number path file = if is_some file.maker then Err (TwoProducers path) else Ok (with_file files path (made number file))
+
+abbrev pub with_outputs : Table → ℕ → List Path → Result Table GraphFault
+with_outputs files number [] = Ok files
+with_outputs files number (o ∷ os) = with_output files number o (file_of o files) >>= λ more. with_outputs more number os
+
+-- whether the maker of a path is the edge itself
+abbrev pub is_own : Option ℕ → Option ℕ → Bool
+is_own (Some maker) (Some own) = maker == own
+is_own (Some maker) None = false
+is_own None own = false
+
+-- a file that is an input, unless it is the edge's own
+abbrev pub used : Option ℕ → File → File
+used own file = record { maker = file.maker; is_used = file.is_used || not (is_own file.maker own) }
+
+abbrev pub with_input : Option ℕ → Table → Path → Table
+with_input own files path = with_file files path (used own (file_of path files))
+
+abbrev pub with_inputs : Option ℕ → Table → List Path → Table
+with_inputs own files [] = files
+with_inputs own files (i ∷ is) = with_inputs own (with_input own files i) is
+
+-- the edge whose own outputs are no inputs of it
+abbrev pub own_of : ℕ → Edge → Option ℕ
+own_of number e = if e.phony then Some number else None
+
+abbrev pub fitting : ℕ → Table → Result Table GraphFault
+fitting number files = if nat_le max_edges number then Err TooManyEdges else Ok files
+
+-- a table with one edge more, which has this number
+abbrev pub with_edge : Table → ℕ → Edge → Result Table GraphFault
+with_edge files number e =
+    with_outputs files number (outputs_of e) >>= λ outputs. fitting number outputs >>= λ more. Ok (with_inputs (own_of number e) more (inputs_named e))
+
+-- a table that has a maker of these targets
+abbrev pub with_targets : Table → List DefaultTarget → Result Table GraphFault
+with_targets files [] = Ok files
+with_targets files (d ∷ ds) = if is_some (maker_in files d.path) then with_targets files ds else Err (UnknownDefault d.path)
+
+-- how many of these targets stand above the build line of this number
+abbrev pub due_above : ℕ → List DefaultTarget → ℕ
+due_above number defaults = prefix_len (λ d. nat_le d.edges_above number) defaults
+
+-- a table with the edges and targets that are left, the first edge of which has this number
+abbrev pub with_edges : Table → ℕ → List DefaultTarget → List Edge → Result Table GraphFault
+with_edges files number defaults [] = with_targets files defaults
+with_edges files number defaults (e ∷ es) =
+    let due = due_above number defaults in
+    with_targets files (take due defaults) >>= λ checked. with_edge checked number e >>= λ more. with_edges more (number + 1) (drop due defaults) es
+
+abbrev pub table_of : Manifest → Result Table GraphFault
+table_of m = with_edges [] 0 m.defaults m.edges

@@ -1,0 +1,42 @@
+//! What edges wait for.
+
+ghost use Rattle.plan_graph.specs.Graph.{GraphIs};
+
+use crate::defaults::default_edges;
+use crate::edges::Graph;
+use crate::fault::GraphFault;
+use crate::order::ranks;
+use crate::reading::table_of;
+use crate::waits::all_waits;
+use plan_scope::Manifest;
+use plan_text::Items;
+use std::alloc::Global;
+
+/// The graph of a manifest.
+///
+/// An edge waits for each edge that makes one of its inputs, of any sort; a phony loses its own outputs from its inputs. Where the manifest has `default` statements, the
+/// edges that make their targets are built by default, else each edge with an output that is no input of another (Ninja manual, "Build statements" and "Default target statements").
+///
+/// # Errors
+///
+/// The first of these in the order of reading: `TwoProducers`, `TooManyEdges`, and `UnknownDefault`, where no build line above a `default` statement makes its
+/// target. Where none of them stands, `Cycle`, with the edges of one cycle. `Memory` may come in place of any answer.
+pub fn graph<'a>(alloc: Global, manifest: &'a Manifest) -> Result<Graph<'a>, GraphFault>
+    ensures { GraphIs manifest.now result }
+{
+    let files = table_of(alloc, manifest)?;
+    let waits = all_waits(alloc, &files, manifest.edges.as_slice())?;
+    let ranks = ranks(alloc, &waits)?;
+    let defaults = default_edges(
+        alloc,
+        &files,
+        manifest.edges.as_slice(),
+        manifest.defaults.as_slice(),
+    )?;
+    Ok(Graph {
+        files,
+        waits: Items::new(waits),
+        ranks,
+        defaults,
+    })
+}

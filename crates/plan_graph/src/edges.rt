@@ -1,0 +1,20 @@
+//! What is known of all edges.
+
+use crate::files::Files;
+use plan_text::Items;
+
+/// The greatest number of edges of a manifest.
+pub const MAX_EDGES: usize = 1048576;
+
+/// What the edges of a manifest wait for. Edges are named by their numbers in the manifest, from 0.
+#[derive(Drop)]
+pub struct Graph<'a> {
+    /// The paths that build lines name, in the order in which they first do, outputs before inputs.
+    pub files: Files<'a>,
+    /// The edges that each edge waits for, in ascending order.
+    pub waits: Items<Items<usize>>,
+    /// The rank of each edge: 0 where it waits for none, else one more than the greatest rank that it waits for.
+    pub ranks: Items<usize>,
+    /// The edges that are built where no target is asked for, in ascending order.
+    pub defaults: Items<usize>,
+}

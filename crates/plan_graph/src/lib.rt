@@ -1,0 +1,21 @@
+//! What the edges of a manifest wait for.
+#![tactic(auto)]
+
+mod build_graph;
+mod defaults;
+mod edges;
+mod fault;
+mod files;
+mod laws;
+mod order;
+mod reading;
+mod waits;
+
+pub use build_graph::graph;
+pub use edges::{Graph, MAX_EDGES};
+pub use fault::GraphFault;
+pub use files::Files;
+pub use laws::{ranked_unless_cyclic, ranks_rise};
+
+#[cfg(test)]
+mod tests;

@@ -1,0 +1,206 @@
+//! Each public function once, on manifests from outside.
+
+use super::*;
+use plan_scope::{Manifest, Source, SourceFault, evaluate, load};
+use plan_text::Items;
+use std::alloc::Global;
+use std::test::Fail;
+
+/// A source that gives one text under each path.
+#[derive(Drop)]
+struct Text {
+    bytes: &'static [u8],
+}
+
+impl Source for Text {
+    ghost gives = { λ _ _ _. Unit {0} };
+
+    ghost failures = { λ _. 0 };
+
+    fn read(&mut self, alloc: Global, _path: &[u8]) -> Result<Vec<u8>, SourceFault> {
+        match Vec::from_slice(alloc, self.bytes) {
+            Ok(bytes) => Ok(bytes),
+            Err(_) => Err(SourceFault::Memory),
+        }
+    }
+}
+
+/// What a text means.
+fn manifest_of(alloc: Global, bytes: &'static [u8]) -> Option<Manifest> {
+    let Ok(tree) = load(alloc, &mut Text { bytes }, b"build.ninja") else {
+        return None;
+    };
+    match evaluate(alloc, &tree) {
+        Ok(manifest) => Some(manifest),
+        Err(_) => None,
+    }
+}
+
+/// Three edges: the first waits for the others, the last for the second.
+const THREE: &[u8] = b"rule r\n  command = true\nbuild c: r a b\nbuild a: r\nbuild b: r a\n";
+
+/// Whether the rows are these.
+fn are_rows(rows: &[Items<usize>], expected: &[&[usize]]) -> bool {
+    if rows.len() != expected.len() {
+        return false;
+    }
+    for at in 0..rows.len() {
+        if rows[at].as_slice() != expected[at] {
+            return false;
+        }
+    }
+    true
+}
+
+/// Whether the graph of a text has these waits, ranks and default edges.
+fn is_graph(
+    alloc: Global,
+    text: &'static [u8],
+    waits: &[&[usize]],
+    ranks: &[usize],
+    defaults: &[usize],
+) -> bool {
+    let Some(manifest) = manifest_of(alloc, text) else {
+        return false;
+    };
+    match graph(alloc, &manifest) {
+        Ok(graph) => {
+            are_rows(graph.waits.as_slice(), waits)
+                && graph.ranks.as_slice() == ranks
+                && graph.defaults.as_slice() == defaults
+        }
+        Err(_) => false,
+    }
+}
+
+/// The number of the fault of a text, 0 where it has a graph.
+fn refusal(alloc: Global, text: &'static [u8]) -> u8 {
+    let Some(manifest) = manifest_of(alloc, text) else {
+        return 255;
+    };
+    match graph(alloc, &manifest) {
+        Ok(_) => 0,
+        Err(fault) => fault.number(),
+    }
+}
+
+/// The edges of the cycle of a text.
+fn has_cycle(alloc: Global, text: &'static [u8], edges: &[usize]) -> bool {
+    let Some(manifest) = manifest_of(alloc, text) else {
+        return false;
+    };
+    match graph(alloc, &manifest) {
+        Err(GraphFault::Cycle(cycle)) => cycle.as_slice() == edges,
+        _ => false,
+    }
+}
+
+/// The edge that makes a path of the three edges.
+fn maker(alloc: Global, path: &[u8]) -> Option<usize> {
+    let manifest = manifest_of(alloc, THREE)?;
+    match graph(alloc, &manifest) {
+        Ok(graph) => graph.files.maker(path),
+        Err(_) => None,
+    }
+}
+
+/// Whether this is the path of a number, of the three edges; empty where there is none.
+fn has_path(alloc: Global, number: usize, path: &[u8]) -> bool {
+    let Some(manifest) = manifest_of(alloc, THREE) else {
+        return false;
+    };
+    match graph(alloc, &manifest) {
+        Ok(graph) => match graph.files.path(number) {
+            Some(found) => found == path,
+            None => path.is_empty(),
+        },
+        Err(_) => false,
+    }
+}
+
+#[test]
+fn paths_in_order(rt: HostRuntime) -> Result<(), Fail> {
+    assert!(rt; has_path(rt.alloc(), 0, b"c"));
+    assert!(rt; has_path(rt.alloc(), 1, b"a"));
+    assert!(rt; has_path(rt.alloc(), 2, b"b"));
+    assert!(rt; has_path(rt.alloc(), 3, b""));
+    Ok(())
+}
+
+#[test]
+fn three_edges(rt: HostRuntime) -> Result<(), Fail> {
+    assert!(rt; is_graph(rt.alloc(), THREE, &[&[1, 2], &[], &[1]], &[2, 0, 1], &[0]));
+    Ok(())
+}
+
+#[test]
+fn makers(rt: HostRuntime) -> Result<(), Fail> {
+    assert!(rt; maker(rt.alloc(), b"b") == Some(2));
+    assert!(rt; maker(rt.alloc(), b"d").is_none());
+    Ok(())
+}
+
+#[test]
+fn own_phony(rt: HostRuntime) -> Result<(), Fail> {
+    assert!(rt; is_graph(rt.alloc(), b"build a: phony a\n", &[&[]], &[0], &[0]));
+    Ok(())
+}
+
+#[test]
+fn named_defaults(rt: HostRuntime) -> Result<(), Fail> {
+    let text = b"rule r\n  command = true\nbuild c: r\nbuild a: r c\nbuild b: r\ndefault b c b\n";
+    assert!(rt; is_graph(rt.alloc(), text, &[&[], &[0], &[]], &[0, 1, 0], &[0, 2]));
+    Ok(())
+}
+
+#[test]
+fn order_only(rt: HostRuntime) -> Result<(), Fail> {
+    let text = b"rule r\n  command = true\nbuild a b: r | d || c\nbuild c: r\nbuild d: r\n";
+    assert!(rt; is_graph(rt.alloc(), text, &[&[1, 2], &[], &[]], &[1, 0, 0], &[0]));
+    Ok(())
+}
+
+#[test]
+fn ring(rt: HostRuntime) -> Result<(), Fail> {
+    let text = b"rule r\n  command = true\nbuild a: r c\nbuild b: r a\nbuild c: r b\n";
+    assert!(rt; has_cycle(rt.alloc(), text, &[0, 2, 1]));
+    Ok(())
+}
+
+#[test]
+fn ring_behind_others(rt: HostRuntime) -> Result<(), Fail> {
+    let text =
+        b"rule r\n  command = true\nbuild z: r a\nbuild b: r c\nbuild c: r b\nbuild a: r c\n";
+    assert!(rt; has_cycle(rt.alloc(), text, &[1, 2]));
+    Ok(())
+}
+
+#[test]
+fn own_input(rt: HostRuntime) -> Result<(), Fail> {
+    assert!(rt;
+        has_cycle(
+            rt.alloc(),
+            b"rule r\n  command = true\nbuild a: r || a\n",
+            &[0]
+        )
+    );
+    Ok(())
+}
+
+#[test]
+fn numbers(rt: HostRuntime) -> Result<(), Fail> {
+    let alloc = rt.alloc();
+    assert!(rt; refusal(alloc, b"rule r\n  command = true\nbuild a: r\nbuild a: r\n") == 50);
+    assert!(rt; refusal(alloc, b"rule r\n  command = true\nbuild a: r a\n") == 51);
+    assert!(rt; refusal(alloc, b"rule r\n  command = true\ndefault a\nbuild a: r\n") == 52);
+    assert!(rt; GraphFault::TooManyEdges.number() == 53);
+    assert!(rt; GraphFault::Memory.number() == 54);
+    Ok(())
+}
+
+#[test]
+fn first_fault(rt: HostRuntime) -> Result<(), Fail> {
+    let text = b"rule r\n  command = true\nbuild a: r\ndefault b\nbuild a: r\n";
+    assert!(rt; refusal(rt.alloc(), text) == 52);
+    Ok(())
+}

@@ -1,0 +1,95 @@
+//! Why a manifest has no graph, as it is printed.
+
+ghost use Rattle.std.specs.Prelude.{◌≡◌, ◌⊎◌, ◌++◌, ◌∷◌, IfOk, OnOk, codes, flat_map, slice_get};
+ghost use Rattle.std.specs.List.{join_by};
+ghost use Rattle.plan_text.specs.Bytes.{space};
+ghost use Rattle.plan_ninja.specs.Faults as defined;
+
+use crate::fault::{PlanFault, no_memory};
+use plan_graph::GraphFault;
+use plan_scope::{Edge, Manifest};
+use plan_text::Items;
+use std::alloc::{AllocError, Global};
+
+/// The name of an edge: its first output, explicit before implicit.
+fn name_of_edge(edge: &Edge) -> &[u8]
+    ensures { result.now ≡ defined.name_of_edge edge.now }
+{
+    match edge.outputs.as_slice() {
+        [first, ..] => first.as_slice(),
+        [] => match edge.implicit_outputs.as_slice() {
+            [first, ..] => first.as_slice(),
+            [] => &[],
+        },
+    }
+}
+
+/// The name of the edge of this number.
+fn name_at(edges: &[Edge], number: usize) -> &[u8]
+    ensures { result.now ≡ defined.name_at edges.now number }
+{
+    match edges.get(number) {
+        Some(edge) => name_of_edge(edge),
+        None => &[],
+    }
+}
+
+/// Appends an arrow and the name of the edge for each of these numbers.
+fn append_names(edges: &[Edge], numbers: &[usize], text: &mut Vec<u8>) -> Result<(), AllocError>
+    ensures { OnOk result (text.new.items ≡ text.old.items ++ flat_map (λ n. codes " -> " ++ defined.name_at edges.now n) numbers.now) }
+{
+    for number in numbers {
+        text.extend_from_slice(b" -> ")?;
+        text.extend_from_slice(name_at(edges, *number))?;
+    }
+    Ok(())
+}
+
+/// A space, and the names of the edges of these numbers, an arrow between each two.
+fn cycle_text(alloc: Global, edges: &[Edge], numbers: &[usize]) -> Result<Vec<u8>, AllocError>
+    ensures { IfOk result (λ text. text.items ≡ space ∷ join_by (defined.name_at edges.now) (codes " -> ") numbers.now) }
+{
+    let mut text = Vec::from_slice(alloc, b" ")?;
+    match numbers {
+        [] => Ok(text),
+        [first, more @ ..] => {
+            text.extend_from_slice(name_at(edges, *first))?;
+            append_names(edges, more, &mut text)?;
+            Ok(text)
+        }
+    }
+}
+
+/// ` PATH`
+fn path_text(alloc: Global, path: &[u8]) -> Result<Vec<u8>, AllocError>
+    ensures { IfOk result (λ text. text.items ≡ space ∷ path.now) }
+{
+    let mut text = Vec::from_slice(alloc, b" ")?;
+    text.extend_from_slice(path)?;
+    Ok(text)
+}
+
+/// What is printed behind the name of a fault of a graph.
+fn rest_of_graph(alloc: Global, edges: &[Edge], fault: &GraphFault) -> Result<Vec<u8>, AllocError>
+    ensures { IfOk result (λ rest. rest.items ≡ defined.rest_of_graph edges.now fault.now) }
+{
+    match fault {
+        GraphFault::TwoProducers(output) => path_text(alloc, output.as_slice()),
+        GraphFault::Cycle(numbers) => cycle_text(alloc, edges, numbers.as_slice()),
+        GraphFault::UnknownDefault(target) => path_text(alloc, target.as_slice()),
+        GraphFault::TooManyEdges | GraphFault::Memory => Ok(Vec::new(alloc)),
+    }
+}
+
+/// Why a manifest has no graph, as it is printed, or want of memory where that finds none.
+pub fn shown_graph(alloc: Global, manifest: &Manifest, fault: &GraphFault) -> PlanFault
+    ensures { (result ≡ defined.shown_graph manifest.now fault.now) ⊎ (result ≡ defined.no_memory) }
+{
+    match rest_of_graph(alloc, manifest.edges.as_slice(), fault) {
+        Ok(rest) => PlanFault {
+            number: fault.number(),
+            rest: Items::new(rest),
+        },
+        Err(_) => no_memory(alloc),
+    }
+}

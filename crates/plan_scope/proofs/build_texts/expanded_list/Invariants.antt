@@ -1,9 +1,0 @@
-use Rattle.std.proofs.Common.{◌≡◌, take, map}
-use Rattle.plan_scope.specs.Scopes.{Text, Name, Bindings}
-use Rattle.plan_scope.specs.Edges.{paths_of, near}
-use Rattle.plan_scope.specs.Frames.{kept, Agrees, StandsFor}
-use Rattle.plan_scope.specs.Uses.{names_in}
-use Rattle.plan_scope.proofs.build_texts.expanded_list.Given as goal
-
-abbrev pub invariant-loop-path : goal.invariant-loop-path
-invariant-loop-path l = (b : Bindings Text) (m : Name → Text) → Agrees l.block b → StandsFor (names_in l.here) m → map kept l.texts.items ≡ map kept (paths_of (near m b) (take l.path-index l.paths))

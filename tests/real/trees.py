@@ -1,0 +1,66 @@
+"""Build trees: how one is made and with which tool."""
+import os
+import shutil
+import subprocess
+
+SECONDS = 300
+
+
+class Tree:
+    """Sources (texts by path, or a folder that is there), the tool that makes their manifests, and its options.
+
+    Where there is a text `above`, it is the manifest of the folder above the build folder, and stands for the whole.
+    """
+
+    def __init__(self, name, tool, files, *options, short=False, needs=(), build="build", above=None, environment=None):
+        self.name, self.tool, self.files, self.options, self.short = name, tool, files, options, short
+        self.needs, self.build, self.above, self.environment = [tool, *needs], build, above, environment or {}
+        self.own = isinstance(files, dict)
+
+
+class NotConfigured(Exception):
+    """The tool failed, or wrote no manifest; what it said."""
+
+
+def lacking(tree):
+    """The programs that a tree needs and that are not here."""
+    return [name for name in tree.needs if shutil.which(name) is None]
+
+
+def write(files, folder):
+    for name, text in files.items():
+        path = folder / name
+        path.parent.mkdir(parents=True, exist_ok=True)
+        path.write_text(text, encoding="utf-8")
+
+
+def command(tree, source, build):
+    """The tool's words; `@source@` in an option is the folder of the sources."""
+    options = [option.replace("@source@", str(source)) for option in tree.options]
+    if tree.tool == "cmake":
+        generator = [] if "-G" in options else ["-G", "Ninja"]
+        return ["cmake", "-Wno-dev", *generator, "-S", str(source), "-B", str(build), *options]
+    return ["meson", "setup", *options, str(build), str(source)]
+
+
+def configured(tree, folder):
+    """Makes a tree's sources and manifests below a folder; gives the folder of the manifests."""
+    source, build = folder / "source", folder / tree.build
+    if tree.own:
+        write(tree.files, source)
+    else:
+        source = tree.files
+    environment = {**os.environ, "LC_ALL": "C.UTF-8", **tree.environment}
+    done = subprocess.run(command(tree, source, build), env=environment, stdin=subprocess.DEVNULL,
+                          stdout=subprocess.PIPE, stderr=subprocess.STDOUT, timeout=SECONDS)
+    if done.returncode != 0 or not manifests(build):
+        raise NotConfigured(done.stdout.decode(errors="replace").strip())
+    if tree.above is None:
+        return build
+    write({"build.ninja": tree.above}, build.parent)
+    return build.parent
+
+
+def manifests(folder):
+    """Manifests that stand by themselves: CMake writes one for each of several configurations."""
+    return sorted(path.name for path in folder.glob("build*.ninja"))
