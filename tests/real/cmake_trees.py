@@ -1,6 +1,6 @@
 """CMake projects that this repository writes itself."""
+import trees
 from odd_names import but
-from trees import Tree
 
 TOP = """\
 cmake_minimum_required(VERSION 3.16...3.31)
@@ -158,33 +158,28 @@ def odd_names():
 
 def many_sources(count):
     """One library of many sources and a program beside it."""
-    names = [f"part{n // 50}/file{n}.c" for n in range(count)]
-    text = f"{SMALL}add_library(many SHARED {' '.join(names)})\nadd_executable(app main.c)\ntarget_link_libraries(app many)\n"
-    return {"CMakeLists.txt": text, "main.c": "", **{name: "" for name in names}}
+    return trees.many_sources("CMakeLists.txt", count, lambda names:
+        f"{SMALL}add_library(many SHARED {' '.join(names)})\nadd_executable(app main.c)\ntarget_link_libraries(app many)\n")
+
+
+def part(n):
+    """A library, a program that uses those of the folders above it, and a command."""
+    used = " ".join(f"part{m}" for m in range(max(0, n - 3), n + 1))
+    return (f"add_custom_command(OUTPUT made.c COMMAND echo {n} > made.c)\nadd_library(part{n} made.c given.c)\n"
+            f"add_executable(app{n} main.c)\ntarget_link_libraries(app{n} {used})\n")
 
 
 def many_targets(count):
-    """Many folders, each with a library, a program that uses those of the folders above it, and a command."""
-    files = {"CMakeLists.txt": SMALL + "".join(f"add_subdirectory(part{n})\n" for n in range(count))}
-    for n in range(count):
-        used = " ".join(f"part{m}" for m in range(max(0, n - 3), n + 1))
-        files[f"part{n}/CMakeLists.txt"] = (
-            f"add_custom_command(OUTPUT made.c COMMAND echo {n} > made.c)\nadd_library(part{n} made.c given.c)\n"
-            f"add_executable(app{n} main.c)\ntarget_link_libraries(app{n} {used})\n")
-        files[f"part{n}/given.c"] = files[f"part{n}/main.c"] = ""
-    return files
+    """Many folders with a few targets each."""
+    return trees.many_folders("CMakeLists.txt", count, SMALL + "".join(f"add_subdirectory(part{n})\n" for n in range(count)), part)
 
 
 SEVERAL = ("-G", "Ninja Multi-Config")
 CROSS = ("-DCMAKE_CROSS_CONFIGS=all", "-DCMAKE_DEFAULT_BUILD_TYPE=Release", "-DCMAKE_DEFAULT_CONFIGS=all")
 TOLD = ("-DCMAKE_EXPORT_COMPILE_COMMANDS=ON", "-DCMAKE_C_COMPILER_LAUNCHER=env;A=b c", "-DCMAKE_LINK_WHAT_YOU_USE=ON", "-DCMAKE_C_CLANG_TIDY=true;-x")
-COMPILERS = ("cc", "c++")
 ABOVE = "rule CUSTOM_COMMAND\n  command = above $COMMAND\nsubninja lower/build.ninja\nbuild own: CUSTOM_COMMAND lower/all\n  COMMAND = true\n"
 
-
-def tree(name, files, *options, needs=COMPILERS, **more):
-    return Tree("cmake " + name, "cmake", files, *options, needs=needs, **more)
-
+tree = trees.of_tool("cmake")
 
 TREES = [
     tree("project", PROJECT, short=True),

@@ -1,6 +1,6 @@
 """Meson projects that this repository writes itself."""
+import trees
 from odd_names import but
-from trees import Tree
 
 TOP = """\
 project('shapes', 'c', 'cpp', version: '1.2.3', default_options: ['warning_level=2', 'cpp_std=c++14'], subproject_dir: 'subprojects')
@@ -112,29 +112,22 @@ def odd_names():
 
 def many_sources(count):
     """One library of many sources and a program beside it."""
-    names = [f"part{n // 50}/file{n}.c" for n in range(count)]
-    listed = ", ".join(quoted(name) for name in names)
-    text = f"project('many', 'c')\nmany = shared_library('many', {listed})\nexecutable('app', 'main.c', link_with: many)\n"
-    return {"meson.build": text, "main.c": "", **{name: "" for name in names}}
+    return trees.many_sources("meson.build", count, lambda names:
+        f"project('many', 'c')\nmany = shared_library('many', {', '.join(map(quoted, names))})\nexecutable('app', 'main.c', link_with: many)\n")
+
+
+def part(n):
+    """A library, a program that uses it, and a command."""
+    return (f"made = custom_target('made{n}', output: 'made{n}.c', command: ['touch', '@OUTPUT@'])\n"
+            f"part = static_library('part{n}', made, 'given.c')\nexecutable('app{n}', 'main.c', link_with: part)\n")
 
 
 def many_targets(count):
-    """Many folders, each with a library, a program that uses it, and a command."""
-    files = {"meson.build": "project('many', 'c')\n" + "".join(f"subdir('part{n}')\n" for n in range(count))}
-    for n in range(count):
-        files[f"part{n}/meson.build"] = (
-            f"made = custom_target('made{n}', output: 'made{n}.c', command: ['touch', '@OUTPUT@'])\n"
-            f"part = static_library('part{n}', made, 'given.c')\nexecutable('app{n}', 'main.c', link_with: part)\n")
-        files[f"part{n}/given.c"] = files[f"part{n}/main.c"] = ""
-    return files
+    """Many folders with a few targets each."""
+    return trees.many_folders("meson.build", count, "project('many', 'c')\n" + "".join(f"subdir('part{n}')\n" for n in range(count)), part)
 
 
-COMPILERS = ("cc", "c++")
-
-
-def tree(name, files, *options, needs=COMPILERS, **more):
-    return Tree("meson " + name, "meson", files, *options, needs=needs, **more)
-
+tree = trees.of_tool("meson")
 
 CROSS = """\
 [binaries]

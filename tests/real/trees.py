@@ -18,6 +18,32 @@ class Tree:
         self.own = isinstance(files, dict)
 
 
+COMPILERS = ("cc", "c++")
+
+
+def of_tool(tool):
+    """Makes trees of a tool, which need compilers of C and C++ where nothing else is said."""
+    def tree(name, files, *options, needs=COMPILERS, **more):
+        return Tree(f"{tool} {name}", tool, files, *options, needs=needs, **more)
+
+    return tree
+
+
+def many_sources(manifest, count, text):
+    """One folder's manifest, whose text is made of the names of its sources, and these."""
+    names = [f"part{n // 50}/file{n}.c" for n in range(count)]
+    return {manifest: text(names), "main.c": "", **{name: "" for name in names}}
+
+
+def many_folders(manifest, count, top, text):
+    """A manifest above many folders, each with one of its own and two sources."""
+    files = {manifest: top}
+    for n in range(count):
+        files[f"part{n}/{manifest}"] = text(n)
+        files[f"part{n}/given.c"] = files[f"part{n}/main.c"] = ""
+    return files
+
+
 class NotConfigured(Exception):
     """The tool failed, or wrote no manifest; what it said."""
 
