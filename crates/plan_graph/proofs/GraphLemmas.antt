@@ -53,7 +53,7 @@ or_read (Some f) b h g = h
 past_read : (above : List Edge) (ds : List DefaultTarget) (es : List Edge) → IsRead (fault_past above ds es)
 past_read above ds [] = unmade_read above ds
 past_read above ds (e ∷ es) =
-    let due = due_len above ds in
+    let due = due_len (length above) ds in
     let rest = fault_past (above ++ e ∷ []) (drop due ds) es in
     or_read (unmade above (take due ds)) (or_else (made_twice (flat_map outputs_of above) (outputs_of e)) (or_else (one_too_many above) rest)) (unmade_read above (take due ds))
     (or_read (made_twice (flat_map outputs_of above) (outputs_of e)) (or_else (one_too_many above) rest) (twice_read (flat_map outputs_of above) (outputs_of e))

@@ -405,7 +405,7 @@ reads files above ds [] fits =
     subst (Reads (above ++ []) (unmade above ds)) (sym (reads_targets files above ds fits))
     (elim (unmade above ds) as (λ m. Reads (above ++ []) m (told files m)) [ None ↦ (refl, subst (Fits files) (sym (append-nil above)) fits) | Some fault ↦ refl ])
 reads files above ds (e ∷ es) fits =
-    let due = due_len above ds in
+    let due = due_len (length above) ds in
     let go = λ (more : Table). with_edges more (length above + 1) (drop due ds) es in
     let r = λ (t : Table). with_edge t (length above) e in
     let long : length (above ++ e ∷ []) ≡ length above + 1 = length-append above (e ∷ []) in

@@ -77,15 +77,15 @@ max_edges = 1048576
 abbrev pub one_too_many : List Edge → Option GraphFault
 one_too_many above = if nat_le max_edges (length above) then Some TooManyEdges else None
 
--- how many of these targets of `default` statements stand above the build line behind these edges
-abbrev pub due_len : List Edge → List DefaultTarget → ℕ
-due_len above defaults = prefix_len (λ d. nat_le d.edges_above (length above)) defaults
+-- how many of these targets of `default` statements stand above the build line of this number
+abbrev pub due_len : ℕ → List DefaultTarget → ℕ
+due_len number defaults = prefix_len (λ d. nat_le d.edges_above number) defaults
 
 -- the first fault in the order of reading, past these edges: of the targets that are left, and of the edges that are left
 abbrev pub fault_past : List Edge → List DefaultTarget → List Edge → Option GraphFault
 fault_past above defaults [] = unmade above defaults
 fault_past above defaults (e ∷ es) =
-    let due = due_len above defaults in
+    let due = due_len (length above) defaults in
     or_else (unmade above (take due defaults))
     (or_else (made_twice (flat_map outputs_of above) (outputs_of e))
     (or_else (one_too_many above)

@@ -1,6 +1,5 @@
 -- What the code knows of paths past some build lines.
 use Rattle.std.specs.Prelude.{ℕ, ◌+◌, Bool, false, not, ◌||◌, ◌==◌, List, [], ◌∷◌, take, drop, Option, Some, None, Result, Ok, Err, nat_le, if◌then◌else◌, is_some}
-use Rattle.std.specs.List.{prefix_len}
 use Rattle.plan_scope.specs.declared.manifest.DefaultTarget.{DefaultTarget}
 use Rattle.plan_scope.specs.declared.manifest.Edge.{Edge}
 use Rattle.plan_scope.specs.declared.manifest.Manifest.{Manifest}
@@ -8,7 +7,7 @@ use Rattle.plan_graph.specs.declared.fault.GraphFault.{GraphFault}
 use Rattle.plan_graph.specs.declared.fault.GraphFault.TheVariants.{TwoProducers, UnknownDefault, TooManyEdges}
 use Rattle.plan_graph.specs.declared.files.File.{File}
 use Rattle.plan_graph.specs.Files.{Path, Table, file_of, maker_in, with_file}
-use Rattle.plan_graph.specs.Graph.{inputs_named, max_edges, outputs_of}
+use Rattle.plan_graph.specs.Graph.{due_len, inputs_named, max_edges, outputs_of}
 
 infixl 10 ◌>>=◌
 abbrev pub ◌>>=◌ : {A B : Type 0} → Result A GraphFault → (A → Result B GraphFault) → Result B GraphFault
@@ -61,15 +60,11 @@ abbrev pub with_targets : Table → List DefaultTarget → Result Table GraphFau
 with_targets files [] = Ok files
 with_targets files (d ∷ ds) = if is_some (maker_in files d.path) then with_targets files ds else Err (UnknownDefault d.path)
 
--- how many of these targets stand above the build line of this number
-abbrev pub due_above : ℕ → List DefaultTarget → ℕ
-due_above number defaults = prefix_len (λ d. nat_le d.edges_above number) defaults
-
 -- a table with the edges and targets that are left, the first edge of which has this number
 abbrev pub with_edges : Table → ℕ → List DefaultTarget → List Edge → Result Table GraphFault
 with_edges files number defaults [] = with_targets files defaults
 with_edges files number defaults (e ∷ es) =
-    let due = due_above number defaults in
+    let due = due_len number defaults in
     with_targets files (take due defaults) >>= λ checked. with_edge checked number e >>= λ more. with_edges more (number + 1) (drop due defaults) es
 
 abbrev pub table_of : Manifest → Result Table GraphFault

@@ -3,7 +3,7 @@
 ghost use Rattle.std.specs.Prelude.{◌≡◌, ◌≢◌, ◌≤◌, IfOk, Ok, length};
 ghost use Rattle.plan_text.specs.Outcome.{Meets};
 ghost use Rattle.plan_graph.specs.Files.{file_of};
-ghost use Rattle.plan_graph.specs.Graph.{inputs_named, outputs_of};
+ghost use Rattle.plan_graph.specs.Graph.{due_len, inputs_named, outputs_of};
 ghost use Rattle.plan_graph.specs.Reading as reading;
 ghost use Rattle.plan_graph.specs.declared.fault.GraphFault.TheVariants.{Memory, TwoProducers, UnknownDefault};
 
@@ -189,8 +189,8 @@ fn check_targets<'a>(
 }
 
 /// How many of these targets stand above the build line of this number.
-fn due_above(number: usize, defaults: &[DefaultTarget]) -> usize
-    ensures len { result ≡ reading.due_above number defaults.now }
+fn due_len(number: usize, defaults: &[DefaultTarget]) -> usize
+    ensures len { result ≡ due_len number defaults.now }
     ensures within { result ≤ length defaults.now }
 {
     defaults
@@ -207,7 +207,7 @@ pub fn table_of<'a>(alloc: Global, manifest: &'a Manifest) -> Result<Files<'a>, 
     let mut defaults = manifest.defaults.as_slice();
     let mut number = 0;
     for edge in manifest.edges.as_slice() {
-        let (due, rest) = defaults.split_at(due_above(number, defaults));
+        let (due, rest) = defaults.split_at(due_len(number, defaults));
         check_targets(alloc, &files, due)?;
         files = with_edge(alloc, files, number, edge)?;
         defaults = rest;
