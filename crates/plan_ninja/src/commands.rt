@@ -14,6 +14,7 @@ use std::mem::forget;
 /// What the manifest at the path means.
 fn manifest_at<S: Source>(alloc: Global, source: &mut S, path: &[u8]) -> Result<Manifest, PlanFault>
     ensures meant { IfOk result (λ manifest. IsMeant (loading_by (S.gives source.old) (S.failures source.old) (S.failures source.new)) path.now manifest) }
+    ensures read { OnOk result (S.failures source.new ≡ S.failures source.old) }
     ensures refused { IfErr result (λ fault. IsRefused (loading_by (S.gives source.old) (S.failures source.old) (S.failures source.new)) path.now fault) }
 {
     let tree = match load(alloc, source, path) {
@@ -37,7 +38,7 @@ fn check_graph(alloc: Global, manifest: &Manifest) -> Result<(), PlanFault>
     }
 }
 
-/// Writes the command of each edge of the manifest at the path that isn't a phony, in order, a newline after each, and answers the status 0.
+/// Writes the command of each edge of the manifest at the path that isn't a phony, in order, a newline after each, and answers the status 0: then no read and no write failed.
 ///
 /// Where the manifest, or a file that it takes in, is missing or refused, or the manifest has no graph, nothing is written, and the fault says why and where. Where a write fails, the fault is that of the output.
 pub fn do_commands<S: Source, W: Sink>(
@@ -47,6 +48,8 @@ pub fn do_commands<S: Source, W: Sink>(
     out: &mut W,
 ) -> Result<u8, PlanFault>
     ensures done { IfOk result (λ status. (status ≡ 0) × WritesAll (loading_by (S.gives source.old) (S.failures source.old) (S.failures source.new)) path.now (W.taken out.old) (W.taken out.new)) }
+    ensures kept { OnOk result (W.failures out.new ≡ W.failures out.old) }
+    ensures read { OnOk result (S.failures source.new ≡ S.failures source.old) }
     ensures refused { IfErr result (λ fault.
         ((out.new ≡ out.old) × IsRefused (loading_by (S.gives source.old) (S.failures source.old) (S.failures source.new)) path.now fault)
         ⊎ FailsToWrite (loading_by (S.gives source.old) (S.failures source.old) (S.failures source.new)) path.now (W.taken out.old) (W.taken out.new) (W.failures out.old) (W.failures out.new) fault) }
