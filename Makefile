@@ -1,29 +1,58 @@
-# plan_ninja: see README.md.
+# plan_ninja: see README.md. `make help` lists the targets.
 PREFIX ?= /usr/local
 PROGRAM = crates/plan_ninja/out/plan_ninja
+SHELL = /bin/bash -o pipefail
+
+.DEFAULT_GOAL = all
+
+.PHONY: help
+help:
+	@echo "make          proves and builds the program ($(PROGRAM)); from nothing about 10 minutes on 4 cores"
+	@echo "make demo     runs the program, not yet proved, on examples/demo/build.ninja; from nothing about a minute"
+	@echo "make check    the whole gate: proofs, tests, must-fail edits, rows, comparisons with ninja; docs/PROOF_NOTES.md has its time"
+	@echo "make edits    tries all must-fail edits, those that the gate leaves out too; CRATES=.. for some crates"
+	@echo "make real     compares commands of CMake's and Meson's trees with ninja's, upstream projects too"
+	@echo "make bench    times the program beside ninja and make, and on hostile manifests"
+	@echo "make install  copies the program to PREFIX/bin (PREFIX is $(PREFIX))"
+	@echo "make clean    takes away what checks and builds left"
+
+# The toolchain, and Python for the tests.
+.PHONY: kit
+kit:
+	@command -v rt > /dev/null || { echo "the Rattle kit's command rt is not on the PATH: README.md, 'What it needs', says what it is and which version" >&2; exit 1; }
+	@command -v python3 > /dev/null || { echo "python3 is not on the PATH: the tests and this project's scripts need Python 3" >&2; exit 1; }
 
 # Builds the proved program.
 .PHONY: all
-all:
+all: kit
+	@echo "proving and building: from nothing about 10 minutes on 4 cores, less where earlier checks are kept" >&2
 	@cd crates/plan_ninja && rt run -- --help > /dev/null
 	@echo "built and proved: $(PROGRAM)"
 
 # Runs the program, not yet proved, on the example.
 .PHONY: demo
-demo:
+demo: kit
+	@echo "compiling without the proofs (rt try), about a minute the first time; then: plan_ninja commands examples/demo/build.ninja" >&2
 	@log=$$(mktemp); cd crates/plan_ninja && rt try --data build.ninja=../../examples/demo/build.ninja -- commands build.ninja 2> $$log \
 	  || { cat $$log >&2; rm -f $$log; exit 1; }; rm -f $$log
-	@echo "(run without the proofs, by rt try; make proves and builds the program, make check is the whole gate)" >&2
+	@echo "(run without the proofs; make proves and builds the program, make check is the whole gate)" >&2
 
 # The gate: every proof, test and must-fail edit; then the program: refused allocations, ninja's commands, the rows of the command line, and real trees.
 .PHONY: check
-check:
+check: kit
 	python3 tests/manifest_names.py
-	rt ci
+	rt ci | tee gate.log
+	python3 tests/edit_log.py gate.log
 	python3 tests/fail_alloc.py $(PROGRAM)
 	python3 tests/against_ninja.py $(PROGRAM)
 	python3 tests/run_rows.py $(PROGRAM)
 	python3 tests/real/real.py --short $(PROGRAM)
+
+# All must-fail edits of some crates, those of must-fail/more too, which the gate leaves out.
+CRATES = $(notdir $(wildcard crates/*))
+.PHONY: edits
+edits: kit
+	python3 tests/edits.py $(CRATES)
 
 # Compares the commands of many trees of CMake and Meson with ninja's, upstream projects among them (from Debian's mirror); `make` first.
 .PHONY: real
@@ -35,7 +64,12 @@ install: all
 	install -d "$(DESTDIR)$(PREFIX)/bin"
 	install -m 755 $(PROGRAM) "$(DESTDIR)$(PREFIX)/bin/plan_ninja"
 
-# Times the program beside ninja and make; `make` first.
+# Times the program beside ninja and make, and on hostile manifests; `make` first.
 .PHONY: bench
 bench:
 	python3 bench/run.py $(PROGRAM)
+	python3 bench/hostile.py $(PROGRAM)
+
+.PHONY: clean
+clean:
+	rm -rf crates/*/out gate.log tests/__pycache__ tests/real/__pycache__ bench/__pycache__

@@ -89,6 +89,8 @@ def compare(shape, edges, programs):
 
 
 def main():
+    if len(sys.argv) < 2:
+        sys.exit(__doc__)
     program = str(pathlib.Path(sys.argv[1]).resolve())
     sizes = [int(word) for word in sys.argv[2:]] or SIZES
     for name, package in (("ninja", "ninja-build"), ("make", "make")):

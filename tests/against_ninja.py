@@ -257,6 +257,8 @@ def trees(program, ninja, folder, count, seed):
 
 
 def main():
+    if len(sys.argv) < 2:
+        sys.exit(__doc__)
     program = str(pathlib.Path(sys.argv[1]).resolve())
     count = int(sys.argv[2]) if len(sys.argv) > 2 else 300
     seed = int(sys.argv[3]) if len(sys.argv) > 3 else 1

@@ -137,6 +137,8 @@ def faults(program, library, folder, said):
 
 
 def main():
+    if len(sys.argv) < 2:
+        sys.exit(__doc__)
     program = str(pathlib.Path(sys.argv[1]).resolve())
     compiler = shutil.which("cc")
     if compiler is None:

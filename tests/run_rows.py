@@ -1,7 +1,9 @@
 #!/usr/bin/env python3
 """Runs the program on each folder of tests/rows and compares what it prints.
 
-usage: run_rows.py PROGRAM [NAME..]
+usage: run_rows.py PROGRAM [PATTERN..]
+
+With patterns (as `cycle*`), those rows alone. Rows run side by side; how many are done is told on standard error.
 
 A row is a folder:
   files/         copied to a fresh folder, in which the program runs
@@ -13,6 +15,8 @@ A row is a folder:
   status         the exit status (default: 0)
 The last line is `N passed, M failed`.
 """
+import concurrent.futures
+import fnmatch
 import os
 import pathlib
 import shutil
@@ -22,6 +26,7 @@ import tempfile
 
 ROWS = pathlib.Path(__file__).resolve().parent / "rows"
 SECONDS = 60
+STEP = 50  # how many rows go by between two lines of progress
 
 
 def text(row, name, default=b""):
@@ -37,18 +42,16 @@ def prepared(row, folder):
         subprocess.run([sys.executable, str(row / "files.py")], cwd=folder, env=found, check=True)
 
 
-def closed_output():
-    os.close(1)
+CLOSED = ["sh", "-c", 'exec "$0" "$@" >&-']  # a command without standard output
 
 
 def run(program, row, folder):
     words = text(row, "args", b"commands\nbuild.ninja\n").split(b"\n")[:-1]
     target = text(row, "stdout.to").decode().strip()
     out = open(target, "wb") if target not in ("", "closed") else subprocess.PIPE
-    before = closed_output if target == "closed" else None
+    before = CLOSED if target == "closed" else []
     return subprocess.run(
-        [os.fsencode(program), *words], cwd=folder, stdin=subprocess.DEVNULL,
-        stdout=out, stderr=subprocess.PIPE, preexec_fn=before, timeout=SECONDS)
+        [*before, os.fsencode(program), *words], cwd=folder, stdin=subprocess.DEVNULL, stdout=out, stderr=subprocess.PIPE, timeout=SECONDS)
 
 
 def differences(row, done):
@@ -73,15 +76,27 @@ def faults(program, row):
             return [f"no end within {SECONDS} seconds"]
 
 
+def wanted(patterns):
+    """The names of the rows that one of the patterns fits; all without a pattern."""
+    names = sorted(row.name for row in ROWS.iterdir() if row.is_dir())
+    for pattern in patterns:
+        if not fnmatch.filter(names, pattern):
+            sys.exit(f"run_rows.py: no such row: {pattern}")
+    return [name for name in names if not patterns or any(fnmatch.fnmatch(name, pattern) for pattern in patterns)]
+
+
 def main():
+    if len(sys.argv) < 2:
+        sys.exit(__doc__)
     program = pathlib.Path(sys.argv[1]).resolve()
-    names = sys.argv[2:] or sorted(row.name for row in ROWS.iterdir() if row.is_dir())
-    failed = 0
-    for name in names:
-        found = faults(program, ROWS / name)
-        failed += bool(found)
-        for fault in found:
-            print(f"{name}: {fault}")
+    names, failed = wanted(sys.argv[2:]), 0
+    with concurrent.futures.ThreadPoolExecutor(min(4, os.cpu_count() or 1)) as lanes:
+        for done, (name, found) in enumerate(zip(names, lanes.map(lambda name: faults(program, ROWS / name), names)), 1):
+            failed += bool(found)
+            for fault in found:
+                print(f"{name}: {fault}")
+            if done % STEP == 0:
+                print(f"{done} of {len(names)} rows", file=sys.stderr, flush=True)
     print(f"{len(names) - failed} passed, {failed} failed")
     sys.exit(1 if failed else 0)
 

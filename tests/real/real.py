@@ -88,6 +88,8 @@ def own_trees(short):
 
 def main():
     flags, words = [word for word in sys.argv[1:] if word.startswith("--")], [word for word in sys.argv[1:] if not word.startswith("--")]
+    if not words:
+        sys.exit(__doc__)
     program, words, short = str(pathlib.Path(words[0]).resolve()), words[1:], "--short" in flags
     ninja, count = shutil.which("ninja"), Count()
     if ninja is None:

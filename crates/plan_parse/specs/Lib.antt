@@ -4,4 +4,5 @@ pub mod Blocks
 pub mod Statements
 pub mod Views
 pub mod Members
+pub mod Compact
 pub mod Progress

@@ -1,5 +1,5 @@
 -- How far a text was read, line by line.
-use Rattle.std.specs.Prelude.{◌≡◌, ◌≢◌, List, [], ◌∷◌, ◌++◌, Result, Ok, Err, Option, Some, None}
+use Rattle.std.specs.Prelude.{◌≡◌, ◌≢◌, ℕ, List, map, [], ◌∷◌, ◌++◌, Result, Ok, Err, Option, Some, None}
 use Rattle.plan_text.specs.Lines.{Raw}
 use Rattle.plan_parse.specs.declared.fault.ParseFault.{ParseFault}
 use Rattle.plan_parse.specs.declared.fault.ParseFault.TheVariants as fault
@@ -7,10 +7,11 @@ use Rattle.plan_parse.specs.declared.statement.Statement.{Statement}
 use Rattle.plan_parse.specs.declared.parser.Reader.{Reader}
 use Rattle.plan_parse.specs.declared.cursor.Cursor.{Cursor}
 use Rattle.plan_parse.specs.Reading.{◌>>=◌, Place}
-use Rattle.plan_parse.specs.Blocks.{Member, Told, told_of, below, blocks_of}
+use Rattle.plan_parse.specs.Blocks.{Member, Told, Head, Below, told_of, below, blocks_of}
 use Rattle.plan_parse.specs.Statements.{each, alone, statement_of, statement_in}
 use Rattle.plan_parse.specs.Views.{place_of}
 use Rattle.plan_parse.specs.Members.{members_of}
+use Rattle.plan_parse.specs.Compact.{StandsIn, said_in}
 
 -- the statements of whole blocks, and the block that may go on: the line that began it, and the lines below that
 pub record State : Type 0 where
@@ -23,7 +24,7 @@ head_of None = None
 head_of (Some p) = Some (place_of p)
 
 abbrev pub state_of : Reader → State
-state_of r = record { done = r.statements.items; head = head_of r.head; members = members_of r.members.items }
+state_of r = record { done = map (said_in r.text.now) r.statements.items; head = head_of r.head; members = members_of r.members.items }
 
 -- the statement of a block; none where no line began it
 abbrev pub closing : Option Place → List Member → Result (List Statement) ParseFault
@@ -47,3 +48,14 @@ TakesLine (Err e) old told new = e ≢ fault.Memory → (rest : List Told) → f
 abbrev pub ReadsLine : Result (Unit {0}) ParseFault → State → Raw → State → Type 0
 ReadsLine (Ok x) old raw new = (rest : List Raw) → followed new (told_of rest) ≡ followed old (told_of (raw ∷ rest))
 ReadsLine (Err e) old raw new = e ≢ fault.Memory → (rest : List Raw) → followed old (told_of (raw ∷ rest)) ≡ Err e
+
+-- the line that begins a block is a line of the text
+abbrev pub HeadStandsIn : List ℕ → Option Place → Type 0
+HeadStandsIn text None = Unit {0}
+HeadStandsIn text (Some p) = StandsIn text p
+
+-- the same of what a line tells
+abbrev pub ToldStandsIn : List ℕ → Option Told → Type 0
+ToldStandsIn text None = Unit {0}
+ToldStandsIn text (Some (Head p)) = StandsIn text p
+ToldStandsIn text (Some (Below m)) = Unit {0}

@@ -5,16 +5,20 @@
 #![tactic(auto)]
 
 mod block;
+mod compact;
 mod cursor;
 mod fault;
 mod owner;
 mod parser;
 mod reading;
+mod span;
 mod statement;
 mod statement_reader;
 
+pub use compact::{CompactStatement, bound_in};
 pub use fault::ParseFault;
 pub use parser::parse;
+pub use span::Span;
 pub use statement::{Binding, Build, Pool, Rule, Statement, StatementKind};
 
 #[cfg(test)]

@@ -1,16 +1,18 @@
 //! A manifest, read from its first line to its last.
 
-ghost use Rattle.std.specs.Prelude.{◌≡◌, ◌+◌, ◌<◌, ◌^◌, [], OnOk, length};
+ghost use Rattle.std.specs.Prelude.{◌≡◌, ◌+◌, ◌<◌, ◌^◌, [], OnOk, Some, length, map};
 ghost use Rattle.plan_text.specs.Outcome.{Meets};
 ghost use Rattle.plan_parse.specs.Statements.{statements_of};
-ghost use Rattle.plan_parse.specs.Members.{told_by};
-ghost use Rattle.plan_parse.specs.Progress.{TakesLine, ReadsLine, state_of, ended};
+ghost use Rattle.plan_parse.specs.Views.{place_of};
+ghost use Rattle.plan_parse.specs.Members.{members_of, told_by};
+ghost use Rattle.plan_parse.specs.Compact.{StandsIn, said_in};
+ghost use Rattle.plan_parse.specs.Progress.{HeadStandsIn, TakesLine, ToldStandsIn, ReadsLine, head_of, state_of, ended};
 
 use crate::block::{Member, Told, alone, told_in};
+use crate::compact::CompactStatement;
 use crate::cursor::Cursor;
 use crate::fault::ParseFault;
-use crate::statement::Statement;
-use crate::statement_reader::statement_of;
+use crate::statement_reader::compact_of;
 use plan_text::{TextFault, logical_len, newline_len};
 use std::alloc::Global;
 
@@ -21,22 +23,34 @@ const MAX_SOURCE: usize = 16_777_216;
 #[derive(Drop)]
 struct Reader<'a> {
     alloc: Global,
-    statements: Vec<Statement>,
+    text: &'a [u8],
+    statements: Vec<CompactStatement>,
     head: Option<Cursor<'a>>,
     members: Vec<Member<'a>>,
 }
 
 impl<'a> Reader<'a> {
+    /// Adds the statement of the block that this line began.
+    fn add(&mut self, head: Cursor<'a>) -> Result<(), ParseFault>
+        requires { StandsIn self.now.text.now (place_of head) }
+        ensures statements { Meets ParseFault.Memory (λ _. map (said_in self.old.text.now) self.new.statements.items) result (ended (record { done = map (said_in self.old.text.now) self.old.statements.items; head = Some (place_of head.entry); members = members_of self.old.members.items })) }
+        ensures text { self.new.text ≡ self.old.text }
+        ensures head { self.new.head ≡ self.old.head }
+    {
+        let statement = compact_of(self.alloc, head, &self.members)?;
+        self.statements.push(statement)?;
+        Ok(())
+    }
+
     /// Ends the block: its statement joins those before it, and no line is left of it.
     fn end_block(&mut self) -> Result<(), ParseFault>
-        ensures statements { Meets ParseFault.Memory (λ _. self.new.statements.items) result (ended (state_of self.old)) }
+        requires { HeadStandsIn self.now.text.now (head_of self.now.head) }
+        ensures statements { Meets ParseFault.Memory (λ _. map (said_in self.old.text.now) self.new.statements.items) result (ended (state_of self.old)) }
         ensures members { OnOk result (self.new.members.items ≡ []) }
+        ensures text { self.new.text ≡ self.old.text }
     {
         match self.head {
-            Some(head) => {
-                let statement = statement_of(self.alloc, head, &self.members)?;
-                self.statements.push(statement)?;
-            }
+            Some(head) => self.add(head)?,
             None => alone(&self.members)?,
         }
         self.members.clear();
@@ -45,7 +59,11 @@ impl<'a> Reader<'a> {
 
     /// Takes what one more line tells.
     fn take(&mut self, told: Told<'a>) -> Result<(), ParseFault>
-        ensures { TakesLine result (state_of self.old) (told_by told.entry) (state_of self.new) }
+        requires head { HeadStandsIn self.now.text.now (head_of self.now.head) }
+        requires told { ToldStandsIn self.now.text.now (Some (told_by told)) }
+        ensures head { OnOk result (HeadStandsIn self.new.text.now (head_of self.new.head)) }
+        ensures text { self.new.text ≡ self.old.text }
+        ensures takes { TakesLine result (state_of self.old) (told_by told.entry) (state_of self.new) }
     {
         match told {
             Told::Head(head) => {
@@ -59,8 +77,12 @@ impl<'a> Reader<'a> {
 
     /// Reads one more logical line.
     fn read(&mut self, at: usize, line: &'a [u8]) -> Result<(), ParseFault>
-        requires { at + length line.now < 2 ^ 63 }
-        ensures { ReadsLine result (state_of self.old) (record { at = at; bytes = line.now }) (state_of self.new) }
+        requires short { at + length line.now < 2 ^ 63 }
+        requires head { HeadStandsIn self.now.text.now (head_of self.now.head) }
+        requires line { StandsIn self.now.text.now (record { at = at; bytes = line.now }) }
+        ensures head { OnOk result (HeadStandsIn self.new.text.now (head_of self.new.head)) }
+        ensures text { self.new.text ≡ self.old.text }
+        ensures reads { ReadsLine result (state_of self.old) (record { at = at; bytes = line.now }) (state_of self.new) }
     {
         match told_in(at, line) {
             Some(told) => self.take(told),
@@ -69,17 +91,18 @@ impl<'a> Reader<'a> {
     }
 
     /// The statements, where no line follows.
-    fn finish(mut self) -> Result<Vec<Statement>, ParseFault>
-        ensures { Meets ParseFault.Memory (λ v. v.items) result (ended (state_of self.entry)) }
+    fn finish(mut self) -> Result<Vec<CompactStatement>, ParseFault>
+        requires { HeadStandsIn self.text.now (head_of self.head) }
+        ensures { Meets ParseFault.Memory (λ v. map (said_in self.entry.text.now) v.items) result (ended (state_of self.entry)) }
     {
         self.end_block()?;
         Ok(self.statements)
     }
 }
 
-/// The statements of a manifest, or the first fault of the first block that has one.
-pub fn parse(alloc: Global, text: &[u8]) -> Result<Vec<Statement>, ParseFault>
-    ensures { Meets ParseFault.Memory (λ v. v.items) result (statements_of text.now) }
+/// The statements of a manifest, kept beside its text, or the first fault of the first block that has one.
+pub fn parse(alloc: Global, text: &[u8]) -> Result<Vec<CompactStatement>, ParseFault>
+    ensures { Meets ParseFault.Memory (λ v. map (said_in text.now) v.items) result (statements_of text.now) }
 {
     if text.len() > MAX_SOURCE {
         let fault = TextFault::SourceTooLong(MAX_SOURCE as u64);
@@ -87,6 +110,7 @@ pub fn parse(alloc: Global, text: &[u8]) -> Result<Vec<Statement>, ParseFault>
     }
     let mut reader = Reader {
         alloc,
+        text,
         statements: Vec::new(alloc),
         head: None,
         members: Vec::new(alloc),

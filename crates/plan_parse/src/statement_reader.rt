@@ -1,12 +1,14 @@
 //! Statements: the line that begins one, by its first word, and the lines below it.
 
-ghost use Rattle.std.specs.Prelude.{◌≡◌};
+ghost use Rattle.std.specs.Prelude.{◌≡◌, ℕ, List};
 ghost use Rattle.plan_text.specs.Outcome.{Meets, seen_by};
 ghost use Rattle.plan_parse.specs.Statements as statements;
 ghost use Rattle.plan_parse.specs.Views.{place_of};
 ghost use Rattle.plan_parse.specs.Members.{members_of};
+ghost use Rattle.plan_parse.specs.Compact.{StandsIn, said_in};
 
 use crate::block::{Member, all_owned_at, alone, bindings_at, with_wanted};
+use crate::compact::{CompactStatement, compacted};
 use crate::cursor::Cursor;
 use crate::fault::ParseFault;
 use crate::owner::Owner;
@@ -207,4 +209,16 @@ pub fn statement_of(
     } else {
         binding_of(alloc, p, members)
     }
+}
+
+/// The same, kept beside its text.
+pub fn compact_of(
+    alloc: Global,
+    p: Cursor<'_>,
+    members: &[Member<'_>],
+) -> Result<CompactStatement, ParseFault>
+    ensures { (text : List ℕ) → StandsIn text (place_of p.entry) → Meets ParseFault.Memory (said_in text) result (statements.statement_of (place_of p.entry) (members_of members.now)) }
+{
+    let statement = statement_of(alloc, p, members)?;
+    Ok(compacted(alloc, p, statement)?)
 }

@@ -49,6 +49,26 @@ fn binds(alloc: Global, bindings: &Items<Binding>, want: &[u8]) -> Result<bool, 
     Ok(text.as_slice() == want)
 }
 
+/// A statement, by the text beside which it is kept.
+fn whole(alloc: Global, text: &[u8], statement: CompactStatement) -> Result<Statement, ParseFault> {
+    match statement {
+        CompactStatement::Binding(span) => Ok(Statement {
+            offset: span.at as u64,
+            kind: StatementKind::Binding(bound_in(alloc, text, span)?),
+        }),
+        CompactStatement::Whole(statement) => Ok(Box::into_inner(statement)),
+    }
+}
+
+/// The statements of a text.
+fn statements(alloc: Global, text: &[u8]) -> Result<Vec<Statement>, ParseFault> {
+    let mut found = Vec::new(alloc);
+    for statement in parse(alloc, text)? {
+        found.push(whole(alloc, text, statement)?)?;
+    }
+    Ok(found)
+}
+
 /// The fault of a text that is refused.
 fn refused(alloc: Global, text: &[u8]) -> Option<ParseFault> {
     match parse(alloc, text) {
@@ -61,7 +81,7 @@ fn refused(alloc: Global, text: &[u8]) -> Option<ParseFault> {
 fn demo_rule(rt: HostRuntime) -> Result<(), Fail> {
     let text =
         b"rule demo\n  command = echo \"this is a demo of $foo\"\nbuild out: demo\n  foo = bar\n";
-    let found = parse(rt.alloc(), text.as_slice())?;
+    let found = statements(rt.alloc(), text.as_slice())?;
     assert_eq!(rt; found.len(), 2);
     assert_eq!(rt; found[0].offset, 0);
     assert_eq!(rt; found[1].offset, 52);
@@ -78,7 +98,7 @@ fn demo_rule(rt: HostRuntime) -> Result<(), Fail> {
 
 #[test]
 fn demo_build(rt: HostRuntime) -> Result<(), Fail> {
-    let found = parse(rt.alloc(), b"build out: demo\n  foo = bar\n")?;
+    let found = statements(rt.alloc(), b"build out: demo\n  foo = bar\n")?;
     assert_eq!(rt; found.len(), 1);
     match &found[0].kind {
         StatementKind::Build(build) => {
@@ -96,7 +116,7 @@ fn demo_build(rt: HostRuntime) -> Result<(), Fail> {
 fn quoted_paths(rt: HostRuntime) -> Result<(), Fail> {
     let text =
         b"spaced = foo bar\n\n# a comment\nbuild $spaced/baz other$ file: touch in$:1 $\n    in2\n";
-    let found = parse(rt.alloc(), text.as_slice())?;
+    let found = statements(rt.alloc(), text.as_slice())?;
     assert_eq!(rt; found.len(), 2);
     match (&found[0].kind, &found[1].kind) {
         (StatementKind::Binding(binding), StatementKind::Build(build)) => {
@@ -113,7 +133,7 @@ fn quoted_paths(rt: HostRuntime) -> Result<(), Fail> {
 #[test]
 fn five_lists(rt: HostRuntime) -> Result<(), Fail> {
     let text = b"build foo.o $dir/foo.d | foo.su: cc foo.c | foo.h bar.h || generated\n";
-    let found = parse(rt.alloc(), text.as_slice())?;
+    let found = statements(rt.alloc(), text.as_slice())?;
     assert_eq!(rt; found.len(), 1);
     match &found[0].kind {
         StatementKind::Build(build) => {
@@ -131,7 +151,7 @@ fn five_lists(rt: HostRuntime) -> Result<(), Fail> {
 
 #[test]
 fn pool(rt: HostRuntime) -> Result<(), Fail> {
-    let found = parse(
+    let found = statements(
         rt.alloc(),
         b"# one at a time\npool link_pool\n  depth = 4\n",
     )?;
@@ -149,7 +169,7 @@ fn pool(rt: HostRuntime) -> Result<(), Fail> {
 
 #[test]
 fn defaults(rt: HostRuntime) -> Result<(), Fail> {
-    let found = parse(rt.alloc(), b"third = c\ndefault a b\ndefault $third\n")?;
+    let found = statements(rt.alloc(), b"third = c\ndefault a b\ndefault $third\n")?;
     assert_eq!(rt; found.len(), 3);
     match (&found[1].kind, &found[2].kind) {
         (StatementKind::Default(two), StatementKind::Default(third)) => {
@@ -163,7 +183,7 @@ fn defaults(rt: HostRuntime) -> Result<(), Fail> {
 
 #[test]
 fn other_files(rt: HostRuntime) -> Result<(), Fail> {
-    let found = parse(
+    let found = statements(
         rt.alloc(),
         b"include include.ninja\nsubninja $dir/test$ 1.ninja\n",
     )?;
@@ -184,7 +204,7 @@ fn rule_variables(rt: HostRuntime) -> Result<(), Fail> {
         b"rule cat\n  command = a\n  depfile = b\n  deps = c\n  msvc_deps_prefix = d\n  description = e\n  dyndep = f\n  generator = g\n  in = h\n  in_newline = i\n  out = j\n  restat = k\n  rspfile = l\n  rspfile_content = m\n  pool = n\n";
     let want =
         b"command=a;depfile=b;deps=c;msvc_deps_prefix=d;description=e;dyndep=f;generator=g;in=h;in_newline=i;out=j;restat=k;rspfile=l;rspfile_content=m;pool=n;";
-    let found = parse(rt.alloc(), text.as_slice())?;
+    let found = statements(rt.alloc(), text.as_slice())?;
     assert_eq!(rt; found.len(), 1);
     match &found[0].kind {
         StatementKind::Rule(rule) => assert!(rt; binds(rt.alloc(), &rule.bindings, want)?),
