@@ -1,8 +1,15 @@
 //! What holds of all texts.
 
-ghost use Rattle.plan_text.specs.Laws.{CanonicalStays};
+ghost use Rattle.plan_text.specs.Laws.{CanonicalStays, FailedWriteStays, WritesJoin};
 
 /// A canonical path is canonical itself, has a byte, and is no longer than the path that it was made of.
 pub fn canonical_stays()
     ensures { CanonicalStays }
+{}
+
+/// Two writes make one: behind a write that took all of its bytes, what the next one does is done to the bytes of both; and a write that failed is
+/// one of more bytes that failed.
+pub fn writes_join()
+    ensures join { WritesJoin }
+    ensures failed { FailedWriteStays }
 {}

@@ -31,7 +31,7 @@ pub use canonical_paths::is_canonical;
 pub use counted::Counted;
 pub use fault::TextFault;
 pub use items::Items;
-pub use laws::canonical_stays;
+pub use laws::{canonical_stays, writes_join};
 pub use line_reader::{Line, gap_len, indent_len, lines, logical_len, newline_len};
 pub use path::canonical;
 pub use piece_list::PieceList;
