@@ -7,3 +7,4 @@ pub mod LineLemmas
 pub mod SinkLemmas
 pub mod CanonicalLemmas
 pub mod CanonicalLaw
+pub mod NumberLemmas

@@ -7,7 +7,8 @@ use Rattle.memchr.specs.Find.{is_byte3}
 use Rattle.plan_text.specs.Bytes.{line_feed, carriage_return, hash, dollar, begins_with}
 use Rattle.plan_text.specs.declared.fault.TextFault.{TextFault}
 use Rattle.plan_text.specs.declared.line_reader.Line.{Line}
-use Rattle.plan_text.specs.Lines.{newline_len, begins_newline, taken_along, line_unit, comment_unit, indent_len, logical_len, Raw, raw_past, line_of, line_onto, collected, raw_lines, lines_of, max_source}
+use Rattle.plan_text.specs.Lines.{newline_len, begins_newline, taken_along, line_unit, comment_unit, indent_len, logical_len, Raw, raw_past, line_of, line_onto, collected, raw_lines, lines_of}
+use Rattle.plan_text.specs.Limits.{max_source}
 use Rattle.plan_text.specs.Runs.{run}
 use Rattle.plan_text.proofs.RunLemmas.{run_end, run_some}
 use Rattle.plan_text.specs.declared.fault.TextFault.TheVariants.{SourceTooLong}

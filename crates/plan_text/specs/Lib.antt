@@ -11,3 +11,5 @@ pub mod Outcome
 pub mod Faults
 pub mod Sinks
 pub mod Laws
+pub mod Limits
+pub mod Numerals

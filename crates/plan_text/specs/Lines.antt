@@ -3,6 +3,7 @@ use Rattle.std.specs.Prelude.{ℕ, zero, suc, ◌+◌, ◌-◌, ◌==◌, nat_lt
 use Rattle.std.specs.List.{prefix_len, position_or_len}
 use Rattle.plan_text.specs.Bytes.{nul, tab, line_feed, carriage_return, space, hash, dollar, is_space, begins_with}
 use Rattle.plan_text.specs.Runs.{run}
+use Rattle.plan_text.specs.Limits.{max_source}
 use Rattle.plan_text.specs.declared.fault.TextFault.{TextFault}
 use Rattle.plan_text.specs.declared.fault.TextFault.TheVariants.{TabBlank, NulByte, SourceTooLong}
 use Rattle.plan_text.specs.declared.line_reader.Line.{Line}
@@ -85,10 +86,6 @@ collected [] = Ok []
 collected (Err fault ∷ more) = Err fault
 collected (Ok None ∷ more) = collected more
 collected (Ok (Some line) ∷ more) = line_onto line (collected more)
-
--- the most bytes that a source may have: 16 MiB
-abbrev pub max_source : ℕ
-max_source = 16777216
 
 -- the lines of a text, or its first fault
 abbrev pub lines_of : List ℕ → Result (List Line) TextFault

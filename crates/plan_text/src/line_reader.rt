@@ -8,12 +8,10 @@ ghost use Rattle.plan_text.specs.Runs as runs;
 ghost use Rattle.plan_text.specs.Outcome.{Meets};
 
 use crate::fault::TextFault;
+use crate::limits::MAX_SOURCE;
 use crate::run_reader::{Unit, run_len};
 use memchr::{memchr, memchr3};
 use std::alloc::Global;
-
-/// The most bytes that a source may have: 16 MiB.
-const MAX_SOURCE: usize = 16_777_216;
 
 /// A logical line that is neither blank nor a comment. Offsets and counts are of bytes, from 0 at the front of the text.
 #[derive(Clone, Copy, Debug, PartialEq, Eq)]

@@ -130,6 +130,65 @@ fn logical_lines(rt: HostRuntime) -> Result<(), Fail> {
 }
 
 #[test]
+fn refused_lines(rt: HostRuntime) -> Result<(), Fail> {
+    let fault = lines(rt.alloc(), b"a\n# \0");
+    assert!(rt; matches!(fault, Err(TextFault::NulByte(4))));
+    let fault = lines(rt.alloc(), b"a\n  b\0");
+    assert!(rt; matches!(fault, Err(TextFault::NulByte(5))));
+    let fault = lines(rt.alloc(), b"a\n\t# \0");
+    assert!(rt; matches!(fault, Err(TextFault::TabBlank(2))));
+    let long = vec![in rt.alloc(); b'#'; 16_777_217]?;
+    let fault = lines(rt.alloc(), &long);
+    assert!(rt; matches!(fault, Err(TextFault::SourceTooLong(16_777_216))));
+    assert!(rt; lines(rt.alloc(), &long[1..])?.is_empty());
+    Ok(())
+}
+
+#[test]
+fn refused_texts(rt: HostRuntime) {
+    for (text, mode, fault) in [
+        (b"x = a$!".as_slice(), Mode::Value, TextFault::BadEscape(5)),
+        (b"a${b".as_slice(), Mode::Path, TextFault::BadEscape(1)),
+        (b"ab\tc".as_slice(), Mode::Path, TextFault::TabBlank(2)),
+        (b"abc\0".as_slice(), Mode::Value, TextFault::NulByte(3)),
+    ] {
+        let refused = match pieces(rt.alloc(), text, mode) {
+            Ok(_) => None,
+            Err(found) => Some(found),
+        };
+        assert_eq!(rt; refused, Some(fault));
+    }
+}
+
+#[test]
+fn numbers_in_digits(rt: HostRuntime) {
+    assert_eq!(rt; number_in(b"1000000", 1_000_000), Some(1_000_000));
+    assert_eq!(rt; number_in(b"1000001", 1_000_000), None);
+    assert_eq!(rt; number_in(b"007", 7), Some(7));
+    assert_eq!(rt; number_in(b"", 9), None);
+    assert_eq!(rt; number_in(b"-1", 9), None);
+    assert_eq!(rt;
+        number_in(b"18446744073709551615", u64::MAX),
+        Some(u64::MAX)
+    );
+    assert_eq!(rt; number_in(b"18446744073709551616", u64::MAX), None);
+}
+
+#[test]
+fn canonical_already(rt: HostRuntime) {
+    assert!(rt; is_canonical(b"/a/b.c"));
+    assert!(rt; is_canonical(b"a"));
+    assert!(rt; !is_canonical(b"a//b"));
+    assert!(rt; !is_canonical(b"a/"));
+    assert!(rt; !is_canonical(b""));
+}
+
+#[test]
+fn want_of_memory(rt: HostRuntime) {
+    assert_eq!(rt; Memory::from(AllocError), Memory);
+}
+
+#[test]
 fn lengths(rt: HostRuntime) {
     assert_eq!(rt; gap_len(b"  $\n $\r\n\tx"), 8);
     assert_eq!(rt; indent_len(b"  $\n x"), 2);
