@@ -1,6 +1,7 @@
 //! Each public function once, on values from outside.
 
 use super::*;
+use std::alloc::Global;
 use std::io::{self, Write};
 use std::test::Fail;
 
@@ -183,9 +184,19 @@ fn canonical_already(rt: HostRuntime) {
     assert!(rt; !is_canonical(b""));
 }
 
+/// Two bytes, or the one fault that there is.
+fn two_bytes(alloc: Global) -> Result<Vec<u8>, Memory> {
+    let mut bytes = Vec::from_slice(alloc, b"a")?;
+    bytes.push(b'b')?;
+    Ok(bytes)
+}
+
 #[test]
 fn want_of_memory(rt: HostRuntime) {
-    assert_eq!(rt; Memory::from(AllocError), Memory);
+    match two_bytes(rt.alloc()) {
+        Ok(bytes) => assert_eq!(rt; bytes.as_slice(), b"ab".as_slice()),
+        Err(fault) => assert_eq!(rt; fault, Memory),
+    }
 }
 
 #[test]
