@@ -2,7 +2,7 @@
 
 ghost use Rattle.std.specs.Prelude.{◌≡◌, ◌==◌, ◌+◌, ◌<◌, ◌≤◌, ◌^◌, ◌||◌, List, [], length};
 ghost use Rattle.std.specs.List.{prefix_len, position_or_len, list_any};
-ghost use Rattle.plan_text.specs.Outcome.{Meets};
+ghost use Rattle.plan_text.specs.Outcome.{Meets, each};
 ghost use Rattle.plan_parse.specs.Blocks as blocks;
 ghost use Rattle.plan_parse.specs.Statements as statements;
 ghost use Rattle.plan_parse.specs.Views.{place_of};
@@ -125,7 +125,7 @@ fn member_at(alloc: Global, member: Member<'_>) -> Result<Binding, ParseFault>
 
 /// The lines of a block as bindings.
 pub fn bindings_at(alloc: Global, members: &[Member<'_>]) -> Result<Vec<Binding>, ParseFault>
-    ensures { Meets ParseFault.Memory (λ v. v.items) result (statements.each statements.member_at (members_of members.now)) }
+    ensures { Meets ParseFault.Memory (λ v. v.items) result (each statements.member_at (members_of members.now)) }
 {
     let mut found = Vec::with_capacity(alloc, members.len())?;
     for member in members {

@@ -11,11 +11,8 @@ use crate::cursor::Cursor;
 use crate::fault::ParseFault;
 use crate::statement::Statement;
 use crate::statement_reader::statement_of;
-use plan_text::{TextFault, logical_len, newline_len};
+use plan_text::{MAX_SOURCE, TextFault, split_line};
 use std::alloc::Global;
-
-/// The most bytes that a source may have: 16 MiB.
-const MAX_SOURCE: usize = 16_777_216;
 
 /// The statements of whole blocks, and the block that may go on.
 #[derive(Drop)]
@@ -93,10 +90,9 @@ pub fn parse(alloc: Global, text: &[u8]) -> Result<Vec<Statement>, ParseFault>
     };
     let mut at = 0;
     while at < text.len() {
-        let rest = &text[at..];
-        let (line, behind) = rest.split_at(logical_len(rest));
+        let (line, len) = split_line(&text[at..]);
         reader.read(at, line)?;
-        at += line.len() + newline_len(behind);
+        at += len;
     }
     reader.finish()
 }

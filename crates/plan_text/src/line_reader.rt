@@ -148,6 +148,18 @@ pub fn logical_len(text: &[u8]) -> usize
     }
 }
 
+/// The logical line that a text begins with, without the newline that ends it, and how many bytes it has with its newline. A text with a byte has a line.
+pub fn split_line(text: &[u8]) -> (&[u8], usize)
+    requires { 0 < length text.now }
+    ensures line { syntax.IsFirstLine text.now result.0.now result.1 }
+    ensures goes { 0 < result.1 }
+    ensures len { length result.0.now ≤ result.1 }
+    ensures within { result.1 ≤ length text.now }
+{
+    let (line, behind) = text.split_at(logical_len(text));
+    (line, line.len() + newline_len(behind))
+}
+
 /// The place of the first NUL, or the length.
 fn nul_at(text: &[u8]) -> usize
     ensures { result ≡ position_or_len (λ b. b == nul) text.now }
@@ -193,12 +205,11 @@ pub fn lines(alloc: Global, text: &[u8]) -> Result<Vec<Line>, TextFault>
     let mut found = Vec::new(alloc);
     let mut at = 0;
     while at < text.len() {
-        let rest = &text[at..];
-        let (line, behind) = rest.split_at(logical_len(rest));
+        let (line, len) = split_line(&text[at..]);
         if let Some(line) = line_of(at, line)? {
             found.push(line)?;
         }
-        at += line.len() + newline_len(behind);
+        at += len;
     }
     Ok(found)
 }

@@ -1,8 +1,7 @@
-use Rattle.std.proofs.Common.{◌≡◌, ℕ, ◌+◌, List, Result, drop, length, ap, subst, ◌∙◌, sym, arith, length-drop}
-use Rattle.std.proofs.lemmas.List.{take_rest, at_drop_all}
+use Rattle.std.proofs.Common.{◌≡◌, ℕ, List, Result, subst, ◌∙◌, sym}
+use Rattle.std.proofs.lemmas.List.{at_drop_all}
 use Rattle.plan_text.specs.Outcome.{Meets}
-use Rattle.plan_text.specs.Lines.{Raw, raw_past}
-use Rattle.plan_text.proofs.LineLemmas.{turn}
+use Rattle.plan_text.specs.Lines.{raw_past}
 use Rattle.plan_parse.specs.declared.fault.ParseFault.{ParseFault}
 use Rattle.plan_parse.specs.declared.fault.ParseFault.TheVariants as fault
 use Rattle.plan_parse.specs.declared.statement.Statement.{Statement}
@@ -11,22 +10,6 @@ use Rattle.plan_parse.specs.Statements.{statements_of}
 use Rattle.plan_parse.specs.Progress.{state_of, followed, ended}
 use Rattle.plan_parse.proofs.ProgressLemmas.{ends}
 use Rattle.plan_parse.proofs.parser.parse.Goals as goal
-
-pub loop-at-smaller : goal.loop-at-smaller
-loop-at-smaller c =
-    let t = turn c.args.text.now _ c.split_at.result.0.now c.split_at.result.1.now c.loop-at.at c.logical_len.result c.newline_len.result c.loop-at-test.true (take_rest c.args.text.now c.loop-at.at) c.logical_len.ensures.len c.split_at.ensures.front c.split_at.ensures.back c.newline_len.ensures.len c.split_at.ensures.front_len in
-    omega (arith, t.goes)
-
-pub loop-at-preserved : goal.loop-at-preserved
-loop-at-preserved c =
-    let t = turn c.args.text.now _ c.split_at.result.0.now c.split_at.result.1.now c.loop-at.at c.logical_len.result c.newline_len.result c.loop-at-test.true (take_rest c.args.text.now c.loop-at.at) c.logical_len.ensures.len c.split_at.ensures.front c.split_at.ensures.back c.newline_len.ensures.len c.split_at.ensures.front_len in
-    let next = c.loop-at.at + (length c.split_at.result.0.now + c.newline_len.result) in
-    record {
-      within = omega (arith, c.newline_len.ensures.within, c.split_at.ensures.back_len, ap length (take_rest c.args.text.now c.loop-at.at), length-drop c.loop-at.at c.args.text.now);
-      same = c.in_ok-read.ensures (raw_past next (drop next c.args.text.now) 0)
-          ∙ sym (ap (λ (v : List Raw). followed (state_of c.loop-at.reader) (told_of v)) t.read)
-          ∙ c.loop-at.invariant.same;
-    }
 
 pub returns : goal.returns
 returns c =
