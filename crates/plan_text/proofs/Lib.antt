@@ -8,3 +8,5 @@ pub mod SinkLemmas
 pub mod CanonicalLemmas
 pub mod CanonicalLaw
 pub mod NumberLemmas
+pub mod EscapeLemmas
+pub mod CoverLemmas

@@ -38,7 +38,7 @@ line_progress b rest false e =
     let some = run_some line_unit b rest (line_unit_some b rest (eqb b dollar) e refl) in
     omega (arith, some)
 
-progress : (s : List ℕ) (v : Bool) → 0 < length s → begins_with hash (drop (indent_len s) s) ≡ v → 0 < logical_len s + newline_len (drop (logical_len s) s)
+pub progress : (s : List ℕ) (v : Bool) → 0 < length s → begins_with hash (drop (indent_len s) s) ≡ v → 0 < logical_len s + newline_len (drop (logical_len s) s)
 progress [] v h e = absurd (omega arith)
 progress (b ∷ rest) true h e =
     let z : logical_len (b ∷ rest) ≡ indent_len (b ∷ rest) + run comment_unit (drop (indent_len (b ∷ rest)) (b ∷ rest)) = ap (λ (v : Bool). cond v (indent_len (b ∷ rest) + run comment_unit (drop (indent_len (b ∷ rest)) (b ∷ rest))) (run line_unit (b ∷ rest))) e in

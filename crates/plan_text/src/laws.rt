@@ -1,6 +1,6 @@
 //! What holds of all texts.
 
-ghost use Rattle.plan_text.specs.Laws.{CanonicalStays, FailedWriteStays, WritesJoin};
+ghost use Rattle.plan_text.specs.Laws.{CanonicalStays, EscapedIsRead, FailedWriteStays, LinesCover, WritesJoin};
 
 /// A canonical path is canonical itself, has a byte, and is no longer than the path that it was made of.
 pub fn canonical_stays()
@@ -12,4 +12,14 @@ pub fn canonical_stays()
 pub fn writes_join()
     ensures join { WritesJoin }
     ensures failed { FailedWriteStays }
+{}
+
+/// The logical lines of a text and the newlines that end them, joined, are the text.
+pub fn lines_cover()
+    ensures { LinesCover }
+{}
+
+/// Bytes without NUL, and in a path without a tab, that are escaped by a `$` before each `$`, space and colon, are read as those bytes.
+pub fn escaped_is_read()
+    ensures { EscapedIsRead }
 {}

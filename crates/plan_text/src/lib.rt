@@ -35,7 +35,7 @@ pub use counted::Counted;
 pub use fault::TextFault;
 pub use items::Items;
 pub use lack::Memory;
-pub use laws::{canonical_stays, writes_join};
+pub use laws::{canonical_stays, escaped_is_read, lines_cover, writes_join};
 pub use line_reader::{Line, gap_len, indent_len, lines, logical_len, newline_len, split_line};
 pub use limits::{MAX_PATH, MAX_SOURCE, MAX_TEXT};
 pub use numerals::number_in;
