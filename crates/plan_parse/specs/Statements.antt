@@ -3,7 +3,7 @@ use Rattle.std.specs.Prelude.{ℕ, ◌+◌, ◌==◌, nat_lt, Bool, false, not, 
 use Rattle.std.specs.List.{prefix_len, list_any}
 use Rattle.std.specs.Str.{bytes_eq}
 use Rattle.plan_text.specs.Outcome.{◌>>=◌, each}
-use Rattle.plan_text.specs.Bytes.{tab, space, colon, bar, equals_sign, begins_with}
+use Rattle.plan_text.specs.Bytes.{at_sign, tab, space, colon, bar, equals_sign, begins_with}
 use Rattle.plan_text.specs.Lines.{raw_lines}
 use Rattle.plan_text.specs.Limits.{max_source}
 use Rattle.plan_text.specs.declared.fault.TextFault.TheVariants.{SourceTooLong}
@@ -111,9 +111,6 @@ abbrev pub pool_of : ℕ → Place → List Member → Result Statement ParseFau
 pool_of at p members = named_block Pool at p members >>= λ x. Ok (record { offset = at; kind = kind.Pool (record { name = x.0; depth = depth_of x.1 }) })
 
 -- `@`
-abbrev pub at_sign : ℕ
-at_sign = 64
-
 -- `|`, and not `||` or `|@`
 abbrev pub is_bar : Place → Bool
 is_bar p = begins_with bar p.bytes && not (begins_with bar (drop 1 p.bytes) || begins_with at_sign (drop 1 p.bytes))

@@ -110,8 +110,7 @@ one_line at size text more e h =
     let l : length (take len text) ≡ len = omega (arith, first, length-take len text) in
     let m : length (take newline behind) ≡ newline = omega (arith, second, length-take newline behind) in
     let n : at + size ≡ at + length (take len text) + length (take newline behind) = omega (arith, e, l, m) in
-    let d : drop size text ≡ drop newline behind = ap (λ (k : ℕ). drop k text) e ∙ sym (drop-drop newline len text) in
-    (
+    let d : drop size text ≡ drop newline behind = ap (λ (k : ℕ). drop k text) e ∙ sym (drop-drop newline len text) in (
       take newline behind,
       drop newline behind,
       refl,

@@ -1,12 +1,11 @@
 //! The logical lines of a text.
 
-ghost use Rattle.std.specs.Prelude.{◌≡◌, ◌==◌, ◌<◌, ◌≤◌, ◌+◌, length};
-ghost use Rattle.std.specs.List.{position_or_len};
-ghost use Rattle.plan_text.specs.Bytes.{nul, begins_with};
+ghost use Rattle.std.specs.Prelude.{◌≡◌, ◌<◌, ◌≤◌, ◌+◌, length};
 ghost use Rattle.plan_text.specs.Lines as syntax;
 ghost use Rattle.plan_text.specs.Runs as runs;
 ghost use Rattle.plan_text.specs.Outcome.{Meets};
 
+use crate::byte_search::{begins, nul_at};
 use crate::fault::TextFault;
 use crate::limits::MAX_SOURCE;
 use crate::run_reader::{Unit, run_len};
@@ -22,15 +21,6 @@ pub struct Line {
     pub start: u64,
     /// The offset of the newline that ends it, or of the end of the text.
     pub end: u64,
-}
-
-fn begins(text: &[u8], b: u8) -> bool
-    ensures { result ≡ begins_with b text.now }
-{
-    match text {
-        [] => false,
-        [first, ..] => *first == b,
-    }
 }
 
 /// How many bytes the newline has that a text begins with: 1 for LF, 2 for CR LF, 0 where there is none.
@@ -158,13 +148,6 @@ pub fn split_line(text: &[u8]) -> (&[u8], usize)
 {
     let (line, behind) = text.split_at(logical_len(text));
     (line, line.len() + newline_len(behind))
-}
-
-/// The place of the first NUL, or the length.
-fn nul_at(text: &[u8]) -> usize
-    ensures { result ≡ position_or_len (λ b. b == nul) text.now }
-{
-    text.iter().take_while(|b| **b != 0).count()
 }
 
 /// What the logical line at this place is; nothing where it is blank or a comment.

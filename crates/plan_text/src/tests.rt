@@ -200,6 +200,27 @@ fn want_of_memory(rt: HostRuntime) {
 }
 
 #[test]
+fn first_lines(rt: HostRuntime) {
+    let (line, size) = split_line(b"a$\nb\r\nc");
+    assert_eq!(rt; line, b"a$\nb".as_slice());
+    assert_eq!(rt; size, 6);
+    let (line, size) = split_line(b"\na");
+    assert_eq!(rt; line.len(), 0);
+    assert_eq!(rt; size, 1);
+    let (line, size) = split_line(b" # b$");
+    assert_eq!(rt; line.len(), 5);
+    assert_eq!(rt; size, 5);
+}
+
+#[test]
+fn bytes_found(rt: HostRuntime) {
+    assert!(rt; begins(b"ab", b'a'));
+    assert!(rt; !begins(b"", 0));
+    assert_eq!(rt; nul_at(b"ab\0c\0"), 2);
+    assert_eq!(rt; nul_at(b"ab"), 2);
+}
+
+#[test]
 fn lengths(rt: HostRuntime) {
     assert_eq!(rt; gap_len(b"  $\n $\r\n\tx"), 8);
     assert_eq!(rt; indent_len(b"  $\n x"), 2);
