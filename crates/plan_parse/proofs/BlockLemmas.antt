@@ -3,14 +3,14 @@ use Rattle.std.proofs.Common.{◌≡◌, ℕ, ◌+◌, ◌<◌, Bool, true, fals
 use Rattle.std.specs.Prelude.{◌||◌}
 use Rattle.std.specs.List.{list_any}
 use Rattle.std.proofs.lemmas.List.{drop_more, take_more, map_push}
+use Rattle.plan_text.specs.Outcome.{◌>>=◌, each}
 use Rattle.plan_parse.specs.declared.block.Member as the_member
 use Rattle.plan_parse.specs.Members.{member_of, members_of}
 use Rattle.plan_parse.specs.declared.fault.ParseFault.{ParseFault}
 use Rattle.plan_parse.specs.declared.owner.Owner.{Owner}
 use Rattle.plan_parse.specs.declared.statement.Binding.{Binding}
-use Rattle.plan_parse.specs.Reading.{◌>>=◌}
 use Rattle.plan_parse.specs.Blocks.{Member}
-use Rattle.plan_parse.specs.Statements.{each, owned_at, all_owned_at}
+use Rattle.plan_parse.specs.Statements.{owned_at, all_owned_at}
 
 -- what was read, in front of what is read of the rest
 abbrev pub in_front : {B : Type 0} → List B → Result (List B) ParseFault → Result (List B) ParseFault

@@ -3,9 +3,10 @@ use Rattle.std.proofs.Common.{◌≡◌, ℕ, Bool, true, false, if◌then◌els
 use Rattle.std.specs.Str.{bytes_eq}
 use Rattle.plan_parse.specs.declared.fault.ParseFault.{ParseFault}
 use Rattle.plan_parse.specs.declared.statement.Statement.{Statement}
-use Rattle.plan_parse.specs.Reading.{◌>>=◌, Place, past, past_gap, name_at, name_of}
+use Rattle.plan_text.specs.Outcome.{◌>>=◌, each}
+use Rattle.plan_parse.specs.Reading.{Place, past, past_gap, name_at, name_of}
 use Rattle.plan_parse.specs.Blocks.{Member}
-use Rattle.plan_parse.specs.Statements.{statement_of, rule_of, build_of, pool_of, default_of, include_of, subninja_of, binding_of, outputs_at, inputs_at, each, member_at, targets_at, file_at, alone, bound_at, named_block}
+use Rattle.plan_parse.specs.Statements.{statement_of, rule_of, build_of, pool_of, default_of, include_of, subninja_of, binding_of, outputs_at, inputs_at, member_at, targets_at, file_at, alone, bound_at, named_block}
 use Rattle.plan_parse.specs.declared.owner.Owner.TheVariants.{Rule, Pool}
 use Rattle.plan_parse.specs.Compact.{ReadsAgain}
 

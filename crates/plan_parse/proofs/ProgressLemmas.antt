@@ -3,14 +3,16 @@ use Rattle.std.proofs.Common.{◌≡◌, ℕ, ◌≤◌, Bool, false, cond, List
 use Rattle.std.specs.Prelude.{nat_lt}
 use Rattle.std.proofs.lemmas.List.{append-nil}
 use Rattle.std.proofs.lemmas.Bool.Decides.{nat_tests}
-use Rattle.plan_text.specs.Lines.{raw_lines, max_source}
+use Rattle.plan_text.specs.Outcome.{◌>>=◌, each}
+use Rattle.plan_text.specs.Lines.{raw_lines}
+use Rattle.plan_text.specs.Limits.{max_source}
 use Rattle.plan_text.specs.declared.fault.TextFault.TheVariants.{SourceTooLong}
 use Rattle.plan_parse.specs.declared.fault.ParseFault.{ParseFault}
 use Rattle.plan_parse.specs.declared.fault.ParseFault.TheVariants as fault
 use Rattle.plan_parse.specs.declared.statement.Statement.{Statement}
-use Rattle.plan_parse.specs.Reading.{◌>>=◌, Place}
+use Rattle.plan_parse.specs.Reading.{Place}
 use Rattle.plan_parse.specs.Blocks.{Member, Told, Head, Below, told_of, below, blocks_of}
-use Rattle.plan_parse.specs.Statements.{each, alone, statement_of, statement_in, statements_of}
+use Rattle.plan_parse.specs.Statements.{alone, statement_of, statement_in, statements_of}
 use Rattle.plan_parse.specs.Progress.{State, closing, ended, followed}
 
 -- a line of the block

@@ -4,13 +4,14 @@ use Rattle.std.specs.Prelude.{nat_lt}
 use Rattle.std.specs.List.{prefix_len}
 use Rattle.std.proofs.lemmas.List.{append-nil}
 use Rattle.std.proofs.lemmas.Bool.Decides.{nat_tests}
+use Rattle.plan_text.specs.Outcome.{◌>>=◌}
 use Rattle.plan_text.specs.Lines.{gap_unit, gap_len}
 use Rattle.plan_text.specs.Bytes.{dollar}
 use Rattle.plan_text.specs.Pieces.{escape_size}
 use Rattle.plan_text.specs.Runs.{and_more, run_past, run}
 use Rattle.plan_text.specs.declared.piece_reader.Piece.{Piece}
 use Rattle.plan_parse.specs.declared.fault.ParseFault.{ParseFault}
-use Rattle.plan_parse.specs.Reading.{◌>>=◌, Place, past, past_gap, ends_path, path_unit, path_len, path_at, path_onto, paths_past, paths_at}
+use Rattle.plan_parse.specs.Reading.{Place, past, past_gap, ends_path, path_unit, path_len, path_at, path_onto, paths_past, paths_at}
 
 -- paths that were read, in front of those that follow
 abbrev pub with_front : List (List Piece) → Result (List (List Piece) × Place) ParseFault → Result (List (List Piece) × Place) ParseFault

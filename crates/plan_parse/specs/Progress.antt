@@ -1,14 +1,15 @@
 -- How far a text was read, line by line.
 use Rattle.std.specs.Prelude.{◌≡◌, ◌≢◌, ℕ, List, map, [], ◌∷◌, ◌++◌, Result, Ok, Err, Option, Some, None}
+use Rattle.plan_text.specs.Outcome.{◌>>=◌, each}
 use Rattle.plan_text.specs.Lines.{Raw}
 use Rattle.plan_parse.specs.declared.fault.ParseFault.{ParseFault}
 use Rattle.plan_parse.specs.declared.fault.ParseFault.TheVariants as fault
 use Rattle.plan_parse.specs.declared.statement.Statement.{Statement}
 use Rattle.plan_parse.specs.declared.parser.Reader.{Reader}
 use Rattle.plan_parse.specs.declared.cursor.Cursor.{Cursor}
-use Rattle.plan_parse.specs.Reading.{◌>>=◌, Place}
+use Rattle.plan_parse.specs.Reading.{Place}
 use Rattle.plan_parse.specs.Blocks.{Member, Told, Head, Below, told_of, below, blocks_of}
-use Rattle.plan_parse.specs.Statements.{each, alone, statement_of, statement_in}
+use Rattle.plan_parse.specs.Statements.{alone, statement_of, statement_in}
 use Rattle.plan_parse.specs.Views.{place_of}
 use Rattle.plan_parse.specs.Members.{members_of}
 use Rattle.plan_parse.specs.Compact.{StandsIn, said_in}

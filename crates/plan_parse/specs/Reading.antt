@@ -1,6 +1,7 @@
 -- Reading a logical line from left to right.
 use Rattle.std.specs.Prelude.{ℕ, zero, suc, ◌+◌, ◌-◌, ◌==◌, nat_lt, Bool, ◌||◌, ◌&&◌, List, [], ◌∷◌, length, take, drop, if◌then◌else◌, Result, Ok, Err, is_none, unwrap_or}
 use Rattle.std.specs.List.{prefix_len}
+use Rattle.plan_text.specs.Outcome.{◌>>=◌}
 use Rattle.plan_text.specs.Bytes.{nul, tab, space, dollar, colon, bar, is_name_byte, begins_with}
 use Rattle.plan_text.specs.Runs.{run}
 use Rattle.plan_text.specs.Pieces.{escape_size, pieces_from}
@@ -11,12 +12,6 @@ use Rattle.plan_text.specs.declared.piece_reader.Mode.TheVariants as mode
 use Rattle.plan_text.specs.declared.piece_reader.Piece.{Piece}
 use Rattle.plan_parse.specs.declared.fault.ParseFault.{ParseFault}
 use Rattle.plan_parse.specs.declared.fault.ParseFault.TheVariants as fault
-
--- the first step, and then the second with what it found: the first fault counts
-infixl 10 ◌>>=◌
-abbrev pub ◌>>=◌ : {A B : Type 0} → Result A ParseFault → (A → Result B ParseFault) → Result B ParseFault
-(Ok x) >>= f = f x
-(Err e) >>= f = Err e
 
 -- what is left of a line, and its offset
 pub record Place : Type 0 where

@@ -2,8 +2,10 @@
 use Rattle.std.specs.Prelude.{ℕ, ◌+◌, ◌==◌, nat_lt, Bool, false, not, ◌||◌, ◌&&◌, List, [], ◌∷◌, ◌++◌, length, drop, if◌then◌else◌, Result, Ok, Err, codes}
 use Rattle.std.specs.List.{prefix_len, list_any}
 use Rattle.std.specs.Str.{bytes_eq}
-use Rattle.plan_text.specs.Bytes.{tab, space, colon, bar, equals_sign, begins_with}
-use Rattle.plan_text.specs.Lines.{raw_lines, max_source}
+use Rattle.plan_text.specs.Outcome.{◌>>=◌, each}
+use Rattle.plan_text.specs.Bytes.{at_sign, tab, space, colon, bar, equals_sign, begins_with}
+use Rattle.plan_text.specs.Lines.{raw_lines}
+use Rattle.plan_text.specs.Limits.{max_source}
 use Rattle.plan_text.specs.declared.fault.TextFault.TheVariants.{SourceTooLong}
 use Rattle.plan_text.specs.declared.piece_reader.Piece.{Piece}
 use Rattle.plan_parse.specs.declared.fault.ParseFault.{ParseFault}
@@ -13,13 +15,8 @@ use Rattle.plan_parse.specs.declared.owner.Owner.TheVariants.{Rule, Pool}
 use Rattle.plan_parse.specs.declared.statement.Binding.{Binding}
 use Rattle.plan_parse.specs.declared.statement.StatementKind.TheVariants as kind
 use Rattle.plan_parse.specs.declared.statement.Statement.{Statement}
-use Rattle.plan_parse.specs.Reading.{◌>>=◌, Place, past, past_gap, refused, name_of, name_at, byte_at, line_end_at, value_at, path_len, path_at, paths_at}
+use Rattle.plan_parse.specs.Reading.{Place, past, past_gap, refused, name_of, name_at, byte_at, line_end_at, value_at, path_len, path_at, paths_at}
 use Rattle.plan_parse.specs.Blocks.{Member, Says, Faulty, Block, told_of, below, blocks_of}
-
--- what each says, up to the first fault
-abbrev pub each : {A B : Type 0} → (A → Result B ParseFault) → List A → Result (List B) ParseFault
-each f [] = Ok []
-each f (x ∷ xs) = f x >>= λ y. each f xs >>= λ ys. Ok (y ∷ ys)
 
 -- `name = value`
 abbrev pub bound_at : Place → Result Binding ParseFault
@@ -114,9 +111,6 @@ abbrev pub pool_of : ℕ → Place → List Member → Result Statement ParseFau
 pool_of at p members = named_block Pool at p members >>= λ x. Ok (record { offset = at; kind = kind.Pool (record { name = x.0; depth = depth_of x.1 }) })
 
 -- `@`
-abbrev pub at_sign : ℕ
-at_sign = 64
-
 -- `|`, and not `||` or `|@`
 abbrev pub is_bar : Place → Bool
 is_bar p = begins_with bar p.bytes && not (begins_with bar (drop 1 p.bytes) || begins_with at_sign (drop 1 p.bytes))

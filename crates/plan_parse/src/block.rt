@@ -1,8 +1,8 @@
 //! Blocks: a line, and the indented lines below it.
 
 ghost use Rattle.std.specs.Prelude.{◌≡◌, ◌==◌, ◌+◌, ◌<◌, ◌≤◌, ◌^◌, ◌||◌, List, [], length};
-ghost use Rattle.std.specs.List.{prefix_len, position_or_len, list_any};
-ghost use Rattle.plan_text.specs.Outcome.{Meets};
+ghost use Rattle.std.specs.List.{prefix_len, list_any};
+ghost use Rattle.plan_text.specs.Outcome.{Meets, each};
 ghost use Rattle.plan_parse.specs.Blocks as blocks;
 ghost use Rattle.plan_parse.specs.Statements as statements;
 ghost use Rattle.plan_parse.specs.Views.{place_of};
@@ -11,9 +11,9 @@ ghost use Rattle.plan_parse.specs.Members.{member_of, members_of, told_seen};
 use crate::cursor::Cursor;
 use crate::fault::ParseFault;
 use crate::owner::Owner;
-use crate::reading::{begins, bound_at, name_at, name_of, past, past_gap, refusal};
+use crate::reading::{bound_at, name_at, name_of, past, past_gap, refusal};
 use crate::statement::Binding;
-use plan_text::{TextFault, indent_len};
+use plan_text::{TextFault, begins, indent_len, nul_at};
 use std::alloc::Global;
 
 /// A line of a block: what it says, past its indentation, or the fault of a comment.
@@ -39,13 +39,6 @@ fn is_indented(bytes: &[u8]) -> bool
     ensures { result ≡ blocks.is_indented bytes.now }
 {
     matches!(bytes, [b' ' | b'\t', ..])
-}
-
-/// The place of the first NUL, or the length.
-fn nul_at(text: &[u8]) -> usize
-    ensures { result ≡ position_or_len (λ b. b == 0) text.now }
-{
-    text.iter().take_while(|b| **b != 0).count()
 }
 
 /// What a comment tells: nothing but its NUL.
@@ -125,7 +118,7 @@ fn member_at(alloc: Global, member: Member<'_>) -> Result<Binding, ParseFault>
 
 /// The lines of a block as bindings.
 pub fn bindings_at(alloc: Global, members: &[Member<'_>]) -> Result<Vec<Binding>, ParseFault>
-    ensures { Meets ParseFault.Memory (λ v. v.items) result (statements.each statements.member_at (members_of members.now)) }
+    ensures { Meets ParseFault.Memory (λ v. v.items) result (each statements.member_at (members_of members.now)) }
 {
     let mut found = Vec::with_capacity(alloc, members.len())?;
     for member in members {

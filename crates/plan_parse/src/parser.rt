@@ -13,11 +13,8 @@ use crate::compact::CompactStatement;
 use crate::cursor::Cursor;
 use crate::fault::ParseFault;
 use crate::statement_reader::compact_of;
-use plan_text::{TextFault, logical_len, newline_len};
+use plan_text::{MAX_SOURCE, TextFault, split_line};
 use std::alloc::Global;
-
-/// The most bytes that a source may have: 16 MiB.
-const MAX_SOURCE: usize = 16_777_216;
 
 /// The statements of whole blocks, and the block that may go on.
 #[derive(Drop)]
@@ -117,10 +114,9 @@ pub fn parse(alloc: Global, text: &[u8]) -> Result<Vec<CompactStatement>, ParseF
     };
     let mut at = 0;
     while at < text.len() {
-        let rest = &text[at..];
-        let (line, behind) = rest.split_at(logical_len(rest));
+        let (line, len) = split_line(&text[at..]);
         reader.read(at, line)?;
-        at += line.len() + newline_len(behind);
+        at += len;
     }
     reader.finish()
 }

@@ -2,7 +2,7 @@
 
 ghost use Rattle.std.specs.Prelude.{◌≡◌, ◌==◌, ◌≤◌, ◌||◌, not, [], ◌∷◌, ◌++◌, length, OnOk};
 ghost use Rattle.std.specs.List.{prefix_len};
-ghost use Rattle.plan_text.specs.Bytes.{dollar, begins_with};
+ghost use Rattle.plan_text.specs.Bytes.{dollar};
 ghost use Rattle.plan_text.specs.Outcome.{Meets, seen_by};
 ghost use Rattle.plan_parse.specs.Reading as syntax;
 ghost use Rattle.plan_parse.specs.Statements as statements;
@@ -12,7 +12,8 @@ use crate::cursor::Cursor;
 use crate::fault::ParseFault;
 use crate::statement::Binding;
 use plan_text::{
-    Mode, PieceList, SmallText, TextFault, Unit, escape_len, gap_len, name_len, pieces_at, run_len,
+    Mode, PieceList, SmallText, TextFault, Unit, begins, escape_len, gap_len, name_len, pieces_at,
+    run_len,
 };
 use std::alloc::{AllocError, Global};
 
@@ -35,16 +36,6 @@ pub fn past_gap(p: Cursor<'_>) -> Cursor<'_>
     ensures { place_of result ≡ syntax.past_gap (place_of p.entry) }
 {
     past(p, gap_len(p.bytes))
-}
-
-/// Whether a text begins with this byte.
-pub fn begins(text: &[u8], b: u8) -> bool
-    ensures { result ≡ begins_with b text.now }
-{
-    match text {
-        [] => false,
-        [first, ..] => *first == b,
-    }
 }
 
 /// The fault of a place where something else was expected: a byte that stands nowhere comes first.

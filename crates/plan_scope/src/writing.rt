@@ -1,13 +1,12 @@
 //! The commands of a manifest, written.
 
-ghost use Rattle.std.specs.Prelude.{◌≡◌, ◌+◌, [], ◌∷◌, ◌++◌, OnOk, OnErr};
-ghost use Rattle.std.specs.Io.KnownBytes.{Appends};
+ghost use Rattle.std.specs.Prelude.{◌≡◌, [], ◌∷◌, ◌++◌, is_ok};
 ghost use Rattle.plan_text.specs.Bytes.{line_feed};
-ghost use Rattle.plan_text.specs.Sinks.{AppendsFront};
+ghost use Rattle.plan_text.specs.Sinks.{Writes};
 ghost use Rattle.plan_scope.specs.Edges.{command_line, commands_of};
 
 use crate::manifest::{Edge, Manifest};
-use plan_text::{Sink, SinkFault, write_all};
+use plan_text::{Sink, SinkFault, write_all, writes_join};
 
 /// A write failed.
 #[derive(Clone, Copy, Debug, PartialEq, Eq)]
@@ -28,11 +27,9 @@ pub fn command_text(edge: &Edge) -> &[u8]
 
 /// Writes some bytes and a newline.
 fn write_line<W: Sink>(line: &[u8], out: &mut W) -> Result<(), WriteFault>
-    ensures kept { OnOk result (W.failures out.new ≡ W.failures out.old) }
-    ensures written { OnOk result (Appends (W.taken out.old) (W.taken out.new) (line.now ++ line_feed ∷ [])) }
-    ensures failed { OnErr result (W.failures out.new ≡ W.failures out.old + 1) }
-    ensures front { OnErr result (AppendsFront (W.taken out.old) (W.taken out.new) (line.now ++ line_feed ∷ [])) }
+    ensures { Writes (is_ok result) (W.failures out.old, W.taken out.old) (W.failures out.new, W.taken out.new) (line.now ++ line_feed ∷ []) }
 {
+    writes_join();
     write_all(out, line)?;
     write_all(out, b"\n")?;
     Ok(())
@@ -40,10 +37,7 @@ fn write_line<W: Sink>(line: &[u8], out: &mut W) -> Result<(), WriteFault>
 
 /// Writes the command of an edge and a newline; nothing of a phony.
 fn write_command<W: Sink>(edge: &Edge, out: &mut W) -> Result<(), WriteFault>
-    ensures kept { OnOk result (W.failures out.new ≡ W.failures out.old) }
-    ensures written { OnOk result (Appends (W.taken out.old) (W.taken out.new) (command_line edge.now)) }
-    ensures failed { OnErr result (W.failures out.new ≡ W.failures out.old + 1) }
-    ensures front { OnErr result (AppendsFront (W.taken out.old) (W.taken out.new) (command_line edge.now)) }
+    ensures { Writes (is_ok result) (W.failures out.old, W.taken out.old) (W.failures out.new, W.taken out.new) (command_line edge.now) }
 {
     if edge.phony {
         return Ok(());
@@ -53,11 +47,9 @@ fn write_command<W: Sink>(edge: &Edge, out: &mut W) -> Result<(), WriteFault>
 
 /// Writes the command of each edge that isn't a phony, in order, a newline after each, and nothing else. At the first failed write it stops, and the sink took the bytes in front of it.
 pub fn write_commands<W: Sink>(manifest: &Manifest, out: &mut W) -> Result<(), WriteFault>
-    ensures kept { OnOk result (W.failures out.new ≡ W.failures out.old) }
-    ensures written { OnOk result (Appends (W.taken out.old) (W.taken out.new) (commands_of manifest.now)) }
-    ensures failed { OnErr result (W.failures out.new ≡ W.failures out.old + 1) }
-    ensures front { OnErr result (AppendsFront (W.taken out.old) (W.taken out.new) (commands_of manifest.now)) }
+    ensures { Writes (is_ok result) (W.failures out.old, W.taken out.old) (W.failures out.new, W.taken out.new) (commands_of manifest.now) }
 {
+    writes_join();
     let edges = manifest.edges.as_slice();
     for edge in edges {
         write_command(edge, out)?;

@@ -5,3 +5,8 @@ pub mod PieceLemmas
 pub mod RunLemmas
 pub mod LineLemmas
 pub mod SinkLemmas
+pub mod CanonicalLemmas
+pub mod CanonicalLaw
+pub mod NumberLemmas
+pub mod EscapeLemmas
+pub mod CoverLemmas

@@ -1,16 +1,14 @@
 -- Logical lines read from left to right.
-use Rattle.std.proofs.Common.{◌≡◌, ℕ, zero, suc, ◌+◌, ◌-◌, ◌<◌, ◌≤◌, ◌==◌, Bool, ◌||◌, ◌&&◌, true, false, cond, List, [], ◌∷◌, ◌++◌, length, get_or, take, drop, Result, Ok, Err, Option, Some, None, refl, sym, ap, subst, ◌∙◌, append_assoc, arith, add-zero, eqb, ◌≢◌, length-drop}
+use Rattle.std.proofs.Common.{◌≡◌, ℕ, zero, suc, ◌+◌, ◌-◌, ◌<◌, ◌==◌, Bool, ◌||◌, ◌&&◌, true, false, cond, List, [], ◌∷◌, ◌++◌, length, get_or, take, drop, Result, Ok, Err, refl, sym, ap, subst, ◌∙◌, arith, add-zero, eqb, ◌≢◌}
 use Rattle.std.proofs.lemmas.Bool.{eqb-true, ltb-true}
-use Rattle.std.specs.Prelude.{map, nat_lt}
-use Rattle.std.proofs.lemmas.List.{drop-drop}
+use Rattle.std.specs.Prelude.{nat_lt}
 use Rattle.memchr.specs.Find.{is_byte3}
 use Rattle.plan_text.specs.Bytes.{line_feed, carriage_return, hash, dollar, begins_with}
 use Rattle.plan_text.specs.declared.fault.TextFault.{TextFault}
 use Rattle.plan_text.specs.declared.line_reader.Line.{Line}
-use Rattle.plan_text.specs.Lines.{newline_len, begins_newline, taken_along, line_unit, comment_unit, indent_len, logical_len, Raw, raw_past, line_of, line_onto, collected, raw_lines, lines_of, max_source}
+use Rattle.plan_text.specs.Lines.{newline_len, begins_newline, taken_along, line_unit, comment_unit, indent_len, logical_len, Raw, raw_past, IsFirstLine}
 use Rattle.plan_text.specs.Runs.{run}
 use Rattle.plan_text.proofs.RunLemmas.{run_end, run_some}
-use Rattle.plan_text.specs.declared.fault.TextFault.TheVariants.{SourceTooLong}
 use Rattle.std.proofs.lemmas.Bool.Decides.{nat_tests}
 
 -- what was found, in front of what is found in the rest
@@ -40,7 +38,7 @@ line_progress b rest false e =
     let some = run_some line_unit b rest (line_unit_some b rest (eqb b dollar) e refl) in
     omega (arith, some)
 
-progress : (s : List ℕ) (v : Bool) → 0 < length s → begins_with hash (drop (indent_len s) s) ≡ v → 0 < logical_len s + newline_len (drop (logical_len s) s)
+pub progress : (s : List ℕ) (v : Bool) → 0 < length s → begins_with hash (drop (indent_len s) s) ≡ v → 0 < logical_len s + newline_len (drop (logical_len s) s)
 progress [] v h e = absurd (omega arith)
 progress (b ∷ rest) true h e =
     let z : logical_len (b ∷ rest) ≡ indent_len (b ∷ rest) + run comment_unit (drop (indent_len (b ∷ rest)) (b ∷ rest)) = ap (λ (v : Bool). cond v (indent_len (b ∷ rest) + run comment_unit (drop (indent_len (b ∷ rest)) (b ∷ rest))) (run line_unit (b ∷ rest))) e in
@@ -64,75 +62,22 @@ raw_first at (b ∷ rest) n h e p =
         let f : at + 1 + (suc n - 1) ≡ at + suc n = omega arith in
         ap (λ (k : ℕ). raw_past k (drop (suc n - 1) rest) 0) f ∙ ap (λ (k : ℕ). raw_past (at + suc n) (drop k rest) 0) e
 
-raw_read : (at : ℕ) (text : List ℕ) (len newline : ℕ) → at < length text → len ≡ logical_len (drop at text) → newline ≡ newline_len (drop len (drop at text))
-    → raw_past at (drop at text) 0 ≡ record { at = at; bytes = take len (drop at text) } ∷ raw_past (at + (len + newline)) (drop (at + (len + newline)) text) 0
-raw_read at text len newline h e f =
-    let l : 0 < length (drop at text) = omega (arith, length-drop at text) in
-    let n : len + newline ≡ logical_len (drop at text) + newline_len (drop (logical_len (drop at text)) (drop at text)) = subst (λ (k : ℕ). k + newline ≡ logical_len (drop at text) + newline_len (drop (logical_len (drop at text)) (drop at text))) (sym e) (ap (λ (k : ℕ). logical_len (drop at text) + k) (f ∙ ap (λ (k : ℕ). newline_len (drop k (drop at text))) e)) in
-    let p = progress (drop at text) (begins_with hash (drop (indent_len (drop at text)) (drop at text))) l refl in
-    raw_first at (drop at text) (len + newline) l n (omega (arith, n, p))
-    ∙ ap (λ (k : ℕ). record { at = at; bytes = take k (drop at text) } ∷ raw_past (at + (len + newline)) (drop (len + newline) (drop at text)) 0) (sym e)
-    ∙ ap (λ (v : List ℕ). record { at = at; bytes = take len (drop at text) } ∷ raw_past (at + (len + newline)) v 0) (drop-drop (len + newline) at text)
+-- the first logical line, as it is split off
+pub first_line : (text line behind : List ℕ) (len newline : ℕ) → 0 < length text → len ≡ logical_len text → line ≡ take len text → behind ≡ drop len text → newline ≡ newline_len behind → length line ≡ len
+    → IsFirstLine text line (length line + newline)
+first_line text line behind len newline h l f b n m at =
+    let size : length line + newline ≡ logical_len text + newline_len (drop (logical_len text) text) =
+    ap (λ (k : ℕ). k + newline) (m ∙ l) ∙ ap (λ (k : ℕ). logical_len text + k) (n ∙ ap newline_len (b ∙ ap (λ (k : ℕ). drop k text) l)) in
+    let p = progress text (begins_with hash (drop (indent_len text) text)) h refl in
+    raw_first at text (length line + newline) h size (omega (arith, size, p))
+    ∙ ap (λ (v : List ℕ). record { at = at; bytes = v } ∷ raw_past (at + (length line + newline)) (drop (length line + newline) text) 0) (sym (f ∙ ap (λ (k : ℕ). take k text) l))
 
--- one more logical line
-goes_on : (front : List Line) (raw : Raw) (more : List Raw) (line : Line) (all : Result (List Line) TextFault) → line_of raw ≡ Ok (Some line)
-    → with_front front (collected (map line_of (raw ∷ more))) ≡ all → with_front (front ++ line ∷ []) (collected (map line_of more)) ≡ all
-goes_on front raw more line all e so_far =
-    regroup (collected (map line_of more)) ∙ ap (λ (r : Result (Option Line) TextFault). with_front front (collected (r ∷ map line_of more))) (sym e) ∙ so_far
-  where
-    regroup : (r : Result (List Line) TextFault) → with_front (front ++ line ∷ []) r ≡ with_front front (line_onto line r)
-    regroup (Ok lines) = ap (λ (v : List Line). Ok v) (append_assoc front (line ∷ []) lines)
-    regroup (Err fault) = refl
-
-passes : (front : List Line) (raw : Raw) (more : List Raw) (all : Result (List Line) TextFault) → line_of raw ≡ Ok None
-    → with_front front (collected (map line_of (raw ∷ more))) ≡ all → with_front front (collected (map line_of more)) ≡ all
-passes front raw more all e so_far = ap (λ (r : Result (Option Line) TextFault). with_front front (collected (r ∷ map line_of more))) (sym e) ∙ so_far
-
-stops : (front : List Line) (raw : Raw) (more : List Raw) (fault : TextFault) (all : Result (List Line) TextFault) → line_of raw ≡ Err fault
-    → with_front front (collected (map line_of (raw ∷ more))) ≡ all → all ≡ Err fault
-stops front raw more fault all e so_far = sym so_far ∙ ap (λ (r : Result (Option Line) TextFault). with_front front (collected (r ∷ map line_of more))) e
-
--- a text that isn't too long
-pub lines-short : (text : List ℕ) → length text ≤ max_source → lines_of text ≡ collected (map line_of (raw_lines text))
-lines-short text h = ap (λ (v : Bool). cond v (Err (SourceTooLong max_source)) (collected (map line_of (raw_lines text)))) (within (length text) h) where
-  within : (n : ℕ) → n ≤ max_source → nat_lt max_source n ≡ false
-  within n h = grind (arith, nat_tests)
-
--- one turn of the reader: the line at the front of what is left, and how far it goes
-pub record Turn (text : List ℕ) (at : ℕ) (line : List ℕ) (newline : ℕ) : Type 0 where
-  pub read : raw_past at (drop at text) 0 ≡ record { at = at; bytes = line } ∷ raw_past (at + (length line + newline)) (drop (at + (length line + newline)) text) 0
-  pub goes : 0 < length line + newline
-
-pub turn : (text whole line behind : List ℕ) (at len newline : ℕ) → at < length text → whole ≡ drop at text → len ≡ logical_len whole → line ≡ take len whole → behind ≡ drop len whole
-    → newline ≡ newline_len behind → length line ≡ len → Turn text at line newline
-turn text whole line behind at len newline h w l f b n m =
-    let e : len ≡ logical_len (drop at text) = l ∙ ap logical_len w in
-    let g : newline ≡ newline_len (drop len (drop at text)) = n ∙ ap newline_len (b ∙ ap (drop len) w) in
-    let p = progress (drop at text) (begins_with hash (drop (indent_len (drop at text)) (drop at text))) (omega (arith, length-drop at text)) refl in
-    let x : newline_len (drop len (drop at text)) ≡ newline_len (drop (logical_len (drop at text)) (drop at text)) = ap (λ (k : ℕ). newline_len (drop k (drop at text))) e in
-    record {
-      read = raw_read at text len newline h e g
-          ∙ ap (λ (v : List ℕ). record { at = at; bytes = v } ∷ raw_past (at + (len + newline)) (drop (at + (len + newline)) text) 0) (sym (f ∙ ap (take len) w))
-          ∙ ap (λ (k : ℕ). record { at = at; bytes = line } ∷ raw_past (at + (k + newline)) (drop (at + (k + newline)) text) 0) (sym m);
-      goes = omega (arith, p, e, g, x, m);
-    }
-
--- what is found in the text from offset `at` on, behind what was found before
-abbrev pub found_from : List Line → ℕ → List ℕ → Result (List Line) TextFault
-found_from front at text = with_front front (collected (map line_of (raw_past at (drop at text) 0)))
-
-module _ (text : List ℕ) (at : ℕ) (line : List ℕ) (newline : ℕ) (t : Turn text at line newline) (front : List Line) (all : Result (List Line) TextFault) (so_far : found_from front at text ≡ all) where
-  here : with_front front (collected (map line_of (record { at = at; bytes = line } ∷ raw_past (at + (length line + newline)) (drop (at + (length line + newline)) text) 0))) ≡ all
-  here = sym (ap (λ (v : List Raw). with_front front (collected (map line_of v))) t.read) ∙ so_far
-
-  pub turn_some : (l : Line) → line_of (record { at = at; bytes = line }) ≡ Ok (Some l) → found_from (front ++ l ∷ []) (at + (length line + newline)) text ≡ all
-  turn_some l e = goes_on front (record { at = at; bytes = line }) (raw_past (at + (length line + newline)) (drop (at + (length line + newline)) text) 0) l all e here
-
-  pub turn_none : line_of (record { at = at; bytes = line }) ≡ Ok None → found_from front (at + (length line + newline)) text ≡ all
-  turn_none e = passes front (record { at = at; bytes = line }) (raw_past (at + (length line + newline)) (drop (at + (length line + newline)) text) 0) all e here
-
-  pub turn_err : (fault : TextFault) → line_of (record { at = at; bytes = line }) ≡ Err fault → all ≡ Err fault
-  turn_err fault e = stops front (record { at = at; bytes = line }) (raw_past (at + (length line + newline)) (drop (at + (length line + newline)) text) 0) fault all e here
+-- and it has a byte, or its newline does
+pub first_goes : (text line behind : List ℕ) (len newline : ℕ) → 0 < length text → len ≡ logical_len text → behind ≡ drop len text → newline ≡ newline_len behind → length line ≡ len → 0 < length line + newline
+first_goes text line behind len newline h l b n m =
+    let p = progress text (begins_with hash (drop (indent_len text) text)) h refl in
+    let e : newline ≡ newline_len (drop (logical_len text) text) = n ∙ ap newline_len (b ∙ ap (λ (k : ℕ). drop k text) l) in
+    omega (arith, p, e, m, l)
 
 -- no newline begins where neither this byte nor the next is a line feed
 no_newline : (b : ℕ) (rest : List ℕ) → b ≢ line_feed → begins_with line_feed rest ≡ false → begins_newline (b ∷ rest) ≡ false

@@ -10,8 +10,8 @@ use Rattle.plan_text.specs.declared.piece_reader.Mode.{Mode}
 use Rattle.plan_text.specs.declared.piece_reader.Gather.{Gather}
 use Rattle.plan_text.specs.declared.piece_reader.Piece.{Piece}
 use Rattle.plan_text.specs.declared.piece_reader.Piece.TheVariants.{Literal, Reference}
-use Rattle.plan_text.specs.Pieces.{Sign, Byte, onto, all_onto, in_front, sign_at, pieces_past}
-use Rattle.plan_text.specs.Gathering.{is_special, bytes_onto, whole, gathered, Gathers}
+use Rattle.plan_text.specs.Pieces.{whole, Sign, Byte, onto, all_onto, in_front, sign_at, pieces_past}
+use Rattle.plan_text.specs.Gathering.{is_special, bytes_onto, gathered, Gathers}
 
 -- what was gathered, in front of what is read of the rest
 abbrev pub with_front : Gather → Result (List Piece) TextFault → Result (List Piece) TextFault

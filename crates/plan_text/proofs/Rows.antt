@@ -1,12 +1,13 @@
 -- Worked examples of the definitions.
-use Rattle.std.proofs.Common.{◌≡◌, ℕ, [], ◌∷◌, ◌++◌, Ok, Err, refl}
+use Rattle.std.proofs.Common.{◌≡◌, ℕ, [], ◌∷◌, ◌++◌, true, false, Some, None, Ok, Err, refl}
 use Rattle.std.specs.Prelude.{codes}
 use Rattle.plan_text.specs.declared.fault.TextFault.TheVariants.{EmptyPath, BadEscape, TabBlank, NulByte}
 use Rattle.plan_text.specs.declared.piece_reader.Mode.TheVariants.{Path, Value}
 use Rattle.plan_text.specs.declared.piece_reader.Piece.TheVariants.{Literal, Reference}
-use Rattle.plan_text.specs.Pieces.{pieces_of}
-use Rattle.plan_text.specs.Path.{canonical_of}
-use Rattle.plan_text.specs.Lines.{lines_of}
+use Rattle.plan_text.specs.Numerals.{number_in}
+use Rattle.plan_text.specs.Pieces.{escaped, pieces_of, whole}
+use Rattle.plan_text.specs.Path.{canonical_of, is_ordinary}
+use Rattle.plan_text.specs.Lines.{lines_of, raw_lines}
 use Rattle.plan_text.specs.declared.line_reader.Line.{Line}
 
 path_1 : canonical_of (codes "a/../../b//./c/") ≡ Ok (codes "../b/c")
@@ -141,3 +142,37 @@ piece_16 = refl
 line_9 : lines_of (97 ∷ 13 ∷ 98 ∷ 10 ∷ 99 ∷ []) ≡ Ok (line 0 0 3 ∷ line 0 4 5 ∷ [])
 unfolding line
 line_9 = refl
+
+-- bytes that are escaped, and what they are then
+escape_1 : escaped (codes "a b$c:d") ≡ codes "a$ b$$c$:d"
+escape_1 = refl
+
+escape_2 : pieces_of Path (codes "a$ b$$c$:d") ≡ Ok (whole (codes "a b$c:d"))
+escape_2 = refl
+
+-- numbers in digits: a bound, zeros in front, and what is none
+number_1 : number_in 1000000 (codes "1000000") ≡ Some 1000000
+number_1 = refl
+
+number_2 : number_in 1000000 (codes "1000001") ≡ None
+number_2 = refl
+
+number_3 : number_in 9 (codes "007") ≡ Some 7
+number_3 = refl
+
+number_4 : number_in 9 [] ≡ None
+number_4 = refl
+
+number_5 : number_in 9 (codes "1x") ≡ None
+number_5 = refl
+
+-- ordinary parts
+part_1 : is_ordinary (codes "..a") ≡ true
+part_1 = refl
+
+part_2 : is_ordinary (codes "..") ≡ false
+part_2 = refl
+
+-- the first line of a text, continued and ended by CR LF
+first_1 : raw_lines (codes "a$" ++ 10 ∷ codes "b" ++ 13 ∷ 10 ∷ codes "c") ≡ record { at = 0; bytes = codes "a$" ++ 10 ∷ codes "b" } ∷ record { at = 6; bytes = codes "c" } ∷ []
+first_1 = refl

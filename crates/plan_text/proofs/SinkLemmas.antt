@@ -1,15 +1,11 @@
 -- What a sink took where it stopped.
-use Rattle.std.proofs.Common.{◌≡◌, ◌++◌, ℕ, List, length, take, Option, Result, Ok, Err, sym, ap, subst, ◌∙◌, arith}
-use Rattle.std.proofs.lemmas.List.{length-append}
-use Rattle.std.proofs.KnownBytes.{Appends-kept}
+use Rattle.std.proofs.Common.{◌≡◌, ◌++◌, ℕ, ◌+◌, Bool, true, false, List, length, take, Option, sym, ap, subst, ◌∙◌, arith}
+use Rattle.std.proofs.lemmas.List.{length-append, take-append-le}
+use Rattle.std.proofs.KnownBytes.{Appends-kept, Appends-trans}
+use Rattle.std.proofs.Math.Seq.{take-append-add}
 use Rattle.std.specs.Io.KnownBytes.{Appends, Keeps}
-use Rattle.std.specs.Result.{OnErr}
-use Rattle.plan_text.specs.Sinks.{AppendsFront}
+use Rattle.plan_text.specs.Sinks.{AppendsFront, Writes}
 use lib.Seq.{take-append_seam}
-
-pub on_err : {T E P : Type 0} (r : Result T E) → P → OnErr r P
-on_err (Ok x) h = tt
-on_err (Err e) h = h
 
 -- after what was taken of the bytes, nothing more was
 pub stopped : (a b c : Option (List ℕ)) (done rest bytes : List ℕ) → done ++ rest ≡ bytes → Appends a b done → Keeps b c → AppendsFront a c bytes
@@ -17,3 +13,22 @@ stopped a b c done rest bytes e h k =
     let n = ap length e in
     let front : take (length done) bytes ≡ done = ap (take (length done)) (sym e) ∙ take-append_seam done rest in
     (length done, omega (arith, n, length-append done rest), subst (Appends a c) (sym front) (Appends-kept a b c done h k))
+
+-- a front of some bytes is one of more bytes
+front_longer : (a b : Option (List ℕ)) (xs ys : List ℕ) → AppendsFront a b xs → AppendsFront a b (xs ++ ys)
+front_longer a b xs ys h =
+    let n = length-append xs ys in
+    (h.0, omega (arith, h.1, n), subst (Appends a b) (sym (take-append-le h.0 xs ys h.1)) h.2)
+
+-- some bytes, and a front of those behind them
+front_behind : (a b c : Option (List ℕ)) (xs ys : List ℕ) → Appends a b xs → AppendsFront b c ys → AppendsFront a c (xs ++ ys)
+front_behind a b c xs ys h k =
+    let n = length-append xs ys in
+    (length xs + k.0, omega (arith, k.1, n), subst (Appends a c) (sym (take-append-add xs ys k.0)) (Appends-trans a b c xs (take k.0 ys) h k.2))
+
+pub join : (well : Bool) (a b c : ℕ × Option (List ℕ)) (xs ys : List ℕ) → Writes true a b xs → Writes well b c ys → Writes well a c (xs ++ ys)
+join true a b c xs ys h k = (k.0 ∙ h.0, Appends-trans a.1 b.1 c.1 xs ys h.1 k.1)
+join false a b c xs ys h k = (k.0 ∙ ap (λ (n : ℕ). n + 1) h.0, front_behind a.1 b.1 c.1 xs ys h.1 k.1)
+
+pub failed : (a b : ℕ × Option (List ℕ)) (xs ys : List ℕ) → Writes false a b xs → Writes false a b (xs ++ ys)
+failed a b xs ys h = (h.0, front_longer a.1 b.1 xs ys h.1)

@@ -34,11 +34,6 @@ abbrev pub bytes_onto : List ℕ → List Piece → List Piece
 bytes_onto [] more = more
 bytes_onto (b ∷ bytes) more = onto (Byte b) (bytes_onto bytes more)
 
--- one piece of these bytes, or none where there is no byte
-abbrev pub whole : List ℕ → List Piece
-whole [] = []
-whole (b ∷ bytes) = Literal (b ∷ bytes) ∷ []
-
 -- what was gathered, in front of the pieces that follow
 abbrev pub gathered : Gather → List Piece → List Piece
 gathered g more = g.done.items ++ bytes_onto g.literal more

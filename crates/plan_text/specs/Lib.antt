@@ -10,3 +10,6 @@ pub mod Reducing
 pub mod Outcome
 pub mod Faults
 pub mod Sinks
+pub mod Laws
+pub mod Limits
+pub mod Numerals

@@ -1,5 +1,5 @@
 -- The pieces of a path or a value: bytes that stand for themselves, and references to variables. (Ninja manual, "Lexical syntax": the escapes of `$`.)
-use Rattle.std.specs.Prelude.{ℕ, zero, suc, ◌+◌, ◌==◌, Bool, true, false, ◌||◌, ◌&&◌, List, [], ◌∷◌, length, drop, if◌then◌else◌, Result, Ok, Err, Option, Some, None}
+use Rattle.std.specs.Prelude.{ℕ, zero, suc, ◌+◌, ◌==◌, Bool, true, false, not, ◌||◌, ◌&&◌, List, [], ◌∷◌, length, drop, if◌then◌else◌, Result, Ok, Err, Option, Some, None}
 use Rattle.std.specs.List.{prefix_len, take_while}
 use Rattle.plan_text.specs.Bytes.{nul, tab, line_feed, carriage_return, space, dollar, colon, left_brace, right_brace, is_bare_name_byte, is_name_byte, is_space, begins_with}
 use Rattle.plan_text.specs.declared.fault.TextFault.{TextFault}
@@ -88,3 +88,17 @@ pieces_from mode at text = pieces_past mode at text 0
 -- the pieces of a text, or its first fault
 abbrev pub pieces_of : Mode → List ℕ → Result (List Piece) TextFault
 pieces_of mode text = pieces_from mode 0 text
+
+-- bytes as a text in which they stand for themselves: a `$` before each `$`, space and colon
+abbrev pub escaped : List ℕ → List ℕ
+escaped [] = []
+escaped (b ∷ rest) = if b == dollar || b == space || b == colon then dollar ∷ b ∷ escaped rest else b ∷ escaped rest
+
+-- whether a byte may stand there, if need be behind a `$`: no NUL, and no tab in a path
+abbrev pub is_allowed : Mode → ℕ → Bool
+is_allowed mode b = not (b == nul || b == tab && is_path mode)
+
+-- one piece of these bytes, or none where there is no byte
+abbrev pub whole : List ℕ → List Piece
+whole [] = []
+whole (b ∷ bytes) = Literal (b ∷ bytes) ∷ []

@@ -1,19 +1,16 @@
 //! The logical lines of a text.
 
-ghost use Rattle.std.specs.Prelude.{◌≡◌, ◌==◌, ◌<◌, ◌≤◌, ◌+◌, length};
-ghost use Rattle.std.specs.List.{position_or_len};
-ghost use Rattle.plan_text.specs.Bytes.{nul, begins_with};
+ghost use Rattle.std.specs.Prelude.{◌≡◌, take, ◌<◌, ◌≤◌, ◌+◌, length};
 ghost use Rattle.plan_text.specs.Lines as syntax;
 ghost use Rattle.plan_text.specs.Runs as runs;
 ghost use Rattle.plan_text.specs.Outcome.{Meets};
 
+use crate::byte_search::{begins, nul_at};
 use crate::fault::TextFault;
+use crate::limits::MAX_SOURCE;
 use crate::run_reader::{Unit, run_len};
 use memchr::{memchr, memchr3};
 use std::alloc::Global;
-
-/// The most bytes that a source may have: 16 MiB.
-const MAX_SOURCE: usize = 16_777_216;
 
 /// A logical line that is neither blank nor a comment. Offsets and counts are of bytes, from 0 at the front of the text.
 #[derive(Clone, Copy, Debug, PartialEq, Eq)]
@@ -24,15 +21,6 @@ pub struct Line {
     pub start: u64,
     /// The offset of the newline that ends it, or of the end of the text.
     pub end: u64,
-}
-
-fn begins(text: &[u8], b: u8) -> bool
-    ensures { result ≡ begins_with b text.now }
-{
-    match text {
-        [] => false,
-        [first, ..] => *first == b,
-    }
 }
 
 /// How many bytes the newline has that a text begins with: 1 for LF, 2 for CR LF, 0 where there is none.
@@ -150,11 +138,17 @@ pub fn logical_len(text: &[u8]) -> usize
     }
 }
 
-/// The place of the first NUL, or the length.
-fn nul_at(text: &[u8]) -> usize
-    ensures { result ≡ position_or_len (λ b. b == nul) text.now }
+/// The logical line that a text begins with, without the newline that ends it, and how many bytes it has with its newline. A text with a byte has a line.
+pub fn split_line(text: &[u8]) -> (&[u8], usize)
+    requires { 0 < length text.now }
+    ensures line { syntax.IsFirstLine text.now result.0.now result.1 }
+    ensures front { result.0.now ≡ take (length result.0.now) text.now }
+    ensures goes { 0 < result.1 }
+    ensures len { length result.0.now ≤ result.1 }
+    ensures within { result.1 ≤ length text.now }
 {
-    text.iter().take_while(|b| **b != 0).count()
+    let (line, behind) = text.split_at(logical_len(text));
+    (line, line.len() + newline_len(behind))
 }
 
 /// What the logical line at this place is; nothing where it is blank or a comment.
@@ -195,12 +189,11 @@ pub fn lines(alloc: Global, text: &[u8]) -> Result<Vec<Line>, TextFault>
     let mut found = Vec::new(alloc);
     let mut at = 0;
     while at < text.len() {
-        let rest = &text[at..];
-        let (line, behind) = rest.split_at(logical_len(rest));
+        let (line, len) = split_line(&text[at..]);
         if let Some(line) = line_of(at, line)? {
             found.push(line)?;
         }
-        at += line.len() + newline_len(behind);
+        at += len;
     }
     Ok(found)
 }

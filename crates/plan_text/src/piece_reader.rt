@@ -3,9 +3,9 @@
 ghost use Rattle.std.specs.Prelude.{◌≡◌, ◌==◌, ◌<◌, ◌≤◌, ◌+◌, ◌^◌, ◌++◌, [], IfOk, IfSome, OnOk, map, length, drop, slice_index};
 ghost use Rattle.std.specs.List.{prefix_len, position_or_len, take_while};
 ghost use Rattle.plan_text.specs.Bytes as bytes;
-ghost use Rattle.plan_text.specs.Pieces.{pieces_of, pieces_from};
+ghost use Rattle.plan_text.specs.Pieces.{pieces_of, pieces_from, whole};
 ghost use Rattle.plan_text.specs.Pieces as syntax;
-ghost use Rattle.plan_text.specs.Gathering.{seen, read, sign_of, is_special, Gathers, gathered, whole};
+ghost use Rattle.plan_text.specs.Gathering.{seen, read, sign_of, is_special, Gathers, gathered};
 ghost use Rattle.plan_text.specs.Outcome.{Meets};
 
 use crate::fault::TextFault;

@@ -1,8 +1,8 @@
 //! What bytes are written to.
 
-ghost use Rattle.std.specs.Prelude.{◌≡◌, ◌+◌, ◌<◌, ◌≤◌, ℕ, List, Option, length, IfOk, OnOk, OnErr, is_ok, if◌then◌else◌};
-ghost use Rattle.std.specs.Io.KnownBytes.{WriteAppends, Appends};
-ghost use Rattle.plan_text.specs.Sinks.{AppendsFront};
+ghost use Rattle.std.specs.Prelude.{◌≡◌, ◌+◌, ◌<◌, ◌≤◌, ℕ, List, Option, length, IfOk, is_ok, if◌then◌else◌};
+ghost use Rattle.std.specs.Io.KnownBytes.{WriteAppends};
+ghost use Rattle.plan_text.specs.Sinks.{Writes};
 
 use thiserror::Error;
 
@@ -29,10 +29,7 @@ pub trait Sink {
 
 /// Writes all of the bytes. At the first failure it stops, and the sink took the bytes in front of it.
 pub fn write_all<W: Sink>(sink: &mut W, bytes: &[u8]) -> Result<(), SinkFault>
-    ensures kept { OnOk result (W.failures sink.new ≡ W.failures sink.old) }
-    ensures taken { OnOk result (Appends (W.taken sink.old) (W.taken sink.new) bytes.now) }
-    ensures failed { OnErr result (W.failures sink.new ≡ W.failures sink.old + 1) }
-    ensures front { OnErr result (AppendsFront (W.taken sink.old) (W.taken sink.new) bytes.now) }
+    ensures { Writes (is_ok result) (W.failures sink.old, W.taken sink.old) (W.failures sink.new, W.taken sink.new) bytes.now }
 {
     let mut rest = bytes;
     while !rest.is_empty() {

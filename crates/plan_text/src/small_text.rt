@@ -58,7 +58,7 @@ impl SmallText {
     }
 
     /// The same bytes and these behind them.
-    pub fn with(self, alloc: Global, more: &[u8]) -> Result<SmallText, AllocError>
+    pub(crate) fn with(self, alloc: Global, more: &[u8]) -> Result<SmallText, AllocError>
         ensures { IfOk result (λ text. text ≡ self ++ more.now) }
     {
         let held = match self.held {

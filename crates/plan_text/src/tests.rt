@@ -1,6 +1,7 @@
 //! Each public function once, on values from outside.
 
 use super::*;
+use std::alloc::Global;
 use std::io::{self, Write};
 use std::test::Fail;
 
@@ -127,6 +128,96 @@ fn logical_lines(rt: HostRuntime) -> Result<(), Fail> {
     let fault = lines(rt.alloc(), b"a\n \tb");
     assert!(rt; matches!(fault, Err(TextFault::TabBlank(3))));
     Ok(())
+}
+
+#[test]
+fn refused_lines(rt: HostRuntime) -> Result<(), Fail> {
+    let fault = lines(rt.alloc(), b"a\n# \0");
+    assert!(rt; matches!(fault, Err(TextFault::NulByte(4))));
+    let fault = lines(rt.alloc(), b"a\n  b\0");
+    assert!(rt; matches!(fault, Err(TextFault::NulByte(5))));
+    let fault = lines(rt.alloc(), b"a\n\t# \0");
+    assert!(rt; matches!(fault, Err(TextFault::TabBlank(2))));
+    let long = vec![in rt.alloc(); b'#'; 16_777_217]?;
+    let fault = lines(rt.alloc(), &long);
+    assert!(rt; matches!(fault, Err(TextFault::SourceTooLong(16_777_216))));
+    assert!(rt; lines(rt.alloc(), &long[1..])?.is_empty());
+    Ok(())
+}
+
+#[test]
+fn refused_texts(rt: HostRuntime) {
+    for (text, mode, fault) in [
+        (b"x = a$!".as_slice(), Mode::Value, TextFault::BadEscape(5)),
+        (b"a${b".as_slice(), Mode::Path, TextFault::BadEscape(1)),
+        (b"ab\tc".as_slice(), Mode::Path, TextFault::TabBlank(2)),
+        (b"abc\0".as_slice(), Mode::Value, TextFault::NulByte(3)),
+    ] {
+        let refused = match pieces(rt.alloc(), text, mode) {
+            Ok(_) => None,
+            Err(found) => Some(found),
+        };
+        assert_eq!(rt; refused, Some(fault));
+    }
+}
+
+#[test]
+fn numbers_in_digits(rt: HostRuntime) {
+    assert_eq!(rt; number_in(b"1000000", 1_000_000), Some(1_000_000));
+    assert_eq!(rt; number_in(b"1000001", 1_000_000), None);
+    assert_eq!(rt; number_in(b"007", 7), Some(7));
+    assert_eq!(rt; number_in(b"", 9), None);
+    assert_eq!(rt; number_in(b"-1", 9), None);
+    assert_eq!(rt;
+        number_in(b"18446744073709551615", u64::MAX),
+        Some(u64::MAX)
+    );
+    assert_eq!(rt; number_in(b"18446744073709551616", u64::MAX), None);
+}
+
+#[test]
+fn canonical_already(rt: HostRuntime) {
+    assert!(rt; is_canonical(b"/a/b.c"));
+    assert!(rt; is_canonical(b"a"));
+    assert!(rt; !is_canonical(b"a//b"));
+    assert!(rt; !is_canonical(b"a/"));
+    assert!(rt; !is_canonical(b""));
+}
+
+/// Two bytes, or the one fault that there is.
+fn two_bytes(alloc: Global) -> Result<Vec<u8>, Memory> {
+    let mut bytes = Vec::from_slice(alloc, b"a")?;
+    bytes.push(b'b')?;
+    Ok(bytes)
+}
+
+#[test]
+fn want_of_memory(rt: HostRuntime) {
+    match two_bytes(rt.alloc()) {
+        Ok(bytes) => assert_eq!(rt; bytes.as_slice(), b"ab".as_slice()),
+        Err(fault) => assert_eq!(rt; fault, Memory),
+    }
+}
+
+#[test]
+fn first_lines(rt: HostRuntime) {
+    let (line, size) = split_line(b"a$\nb\r\nc");
+    assert_eq!(rt; line, b"a$\nb".as_slice());
+    assert_eq!(rt; size, 6);
+    let (line, size) = split_line(b"\na");
+    assert_eq!(rt; line.len(), 0);
+    assert_eq!(rt; size, 1);
+    let (line, size) = split_line(b" # b$");
+    assert_eq!(rt; line.len(), 5);
+    assert_eq!(rt; size, 5);
+}
+
+#[test]
+fn bytes_found(rt: HostRuntime) {
+    assert!(rt; begins(b"ab", b'a'));
+    assert!(rt; !begins(b"", 0));
+    assert_eq!(rt; nul_at(b"ab\0c\0"), 2);
+    assert_eq!(rt; nul_at(b"ab"), 2);
 }
 
 #[test]

@@ -1,6 +1,7 @@
 use Rattle.std.proofs.Common.{◌≡◌, ◌∷◌, ◌+◌, List, drop, ap, ◌∙◌, sym}
+use Rattle.plan_text.specs.Outcome.{each}
 use Rattle.plan_parse.specs.declared.statement.Binding.{Binding}
-use Rattle.plan_parse.specs.Statements.{each, member_at}
+use Rattle.plan_parse.specs.Statements.{member_at}
 use Rattle.plan_parse.specs.Members.{member_of, members_of}
 use Rattle.plan_parse.proofs.BlockLemmas.{in_front, one_more, members_from}
 use Rattle.plan_parse.proofs.block.bindings_at.Goals as goal

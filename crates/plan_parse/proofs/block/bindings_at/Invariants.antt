@@ -1,5 +1,6 @@
 use Rattle.std.proofs.Common.{◌≡◌, drop}
-use Rattle.plan_parse.specs.Statements.{each, member_at}
+use Rattle.plan_text.specs.Outcome.{each}
+use Rattle.plan_parse.specs.Statements.{member_at}
 use Rattle.plan_parse.specs.Members.{members_of}
 use Rattle.plan_parse.proofs.BlockLemmas.{in_front}
 use Rattle.plan_parse.proofs.block.bindings_at.Given as goal

@@ -1,7 +1,8 @@
-use Rattle.std.proofs.Common.{◌≡◌, ◌++◌, ◌-◌, ℕ, List, length, take, drop, ap, ◌∙◌, append_assoc}
+use Rattle.std.proofs.Common.{◌≡◌, ◌++◌, ◌+◌, ◌-◌, ℕ, List, length, take, drop, ap, ◌∙◌, append_assoc}
 use Rattle.std.proofs.KnownBytes.{Appends-trans}
+use Rattle.std.proofs.lemmas.Result.{err_from_is_err_and}
 use Rattle.std.proofs.lemmas.List.{take-append-drop, take_rest}
-use Rattle.plan_text.proofs.SinkLemmas.{on_err, stopped}
+use Rattle.plan_text.proofs.SinkLemmas.{stopped}
 use Rattle.plan_text.proofs.sink.write_all.Goals as goal
 
 pub loop-rest-preserved : goal.loop-rest-preserved
@@ -18,7 +19,8 @@ loop-rest-preserved g c =
       );
     }
 
-pub returns-in_err-n-clause-front : goal.returns-in_err-n-clause-front
-returns-in_err-n-clause-front g c =
+pub returns-in_err-n : goal.returns-in_err-n
+returns-in_err-n g c =
     let before = c.loop-rest.invariant.taken in
-    on_err c.from_residual.result (stopped _ _ _ before.0 c.loop-rest.rest.now _ before.1 before.2 c.in_err-n.ensures.taken)
+    let p = err_from_is_err_and c.from_residual.result c.from_residual.ensures.1 in
+    rw p.1 (c.in_err-n.ensures.failures ∙ ap (λ (n : ℕ). n + 1) c.loop-rest.invariant.kept, stopped _ _ _ before.0 c.loop-rest.rest.now _ before.1 before.2 c.in_err-n.ensures.taken)

@@ -1,0 +1,5 @@
+use Rattle.plan_text.proofs.CoverLemmas.{covers}
+use Rattle.plan_text.proofs.laws.lines_cover.Goals as goal
+
+pub returns : goal.returns
+returns c text = covers 0 text

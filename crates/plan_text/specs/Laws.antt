@@ -1,0 +1,28 @@
+-- What holds of all texts.
+use Rattle.std.specs.Prelude.{◌≡◌, ◌<◌, ◌≤◌, ℕ, Bool, true, false, List, ◌++◌, length, Option, Ok}
+use Rattle.plan_text.specs.Path.{canonical_of}
+use Rattle.std.specs.List.{list_all}
+use Rattle.plan_text.specs.declared.piece_reader.Mode.{Mode}
+use Rattle.plan_text.specs.Lines.{AreLinesOf, raw_lines}
+use Rattle.plan_text.specs.Pieces.{escaped, is_allowed, pieces_of, whole}
+use Rattle.plan_text.specs.Sinks.{Writes}
+
+-- a canonical path is canonical itself, has a byte, and is no longer than what it was made of
+abbrev pub CanonicalStays : Type 0
+CanonicalStays = (path form : List ℕ) → canonical_of path ≡ Ok form → (canonical_of form ≡ Ok form) × (0 < length form) × (length form ≤ length path)
+
+-- a write behind one that is well is one write of the bytes of both
+abbrev pub WritesJoin : Type 0
+WritesJoin = (well : Bool) (a b c : ℕ × Option (List ℕ)) (xs ys : List ℕ) → Writes true a b xs → Writes well b c ys → Writes well a c (xs ++ ys)
+
+-- a write that failed is one of more bytes that failed
+abbrev pub FailedWriteStays : Type 0
+FailedWriteStays = (a b : ℕ × Option (List ℕ)) (xs ys : List ℕ) → Writes false a b xs → Writes false a b (xs ++ ys)
+
+-- the logical lines of a text and the newlines that end them, joined, are the text: no byte is passed over, and none is read twice
+abbrev pub LinesCover : Type 0
+LinesCover = (text : List ℕ) → AreLinesOf 0 (raw_lines text) text
+
+-- bytes that are escaped are read as those bytes
+abbrev pub EscapedIsRead : Type 0
+EscapedIsRead = (mode : Mode) (bytes : List ℕ) → list_all (is_allowed mode) bytes ≡ true → pieces_of mode (escaped bytes) ≡ Ok (whole bytes)

@@ -1,0 +1,23 @@
+-- Numbers in digits.
+use Rattle.std.specs.Prelude.{ℕ, ◌+◌, ◌-◌, ◌*◌, ◌==◌, nat_le, Bool, not, ◌&&◌, List, [], ◌∷◌, length, if◌then◌else◌, Option, Some, None}
+use Rattle.std.specs.List.{list_all}
+
+abbrev pub is_digit : ℕ → Bool
+is_digit b = nat_le 48 b && nat_le b 57
+
+-- a digit or more, and nothing else
+abbrev pub is_numeral : List ℕ → Bool
+is_numeral text = not (length text == 0) && list_all is_digit text
+
+-- the number that digits mean, behind those of this number
+abbrev pub number_past : ℕ → List ℕ → ℕ
+number_past n [] = n
+number_past n (b ∷ more) = number_past (n * 10 + (b - 48)) more
+
+-- the number that digits mean, where it is at most this
+abbrev pub at_most : ℕ → List ℕ → Option ℕ
+at_most most digits = if nat_le (number_past 0 digits) most then Some (number_past 0 digits) else None
+
+-- the number that a text says in digits, where it is at most this
+abbrev pub number_in : ℕ → List ℕ → Option ℕ
+number_in most text = if is_numeral text then at_most most text else None

@@ -1,0 +1,10 @@
+//! The most bytes of what is read and kept. These limits are this project's own choice.
+
+/// The most bytes of a source: 16 MiB.
+pub const MAX_SOURCE: usize = 16_777_216;
+
+/// The most bytes of a text that is kept, as a command: 1 MiB.
+pub const MAX_TEXT: usize = 1_048_576;
+
+/// The most bytes of a path.
+pub const MAX_PATH: usize = 4_096;
