@@ -3,7 +3,8 @@ pub mod Seen
 pub mod ScopedSeen
 pub mod Kept
 pub mod ScopeLemmas
-pub mod Expanding
+pub mod StepLemmas
+pub mod Settles
 pub mod CanonicalLemmas
 pub mod PathLemmas
 pub mod VariableLemmas

@@ -118,7 +118,7 @@ fn append_separator(out: &mut Vec<u8>, is_first: bool, separator: u8) -> Result<
     append(out, &[separator])
 }
 
-/// Appends paths as they are shown, this byte between each two.
+/// Appends paths as they are shown, this byte between each two. Behind a text that is too long nothing is kept, and no path is looked at.
 pub fn append_paths(
     out: &mut Vec<u8>,
     show: Show,
@@ -127,6 +127,9 @@ pub fn append_paths(
 ) -> Result<(), AllocError>
     ensures { OnOk result (kept out.new.items ≡ kept (out.old.items ++ join_with_byte separator (map (shown_as show) paths.now))) }
 {
+    if is_long(out) {
+        return Ok(());
+    }
     let mut is_first = true;
     for path in paths {
         append_separator(out, is_first, separator)?;
