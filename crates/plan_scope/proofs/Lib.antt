@@ -4,6 +4,7 @@ pub mod ScopedSeen
 pub mod Kept
 pub mod ScopeLemmas
 pub mod StepLemmas
+pub mod PlainTable
 pub mod Settles
 pub mod CanonicalLemmas
 pub mod PathLemmas
