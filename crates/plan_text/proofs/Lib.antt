@@ -5,3 +5,5 @@ pub mod PieceLemmas
 pub mod RunLemmas
 pub mod LineLemmas
 pub mod SinkLemmas
+pub mod CanonicalLemmas
+pub mod CanonicalLaw

@@ -29,10 +29,10 @@ before-up p rest e f = rw (e, f) refl
 before-ordinary : (p : List ℕ) (rest : List (List ℕ)) → is_nothing p ≡ false → is_up p ≡ false → before p rest ≡ under p rest
 before-ordinary p rest e f = rw (e, f) refl
 
-under-up : (p q : List ℕ) (rest : List (List ℕ)) → is_up q ≡ true → under p (q ∷ rest) ≡ rest
+pub under-up : (p q : List ℕ) (rest : List (List ℕ)) → is_up q ≡ true → under p (q ∷ rest) ≡ rest
 under-up p q rest e = rw e refl
 
-under-ordinary : (p q : List ℕ) (rest : List (List ℕ)) → is_up q ≡ false → under p (q ∷ rest) ≡ p ∷ q ∷ rest
+pub under-ordinary : (p q : List ℕ) (rest : List (List ℕ)) → is_up q ≡ false → under p (q ∷ rest) ≡ p ∷ q ∷ rest
 under-ordinary p q rest e = rw e refl
 
 -- a part that is nothing changes nothing
@@ -60,7 +60,7 @@ AllUps-append [] b h k = k
 AllUps-append (x ∷ a) b h k = (h.0, h.1, AllUps-append a b h.2 k)
 
 -- ordinary parts stay
-reduced-ordinary : (ns : List (List ℕ)) → AllOrdinary ns → reduced ns ≡ ns
+pub reduced-ordinary : (ns : List (List ℕ)) → AllOrdinary ns → reduced ns ≡ ns
 reduced-ordinary [] h = refl
 reduced-ordinary (p ∷ []) h = before-ordinary p [] h.0 h.1
 reduced-ordinary (p ∷ q ∷ ns) h =
@@ -71,14 +71,14 @@ pub reduced-kept : (us ns : List (List ℕ)) → AllUps us → AllOrdinary ns �
 reduced-kept [] ns h k = reduced-ordinary ns k
 reduced-kept (u ∷ us) ns h k = ap (before u) (reduced-kept us ns h.2 k) ∙ before-up u (us ++ ns) h.0 h.1
 
-without_ups-ordinary : (ns : List (List ℕ)) → AllOrdinary ns → without_ups ns ≡ ns
+pub without_ups-ordinary : (ns : List (List ℕ)) → AllOrdinary ns → without_ups ns ≡ ns
 without_ups-ordinary [] h = refl
 without_ups-ordinary (p ∷ ns) h = rw h.1 refl
 
 without_ups-up : (u : List ℕ) (x : List (List ℕ)) → is_up u ≡ true → without_ups (u ∷ x) ≡ without_ups x
 without_ups-up u x e = rw e refl
 
-without_ups-kept : (us ns : List (List ℕ)) → AllUps us → AllOrdinary ns → without_ups (us ++ ns) ≡ ns
+pub without_ups-kept : (us ns : List (List ℕ)) → AllUps us → AllOrdinary ns → without_ups (us ++ ns) ≡ ns
 without_ups-kept [] ns h k = without_ups-ordinary ns k
 without_ups-kept (u ∷ us) ns h k = without_ups-up u (us ++ ns) h.1 ∙ without_ups-kept us ns h.2 k
 

@@ -10,3 +10,4 @@ pub mod Reducing
 pub mod Outcome
 pub mod Faults
 pub mod Sinks
+pub mod Laws

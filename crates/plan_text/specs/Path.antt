@@ -1,5 +1,5 @@
 -- Paths in canonical form: no part is empty or `.`, and `..` takes away the ordinary part before it.
-use Rattle.std.specs.Prelude.{ℕ, ◌==◌, Bool, true, false, List, [], ◌∷◌, if◌then◌else◌, Result, Ok, Err}
+use Rattle.std.specs.Prelude.{ℕ, ◌==◌, Bool, true, false, not, ◌&&◌, List, [], ◌∷◌, if◌then◌else◌, Result, Ok, Err}
 use Rattle.std.specs.List.{slice_split, join_with_byte}
 use Rattle.plan_text.specs.Bytes.{dot, slash}
 use Rattle.plan_text.specs.declared.fault.TextFault.{TextFault}
@@ -17,6 +17,10 @@ is_up [] = false
 is_up (b ∷ []) = false
 is_up (b ∷ c ∷ []) = if b == dot then c == dot else false
 is_up (b ∷ c ∷ d ∷ rest) = false
+
+-- whether a part is neither empty nor `.` nor `..`
+abbrev pub is_ordinary : List ℕ → Bool
+is_ordinary part = not (is_nothing part) && not (is_up part)
 
 -- an ordinary part in front of the parts that stay of what follows it: `..` takes it away
 abbrev pub under : List ℕ → List (List ℕ) → List (List ℕ)

@@ -12,10 +12,12 @@
 //! The rules are those of the Ninja manual's section "Lexical syntax", and where it says nothing this project's own choice; each item says which.
 #![tactic(auto)]
 
+mod canonical_paths;
 mod counted;
 mod fault;
 mod front;
 mod items;
+mod laws;
 mod line_reader;
 mod path;
 mod piece_list;
@@ -25,9 +27,11 @@ mod sink;
 mod small_text;
 mod tally;
 
+pub use canonical_paths::is_canonical;
 pub use counted::Counted;
 pub use fault::TextFault;
 pub use items::Items;
+pub use laws::canonical_stays;
 pub use line_reader::{Line, gap_len, indent_len, lines, logical_len, newline_len};
 pub use path::canonical;
 pub use piece_list::PieceList;
