@@ -15,6 +15,8 @@ struct Text {
 impl Source for Text {
     ghost gives = { λ _ _ _. Unit {0} };
 
+    ghost fails = { λ _ _. ⊥ };
+
     ghost failures = { λ _. 0 };
 
     fn read(&mut self, alloc: Global, _path: &[u8]) -> Result<Vec<u8>, SourceFault> {

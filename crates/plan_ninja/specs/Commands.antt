@@ -83,6 +83,6 @@ pub record FailsToWrite (loads : MayLoad) (path : Text) (old new : Option (List 
   pub failed : now ≡ before + 1
   pub says : fault ≡ output_failed
 
--- what may be loaded by what a source may give, where its count of failed reads was this before and is that now
-abbrev pub loading_by : (gives : Text → Option (List ℕ) → Type 0) → (before now : ℕ) → MayLoad
-loading_by gives before now = LoadsFirst gives (IsMissing gives before now)
+-- what may be loaded by what a source may give and which of its reads may fail, where its count of failed reads was this before and is that now
+abbrev pub loading_by : (gives : Text → Option (List ℕ) → Type 0) → (fails : Text → Type 0) → (before now : ℕ) → MayLoad
+loading_by gives fails before now = LoadsFirst gives (IsMissing gives fails before now)

@@ -13,9 +13,9 @@ use std::mem::forget;
 
 /// What the manifest at the path means.
 fn manifest_at<S: Source>(alloc: Global, source: &mut S, path: &[u8]) -> Result<Manifest, PlanFault>
-    ensures meant { IfOk result (λ manifest. IsMeant (loading_by (S.gives source.old) (S.failures source.old) (S.failures source.new)) path.now manifest) }
+    ensures meant { IfOk result (λ manifest. IsMeant (loading_by (S.gives source.old) (S.fails source.old) (S.failures source.old) (S.failures source.new)) path.now manifest) }
     ensures read { OnOk result (S.failures source.new ≡ S.failures source.old) }
-    ensures refused { IfErr result (λ fault. IsRefused (loading_by (S.gives source.old) (S.failures source.old) (S.failures source.new)) path.now fault) }
+    ensures refused { IfErr result (λ fault. IsRefused (loading_by (S.gives source.old) (S.fails source.old) (S.failures source.old) (S.failures source.new)) path.now fault) }
 {
     let tree = match load(alloc, source, path) {
         Ok(tree) => tree,
@@ -47,12 +47,12 @@ pub fn do_commands<S: Source, W: Sink>(
     path: &[u8],
     out: &mut W,
 ) -> Result<u8, PlanFault>
-    ensures done { IfOk result (λ status. (status ≡ 0) × WritesAll (loading_by (S.gives source.old) (S.failures source.old) (S.failures source.new)) path.now (W.taken out.old) (W.taken out.new)) }
+    ensures done { IfOk result (λ status. (status ≡ 0) × WritesAll (loading_by (S.gives source.old) (S.fails source.old) (S.failures source.old) (S.failures source.new)) path.now (W.taken out.old) (W.taken out.new)) }
     ensures kept { OnOk result (W.failures out.new ≡ W.failures out.old) }
     ensures read { OnOk result (S.failures source.new ≡ S.failures source.old) }
     ensures refused { IfErr result (λ fault.
-        ((out.new ≡ out.old) × IsRefused (loading_by (S.gives source.old) (S.failures source.old) (S.failures source.new)) path.now fault)
-        ⊎ FailsToWrite (loading_by (S.gives source.old) (S.failures source.old) (S.failures source.new)) path.now (W.taken out.old) (W.taken out.new) (W.failures out.old) (W.failures out.new) fault) }
+        ((out.new ≡ out.old) × IsRefused (loading_by (S.gives source.old) (S.fails source.old) (S.failures source.old) (S.failures source.new)) path.now fault)
+        ⊎ FailsToWrite (loading_by (S.gives source.old) (S.fails source.old) (S.failures source.old) (S.failures source.new)) path.now (W.taken out.old) (W.taken out.new) (W.failures out.old) (W.failures out.new) fault) }
 {
     let manifest = manifest_at(alloc, source, path)?;
     check_graph(alloc, &manifest)?;

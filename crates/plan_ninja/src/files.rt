@@ -46,6 +46,8 @@ impl<R: Files> Source for FileSource<'_, R> {
 
     ghost gives = { λ _ _ _. Unit {0} };
 
+    ghost fails = { λ _ _. Unit {0} };
+
     ghost failures = { λ s. s.failures.count };
 
     fn read(&mut self, alloc: Global, path: &[u8]) -> Result<Vec<u8>, SourceFault> {

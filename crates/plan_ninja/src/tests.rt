@@ -32,6 +32,8 @@ impl OneFile {
 impl Source for OneFile {
     ghost gives = { λ _ _ _. Unit {0} };
 
+    ghost fails = { λ _ _. Unit {0} };
+
     ghost failures = { λ s. s.failures.count };
 
     fn read(&mut self, alloc: Global, _path: &[u8]) -> Result<Vec<u8>, SourceFault> {

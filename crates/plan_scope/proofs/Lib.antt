@@ -3,7 +3,9 @@ pub mod Seen
 pub mod ScopedSeen
 pub mod Kept
 pub mod ScopeLemmas
-pub mod Expanding
+pub mod StepLemmas
+pub mod PlainTable
+pub mod Settles
 pub mod CanonicalLemmas
 pub mod PathLemmas
 pub mod VariableLemmas

@@ -18,6 +18,7 @@ use Rattle.plan_scope.specs.Scopes.{Text, Name, Scoped, look, expand, bound_by, 
 use Rattle.plan_scope.specs.Frames.{kept, AgreesIn}
 use Rattle.plan_scope.specs.Loading.{Takes, Next, GoesOn, LoadsLine, LoadsAll, LoadsParsed, LoadsFile, LoadsWithin, LoadsFirst, Loads, IsMissing, cause_of_path, cause_to_load, scopes_in, taken_by}
 use Rattle.plan_scope.specs.Edges.{first_of}
+use Rattle.plan_scope.specs.Sources.{SameFiles}
 use Rattle.plan_scope.specs.Taking.{Answers, LoadsOne, IsTaken, never, takes_in}
 use Rattle.plan_scope.proofs.ScopeLemmas.{agrees_more}
 use Rattle.plan_scope.proofs.Kept.{Same, same_from_kept}
@@ -85,23 +86,30 @@ unfolding LoadsWithin
 file_is g m zero path scopes above out r = r
 file_is g m (suc left) path scopes above out r = r
 
-missing_wider : (g h : Gives) (b c n : ℕ) → ((p : Text) (bytes : Option (List ℕ)) → g p bytes → h p bytes) → b ≡ c → (p : Text) → IsMissing g b n p → IsMissing h c n p
-missing_wider g h b c n gh e p (inl r) = inl (gh p None r.0, r.1 ∙ e)
-missing_wider g h b c n gh e p (inr r) = inr (r ∙ ap (λ (x : ℕ). x + 1) e)
+missing_wider : (g h : Gives) (f k : Missing) (b c n : ℕ) → ((p : Text) (bytes : Option (List ℕ)) → g p bytes → h p bytes) → ((p : Text) → f p → k p) → b ≡ c → (p : Text) → IsMissing g f b n p → IsMissing h k c n p
+missing_wider g h f k b c n gh fk e p (inl r) = inl (gh p None r.0, r.1 ∙ e)
+missing_wider g h f k b c n gh fk e p (inr r) = inr (fk p r.0, r.1 ∙ ap (λ (x : ℕ). x + 1) e)
+
+-- such sources, one after the other
+pub same_files : (g h i : Gives) (e f k : Missing) → SameFiles g e h f → SameFiles h f i k → SameFiles g e i k
+same_files g h i e f k a b = (
+  λ p bytes. (λ x. (b.0 p bytes).0 ((a.0 p bytes).0 x), λ x. (a.0 p bytes).1 ((b.0 p bytes).1 x)),
+  λ p. (λ x. (b.1 p).0 ((a.1 p).0 x), λ x. (a.1 p).1 ((b.1 p).1 x)),
+)
 
 -- an answer by what is loaded, where the same count of failed reads stood before
-pub answers_wider : (g h : Gives) (b c n : ℕ) (R S : Missing → Outcome → Type 0) (result : Outcome) → ((p : Text) (bytes : Option (List ℕ)) → g p bytes → h p bytes) → b ≡ c
-    → ((m k : Missing) → ((p : Text) → m p → k p) → R m result → S k result) → Answers g b n R result → Answers h c n S result
-answers_wider g h b c n R S (Ok lines) gh e f r = (r.0 ∙ e, f never never (λ p x. x) r.1)
-answers_wider g h b c n R S (Err LoadMemory) gh e f r = r ∙ e
-answers_wider g h b c n R S (Err (SourceMissing path)) gh e f r = f (IsMissing g b n) (IsMissing h c n) (missing_wider g h b c n gh e) r
-answers_wider g h b c n R S (Err (Parse path fault)) gh e f r = (r.0 ∙ e, f never never (λ p x. x) r.1)
-answers_wider g h b c n R S (Err (Refused path offset cause)) gh e f r = (r.0 ∙ e, f never never (λ p x. x) r.1)
-answers_wider g h b c n R S (Err Memory) gh e f r = (r.0 ∙ e, f never never (λ p x. x) r.1)
+pub answers_wider : (g h : Gives) (f k : Missing) (b c n : ℕ) (R S : Missing → Outcome → Type 0) (result : Outcome) → ((p : Text) (bytes : Option (List ℕ)) → g p bytes → h p bytes) → ((p : Text) → f p → k p) → b ≡ c
+    → ((m o : Missing) → ((p : Text) → m p → o p) → R m result → S o result) → Answers g f b n R result → Answers h k c n S result
+answers_wider g h f k b c n R S (Ok lines) gh fk e w r = (r.0 ∙ e, w never never (λ p x. x) r.1)
+answers_wider g h f k b c n R S (Err LoadMemory) gh fk e w r = r ∙ e
+answers_wider g h f k b c n R S (Err (SourceMissing path)) gh fk e w r = w (IsMissing g f b n) (IsMissing h k c n) (missing_wider g h f k b c n gh fk e) r
+answers_wider g h f k b c n R S (Err (Parse path fault)) gh fk e w r = (r.0 ∙ e, w never never (λ p x. x) r.1)
+answers_wider g h f k b c n R S (Err (Refused path offset cause)) gh fk e w r = (r.0 ∙ e, w never never (λ p x. x) r.1)
+answers_wider g h f k b c n R S (Err Memory) gh fk e w r = (r.0 ∙ e, w never never (λ p x. x) r.1)
 
 -- a file that is missing
-pub missing_file : (g : Gives) (b n left : ℕ) (asked path : Text) (scopes : List ℕ) (above : List Line) → asked ≡ path → IsMissing g b n asked → LoadsWithin g (IsMissing g b n) left path scopes above (Err (SourceMissing path))
-missing_file g b n left asked path scopes above e r = file_is g (IsMissing g b n) left path scopes above (Err (SourceMissing path)) (inl (refl, subst (IsMissing g b n) e r))
+pub missing_file : (g : Gives) (f : Missing) (b n left : ℕ) (asked path : Text) (scopes : List ℕ) (above : List Line) → asked ≡ path → IsMissing g f b n asked → LoadsWithin g (IsMissing g f b n) left path scopes above (Err (SourceMissing path))
+missing_file g f b n left asked path scopes above e r = file_is g (IsMissing g f b n) left path scopes above (Err (SourceMissing path)) (inl (refl, subst (IsMissing g f b n) e r))
 
 -- a file that is no list of statements
 pub unparsed_file : (g : Gives) (left : ℕ) (asked path : Text) (scopes : List ℕ) (above : List Line) (fault : ParseFault) → asked ≡ path
@@ -111,19 +119,19 @@ unparsed_file g left asked path scopes above fault e r =
     (inr (r.0, subst (λ (p : Text). g p (Some r.0)) e r.1, subst (λ (x : Result (List Statement) ParseFault). LoadsParsed (takes_in g never left) left path scopes above x (Err (Parse path fault))) (sym r.2) refl))
 
 -- a file with these statements
-pub parsed_file : (g h : Gives) (b c n left : ℕ) (asked path : Text) (scopes : List ℕ) (above : List Line) (statements : List Statement) (result : Outcome) → asked ≡ path
-    → ((p : Text) (bytes : Option (List ℕ)) → g p bytes → h p bytes) → b ≡ c
+pub parsed_file : (g h : Gives) (f k : Missing) (b c n left : ℕ) (asked path : Text) (scopes : List ℕ) (above : List Line) (statements : List Statement) (result : Outcome) → asked ≡ path
+    → ((p : Text) (bytes : Option (List ℕ)) → g p bytes → h p bytes) → ((p : Text) → f p → k p) → b ≡ c
     → ((bytes : List ℕ) × h asked (Some bytes) × (statements_of bytes ≡ Ok statements))
-    → Answers g b n (λ missing out. LoadsAll (takes_in g missing left) left path scopes above statements out) result
-    → Answers h c n (λ missing out. LoadsWithin h missing left path scopes above out) result
-parsed_file g h b c n left asked path scopes above statements result e gh s r a =
-    answers_wider g h b c n (λ missing out. LoadsAll (takes_in g missing left) left path scopes above statements out) (λ missing out. LoadsWithin h missing left path scopes above out) result gh s
-    (λ m k mk x. file_is h k left path scopes above result
+    → Answers g f b n (λ missing out. LoadsAll (takes_in g missing left) left path scopes above statements out) result
+    → Answers h k c n (λ missing out. LoadsWithin h missing left path scopes above out) result
+parsed_file g h f k b c n left asked path scopes above statements result e gh fk s r a =
+    answers_wider g h f k b c n (λ missing out. LoadsAll (takes_in g missing left) left path scopes above statements out) (λ missing out. LoadsWithin h missing left path scopes above out) result gh fk s
+    (λ m o mo x. file_is h o left path scopes above result
     (inr (
       r.0,
       subst (λ (p : Text). h p (Some r.0)) e r.1,
-      subst (λ (y : Result (List Statement) ParseFault). LoadsParsed (takes_in h k left) left path scopes above y result) (sym r.2)
-          (all_wider (takes_in g m left) (takes_in h k left) (takes_wider g h m k gh mk left) left path scopes statements above result x),
+      subst (λ (y : Result (List Statement) ParseFault). LoadsParsed (takes_in h o left) left path scopes above y result) (sym r.2)
+          (all_wider (takes_in g m left) (takes_in h o left) (takes_wider g h m o gh mo left) left path scopes statements above result x),
     ))) a
 
 goes_then : (next more : Next) (inner : Outcome) (lines : List Line) (out : Outcome) → ((mid : List Line) → next mid (Ok lines) → more mid out) → GoesOn next inner (Ok lines) → GoesOn more inner out
@@ -175,30 +183,30 @@ goes_on g h left path scopes front s above mid lines gh r q =
     (one_wider g h never never gh (λ p x. x) left mid (record { path = path; scopes = scopes; offset = s.offset; kind = s.kind }) (Ok lines) q)
 
 -- a statement is not loaded
-pub stops : (g h : Gives) (b c n left : ℕ) (path : Text) (scopes : List ℕ) (front : List Statement) (s : Statement) (back all : List Statement) (above mid : List Line) (fault : ScopeFault)
-    → ((p : Text) (bytes : Option (List ℕ)) → g p bytes → h p bytes) → b ≡ c → front ++ s ∷ back ≡ all
+pub stops : (g h : Gives) (f k : Missing) (b c n left : ℕ) (path : Text) (scopes : List ℕ) (front : List Statement) (s : Statement) (back all : List Statement) (above mid : List Line) (fault : ScopeFault)
+    → ((p : Text) (bytes : Option (List ℕ)) → g p bytes → h p bytes) → ((p : Text) → f p → k p) → b ≡ c → front ++ s ∷ back ≡ all
     → LoadsAll (takes_in h never left) left path scopes above front (Ok mid)
-    → Answers g b n (λ missing out. LoadsOne (takes_in g missing left) left mid (record { path = path; scopes = scopes; offset = s.offset; kind = s.kind }) out) (Err fault)
-    → Answers h c n (λ missing out. LoadsAll (takes_in h missing left) left path scopes above all out) (Err fault)
-stops g h b c n left path scopes front s back all above mid fault gh e w r a =
+    → Answers g f b n (λ missing out. LoadsOne (takes_in g missing left) left mid (record { path = path; scopes = scopes; offset = s.offset; kind = s.kind }) out) (Err fault)
+    → Answers h k c n (λ missing out. LoadsAll (takes_in h missing left) left path scopes above all out) (Err fault)
+stops g h f k b c n left path scopes front s back all above mid fault gh fk e w r a =
     let l : Line = record { path = path; scopes = scopes; offset = s.offset; kind = s.kind } in
-    answers_wider g h b c n (λ missing out. LoadsOne (takes_in g missing left) left mid l out) (λ missing out. LoadsAll (takes_in h missing left) left path scopes above all out) (Err fault) gh e
-    (λ m k mk x. subst (λ (x : List Statement). LoadsAll (takes_in h k left) left path scopes above x (Err fault)) w
-    (all_then (takes_in h k left) left path scopes front (s ∷ back) above mid (Err fault)
-    (all_wider (takes_in h never left) (takes_in h k left) (takes_wider h h never k (λ p bytes x. x) (λ p x. absurd x) left) left path scopes front above (Ok mid) r)
-    (one_stops (takes_in h k left) (λ lines o. LoadsAll (takes_in h k left) left path scopes lines back o) mid l fault
+    answers_wider g h f k b c n (λ missing out. LoadsOne (takes_in g missing left) left mid l out) (λ missing out. LoadsAll (takes_in h missing left) left path scopes above all out) (Err fault) gh fk e
+    (λ m wide mw x. subst (λ (x : List Statement). LoadsAll (takes_in h wide left) left path scopes above x (Err fault)) w
+    (all_then (takes_in h wide left) left path scopes front (s ∷ back) above mid (Err fault)
+    (all_wider (takes_in h never left) (takes_in h wide left) (takes_wider h h never wide (λ p bytes x. x) (λ p x. absurd x) left) left path scopes front above (Ok mid) r)
+    (one_stops (takes_in h wide left) (λ lines o. LoadsAll (takes_in h wide left) left path scopes lines back o) mid l fault
     (cause_to_load left (look (bound_by mid) scopes) s.kind) (taken_by (look (bound_by mid) scopes) s.kind)
-    (one_wider g h m k gh mk left mid l (Err fault) x)))) a
+    (one_wider g h m wide gh mw left mid l (Err fault) x)))) a
 
 -- a line that takes in a file
-pub takes_file : (g : Gives) (b n left : ℕ) (above : List Line) (l : Line) (path : Text) (result : Outcome)
+pub takes_file : (g : Gives) (f : Missing) (b n left : ℕ) (above : List Line) (l : Line) (path : Text) (result : Outcome)
     → cause_to_load left (look (bound_by above) l.scopes) l.kind ≡ None → taken_by (look (bound_by above) l.scopes) l.kind ≡ Some path → 0 < left
-    → Answers g b n (λ missing out. LoadsWithin g missing (left - 1) path (scopes_in (length above + 1) l.scopes l.kind) (above ++ l ∷ []) out) result
-    → Answers g b n (λ missing out. LoadsOne (takes_in g missing left) left above l out) result
-takes_file g b n left above l path result none some lt a =
+    → Answers g f b n (λ missing out. LoadsWithin g missing (left - 1) path (scopes_in (length above + 1) l.scopes l.kind) (above ++ l ∷ []) out) result
+    → Answers g f b n (λ missing out. LoadsOne (takes_in g missing left) left above l out) result
+takes_file g f b n left above l path result none some lt a =
     let one : suc (left - 1) ≡ left = omega (arith, lt) in
-    answers_wider g g b b n (λ missing out. LoadsWithin g missing (left - 1) path (scopes_in (length above + 1) l.scopes l.kind) (above ++ l ∷ []) out)
-    (λ missing out. LoadsOne (takes_in g missing left) left above l out) result (λ p bytes x. x) refl
+    answers_wider g g f f b b n (λ missing out. LoadsWithin g missing (left - 1) path (scopes_in (length above + 1) l.scopes l.kind) (above ++ l ∷ []) out)
+    (λ missing out. LoadsOne (takes_in g missing left) left above l out) result (λ p bytes x. x) (λ p x. x) refl
     (λ m k mk x. subst (λ (c : Option Cause). LoadsLine (takes_in g k left) (λ lines out. out ≡ Ok lines) above l c (taken_by (look (bound_by above) l.scopes) l.kind) result) (sym none)
     (subst (λ (f : Option Text). LoadsLine (takes_in g k left) (λ lines out. out ≡ Ok lines) above l None f result) (sym some) (
       result,
@@ -299,19 +307,19 @@ first g m n name path scopes above out mn e f h r =
     (subst (λ (x : List Line). LoadsWithin g m 63 name scopes x out) h r)))
 
 -- a tree that is loaded
-pub tree_loaded : (g : Gives) (b n : ℕ) (name path : Text) (scopes : List ℕ) (above lines : List Line) (tree : Tree) → name ≡ path → scopes ≡ 0 ∷ [] → above ≡ [] → tree.lines ≡ lines
-    → Answers g b n (λ missing out. LoadsWithin g missing 63 name scopes above out) (Ok lines) → Loads g b n path (Ok tree)
-tree_loaded g b n name path scopes above lines tree e f h k r =
-    (r.0, subst (λ (x : List Line). LoadsFirst g (IsMissing g b n) path (Ok x)) (sym k) (first g never (IsMissing g b n) name path scopes above (Ok lines) (λ p x. absurd x) e f h r.1))
+pub tree_loaded : (g : Gives) (f : Missing) (b n : ℕ) (name path : Text) (scopes : List ℕ) (above lines : List Line) (tree : Tree) → name ≡ path → scopes ≡ 0 ∷ [] → above ≡ [] → tree.lines ≡ lines
+    → Answers g f b n (λ missing out. LoadsWithin g missing 63 name scopes above out) (Ok lines) → Loads g f b n path (Ok tree)
+tree_loaded g f b n name path scopes above lines tree e i h k r =
+    (r.0, subst (λ (x : List Line). LoadsFirst g (IsMissing g f b n) path (Ok x)) (sym k) (first g never (IsMissing g f b n) name path scopes above (Ok lines) (λ p x. absurd x) e i h r.1))
 
 -- a tree that isn't
-pub tree_failed : (g : Gives) (b n : ℕ) (name path : Text) (scopes : List ℕ) (above : List Line) (fault : ScopeFault) → name ≡ path → scopes ≡ 0 ∷ [] → above ≡ []
-    → Answers g b n (λ missing out. LoadsWithin g missing 63 name scopes above out) (Err fault) → Loads g b n path (Err fault)
-tree_failed g b n name path scopes above LoadMemory e f h r = r
-tree_failed g b n name path scopes above (SourceMissing file) e f h r = first g (IsMissing g b n) (IsMissing g b n) name path scopes above (Err (SourceMissing file)) (λ p x. x) e f h r
-tree_failed g b n name path scopes above (Parse file fault) e f h r = (r.0, first g never (IsMissing g b n) name path scopes above (Err (Parse file fault)) (λ p x. absurd x) e f h r.1)
-tree_failed g b n name path scopes above (Refused file offset cause) e f h r = (r.0, first g never (IsMissing g b n) name path scopes above (Err (Refused file offset cause)) (λ p x. absurd x) e f h r.1)
-tree_failed g b n name path scopes above Memory e f h r = (r.0, first g never (IsMissing g b n) name path scopes above (Err Memory) (λ p x. absurd x) e f h r.1)
+pub tree_failed : (g : Gives) (f : Missing) (b n : ℕ) (name path : Text) (scopes : List ℕ) (above : List Line) (fault : ScopeFault) → name ≡ path → scopes ≡ 0 ∷ [] → above ≡ []
+    → Answers g f b n (λ missing out. LoadsWithin g missing 63 name scopes above out) (Err fault) → Loads g f b n path (Err fault)
+tree_failed g f b n name path scopes above LoadMemory e i h r = r
+tree_failed g f b n name path scopes above (SourceMissing file) e i h r = first g (IsMissing g f b n) (IsMissing g f b n) name path scopes above (Err (SourceMissing file)) (λ p x. x) e i h r
+tree_failed g f b n name path scopes above (Parse file fault) e i h r = (r.0, first g never (IsMissing g f b n) name path scopes above (Err (Parse file fault)) (λ p x. absurd x) e i h r.1)
+tree_failed g f b n name path scopes above (Refused file offset cause) e i h r = (r.0, first g never (IsMissing g f b n) name path scopes above (Err (Refused file offset cause)) (λ p x. absurd x) e i h r.1)
+tree_failed g f b n name path scopes above Memory e i h r = (r.0, first g never (IsMissing g f b n) name path scopes above (Err Memory) (λ p x. absurd x) e i h r.1)
 
 pub none_left : {A : Type 0} (front back all : List A) → length back ≡ 0 → front ++ back ≡ all → front ≡ all
 none_left front [] all e f = sym (append-nil front) ∙ f

@@ -12,6 +12,7 @@ pub mod Uses
 pub mod Shows
 pub mod HeldUses
 pub mod Steps
+pub mod Settling
 pub mod Paths
 pub mod Parts
 pub mod Evaluation

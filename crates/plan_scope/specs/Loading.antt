@@ -99,13 +99,13 @@ max_files = 64
 abbrev pub LoadsFirst : (gives : Text → Option (List ℕ) → Type 0) → (missing : Text → Type 0) → Text → Result (List Line) ScopeFault → Type 0
 LoadsFirst gives missing path out = LoadsWithin gives missing 63 path (0 ∷ []) [] out
 
--- a read that failed raised the count; one that found no file didn't
-abbrev pub IsMissing : (gives : Text → Option (List ℕ) → Type 0) → (before now : ℕ) → Text → Type 0
-IsMissing gives before now path = (gives path None × (now ≡ before)) ⊎ (now ≡ before + 1)
+-- its read failed, and raised the count, or found no file, and didn't
+abbrev pub IsMissing : (gives : Text → Option (List ℕ) → Type 0) → (fails : Text → Type 0) → (before now : ℕ) → Text → Type 0
+IsMissing gives fails before now path = (gives path None × (now ≡ before)) ⊎ (fails path × (now ≡ before + 1))
 
--- What is answered for the manifest at a path, by what the source may give. Want of memory tells nothing; the count of failed reads rises where a read failed, and then alone.
-abbrev pub Loads : (gives : Text → Option (List ℕ) → Type 0) → (before now : ℕ) → Text → Result Tree ScopeFault → Type 0
-Loads gives before now path (Ok tree) = (now ≡ before) × LoadsFirst gives (IsMissing gives before now) path (Ok tree.lines)
-Loads gives before now path (Err LoadMemory) = now ≡ before
-Loads gives before now path (Err (SourceMissing file)) = LoadsFirst gives (IsMissing gives before now) path (Err (SourceMissing file))
-Loads gives before now path (Err fault) = (now ≡ before) × LoadsFirst gives (IsMissing gives before now) path (Err fault)
+-- What is answered for the manifest at a path, by what the source may give and which reads may fail. Want of memory tells nothing; the count of failed reads rises where a read failed, and then alone.
+abbrev pub Loads : (gives : Text → Option (List ℕ) → Type 0) → (fails : Text → Type 0) → (before now : ℕ) → Text → Result Tree ScopeFault → Type 0
+Loads gives fails before now path (Ok tree) = (now ≡ before) × LoadsFirst gives (IsMissing gives fails before now) path (Ok tree.lines)
+Loads gives fails before now path (Err LoadMemory) = now ≡ before
+Loads gives fails before now path (Err (SourceMissing file)) = LoadsFirst gives (IsMissing gives fails before now) path (Err (SourceMissing file))
+Loads gives fails before now path (Err fault) = (now ≡ before) × LoadsFirst gives (IsMissing gives fails before now) path (Err fault)

@@ -19,11 +19,11 @@ abbrev pub never : Text → Type 0
 never path = ⊥
 
 -- What is answered for lines, by what may be missing and what may then be answered. A fault of memory tells nothing; the count of failed reads rises where a read failed, and then alone.
-abbrev pub Answers : (gives : Text → Option (List ℕ) → Type 0) → (before now : ℕ) → ((missing : Text → Type 0) → Result (List Line) ScopeFault → Type 0) → Result (List Line) ScopeFault → Type 0
-Answers gives before now may (Ok lines) = (now ≡ before) × may never (Ok lines)
-Answers gives before now may (Err LoadMemory) = now ≡ before
-Answers gives before now may (Err (SourceMissing path)) = may (IsMissing gives before now) (Err (SourceMissing path))
-Answers gives before now may (Err fault) = (now ≡ before) × may never (Err fault)
+abbrev pub Answers : (gives : Text → Option (List ℕ) → Type 0) → (fails : Text → Type 0) → (before now : ℕ) → ((missing : Text → Type 0) → Result (List Line) ScopeFault → Type 0) → Result (List Line) ScopeFault → Type 0
+Answers gives fails before now may (Ok lines) = (now ≡ before) × may never (Ok lines)
+Answers gives fails before now may (Err LoadMemory) = now ≡ before
+Answers gives fails before now may (Err (SourceMissing path)) = may (IsMissing gives fails before now) (Err (SourceMissing path))
+Answers gives fails before now may (Err fault) = (now ≡ before) × may never (Err fault)
 
 -- the files that a file takes in, where so many more may be open
 abbrev pub takes_in : (gives : Text → Option (List ℕ) → Type 0) → (missing : Text → Type 0) → ℕ → Takes
@@ -37,11 +37,11 @@ LoadsOne takes left above l out =
     LoadsLine takes (λ lines out. out ≡ Ok lines) above l (cause_to_load left here l.kind) (taken_by here l.kind) out
 
 -- the statements of a file
-abbrev pub IsRead : (gives : Text → Option (List ℕ) → Type 0) → (before now : ℕ) → Text → Result (List Statement) ReadFault → Type 0
-IsRead gives before now path (Ok statements) = (now ≡ before) × (bytes : List ℕ) × gives path (Some bytes) × (statements_of bytes ≡ Ok statements)
-IsRead gives before now path (Err read.Missing) = IsMissing gives before now path
-IsRead gives before now path (Err (read.Parse fault)) = (now ≡ before) × (bytes : List ℕ) × gives path (Some bytes) × (statements_of bytes ≡ Err fault)
-IsRead gives before now path (Err read.Memory) = now ≡ before
+abbrev pub IsRead : (gives : Text → Option (List ℕ) → Type 0) → (fails : Text → Type 0) → (before now : ℕ) → Text → Result (List Statement) ReadFault → Type 0
+IsRead gives fails before now path (Ok statements) = (now ≡ before) × (bytes : List ℕ) × gives path (Some bytes) × (statements_of bytes ≡ Ok statements)
+IsRead gives fails before now path (Err read.Missing) = IsMissing gives fails before now path
+IsRead gives fails before now path (Err (read.Parse fault)) = (now ≡ before) × (bytes : List ℕ) × gives path (Some bytes) × (statements_of bytes ≡ Err fault)
+IsRead gives fails before now path (Err read.Memory) = now ≡ before
 
 -- the path of the file that a statement takes in, if it takes in any, or why it may not
 abbrev pub IsTaken : Option Cause → Option Text → Result (Option Text) LineFault → Type 0

@@ -50,12 +50,34 @@ pub fn append(out: &mut Vec<u8>, text: &[u8]) -> Result<(), AllocError>
     Ok(())
 }
 
+/// The bytes that a shell takes as they are: letters, digits and `_`, `+`, `-`, `.`, `/`.
+const PLAIN: [bool; 256] = [
+    false, false, false, false, false, false, false, false, false, false, false, false, false,
+    false, false, false, false, false, false, false, false, false, false, false, false, false,
+    false, false, false, false, false, false, false, false, false, false, false, false, false,
+    false, false, false, false, true, false, true, true, true, true, true, true, true, true, true,
+    true, true, true, true, false, false, false, false, false, false, false, true, true, true,
+    true, true, true, true, true, true, true, true, true, true, true, true, true, true, true, true,
+    true, true, true, true, true, true, true, false, false, false, false, true, false, true, true,
+    true, true, true, true, true, true, true, true, true, true, true, true, true, true, true, true,
+    true, true, true, true, true, true, true, true, false, false, false, false, false, false,
+    false, false, false, false, false, false, false, false, false, false, false, false, false,
+    false, false, false, false, false, false, false, false, false, false, false, false, false,
+    false, false, false, false, false, false, false, false, false, false, false, false, false,
+    false, false, false, false, false, false, false, false, false, false, false, false, false,
+    false, false, false, false, false, false, false, false, false, false, false, false, false,
+    false, false, false, false, false, false, false, false, false, false, false, false, false,
+    false, false, false, false, false, false, false, false, false, false, false, false, false,
+    false, false, false, false, false, false, false, false, false, false, false, false, false,
+    false, false, false, false, false, false, false, false, false, false, false, false, false,
+    false, false, false, false, false, false, false, false, false, false,
+];
+
 /// Whether a shell takes the byte as it is.
 fn is_plain(byte: u8) -> bool
     ensures { result ≡ is_plain byte }
 {
-    matches!(byte, b'a'..=b'z')
-        || matches!(byte, b'A'..=b'Z' | b'0'..=b'9' | b'_' | b'+' | b'-' | b'.' | b'/')
+    PLAIN[usize::from(byte)]
 }
 
 /// Appends a byte that stands between quotes.
@@ -118,7 +140,7 @@ fn append_separator(out: &mut Vec<u8>, is_first: bool, separator: u8) -> Result<
     append(out, &[separator])
 }
 
-/// Appends paths as they are shown, this byte between each two.
+/// Appends paths as they are shown, this byte between each two. Behind a text that is too long nothing is kept, and no path is looked at.
 pub fn append_paths(
     out: &mut Vec<u8>,
     show: Show,
@@ -127,6 +149,9 @@ pub fn append_paths(
 ) -> Result<(), AllocError>
     ensures { OnOk result (kept out.new.items ≡ kept (out.old.items ++ join_with_byte separator (map (shown_as show) paths.now))) }
 {
+    if is_long(out) {
+        return Ok(());
+    }
     let mut is_first = true;
     for path in paths {
         append_separator(out, is_first, separator)?;

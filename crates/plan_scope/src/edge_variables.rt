@@ -10,7 +10,7 @@ ghost use Rattle.plan_scope.specs.HeldUses.{use_of};
 ghost use Rattle.plan_scope.specs.Shows.{shown_as};
 
 use crate::appending::{Show, is_long};
-use crate::expansion::{Use, append_variable};
+use crate::expansion::{Use, append_whole};
 use crate::fault::LineFault;
 use crate::loader::copied;
 use crate::variables::Variables;
@@ -32,7 +32,7 @@ fn variable<'a>(
     ensures { IfOk result (λ text. option_map kept text ≡ option_map kept (variable (shown_as show) (use_of edge.now) name.now)) }
 {
     buffer.clear();
-    match append_variable(alloc, edge, show, edge.rule.len(), &[], name, buffer) {
+    match append_whole(alloc, edge, show, name, buffer) {
         Ok(()) => Ok(Some(copied(alloc, buffer)?)),
         Err(LineFault::Refused(_)) => Ok(None),
         Err(LineFault::Memory) => Err(AllocError),

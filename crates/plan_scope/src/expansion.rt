@@ -1,11 +1,12 @@
 //! The variables of a rule, expanded where the rule is used.
 
-ghost use Rattle.std.specs.Prelude.{◌≡◌, ◌∷◌, ℕ, List, IfOk, codes, length, map, option_map, bytes_eq, if◌then◌else◌};
-ghost use Rattle.std.specs.List.{join_with_byte, list_any};
+ghost use Rattle.std.specs.Prelude.{◌≡◌, ◌≤◌, ℕ, Some, OnOk, codes, map, option_map, bytes_eq, if◌then◌else◌};
+ghost use Rattle.std.specs.List.{join_with_byte};
 ghost use Rattle.plan_scope.specs.Scopes.{Text};
-ghost use Rattle.plan_scope.specs.Expansion.{listed, meaning_of, text_within, text_of_piece, joined};
+ghost use Rattle.plan_scope.specs.Expansion.{Late, listed, meaning_of, text_of_piece, joined, variable};
 ghost use Rattle.plan_scope.specs.Shows.{shown_as};
 ghost use Rattle.plan_scope.specs.Steps.{Appends};
+ghost use Rattle.plan_scope.specs.Settling.{AppendsBy, AreSettled, text_by};
 ghost use Rattle.plan_scope.specs.HeldUses.{use_of};
 
 use crate::appending::{Show, append, append_paths};
@@ -13,8 +14,9 @@ use crate::fault::{Cause, LineFault};
 use crate::frame::Frame;
 use crate::rule_variables::RuleVariables;
 use crate::scope::{Scope, text_in};
+use crate::settled::{Settled, found, settle};
 use plan_text::{Items, Piece, SmallText};
-use std::alloc::{AllocError, Global};
+use std::alloc::Global;
 
 /// What the variables of an edge are looked up in, the nearest first.
 #[derive(Clone, Copy)]
@@ -48,11 +50,11 @@ fn listed<'a>(edge: &Use<'a>, name: &[u8]) -> Option<(&'a [SmallText], u8)>
 }
 
 /// Appends a text that is known.
-fn append_known(out: &mut Vec<u8>, text: &[u8]) -> Result<(), LineFault>
-    ensures { Appends out.old.items out.new.items result (Some text.now) }
+fn append_known(out: &mut Vec<u8>, text: &[u8]) -> Result<usize, LineFault>
+    ensures { AppendsBy out.old.items out.new.items 0 result (λ n. Some text.now) }
 {
     append(out, text)?;
-    Ok(())
+    Ok(0)
 }
 
 /// Appends paths as they are shown, this byte between each two.
@@ -61,68 +63,96 @@ fn append_listed(
     show: Show,
     paths: &[SmallText],
     separator: u8,
-) -> Result<(), LineFault>
-    ensures { Appends out.old.items out.new.items result (Some (join_with_byte separator (map (shown_as show) paths.now))) }
+) -> Result<usize, LineFault>
+    ensures { AppendsBy out.old.items out.new.items 0 result (λ n. Some (join_with_byte separator (map (shown_as show) paths.now))) }
 {
     append_paths(out, show, paths, separator)?;
-    Ok(())
+    Ok(0)
 }
 
-fn is_in_use(in_use: &[&[u8]], name: &[u8]) -> bool
-    ensures { result ≡ list_any (λ n. bytes_eq name.now n.now) in_use.now }
+/// How many pieces a variable may have that is put together anew each time that it is named.
+const FEW: usize = 8;
+
+/// Whether a variable, so many others of the rule one inside another in it, is put together anew each time that it is named.
+fn is_cheap(depth: usize, pieces: &[Piece]) -> bool {
+    (depth == 0) & (pieces.len() <= FEW)
+}
+
+/// The greater of two depths.
+fn greater(depth: usize, other: usize) -> usize
+    ensures first { depth ≤ result }
+    ensures other { other ≤ result }
+    ensures least { (most : ℕ) → depth ≤ most → other ≤ most → result ≤ most }
 {
-    in_use.iter().any(|used| name == *used)
+    if depth < other { other } else { depth }
 }
 
-/// The names in use, and one more.
-fn with_name<'a>(
-    alloc: Global,
-    name: &'a [u8],
-    in_use: &[&'a [u8]],
-) -> Result<Vec<&'a [u8]>, AllocError>
-    ensures { IfOk result (λ v. map (λ n. n.now) v.items ≡ name.now ∷ map (λ n. n.now) in_use.now) }
-{
-    let mut inner = Vec::new(alloc);
-    inner.push(name)?;
-    inner.extend_from_slice(in_use)?;
-    Ok(inner)
-}
-
-/// Appends a variable of an edge. At most `left` names of the rule are not in use yet.
+/// Appends a variable of an edge, where at most `left` variables of the rule may lie one inside another, and answers how many do.
 #[cycle(expansion)]
-pub fn append_variable<'a>(
+fn append_variable<'a>(
     alloc: Global,
     edge: &'a Use<'a>,
     show: Show,
     left: usize,
-    in_use: &[&'a [u8]],
+    settled: &mut Vec<Settled<'a>>,
     name: &'a [u8],
     out: &mut Vec<u8>,
-) -> Result<(), LineFault>
-    ensures { Appends out.old.items out.new.items result (text_within left (meaning_of (shown_as show) (use_of edge.now)) (map (λ n. n.now) in_use.now) name.now) }
+) -> Result<usize, LineFault>
+    requires { AreSettled (meaning_of (shown_as show) (use_of edge.now)) settled.old.items }
+    ensures appended { AppendsBy out.old.items out.new.items left result (λ n. text_by n (meaning_of (shown_as show) (use_of edge.now)) name.now) }
+    ensures settled { OnOk result (AreSettled (meaning_of (shown_as show) (use_of edge.now)) settled.new.items) }
 {
     match listed(edge, name) {
         Some((paths, separator)) => return append_listed(out, show, paths, separator),
         None => {}
     }
-    let pieces = match edge.block.get(name) {
+    match edge.block.get(name) {
         Some(text) => return append_known(out, text.as_slice()),
-        None => match edge.rule.get(name) {
-            Some(pieces) => pieces,
-            None => return append_known(out, text_in(edge.file, name)),
-        },
-    };
+        None => {}
+    }
+    match edge.rule.get(name) {
+        Some(pieces) => append_late(alloc, edge, show, left, settled, name, pieces, out),
+        None => append_known(out, text_in(edge.file, name)),
+    }
+}
+
+/// Appends a variable that the rule binds to these pieces.
+#[cycle(expansion)]
+fn append_late<'a>(
+    alloc: Global,
+    edge: &'a Use<'a>,
+    show: Show,
+    left: usize,
+    settled: &mut Vec<Settled<'a>>,
+    name: &'a [u8],
+    pieces: &'a [Piece],
+    out: &mut Vec<u8>,
+) -> Result<usize, LineFault>
+    requires late { meaning_of (shown_as show) (use_of edge.now) name.now ≡ Late pieces.now }
+    requires settled { AreSettled (meaning_of (shown_as show) (use_of edge.now)) settled.old.items }
+    ensures appended { AppendsBy out.old.items out.new.items left result (λ n. text_by n (meaning_of (shown_as show) (use_of edge.now)) name.now) }
+    ensures settled { OnOk result (AreSettled (meaning_of (shown_as show) (use_of edge.now)) settled.new.items) }
+{
     if left == 0 {
         return Err(LineFault::Refused(Cause::RuleCycle));
     }
-    if is_in_use(in_use, name) {
-        return Err(LineFault::Refused(Cause::RuleCycle));
+    match found(settled, name, left, out) {
+        Some((depth, text)) => {
+            append(out, text)?;
+            return Ok(depth);
+        }
+        None => {}
     }
-    if in_use.is_empty() {
-        return append_pieces(alloc, edge, show, left - 1, &[name], pieces, out);
+    let start = out.len();
+    let depth = match append_pieces(alloc, edge, show, left - 1, settled, pieces, out) {
+        Ok(depth) => depth,
+        Err(fault) => return Err(fault),
+    };
+    if is_cheap(depth, pieces) | (left == edge.rule.len()) {
+        return Ok(depth + 1);
     }
-    let inner = with_name(alloc, name, in_use)?;
-    append_pieces(alloc, edge, show, left - 1, &inner, pieces, out)
+    settle(alloc, settled, name, depth + 1, out, start)?;
+    Ok(depth + 1)
 }
 
 /// Appends a piece of a variable of a rule.
@@ -132,11 +162,13 @@ fn append_piece<'a>(
     edge: &'a Use<'a>,
     show: Show,
     left: usize,
-    in_use: &[&'a [u8]],
+    settled: &mut Vec<Settled<'a>>,
     piece: &'a Piece,
     out: &mut Vec<u8>,
-) -> Result<(), LineFault>
-    ensures { Appends out.old.items out.new.items result (text_of_piece (text_within left (meaning_of (shown_as show) (use_of edge.now)) (map (λ n. n.now) in_use.now)) piece.now) }
+) -> Result<usize, LineFault>
+    requires { AreSettled (meaning_of (shown_as show) (use_of edge.now)) settled.old.items }
+    ensures appended { AppendsBy out.old.items out.new.items left result (λ n. text_of_piece (text_by n (meaning_of (shown_as show) (use_of edge.now))) piece.now) }
+    ensures settled { OnOk result (AreSettled (meaning_of (shown_as show) (use_of edge.now)) settled.new.items) }
 {
     match piece {
         Piece::Literal(bytes) => append_known(out, bytes.as_slice()),
@@ -145,7 +177,7 @@ fn append_piece<'a>(
             edge,
             show,
             left,
-            in_use,
+            settled,
             name.as_slice(),
             out,
         ),
@@ -159,14 +191,37 @@ fn append_pieces<'a>(
     edge: &'a Use<'a>,
     show: Show,
     left: usize,
-    in_use: &[&'a [u8]],
+    settled: &mut Vec<Settled<'a>>,
     pieces: &'a [Piece],
     out: &mut Vec<u8>,
-) -> Result<(), LineFault>
-    ensures { Appends out.old.items out.new.items result (joined (text_within left (meaning_of (shown_as show) (use_of edge.now)) (map (λ n. n.now) in_use.now)) pieces.now) }
+) -> Result<usize, LineFault>
+    requires { AreSettled (meaning_of (shown_as show) (use_of edge.now)) settled.old.items }
+    ensures appended { AppendsBy out.old.items out.new.items left result (λ n. joined (text_by n (meaning_of (shown_as show) (use_of edge.now))) pieces.now) }
+    ensures settled { OnOk result (AreSettled (meaning_of (shown_as show) (use_of edge.now)) settled.new.items) }
 {
+    let mut deepest = 0;
     for piece in pieces {
-        append_piece(alloc, edge, show, left, in_use, piece, out)?;
+        match append_piece(alloc, edge, show, left, settled, piece, out) {
+            Ok(depth) => deepest = greater(deepest, depth),
+            Err(fault) => return Err(fault),
+        }
     }
-    Ok(())
+    Ok(deepest)
+}
+
+/// Appends a variable of an edge, expanded for itself.
+pub fn append_whole<'a>(
+    alloc: Global,
+    edge: &'a Use<'a>,
+    show: Show,
+    name: &'a [u8],
+    out: &mut Vec<u8>,
+) -> Result<(), LineFault>
+    ensures { Appends out.old.items out.new.items result (variable (shown_as show) (use_of edge.now) name.now) }
+{
+    let mut settled = Vec::new(alloc);
+    match append_variable(alloc, edge, show, edge.rule.len(), &mut settled, name, out) {
+        Ok(_) => Ok(()),
+        Err(fault) => Err(fault),
+    }
 }

@@ -19,6 +19,7 @@ mod pools;
 mod rule_variables;
 mod scope;
 mod scoped;
+mod settled;
 mod source;
 mod tree;
 mod variables;

@@ -1,10 +1,11 @@
 //! Trees from a source.
 
-ghost use Rattle.std.specs.Prelude.{◌≡◌, ◌↔◌, ◌<◌, ◌≤◌, ◌+◌, ◌-◌, [], ◌∷◌, ◌++◌, ℕ, List, Option, Some, IfOk, IfErr, length};
+ghost use Rattle.std.specs.Prelude.{◌≡◌, ◌<◌, ◌≤◌, ◌+◌, ◌-◌, [], ◌∷◌, ◌++◌, ℕ, List, Option, Some, IfOk, IfErr, length};
 ghost use Rattle.std.specs.List.{list_any};
 ghost use Rattle.plan_scope.specs.Scopes.{Name, Text, bound_by, bound_in, expand, is_too_long, look};
 ghost use Rattle.plan_scope.specs.Frames.{StandsFor};
 ghost use Rattle.plan_scope.specs.Loading.{Loads, LoadsAll, LoadsWithin, cause_of_path, cause_to_load, scopes_in, taken_by};
+ghost use Rattle.plan_scope.specs.Sources.{SameFiles};
 ghost use Rattle.plan_scope.specs.Taking.{Answers, IsBound, IsRead, IsRefusal, IsTaken, LoadsOne, takes_in};
 ghost use Rattle.plan_scope.specs.Uses.{names_in};
 
@@ -50,8 +51,8 @@ fn read_statements<S: Source>(
     source: &mut S,
     path: &[u8],
 ) -> Result<Items<Statement>, ReadFault>
-    ensures read { IsRead (S.gives source.old) (S.failures source.old) (S.failures source.new) path.now result }
-    ensures same { (p : List ℕ) (bytes : Option (List ℕ)) → S.gives source.new p bytes ↔ S.gives source.old p bytes }
+    ensures read { IsRead (S.gives source.old) (S.fails source.old) (S.failures source.old) (S.failures source.new) path.now result }
+    ensures same { SameFiles (S.gives source.new) (S.fails source.new) (S.gives source.old) (S.fails source.old) }
 {
     let bytes = match source.read(alloc, path) {
         Ok(bytes) => bytes,
@@ -159,8 +160,8 @@ fn take_file<S: Source>(
     left: usize,
 ) -> Result<Loaded, ScopeFault>
     requires { 0 < length scopes }
-    ensures loaded { Answers (S.gives source.old) (S.failures source.old) (S.failures source.new) (λ missing out. LoadsWithin (S.gives source.old) missing left path scopes loaded out) result }
-    ensures same { (p : List ℕ) (bytes : Option (List ℕ)) → S.gives source.new p bytes ↔ S.gives source.old p bytes }
+    ensures loaded { Answers (S.gives source.old) (S.fails source.old) (S.failures source.old) (S.failures source.new) (λ missing out. LoadsWithin (S.gives source.old) missing left path scopes loaded out) result }
+    ensures same { SameFiles (S.gives source.new) (S.fails source.new) (S.gives source.old) (S.fails source.old) }
 {
     let statements = match read_statements(alloc, source, path.as_slice()) {
         Ok(statements) => statements,
@@ -188,8 +189,8 @@ fn take_all<S: Source>(
     left: usize,
 ) -> Result<Loaded, ScopeFault>
     requires { 0 < length file.value.scopes }
-    ensures loaded { Answers (S.gives source.old) (S.failures source.old) (S.failures source.new) (λ missing out. LoadsAll (takes_in (S.gives source.old) missing left) left file.value.path file.value.scopes loaded statements out) result }
-    ensures same { (p : List ℕ) (bytes : Option (List ℕ)) → S.gives source.new p bytes ↔ S.gives source.old p bytes }
+    ensures loaded { Answers (S.gives source.old) (S.fails source.old) (S.failures source.old) (S.failures source.new) (λ missing out. LoadsAll (takes_in (S.gives source.old) missing left) left file.value.path file.value.scopes loaded statements out) result }
+    ensures same { SameFiles (S.gives source.new) (S.fails source.new) (S.gives source.old) (S.fails source.old) }
 {
     let mut lines = loaded;
     for statement in statements.into_vec() {
@@ -214,8 +215,8 @@ fn take_line<S: Source>(
     left: usize,
 ) -> Result<Loaded, ScopeFault>
     requires { 0 < length line.scopes }
-    ensures loaded { Answers (S.gives source.old) (S.failures source.old) (S.failures source.new) (λ missing out. LoadsOne (takes_in (S.gives source.old) missing left) left loaded line out) result }
-    ensures same { (p : List ℕ) (bytes : Option (List ℕ)) → S.gives source.new p bytes ↔ S.gives source.old p bytes }
+    ensures loaded { Answers (S.gives source.old) (S.fails source.old) (S.failures source.old) (S.failures source.new) (λ missing out. LoadsOne (takes_in (S.gives source.old) missing left) left loaded line out) result }
+    ensures same { SameFiles (S.gives source.new) (S.fails source.new) (S.gives source.old) (S.fails source.old) }
 {
     match taken(alloc, &loaded, &line, left) {
         Ok(None) => with_line(alloc, loaded, line),
@@ -237,8 +238,8 @@ fn take_path<S: Source>(
 ) -> Result<Loaded, ScopeFault>
     requires scopes { 0 < length line.scopes }
     requires left { 0 < left }
-    ensures loaded { Answers (S.gives source.old) (S.failures source.old) (S.failures source.new) (λ missing out. LoadsWithin (S.gives source.old) missing (left - 1) path (scopes_in (length loaded + 1) line.scopes line.kind) (loaded ++ line ∷ []) out) result }
-    ensures same { (p : List ℕ) (bytes : Option (List ℕ)) → S.gives source.new p bytes ↔ S.gives source.old p bytes }
+    ensures loaded { Answers (S.gives source.old) (S.fails source.old) (S.failures source.old) (S.failures source.new) (λ missing out. LoadsWithin (S.gives source.old) missing (left - 1) path (scopes_in (length loaded + 1) line.scopes line.kind) (loaded ++ line ∷ []) out) result }
+    ensures same { SameFiles (S.gives source.new) (S.fails source.new) (S.gives source.old) (S.fails source.old) }
 {
     let count = loaded.lines.len() + 1;
     let Ok(scopes) = scopes_taken(alloc, count, line.scopes(), line.kind()) else {
@@ -259,8 +260,8 @@ fn take_path<S: Source>(
 /// bytes are no list of statements, and `Refused` where a line binds a name to a text that is too long, takes in a file from an
 /// empty path or one of more than 4,096 bytes, or stands in a file with 63 others open above it.
 pub fn load<S: Source>(alloc: Global, source: &mut S, path: &[u8]) -> Result<Tree, ScopeFault>
-    ensures loaded { Loads (S.gives source.old) (S.failures source.old) (S.failures source.new) path.now result }
-    ensures same { (p : List ℕ) (bytes : Option (List ℕ)) → S.gives source.new p bytes ↔ S.gives source.old p bytes }
+    ensures loaded { Loads (S.gives source.old) (S.fails source.old) (S.failures source.old) (S.failures source.new) path.now result }
+    ensures same { SameFiles (S.gives source.new) (S.fails source.new) (S.gives source.old) (S.fails source.old) }
 {
     let Ok(name) = copied(alloc, path) else {
         return Err(ScopeFault::LoadMemory);

@@ -47,6 +47,8 @@ fn bytes_of(path: &[u8]) -> Option<&'static [u8]> {
 impl Source for Files {
     ghost gives = { λ _ _ _. Unit {0} };
 
+    ghost fails = { λ _ _. ⊥ };
+
     ghost failures = { λ _. 0 };
 
     fn read(&mut self, alloc: Global, path: &[u8]) -> Result<Vec<u8>, SourceFault> {
@@ -201,6 +203,8 @@ struct OneFile(&'static [u8]);
 
 impl Source for OneFile {
     ghost gives = { λ _ _ _. Unit {0} };
+
+    ghost fails = { λ _ _. ⊥ };
 
     ghost failures = { λ _. 0 };
 

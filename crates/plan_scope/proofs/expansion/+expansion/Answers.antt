@@ -1,46 +1,55 @@
-use Rattle.std.proofs.Common.{◌≡◌, ℕ, suc, ◌∙◌, List, [], Option, subst, sym, ap, map, Bor, ◌∷◌, ◌-◌, arith, refl}
-use Rattle.plan_scope.specs.Expansion.{meaning_of, text_within, joined, Meaning}
-use Rattle.plan_scope.specs.Steps.{Appends}
+use Rattle.std.proofs.Common.{◌≡◌, ◌<◌, ℕ, ◌+◌, ◌++◌, ap, arith, length, List, Option, Some, subst, sym, ◌∙◌, option_map}
+use Rattle.plan_text.specs.declared.piece_reader.Piece.{Piece}
+use Rattle.plan_scope.specs.declared.settled.Settled.{Settled}
+use Rattle.plan_scope.specs.Expansion.{Meaning, meaning_of, text_of_piece}
+use Rattle.plan_scope.specs.Frames.{kept}
 use Rattle.plan_scope.specs.HeldUses.{use_of}
+use Rattle.plan_scope.specs.Settling.{AppendsBy, AreSettled, text_by}
 use Rattle.plan_scope.specs.Shows.{shown_as}
-use Rattle.plan_scope.proofs.Expanding.{one_appended, within_late, within_used, is_late, list_any_now, none_used}
+use Rattle.plan_scope.proofs.Settles.{found_appended, late_appended, late_refused, piece_appended, pieces_refused, settled_then}
 use Rattle.plan_scope.proofs.expansion.+expansion.Goals as goal
+
+pub append_late-returns-in-Some-clause-appended : goal.append_late-returns-in-Some-clause-appended
+append_late-returns-in-Some-clause-appended t c =
+    let meaning : List ℕ → Meaning = meaning_of (shown_as c.args.show) (use_of c.args.edge.now) in
+    found_appended meaning c.args.left c.in-Some.depth c.args.name.now c.in-Some.text.now c.args.out.now.items c.append.new.out.items c.deref-2.result.now c.deref-2.ensures.value
+    (c.in-Some.ensures meaning (subst (AreSettled meaning) (sym c.deref.ensures.value) c.requires.settled)) c.in_ok-append-in-Some.ensures.appended
+
+pub append_late-returns-in-Err-clause-appended : goal.append_late-returns-in-Err-clause-appended
+append_late-returns-in-Err-clause-appended t c =
+    let meaning : List ℕ → Meaning = meaning_of (shown_as c.args.show) (use_of c.args.edge.now) in
+    late_refused meaning c.args.left c.args.name.now c.args.pieces.now c.args.out.now.items c.append_pieces.new.out.items c.in-Err.fault c.requires.late (omega (arith, c.if-left-eq0.false)) c.in-Err.ensures.appended
+
+pub append_late-returns-clause-settled : goal.append_late-returns-clause-settled
+append_late-returns-clause-settled t c =
+    let meaning : List ℕ → Meaning = meaning_of (shown_as c.args.show) (use_of c.args.edge.now) in
+    let depth = c.in-Ok.depth in
+    settled_then meaning c.append_pieces.new.settled.items c.settle.new.settled.items c.args.left (depth + 1) c.len-start.result c.args.name.now c.args.out.now.items c.append_pieces.new.out.items c.deref-3.result.now c.deref-3.ensures.value
+    (omega (arith, c.args.out.now.ok.0, c.len-start.ensures)) c.in-Ok.ensures.settled
+    (late_appended meaning c.args.left depth c.args.name.now c.args.pieces.now c.args.out.now.items c.append_pieces.new.out.items c.requires.late (omega (arith, c.if-left-eq0.false)) c.in-Ok.ensures.appended)
+    (c.in_ok-settle.ensures meaning)
+
+pub append_piece-returns-in-Reference-clause-appended :
+    goal.append_piece-returns-in-Reference-clause-appended
+append_piece-returns-in-Reference-clause-appended t c =
+    let meaning : List ℕ → Meaning = meaning_of (shown_as c.args.show) (use_of c.args.edge.now) in
+    subst (λ (p : Piece). AppendsBy c.args.out.now.items c.append_variable.new.out.items c.args.left c.append_variable.result (λ n. text_of_piece (text_by n meaning) p)) (sym c.in-Reference.is)
+    (subst (λ (name : List ℕ). AppendsBy c.args.out.now.items c.append_variable.new.out.items c.args.left c.append_variable.result (λ n. text_by n meaning name)) c.as_slice-in-Reference.ensures c.append_variable.ensures.appended)
+
+pub append_pieces-returns-in-Err-clause-appended :
+    goal.append_pieces-returns-in-Err-clause-appended
+append_pieces-returns-in-Err-clause-appended t c =
+    let meaning : List ℕ → Meaning = meaning_of (shown_as c.args.show) (use_of c.args.edge.now) in
+    pieces_refused meaning c.args.left c.args.pieces.now c.loop-piece.piece-index c.piece-item.result c.args.out.now.items c.loop-piece.out.items c.append_piece.new.out.items c.in-Err.fault
+    c.loop-piece-test.true c.piece-item.is c.in-Err.ensures.appended
 
 pub append_pieces-loop-piece-preserved : goal.append_pieces-loop-piece-preserved
 append_pieces-loop-piece-preserved t c =
-    let value : List ℕ → Option (List ℕ) = text_within c.args.left (meaning_of (shown_as c.args.show) (use_of c.args.edge.now)) (map (λ (n : Bor (List ℕ)). n.now) c.args.in_use.now) in
-    one_appended value c.args.pieces.now c.loop-piece.piece-index c.piece-item.result c.args.out.now.items c.loop-piece.out.items c.append_piece.new.out.items
-    c.loop-piece-test.true c.piece-item.is c.loop-piece.invariant c.in_ok-append_piece.ensures
-
-pub append_variable-returns-then-is_in_use : goal.append_variable-returns-then-is_in_use
-append_variable-returns-then-is_in_use t c =
-    let late = is_late (shown_as c.args.show) (use_of c.args.edge.now) c.args.name.now c.in-Some-get-2.pieces.now (c.in-None.ensures (shown_as c.args.show)) c.in-None-get.ensures c.in-Some-get-2.ensures in (
-      within_used (meaning_of (shown_as c.args.show) (use_of c.args.edge.now)) c.args.left (map (λ (n : Bor (List ℕ)). n.now) c.args.in_use.now) c.args.name.now c.in-Some-get-2.pieces.now
-          late (list_any_now c.args.name.now c.args.in_use.now ∙ (sym c.is_in_use.ensures ∙ c.if-is_in_use.true)),
-      refl,
+    let meaning : List ℕ → Meaning = meaning_of (shown_as c.args.show) (use_of c.args.edge.now) in
+    let more = c.greater-deepest.result in
+    let one = c.in-Ok.ensures.appended in (
+      c.greater-deepest.ensures.least c.args.left c.loop-piece.invariant.0 one.0,
+      piece_appended meaning c.loop-piece.deepest c.in-Ok.depth c.args.left more c.args.pieces.now c.loop-piece.piece-index c.piece-item.result c.args.out.now.items c.loop-piece.out.items c.append_piece.new.out.items
+          c.loop-piece-test.true c.piece-item.is c.greater-deepest.ensures.first c.greater-deepest.ensures.other c.loop-piece.invariant.1 one,
+      c.in-Ok.ensures.settled,
     )
-
-pub append_variable-returns-then-is_empty : goal.append_variable-returns-then-is_empty
-append_variable-returns-then-is_empty t c =
-    let M : List ℕ → Meaning = meaning_of (shown_as c.args.show) (use_of c.args.edge.now) in
-    let used : List (List ℕ) = map (λ (n : Bor (List ℕ)). n.now) c.args.in_use.now in
-    let one : c.args.left ≡ suc (c.args.left - 1) = omega (arith, c.if-left-eq0.false) in
-    let late = is_late (shown_as c.args.show) (use_of c.args.edge.now) c.args.name.now c.in-Some-get-2.pieces.now (c.in-None.ensures (shown_as c.args.show)) c.in-None-get.ensures c.in-Some-get-2.ensures in
-    let none : c.args.in_use.now ≡ [] = none_used c.args.in_use.now (sym c.is_empty.ensures ∙ c.if-is_empty.true) in
-    let inner : map (λ (n : Bor (List ℕ)). n.now) (c.args.name ∷ []) ≡ c.args.name.now ∷ used = ap (λ (ns : List (Bor (List ℕ))). c.args.name.now ∷ map (λ (n : Bor (List ℕ)). n.now) ns) (sym none) in
-    subst (λ meant. Appends c.args.out.now.items c.append_pieces.new.out.items c.append_pieces.result meant)
-    (sym (within_late M c.args.left (c.args.left - 1) used c.args.name.now c.in-Some-get-2.pieces.now one late
-    (list_any_now c.args.name.now c.args.in_use.now ∙ (sym c.is_in_use.ensures ∙ c.if-is_in_use.false))))
-    (subst (λ ns. Appends c.args.out.now.items c.append_pieces.new.out.items c.append_pieces.result (joined (text_within (c.args.left - 1) M ns) c.in-Some-get-2.pieces.now)) inner c.append_pieces.ensures)
-
-pub append_variable-returns : goal.append_variable-returns
-append_variable-returns t c =
-    let M : List ℕ → Meaning = meaning_of (shown_as c.args.show) (use_of c.args.edge.now) in
-    let used : List (List ℕ) = map (λ (n : Bor (List ℕ)). n.now) c.args.in_use.now in
-    let one : c.args.left ≡ suc (c.args.left - 1) = omega (arith, c.if-left-eq0.false) in
-    let late = is_late (shown_as c.args.show) (use_of c.args.edge.now) c.args.name.now c.in-Some-get-2.pieces.now (c.in-None.ensures (shown_as c.args.show)) c.in-None-get.ensures c.in-Some-get-2.ensures in
-    let inner : map (λ (n : Bor (List ℕ)). n.now) c.deref.result.now ≡ c.args.name.now ∷ used = ap (map (λ (n : Bor (List ℕ)). n.now)) c.deref.ensures.value ∙ c.in_ok-inner.ensures in
-    subst (λ meant. Appends c.args.out.now.items c.append_pieces-2.new.out.items c.append_pieces-2.result meant)
-    (sym (within_late M c.args.left (c.args.left - 1) used c.args.name.now c.in-Some-get-2.pieces.now one late
-    (list_any_now c.args.name.now c.args.in_use.now ∙ (sym c.is_in_use.ensures ∙ c.if-is_in_use.false))))
-    (subst (λ ns. Appends c.args.out.now.items c.append_pieces-2.new.out.items c.append_pieces-2.result (joined (text_within (c.args.left - 1) M ns) c.in-Some-get-2.pieces.now)) inner c.append_pieces-2.ensures)

@@ -1,5 +1,6 @@
 use Rattle.std.proofs.Common.{◌≡◌, ◌↔◌, ◌+◌, ◌*◌, ◌++◌, ℕ, List, Option, Ok}
 use Rattle.plan_scope.specs.Loading.{LoadsAll}
+use Rattle.plan_scope.specs.Sources.{SameFiles}
 use Rattle.plan_scope.specs.Taking.{never, takes_in}
 use Rattle.plan_scope.proofs.loader.+loading.Given as goal
 
@@ -19,6 +20,6 @@ decreases-take_path g l = 4 * l.left
 abbrev pub invariant-take_all-loop-statement : goal.invariant-take_all-loop-statement
 invariant-take_all-loop-statement g l =
     (g.S.Source.failures l.source ≡ g.S.Source.failures l.fn.source)
-    × ((p : List ℕ) (bytes : Option (List ℕ)) → g.S.Source.gives l.source p bytes ↔ g.S.Source.gives l.fn.source p bytes)
+    × SameFiles (g.S.Source.gives l.source) (g.S.Source.fails l.source) (g.S.Source.gives l.fn.source) (g.S.Source.fails l.fn.source)
     × (l.yielded ++ l.statement-iterator.rest.items ≡ l.fn.statements)
     × LoadsAll (takes_in (g.S.Source.gives l.fn.source) never l.fn.left) l.fn.left l.fn.file.value.path l.fn.file.value.scopes l.fn.loaded l.yielded (Ok l.lines)
