@@ -55,7 +55,7 @@ fn bound_or(alloc: Global, place: Cursor<'_>) -> Result<Binding, AllocError>
 }
 
 /// What a line of a text binds; nothing to nothing where it is no binding.
-pub fn bound_in(alloc: Global, text: &[u8], span: Span) -> Result<Binding, AllocError>
+pub fn read_binding(alloc: Global, text: &[u8], span: Span) -> Result<Binding, AllocError>
     ensures { IfOk result (λ b. b ≡ compact.bound_in text.now span) }
 {
     bound_or(alloc, line_in(text, span))

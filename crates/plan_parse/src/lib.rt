@@ -15,7 +15,7 @@ mod span;
 mod statement;
 mod statement_reader;
 
-pub use compact::{CompactStatement, bound_in};
+pub use compact::{CompactStatement, read_binding};
 pub use fault::ParseFault;
 pub use parser::parse;
 pub use span::Span;

@@ -54,7 +54,7 @@ fn whole(alloc: Global, text: &[u8], statement: CompactStatement) -> Result<Stat
     match statement {
         CompactStatement::Binding(span) => Ok(Statement {
             offset: span.at as u64,
-            kind: StatementKind::Binding(bound_in(alloc, text, span)?),
+            kind: StatementKind::Binding(read_binding(alloc, text, span)?),
         }),
         CompactStatement::Whole(statement) => Ok(Box::into_inner(statement)),
     }

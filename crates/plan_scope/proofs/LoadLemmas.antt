@@ -1,5 +1,5 @@
 -- What is loaded, piece by piece.
-use Rattle.std.proofs.Common.{◌≡◌, ℕ, zero, suc, ◌+◌, ◌-◌, ◌<◌, ◌≤◌, inl, inr, Bool, true, false, ◌==◌, List, [], ◌∷◌, ◌++◌, length, Option, Some, None, Result, Ok, Err, refl, ap, sym, subst, ◌∙◌, append-nil, arith}
+use Rattle.std.proofs.Common.{◌≡◌, ℕ, zero, suc, ◌+◌, ◌-◌, ◌<◌, ◌≤◌, inl, inr, Bool, true, false, ◌==◌, List, [], ◌∷◌, ◌++◌, length, max, Option, Some, None, Result, Ok, Err, refl, ap, sym, subst, ◌∙◌, append-nil, arith}
 use Rattle.std.proofs.lemmas.Bool.{lt-ltb, le-ltb, ne_eqb}
 use Rattle.plan_text.specs.declared.piece_reader.Piece.{Piece}
 use Rattle.plan_parse.specs.declared.fault.ParseFault.{ParseFault}
@@ -16,7 +16,7 @@ use Rattle.plan_scope.specs.declared.tree.Tree.{Tree}
 use Rattle.plan_scope.specs.Trees.{Line}
 use Rattle.plan_scope.specs.Scopes.{Text, Name, Scoped, look, expand, bound_by, bound_in, is_long_path, is_empty, max_path}
 use Rattle.plan_scope.specs.Frames.{kept, AgreesIn}
-use Rattle.plan_scope.specs.Loading.{Takes, Next, GoesOn, LoadsLine, LoadsAll, LoadsParsed, LoadsFile, LoadsWithin, LoadsFirst, Loads, IsMissing, cause_of_path, cause_to_load, scopes_in, taken_by}
+use Rattle.plan_scope.specs.Loading.{Takes, Next, GoesOn, LoadsLine, LoadsAll, LoadsParsed, LoadsFile, LoadsWithin, LoadsFirst, Loads, IsMissing, cause_of_path, cause_to_load, greatest_scope, own_scope, scopes_in, taken_by}
 use Rattle.plan_scope.specs.Edges.{first_of}
 use Rattle.plan_scope.specs.Sources.{SameFiles}
 use Rattle.plan_scope.specs.Taking.{Answers, LoadsOne, IsTaken, never, takes_in}
@@ -42,7 +42,7 @@ line_wider : (takes wide : Takes) (next more : Next) → ((path : Text) (scopes 
 line_wider takes wide next more t n above l (Some cause) file out r = r
 line_wider takes wide next more t n above l None None out r = n (above ++ l ∷ []) out r
 line_wider takes wide next more t n above l None (Some file) out r =
-    (r.0, t file (scopes_in (length above + 1) l.scopes l.kind) (above ++ l ∷ []) r.0 r.1, goes_wider next more r.0 out n r.2)
+    (r.0, t file (scopes_in above l.scopes l.kind) above r.0 r.1, goes_wider next more r.0 out n r.2)
 
 -- what takes in more files loads as much
 pub all_wider : (takes wide : Takes) → ((path : Text) (scopes : List ℕ) (above : List Line) (out : Outcome) → takes path scopes above out → wide path scopes above out)
@@ -201,17 +201,17 @@ stops g h f k b c n left path scopes front s back all above mid fault gh fk e w 
 -- a line that takes in a file
 pub takes_file : (g : Gives) (f : Missing) (b n left : ℕ) (above : List Line) (l : Line) (path : Text) (result : Outcome)
     → cause_to_load left (look (bound_by above) l.scopes) l.kind ≡ None → taken_by (look (bound_by above) l.scopes) l.kind ≡ Some path → 0 < left
-    → Answers g f b n (λ missing out. LoadsWithin g missing (left - 1) path (scopes_in (length above + 1) l.scopes l.kind) (above ++ l ∷ []) out) result
+    → Answers g f b n (λ missing out. LoadsWithin g missing (left - 1) path (scopes_in above l.scopes l.kind) above out) result
     → Answers g f b n (λ missing out. LoadsOne (takes_in g missing left) left above l out) result
 takes_file g f b n left above l path result none some lt a =
     let one : suc (left - 1) ≡ left = omega (arith, lt) in
-    answers_wider g g f f b b n (λ missing out. LoadsWithin g missing (left - 1) path (scopes_in (length above + 1) l.scopes l.kind) (above ++ l ∷ []) out)
+    answers_wider g g f f b b n (λ missing out. LoadsWithin g missing (left - 1) path (scopes_in above l.scopes l.kind) above out)
     (λ missing out. LoadsOne (takes_in g missing left) left above l out) result (λ p bytes x. x) (λ p x. x) refl
     (λ m k mk x. subst (λ (c : Option Cause). LoadsLine (takes_in g k left) (λ lines out. out ≡ Ok lines) above l c (taken_by (look (bound_by above) l.scopes) l.kind) result) (sym none)
     (subst (λ (f : Option Text). LoadsLine (takes_in g k left) (λ lines out. out ≡ Ok lines) above l None f result) (sym some) (
       result,
-      subst (λ (i : ℕ). takes_in g k i path (scopes_in (length above + 1) l.scopes l.kind) (above ++ l ∷ []) result) one
-          (within_wider g g m k (λ p bytes x. x) mk (left - 1) path (scopes_in (length above + 1) l.scopes l.kind) (above ++ l ∷ []) result x),
+      subst (λ (i : ℕ). takes_in g k i path (scopes_in above l.scopes l.kind) above result) one
+          (within_wider g g m k (λ p bytes x. x) mk (left - 1) path (scopes_in above l.scopes l.kind) above result x),
       ends result,
     ))) a
   where
@@ -274,6 +274,11 @@ pub pushed_bound : (now : Scoped Text) (above lines : List Line) (l : Line) (sco
     → AgreesIn now (bound_by above ++ bound_in (bound_by above) scopes kind) → AgreesIn now (bound_by lines)
 pushed_bound now above lines l scopes kind e f g h = subst (λ (x : List Line). AgreesIn now (bound_by x)) (sym g) (agrees_more now above l scopes kind e f h)
 
+-- the greatest scope of lines and one more
+pub greatest_more : (above : List Line) (l : Line) → greatest_scope (above ++ l ∷ []) ≡ max (greatest_scope above) (own_scope l.scopes)
+greatest_more [] l = omega arith
+greatest_more (x ∷ more) l = let rest = greatest_more more l in omega (arith, rest)
+
 -- where a file may be taken in, one more may be open
 pub one_more : (left : ℕ) (here : Name → Text) (k : StatementKind) (path : Text) → cause_to_load left here k ≡ None → taken_by here k ≡ Some path → 0 < left
 one_more zero here (kind.Include p) path c f = cc
@@ -286,10 +291,10 @@ one_more left here (kind.Default targets) path c f = cc
 one_more left here (kind.Binding b) path c f = cc
 
 -- the lines taken in see a scope
-pub some_scope : (n : ℕ) (scopes inner : List ℕ) (k : StatementKind) → 0 < length scopes → inner ≡ scopes_in n scopes k → 0 < length inner
-some_scope n scopes inner k lt e = subst (λ (s : List ℕ). 0 < length s) (sym e) (seen k)
+pub some_scope : (above : List Line) (scopes inner : List ℕ) (k : StatementKind) → 0 < length scopes → inner ≡ scopes_in above scopes k → 0 < length inner
+some_scope above scopes inner k lt e = subst (λ (s : List ℕ). 0 < length s) (sym e) (seen k)
   where
-    seen : (k : StatementKind) → 0 < length (scopes_in n scopes k)
+    seen : (k : StatementKind) → 0 < length (scopes_in above scopes k)
     seen (kind.Subninja path) = omega arith
     seen (kind.Include path) = lt
     seen (kind.Rule r) = lt

@@ -10,7 +10,7 @@ use Rattle.plan_scope.specs.declared.fault.ScopeFault.TheVariants.{Refused, Sour
 use Rattle.plan_scope.specs.declared.manifest.Manifest.{Manifest}
 use Rattle.plan_scope.specs.Trees.{Line}
 use Rattle.plan_scope.specs.Edges.{manifest_of, commands_of}
-use Rattle.plan_scope.specs.Loading.{LoadsFirst, LoadsWithin}
+use Rattle.plan_scope.specs.Loading.{LoadsFirst, LoadsWithin, fresh_scope}
 
 abbrev lf : List ℕ
 lf = 10 ∷ []
@@ -221,12 +221,18 @@ abbrev gives : List ℕ → Option (List ℕ) → Type 0
 gives path bytes = ((path ≡ name) × (bytes ≡ Some (codes "subninja c"))) ⊎ ((path ≡ codes "c") × (bytes ≡ Some (codes "x = 1")))
 
 -- its tree
-two_files : LoadsFirst gives (λ path. ⊥) name (Ok (lines name (0 ∷ []) (statements_of (codes "subninja c")) ++ lines (codes "c") (1 ∷ 0 ∷ []) (statements_of (codes "x = 1"))))
+two_files : LoadsFirst gives (λ path. ⊥) name (Ok (lines (codes "c") (1 ∷ 0 ∷ []) (statements_of (codes "x = 1"))))
 unfolding LoadsWithin
 two_files =
-    let front = lines name (0 ∷ []) (statements_of (codes "subninja c")) in
     let back = lines (codes "c") (1 ∷ 0 ∷ []) (statements_of (codes "x = 1")) in
-    inr (codes "subninja c", inl (refl, refl), (Ok (front ++ back), inr (codes "x = 1", inr (refl, refl), refl), refl))
+    inr (codes "subninja c", inl (refl, refl), (Ok back, inr (codes "x = 1", inr (refl, refl), refl), refl))
+
+-- a file opens a scope that neither lines above have nor the line that takes it in
+fresh_scopes : fresh_scope (lines name (0 ∷ []) (statements_of child) ++ lines (codes "c") (1 ∷ 0 ∷ []) (statements_of child)) (0 ∷ []) ≡ 2
+fresh_scopes = refl
+
+fresh_inside : fresh_scope [] (2 ∷ 0 ∷ []) ≡ 3
+fresh_inside = refl
 
 -- at depth 64 nothing is taken in, whatever the path
 too_deep : LoadsWithin gives (λ path. ⊥) 0 name (0 ∷ []) [] (Err (Refused name 0 IncludeDepth))

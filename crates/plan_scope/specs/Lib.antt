@@ -16,3 +16,4 @@ pub mod Settling
 pub mod Paths
 pub mod Parts
 pub mod Evaluation
+pub mod Saying

@@ -1,5 +1,5 @@
 -- The lines of a file and of all files that it takes in.
-use Rattle.std.specs.Prelude.{◌≡◌, ℕ, zero, suc, ◌+◌, ◌⊎◌, ◌==◌, List, [], ◌∷◌, ◌++◌, length, Option, Some, None, Result, Ok, Err, if◌then◌else◌}
+use Rattle.std.specs.Prelude.{◌≡◌, ℕ, zero, suc, ◌+◌, ◌⊎◌, ◌==◌, Bool, true, false, max, List, [], ◌∷◌, ◌++◌, Option, Some, None, Result, Ok, Err, if◌then◌else◌}
 use Rattle.plan_parse.specs.declared.fault.ParseFault.{ParseFault}
 use Rattle.plan_parse.specs.declared.statement.Statement.{Statement}
 use Rattle.plan_parse.specs.declared.statement.StatementKind.{StatementKind}
@@ -24,15 +24,32 @@ taken_by here (kind.Pool p) = None
 taken_by here (kind.Default targets) = None
 taken_by here (kind.Binding b) = None
 
--- The scopes of the lines taken in: an included file goes on in the scope of the line, a subninja file opens one of its own. That is numbered by how many lines stand above the file's first.
-abbrev pub scopes_in : ℕ → List ℕ → StatementKind → List ℕ
-scopes_in lines scopes (kind.Subninja path) = lines ∷ scopes
-scopes_in lines scopes (kind.Include path) = scopes
-scopes_in lines scopes (kind.Rule r) = scopes
-scopes_in lines scopes (kind.Build b) = scopes
-scopes_in lines scopes (kind.Pool p) = scopes
-scopes_in lines scopes (kind.Default targets) = scopes
-scopes_in lines scopes (kind.Binding b) = scopes
+-- a subninja file opens a scope of its own
+abbrev pub opens_scope : StatementKind → Bool
+opens_scope (kind.Subninja path) = true
+opens_scope (kind.Include path) = false
+opens_scope (kind.Rule r) = false
+opens_scope (kind.Build b) = false
+opens_scope (kind.Pool p) = false
+opens_scope (kind.Default targets) = false
+opens_scope (kind.Binding b) = false
+
+-- the own scope of a line, the first that it sees
+abbrev pub own_scope : List ℕ → ℕ
+own_scope [] = 0
+own_scope (own ∷ outer) = own
+
+abbrev pub greatest_scope : List Line → ℕ
+greatest_scope [] = 0
+greatest_scope (l ∷ more) = max (own_scope l.scopes) (greatest_scope more)
+
+-- the scope that a line opens which sees these scopes: neither its own nor that of a line above
+abbrev pub fresh_scope : List Line → List ℕ → ℕ
+fresh_scope above scopes = max (greatest_scope above) (own_scope scopes) + 1
+
+-- The scopes of the lines taken in: an included file goes on in the scope of the line.
+abbrev pub scopes_in : List Line → List ℕ → StatementKind → List ℕ
+scopes_in above scopes said = if opens_scope said then fresh_scope above scopes ∷ scopes else scopes
 
 -- why no file may be taken in from a path, where so many files more may be open
 abbrev pub cause_of_path : ℕ → Text → Option Cause
@@ -61,12 +78,12 @@ abbrev pub GoesOn : Next → Result (List Line) ScopeFault → Result (List Line
 GoesOn next (Ok lines) out = next lines out
 GoesOn next (Err fault) out = out ≡ Err fault
 
--- a line that is refused, one that takes in no file, and one that takes in this file
+-- a line that is refused, one that takes in no file, and one in whose place the lines of this file stand
 abbrev pub LoadsLine : Takes → Next → List Line → Line → Option Cause → Option Text → Result (List Line) ScopeFault → Type 0
 LoadsLine takes next above l (Some cause) file out = out ≡ Err (Refused l.path l.offset cause)
 LoadsLine takes next above l None None out = next (above ++ l ∷ []) out
 LoadsLine takes next above l None (Some file) out =
-    (inner : Result (List Line) ScopeFault) × takes file (scopes_in (length above + 1) l.scopes l.kind) (above ++ l ∷ []) inner × GoesOn next inner out
+    (inner : Result (List Line) ScopeFault) × takes file (scopes_in above l.scopes l.kind) above inner × GoesOn next inner out
 
 -- the statements of a file in order, behind the lines above
 abbrev pub LoadsAll : Takes → ℕ → Text → List ℕ → List Line → List Statement → Result (List Line) ScopeFault → Type 0

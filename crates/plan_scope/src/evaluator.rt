@@ -2,6 +2,8 @@
 
 ghost use Rattle.std.specs.Prelude.{◌≡◌, ◌≢◌, ◌≤◌, ◌+◌, ◌||◌, ℕ, List, [], ◌∷◌, ◌++◌, length, OnOk, IfOk, bytes_eq, codes, option_map};
 ghost use Rattle.plan_text.specs.Outcome.{Meets};
+ghost use Rattle.plan_parse.specs.declared.statement.Binding.{Binding};
+ghost use Rattle.plan_parse.specs.declared.statement.StatementKind.TheVariants as kinds;
 ghost use Rattle.plan_scope.specs.Trees.{Line as LineMeant};
 ghost use Rattle.plan_scope.specs.Scopes.{Name, Text, expand, in_own, look};
 ghost use Rattle.plan_scope.specs.Edges.{built_by, builds_in, builds_of, console, defaults_alone, edge_alone, edge_by, given_by, given_past, has_own, is_among, is_taken, late, manifest_of, mapped, paths_of, pool_alone, pool_by, pools_in, pools_of, targets_by, with_front};
@@ -18,7 +20,7 @@ use crate::manifest::{DefaultTarget, Edge, Manifest, Pool};
 use crate::pool_names::PoolNames;
 use crate::pools::pool;
 use crate::rule_variables::RuleVariables;
-use crate::scope::{Scope, bind, bound_by_lines};
+use crate::scope::{Scope, bind_line, bound_by_lines};
 use crate::scoped::Scoped;
 use crate::tree::{Line, Tree};
 use plan_parse::{Build, Rule, StatementKind};
@@ -54,13 +56,23 @@ pub struct Evaluation<'a> {
 /// The name of the pool that is there without a line.
 const CONSOLE: &[u8] = b"console";
 
-/// Takes the name of a pool that a line declares.
+/// Takes the name of a pool that a statement declares.
 fn insert_declared<'a>(names: &mut PoolNames<'a>, kind: &'a StatementKind) -> Result<(), AllocError>
     ensures { OnOk result ((n : List ℕ) → is_among names.new n ≡ is_among (names.old ++ pools_in kind.now) n) }
 {
     match kind {
         StatementKind::Pool(declared) => names.insert(declared.name.as_slice()),
         _ => Ok(()),
+    }
+}
+
+/// Takes the name of a pool that a line declares.
+fn insert_of_line<'a>(names: &mut PoolNames<'a>, line: &'a Line) -> Result<(), AllocError>
+    ensures { OnOk result ((n : List ℕ) → is_among names.new n ≡ is_among (names.old ++ pools_in line.now.kind) n) }
+{
+    match line.whole() {
+        Some(kind) => insert_declared(names, kind),
+        None => Ok(()),
     }
 }
 
@@ -71,7 +83,7 @@ fn pool_names<'a>(alloc: Global, lines: &'a [Line]) -> Result<PoolNames<'a>, All
     let mut names = PoolNames::new(alloc);
     names.insert(CONSOLE)?;
     for line in lines {
-        insert_declared(&mut names, line.kind())?;
+        insert_of_line(&mut names, line)?;
     }
     Ok(names)
 }
@@ -86,7 +98,7 @@ fn known_of_all<'a>(alloc: Global, lines: &'a [Line]) -> Result<Whole<'a>, Alloc
     })
 }
 
-/// How many edges a line may give.
+/// How many edges a statement may give.
 fn edges_of(kind: &StatementKind) -> usize
     ensures edges { result ≡ length (builds_in kind.now) }
     ensures within { result ≤ 1 }
@@ -97,13 +109,24 @@ fn edges_of(kind: &StatementKind) -> usize
     }
 }
 
+/// How many edges a line may give.
+fn edges_of_line(line: &Line) -> usize
+    ensures edges { result ≡ length (builds_in line.now.kind) }
+    ensures within { result ≤ 1 }
+{
+    match line.whole() {
+        Some(kind) => edges_of(kind),
+        None => 0,
+    }
+}
+
 /// How many edges lines may give.
 fn edges_of_all(lines: &[Line]) -> usize
     ensures { result ≡ length (builds_of lines.now) }
 {
     let mut edges = 0;
     for line in lines {
-        edges += edges_of(line.kind());
+        edges += edges_of_line(line);
     }
     edges
 }
@@ -311,6 +334,44 @@ fn step_default<'a>(
     Ok(())
 }
 
+/// Takes a line into account that is a binding.
+fn step_binding<'a>(
+    alloc: Global,
+    so_far: &mut Evaluation<'a>,
+    line: &'a Line,
+) -> Result<(), LineFault>
+    requires { (b : Binding) × (line.now.kind ≡ kinds.Binding b) }
+    ensures given { (all above : List LineMeant) → GivesMore (manifest_in so_far.old) (manifest_in so_far.new) result (given_by all above line.now.scopes line.now.kind) }
+    ensures fits { OnOk result ((above : List LineMeant) → Fits so_far.old above → Fits so_far.new (above ++ line.now ∷ [])) }
+{
+    bind_line(alloc, &mut so_far.bound, line)?;
+    Ok(())
+}
+
+/// Takes a line into account, by all that it says.
+fn step_whole<'a>(
+    alloc: Global,
+    whole: &Whole<'a>,
+    so_far: &mut Evaluation<'a>,
+    line: &'a Line,
+    kind: &'a StatementKind,
+) -> Result<(), LineFault>
+    requires { line.now.kind ≡ kind.now }
+    ensures given { (all above : List LineMeant) → Fits so_far.old above → Knows whole.now all → GivesMore (manifest_in so_far.old) (manifest_in so_far.new) result (given_by all above line.now.scopes line.now.kind) }
+    ensures fits { OnOk result ((above : List LineMeant) → Fits so_far.old above → Fits so_far.new (above ++ line.now ∷ [])) }
+{
+    let scopes = line.scopes();
+    match kind {
+        StatementKind::Rule(rule) => declare(alloc, &mut so_far.rules, scopes, rule),
+        StatementKind::Build(build) => step_build(alloc, whole, so_far, scopes, build),
+        StatementKind::Pool(declared) => step_pool(alloc, so_far, scopes, declared),
+        StatementKind::Default(paths) => step_default(alloc, so_far, scopes, paths.as_slice()),
+        StatementKind::Include(_) => Ok(()),
+        StatementKind::Subninja(_) => Ok(()),
+        StatementKind::Binding(_) => step_binding(alloc, so_far, line),
+    }
+}
+
 /// Takes a line into account.
 fn step<'a>(
     alloc: Global,
@@ -321,18 +382,9 @@ fn step<'a>(
     ensures given { (all above : List LineMeant) → Fits so_far.old above → Knows whole.now all → GivesMore (manifest_in so_far.old) (manifest_in so_far.new) result (given_by all above line.now.scopes line.now.kind) }
     ensures fits { OnOk result ((above : List LineMeant) → Fits so_far.old above → Fits so_far.new (above ++ line.now ∷ [])) }
 {
-    let scopes = line.scopes();
-    match line.kind() {
-        StatementKind::Rule(rule) => declare(alloc, &mut so_far.rules, scopes, rule),
-        StatementKind::Build(build) => step_build(alloc, whole, so_far, scopes, build),
-        StatementKind::Pool(declared) => step_pool(alloc, so_far, scopes, declared),
-        StatementKind::Default(paths) => step_default(alloc, so_far, scopes, paths.as_slice()),
-        StatementKind::Include(_) => Ok(()),
-        StatementKind::Subninja(_) => Ok(()),
-        StatementKind::Binding(_) => {
-            bind(alloc, &mut so_far.bound, scopes, line.kind())?;
-            Ok(())
-        }
+    match line.whole() {
+        Some(kind) => step_whole(alloc, whole, so_far, line, kind),
+        None => step_binding(alloc, so_far, line),
     }
 }
 

@@ -14,6 +14,7 @@ mod frame;
 mod loaded;
 mod loader;
 mod manifest;
+mod parsed;
 mod pool_names;
 mod pools;
 mod rule_variables;

@@ -1,21 +1,23 @@
 //! Trees from a source.
 
-ghost use Rattle.std.specs.Prelude.{◌≡◌, ◌<◌, ◌≤◌, ◌+◌, ◌-◌, [], ◌∷◌, ◌++◌, ℕ, List, Option, Some, IfOk, IfErr, length};
+ghost use Rattle.std.specs.Prelude.{◌≡◌, ◌<◌, ◌≤◌, ◌+◌, ◌-◌, [], ◌∷◌, ◌++◌, ℕ, List, Option, Some, IfOk, IfErr, length, map};
 ghost use Rattle.std.specs.List.{list_any};
 ghost use Rattle.plan_scope.specs.Scopes.{Name, Text, bound_by, bound_in, expand, is_too_long, look};
 ghost use Rattle.plan_scope.specs.Frames.{StandsFor};
-ghost use Rattle.plan_scope.specs.Loading.{Loads, LoadsAll, LoadsWithin, cause_of_path, cause_to_load, scopes_in, taken_by};
+ghost use Rattle.plan_scope.specs.Loading.{Loads, LoadsAll, LoadsWithin, cause_of_path, cause_to_load, opens_scope, scopes_in, taken_by};
+ghost use Rattle.plan_parse.specs.Compact.{said_in};
 ghost use Rattle.plan_scope.specs.Sources.{SameFiles};
 ghost use Rattle.plan_scope.specs.Taking.{Answers, IsBound, IsRead, IsRefusal, IsTaken, LoadsOne, takes_in};
 ghost use Rattle.plan_scope.specs.Uses.{names_in};
 
 use crate::appending::MAX_PATH;
 use crate::fault::{Cause, LineFault, ReadFault, ScopeFault};
-use crate::loaded::Loaded;
-use crate::scope::{Scope, bind, expanded};
+use crate::loaded::{Loaded, own_scope};
+use crate::parsed::Parsed;
+use crate::scope::{Scope, bind_line, expanded};
 use crate::source::{Source, SourceFault};
 use crate::tree::{File, Line, Tree};
-use plan_parse::{ParseFault, Statement, StatementKind, parse};
+use plan_parse::{CompactStatement, ParseFault, StatementKind, parse};
 use plan_text::{Items, Piece};
 use std::alloc::{AllocError, Global};
 use std::rc::Rc;
@@ -50,7 +52,7 @@ fn read_statements<S: Source>(
     alloc: Global,
     source: &mut S,
     path: &[u8],
-) -> Result<Items<Statement>, ReadFault>
+) -> Result<Parsed, ReadFault>
     ensures read { IsRead (S.gives source.old) (S.fails source.old) (S.failures source.old) (S.failures source.new) path.now result }
     ensures same { SameFiles (S.gives source.new) (S.fails source.new) (S.gives source.old) (S.fails source.old) }
 {
@@ -61,7 +63,10 @@ fn read_statements<S: Source>(
         Err(SourceFault::Memory) => return Err(ReadFault::Memory),
     };
     match parse(alloc, &bytes) {
-        Ok(statements) => Ok(Items::new(statements)),
+        Ok(statements) => Ok(Parsed {
+            text: Items::new(bytes),
+            statements: Items::new(statements),
+        }),
         Err(ParseFault::Memory) => Err(ReadFault::Memory),
         Err(fault) => Err(ReadFault::Parse(fault)),
     }
@@ -89,20 +94,22 @@ fn taken_path<'a>(
     Ok(Some(Items::new(path)))
 }
 
-/// The path of the file that a line takes in, if it takes in any.
-fn taken(
+/// The path of the file that a line takes in, if it takes in any, by all that it says.
+fn taken_whole(
     alloc: Global,
     loaded: &Loaded,
     line: &Line,
+    kind: &StatementKind,
     left: usize,
 ) -> Result<Option<Items<u8>>, LineFault>
+    requires { line.now.kind ≡ kind.now }
     ensures { IsTaken (cause_to_load left (look (bound_by loaded.now) line.now.scopes) line.now.kind) (taken_by (look (bound_by loaded.now) line.now.scopes) line.now.kind) result }
 {
     let scope = Scope {
         bound: &loaded.bound,
         scopes: line.scopes(),
     };
-    match line.kind() {
+    match kind {
         StatementKind::Include(path) => taken_path(alloc, scope, path.as_slice(), left),
         StatementKind::Subninja(path) => taken_path(alloc, scope, path.as_slice(), left),
         StatementKind::Rule(_) => Ok(None),
@@ -113,20 +120,40 @@ fn taken(
     }
 }
 
-/// The scopes of the lines that a line takes in. The file's first stands behind so many lines.
-fn scopes_taken(
+/// The path of the file that a line takes in, if it takes in any.
+fn taken(
     alloc: Global,
-    lines: usize,
-    scopes: &[usize],
-    kind: &StatementKind,
-) -> Result<Items<usize>, AllocError>
-    ensures { IfOk result (λ inner. inner ≡ scopes_in lines scopes.now kind.now) }
+    loaded: &Loaded,
+    line: &Line,
+    left: usize,
+) -> Result<Option<Items<u8>>, LineFault>
+    ensures { IsTaken (cause_to_load left (look (bound_by loaded.now) line.now.scopes) line.now.kind) (taken_by (look (bound_by loaded.now) line.now.scopes) line.now.kind) result }
+{
+    match line.whole() {
+        Some(kind) => taken_whole(alloc, loaded, line, kind, left),
+        None => Ok(None),
+    }
+}
+
+/// Whether a line opens a scope for the lines that it takes in.
+fn opens_scope(line: &Line) -> bool
+    ensures { result ≡ opens_scope line.now.kind }
+{
+    match line.whole() {
+        Some(kind) => matches!(kind, StatementKind::Subninja(_)),
+        None => false,
+    }
+}
+
+/// The scopes of the lines that a line takes in.
+fn scopes_taken(alloc: Global, loaded: &Loaded, line: &Line) -> Result<Items<usize>, AllocError>
+    ensures { IfOk result (λ inner. inner ≡ scopes_in loaded.now line.now.scopes line.now.kind) }
 {
     let mut inner = Vec::new(alloc);
-    if matches!(kind, StatementKind::Subninja(_)) {
-        inner.push(lines)?;
+    if opens_scope(line) {
+        inner.push(loaded.fresh_scope(line.scopes())?)?;
     }
-    inner.extend_from_slice(scopes)?;
+    inner.extend_from_slice(line.scopes())?;
     Ok(Items::new(inner))
 }
 
@@ -137,14 +164,20 @@ fn with_line(alloc: Global, loaded: Loaded, line: Line) -> Result<Loaded, ScopeF
     let Loaded {
         mut lines,
         mut bound,
+        greatest,
     } = loaded;
-    match bind(alloc, &mut bound, line.scopes(), line.kind()) {
+    match bind_line(alloc, &mut bound, &line) {
         Ok(true) => return Err(refused(alloc, &line, Cause::TextTooLong)),
         Ok(false) => {}
         Err(_) => return Err(ScopeFault::LoadMemory),
     }
+    let greatest = greatest.max(own_scope(line.scopes()));
     match lines.push(line) {
-        Ok(()) => Ok(Loaded { lines, bound }),
+        Ok(()) => Ok(Loaded {
+            lines,
+            bound,
+            greatest,
+        }),
         Err(_) => Err(ScopeFault::LoadMemory),
     }
 }
@@ -163,16 +196,17 @@ fn take_file<S: Source>(
     ensures loaded { Answers (S.gives source.old) (S.fails source.old) (S.failures source.old) (S.failures source.new) (λ missing out. LoadsWithin (S.gives source.old) missing left path scopes loaded out) result }
     ensures same { SameFiles (S.gives source.new) (S.fails source.new) (S.gives source.old) (S.fails source.old) }
 {
-    let statements = match read_statements(alloc, source, path.as_slice()) {
-        Ok(statements) => statements,
+    let parsed = match read_statements(alloc, source, path.as_slice()) {
+        Ok(parsed) => parsed,
         Err(ReadFault::Missing) => return Err(ScopeFault::SourceMissing(path)),
         Err(ReadFault::Parse(fault)) => return Err(ScopeFault::Parse(path, fault)),
         Err(ReadFault::Memory) => return Err(ScopeFault::LoadMemory),
     };
+    let Parsed { text, statements } = parsed;
     let Ok(loaded) = loaded.with_room(statements.as_slice().len()) else {
         return Err(ScopeFault::LoadMemory);
     };
-    match Rc::new(alloc, File { path, scopes }) {
+    match Rc::new(alloc, File { path, scopes, text }) {
         Ok(file) => take_all(alloc, source, loaded, file, statements, left),
         Err(_) => Err(ScopeFault::LoadMemory),
     }
@@ -185,11 +219,11 @@ fn take_all<S: Source>(
     source: &mut S,
     loaded: Loaded,
     file: Rc<File>,
-    statements: Items<Statement>,
+    statements: Items<CompactStatement>,
     left: usize,
 ) -> Result<Loaded, ScopeFault>
     requires { 0 < length file.value.scopes }
-    ensures loaded { Answers (S.gives source.old) (S.fails source.old) (S.failures source.old) (S.failures source.new) (λ missing out. LoadsAll (takes_in (S.gives source.old) missing left) left file.value.path file.value.scopes loaded statements out) result }
+    ensures loaded { Answers (S.gives source.old) (S.fails source.old) (S.failures source.old) (S.failures source.new) (λ missing out. LoadsAll (takes_in (S.gives source.old) missing left) left file.value.path file.value.scopes loaded (map (said_in file.value.text) statements) out) result }
     ensures same { SameFiles (S.gives source.new) (S.fails source.new) (S.gives source.old) (S.fails source.old) }
 {
     let mut lines = loaded;
@@ -226,7 +260,7 @@ fn take_line<S: Source>(
     }
 }
 
-/// Takes in a line that takes in the file at this path, and the file's lines. Such a line binds nothing.
+/// Takes in the file at this path, for the line that takes it in.
 #[cycle(loading)]
 fn take_path<S: Source>(
     alloc: Global,
@@ -238,20 +272,16 @@ fn take_path<S: Source>(
 ) -> Result<Loaded, ScopeFault>
     requires scopes { 0 < length line.scopes }
     requires left { 0 < left }
-    ensures loaded { Answers (S.gives source.old) (S.fails source.old) (S.failures source.old) (S.failures source.new) (λ missing out. LoadsWithin (S.gives source.old) missing (left - 1) path (scopes_in (length loaded + 1) line.scopes line.kind) (loaded ++ line ∷ []) out) result }
+    ensures loaded { Answers (S.gives source.old) (S.fails source.old) (S.failures source.old) (S.failures source.new) (λ missing out. LoadsWithin (S.gives source.old) missing (left - 1) path (scopes_in loaded line.scopes line.kind) loaded out) result }
     ensures same { SameFiles (S.gives source.new) (S.fails source.new) (S.gives source.old) (S.fails source.old) }
 {
-    let count = loaded.lines.len() + 1;
-    let Ok(scopes) = scopes_taken(alloc, count, line.scopes(), line.kind()) else {
+    let Ok(scopes) = scopes_taken(alloc, &loaded, &line) else {
         return Err(ScopeFault::LoadMemory);
     };
-    let Ok(lines) = with_line(alloc, loaded, line) else {
-        return Err(ScopeFault::LoadMemory);
-    };
-    take_file(alloc, source, lines, path, scopes, left - 1)
+    take_file(alloc, source, loaded, path, scopes, left - 1)
 }
 
-/// Reads the file at this path and all files that it takes in: an `include` or `subninja` line is followed by the lines of its file.
+/// Reads the file at this path and all files that it takes in: the lines of a file stand in place of the `include` or `subninja` line that takes it in.
 /// Want of memory, also the source's and the reader's, is `LoadMemory`.
 ///
 /// # Errors

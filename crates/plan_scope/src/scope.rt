@@ -8,7 +8,7 @@ ghost use Rattle.plan_scope.specs.Uses.{names_in};
 
 use crate::appending::{MAX_TEXT, append, is_long};
 use crate::scoped::Scoped;
-use crate::tree::Line;
+use crate::tree::{Line, Said};
 use plan_parse::{Binding, StatementKind};
 use plan_text::{Items, Piece};
 use std::alloc::{AllocError, Global};
@@ -112,7 +112,7 @@ fn bind_own(
 }
 
 /// Binds what a statement of a file binds, by what is bound above it. Answers whether a text is too long.
-pub fn bind(
+fn bind(
     alloc: Global,
     bound: &mut Scoped<Items<u8>>,
     scopes: &[usize],
@@ -132,13 +132,28 @@ pub fn bind(
     }
 }
 
+/// Binds what a line binds, by what is bound above it. Answers whether a text is too long.
+pub fn bind_line(
+    alloc: Global,
+    bound: &mut Scoped<Items<u8>>,
+    line: &Line,
+) -> Result<bool, AllocError>
+    ensures bound { OnOk result ((meant : Bound Text) → AgreesIn bound.old meant → AgreesIn bound.new (meant ++ bound_in meant line.now.scopes line.now.kind)) }
+    ensures long { IfOk result (λ long. (meant : Bound Text) → AgreesIn bound.old meant → long ≡ list_any (λ b. is_too_long b.1.1) (bound_in meant line.now.scopes line.now.kind)) }
+{
+    match line.said(alloc)? {
+        Said::Kept(kind) => bind(alloc, bound, line.scopes(), kind),
+        Said::Read(binding) => bind_own(alloc, bound, line.scopes(), &binding),
+    }
+}
+
 /// What lines bind.
 pub fn bound_by_lines(alloc: Global, lines: &[Line]) -> Result<Scoped<Items<u8>>, AllocError>
     ensures { IfOk result (λ bound. AgreesIn bound (bound_by lines.now)) }
 {
     let mut bound = Scoped::new(alloc);
     for line in lines {
-        bind(alloc, &mut bound, line.scopes(), line.kind())?;
+        bind_line(alloc, &mut bound, line)?;
     }
     Ok(bound)
 }

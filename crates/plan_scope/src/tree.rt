@@ -1,9 +1,12 @@
 //! Trees of statements.
 
-ghost use Rattle.std.specs.Prelude.{◌≡◌};
+ghost use Rattle.std.specs.Prelude.{◌≡◌, IfOk, option_map};
+ghost use Rattle.plan_scope.specs.Trees.{IsWhole};
+ghost use Rattle.plan_scope.specs.Saying.{kind_said};
 
-use plan_parse::{Statement, StatementKind};
+use plan_parse::{Binding, CompactStatement, StatementKind, read_binding};
 use plan_text::Items;
+use std::alloc::{AllocError, Global};
 use std::marker::Model;
 use std::rc::Rc;
 
@@ -14,6 +17,8 @@ pub struct File {
     pub path: Items<u8>,
     /// The scopes that its lines see, their own first.
     pub scopes: Items<usize>,
+    /// Its bytes: bindings are read again from there.
+    pub text: Items<u8>,
 }
 
 /// A statement of a tree, and the file that it was read from.
@@ -21,16 +26,17 @@ pub struct File {
 pub struct Line {
     /// The file.
     pub file: Rc<File>,
-    /// The statement.
-    pub statement: Statement,
+    /// The statement, kept beside the file's bytes.
+    pub statement: CompactStatement,
 }
 
 impl Model for Line {
+    ghost use Rattle.plan_parse.specs.Compact.{said_in};
     ghost use Rattle.plan_scope.specs.Trees as trees;
 
     ghost Value = { trees.Line };
 
-    ghost view = { λ l. record { path = l.file.value.path; scopes = l.file.value.scopes; offset = l.statement.offset; kind = l.statement.kind } };
+    ghost view = { λ l. record { path = l.file.value.path; scopes = l.file.value.scopes; offset = (said_in l.file.value.text l.statement).offset; kind = (said_in l.file.value.text l.statement).kind } };
 }
 
 impl Line {
@@ -52,18 +58,44 @@ impl Line {
     pub fn offset(&self) -> u64
         ensures { result ≡ self.now.offset }
     {
-        self.statement.offset
+        self.statement.offset()
     }
 
-    /// What it says.
-    pub fn kind(&self) -> &StatementKind
-        ensures { result.now ≡ self.now.kind }
+    /// What it says, unless it is a binding whose place alone is kept.
+    pub fn whole(&self) -> Option<&StatementKind>
+        ensures { IsWhole self.now.kind (option_map (λ k. k.now) result) }
     {
-        &self.statement.kind
+        match &self.statement {
+            CompactStatement::Binding(_) => None,
+            CompactStatement::Whole(statement) => Some(&statement.kind),
+        }
     }
 }
 
-/// The statements of a manifest and of all files that it takes in: an `include` or `subninja` line is followed by those of its file.
+/// What a line says.
+pub enum Said<'a> {
+    /// A statement that is kept.
+    Kept(&'a StatementKind),
+    /// A binding that was read again.
+    Read(Binding),
+}
+
+impl Line {
+    /// What it says.
+    pub fn said(&self, alloc: Global) -> Result<Said<'_>, AllocError>
+        ensures { IfOk result (λ said. kind_said said ≡ self.now.kind) }
+    {
+        match &self.statement {
+            CompactStatement::Binding(span) => {
+                let text = self.file.as_ref().text.as_slice();
+                Ok(Said::Read(read_binding(alloc, text, *span)?))
+            }
+            CompactStatement::Whole(statement) => Ok(Said::Kept(&statement.kind)),
+        }
+    }
+}
+
+/// The statements of a manifest and of all files that it takes in: those of a file stand in place of the `include` or `subninja` line that takes it in.
 #[derive(Drop)]
 pub struct Tree {
     /// The lines in their order.

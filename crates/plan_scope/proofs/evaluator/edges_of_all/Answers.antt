@@ -10,10 +10,10 @@ loop-line-preserved c =
     let all = c.args.lines.now in
     let front = take at.line-index all in
     let l = c.line-item.result in
-    let one : c.edges_of-edges.result ≡ length (builds_in l.kind) = c.edges_of-edges.ensures.edges ∙ ap (λ k. length (builds_in k)) c.kind.ensures in (
-      ap (λ n. n + c.edges_of-edges.result) at.invariant.0
+    let one : c.edges_of_line-edges.result ≡ length (builds_in l.kind) = c.edges_of_line-edges.ensures.edges in (
+      ap (λ n. n + c.edges_of_line-edges.result) at.invariant.0
           ∙ (ap (λ n. length (builds_of front) + n) one
           ∙ (sym (builds_more front l)
           ∙ ap (λ (x : List Line). length (builds_of x)) (sym (taken_more all at.line-index l c.loop-line-test.true c.line-item.is)))),
-      let was = at.invariant.1 in let most = c.edges_of-edges.ensures.within in omega (arith, was, most),
+      let was = at.invariant.1 in let most = c.edges_of_line-edges.ensures.within in omega (arith, was, most),
     )

@@ -1,5 +1,8 @@
-use Rattle.std.proofs.Common.{◌<◌, ◌++◌, ℕ, List, [], ◌∷◌, Option, Ok, Err, length, refl, ap, sym, subst, ◌∙◌, append_assoc, arith}
+use Rattle.std.proofs.Common.{◌<◌, ◌++◌, ℕ, List, [], ◌∷◌, Option, Ok, Err, length, map, refl, ap, sym, subst, ◌∙◌, append_assoc, arith}
 use Rattle.plan_parse.specs.declared.fault.ParseFault.{ParseFault}
+use Rattle.std.proofs.lemmas.List.{map-append, map_push}
+use Rattle.plan_parse.specs.Compact.{said_in}
+use Rattle.plan_parse.specs.declared.compact.CompactStatement.{CompactStatement}
 use Rattle.plan_parse.specs.declared.statement.Statement.{Statement}
 use Rattle.plan_scope.specs.declared.fault.ScopeFault.TheVariants.{Parse}
 use Rattle.plan_scope.specs.declared.tree.File.{File}
@@ -28,15 +31,16 @@ take_all-returns-in-Err-clause-loaded g t c =
     let inv = c.loop-statement.invariant in
     let mid = c.loop-statement.lines in
     let s = c.in-Some.statement in
+    let said = said_in c.args.file.value.text in
     let here = g.S.Source.gives c.loop-statement.source in
     let fails = g.S.Source.fails c.loop-statement.source in
     let before = g.S.Source.failures c.loop-statement.source in
     let now = g.S.Source.failures c.take_line.new.source in
-    stops here (g.S.Source.gives c.args.source.now) fails (g.S.Source.fails c.args.source.now) before (g.S.Source.failures c.args.source.now) now c.args.left c.args.file.value.path c.args.file.value.scopes c.loop-statement.yielded s c.next.new.self.rest.items c.args.statements c.args.loaded mid c.in-Err.fault
+    stops here (g.S.Source.gives c.args.source.now) fails (g.S.Source.fails c.args.source.now) before (g.S.Source.failures c.args.source.now) now c.args.left c.args.file.value.path c.args.file.value.scopes (map said c.loop-statement.yielded) (said s) (map said c.next.new.self.rest.items) (map said c.args.statements) c.args.loaded mid c.in-Err.fault
     (λ p bytes. (inv.1.0 p bytes).0) (λ p. (inv.1.1 p).0) inv.0
-    (ap (λ (x : List Statement). c.loop-statement.yielded ++ x) (sym c.in-Some.ensures.steps.0) ∙ inv.2)
+    (sym (map-append said c.loop-statement.yielded (s ∷ c.next.new.self.rest.items)) ∙ ap (map said) (ap (λ (x : List CompactStatement). c.loop-statement.yielded ++ x) (sym c.in-Some.ensures.steps.0) ∙ inv.2))
     inv.3
-    (subst (λ (f : File). Answers here fails before now (λ missing out. LoadsOne (takes_in here missing c.args.left) c.args.left mid (record { path = f.path; scopes = f.scopes; offset = s.offset; kind = s.kind }) out) (Err c.in-Err.fault))
+    (subst (λ (f : File). Answers here fails before now (λ missing out. LoadsOne (takes_in here missing c.args.left) c.args.left mid (record { path = f.path; scopes = f.scopes; offset = (said_in f.text s).offset; kind = (said_in f.text s).kind }) out) (Err c.in-Err.fault))
     c.in-Ok.ensures.cases c.in-Err.ensures.loaded)
 
 pub take_all-returns-in-Err-clause-same : goal.take_all-returns-in-Err-clause-same
@@ -47,16 +51,18 @@ take_all-loop-statement-preserved g t c =
     let inv = c.loop-statement.invariant in
     let mid = c.loop-statement.lines in
     let s = c.in-Some.statement in
+    let said = said_in c.args.file.value.text in
     let here = g.S.Source.gives c.loop-statement.source in
     let fails = g.S.Source.fails c.loop-statement.source in
     let back = c.next.new.self.rest.items in
     let one = c.in-Ok-take_line.ensures.loaded in (
       one.0 ∙ inv.0,
       same_files _ _ _ _ _ _ c.in-Ok-take_line.ensures.same inv.1,
-      append_assoc c.loop-statement.yielded (s ∷ []) back ∙ (ap (λ (x : List Statement). c.loop-statement.yielded ++ x) (sym c.in-Some.ensures.steps.0) ∙ inv.2),
-      goes_on here (g.S.Source.gives c.args.source.now) c.args.left c.args.file.value.path c.args.file.value.scopes c.loop-statement.yielded s c.args.loaded mid c.in-Ok-take_line.lines
+      append_assoc c.loop-statement.yielded (s ∷ []) back ∙ (ap (λ (x : List CompactStatement). c.loop-statement.yielded ++ x) (sym c.in-Some.ensures.steps.0) ∙ inv.2),
+      subst (λ (x : List Statement). LoadsAll (takes_in (g.S.Source.gives c.args.source.now) never c.args.left) c.args.left c.args.file.value.path c.args.file.value.scopes c.args.loaded x (Ok c.in-Ok-take_line.lines)) (sym (map_push said c.loop-statement.yielded s))
+          (goes_on here (g.S.Source.gives c.args.source.now) c.args.left c.args.file.value.path c.args.file.value.scopes (map said c.loop-statement.yielded) (said s) c.args.loaded mid c.in-Ok-take_line.lines
           (λ p bytes. (inv.1.0 p bytes).0) inv.3
-          (subst (λ (f : File). LoadsOne (takes_in here never c.args.left) c.args.left mid (record { path = f.path; scopes = f.scopes; offset = s.offset; kind = s.kind }) (Ok c.in-Ok-take_line.lines)) c.in-Ok.ensures.cases one.1),
+          (subst (λ (f : File). LoadsOne (takes_in here never c.args.left) c.args.left mid (record { path = f.path; scopes = f.scopes; offset = (said_in f.text s).offset; kind = (said_in f.text s).kind }) (Ok c.in-Ok-take_line.lines)) c.in-Ok.ensures.cases one.1)),
     )
 
 pub take_all-returns-clause-loaded : goal.take_all-returns-clause-loaded
@@ -65,7 +71,7 @@ take_all-returns-clause-loaded g t c =
     let rest = c.loop-statement.statement-iterator.rest in (
       inv.0,
       subst (λ (x : List Statement). LoadsAll (takes_in (g.S.Source.gives c.args.source.now) never c.args.left) c.args.left c.args.file.value.path c.args.file.value.scopes c.args.loaded x (Ok c.loop-statement.lines))
-          (none_left c.loop-statement.yielded rest.items c.args.statements (sym rest.ok.0 ∙ c.in-None.ensures.steps.0) inv.2) inv.3,
+          (ap (map (said_in c.args.file.value.text)) (none_left c.loop-statement.yielded rest.items c.args.statements (sym rest.ok.0 ∙ c.in-None.ensures.steps.0) inv.2)) inv.3,
     )
 
 pub take_all-returns-clause-same : goal.take_all-returns-clause-same
@@ -94,12 +100,15 @@ take_file-returns-in-Ok-new-clause-loaded g t c =
     let fails = g.S.Source.fails c.read_statements.new.source in
     let before = g.S.Source.failures c.read_statements.new.source in
     let now = g.S.Source.failures c.take_all.new.source in
-    let all = λ (l : List Line). Answers here fails before now (λ missing out. LoadsAll (takes_in here missing c.args.left) c.args.left c.args.path c.args.scopes l c.in-Ok.statements out) c.take_all.result in
-    parsed_file here (g.S.Source.gives c.args.source.now) fails (g.S.Source.fails c.args.source.now) before (g.S.Source.failures c.args.source.now) now c.args.left c.as_slice.result.now c.args.path c.args.scopes c.args.loaded c.in-Ok.statements c.take_all.result
+    let kept = c.parsed.inside.statements in
+    let said = map (said_in c.parsed.inside.text) kept in
+    let all = λ (l : List Line) (x : List Statement). Answers here fails before now (λ missing out. LoadsAll (takes_in here missing c.args.left) c.args.left c.args.path c.args.scopes l x out) c.take_all.result in
+    parsed_file here (g.S.Source.gives c.args.source.now) fails (g.S.Source.fails c.args.source.now) before (g.S.Source.failures c.args.source.now) now c.args.left c.as_slice.result.now c.args.path c.args.scopes c.args.loaded c.in-Ok.parsed c.take_all.result
     c.as_slice.ensures (λ p bytes. (c.read_statements.ensures.same.0 p bytes).0) (λ p. (c.read_statements.ensures.same.1 p).0) read.0 (read.1, read.2, read.3)
-    (subst all c.in-Ok-with_room.ensures
-    (subst (λ (f : File). Answers here fails before now (λ missing out. LoadsAll (takes_in here missing c.args.left) c.args.left f.path f.scopes c.in-Ok-with_room.loaded c.in-Ok.statements out) c.take_all.result)
-    c.in-Ok-new.ensures.ok c.take_all.ensures.loaded))
+    (subst (all c.args.loaded) c.parsed.view_is
+    (subst (λ (l : List Line). all l said) c.in-Ok-with_room.ensures
+    (subst (λ (f : File). Answers here fails before now (λ missing out. LoadsAll (takes_in here missing c.args.left) c.args.left f.path f.scopes c.in-Ok-with_room.loaded (map (said_in f.text) kept) out) c.take_all.result)
+    c.in-Ok-new.ensures.ok c.take_all.ensures.loaded)))
 
 pub take_line-take_path-requires : goal.take_line-take_path-requires
 take_line-take_path-requires g t c κs within =
@@ -120,4 +129,4 @@ take_line-returns-in-Ok-Some-clause-loaded g t c =
 
 pub take_path-take_file-requires : goal.take_path-take_file-requires
 take_path-take_file-requires g t c κs within =
-    (omega (arith, c.requires.left), (within, some_scope _ c.scopes.result.now c.in-Ok.scopes c.kind.result.now (subst (λ (s : List ℕ). 0 < length s) (sym c.scopes.ensures) c.requires.scopes) c.in-Ok.ensures))
+    (omega (arith, c.requires.left), (within, some_scope c.args.loaded c.args.line.scopes c.in-Ok.scopes c.args.line.kind c.requires.scopes c.in-Ok.ensures))

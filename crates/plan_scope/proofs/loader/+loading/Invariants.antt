@@ -1,4 +1,5 @@
-use Rattle.std.proofs.Common.{◌≡◌, ◌↔◌, ◌+◌, ◌*◌, ◌++◌, ℕ, List, Option, Ok}
+use Rattle.std.proofs.Common.{◌≡◌, ◌↔◌, ◌+◌, ◌*◌, ◌++◌, ℕ, List, Option, Ok, map}
+use Rattle.plan_parse.specs.Compact.{said_in}
 use Rattle.plan_scope.specs.Loading.{LoadsAll}
 use Rattle.plan_scope.specs.Sources.{SameFiles}
 use Rattle.plan_scope.specs.Taking.{never, takes_in}
@@ -22,4 +23,4 @@ invariant-take_all-loop-statement g l =
     (g.S.Source.failures l.source ≡ g.S.Source.failures l.fn.source)
     × SameFiles (g.S.Source.gives l.source) (g.S.Source.fails l.source) (g.S.Source.gives l.fn.source) (g.S.Source.fails l.fn.source)
     × (l.yielded ++ l.statement-iterator.rest.items ≡ l.fn.statements)
-    × LoadsAll (takes_in (g.S.Source.gives l.fn.source) never l.fn.left) l.fn.left l.fn.file.value.path l.fn.file.value.scopes l.fn.loaded l.yielded (Ok l.lines)
+    × LoadsAll (takes_in (g.S.Source.gives l.fn.source) never l.fn.left) l.fn.left l.fn.file.value.path l.fn.file.value.scopes l.fn.loaded (map (said_in l.fn.file.value.text) l.yielded) (Ok l.lines)

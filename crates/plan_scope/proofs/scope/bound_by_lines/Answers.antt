@@ -1,4 +1,4 @@
-use Rattle.std.proofs.Common.{take}
+use Rattle.std.proofs.Common.{refl, take}
 use Rattle.plan_scope.specs.Scopes.{bound_by}
 use Rattle.plan_scope.proofs.ScopeLemmas.{agrees_taken}
 use Rattle.plan_scope.proofs.scope.bound_by_lines.Goals as goal
@@ -7,5 +7,5 @@ pub loop-line-preserved : goal.loop-line-preserved
 loop-line-preserved c =
     let all = c.args.lines.now in
     let i = c.loop-line.line-index in
-    agrees_taken c.bind.new.bound all i c.line-item.result c.scopes.result.now c.kind.result.now c.loop-line-test.true c.line-item.is c.scopes.ensures c.kind.ensures
-    (c.in_ok-bind.ensures.bound (bound_by (take i all)) c.loop-line.invariant)
+    agrees_taken c.bind_line.new.bound all i c.line-item.result c.line-item.result.scopes c.line-item.result.kind c.loop-line-test.true c.line-item.is refl refl
+    (c.in_ok-bind_line.ensures.bound (bound_by (take i all)) c.loop-line.invariant)
