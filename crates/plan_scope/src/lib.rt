@@ -10,6 +10,7 @@ mod evaluator;
 mod expansion;
 mod fault;
 mod frame;
+mod keys;
 mod laws;
 mod loaded;
 mod loader;
