@@ -1,6 +1,6 @@
 //! Values by scope and name.
 
-ghost use Rattle.std.specs.Prelude.{◌≡◌, ◌<◌, ℕ, List, [], ◌∷◌, ◌++◌, OnOk, option_map};
+ghost use Rattle.std.specs.Prelude.{◌≡◌, ◌<◌, ℕ, List, [], ◌∷◌, ◌++◌, None, OnOk, false, option_map};
 ghost use Rattle.plan_scope.specs.Scopes.{frame, last_of, nearest};
 ghost use Rattle.plan_scope.specs.Keys.{mark_of, marks};
 
@@ -63,11 +63,18 @@ impl<V> Scoped<V> {
         }
     }
 
+    /// Whether a scope may have the name, as far as its mark tells.
+    pub fn may_have(&self, name: &[u8]) -> bool
+        ensures { result ≡ false → (scopes : List ℕ) → nearest self.now scopes name.now ≡ None }
+    {
+        self.marked[mark(name)]
+    }
+
     /// The value of a name in the nearest of these scopes that has one.
     pub fn nearest(&self, scopes: &[usize], name: &[u8]) -> Option<&V>
         ensures { option_map (λ v. v.now) result ≡ nearest self.now scopes.now name.now }
     {
-        if !self.marked[mark(name)] {
+        if !self.may_have(name) {
             return None;
         }
         for scope in scopes {
