@@ -6,7 +6,6 @@ pub mod ScopeLemmas
 pub mod StepLemmas
 pub mod PlainTable
 pub mod Settles
-pub mod CanonicalLemmas
 pub mod PathLemmas
 pub mod VariableLemmas
 pub mod ListLemmas
@@ -15,3 +14,4 @@ pub mod DepthLemmas
 pub mod LoadLemmas
 pub mod Evaluated
 pub mod WritingLemmas
+pub mod SoundLemmas

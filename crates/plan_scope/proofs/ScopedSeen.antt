@@ -1,10 +1,10 @@
 -- What values by scope and name show of their map.
-use Rattle.std.proofs.Common.{◌≡◌, ◌<◌, ℕ, zero, suc, Bool, true, false, ◌&&◌, List, [], ◌∷◌, ◌++◌, ◌==◌, Option, Some, None, refl, ap, sym, ◌∙◌, bytes_eq, cond, nat_eq, slice_index_or, slice_set, subst, Vec}
+use Rattle.std.proofs.Common.{◌≡◌, ◌<◌, ℕ, zero, suc, Bool, true, false, ◌&&◌, List, [], ◌∷◌, ◌++◌, ◌==◌, Option, Some, None, refl, ap, sym, ◌∙◌, bytes_eq, cond, nat_eq, slice_index_or, slice_set, subst}
 use Rattle.std.proofs.lemmas.List.{get_or-set_same, length-set}
 use Rattle.std.proofs.lemmas.Slice.Eq.{bytes_eq-Decides}
 use Rattle.std.specs.Map.{lookup}
 use Rattle.indexmap.specs.IndexMap.{insert_entry}
-use Rattle.std.specs.declared.alloc.Global.{Global}
+use Rattle.plan_scope.specs.declared.keys.Key.{Key}
 use Rattle.plan_scope.specs.Scopes.{Name, Bindings, Scoped, last_of, frame, nearest, or_else}
 use Rattle.plan_scope.specs.Keys.{IsMarked, mark_of, marks, same_key, same_key_equiv, key_of, scoped_by}
 use Rattle.plan_scope.proofs.Seen.{last_of_push}
@@ -27,10 +27,10 @@ last_in_push {V} s n bs b =
     ∙ elim (b.0 == s) as (λ t. last_of n (frame s bs ++ cond t (b.1 ∷ []) []) ≡ cond (t && bytes_eq b.1.0 n) (Some b.1.1) (last_of n (frame s bs)))
     [ true ↦ last_of_push n (frame s bs) b.1 | false ↦ none_more n (frame s bs) ]
 
-pub last_in_scoped : {V : Type 0} (s : ℕ) (n : Name) (es : List ((ℕ × Vec ℕ Global) × V)) → last_of n (frame s (scoped_by es)) ≡ lookup (λ k. same_key (s, n) (key_of k)) es
+pub last_in_scoped : {V : Type 0} (s : ℕ) (n : Name) (es : List (Key × V)) → last_of n (frame s (scoped_by es)) ≡ lookup (λ k. same_key (s, n) (key_of k)) es
 last_in_scoped s n [] = refl
 last_in_scoped {V} s n (e ∷ es) =
-    last_in_push s n (scoped_by es) (e.0.0, (e.0.1.items, e.1))
+    last_in_push s n (scoped_by es) (e.0.scope, (e.0.name.items, e.1))
     ∙ (ap (λ (t : Bool). cond t (Some e.1) (last_of n (frame s (scoped_by es)))) (same_key_equiv.symm (key_of e.0) (s, n))
     ∙ ap (λ (o : Option V). cond (same_key (s, n) (key_of e.0)) (Some e.1) o) (last_in_scoped s n es))
 
@@ -40,7 +40,7 @@ both_same q k e v w rest h false u a b = refl
 both_same q k e v w rest h true false a b = refl
 both_same q k e v w rest h true true a b = let c = same_key_equiv.congr k q e b in cc
 
-inserted_at : {V : Type 0} (q : ℕ × Name) (es : List ((ℕ × Vec ℕ Global) × V)) (e : (ℕ × Vec ℕ Global) × V) (k : ℕ × Vec ℕ Global) (v : V)
+inserted_at : {V : Type 0} (q : ℕ × Name) (es : List (Key × V)) (e : Key × V) (k : Key) (v : V)
     → lookup (λ x. same_key q (key_of x)) (insert_entry (λ x y. same_key (key_of x) (key_of y)) es k v) ≡ cond (same_key (key_of k) q) (Some v) (lookup (λ x. same_key q (key_of x)) es)
     → (t : Bool) → same_key (key_of k) (key_of e.0) ≡ t
     → lookup (λ x. same_key q (key_of x)) (cond t ((e.0, v) ∷ es) (e ∷ insert_entry (λ x y. same_key (key_of x) (key_of y)) es k v))
@@ -56,23 +56,23 @@ inserted_at {V} q es e k v more false h =
     ∙ both_same q (key_of k) (key_of e.0) v e.1 (lookup (λ x. same_key q (key_of x)) es) h (same_key q (key_of e.0)) (same_key (key_of k) q) refl refl
 
 -- what is bound after an insertion
-pub lookup_inserted : {V : Type 0} (q : ℕ × Name) (es : List ((ℕ × Vec ℕ Global) × V)) (k : ℕ × Vec ℕ Global) (v : V)
+pub lookup_inserted : {V : Type 0} (q : ℕ × Name) (es : List (Key × V)) (k : Key) (v : V)
     → lookup (λ x. same_key q (key_of x)) (insert_entry (λ x y. same_key (key_of x) (key_of y)) es k v) ≡ cond (same_key (key_of k) q) (Some v) (lookup (λ x. same_key q (key_of x)) es)
 lookup_inserted {V} q [] k v = ap (λ (t : Bool). cond {A = Option V} t (Some v) None) (same_key_equiv.symm q (key_of k))
 lookup_inserted {V} q (e ∷ es) k v = inserted_at q es e k v (lookup_inserted q es k v) (same_key (key_of k) (key_of e.0)) refl
 
 -- after a name was bound anew
-pub set_scoped : {V : Type 0} (es fs : List ((ℕ × Vec ℕ Global) × V)) (key : ℕ × Vec ℕ Global) (name : Name) (value : V) → key.1.items ≡ name
+pub set_scoped : {V : Type 0} (es fs : List (Key × V)) (key : Key) (name : Name) (value : V) → key.name.items ≡ name
     → fs ≡ insert_entry (λ x y. same_key (key_of x) (key_of y)) es key value
-    → (s : ℕ) (n : Name) → last_of n (frame s (scoped_by fs)) ≡ last_of n (frame s (scoped_by es ++ (key.0, (name, value)) ∷ []))
+    → (s : ℕ) (n : Name) → last_of n (frame s (scoped_by fs)) ≡ last_of n (frame s (scoped_by es ++ (key.scope, (name, value)) ∷ []))
 set_scoped {V} es fs key name value e f s n =
-    let own : key_of key ≡ (key.0, name) = ap (λ (x : Name). (key.0, x)) e in
-    ap (λ (xs : List ((ℕ × Vec ℕ Global) × V)). last_of n (frame s (scoped_by xs))) f
+    let own : key_of key ≡ (key.scope, name) = ap (λ (x : Name). (key.scope, x)) e in
+    ap (λ (xs : List (Key × V)). last_of n (frame s (scoped_by xs))) f
     ∙ (last_in_scoped s n (insert_entry (λ x y. same_key (key_of x) (key_of y)) es key value)
     ∙ (lookup_inserted (s, n) es key value
     ∙ (ap (λ (x : ℕ × Name). cond (same_key x (s, n)) (Some value) (lookup (λ k. same_key (s, n) (key_of k)) es)) own
-    ∙ (ap (λ (o : Option V). cond (same_key (key.0, name) (s, n)) (Some value) o) (sym (last_in_scoped s n es))
-    ∙ sym (last_in_push s n (scoped_by es) (key.0, (name, value)))))))
+    ∙ (ap (λ (o : Option V). cond (same_key (key.scope, name) (s, n)) (Some value) o) (sym (last_in_scoped s n es))
+    ∙ sym (last_in_push s n (scoped_by es) (key.scope, (name, value)))))))
 
 -- a name that no scope has
 pub nearest_none : {V : Type 0} (bound : Scoped V) (name : Name) → ((s : ℕ) → last_of name (frame s bound) ≡ None) → (scopes : List ℕ) → nearest bound scopes name ≡ None
@@ -91,7 +91,7 @@ and_true : (x y : Bool) → (x && y) ≡ true → y ≡ true
 and_true true y e = e
 and_true false y e = cc
 
-marked_at : {V : Type 0} (es : List ((ℕ × Vec ℕ Global) × V)) (marked : List Bool) (i scope : ℕ) (name : Name) (value : V) → IsMarked marked es → i ≡ mark_of name → i < marks
+marked_at : {V : Type 0} (es : List (Key × V)) (marked : List Bool) (i scope : ℕ) (name : Name) (value : V) → IsMarked marked es → i ≡ mark_of name → i < marks
     → (s : ℕ) (n : Name) → slice_index_or (slice_set marked i true) (mark_of n) false ≡ false
     → (t : Bool) → same_key (scope, name) (s, n) ≡ t → ◌≡◌ {A = Option V} (cond t (Some value) (last_of n (frame s (scoped_by es)))) None
 marked_at {V} es marked i scope name value h m lt s n e true k =
@@ -103,12 +103,12 @@ marked_at {V} es marked i scope name value h m lt s n e true k =
 marked_at es marked i scope name value h m lt s n e false k = h.1 s n (unmarked_before marked i (mark_of n) e)
 
 -- after a name was bound anew and its mark was set
-pub marked_set : {V : Type 0} (es fs : List ((ℕ × Vec ℕ Global) × V)) (marked : List Bool) (i : ℕ) (key : ℕ × Vec ℕ Global) (name : Name) (value : V) → IsMarked marked es → i ≡ mark_of name → i < marks
-    → key.1.items ≡ name → fs ≡ insert_entry (λ x y. same_key (key_of x) (key_of y)) es key value → IsMarked (slice_set marked i true) fs
+pub marked_set : {V : Type 0} (es fs : List (Key × V)) (marked : List Bool) (i : ℕ) (key : Key) (name : Name) (value : V) → IsMarked marked es → i ≡ mark_of name → i < marks
+    → key.name.items ≡ name → fs ≡ insert_entry (λ x y. same_key (key_of x) (key_of y)) es key value → IsMarked (slice_set marked i true) fs
 marked_set es fs marked i key name value h m lt k f = (
   length-set marked i true ∙ h.0,
   λ s n e.
       set_scoped es fs key name value k f s n
-      ∙ (last_in_push s n (scoped_by es) (key.0, (name, value))
-      ∙ marked_at es marked i key.0 name value h m lt s n e (same_key (key.0, name) (s, n)) refl),
+      ∙ (last_in_push s n (scoped_by es) (key.scope, (name, value))
+      ∙ marked_at es marked i key.scope name value h m lt s n e (same_key (key.scope, name) (s, n)) refl),
 )

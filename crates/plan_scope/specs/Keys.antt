@@ -1,11 +1,11 @@
 -- Values by scope and name, as a map holds them.
-use Rattle.std.specs.Prelude.{◌≡◌, ◌+◌, ◌*◌, ◌%◌, ℕ, Bool, true, false, List, [], ◌∷◌, ◌++◌, ◌&&◌, None, Vec, bytes_eq, length, nat_eq, slice_index_or}
+use Rattle.std.specs.Prelude.{◌≡◌, ◌+◌, ◌*◌, ◌%◌, ℕ, Bool, true, false, List, [], ◌∷◌, ◌++◌, ◌&&◌, None, bytes_eq, length, nat_eq, slice_index_or}
 use Rattle.std.specs.Cmp.{IsEquivalence, and_equiv, on_equiv, nat_eq_equiv}
 use Rattle.std.specs.Cmp.Lexicographic.{nat_list_eq_equiv}
 use Rattle.std.specs.Hash as fed
 use Rattle.std.specs.Cmp.Rules.{hashing}
 use Rattle.std.proofs.Common.{rules}
-use Rattle.std.specs.declared.alloc.Global.{Global}
+use Rattle.plan_scope.specs.declared.keys.Key.{Key}
 use Rattle.plan_scope.specs.Scopes.{Name, Scoped, frame, last_of}
 
 -- the same scope and the same name
@@ -15,21 +15,21 @@ same_key x y = nat_eq x.0 y.0 && bytes_eq x.1 y.1
 pub same_key_equiv : IsEquivalence same_key
 same_key_equiv = and_equiv (on_equiv (λ t. t.0) nat_eq_equiv) (on_equiv (λ t. t.1) nat_list_eq_equiv)
 
--- what a key feeds a hasher
+-- what a key feeds a hasher: its name at once
 abbrev pub key_input : ℕ × Name → List (List ℕ)
-key_input x = fed.usize x.0 ++ fed.slice fed.u8 x.1
+key_input x = fed.usize x.0 ++ x.1 ∷ []
 
 pub same_key_fed : (x y : ℕ × Name) → same_key x y ≡ true → key_input x ≡ key_input y
 same_key_fed = Prim.search (hashing, rules)
 
 -- a key, as the map holds it
-abbrev pub key_of : ℕ × Vec ℕ Global → ℕ × Name
-key_of k = (k.0, k.1.items)
+abbrev pub key_of : Key → ℕ × Name
+key_of k = (k.scope, k.name.items)
 
 -- the entries of a map as bindings in their scopes
-abbrev pub scoped_by : {V : Type 0} → List ((ℕ × Vec ℕ Global) × V) → Scoped V
+abbrev pub scoped_by : {V : Type 0} → List (Key × V) → Scoped V
 scoped_by [] = []
-scoped_by (e ∷ es) = scoped_by es ++ (e.0.0, (e.0.1.items, e.1)) ∷ []
+scoped_by (e ∷ es) = scoped_by es ++ (e.0.scope, (e.0.name.items, e.1)) ∷ []
 
 -- how many marks names have
 abbrev pub marks : ℕ
@@ -41,5 +41,5 @@ mark_of [] = 0
 mark_of (b ∷ rest) = (b + 3 * (length (b ∷ rest) % marks)) % marks
 
 -- no scope has a name without its mark
-abbrev pub IsMarked : {V : Type 0} → List Bool → List ((ℕ × Vec ℕ Global) × V) → Type 0
+abbrev pub IsMarked : {V : Type 0} → List Bool → List (Key × V) → Type 0
 IsMarked marked es = (length marked ≡ marks) × ((scope : ℕ) (name : Name) → slice_index_or marked (mark_of name) false ≡ false → last_of name (frame scope (scoped_by es)) ≡ None)

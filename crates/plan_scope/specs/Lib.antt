@@ -4,6 +4,8 @@ pub mod Trees
 pub mod Scopes
 pub mod Expansion
 pub mod Edges
+pub mod Sound
+pub mod Laws
 pub mod Loading
 pub mod Taking
 pub mod Frames

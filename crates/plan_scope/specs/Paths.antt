@@ -1,7 +1,6 @@
 -- The paths of a build line, as the code holds them.
-use Rattle.std.specs.Prelude.{◌≡◌, Bool, not, ◌&&◌, List, [], ◌∷◌, ◌++◌, map, Option}
+use Rattle.std.specs.Prelude.{◌≡◌, Bool, List, [], ◌∷◌, ◌++◌, map, Option}
 use Rattle.std.specs.List.{list_any}
-use Rattle.plan_text.specs.Path.{is_nothing, is_up}
 use Rattle.plan_parse.specs.declared.statement.Build.{Build}
 use Rattle.plan_scope.specs.declared.build_texts.Paths.{Paths}
 use Rattle.plan_scope.specs.declared.build_texts.PathTexts.{PathTexts}
@@ -41,10 +40,6 @@ has_empty p = list_any is_empty (all_in p)
 
 abbrev pub has_long : Paths → Bool
 has_long p = list_any is_long_path (all_in p)
-
--- neither empty nor `.` nor `..`
-abbrev pub is_ordinary : Text → Bool
-is_ordinary part = not (is_nothing part) && not (is_up part)
 
 -- the canonical forms of a list of paths, and what is seen of these as expanded
 abbrev pub IsListOf : List Text → List Text → Bool → Bool → Type 0

@@ -9,11 +9,10 @@ ghost use Rattle.plan_scope.specs.Paths.{AreRead, IsListOf, kept_in, texts_of};
 ghost use Rattle.plan_scope.specs.Uses.{names_in};
 
 use crate::appending::{MAX_PATH, append, is_long};
-use crate::canonical_paths::is_canonical;
 use crate::frame::Frame;
 use crate::scope::{Scope, expanded, text_in};
 use plan_parse::{Binding, Build};
-use plan_text::{Items, Piece, PieceList, SmallText, TextFault, canonical};
+use plan_text::{Items, Piece, PieceList, SmallText, TextFault, canonical, is_canonical};
 use std::alloc::{AllocError, Global};
 
 /// The variables of a build block.

@@ -1,9 +1,9 @@
 //! The variables of an edge.
 
-ghost use Rattle.std.specs.Prelude.{◌≡◌, ◌∷◌, [], IfOk, is_none, map, option_map};
+ghost use Rattle.std.specs.Prelude.{◌≡◌, ◌∷◌, [], IfOk, None, is_none, map, option_map, true};
 ghost use Rattle.std.specs.List.{list_any};
-ghost use Rattle.plan_scope.specs.Scopes.{is_too_long};
-ghost use Rattle.plan_scope.specs.Expansion.{variable};
+ghost use Rattle.plan_scope.specs.Scopes.{Text, is_too_long};
+ghost use Rattle.plan_scope.specs.Expansion.{Known, listed, meaning_of, variable};
 ghost use Rattle.plan_scope.specs.Edges.{all_variables, is_other_deps, is_present, phony_variables, text_in, variables_of};
 ghost use Rattle.plan_scope.specs.Frames.{kept};
 ghost use Rattle.plan_scope.specs.HeldUses.{use_of};
@@ -20,6 +20,23 @@ use std::alloc::{AllocError, Global};
 /// How many bytes a buffer has room for at first, enough for most commands.
 const BUFFER: usize = 1000;
 
+/// Whether it is told without a look-up in the file that nothing binds a name.
+fn is_unbound<'a>(edge: &Use<'a>, name: &[u8]) -> bool
+    ensures { result ≡ true → (show : Text → Text) → listed show (use_of edge.now) name.now ≡ None → meaning_of show (use_of edge.now) name.now ≡ Known [] }
+{
+    if edge.file.bound.may_have(name) {
+        return false;
+    }
+    match edge.block.get(name) {
+        Some(_) => return false,
+        None => {}
+    }
+    match edge.rule.get(name) {
+        Some(_) => false,
+        None => true,
+    }
+}
+
 /// A variable of an edge, expanded for itself; none where its expansion meets a name that is in use already.
 /// It is put together in a buffer, whatever that held, so that the text takes no more memory than it needs.
 fn variable<'a>(
@@ -29,8 +46,12 @@ fn variable<'a>(
     name: &'a [u8],
     buffer: &mut Vec<u8>,
 ) -> Result<Option<Items<u8>>, AllocError>
+    requires { listed (shown_as show) (use_of edge.now) name.now ≡ None }
     ensures { IfOk result (λ text. option_map kept text ≡ option_map kept (variable (shown_as show) (use_of edge.now) name.now)) }
 {
+    if is_unbound(edge, name) {
+        return Ok(Some(Items::empty(alloc)));
+    }
     buffer.clear();
     match append_whole(alloc, edge, show, name, buffer) {
         Ok(()) => Ok(Some(copied(alloc, buffer)?)),

@@ -4,13 +4,14 @@
 mod appending;
 mod build_line;
 mod build_texts;
-mod canonical_paths;
 mod defaults;
 mod edge_variables;
 mod evaluator;
 mod expansion;
 mod fault;
 mod frame;
+mod keys;
+mod laws;
 mod loaded;
 mod loader;
 mod manifest;
@@ -28,6 +29,7 @@ mod writing;
 
 pub use evaluator::evaluate;
 pub use fault::{Cause, ScopeFault};
+pub use laws::manifests_are_sound;
 pub use loader::load;
 pub use manifest::{DefaultTarget, Edge, Manifest, Pool};
 pub use source::{Source, SourceFault};
