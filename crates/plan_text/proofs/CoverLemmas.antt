@@ -1,10 +1,9 @@
 -- Logical lines and their newlines, joined.
-use Rattle.std.proofs.Common.{◌≡◌, inl, inr, ℕ, zero, suc, ◌+◌, ◌-◌, ◌<◌, ◌≤◌, ◌==◌, Bool, ◌&&◌, true, false, cond, List, [], ◌∷◌, ◌++◌, length, take, drop, refl, sym, ap, subst, ◌∙◌, arith, add-zero, eqb, length-drop}
+use Rattle.std.proofs.Common.{◌≡◌, inl, inr, ℕ, zero, suc, ◌+◌, ◌-◌, ◌<◌, ◌≤◌, Bool, ◌&&◌, true, false, cond, List, [], ◌∷◌, ◌++◌, length, take, drop, refl, sym, ap, subst, ◌∙◌, arith, eqb, length-drop}
 use Rattle.std.proofs.lemmas.Bool.{eqb-true, ltb-true}
-use Rattle.std.specs.Prelude.{nat_lt}
 use Rattle.std.proofs.lemmas.List.{drop-drop, take-append-drop, length-take}
 use Rattle.std.proofs.lemmas.List.Sums.{prefix_len-le-length}
-use Rattle.plan_text.specs.Bytes.{line_feed, carriage_return, hash, dollar, begins_with, is_space}
+use Rattle.plan_text.specs.Bytes.{hash, dollar, begins_with, is_space}
 use Rattle.plan_text.specs.Lines.{newline_len, begins_newline, taken_along, line_unit, comment_unit, indent_len, logical_len, Raw, raw_past, EndsLine, AreLinesOf}
 use Rattle.plan_text.specs.Runs.{and_more, run_past, run}
 use Rattle.plan_text.proofs.LineLemmas.{progress}
