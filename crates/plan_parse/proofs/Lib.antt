@@ -2,3 +2,4 @@ mod Rows
 pub mod ReadingLemmas
 pub mod BlockLemmas
 pub mod ProgressLemmas
+pub mod WholeLemmas

@@ -5,3 +5,4 @@ pub mod Statements
 pub mod Views
 pub mod Members
 pub mod Progress
+pub mod Laws

@@ -7,6 +7,7 @@
 mod block;
 mod cursor;
 mod fault;
+mod laws;
 mod owner;
 mod parser;
 mod reading;
@@ -14,6 +15,7 @@ mod statement;
 mod statement_reader;
 
 pub use fault::ParseFault;
+pub use laws::statements_are_whole;
 pub use parser::parse;
 pub use statement::{Binding, Build, Pool, Rule, Statement, StatementKind};
 
