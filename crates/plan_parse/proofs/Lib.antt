@@ -3,3 +3,4 @@ pub mod ReadingLemmas
 pub mod BlockLemmas
 pub mod ProgressLemmas
 pub mod WholeLemmas
+pub mod LikeLemmas
