@@ -3,3 +3,5 @@ pub mod ReadingLemmas
 pub mod BlockLemmas
 pub mod ProgressLemmas
 pub mod CompactLemmas
+pub mod WholeLemmas
+pub mod LikeLemmas

@@ -6,3 +6,4 @@ pub mod Views
 pub mod Members
 pub mod Compact
 pub mod Progress
+pub mod Laws

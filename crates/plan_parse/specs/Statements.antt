@@ -110,7 +110,6 @@ depth_of (b ∷ bs) = b.value
 abbrev pub pool_of : ℕ → Place → List Member → Result Statement ParseFault
 pool_of at p members = named_block Pool at p members >>= λ x. Ok (record { offset = at; kind = kind.Pool (record { name = x.0; depth = depth_of x.1 }) })
 
--- `@`
 -- `|`, and not `||` or `|@`
 abbrev pub is_bar : Place → Bool
 is_bar p = begins_with bar p.bytes && not (begins_with bar (drop 1 p.bytes) || begins_with at_sign (drop 1 p.bytes))

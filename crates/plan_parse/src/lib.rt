@@ -8,6 +8,7 @@ mod block;
 mod compact;
 mod cursor;
 mod fault;
+mod laws;
 mod owner;
 mod parser;
 mod reading;
@@ -17,6 +18,7 @@ mod statement_reader;
 
 pub use compact::{CompactStatement, read_binding};
 pub use fault::ParseFault;
+pub use laws::statements_are_whole;
 pub use parser::parse;
 pub use span::Span;
 pub use statement::{Binding, Build, Pool, Rule, Statement, StatementKind};

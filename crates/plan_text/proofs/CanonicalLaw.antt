@@ -1,9 +1,8 @@
 -- What is canonical stays.
-use Rattle.std.proofs.Common.{◌≡◌, ℕ, suc, ◌+◌, ◌<◌, ◌≤◌, Bool, true, false, cond, List, [], ◌∷◌, ◌++◌, length, Result, Ok, Err, refl, sym, ap, subst, ◌∙◌, arith, eqb, length-append}
-use Rattle.std.specs.List.{join_with_byte, slice_split, onto_first}
+use Rattle.std.proofs.Common.{◌≡◌, ℕ, suc, ◌+◌, ◌<◌, ◌≤◌, Bool, true, false, cond, List, [], ◌∷◌, ◌++◌, length, Ok, refl, sym, ap, subst, ◌∙◌, arith, eqb, length-append}
+use Rattle.std.specs.List.{join_with_byte, onto_first}
 use Rattle.std.proofs.lemmas.List.Splits.{join_with_byte-slice_split, length-slice_split, slice_split-cons_no}
-use Rattle.plan_text.specs.declared.fault.TextFault.{TextFault}
-use Rattle.plan_text.specs.Path.{is_nothing, is_up, under, before, reduced, without_ups, parts_of, relative, rooted, canonical_of}
+use Rattle.plan_text.specs.Path.{is_nothing, is_up, under, reduced, without_ups, parts_of, relative, rooted, canonical_of}
 use Rattle.plan_text.specs.Reducing.{AllUps, AllOrdinary}
 use Rattle.plan_text.proofs.ReducingLemmas.{reduced-kept, reduced-ordinary, under-up, under-ordinary, without_ups-ordinary, without_ups-kept}
 

@@ -1,10 +1,9 @@
 -- Logical lines and their newlines, joined.
-use Rattle.std.proofs.Common.{◌≡◌, inl, inr, ℕ, zero, suc, ◌+◌, ◌-◌, ◌<◌, ◌≤◌, ◌==◌, Bool, ◌&&◌, true, false, cond, List, [], ◌∷◌, ◌++◌, length, take, drop, refl, sym, ap, subst, ◌∙◌, arith, add-zero, eqb, length-drop}
+use Rattle.std.proofs.Common.{◌≡◌, inl, inr, ℕ, zero, suc, ◌+◌, ◌-◌, ◌<◌, ◌≤◌, Bool, ◌&&◌, true, false, cond, List, [], ◌∷◌, ◌++◌, length, take, drop, refl, sym, ap, subst, ◌∙◌, arith, eqb, length-drop}
 use Rattle.std.proofs.lemmas.Bool.{eqb-true, ltb-true}
-use Rattle.std.specs.Prelude.{nat_lt}
 use Rattle.std.proofs.lemmas.List.{drop-drop, take-append-drop, length-take}
 use Rattle.std.proofs.lemmas.List.Sums.{prefix_len-le-length}
-use Rattle.plan_text.specs.Bytes.{line_feed, carriage_return, hash, dollar, begins_with, is_space}
+use Rattle.plan_text.specs.Bytes.{hash, dollar, begins_with, is_space}
 use Rattle.plan_text.specs.Lines.{newline_len, begins_newline, taken_along, line_unit, comment_unit, indent_len, logical_len, Raw, raw_past, EndsLine, AreLinesOf}
 use Rattle.plan_text.specs.Runs.{and_more, run_past, run}
 use Rattle.plan_text.proofs.LineLemmas.{progress}
@@ -18,7 +17,7 @@ run_stops size none (b ∷ rest) zero = by (size (b ∷ rest)) refl (λ n. run_s
   by zero e more = e
   by (suc n) e more = more n
 
-run_within : (size : List ℕ → ℕ) (text : List ℕ) (n : ℕ) → run_past size text n ≤ length text
+pub run_within : (size : List ℕ → ℕ) (text : List ℕ) (n : ℕ) → run_past size text n ≤ length text
 run_within size [] n = omega arith
 run_within size (b ∷ rest) (suc n) = let more = run_within size rest n in omega (arith, more)
 run_within size (b ∷ rest) zero = by (size (b ∷ rest)) (λ n. run_within size rest n) where
@@ -46,7 +45,7 @@ newline_ends : (text : List ℕ) → (0 < length text → 0 < newline_len text) 
 newline_ends [] h = inr (inr (refl, refl))
 newline_ends (b ∷ rest) h = ends_here b rest (eqb b 10) refl (h (omega arith))
 
-newline_within : (text : List ℕ) → newline_len text ≤ length text
+pub newline_within : (text : List ℕ) → newline_len text ≤ length text
 newline_within [] = omega arith
 newline_within (b ∷ rest) = by (eqb b 10) (eqb b 13) rest where
   by : (t u : Bool) (rest : List ℕ) → cond t 1 (cond (u && begins_with 10 rest) 2 0) ≤ suc (length rest)
@@ -95,7 +94,7 @@ within_by text true =
     omega (arith, first, more, length-drop (indent_len text) text)
 within_by text false = run_within line_unit text 0
 
-logical_within : (text : List ℕ) → logical_len text ≤ length text
+pub logical_within : (text : List ℕ) → logical_len text ≤ length text
 logical_within text = within_by text (begins_with hash (drop (indent_len text) text))
 
 -- the first line, its newline and what follows

@@ -1,11 +1,11 @@
 -- Escaped bytes, read.
-use Rattle.std.proofs.Common.{◌≡◌, ℕ, ◌+◌, ◌==◌, Bool, true, false, not, ◌||◌, ◌&&◌, cond, List, [], ◌∷◌, Result, Ok, refl, ap, sym, ◌∙◌, eqb}
+use Rattle.std.proofs.Common.{◌≡◌, ℕ, ◌+◌, ◌==◌, Bool, true, false, not, ◌||◌, ◌&&◌, cond, List, [], ◌∷◌, Result, Ok, refl, ap, ◌∙◌}
 use Rattle.std.specs.List.{list_all}
 use Rattle.plan_text.specs.Bytes.{nul, tab, space, dollar, colon}
 use Rattle.plan_text.specs.declared.fault.TextFault.{TextFault}
 use Rattle.plan_text.specs.declared.piece_reader.Mode.{Mode}
 use Rattle.plan_text.specs.declared.piece_reader.Piece.{Piece}
-use Rattle.plan_text.specs.Pieces.{Byte, sign_at, escape, onto, all_onto, in_front, pieces_past, escaped, is_allowed, is_path, whole}
+use Rattle.plan_text.specs.Pieces.{Byte, onto, all_onto, pieces_past, escaped, is_allowed, is_path, whole}
 
 and_parts : (x y : Bool) → (x && y) ≡ true → (x ≡ true) × (y ≡ true)
 and_parts true y e = (refl, e)

@@ -10,3 +10,4 @@ pub mod CanonicalLaw
 pub mod NumberLemmas
 pub mod EscapeLemmas
 pub mod CoverLemmas
+pub mod JoinLemmas

@@ -5,7 +5,6 @@ use Rattle.plan_text.specs.declared.piece_reader.Gather.{Gather}
 use Rattle.plan_text.specs.declared.piece_reader.Found.{Found}
 use Rattle.plan_text.specs.declared.piece_reader.Found.TheVariants as found
 use Rattle.plan_text.specs.declared.piece_reader.Piece.{Piece}
-use Rattle.plan_text.specs.declared.piece_reader.Piece.TheVariants.{Literal}
 use Rattle.plan_text.specs.declared.piece_reader.Mode.{Mode}
 use Rattle.plan_text.specs.declared.piece_reader.Mode.TheVariants as mode
 use Rattle.plan_text.specs.Bytes.{nul, tab, dollar}

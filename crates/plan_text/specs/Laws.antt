@@ -1,9 +1,9 @@
 -- What holds of all texts.
-use Rattle.std.specs.Prelude.{◌≡◌, ◌<◌, ◌≤◌, ℕ, Bool, true, false, List, ◌++◌, length, Option, Ok}
+use Rattle.std.specs.Prelude.{◌≡◌, ◌<◌, ◌≤◌, ℕ, ◌+◌, Bool, true, false, List, ◌++◌, length, Option, Ok}
 use Rattle.plan_text.specs.Path.{canonical_of}
 use Rattle.std.specs.List.{list_all}
 use Rattle.plan_text.specs.declared.piece_reader.Mode.{Mode}
-use Rattle.plan_text.specs.Lines.{AreLinesOf, raw_lines}
+use Rattle.plan_text.specs.Lines.{AreLinesOf, are_ended, raw_lines, raw_past}
 use Rattle.plan_text.specs.Pieces.{escaped, is_allowed, pieces_of, whole}
 use Rattle.plan_text.specs.Sinks.{Writes}
 
@@ -26,3 +26,7 @@ LinesCover = (text : List ℕ) → AreLinesOf 0 (raw_lines text) text
 -- bytes that are escaped are read as those bytes
 abbrev pub EscapedIsRead : Type 0
 EscapedIsRead = (mode : Mode) (bytes : List ℕ) → list_all (is_allowed mode) bytes ≡ true → pieces_of mode (escaped bytes) ≡ Ok (whole bytes)
+
+-- behind a text whose lines are ended, the lines of another text stay what they are
+abbrev pub LinesJoin : Type 0
+LinesJoin = (at : ℕ) (front back : List ℕ) → are_ended front ≡ true → raw_past at (front ++ back) 0 ≡ raw_past at front 0 ++ raw_past (at + length front) back 0

@@ -1,5 +1,5 @@
 -- The logical lines of a text. (Ninja manual, "Lexical syntax": newlines are significant, `$` and a newline continue a line, a comment runs to the end of its line.)
-use Rattle.std.specs.Prelude.{◌≡◌, ◌⊎◌, ◌++◌, ℕ, zero, suc, ◌+◌, ◌-◌, ◌==◌, nat_lt, Bool, ◌||◌, ◌&&◌, List, [], ◌∷◌, length, take, drop, if◌then◌else◌, Result, Ok, Err, Option, Some, None, map}
+use Rattle.std.specs.Prelude.{◌≡◌, ◌⊎◌, ◌++◌, ℕ, zero, suc, ◌+◌, ◌-◌, ◌==◌, nat_lt, Bool, true, ◌||◌, ◌&&◌, List, [], ◌∷◌, length, take, drop, if◌then◌else◌, Result, Ok, Err, Option, Some, None, map}
 use Rattle.std.specs.List.{prefix_len, position_or_len}
 use Rattle.plan_text.specs.Bytes.{nul, tab, line_feed, carriage_return, space, hash, dollar, is_space, begins_with}
 use Rattle.plan_text.specs.Runs.{run}
@@ -105,3 +105,15 @@ AreLinesOf at [] text = text ≡ []
 AreLinesOf at (raw ∷ more) text =
     (newline : List ℕ) × (rest : List ℕ) × (raw.at ≡ at) × (text ≡ raw.bytes ++ (newline ++ rest)) × EndsLine newline rest
     × AreLinesOf (at + length raw.bytes + length newline) more rest
+
+-- whether each logical line of a text past its first n bytes is ended by a newline
+abbrev pub ended_past : List ℕ → ℕ → Bool
+ended_past [] n = true
+ended_past (b ∷ rest) (suc n) = ended_past rest n
+ended_past (b ∷ rest) zero =
+    let len = logical_len (b ∷ rest) in
+    begins_newline (drop len (b ∷ rest)) && ended_past rest (len + newline_len (drop len (b ∷ rest)) - 1)
+
+-- whether each logical line of a text is ended by a newline, so that another text may follow
+abbrev pub are_ended : List ℕ → Bool
+are_ended text = ended_past text 0

@@ -1,6 +1,6 @@
 -- Paths in canonical form: no part is empty or `.`, and `..` takes away the ordinary part before it.
 use Rattle.std.specs.Prelude.{ℕ, ◌==◌, Bool, true, false, not, ◌&&◌, List, [], ◌∷◌, if◌then◌else◌, Result, Ok, Err}
-use Rattle.std.specs.List.{slice_split, join_with_byte}
+use Rattle.std.specs.List.{list_all, slice_split, join_with_byte}
 use Rattle.plan_text.specs.Bytes.{dot, slash}
 use Rattle.plan_text.specs.declared.fault.TextFault.{TextFault}
 use Rattle.plan_text.specs.declared.fault.TextFault.TheVariants.{EmptyPath}
@@ -58,3 +58,8 @@ rooted parts = slash ∷ join_with_byte slash (without_ups parts)
 abbrev pub canonical_of : List ℕ → Result (List ℕ) TextFault
 canonical_of [] = Err EmptyPath
 canonical_of (b ∷ rest) = Ok (if b == slash then rooted (reduced (parts_of rest)) else relative (reduced (parts_of (b ∷ rest))))
+
+-- whether each part of a path, behind its root where it has one, is ordinary
+abbrev pub has_ordinary_parts : List ℕ → Bool
+has_ordinary_parts [] = false
+has_ordinary_parts (b ∷ rest) = if b == slash then list_all is_ordinary (parts_of rest) else list_all is_ordinary (parts_of (b ∷ rest))

@@ -2,7 +2,7 @@
 
 ghost use Rattle.std.specs.Prelude.{◌≡◌, Ok, true};
 ghost use Rattle.std.specs.List.{list_all};
-ghost use Rattle.plan_text.specs.Path.{canonical_of, is_ordinary, parts_of};
+ghost use Rattle.plan_text.specs.Path.{canonical_of, has_ordinary_parts, is_ordinary, parts_of};
 
 /// Whether a part of a path is neither empty nor `.` nor `..`.
 fn is_ordinary(part: &[u8]) -> bool
@@ -17,7 +17,7 @@ fn is_ordinary(part: &[u8]) -> bool
 }
 
 /// Whether each part between slashes is.
-fn has_ordinary_parts(path: &[u8]) -> bool
+fn are_ordinary(path: &[u8]) -> bool
     ensures { result ≡ list_all is_ordinary (parts_of path.now) }
 {
     path.split(|b| *b == b'/').all(|part| is_ordinary(part))
@@ -25,10 +25,11 @@ fn has_ordinary_parts(path: &[u8]) -> bool
 
 /// Whether a path shows that it is canonical, so that nobody has to make its canonical form. A path that begins with `..` doesn't.
 pub fn is_canonical(path: &[u8]) -> bool
-    ensures { result ≡ true → canonical_of path.now ≡ Ok path.now }
+    ensures parts { result ≡ has_ordinary_parts path.now }
+    ensures canonical { result ≡ true → canonical_of path.now ≡ Ok path.now }
 {
     match path {
-        [b'/', rest @ ..] => has_ordinary_parts(rest),
-        _ => has_ordinary_parts(path),
+        [b'/', rest @ ..] => are_ordinary(rest),
+        _ => are_ordinary(path),
     }
 }

@@ -1,6 +1,6 @@
 //! What holds of all texts.
 
-ghost use Rattle.plan_text.specs.Laws.{CanonicalStays, EscapedIsRead, FailedWriteStays, LinesCover, WritesJoin};
+ghost use Rattle.plan_text.specs.Laws.{CanonicalStays, EscapedIsRead, FailedWriteStays, LinesCover, LinesJoin, WritesJoin};
 
 /// A canonical path is canonical itself, has a byte, and is no longer than the path that it was made of.
 pub fn canonical_stays()
@@ -22,4 +22,9 @@ pub fn lines_cover()
 /// Bytes without NUL, and in a path without a tab, that are escaped by a `$` before each `$`, space and colon, are read as those bytes.
 pub fn escaped_is_read()
     ensures { EscapedIsRead }
+{}
+
+/// Behind a text each of whose logical lines is ended by a newline, the logical lines of another text stay what they are.
+pub fn lines_join()
+    ensures { LinesJoin }
 {}

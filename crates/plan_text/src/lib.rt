@@ -10,7 +10,7 @@
 //! - `Items`: a list that contracts see as a list.
 //! - `SmallText`, `PieceList`: a text, and a list of pieces, that take no allocation where they are short. Contracts see them as lists too.
 //! - `Sink`, `Counted` and `write_all`: what bytes are written to, with a count of failures that only proofs read, a `Tally`.
-//! - `canonical_stays`, `lines_cover`, `escaped_is_read`, `writes_join`: what holds of all texts and writes, for the proofs of the crates above.
+//! - `canonical_stays`, `lines_cover`, `lines_join`, `escaped_is_read`, `writes_join`: what holds of all texts and writes, for the proofs of the crates above.
 //!
 //! The rules are those of the Ninja manual's section "Lexical syntax", and where it says nothing this project's own choice; each item says which.
 #![tactic(auto)]
@@ -40,7 +40,7 @@ pub use counted::Counted;
 pub use fault::TextFault;
 pub use items::Items;
 pub use lack::Memory;
-pub use laws::{canonical_stays, escaped_is_read, lines_cover, writes_join};
+pub use laws::{canonical_stays, escaped_is_read, lines_cover, lines_join, writes_join};
 pub use limits::{MAX_PATH, MAX_SOURCE, MAX_TEXT};
 pub use line_reader::{Line, gap_len, indent_len, lines, logical_len, newline_len, split_line};
 pub use numerals::number_in;

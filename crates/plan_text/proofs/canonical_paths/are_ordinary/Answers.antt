@@ -2,7 +2,7 @@ use Rattle.std.proofs.Common.{eqb, rules}
 use Rattle.std.proofs.lemmas.Iterator.Search.{all_from_yields_List}
 use Rattle.std.proofs.lemmas.Iterator.Splits.{YieldsList-from_slice_split}
 use Rattle.plan_text.specs.Path.{is_ordinary}
-use Rattle.plan_text.proofs.canonical_paths.has_ordinary_parts.Goals as goal
+use Rattle.plan_text.proofs.canonical_paths.are_ordinary.Goals as goal
 
 pub returns : goal.returns
 returns c =
