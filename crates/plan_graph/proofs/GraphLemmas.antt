@@ -69,7 +69,7 @@ refuses m (Cycle es) h = absurd (subst IsRead (refused_table m (Cycle es) (h (λ
 
 -- a cycle, where nothing else is at fault
 pub refuses_cycle : (m : Manifest) (fault : GraphFault) → first_fault m ≡ None → TellsCycle (all_waits m.edges) fault → Refuses m fault
-refuses_cycle m (Cycle es) sound h = (sound, h.0, h.1)
+refuses_cycle m (Cycle es) sound h = (sound, h.0, h.1, h.2)
 refuses_cycle m Memory sound h = tt
 refuses_cycle m (TwoProducers path) sound h = absurd h
 refuses_cycle m (UnknownDefault path) sound h = absurd h

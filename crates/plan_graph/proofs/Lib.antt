@@ -6,4 +6,5 @@ pub mod WalkLemmas
 pub mod TableLemmas
 pub mod GraphLemmas
 pub mod LawLemmas
+pub mod InputLemmas
 pub mod Rows

@@ -11,6 +11,7 @@ use Rattle.plan_graph.specs.Files.{Path, Table, maker_in}
 use Rattle.plan_graph.specs.Fitting.{Fits, IsAscending, makers, other}
 use Rattle.plan_graph.specs.Graph.{default_edges, inputs_named, inputs_of, maker_from, maker_of, makes_any, numbers_from, outputs_of, waits_of}
 use Rattle.plan_graph.specs.Reading.{is_own, own_of}
+use Rattle.plan_graph.proofs.InputLemmas.{inputs_are}
 use Rattle.plan_graph.proofs.MemberLemmas.{In, Rises, any_in, contained, filter_in, flat_in, in_any, in_filter, in_flat, in_list, rises_from, rises_lower, same_members, some_is}
 
 -- the numbers of edges rise
@@ -103,7 +104,7 @@ phony_kept edges number e p k true makes i =
 
 pub given_input : (files : Table) (edges : List Edge) (number : ℕ) (e : Edge) (p : Path) (k : ℕ) → Fits files edges → slice_get edges number ≡ Some e
     → In p (inputs_named e) → maker_of edges p ≡ Some k → is_own (Some k) (own_of number e) ≡ false → In p (inputs_of e)
-given_input files edges number e p k fits here i maker h = phony_given edges number e p k e.phony (λ q t. fits.once number e q here t) i maker h
+given_input files edges number e p k fits here i maker h = subst (In p) (sym (inputs_are e)) (phony_given edges number e p k e.phony (λ q t. fits.once number e q here t) i maker h)
 
 pub kept_input : (files : Table) (edges : List Edge) (number : ℕ) (e : Edge) (p : Path) (k : ℕ) → Fits files edges → slice_get edges number ≡ Some e
     → In p (inputs_of e) → maker_of edges p ≡ Some k → In p (inputs_named e) × (is_own (Some k) (own_of number e) ≡ false)
@@ -112,7 +113,7 @@ kept_input files edges number e p k fits here i maker =
     let n = maker_found 0 edges p k maker in
     let place : n.place ≡ number = omega (arith, n.counts, same) in
     let edge : n.edge ≡ e = some_is n.edge e (sym n.here ∙ (ap (slice_get edges) place ∙ here)) in
-    subst (λ x. is_among (outputs_of x) p ≡ true) edge n.passes) i
+    subst (λ x. is_among (outputs_of x) p ≡ true) edge n.passes) (subst (In p) (inputs_are e) i)
 
 -- the makers of some paths, but for the edge itself, are the edges that make one of these inputs
 pub makers_are : (files : Table) (edges : List Edge) (own : Option ℕ) (named inputs : List Path) (row : List ℕ) → Fits files edges

@@ -10,7 +10,7 @@ use Rattle.plan_graph.specs.declared.fault.GraphFault.{GraphFault}
 use Rattle.plan_graph.specs.declared.fault.GraphFault.TheVariants.{TwoProducers, Cycle, UnknownDefault, TooManyEdges, Memory}
 use Rattle.plan_graph.specs.declared.edges.Graph.{Graph as GraphMeant}
 use Rattle.plan_graph.specs.Files.{Path, maker_in, paths_in, with_paths}
-use Rattle.plan_graph.specs.Cycles.{AreRanks, IsCycle, IsLeastFirst}
+use Rattle.plan_graph.specs.Cycles.{AreRanks, IsCycle, IsLeastFirst, IsSimple}
 
 -- explicit outputs before implicit ones
 abbrev pub outputs_of : Edge → List Path
@@ -21,8 +21,19 @@ abbrev pub inputs_named : Edge → List Path
 inputs_named e = e.inputs ++ (e.implicit_inputs ++ e.order_only_inputs)
 
 -- a phony loses its own outputs from its inputs
+abbrev pub without_own : Edge → List Path → List Path
+without_own e paths = if e.phony then filter (λ p. not (is_among (outputs_of e) p)) paths else paths
+
+-- explicit and implicit inputs
+abbrev pub named_inputs_of : Edge → List Path
+named_inputs_of e = without_own e (e.inputs ++ e.implicit_inputs)
+
+abbrev pub order_only_of : Edge → List Path
+order_only_of e = without_own e e.order_only_inputs
+
+-- inputs of any sort
 abbrev pub inputs_of : Edge → List Path
-inputs_of e = if e.phony then filter (λ p. not (is_among (outputs_of e) p)) (inputs_named e) else inputs_named e
+inputs_of e = named_inputs_of e ++ order_only_of e
 
 -- an edge that makes one of these paths
 abbrev pub makes_any : List Path → Edge → Bool
@@ -105,7 +116,7 @@ pub record IsGraph (m : Manifest) (g : GraphMeant) : Type 0 where
 
 -- why a manifest has no graph; a cycle only where nothing else is at fault
 abbrev pub Refuses : Manifest → GraphFault → Type 0
-Refuses m (Cycle es) = (first_fault m ≡ None) × IsCycle (all_waits m.edges) es × IsLeastFirst es
+Refuses m (Cycle es) = (first_fault m ≡ None) × IsCycle (all_waits m.edges) es × IsSimple es × IsLeastFirst es
 Refuses m Memory = Unit {0}
 Refuses m (TwoProducers path) = first_fault m ≡ Some (TwoProducers path)
 Refuses m (UnknownDefault path) = first_fault m ≡ Some (UnknownDefault path)

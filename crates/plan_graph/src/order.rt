@@ -2,7 +2,7 @@
 
 ghost use Rattle.std.specs.Prelude.{◌≡◌, ◌≢◌, ◌<◌, ◌≤◌, ◌+◌, ◌++◌, ◌∷◌, [], ℕ, List, All, Contains, IfErr, IfOk, IsFalse, IsTrue, None, Some, drop, get_or, length, slice_get, slice_index, take, replicate, ◌^◌};
 ghost use Rattle.plan_graph.specs.Graph.{max_edges};
-ghost use Rattle.plan_graph.specs.Cycles.{AreRanks, Chain, IsCycle, IsLeastFirst, rank_over};
+ghost use Rattle.plan_graph.specs.Cycles.{AreRanks, Chain, IsSimple, rank_over};
 ghost use Rattle.plan_graph.specs.Walking.{AllDone, DoneTo, GoesOn, InRange, KeepsMarks, Passes, TellsCycle, Walks};
 
 use crate::fault::GraphFault;
@@ -174,6 +174,7 @@ fn place_of(path: &[usize], edge: usize) -> usize
 fn cycle_from(alloc: Global, waits: &[Items<usize>], path: &[usize], edge: usize) -> GraphFault
     requires here { Contains path.now edge }
     requires chain { Chain waits.now (path.now ++ edge ∷ []) }
+    requires simple { IsSimple path.now }
     ensures { TellsCycle waits.now result }
 {
     match rotated(alloc, &path[place_of(path, edge)..]) {
