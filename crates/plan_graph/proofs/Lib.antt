@@ -7,4 +7,6 @@ pub mod TableLemmas
 pub mod GraphLemmas
 pub mod LawLemmas
 pub mod InputLemmas
+pub mod RowListLemmas
+pub mod NumberLemmas
 pub mod Rows

@@ -275,10 +275,6 @@ all_done marks (w ∷ ws) h = (h 0 (omega arith), all_done marks ws (λ i lt. h 
 pub opened_not_new : (marks : List Mark) (i : ℕ) → i < length marks → slice_get (set marks i Open) i ≢ Some New
 opened_not_new marks i h e = let here : slice_get (set marks i Open) i ≡ Some Open = get_same marks i Open h in cc
 
--- what an edge waits for, as it is read
-pub row_here : (waits : List (List ℕ)) (e : ℕ) (row : List ℕ) → e < length waits → row ≡ get_or waits e row → get_or waits e [] ≡ row
-row_here waits e row h is = get_or_from_slice_get waits e row [] (slice_get_read waits (length waits) e row refl h is)
-
 -- each of two parts of a list is within it
 part_in : (waits : List (List ℕ)) (cycle : List ℕ) (at : ℕ) (y : ℕ) (ys : List ℕ) (x : ℕ) → drop at cycle ≡ y ∷ ys → In x (ys ++ take at cycle) → In x cycle
 part_in waits cycle at y ys x e h =
