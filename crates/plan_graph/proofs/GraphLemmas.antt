@@ -1,6 +1,8 @@
 -- What a graph stands on.
-use Rattle.std.proofs.Common.{Bool, true, false, ◌≡◌, ◌≢◌, ◌<◌, ◌+◌, ◌++◌, ◌∷◌, [], ◌⊎◌, inl, inr, List, ℕ, zero, suc, Option, Some, None, Result, Ok, Err, arith, get_or, length, refl, subst, sym}
-use Rattle.std.specs.Prelude.{All, drop, flat_map, if◌then◌else◌, map, nat_le, take}
+use Rattle.std.proofs.Common.{Bool, true, false, ◌≡◌, ◌≢◌, ◌<◌, ◌+◌, ◌++◌, ◌∷◌, [], ◌⊎◌, inl, inr, List, ℕ, zero, suc, Option, Some, None, Result, Ok, Err, ap, arith, ◌∙◌, get_or, length, refl, subst, sym}
+use Rattle.std.specs.Cmp.Lexicographic.{nat_list_eq_equiv}
+use Rattle.std.proofs.lemmas.Map.Views.{list_any-from_Contains}
+use Rattle.std.specs.Prelude.{All, Contains, slice_get, drop, flat_map, if◌then◌else◌, map, nat_le, take}
 use Rattle.std.proofs.lemmas.List.{length-map}
 use Rattle.std.proofs.lemmas.List.Elements.{Contains-get_or}
 use Rattle.std.proofs.lemmas.Option.{slice_get_within}
@@ -11,12 +13,13 @@ use Rattle.plan_scope.specs.Scopes.{or_else}
 use Rattle.plan_scope.specs.Edges.{is_among}
 use Rattle.plan_graph.specs.declared.fault.GraphFault.{GraphFault}
 use Rattle.plan_graph.specs.declared.fault.GraphFault.TheVariants.{Cycle, Memory, TooManyEdges, TwoProducers, UnknownDefault}
-use Rattle.plan_graph.specs.Files.{Path, Table}
+use Rattle.plan_graph.specs.Files.{Path, Table, paths_in}
 use Rattle.plan_graph.specs.Fitting.{Fits}
-use Rattle.plan_graph.specs.Graph.{Refuses, all_waits, due_len, fault_past, first_fault, made_twice, makes_any, max_edges, numbers_from, one_too_many, outputs_of, unmade, waits_of, inputs_of}
-use Rattle.plan_graph.specs.Reading.{table_of}
+use Rattle.plan_graph.specs.Graph.{Refuses, all_waits, due_len, fault_past, first_fault, made_twice, makes_any, max_edges, numbers_from, one_too_many, outputs_of, rows_of, unmade, waits_of, inputs_named, inputs_of, maker_of}
+use Rattle.plan_graph.specs.Reading.{inputs_past, outputs_past, table_of}
 use Rattle.plan_graph.specs.Walking.{InRange, TellsCycle}
 use Rattle.plan_graph.proofs.MemberLemmas.{in_list}
+use Rattle.plan_graph.proofs.NumberLemmas.{inputs_settle, outputs_settle}
 use Rattle.plan_graph.proofs.TableLemmas.{Reads, table_read}
 use Rattle.plan_graph.proofs.WaitLemmas.{numbers_given}
 
@@ -69,7 +72,7 @@ refuses m (Cycle es) h = absurd (subst IsRead (refused_table m (Cycle es) (h (λ
 
 -- a cycle, where nothing else is at fault
 pub refuses_cycle : (m : Manifest) (fault : GraphFault) → first_fault m ≡ None → TellsCycle (all_waits m.edges) fault → Refuses m fault
-refuses_cycle m (Cycle es) sound h = (sound, h.0, h.1)
+refuses_cycle m (Cycle es) sound h = (sound, h.0, h.1, h.2)
 refuses_cycle m Memory sound h = tt
 refuses_cycle m (TwoProducers path) sound h = absurd h
 refuses_cycle m (UnknownDefault path) sound h = absurd h
@@ -103,3 +106,14 @@ okays rows = Ok rows
 
 pub rows_are : (x y : List (List ℕ)) → okays x ≡ okays y → x ≡ y
 rows_are x y e = cc
+
+-- the numbers of outputs and inputs, where a table fits
+pub outputs_known : (files : Table) (edges : List Edge) (outputs : List (List ℕ)) → Fits files edges → outputs ≡ outputs_past [] edges → outputs ≡ rows_of outputs_of (paths_in files) edges
+outputs_known files edges outputs fits is = is ∙ (outputs_settle [] edges ∙ ap (λ (ps : List Path). rows_of outputs_of ps edges) (sym fits.paths))
+
+pub inputs_known : (files : Table) (edges : List Edge) (inputs : List (List ℕ)) → Fits files edges → inputs ≡ inputs_past [] edges → inputs ≡ rows_of inputs_named (paths_in files) edges
+inputs_known files edges inputs fits is = is ∙ (inputs_settle [] edges ∙ ap (λ (ps : List Path). rows_of inputs_named ps edges) (sym fits.paths))
+
+-- the maker of an output is its own edge
+pub own_maker : (files : Table) (edges : List Edge) → Fits files edges → (n : ℕ) (e : Edge) (path : Path) → slice_get edges n ≡ Some e → Contains (outputs_of e) path → maker_of edges path ≡ Some n
+own_maker files edges fits n e path here made = fits.once n e path here (list_any-from_Contains nat_list_eq_equiv path (outputs_of e) made)

@@ -6,4 +6,7 @@ pub mod WalkLemmas
 pub mod TableLemmas
 pub mod GraphLemmas
 pub mod LawLemmas
+pub mod InputLemmas
+pub mod RowListLemmas
+pub mod NumberLemmas
 pub mod Rows

@@ -9,6 +9,9 @@ use Rattle.plan_graph.specs.Reading.{◌>>=◌, is_own, used, with_input, with_i
 abbrev pub okay : Table → Result Table GraphFault
 okay files = Ok files
 
+abbrev pub refused : GraphFault → Result Table GraphFault
+refused fault = Err fault
+
 pub ok_is : (x y : Table) → okay x ≡ okay y → x ≡ y
 ok_is x y e = cc
 
@@ -44,7 +47,7 @@ pub row_is : (x y : List ℕ) → row_okay x ≡ row_okay y → x ≡ y
 row_is x y e = cc
 
 -- a path that is used stays as it is
-used_stays : (own : Option ℕ) (file : File) → file.is_used ≡ true → used own file ≡ file
+pub used_stays : (own : Option ℕ) (file : File) → file.is_used ≡ true → used own file ≡ file
 used_stays own file e = ap (λ b. record { maker = file.maker; is_used = b || not (is_own file.maker own) }) e ∙ ap (λ b. record { maker = file.maker; is_used = b }) (sym e)
 
 file_stays : (files : Table) (path : Path) → (file_of path files).is_used ≡ true → with_file files path (file_of path files) ≡ files

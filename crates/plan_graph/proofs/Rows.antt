@@ -6,8 +6,7 @@ use Rattle.plan_scope.specs.declared.manifest.Edge.{Edge}
 use Rattle.plan_scope.specs.declared.manifest.Manifest.{Manifest}
 use Rattle.plan_graph.specs.declared.fault.GraphFault.TheVariants.{TwoProducers, UnknownDefault}
 use Rattle.plan_graph.specs.Files.{Path}
-use Rattle.plan_graph.specs.Cycles.{AreRanks, IsCycle, IsLeastFirst, Wanted}
-use Rattle.plan_graph.specs.Cycles.Wanted.{target, waited}
+use Rattle.plan_graph.specs.Cycles.{AreRanks, IsCycle, IsLeastFirst}
 use Rattle.plan_graph.specs.Graph.{all_waits, default_edges, files_of, first_fault, maker_of}
 
 abbrev a : Path
@@ -150,7 +149,3 @@ default_first = refl
 -- build a: r / build a: r / default b
 producers_first : first_fault (manifest (r (a ∷ []) [] ∷ r (a ∷ []) [] ∷ []) (at 2 b ∷ [])) ≡ Some (TwoProducers a)
 producers_first = refl
-
--- what is built for c: all three
-three_wanted : Wanted (all_waits three) (0 ∷ []) 1
-three_wanted = waited 2 1 (waited 0 2 (target 0 (waits (0 ∷ []) 0 0 (omega arith) refl)) (waits (1 ∷ 2 ∷ []) 1 2 (omega arith) refl)) (waits (1 ∷ []) 0 1 (omega arith) refl)

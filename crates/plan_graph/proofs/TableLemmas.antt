@@ -7,6 +7,7 @@ use Rattle.std.specs.List.{list_any}
 use Rattle.std.proofs.lemmas.Bool.{eq-eqb, leb-false}
 use Rattle.std.proofs.lemmas.Bool.Decides.{eqb_tells}
 use Rattle.std.proofs.lemmas.List.{append_assoc, append-nil}
+use Rattle.plan_graph.proofs.InputLemmas.{inputs_are}
 use Rattle.plan_graph.proofs.MemberLemmas.{some_is}
 use Rattle.plan_scope.specs.declared.manifest.DefaultTarget.{DefaultTarget}
 use Rattle.plan_scope.specs.declared.manifest.Edge.{Edge}
@@ -326,7 +327,7 @@ fits_next files outputs all above e fits room o i =
       uses = λ p.
           i.uses p
           ∙ (ap (λ b. b || is_among (filter (counts (own_of n e) (maker_in outputs)) (inputs_named e)) p) (o.uses p ∙ fits.uses p)
-          ∙ (ap (λ (qs : List Path). is_among (flat_map inputs_of above) p || is_among qs p) (counted above (outputs_of e) (inputs_named e) (maker_in outputs) e.phony makers)
+          ∙ (ap (λ (qs : List Path). is_among (flat_map inputs_of above) p || is_among qs p) (counted above (outputs_of e) (inputs_named e) (maker_in outputs) e.phony makers ∙ sym (inputs_are e))
           ∙ (sym (any_append (bytes_eq p) (flat_map inputs_of above) (inputs_of e)) ∙ ap (λ (qs : List Path). is_among qs p) (sym (flat_last inputs_of above e)))));
       once = λ k x p here h. elim (at_last above e k x here) [
         | inl y ↦ last p ∙ ap (λ m. or_else m (if is_among (outputs_of e) p then Some n else None)) (fits.once k x p y h)

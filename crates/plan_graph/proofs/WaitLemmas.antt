@@ -1,16 +1,20 @@
 -- What edges wait for, by the makers of their inputs.
 use Rattle.std.proofs.Common.{◌≡◌, ◌<◌, ◌+◌, ℕ, zero, suc, List, [], ◌∷◌, ◌++◌, inl, inr, Bool, true, false, Option, Some, None, length, refl, ap, sym, subst, arith, ◌∙◌}
-use Rattle.std.specs.Prelude.{◌==◌, drop, filter, get_or, if◌then◌else◌, map, not, slice_get}
+use Rattle.std.specs.List.{list_any}
+use Rattle.std.specs.Prelude.{◌||◌, ◌==◌, flat_map, drop, filter, get_or, if◌then◌else◌, map, not, slice_get}
 use Rattle.std.proofs.Math.Seq.{drop-cons}
 use Rattle.std.proofs.lemmas.List.{append_assoc}
 use Rattle.std.proofs.lemmas.Bool.{eq-eqb, eqb-true}
 use Rattle.plan_scope.specs.declared.manifest.DefaultTarget.{DefaultTarget}
 use Rattle.plan_scope.specs.declared.manifest.Edge.{Edge}
 use Rattle.plan_scope.specs.Edges.{is_among}
-use Rattle.plan_graph.specs.Files.{Path, Table, maker_in}
-use Rattle.plan_graph.specs.Fitting.{Fits, IsAscending, makers, other}
-use Rattle.plan_graph.specs.Graph.{default_edges, inputs_named, inputs_of, maker_from, maker_of, makes_any, numbers_from, outputs_of, waits_of}
+use Rattle.plan_graph.specs.declared.files.File.{File}
+use Rattle.plan_graph.specs.Files.{Path, Table, file_at, is_used, maker_in, number_of, paths_in}
+use Rattle.plan_graph.specs.Fitting.{Fits, IsAscending, makers, makers_at, other}
+use Rattle.plan_graph.specs.Graph.{default_edges, inputs_named, inputs_of, maker_from, maker_of, is_last, makes_any, numbers_from, outputs_of, rows_of, waits_of}
 use Rattle.plan_graph.specs.Reading.{is_own, own_of}
+use Rattle.plan_graph.proofs.FileLemmas.{file_numbered}
+use Rattle.plan_graph.proofs.InputLemmas.{inputs_are}
 use Rattle.plan_graph.proofs.MemberLemmas.{In, Rises, any_in, contained, filter_in, flat_in, in_any, in_filter, in_flat, in_list, rises_from, rises_lower, same_members, some_is}
 
 -- the numbers of edges rise
@@ -103,7 +107,7 @@ phony_kept edges number e p k true makes i =
 
 pub given_input : (files : Table) (edges : List Edge) (number : ℕ) (e : Edge) (p : Path) (k : ℕ) → Fits files edges → slice_get edges number ≡ Some e
     → In p (inputs_named e) → maker_of edges p ≡ Some k → is_own (Some k) (own_of number e) ≡ false → In p (inputs_of e)
-given_input files edges number e p k fits here i maker h = phony_given edges number e p k e.phony (λ q t. fits.once number e q here t) i maker h
+given_input files edges number e p k fits here i maker h = subst (In p) (sym (inputs_are e)) (phony_given edges number e p k e.phony (λ q t. fits.once number e q here t) i maker h)
 
 pub kept_input : (files : Table) (edges : List Edge) (number : ℕ) (e : Edge) (p : Path) (k : ℕ) → Fits files edges → slice_get edges number ≡ Some e
     → In p (inputs_of e) → maker_of edges p ≡ Some k → In p (inputs_named e) × (is_own (Some k) (own_of number e) ≡ false)
@@ -112,7 +116,7 @@ kept_input files edges number e p k fits here i maker =
     let n = maker_found 0 edges p k maker in
     let place : n.place ≡ number = omega (arith, n.counts, same) in
     let edge : n.edge ≡ e = some_is n.edge e (sym n.here ∙ (ap (slice_get edges) place ∙ here)) in
-    subst (λ x. is_among (outputs_of x) p ≡ true) edge n.passes) i
+    subst (λ x. is_among (outputs_of x) p ≡ true) edge n.passes) (subst (In p) (inputs_are e) i)
 
 -- the makers of some paths, but for the edge itself, are the edges that make one of these inputs
 pub makers_are : (files : Table) (edges : List Edge) (own : Option ℕ) (named inputs : List Path) (row : List ℕ) → Fits files edges
@@ -167,3 +171,48 @@ pub named_defaults : (files : Table) (edges : List Edge) (defaults : List Defaul
     → IsAscending (makers files None (map (λ t. t.path) defaults)) row → default_edges edges defaults ≡ row
 named_defaults files edges [] row fits some ascending = cc
 named_defaults files edges (d ∷ ds) row fits some ascending = targets_are files edges (map (λ t. t.path) (d ∷ ds)) row fits ascending
+
+-- what is known by numbers is known by paths
+pub makers_numbered : (files : Table) (own : Option ℕ) (ps : List Path) → makers_at files own (map (number_of (paths_in files)) ps) ≡ makers files own ps
+makers_numbered files own [] = refl
+makers_numbered files own (p ∷ ps) =
+    ap (λ (f : File). other own f.maker ++ makers_at files own (map (number_of (paths_in files)) ps)) (file_numbered files p)
+    ∙ ap (λ (ns : List ℕ). other own (maker_in files p) ++ ns) (makers_numbered files own ps)
+
+unused_numbered : (files : Table) (edges : List Edge) (ps : List Path) → Fits files edges
+    → list_any (λ n. not (file_at n files).is_used) (map (number_of (paths_in files)) ps) ≡ list_any (λ o. not (is_among (flat_map inputs_of edges) o)) ps
+unused_numbered files edges [] fits = refl
+unused_numbered files edges (p ∷ ps) fits =
+    ap (λ (f : File). not f.is_used || list_any (λ n. not (file_at n files).is_used) (map (number_of (paths_in files)) ps)) (file_numbered files p)
+    ∙ (ap (λ (b : Bool). not b || list_any (λ n. not (file_at n files).is_used) (map (number_of (paths_in files)) ps)) (fits.uses p)
+    ∙ ap (λ (b : Bool). not (is_among (flat_map inputs_of edges) p) || b) (unused_numbered files edges ps fits))
+
+-- an edge by its number
+pub edge_at : (edges : List Edge) (i : ℕ) → i < length edges → (e : Edge) × (slice_get edges i ≡ Some e)
+edge_at [] i h = absurd (omega (arith, h))
+edge_at (e ∷ es) zero h = (e, refl)
+edge_at (e ∷ es) (suc i) h = edge_at es i (omega (arith, h))
+
+drop_at : (edges : List Edge) (i : ℕ) (e : Edge) → slice_get edges i ≡ Some e → drop i edges ≡ e ∷ drop (i + 1) edges
+drop_at [] i e h = cc
+drop_at (x ∷ es) zero e h = ap (λ (y : Edge). y ∷ es) (some_is x e h)
+drop_at (x ∷ es) (suc i) e h = let next : suc (i + 1) ≡ suc i + 1 = omega arith in drop_at es i e h ∙ ap (λ k. e ∷ drop k (x ∷ es)) next
+
+pub row_of_edge : (named : Edge → List Path) (paths : List Path) (edges : List Edge) (i : ℕ) (e : Edge) → slice_get edges i ≡ Some e → get_or (rows_of named paths edges) i [] ≡ map (number_of paths) (named e)
+row_of_edge named paths [] i e h = cc
+row_of_edge named paths (x ∷ es) zero e h = ap (λ (y : Edge). map (number_of paths) (named y)) (some_is x e h)
+row_of_edge named paths (x ∷ es) (suc i) e h = row_of_edge named paths es i e h
+
+-- the edges that are last, one more looked at
+pub last_step : (files : Table) (edges : List Edge) (outputs : List (List ℕ)) (row : List ℕ) (i : ℕ) (last : Bool) → Fits files edges → outputs ≡ rows_of outputs_of (paths_in files) edges → i < length edges
+    → last ≡ list_any (λ n. not (file_at n files).is_used) (get_or outputs i [])
+    → row ++ numbers_from i (is_last edges) (drop i edges) ≡ (if last then (row ++ i ∷ []) else row) ++ numbers_from (i + 1) (is_last edges) (drop (i + 1) edges)
+last_step files edges outputs row i last fits rows lt is =
+    let x = edge_at edges i lt in
+    let e = x.0 in
+    let rest = numbers_from (i + 1) (is_last edges) (drop (i + 1) edges) in
+    let test : last ≡ is_last edges e
+    = is ∙ (ap (λ (ns : List ℕ). list_any (λ n. not (file_at n files).is_used) ns) (ap (λ (rs : List (List ℕ)). get_or rs i []) rows ∙ row_of_edge outputs_of (paths_in files) edges i e x.1) ∙ unused_numbered files edges (outputs_of e) fits) in
+    ap (λ (es : List Edge). row ++ numbers_from i (is_last edges) es) (drop_at edges i e x.1)
+    ∙ (ap (λ (b : Bool). row ++ (if b then i ∷ rest else rest)) (sym test)
+    ∙ elim last as (λ b. row ++ (if b then i ∷ rest else rest) ≡ (if b then (row ++ i ∷ []) else row) ++ rest) [ true ↦ sym (append_assoc row (i ∷ []) rest) | false ↦ refl ])

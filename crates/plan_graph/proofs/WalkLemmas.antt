@@ -1,19 +1,23 @@
 -- How a walk goes on.
 use Rattle.std.proofs.Common.{◌≡◌, ◌≢◌, ℕ, zero, suc, ◌+◌, ◌-◌, ◌*◌, ◌<◌, ◌≤◌, max, List, [], ◌∷◌, ◌++◌, length, refl, sym, ◌∙◌, ap, subst, arith, get_or, set, Some, ◌⊎◌, inl, inr, length-append, length-set, get_or-set_same, get_or-set_other, take, drop, drop-cons, map}
-use Rattle.std.specs.Prelude.{All, replicate, slice_get, slice_index, Contains}
+use Rattle.std.specs.Prelude.{◌==◌, All, replicate, slice_get, slice_index, Contains}
+use Rattle.std.specs.List.Sorted.{IsPermutation}
 use Rattle.std.proofs.Math.Nat.{eq-or-lt_of_le}
 use Rattle.std.proofs.lemmas.Bool.{cases_lt}
-use Rattle.std.proofs.lemmas.Bool.Decides.{eqb_tells}
+use Rattle.std.proofs.lemmas.Bool.Decides.{Decides-eqb, eqb_tells, same_from_decides}
+use Rattle.std.proofs.lemmas.List.Sorted.{IsPermutation-append_comm}
+use Rattle.std.proofs.lemmas.Map.Keys.{IsDistinct-IsPermutation}
+use Rattle.std.proofs.lemmas.Map.Made.{AllPairs-from_IsDistinct, IsDistinct-from_AllPairs}
 use Rattle.std.proofs.lemmas.Option.{slice_get_within, slice_get_read, get_or_from_slice_get, slice_get-get_or}
 use Rattle.std.proofs.lemmas.List.Folds.{sum_by-replicate}
 use Rattle.std.proofs.Math.Seq.{take-length}
-use Rattle.std.proofs.lemmas.List.{get_or_append_left, get_or-append-add, append_assoc, append-nil, ext_get_or, get_or-map, get_or-replicate, get_or_past, length-map, length-replicate, take-append-drop, take_more}
+use Rattle.std.proofs.lemmas.List.{get_or_append_left, get_or-append-add, append_assoc, append-nil, ext_get_or, get_or-drop, get_or-map, get_or-replicate, get_or_past, length-drop, length-map, length-replicate, take-append-drop, take_more}
 use Rattle.std.proofs.lemmas.List.Elements.{All-contains, Contains-append_left, Contains-append_right, Contains-get_or, Contains-push_cases}
 use Rattle.std.proofs.lemmas.List.Sums.{sum_by-set}
 use Rattle.plan_graph.specs.declared.order.Mark.{Mark}
 use Rattle.plan_graph.specs.declared.order.Walk.{Walk}
 use Rattle.plan_graph.specs.declared.order.Mark.TheVariants.{New, Open, Done}
-use Rattle.plan_graph.specs.Cycles.{WaitsFor, Chain, IsCycle, IsLeastFirst, rank_over}
+use Rattle.plan_graph.specs.Cycles.{WaitsFor, Chain, IsCycle, IsLeastFirst, IsSimple, rank_over}
 use Rattle.plan_graph.specs.Walking.{AllDone, DoneTo, GoesOn, IsWalk, KeepsMarks, left, left_of}
 use Rattle.plan_graph.proofs.MemberLemmas.{In, append_left, append_right, contained, in_append, in_list}
 
@@ -271,10 +275,6 @@ all_done marks (w ∷ ws) h = (h 0 (omega arith), all_done marks ws (λ i lt. h 
 pub opened_not_new : (marks : List Mark) (i : ℕ) → i < length marks → slice_get (set marks i Open) i ≢ Some New
 opened_not_new marks i h e = let here : slice_get (set marks i Open) i ≡ Some Open = get_same marks i Open h in cc
 
--- what an edge waits for, as it is read
-pub row_here : (waits : List (List ℕ)) (e : ℕ) (row : List ℕ) → e < length waits → row ≡ get_or waits e row → get_or waits e [] ≡ row
-row_here waits e row h is = get_or_from_slice_get waits e row [] (slice_get_read waits (length waits) e row refl h is)
-
 -- each of two parts of a list is within it
 part_in : (waits : List (List ℕ)) (cycle : List ℕ) (at : ℕ) (y : ℕ) (ys : List ℕ) (x : ℕ) → drop at cycle ≡ y ∷ ys → In x (ys ++ take at cycle) → In x cycle
 part_in waits cycle at y ys x e h =
@@ -290,16 +290,32 @@ least_first waits cycle at ys e least k d h =
     let i : In x (ys ++ take at cycle) = in_list (ys ++ take at cycle) x (Contains-get_or (ys ++ take at cycle) k d h) in
     All-contains (λ n. slice_index cycle at ≤ n) cycle x least (contained cycle x (part_in waits cycle at (slice_index cycle at) ys x e i))
 
+-- where no edge stands twice on a path, none does on its back, nor where it is turned
+pub simple_back : (path : List ℕ) (place : ℕ) → IsSimple path → IsSimple (drop place path)
+simple_back path place simple i j d h g same =
+    let long : length (drop place path) ≡ length path - place = length-drop place path in
+    simple (place + i) (place + j) d (omega (arith, h)) (omega (arith, g, long)) (sym (get_or-drop place path i d) ∙ (same ∙ get_or-drop place path j d))
+
+same_flips : (x y : ℕ) → (x == y) ≡ (y == x)
+same_flips x y = same_from_decides (x == y) (y == x) (Decides-eqb x y) (λ e. sym ((Decides-eqb y x).0 e), λ e. (Decides-eqb y x).1 (sym e))
+
+simple_turned : (cycle : List ℕ) (at : ℕ) → IsSimple cycle → IsSimple (drop at cycle ++ take at cycle)
+simple_turned cycle at simple =
+    let moved = subst (λ (xs : List ℕ). IsPermutation xs (drop at cycle ++ take at cycle)) (take-append-drop at cycle) (IsPermutation-append_comm (take at cycle) (drop at cycle)) in
+    AllPairs-from_IsDistinct Decides-eqb (drop at cycle ++ take at cycle)
+    (IsDistinct-IsPermutation (λ x y. x == y) same_flips cycle (drop at cycle ++ take at cycle) moved (IsDistinct-from_AllPairs Decides-eqb cycle simple))
+
 -- a cycle from its least edge on
 pub cycle_told : (waits : List (List ℕ)) (cycle : List ℕ) (at : ℕ) (es : List ℕ) → IsCycle waits cycle → at < length cycle → All (λ n. slice_index cycle at ≤ n) cycle
-    → es ≡ drop at cycle ++ take at cycle → IsCycle waits es × IsLeastFirst es
-cycle_told waits cycle at es is h least e =
+    → IsSimple cycle → es ≡ drop at cycle ++ take at cycle → IsCycle waits es × IsSimple es × IsLeastFirst es
+cycle_told waits cycle at es is h least simple e =
     let y = slice_index cycle at in
     let ys = drop (suc at) cycle in
     let split : drop at cycle ≡ y ∷ ys = drop-cons cycle at 0 h in
     let whole : take at cycle ++ (y ∷ ys) ≡ cycle = ap (λ (zs : List ℕ). take at cycle ++ zs) (sym split) ∙ take-append-drop at cycle in
     let turned : es ≡ y ∷ (ys ++ take at cycle) = e ∙ ap (λ (zs : List ℕ). zs ++ take at cycle) split in (
       subst (IsCycle waits) (sym turned) (cycle_turned waits (take at cycle) y ys (subst (IsCycle waits) (sym whole) is)),
+      subst IsSimple (sym e) (simple_turned cycle at simple),
       subst IsLeastFirst (sym turned) (least_first waits cycle at ys split least),
     )
 

@@ -1,5 +1,6 @@
 -- What edges wait for one behind the other. A list of waits has a list of edges for each edge.
-use Rattle.std.specs.Prelude.{◌≡◌, ℕ, ◌+◌, ◌≤◌, max, List, [], ◌∷◌, ◌++◌, All, Contains, get_or, map, slice_index}
+use Rattle.std.specs.Prelude.{◌≡◌, ◌≢◌, ℕ, ◌+◌, ◌≤◌, max, List, [], ◌∷◌, ◌++◌, All, Contains, get_or, map, slice_index}
+use Rattle.std.specs.List.{AllPairs}
 
 -- edge e waits for edge w
 abbrev pub WaitsFor : List (List ℕ) → ℕ → ℕ → Type 0
@@ -16,6 +17,10 @@ abbrev pub IsCycle : List (List ℕ) → List ℕ → Type 0
 IsCycle waits [] = ⊥
 IsCycle waits (e ∷ es) = Chain waits (e ∷ (es ++ e ∷ []))
 
+-- no edge stands twice
+abbrev pub IsSimple : List ℕ → Type 0
+IsSimple es = AllPairs (λ x y. x ≢ y) es
+
 -- no number is less than the first
 abbrev pub IsLeastFirst : List ℕ → Type 0
 IsLeastFirst [] = Unit {0}
@@ -29,8 +34,3 @@ rank_over ranks (w ∷ ws) = max (slice_index ranks w + 1) (rank_over ranks ws)
 -- the rank of each edge, by what it waits for
 abbrev pub AreRanks : List (List ℕ) → List ℕ → Type 0
 AreRanks waits ranks = ranks ≡ map (rank_over ranks) waits
-
--- these edges, and all that they wait for, one behind the other
-pub data Wanted (waits : List (List ℕ)) (targets : List ℕ) : ℕ → Type 0 where
-  target : (e : ℕ) → Contains targets e → Wanted waits targets e
-  waited : (e w : ℕ) → Wanted waits targets e → WaitsFor waits e w → Wanted waits targets w

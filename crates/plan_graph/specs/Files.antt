@@ -1,5 +1,5 @@
 -- What is known of paths.
-use Rattle.std.specs.Prelude.{ℕ, Bool, false, List, [], ◌∷◌, ◌++◌, Option, None, map, bytes_eq, if◌then◌else◌}
+use Rattle.std.specs.Prelude.{ℕ, zero, suc, Bool, false, List, [], ◌∷◌, ◌++◌, Option, None, map, bytes_eq, if◌then◌else◌}
 use Rattle.plan_scope.specs.Edges.{is_among}
 use Rattle.plan_graph.specs.declared.files.File.{File}
 
@@ -33,6 +33,20 @@ is_used files path = (file_of path files).is_used
 abbrev pub paths_in : Table → List Path
 paths_in files = map (λ f. f.0) files
 
+-- how many of these paths stand before a path: its number among them
+abbrev pub number_of : List Path → Path → ℕ
+number_of [] path = 0
+number_of (p ∷ ps) path = if bytes_eq path p then 0 else suc (number_of ps path)
+
+-- what is known of the path of this number
+abbrev pub file_at : ℕ → Table → File
+file_at number [] = unknown
+file_at zero (f ∷ fs) = f.1
+file_at (suc number) (f ∷ fs) = file_at number fs
+
+abbrev pub maker_at : Table → ℕ → Option ℕ
+maker_at files number = (file_at number files).maker
+
 -- one path more, unless it is there
 abbrev pub with_path : List Path → Path → List Path
 with_path paths path = if is_among paths path then paths else paths ++ path ∷ []
@@ -41,3 +55,8 @@ with_path paths path = if is_among paths path then paths else paths ++ path ∷ 
 abbrev pub with_paths : List Path → List Path → List Path
 with_paths seen [] = seen
 with_paths seen (path ∷ more) = with_paths (with_path seen path) more
+
+-- the numbers that paths are given, behind those that were seen
+abbrev pub numbers_past : List Path → List Path → List ℕ
+numbers_past seen [] = []
+numbers_past seen (path ∷ more) = number_of seen path ∷ numbers_past (with_path seen path) more

@@ -3,7 +3,7 @@ use Rattle.std.specs.Prelude.{◌≡◌, ◌≤◌, ℕ, true, List, [], ◌∷�
 use Rattle.std.specs.List.Sorted.{IsStrictlyIncreasing}
 use Rattle.plan_scope.specs.declared.manifest.Edge.{Edge}
 use Rattle.plan_scope.specs.Edges.{is_among}
-use Rattle.plan_graph.specs.Files.{Path, Table, is_used, maker_in, paths_in}
+use Rattle.plan_graph.specs.Files.{Path, Table, is_used, maker_at, maker_in, paths_in}
 use Rattle.plan_graph.specs.Graph.{files_of, inputs_of, maker_of, max_edges, outputs_of}
 use Rattle.plan_graph.specs.Reading.{is_own}
 
@@ -27,6 +27,10 @@ other own maker = if is_own maker own then [] else listed maker
 -- the makers of paths, unless they are the edge itself
 abbrev pub makers : Table → Option ℕ → List Path → List ℕ
 makers files own paths = flat_map (λ p. other own (maker_in files p)) paths
+
+-- the makers of the paths of these numbers, unless they are the edge itself
+abbrev pub makers_at : Table → Option ℕ → List ℕ → List ℕ
+makers_at files own numbers = flat_map (λ n. other own (maker_at files n)) numbers
 
 -- these numbers, each once, in ascending order
 pub record IsAscending (numbers row : List ℕ) : Type 0 where

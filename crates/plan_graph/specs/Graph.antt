@@ -1,5 +1,5 @@
 -- The build graph of a manifest. Edges are named by their numbers in the manifest, from 0.
-use Rattle.std.specs.Prelude.{◌≡◌, ℕ, ◌+◌, Bool, not, List, [], ◌∷◌, ◌++◌, length, map, take, drop, Option, Some, None, Result, Ok, Err, nat_le, if◌then◌else◌, filter, flat_map}
+use Rattle.std.specs.Prelude.{◌≡◌, ◌≤◌, ℕ, ◌+◌, Bool, Contains, slice_get, not, List, [], ◌∷◌, ◌++◌, length, map, take, drop, Option, Some, None, Result, Ok, Err, nat_le, if◌then◌else◌, filter, flat_map}
 use Rattle.std.specs.List.{list_any, prefix_len}
 use Rattle.plan_scope.specs.declared.manifest.DefaultTarget.{DefaultTarget}
 use Rattle.plan_scope.specs.declared.manifest.Edge.{Edge}
@@ -9,8 +9,8 @@ use Rattle.plan_scope.specs.Edges.{is_among}
 use Rattle.plan_graph.specs.declared.fault.GraphFault.{GraphFault}
 use Rattle.plan_graph.specs.declared.fault.GraphFault.TheVariants.{TwoProducers, Cycle, UnknownDefault, TooManyEdges, Memory}
 use Rattle.plan_graph.specs.declared.edges.Graph.{Graph as GraphMeant}
-use Rattle.plan_graph.specs.Files.{Path, maker_in, paths_in, with_paths}
-use Rattle.plan_graph.specs.Cycles.{AreRanks, IsCycle, IsLeastFirst}
+use Rattle.plan_graph.specs.Files.{Path, maker_in, number_of, paths_in, with_paths}
+use Rattle.plan_graph.specs.Cycles.{AreRanks, IsCycle, IsLeastFirst, IsSimple}
 
 -- explicit outputs before implicit ones
 abbrev pub outputs_of : Edge → List Path
@@ -21,8 +21,19 @@ abbrev pub inputs_named : Edge → List Path
 inputs_named e = e.inputs ++ (e.implicit_inputs ++ e.order_only_inputs)
 
 -- a phony loses its own outputs from its inputs
+abbrev pub without_own : Edge → List Path → List Path
+without_own e paths = if e.phony then filter (λ p. not (is_among (outputs_of e) p)) paths else paths
+
+-- explicit and implicit inputs
+abbrev pub named_inputs_of : Edge → List Path
+named_inputs_of e = without_own e (e.inputs ++ e.implicit_inputs)
+
+abbrev pub order_only_of : Edge → List Path
+order_only_of e = without_own e e.order_only_inputs
+
+-- inputs of any sort
 abbrev pub inputs_of : Edge → List Path
-inputs_of e = if e.phony then filter (λ p. not (is_among (outputs_of e) p)) (inputs_named e) else inputs_named e
+inputs_of e = named_inputs_of e ++ order_only_of e
 
 -- an edge that makes one of these paths
 abbrev pub makes_any : List Path → Edge → Bool
@@ -51,6 +62,10 @@ maker_of edges path = maker_from 0 edges path
 -- each path that build lines name, once, where it first stands
 abbrev pub files_of : List Edge → List Path
 files_of edges = with_paths [] (flat_map (λ e. outputs_of e ++ inputs_named e) edges)
+
+-- for each edge a row of numbers: those of some of its paths
+abbrev pub rows_of : (Edge → List Path) → List Path → List Edge → List (List ℕ)
+rows_of named paths edges = map (λ e. map (number_of paths) (named e)) edges
 
 -- an edge with an output that is no input of any edge (Ninja manual, "Default target statements")
 abbrev pub is_last : List Edge → Edge → Bool
@@ -97,15 +112,19 @@ first_fault m = fault_past [] m.defaults m.edges
 -- the graph of a manifest
 pub record IsGraph (m : Manifest) (g : GraphMeant) : Type 0 where
   pub sound : first_fault m ≡ None
+  pub few : length m.edges ≤ max_edges
   pub files : paths_in g.files ≡ files_of m.edges
   pub makers : (path : Path) → maker_in g.files path ≡ maker_of m.edges path
+  pub own : (n : ℕ) (e : Edge) (path : Path) → slice_get m.edges n ≡ Some e → Contains (outputs_of e) path → maker_of m.edges path ≡ Some n
+  pub outputs : g.outputs ≡ rows_of outputs_of (files_of m.edges) m.edges
+  pub inputs : g.inputs ≡ rows_of inputs_named (files_of m.edges) m.edges
   pub waits : g.waits ≡ all_waits m.edges
   pub ranks : AreRanks g.waits g.ranks
   pub defaults : g.defaults ≡ default_edges m.edges m.defaults
 
 -- why a manifest has no graph; a cycle only where nothing else is at fault
 abbrev pub Refuses : Manifest → GraphFault → Type 0
-Refuses m (Cycle es) = (first_fault m ≡ None) × IsCycle (all_waits m.edges) es × IsLeastFirst es
+Refuses m (Cycle es) = (first_fault m ≡ None) × IsCycle (all_waits m.edges) es × IsSimple es × IsLeastFirst es
 Refuses m Memory = Unit {0}
 Refuses m (TwoProducers path) = first_fault m ≡ Some (TwoProducers path)
 Refuses m (UnknownDefault path) = first_fault m ≡ Some (UnknownDefault path)

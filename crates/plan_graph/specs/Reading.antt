@@ -6,7 +6,7 @@ use Rattle.plan_scope.specs.declared.manifest.Manifest.{Manifest}
 use Rattle.plan_graph.specs.declared.fault.GraphFault.{GraphFault}
 use Rattle.plan_graph.specs.declared.fault.GraphFault.TheVariants.{TwoProducers, UnknownDefault, TooManyEdges}
 use Rattle.plan_graph.specs.declared.files.File.{File}
-use Rattle.plan_graph.specs.Files.{Path, Table, file_of, maker_in, with_file}
+use Rattle.plan_graph.specs.Files.{Path, Table, file_of, maker_in, numbers_past, with_file, with_paths}
 use Rattle.plan_graph.specs.Graph.{due_len, inputs_named, max_edges, outputs_of}
 
 infixl 10 ◌>>=◌
@@ -69,3 +69,13 @@ with_edges files number defaults (e ∷ es) =
 
 abbrev pub table_of : Manifest → Result Table GraphFault
 table_of m = with_edges [] 0 m.defaults m.edges
+
+-- the numbers that the outputs of each edge are given, behind the paths that were seen
+abbrev pub outputs_past : List Path → List Edge → List (List ℕ)
+outputs_past seen [] = []
+outputs_past seen (e ∷ es) = numbers_past seen (outputs_of e) ∷ outputs_past (with_paths (with_paths seen (outputs_of e)) (inputs_named e)) es
+
+-- the numbers that the inputs of each edge are given
+abbrev pub inputs_past : List Path → List Edge → List (List ℕ)
+inputs_past seen [] = []
+inputs_past seen (e ∷ es) = numbers_past (with_paths seen (outputs_of e)) (inputs_named e) ∷ inputs_past (with_paths (with_paths seen (outputs_of e)) (inputs_named e)) es

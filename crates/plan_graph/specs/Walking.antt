@@ -5,7 +5,7 @@ use Rattle.plan_graph.specs.declared.order.Mark.TheVariants.{Done, New, Open}
 use Rattle.plan_graph.specs.declared.order.Walk.{Walk}
 use Rattle.plan_graph.specs.declared.fault.GraphFault.{GraphFault}
 use Rattle.plan_graph.specs.declared.fault.GraphFault.TheVariants.{Cycle, Memory, TooManyEdges, TwoProducers, UnknownDefault}
-use Rattle.plan_graph.specs.Cycles.{Chain, IsCycle, IsLeastFirst, WaitsFor, rank_over}
+use Rattle.plan_graph.specs.Cycles.{Chain, IsCycle, IsLeastFirst, IsSimple, WaitsFor, rank_over}
 
 -- each edge that is waited for is one
 abbrev pub InRange : List (List ℕ) → Type 0
@@ -71,7 +71,7 @@ pub record Passes (waits : List (List ℕ)) (e : ℕ) (old new : Walk) (next : O
 
 -- a fault that tells of a cycle
 abbrev pub TellsCycle : List (List ℕ) → GraphFault → Type 0
-TellsCycle waits (Cycle es) = IsCycle waits es × IsLeastFirst es
+TellsCycle waits (Cycle es) = IsCycle waits es × IsSimple es × IsLeastFirst es
 TellsCycle waits Memory = Unit {0}
 TellsCycle waits (TwoProducers path) = ⊥
 TellsCycle waits (UnknownDefault path) = ⊥

@@ -6,10 +6,9 @@ use crate::defaults::default_edges;
 use crate::edges::Graph;
 use crate::fault::GraphFault;
 use crate::order::ranks;
-use crate::reading::table_of;
+use crate::reading::reading_of;
 use crate::waits::all_waits;
 use plan_scope::Manifest;
-use plan_text::Items;
 use std::alloc::Global;
 
 /// The graph of a manifest.
@@ -24,18 +23,21 @@ use std::alloc::Global;
 pub fn graph<'a>(alloc: Global, manifest: &'a Manifest) -> Result<Graph<'a>, GraphFault>
     ensures { GraphIs manifest.now result }
 {
-    let files = table_of(alloc, manifest)?;
-    let waits = all_waits(alloc, &files, manifest.edges.as_slice())?;
+    let read = reading_of(alloc, manifest)?;
+    let waits = all_waits(alloc, &read.files, &read.inputs, manifest.edges.as_slice())?;
     let ranks = ranks(alloc, &waits)?;
     let defaults = default_edges(
         alloc,
-        &files,
+        &read.files,
+        &read.outputs,
         manifest.edges.as_slice(),
         manifest.defaults.as_slice(),
     )?;
     Ok(Graph {
-        files,
-        waits: Items::new(waits),
+        files: read.files,
+        outputs: read.outputs,
+        inputs: read.inputs,
+        waits,
         ranks,
         defaults,
     })

@@ -1,9 +1,11 @@
 //! The paths that build lines name.
 
-ghost use Rattle.std.specs.Prelude.{◌≡◌, [], OnOk, option_map, slice_get};
-ghost use Rattle.plan_graph.specs.Files.{file_of, maker_in, paths_in, with_file};
+ghost use Rattle.std.specs.Prelude.{◌≡◌, ◌<◌, [], IfOk, IfSome, List, OnOk, Option, Some, None, if◌then◌else◌, length, option_map, slice_get};
+ghost use Rattle.plan_scope.specs.Edges.{is_among};
+ghost use Rattle.plan_graph.specs.Files.{Path, file_at, file_of, maker_at, maker_in, number_of, paths_in, with_file};
 
-use indexmap::IndexMap;
+use crate::key::Key;
+use indexmap::IndexSet;
 use std::alloc::{AllocError, Global};
 use std::marker::Model;
 
@@ -22,19 +24,24 @@ const UNKNOWN: File = File {
     is_used: false,
 };
 
-/// Paths, each once, in the order in which they were first named.
+/// Paths, each once, in the order in which they were first named. Their numbers count from 0.
 #[derive(Drop)]
 pub struct Files<'a> {
-    files: IndexMap<&'a [u8], File>,
+    paths: IndexSet<Key<'a>>,
+    /// What is known of each, by its number.
+    known: Vec<File>,
 }
 
 impl<'a> Model for Files<'a> {
-    ghost use Rattle.std.specs.Prelude.{map};
+    ghost use Rattle.std.specs.Prelude.{◌≡◌, length, map};
+    ghost use Rattle.std.specs.List.{zip};
     ghost use Rattle.plan_graph.specs.Files.{Table};
 
     ghost Value = { Table };
 
-    ghost view = { λ f. map (λ e. (e.0.now, e.1)) f.files.entries };
+    ghost view = { λ f. zip (map (λ k. k.bytes.now) f.paths.keys) f.known.items };
+
+    ghost invariant = { λ f. length f.known.items ≡ length f.paths.keys };
 }
 
 impl<'a> Files<'a> {
@@ -43,26 +50,83 @@ impl<'a> Files<'a> {
         ensures { result ≡ [] }
     {
         Files {
-            files: IndexMap::new(alloc),
+            paths: IndexSet::new(alloc),
+            known: Vec::new(alloc),
         }
+    }
+
+    /// Makes room for so many paths more.
+    pub(crate) fn reserve(&mut self, paths: usize) -> Result<(), AllocError>
+        ensures { self.new ≡ self.old }
+    {
+        self.known.reserve(paths)?;
+        self.paths.reserve(paths)
+    }
+
+    /// The number of a path, which gets one unless it has one.
+    pub(crate) fn named(&mut self, path: &'a [u8]) -> Result<usize, AllocError>
+        ensures table { OnOk result (self.new ≡ with_file self.old path.now (file_of path.now self.old)) }
+        ensures number { IfOk result (λ n. n ≡ number_of (paths_in self.old) path.now) }
+        ensures within { IfOk result (λ n. n < length self.new) }
+    {
+        self.known.reserve(1)?;
+        let (number, is_new) = self.paths.insert_full(Key { bytes: path })?;
+        if is_new {
+            self.known.push(UNKNOWN)?;
+        }
+        Ok(number)
+    }
+
+    /// What is known of the path of this number.
+    pub(crate) fn at(&self, number: usize) -> File
+        ensures { result ≡ file_at number self.now }
+    {
+        match self.known.get(number) {
+            Some(file) => *file,
+            None => UNKNOWN,
+        }
+    }
+
+    /// Makes known what is now known of the path of this number.
+    pub(crate) fn set(&mut self, number: usize, file: File)
+        requires { number < length self.old }
+        ensures { (path : Path) → number ≡ number_of (paths_in self.old) path → self.new ≡ with_file self.old path file }
+    {
+        self.known[number] = file;
     }
 
     /// What is known of a path.
     pub(crate) fn get(&self, path: &[u8]) -> File
         ensures { result ≡ file_of path.now self.now }
     {
-        match self.files.get(path) {
-            Some(file) => *file,
+        match self.number(path) {
+            Some(number) => self.at(number),
             None => UNKNOWN,
         }
     }
 
-    /// Makes known what is now known of a path.
-    pub(crate) fn set(&mut self, path: &'a [u8], file: File) -> Result<(), AllocError>
-        ensures { OnOk result (self.new ≡ with_file self.old path.now file) }
+    /// How many paths there are.
+    pub fn len(&self) -> usize
+        ensures { result ≡ length self.now }
     {
-        self.files.insert(path, file)?;
-        Ok(())
+        self.paths.len()
+    }
+
+    /// The number of a path.
+    pub fn number(&self, path: &[u8]) -> Option<usize>
+        ensures { result ≡ (if is_among (paths_in self.now) path.now then Some (number_of (paths_in self.now) path.now) else None) }
+    {
+        self.paths.get_index_of(&Key { bytes: path })
+    }
+
+    /// The path of this number.
+    pub fn path(&self, number: usize) -> Option<&'a [u8]>
+        ensures { option_map (λ p. p.now) result ≡ slice_get (paths_in self.now) number }
+    {
+        match self.paths.get_index(number) {
+            Some(key) => Some(key.bytes),
+            None => None,
+        }
     }
 
     /// The edge that makes a path.
@@ -72,13 +136,10 @@ impl<'a> Files<'a> {
         self.get(path).maker
     }
 
-    /// The path of this number, counted from 0 in the order in which build lines first name them.
-    pub fn path(&self, number: usize) -> Option<&'a [u8]>
-        ensures { option_map (λ p. p.now) result ≡ slice_get (paths_in self.now) number }
+    /// The edge that makes the path of this number.
+    pub fn maker_at(&self, number: usize) -> Option<usize>
+        ensures { result ≡ maker_at self.now number }
     {
-        match self.files.get_index(number) {
-            Some(entry) => Some(*entry.0),
-            None => None,
-        }
+        self.at(number).maker
     }
 }

@@ -7,7 +7,7 @@ pub fn ranks_rise()
     ensures { RanksRise }
 {}
 
-/// Ranks exist exactly where there is no cycle.
+/// Edges have ranks exactly where there is no cycle.
 pub fn ranked_unless_cyclic()
     ensures { RankedUnlessCyclic }
 {}

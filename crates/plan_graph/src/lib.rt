@@ -6,9 +6,11 @@ mod defaults;
 mod edges;
 mod fault;
 mod files;
+mod key;
 mod laws;
 mod order;
 mod reading;
+mod row_list;
 mod waits;
 
 pub use build_graph::graph;
@@ -16,6 +18,7 @@ pub use edges::{Graph, MAX_EDGES};
 pub use fault::GraphFault;
 pub use files::Files;
 pub use laws::{ranked_unless_cyclic, ranks_rise};
+pub use row_list::RowList;
 
 #[cfg(test)]
 mod tests;

@@ -2,10 +2,11 @@
 
 ghost use Rattle.std.specs.Prelude.{◌≡◌, ◌≢◌, ◌<◌, ◌≤◌, ◌+◌, ◌++◌, ◌∷◌, [], ℕ, List, All, Contains, IfErr, IfOk, IsFalse, IsTrue, None, Some, drop, get_or, length, slice_get, slice_index, take, replicate, ◌^◌};
 ghost use Rattle.plan_graph.specs.Graph.{max_edges};
-ghost use Rattle.plan_graph.specs.Cycles.{AreRanks, Chain, IsCycle, IsLeastFirst, rank_over};
+ghost use Rattle.plan_graph.specs.Cycles.{AreRanks, Chain, IsSimple, rank_over};
 ghost use Rattle.plan_graph.specs.Walking.{AllDone, DoneTo, GoesOn, InRange, KeepsMarks, Passes, TellsCycle, Walks};
 
 use crate::fault::GraphFault;
+use crate::row_list::RowList;
 use plan_text::Items;
 use std::alloc::{AllocError, Global};
 
@@ -34,7 +35,7 @@ struct Walk {
 }
 
 /// Opens an edge that the last of the path waits for.
-fn open(waits: &[Items<usize>], mut walk: Walk, next: usize) -> Result<Walk, AllocError>
+fn open(waits: &RowList, mut walk: Walk, next: usize) -> Result<Walk, AllocError>
     requires walk { Walks waits.now walk }
     requires fresh { slice_get walk.marks.items next ≡ Some Mark.New }
     requires waited { Chain waits.now (walk.path.items ++ next ∷ []) }
@@ -59,7 +60,7 @@ fn rank_of(row: &[usize], ranks: &[usize]) -> usize
 }
 
 /// Closes the last of the path, all of whose waits are done.
-fn close(waits: &[Items<usize>], mut walk: Walk, top: usize) -> Walk
+fn close(waits: &RowList, mut walk: Walk, top: usize) -> Walk
     requires walk { Walks waits.now walk }
     requires range { InRange waits.now }
     requires few { length waits.now ≤ max_edges }
@@ -67,7 +68,7 @@ fn close(waits: &[Items<usize>], mut walk: Walk, top: usize) -> Walk
     requires done { AllDone walk.marks.items (get_or waits.now top []) }
     ensures { GoesOn waits.now walk result }
 {
-    walk.ranks[top] = rank_of(waits[top].as_slice(), &walk.ranks);
+    walk.ranks[top] = rank_of(waits.row(top), &walk.ranks);
     walk.marks[top] = Mark::Done;
     let _ = walk.path.pop();
     walk
@@ -116,13 +117,13 @@ fn done_len(row: &[usize], marks: &[Mark], known: usize) -> usize
 }
 
 /// Passes what an edge waits for and is done, and answers the first that isn't.
-fn pass(waits: &[Items<usize>], mut walk: Walk, edge: usize) -> (Walk, Option<usize>)
+fn pass(waits: &RowList, mut walk: Walk, edge: usize) -> (Walk, Option<usize>)
     requires walk { Walks waits.now walk }
     requires range { InRange waits.now }
     requires here { edge < length waits.now }
     ensures { Passes waits.now edge walk result.0 result.1 }
 {
-    let row = waits[edge].as_slice();
+    let row = waits.row(edge);
     let passed = done_len(row, &walk.marks, walk.passed[edge]);
     walk.passed[edge] = passed;
     if passed == row.len() {
@@ -171,9 +172,10 @@ fn place_of(path: &[usize], edge: usize) -> usize
 }
 
 /// The cycle that the path closes, the last of which waits for an edge on it.
-fn cycle_from(alloc: Global, waits: &[Items<usize>], path: &[usize], edge: usize) -> GraphFault
+fn cycle_from(alloc: Global, waits: &RowList, path: &[usize], edge: usize) -> GraphFault
     requires here { Contains path.now edge }
     requires chain { Chain waits.now (path.now ++ edge ∷ []) }
+    requires simple { IsSimple path.now }
     ensures { TellsCycle waits.now result }
 {
     match rotated(alloc, &path[place_of(path, edge)..]) {
@@ -185,7 +187,7 @@ fn cycle_from(alloc: Global, waits: &[Items<usize>], path: &[usize], edge: usize
 /// Opens an edge that the last of the path waits for; where it is open already, there is a cycle.
 fn open_or_cycle(
     alloc: Global,
-    waits: &[Items<usize>],
+    waits: &RowList,
     walk: Walk,
     next: usize,
 ) -> Result<Walk, GraphFault>
@@ -203,7 +205,7 @@ fn open_or_cycle(
 }
 
 /// Goes on from the last of the path: opens an edge that it waits for, or closes it.
-fn step(alloc: Global, waits: &[Items<usize>], walk: Walk, top: usize) -> Result<Walk, GraphFault>
+fn step(alloc: Global, waits: &RowList, walk: Walk, top: usize) -> Result<Walk, GraphFault>
     requires walk { Walks waits.now walk }
     requires range { InRange waits.now }
     requires few { length waits.now ≤ max_edges }
@@ -219,12 +221,7 @@ fn step(alloc: Global, waits: &[Items<usize>], walk: Walk, top: usize) -> Result
 }
 
 /// Walks from an edge until it is done, and all that it waits for.
-fn visit(
-    alloc: Global,
-    waits: &[Items<usize>],
-    walk: Walk,
-    start: usize,
-) -> Result<Walk, GraphFault>
+fn visit(alloc: Global, waits: &RowList, walk: Walk, start: usize) -> Result<Walk, GraphFault>
     requires walk { Walks waits.now walk × (walk.path.items ≡ []) }
     requires range { InRange waits.now }
     requires few { length waits.now ≤ max_edges }
@@ -240,12 +237,7 @@ fn visit(
 }
 
 /// Walks from an edge, unless the walk has met it.
-fn visited(
-    alloc: Global,
-    waits: &[Items<usize>],
-    walk: Walk,
-    edge: usize,
-) -> Result<Walk, GraphFault>
+fn visited(alloc: Global, waits: &RowList, walk: Walk, edge: usize) -> Result<Walk, GraphFault>
     requires walk { Walks waits.now walk × (walk.path.items ≡ []) }
     requires range { InRange waits.now }
     requires few { length waits.now ≤ max_edges }
@@ -272,7 +264,7 @@ fn start(alloc: Global, edges: usize) -> Result<Walk, AllocError>
 }
 
 /// The rank of each edge, by what each waits for.
-pub fn ranks(alloc: Global, waits: &[Items<usize>]) -> Result<Items<usize>, GraphFault>
+pub fn ranks(alloc: Global, waits: &RowList) -> Result<Items<usize>, GraphFault>
     requires range { InRange waits.now }
     requires few { length waits.now ≤ max_edges }
     ensures ranks { IfOk result (λ r. AreRanks waits.now r) }

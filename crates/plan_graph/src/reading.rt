@@ -1,18 +1,33 @@
 //! What build lines make and use, in the order of reading.
 
-ghost use Rattle.std.specs.Prelude.{◌≡◌, ◌≢◌, ◌≤◌, IfOk, Ok, length};
+ghost use Rattle.std.specs.Prelude.{◌≡◌, ◌≢◌, ◌≤◌, ◌∷◌, [], ◌++◌, IfOk, Ok, OnOk, length};
 ghost use Rattle.plan_text.specs.Outcome.{Meets};
-ghost use Rattle.plan_graph.specs.Files.{file_of};
+ghost use Rattle.plan_graph.specs.Files.{file_of, number_of, numbers_past, paths_in, with_paths};
 ghost use Rattle.plan_graph.specs.Graph.{due_len, inputs_named, outputs_of};
 ghost use Rattle.plan_graph.specs.Reading as reading;
+ghost use Rattle.plan_graph.specs.Reading.{inputs_past, outputs_past};
 ghost use Rattle.plan_graph.specs.declared.fault.GraphFault.TheVariants.{Memory, TwoProducers, UnknownDefault};
 
 use crate::edges::MAX_EDGES;
 use crate::fault::GraphFault;
 use crate::files::{File, Files};
+use crate::row_list::RowList;
 use plan_scope::{DefaultTarget, Edge, Manifest};
 use plan_text::{Items, SmallText};
 use std::alloc::{AllocError, Global};
+
+/// What is known past some build lines.
+#[derive(Drop)]
+pub struct Reading<'a> {
+    /// The paths that they name.
+    pub files: Files<'a>,
+    /// The numbers of the outputs of each edge.
+    pub outputs: RowList,
+    /// The numbers of the inputs of each edge.
+    pub inputs: RowList,
+    /// The row that is being read.
+    row: Vec<usize>,
+}
 
 /// A copy of a path.
 fn copied(alloc: Global, path: &[u8]) -> Result<Items<u8>, AllocError>
@@ -31,16 +46,18 @@ fn two_producers(alloc: Global, path: &[u8]) -> GraphFault
     }
 }
 
-/// Takes an output of the edge of this number.
+/// Takes an output of the edge of this number, and gives the number of its path.
 fn with_output<'a>(
     alloc: Global,
-    mut files: Files<'a>,
+    files: &mut Files<'a>,
     number: usize,
     path: &'a [u8],
-) -> Result<Files<'a>, GraphFault>
-    ensures { Meets Memory (λ f. f) result (reading.with_output files.entry number path.now (file_of path.now files.entry)) }
+) -> Result<usize, GraphFault>
+    ensures table { Meets Memory (λ _. files.new) result (reading.with_output files.old number path.now (file_of path.now files.old)) }
+    ensures number { IfOk result (λ n. n ≡ number_of (paths_in files.old) path.now) }
 {
-    let file = files.get(path);
+    let at = files.named(path)?;
+    let file = files.at(at);
     if file.maker.is_some() {
         return Err(two_producers(alloc, path));
     }
@@ -48,23 +65,26 @@ fn with_output<'a>(
         maker: Some(number),
         is_used: file.is_used,
     };
-    files.set(path, made)?;
-    Ok(files)
+    files.set(at, made);
+    Ok(at)
 }
 
-/// Takes outputs of the edge of this number.
+/// Takes outputs of the edge of this number, and appends the numbers of their paths to a row.
 fn with_outputs<'a>(
     alloc: Global,
-    mut files: Files<'a>,
+    files: &mut Files<'a>,
     number: usize,
     outputs: &'a [SmallText],
-) -> Result<Files<'a>, GraphFault>
-    ensures { Meets Memory (λ f. f) result (reading.with_outputs files.entry number outputs.now) }
+    row: &mut Vec<usize>,
+) -> Result<(), GraphFault>
+    ensures table { Meets Memory (λ _. files.new) result (reading.with_outputs files.old number outputs.now) }
+    ensures row { OnOk result (row.new.items ≡ row.old.items ++ numbers_past (paths_in files.old) outputs.now) }
 {
     for output in outputs {
-        files = with_output(alloc, files, number, output.as_slice())?;
+        let at = with_output(alloc, files, number, output.as_slice())?;
+        row.push(at)?;
     }
-    Ok(files)
+    Ok(())
 }
 
 /// Whether the maker of a path is the edge itself.
@@ -85,80 +105,127 @@ pub fn own_of(number: usize, edge: &Edge) -> Option<usize>
     if edge.phony { Some(number) } else { None }
 }
 
-/// Takes an input.
+/// Takes an input, and gives the number of its path.
 fn with_input<'a>(
-    mut files: Files<'a>,
+    files: &mut Files<'a>,
     own: Option<usize>,
     path: &'a [u8],
-) -> Result<Files<'a>, GraphFault>
-    ensures { Meets Memory (λ f. f) result (Ok (reading.with_input own files.entry path.now)) }
+) -> Result<usize, GraphFault>
+    ensures table { Meets Memory (λ _. files.new) result (Ok (reading.with_input own files.old path.now)) }
+    ensures number { IfOk result (λ n. n ≡ number_of (paths_in files.old) path.now) }
 {
-    let file = files.get(path);
+    let at = files.named(path)?;
+    let file = files.at(at);
     if file.is_used {
-        return Ok(files);
+        return Ok(at);
     }
     let used = File {
         maker: file.maker,
         is_used: !is_own(file.maker, own),
     };
-    files.set(path, used)?;
-    Ok(files)
+    files.set(at, used);
+    Ok(at)
 }
 
-/// Takes inputs of one sort.
+/// Takes inputs of one sort, and appends the numbers of their paths to a row.
 fn with_inputs<'a>(
-    mut files: Files<'a>,
+    files: &mut Files<'a>,
     own: Option<usize>,
     inputs: &'a [SmallText],
-) -> Result<Files<'a>, GraphFault>
-    ensures { Meets Memory (λ f. f) result (Ok (reading.with_inputs own files.entry inputs.now)) }
+    row: &mut Vec<usize>,
+) -> Result<(), GraphFault>
+    ensures table { Meets Memory (λ _. files.new) result (Ok (reading.with_inputs own files.old inputs.now)) }
+    ensures row { OnOk result (row.new.items ≡ row.old.items ++ numbers_past (paths_in files.old) inputs.now) }
 {
     for input in inputs {
-        files = with_input(files, own, input.as_slice())?;
+        let at = with_input(files, own, input.as_slice())?;
+        row.push(at)?;
     }
-    Ok(files)
+    Ok(())
 }
 
-/// Takes the inputs of an edge.
+/// Takes the inputs of an edge, and appends the numbers of their paths to a row.
 fn with_all_inputs<'a>(
-    files: Files<'a>,
+    files: &mut Files<'a>,
     own: Option<usize>,
     edge: &'a Edge,
-) -> Result<Files<'a>, GraphFault>
-    ensures { Meets Memory (λ f. f) result (Ok (reading.with_inputs own files.entry (inputs_named edge.now))) }
+    row: &mut Vec<usize>,
+) -> Result<(), GraphFault>
+    ensures table { Meets Memory (λ _. files.new) result (Ok (reading.with_inputs own files.old (inputs_named edge.now))) }
+    ensures row { OnOk result (row.new.items ≡ row.old.items ++ numbers_past (paths_in files.old) (inputs_named edge.now)) }
 {
-    let files = with_inputs(files, own, edge.inputs.as_slice())?;
-    let files = with_inputs(files, own, edge.implicit_inputs.as_slice())?;
-    with_inputs(files, own, edge.order_only_inputs.as_slice())
+    with_inputs(files, own, edge.inputs.as_slice(), row)?;
+    with_inputs(files, own, edge.implicit_inputs.as_slice(), row)?;
+    with_inputs(files, own, edge.order_only_inputs.as_slice(), row)?;
+    Ok(())
 }
 
-/// Takes the outputs of an edge.
+/// Takes the outputs of an edge, and appends the numbers of their paths to a row.
 fn with_all_outputs<'a>(
     alloc: Global,
-    files: Files<'a>,
+    files: &mut Files<'a>,
     number: usize,
     edge: &'a Edge,
-) -> Result<Files<'a>, GraphFault>
-    ensures { Meets Memory (λ f. f) result (reading.with_outputs files.entry number (outputs_of edge.now)) }
+    row: &mut Vec<usize>,
+) -> Result<(), GraphFault>
+    ensures table { Meets Memory (λ _. files.new) result (reading.with_outputs files.old number (outputs_of edge.now)) }
+    ensures row { OnOk result (row.new.items ≡ row.old.items ++ numbers_past (paths_in files.old) (outputs_of edge.now)) }
 {
-    let files = with_outputs(alloc, files, number, edge.outputs.as_slice())?;
-    with_outputs(alloc, files, number, edge.implicit_outputs.as_slice())
+    with_outputs(alloc, files, number, edge.outputs.as_slice(), row)?;
+    with_outputs(alloc, files, number, edge.implicit_outputs.as_slice(), row)?;
+    Ok(())
+}
+
+/// Takes the outputs of the edge of this number as a row of their own.
+fn take_outputs<'a>(
+    alloc: Global,
+    read: &mut Reading<'a>,
+    number: usize,
+    edge: &'a Edge,
+) -> Result<(), GraphFault>
+    ensures table { Meets Memory (λ _. read.new.files) result (reading.with_outputs read.old.files number (outputs_of edge.now)) }
+    ensures outputs { OnOk result (read.new.outputs ≡ read.old.outputs ++ numbers_past (paths_in read.old.files) (outputs_of edge.now) ∷ []) }
+    ensures inputs { read.new.inputs ≡ read.old.inputs }
+{
+    read.row.clear();
+    with_all_outputs(alloc, &mut read.files, number, edge, &mut read.row)?;
+    read.outputs.push(&read.row)?;
+    Ok(())
+}
+
+/// Takes the inputs of an edge as a row of their own.
+fn take_inputs<'a>(
+    read: &mut Reading<'a>,
+    own: Option<usize>,
+    edge: &'a Edge,
+) -> Result<(), GraphFault>
+    ensures table { Meets Memory (λ _. read.new.files) result (Ok (reading.with_inputs own read.old.files (inputs_named edge.now))) }
+    ensures inputs { OnOk result (read.new.inputs ≡ read.old.inputs ++ numbers_past (paths_in read.old.files) (inputs_named edge.now) ∷ []) }
+    ensures outputs { read.new.outputs ≡ read.old.outputs }
+{
+    read.row.clear();
+    with_all_inputs(&mut read.files, own, edge, &mut read.row)?;
+    read.inputs.push(&read.row)?;
+    Ok(())
 }
 
 /// Takes the edge of this number.
-fn with_edge<'a>(
+fn take_edge<'a>(
     alloc: Global,
-    files: Files<'a>,
+    read: &mut Reading<'a>,
     number: usize,
     edge: &'a Edge,
-) -> Result<Files<'a>, GraphFault>
-    ensures { Meets Memory (λ f. f) result (reading.with_edge files.entry number edge.now) }
+) -> Result<(), GraphFault>
+    ensures table { Meets Memory (λ _. read.new.files) result (reading.with_edge read.old.files number edge.now) }
+    ensures outputs { OnOk result (read.new.outputs ≡ read.old.outputs ++ numbers_past (paths_in read.old.files) (outputs_of edge.now) ∷ []) }
+    ensures inputs { OnOk result (read.new.inputs ≡ read.old.inputs ++ numbers_past (with_paths (paths_in read.old.files) (outputs_of edge.now)) (inputs_named edge.now) ∷ []) }
 {
-    let files = with_all_outputs(alloc, files, number, edge)?;
+    take_outputs(alloc, read, number, edge)?;
     if number >= MAX_EDGES {
         return Err(GraphFault::TooManyEdges);
     }
-    with_all_inputs(files, own_of(number, edge), edge)
+    take_inputs(read, own_of(number, edge), edge)?;
+    Ok(())
 }
 
 /// The fault of a target that no edge above makes.
@@ -199,20 +266,41 @@ fn due_len(number: usize, defaults: &[DefaultTarget]) -> usize
         .count()
 }
 
-/// What is known of the paths of a manifest.
-pub fn table_of<'a>(alloc: Global, manifest: &'a Manifest) -> Result<Files<'a>, GraphFault>
-    ensures { Meets Memory (λ f. f) result (reading.table_of manifest.now) }
+/// Nothing read, with room for so many edges.
+fn nothing_read<'a>(alloc: Global, edges: usize) -> Result<Reading<'a>, AllocError>
+    ensures { IfOk result (λ r. (r.files ≡ []) × (r.outputs ≡ []) × (r.inputs ≡ [])) }
 {
     let mut files = Files::new(alloc);
+    files.reserve(edges)?;
+    let mut outputs = RowList::new(alloc);
+    outputs.reserve(edges)?;
+    let mut inputs = RowList::new(alloc);
+    inputs.reserve(edges)?;
+    Ok(Reading {
+        files,
+        outputs,
+        inputs,
+        row: Vec::new(alloc),
+    })
+}
+
+/// What the build lines of a manifest make and use.
+pub fn reading_of<'a>(alloc: Global, manifest: &'a Manifest) -> Result<Reading<'a>, GraphFault>
+    ensures table { Meets Memory (λ r. r.files) result (reading.table_of manifest.now) }
+    ensures outputs { IfOk result (λ r. r.outputs ≡ outputs_past [] manifest.now.edges) }
+    ensures inputs { IfOk result (λ r. r.inputs ≡ inputs_past [] manifest.now.edges) }
+{
+    let edges = manifest.edges.as_slice();
+    let mut read = nothing_read(alloc, edges.len())?;
     let mut defaults = manifest.defaults.as_slice();
     let mut number = 0;
-    for edge in manifest.edges.as_slice() {
+    for edge in edges {
         let (due, rest) = defaults.split_at(due_len(number, defaults));
-        check_targets(alloc, &files, due)?;
-        files = with_edge(alloc, files, number, edge)?;
+        check_targets(alloc, &read.files, due)?;
+        take_edge(alloc, &mut read, number, edge)?;
         defaults = rest;
         number += 1;
     }
-    check_targets(alloc, &files, defaults)?;
-    Ok(files)
+    check_targets(alloc, &read.files, defaults)?;
+    Ok(read)
 }

@@ -2,7 +2,6 @@
 
 use super::*;
 use plan_scope::{Manifest, Source, SourceFault, evaluate, load};
-use plan_text::Items;
 use std::alloc::Global;
 use std::test::Fail;
 
@@ -42,12 +41,12 @@ fn manifest_of(alloc: Global, bytes: &'static [u8]) -> Option<Manifest> {
 const THREE: &[u8] = b"rule r\n  command = true\nbuild c: r a b\nbuild a: r\nbuild b: r a\n";
 
 /// Whether the rows are these.
-fn are_rows(rows: &[Items<usize>], expected: &[&[usize]]) -> bool {
+fn are_rows(rows: &RowList, expected: &[&[usize]]) -> bool {
     if rows.len() != expected.len() {
         return false;
     }
-    for at in 0..rows.len() {
-        if rows[at].as_slice() != expected[at] {
+    for at in 0..expected.len() {
+        if rows.row(at) != expected[at] {
             return false;
         }
     }
@@ -67,7 +66,7 @@ fn is_graph(
     };
     match graph(alloc, &manifest) {
         Ok(graph) => {
-            are_rows(graph.waits.as_slice(), waits)
+            are_rows(&graph.waits, waits)
                 && graph.ranks.as_slice() == ranks
                 && graph.defaults.as_slice() == defaults
         }

@@ -1,106 +1,97 @@
 //! What each edge waits for.
 
-ghost use Rattle.std.specs.Prelude.{◌≡◌, ℕ, List, ◌++◌, Contains, IfOk, Ok, Some, map, slice_get};
+ghost use Rattle.std.specs.Prelude.{◌≡◌, List, ◌++◌, Ok, Some, map, slice_get};
 ghost use Rattle.plan_text.specs.Outcome.{Meets};
 ghost use Rattle.plan_scope.specs.declared.manifest.Edge.{Edge as EdgeMeant};
 ghost use Rattle.plan_graph.specs.declared.fault.GraphFault.TheVariants.{Memory};
-ghost use Rattle.plan_graph.specs.Fitting.{Fits, IsAscending, makers, other};
-ghost use Rattle.plan_graph.specs.Graph.{all_waits, inputs_named, waits_of};
-ghost use Rattle.plan_graph.specs.Reading as reading;
+ghost use Rattle.plan_graph.specs.Files.{number_of, paths_in};
+ghost use Rattle.plan_graph.specs.Fitting.{Fits, IsAscending, makers_at, other};
+ghost use Rattle.plan_graph.specs.Graph.{all_waits, inputs_named, rows_of, waits_of};
 
 use crate::fault::GraphFault;
 use crate::files::Files;
 use crate::reading::{is_own, own_of};
+use crate::row_list::RowList;
 use plan_scope::Edge;
-use plan_text::{Items, SmallText};
 use std::alloc::Global;
 
 /// Appends the maker of a path, unless it is the edge itself.
 pub fn add_maker(
-    mut row: Vec<usize>,
+    row: &mut Vec<usize>,
     own: Option<usize>,
     maker: Option<usize>,
-) -> Result<Vec<usize>, GraphFault>
-    ensures { Meets Memory (λ v. v.items) result (Ok (row.items ++ other own maker)) }
+) -> Result<(), GraphFault>
+    ensures { Meets Memory (λ _. row.new.items) result (Ok (row.old.items ++ other own maker)) }
 {
     match maker {
         Some(maker) => {
             if !is_own(Some(maker), own) {
                 row.push(maker)?;
             }
-            Ok(row)
+            Ok(())
         }
-        None => Ok(row),
+        None => Ok(()),
     }
 }
 
-/// Appends the makers of paths, unless they are the edge itself.
+/// Appends the makers of the paths of these numbers, unless they are the edge itself.
 fn add_makers<'a>(
-    mut row: Vec<usize>,
+    row: &mut Vec<usize>,
     files: &Files<'a>,
     own: Option<usize>,
-    paths: &[SmallText],
-) -> Result<Vec<usize>, GraphFault>
-    ensures { Meets Memory (λ v. v.items) result (Ok (row.items ++ makers files.now own paths.now)) }
+    numbers: &[usize],
+) -> Result<(), GraphFault>
+    ensures { Meets Memory (λ _. row.new.items) result (Ok (row.old.items ++ makers_at files.now own numbers.now)) }
 {
-    for path in paths {
-        row = add_maker(row, own, files.maker(path.as_slice()))?;
+    for number in numbers {
+        add_maker(row, own, files.maker_at(*number))?;
     }
-    Ok(row)
+    Ok(())
 }
 
-/// These numbers, each once, in ascending order.
-pub fn ascending(mut numbers: Vec<usize>) -> Items<usize>
-    ensures { IsAscending numbers.items result }
+/// Sorts numbers, and keeps each once.
+pub fn ascend(numbers: &mut Vec<usize>)
+    ensures { IsAscending numbers.old.items numbers.new.items }
 {
     numbers.sort_unstable();
     numbers.dedup();
-    numbers.shrink_to_fit();
-    Items::new(numbers)
 }
 
-/// The makers of the inputs of an edge, in the order of the inputs.
-fn makers_of_inputs<'a>(
-    alloc: Global,
-    files: &Files<'a>,
-    own: Option<usize>,
-    edge: &Edge,
-) -> Result<Vec<usize>, GraphFault>
-    ensures { Meets Memory (λ v. v.items) result (Ok (makers files.now own (inputs_named edge.now))) }
-{
-    let row = add_makers(Vec::new(alloc), files, own, edge.inputs.as_slice())?;
-    let row = add_makers(row, files, own, edge.implicit_inputs.as_slice())?;
-    add_makers(row, files, own, edge.order_only_inputs.as_slice())
-}
-
-/// What the edge of this number waits for.
+/// What the edge of this number waits for, by the numbers of its inputs, in place of what the row held.
 fn waits_of<'a>(
-    alloc: Global,
+    row: &mut Vec<usize>,
     files: &Files<'a>,
     number: usize,
     edge: &Edge,
-) -> Result<Items<usize>, GraphFault>
-    ensures { (edges : List EdgeMeant) → Fits files.now edges → slice_get edges number ≡ Some edge.now → Meets Memory (λ row. row) result (Ok (waits_of edges edge.now)) }
+    inputs: &[usize],
+) -> Result<(), GraphFault>
+    requires { inputs.now ≡ map (number_of (paths_in files.now)) (inputs_named edge.now) }
+    ensures { (edges : List EdgeMeant) → Fits files.now edges → slice_get edges number ≡ Some edge.now → Meets Memory (λ _. row.new.items) result (Ok (waits_of edges edge.now)) }
 {
-    let row = makers_of_inputs(alloc, files, own_of(number, edge), edge)?;
-    Ok(ascending(row))
+    row.clear();
+    add_makers(row, files, own_of(number, edge), inputs)?;
+    ascend(row);
+    Ok(())
 }
 
-/// What each edge waits for.
+/// What each edge waits for, by the numbers of its inputs.
 pub fn all_waits<'a>(
     alloc: Global,
     files: &Files<'a>,
+    inputs: &RowList,
     edges: &[Edge],
-) -> Result<Vec<Items<usize>>, GraphFault>
-    requires { Fits files.now edges.now }
-    ensures { Meets Memory (λ v. v.items) result (Ok (all_waits edges.now)) }
+) -> Result<RowList, GraphFault>
+    requires fits { Fits files.now edges.now }
+    requires inputs { inputs.now ≡ rows_of inputs_named (paths_in files.now) edges.now }
+    ensures { Meets Memory (λ rows. rows) result (Ok (all_waits edges.now)) }
 {
-    let mut waits = Vec::new(alloc);
-    waits.reserve_exact(edges.len())?;
+    let mut waits = RowList::new(alloc);
+    waits.reserve(edges.len())?;
+    let mut row = Vec::new(alloc);
     let mut number = 0;
     for edge in edges {
-        let row = waits_of(alloc, files, number, edge)?;
-        waits.push(row)?;
+        waits_of(&mut row, files, number, edge, inputs.row(number))?;
+        waits.push(&row)?;
         number += 1;
     }
     Ok(waits)

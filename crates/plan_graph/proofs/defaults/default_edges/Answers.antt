@@ -7,6 +7,7 @@ use Rattle.plan_graph.proofs.defaults.default_edges.Goals as goal
 pub returns : goal.returns
 returns c =
     let targets = map (λ t. t.path) c.args.defaults.now in
+    let row = c.ascend.new.numbers.items in
     let numbers = row_is (makers c.args.files.now None targets) c.in_ok-numbers.numbers.items c.in_ok-numbers.ensures in
-    ap row_okay (named_defaults c.args.files.now c.args.edges.now c.args.defaults.now c.ascending.result c.requires (sym c.is_empty.ensures ∙ c.if-is_empty.false)
-    (subst (λ (x : List ℕ). IsAscending x c.ascending.result) (sym numbers) c.ascending.ensures))
+    ap row_okay (named_defaults c.args.files.now c.args.edges.now c.args.defaults.now row c.requires.fits (sym c.is_empty.ensures ∙ c.if-is_empty.false)
+    (subst (λ (x : List ℕ). IsAscending x row) (sym numbers) c.ascend.ensures) ∙ sym c.new.ensures)

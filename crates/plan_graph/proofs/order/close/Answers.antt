@@ -4,7 +4,7 @@ use Rattle.std.proofs.lemmas.Option.{slice_get_within}
 use Rattle.plan_graph.specs.Cycles.{rank_over}
 use Rattle.plan_graph.specs.Walking.{AllDone, IsWalk, left}
 use Rattle.plan_graph.specs.declared.order.Mark.TheVariants.{Done, Open}
-use Rattle.plan_graph.proofs.WalkLemmas.{closes, done_not_new, done_of, left_done, length_end, marks_kept, row_here, take_end, top_open}
+use Rattle.plan_graph.proofs.WalkLemmas.{closes, done_not_new, done_of, left_done, length_end, marks_kept, take_end, top_open}
 use Rattle.plan_graph.proofs.order.close.Goals as goal
 
 pub index_mut-requires : goal.index_mut-requires
@@ -27,9 +27,8 @@ rank_of-requires-clause-low c k d lt =
     let waits = c.args.waits.now in
     let o = top_open waits w.marks.items w.passed.items w.ranks.items w.path.items c.requires.last.0 c.args.top c.requires.walk c.requires.last.1 in
     let within : c.args.top < length w.marks.items = slice_get_within w.marks.items c.args.top Open o in
-    let row = row_here waits c.args.top c.index-waits-top.result (omega (arith, within, c.requires.walk.marked)) c.index-waits-top.is in
-    let e = get_or c.as_slice.result.now k d in
-    let done : slice_get w.marks.items e ≡ Some Done = done_of w.marks.items c.as_slice.result.now k d lt (subst (AllDone w.marks.items) (row ∙ sym c.as_slice.ensures) c.requires.done) in
+    let e = get_or c.row.result.now k d in
+    let done : slice_get w.marks.items e ≡ Some Done = done_of w.marks.items c.row.result.now k d lt (subst (AllDone w.marks.items) (sym c.row.ensures) c.requires.done) in
     let low : slice_index w.ranks.items e + left w.marks.items ≤ 2 * length w.marks.items = c.requires.walk.low e done in
     subst (λ (r : List ℕ). slice_index r e + 1 < 18446744073709551616) (sym c.deref.ensures.value) (omega (arith, low, c.requires.few, c.requires.walk.marked))
 
@@ -47,7 +46,7 @@ returns c =
     let rest : c.pop.new.self.items ≡ take (length front) w.path.items = c.pop.ensures.rest ∙ ap (λ (k : ℕ). take k w.path.items) one_less in
     let popped : c.pop.new.self.items ≡ front = rest ∙ (ap (take (length front)) p ∙ take_end front top) in
     let rank : c.rank_of.result ≡ rank_over w.ranks.items (get_or waits top [])
-    = c.rank_of.ensures ∙ (ap (λ (r : List ℕ). rank_over r c.as_slice.result.now) c.deref.ensures.value ∙ ap (rank_over w.ranks.items) (c.as_slice.ensures ∙ sym (row_here waits top c.index-waits-top.result (omega (arith, within, c.requires.walk.marked)) c.index-waits-top.is))) in
+    = c.rank_of.ensures ∙ (ap (λ (r : List ℕ). rank_over r c.row.result.now) c.deref.ensures.value ∙ ap (rank_over w.ranks.items) c.row.ensures) in
     record {
       walk = subst (λ (q : List ℕ). IsWalk waits (set w.marks.items top Done) w.passed.items (set w.ranks.items top c.rank_of.result) q) (sym popped)
           (closes waits w.marks.items w.passed.items w.ranks.items w.path.items front top c.rank_of.result c.requires.walk p c.requires.done rank);

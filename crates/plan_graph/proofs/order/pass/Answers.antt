@@ -1,6 +1,6 @@
 use Rattle.std.proofs.Common.{◌≡◌, ◌≤◌, ◌∙◌, [], ap, arith, get_or, length, refl, subst, sym}
 use Rattle.plan_graph.specs.Walking.{DoneTo}
-use Rattle.plan_graph.proofs.WalkLemmas.{all_done, passes, row_here}
+use Rattle.plan_graph.proofs.WalkLemmas.{all_done, passes}
 use Rattle.plan_graph.proofs.order.pass.Goals as goal
 
 pub returns-then-passed-row : goal.returns-then-passed-row
@@ -8,11 +8,11 @@ returns-then-passed-row c =
     let w = c.args.walk in
     let waits = c.args.waits.now in
     let e = c.args.edge in
-    let row : get_or waits e [] ≡ c.as_slice-row.result.now = row_here waits e c.index-waits-edge.result c.requires.here c.index-waits-edge.is ∙ sym c.as_slice-row.ensures in
+    let row : get_or waits e [] ≡ c.row-row.result.now = sym c.row-row.ensures in
     let n = c.done_len-passed.result in
-    let marks : DoneTo w.marks.items c.as_slice-row.result.now n = subst (λ m. DoneTo m c.as_slice-row.result.now n) c.deref.ensures.value c.done_len-passed.ensures.done in
+    let marks : DoneTo w.marks.items c.row-row.result.now n = subst (λ m. DoneTo m c.row-row.result.now n) c.deref.ensures.value c.done_len-passed.ensures.done in
     let done : DoneTo w.marks.items (get_or waits e []) n = subst (λ r. DoneTo w.marks.items r n) (sym row) marks in
-    let long : length (get_or waits e []) ≡ length c.as_slice-row.result.now = ap length row in
+    let long : length (get_or waits e []) ≡ length c.row-row.result.now = ap length row in
     let within : n ≤ length (get_or waits e []) = omega (arith, c.done_len-passed.ensures.within, long) in
     let all : n ≡ length (get_or waits e []) = c.if-passed-row.true ∙ sym long in
     record {

@@ -1,4 +1,4 @@
-use Rattle.std.proofs.Common.{[], List, ℕ, arith, length, subst, sym}
+use Rattle.std.proofs.Common.{◌≡◌, ◌∙◌, [], List, ℕ, ap, arith, length, subst, sym}
 use Rattle.std.specs.Prelude.{replicate}
 use Rattle.plan_graph.specs.Cycles.{AreRanks}
 use Rattle.plan_graph.specs.declared.order.Mark.{Mark}
@@ -12,7 +12,10 @@ loop-edge-init c =
     let waits = c.args.waits.now in
     let n = length waits in
     let w = c.in_ok-walk.walk in
-    let is = c.in_ok-walk.ensures in
+    let met = c.in_ok-walk.ensures in
+    let size : c.len.result ≡ n = c.len.ensures in
+    let is : (w.path.items ≡ []) × (w.marks.items ≡ replicate n New) × (w.passed.items ≡ replicate n 0) × (w.ranks.items ≡ replicate n 0)
+    = (met.0, met.1 ∙ ap (λ k. replicate k New) size, met.2 ∙ ap (λ k. replicate k 0) size, met.3 ∙ ap (λ k. replicate k 0) size) in
     let walk : IsWalk waits w.marks.items w.passed.items w.ranks.items w.path.items =
     subst (λ (p : List ℕ). IsWalk waits w.marks.items w.passed.items w.ranks.items p) (sym is.0)
     (subst (λ (m : List Mark). IsWalk waits m w.passed.items w.ranks.items []) (sym is.1)

@@ -1,10 +1,13 @@
-use Rattle.std.proofs.Common.{◌≡◌, subst}
-use Rattle.plan_graph.specs.Files.{Table, file_of, unknown}
-use Rattle.plan_graph.proofs.FileLemmas.{found, not_found}
+use Rattle.std.proofs.Common.{◌≡◌, ◌∙◌, ◌⊎◌, Option, Some, None, List, ap, subst, sym, ℕ}
+use Rattle.plan_graph.specs.Files.{Path, Table, file_at, file_of, number_of, paths_in, unknown}
+use Rattle.plan_graph.proofs.FileLemmas.{file_missing, file_numbered, place_given, place_missing}
 use Rattle.plan_graph.proofs.files.Files.get.Goals as goal
 
 pub returns-in-Some : goal.returns-in-Some
-returns-in-Some c = subst (λ (f : Table). c.in-Some.file.now ≡ file_of c.args.path.now f) c.self.view_is (found c.args.path.now c.self.inside.files.entries c.in-Some.file.now c.in-Some.ensures.value)
+returns-in-Some c =
+    let files = c.args.self.now in
+    let path = c.args.path.now in
+    c.at.ensures ∙ (ap (λ n. file_at n files) (place_given (paths_in files) path c.in-Some.number c.in-Some.ensures) ∙ file_numbered files path)
 
 pub returns-in-None : goal.returns-in-None
-returns-in-None c = subst (λ (f : Table). unknown ≡ file_of c.args.path.now f) c.self.view_is (not_found c.args.path.now c.self.inside.files.entries c.in-None.ensures.value)
+returns-in-None c = file_missing c.args.self.now c.args.path.now (place_missing (paths_in c.args.self.now) c.args.path.now c.in-None.ensures)
