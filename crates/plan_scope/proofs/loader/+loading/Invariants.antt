@@ -1,4 +1,4 @@
-use Rattle.std.proofs.Common.{◌≡◌, ◌↔◌, ◌+◌, ◌*◌, ◌++◌, ℕ, List, Option, Ok}
+use Rattle.std.proofs.Common.{◌≡◌, ◌+◌, ◌*◌, ◌++◌, Ok}
 use Rattle.plan_scope.specs.Loading.{LoadsAll}
 use Rattle.plan_scope.specs.Sources.{SameFiles}
 use Rattle.plan_scope.specs.Taking.{never, takes_in}
