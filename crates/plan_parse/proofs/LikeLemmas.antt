@@ -78,7 +78,7 @@ end_like x y e = by_text (λ p q. Like Same (line_end_at x p) (line_end_at y q))
 -- pieces
 sign_like : (m : Mode) (a b c : ℕ) (rest : List ℕ) (t u v : Bool) (o : Option (Sign × ℕ))
     → Like Same (cond t (or_bad a o) (cond u (Err (text.NulByte a)) (cond v (Err (text.TabBlank a)) (Ok (Rattle.plan_text.specs.Pieces.Byte c, 0)))))
-      (cond t (or_bad b o) (cond u (Err (text.NulByte b)) (cond v (Err (text.TabBlank b)) (Ok (Rattle.plan_text.specs.Pieces.Byte c, 0)))))
+    (cond t (or_bad b o) (cond u (Err (text.NulByte b)) (cond v (Err (text.TabBlank b)) (Ok (Rattle.plan_text.specs.Pieces.Byte c, 0)))))
 sign_like m a b c rest true u v None = tt
 sign_like m a b c rest true u v (Some x) = refl
 sign_like m a b c rest false true v o = tt
@@ -131,8 +131,8 @@ paths_like_past a b (c ∷ rest) zero =
   where
     by : (t u : Bool) → ((n : ℕ) → Like SameFound (paths_past (a + 1) rest n) (paths_past (b + 1) rest n))
         → Like SameFound
-          (cond t (paths_past (a + 1) rest (gap_len (c ∷ rest) - 1)) (cond u (Ok ([], here a (c ∷ rest))) (path_at (here a (c ∷ rest)) (path_len (c ∷ rest)) >>= λ path. path_onto path (paths_past (a + 1) rest (path_len (c ∷ rest) - 1)))))
-          (cond t (paths_past (b + 1) rest (gap_len (c ∷ rest) - 1)) (cond u (Ok ([], here b (c ∷ rest))) (path_at (here b (c ∷ rest)) (path_len (c ∷ rest)) >>= λ path. path_onto path (paths_past (b + 1) rest (path_len (c ∷ rest) - 1)))))
+        (cond t (paths_past (a + 1) rest (gap_len (c ∷ rest) - 1)) (cond u (Ok ([], here a (c ∷ rest))) (path_at (here a (c ∷ rest)) (path_len (c ∷ rest)) >>= λ path. path_onto path (paths_past (a + 1) rest (path_len (c ∷ rest) - 1)))))
+        (cond t (paths_past (b + 1) rest (gap_len (c ∷ rest) - 1)) (cond u (Ok ([], here b (c ∷ rest))) (path_at (here b (c ∷ rest)) (path_len (c ∷ rest)) >>= λ path. path_onto path (paths_past (b + 1) rest (path_len (c ∷ rest) - 1)))))
     by true u more = more (gap_len (c ∷ rest) - 1)
     by false true more = (refl, refl)
     by false false more =

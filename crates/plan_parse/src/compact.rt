@@ -1,9 +1,10 @@
 //! Statements as they are kept beside their text.
 
-ghost use Rattle.std.specs.Prelude.{◌≡◌, ℕ, IfOk, List};
+ghost use Rattle.std.specs.Prelude.{◌≡◌, ℕ, IfOk, List, Some, length};
 ghost use Rattle.plan_parse.specs.Compact as compact;
 ghost use Rattle.plan_parse.specs.Statements.{bound_at};
 ghost use Rattle.plan_parse.specs.Views.{place_of};
+ghost use Rattle.plan_parse.specs.declared.span.Span as the_span;
 
 use crate::cursor::Cursor;
 use crate::fault::ParseFault;
@@ -26,18 +27,16 @@ pub enum CompactStatement {
 fn line_in(text: &[u8], span: Span) -> Cursor<'_>
     ensures { place_of result ≡ compact.line_in text.now span }
 {
-    let rest = match text.get(span.at..) {
+    let at = span.at as usize;
+    let rest = match text.get(at..) {
         Some(rest) => rest,
         None => &[],
     };
-    let line = match rest.get(..span.len) {
+    let line = match rest.get(..span.len as usize) {
         Some(line) => line,
         None => rest,
     };
-    Cursor {
-        at: span.at,
-        bytes: line,
-    }
+    Cursor { at, bytes: line }
 }
 
 /// What a line binds; nothing to nothing where it is no binding.
@@ -61,6 +60,16 @@ pub fn read_binding(alloc: Global, text: &[u8], span: Span) -> Result<Binding, A
     bound_or(alloc, line_in(text, span))
 }
 
+/// Where a line stands, if its numbers tell.
+fn span_of(p: Cursor<'_>) -> Option<Span>
+    ensures { (span : the_span.Span) → result ≡ Some span → (span.at ≡ p.entry.at) × (span.len ≡ length p.entry.bytes.now) }
+{
+    match (u32::try_from(p.at), u32::try_from(p.bytes.len())) {
+        (Ok(at), Ok(len)) => Some(Span { at, len }),
+        _ => None,
+    }
+}
+
 /// The statement of a line and of the lines below it, kept beside its text.
 pub fn compacted(
     alloc: Global,
@@ -69,11 +78,8 @@ pub fn compacted(
 ) -> Result<CompactStatement, AllocError>
     ensures { IfOk result (λ kept. (text : List ℕ) → compact.StandsIn text (place_of p.entry) → compact.ReadsAgain (place_of p.entry) statement → compact.said_in text kept ≡ statement) }
 {
-    match statement.kind {
-        StatementKind::Binding(_) => Ok(CompactStatement::Binding(Span {
-            at: p.at,
-            len: p.bytes.len(),
-        })),
+    match (&statement.kind, span_of(p)) {
+        (StatementKind::Binding(_), Some(span)) => Ok(CompactStatement::Binding(span)),
         _ => Ok(CompactStatement::Whole(Box::new(alloc, statement)?)),
     }
 }
@@ -84,7 +90,7 @@ impl CompactStatement {
         ensures { (text : List ℕ) → result ≡ (compact.said_in text self.now).offset }
     {
         match self {
-            CompactStatement::Binding(span) => span.at as u64,
+            CompactStatement::Binding(span) => u64::from(span.at),
             CompactStatement::Whole(statement) => statement.offset,
         }
     }

@@ -1,13 +1,10 @@
 //! Lines by their places.
 
-ghost use Rattle.std.specs.Prelude.{◌+◌, ◌<◌, ◌^◌};
-
-/// Where a line stands in its text.
+/// Where a line stands in its text. A text that is read has fewer bytes than these numbers can tell.
 #[derive(Clone, Copy, Debug, Drop)]
 pub struct Span {
     /// How many bytes stand before it.
-    pub at: usize,
+    pub at: u32,
     /// How many bytes it has.
-    pub len: usize,
-    ghost short: { at + len < 2 ^ 63 },
+    pub len: u32,
 }

@@ -53,7 +53,7 @@ fn binds(alloc: Global, bindings: &Items<Binding>, want: &[u8]) -> Result<bool, 
 fn whole(alloc: Global, text: &[u8], statement: CompactStatement) -> Result<Statement, ParseFault> {
     match statement {
         CompactStatement::Binding(span) => Ok(Statement {
-            offset: span.at as u64,
+            offset: u64::from(span.at),
             kind: StatementKind::Binding(read_binding(alloc, text, span)?),
         }),
         CompactStatement::Whole(statement) => Ok(Box::into_inner(statement)),

@@ -6,7 +6,7 @@ use Rattle.std.specs.Map.{lookup}
 use Rattle.indexmap.specs.IndexMap.{insert_entry}
 use Rattle.plan_scope.specs.declared.keys.Key.{Key}
 use Rattle.plan_scope.specs.Scopes.{Name, Bindings, Scoped, last_of, frame, nearest, or_else}
-use Rattle.plan_scope.specs.Keys.{IsMarked, mark_of, marks, same_key, same_key_equiv, key_of, scoped_by}
+use Rattle.plan_scope.specs.Keys.{AreMarked, IsMarked, mark_of, marks, same_key, same_key_equiv, key_of, scoped_by}
 use Rattle.plan_scope.proofs.Seen.{last_of_push}
 
 -- one more binding, and what is then bound in a scope
@@ -111,4 +111,23 @@ marked_set es fs marked i key name value h m lt k f = (
       set_scoped es fs key name value k f s n
       ∙ (last_in_push s n (scoped_by es) (key.scope, (name, value))
       ∙ marked_at es marked i key.scope name value h m lt s n e (same_key (key.scope, name) (s, n)) refl),
+)
+
+marked_there : {V : Type 0} (bs : Bindings V) (marked : List Bool) (i : ℕ) (name : Name) (value : V) → AreMarked marked bs → i ≡ mark_of name → i < marks
+    → (n : Name) → slice_index_or (slice_set marked i true) (mark_of n) false ≡ false
+    → (t : Bool) → bytes_eq name n ≡ t → ◌≡◌ {A = Option V} (cond t (Some value) (last_of n bs)) None
+marked_there {V} bs marked i name value h m lt n e true k =
+    let same : name ≡ n = (bytes_eq-Decides name n).0 k in
+    let at : i ≡ mark_of n = m ∙ ap mark_of same in
+    let there : slice_index_or (slice_set marked i true) i false ≡ true = get_or-set_same marked i true false (subst (λ x. i < x) (sym h.0) lt) in
+    let no : true ≡ false = sym there ∙ (ap (λ j. slice_index_or (slice_set marked i true) j false) at ∙ e) in
+    cc
+marked_there bs marked i name value h m lt n e false k = h.1 n (unmarked_before marked i (mark_of n) e)
+
+-- one more binding, and its mark
+pub marked_more : {V : Type 0} (bs : Bindings V) (marked : List Bool) (i : ℕ) (name : Name) (value : V) → AreMarked marked bs → i ≡ mark_of name → i < marks
+    → AreMarked (slice_set marked i true) (bs ++ (name, value) ∷ [])
+marked_more bs marked i name value h m lt = (
+  length-set marked i true ∙ h.0,
+  λ n e. last_of_push n bs (name, value) ∙ marked_there bs marked i name value h m lt n e (bytes_eq name n) refl,
 )

@@ -1,5 +1,5 @@
 -- Texts that are kept on the way to others.
-use Rattle.std.proofs.Common.{◌≡◌, ℕ, zero, suc, Bool, true, false, ◌&&◌, bytes_eq, leb, ◌+◌, ◌-◌, ◌<◌, ◌≤◌, List, [], ◌∷◌, ◌++◌, length, take, drop, get_or, Option, Some, None, Result, Ok, Err, refl, ap, sym, subst, ◌∙◌, option_map, append-nil, append_assoc, length-append, arith, slice_range}
+use Rattle.std.proofs.Common.{◌≡◌, ℕ, zero, suc, Bool, true, false, ◌&&◌, bytes_eq, leb, ◌+◌, ◌-◌, ◌<◌, ◌≤◌, List, [], ◌∷◌, ◌++◌, length, take, get_or, Option, Some, None, Ok, Err, refl, ap, sym, subst, ◌∙◌, option_map, append-nil, append_assoc, length-append, arith, slice_range}
 use Rattle.std.proofs.Math.Seq.{drop-append_seam}
 use Rattle.std.proofs.lemmas.Bool.{leb-true}
 use Rattle.std.proofs.lemmas.Slice.Eq.{bytes_eq-Decides}
@@ -14,7 +14,7 @@ use Rattle.plan_scope.specs.Expansion.{Meaning, Late, both, joined, text_of, tex
 use Rattle.plan_scope.specs.Frames.{kept}
 use Rattle.plan_scope.specs.Settling.{AppendsBy, AreSettled, IsFound, IsSettled, Says, text_by}
 use Rattle.plan_scope.specs.Steps.{Appends}
-use Rattle.plan_scope.proofs.Kept.{both_long, kept_append, kept_then}
+use Rattle.plan_scope.proofs.Kept.{both_long, kept_then}
 use Rattle.plan_scope.proofs.PathLemmas.{exact_kept}
 use Rattle.plan_scope.proofs.StepLemmas.{by_more, joined_by, piece_by, within_is_by}
 

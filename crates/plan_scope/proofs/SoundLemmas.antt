@@ -1,5 +1,5 @@
 -- Each manifest is sound.
-use Rattle.std.proofs.Common.{◌≡◌, ℕ, zero, suc, ◌+◌, ◌<◌, ◌≤◌, ◌⊎◌, inl, inr, Bool, true, false, not, ◌||◌, ◌&&◌, List, [], ◌∷◌, ◌++◌, length, map, Option, Some, None, Result, Ok, Err, refl, ap, sym, subst, ◌∙◌, bytes_eq, cond, eqb, leb, lit≤, arith, append-nil, append_assoc, flat_map, unwrap_or}
+use Rattle.std.proofs.Common.{◌≡◌, ℕ, suc, ◌≤◌, ◌⊎◌, inl, inr, Bool, true, false, not, ◌||◌, ◌&&◌, List, [], ◌∷◌, ◌++◌, length, map, Option, Some, None, Result, Ok, Err, refl, ap, sym, subst, ◌∙◌, bytes_eq, cond, leb, lit≤, arith, append-nil, append_assoc, flat_map, unwrap_or}
 use Rattle.std.specs.Prelude.{codes, is_none}
 use Rattle.std.specs.List.{All, list_any}
 use Rattle.std.proofs.lemmas.Bool.{ltb-false, eqb-true, leb-true}
@@ -22,9 +22,8 @@ use Rattle.plan_scope.specs.declared.manifest.Pool.{Pool}
 use Rattle.plan_scope.specs.declared.variables.Variables.{Variables}
 use Rattle.plan_scope.specs.Trees.{Line}
 use Rattle.plan_scope.specs.Scopes.{Text, Name, Bindings, Scoped, nearest, look, expand, bound_by, is_too_long, is_long_path, is_empty, max_path, max_text}
-use Rattle.plan_scope.specs.Expansion.{Use}
 use Rattle.plan_scope.specs.Edges.{all_paths, all_variables, block_of, builds_in, builds_of, built_by, canonical_or, causes_of, console, defaults_alone, depth_in, edge_alone, edge_by, edge_of, edge_with, first_of, given_by, given_past, in_front, is_among, is_number, is_taken, manifest_of, mapped, max_depth, names_no_pool, near, nothing, number_past, or_refused, path_of, paths_of, phony_variables, pool_alone, pool_by, pools_in, pools_of, rules_of, target_at, targets_by, text_in, use_of, variables_of, with_front, with_more}
-use Rattle.plan_scope.specs.Sound.{AreApart, IsPath, IsSound, IsSoundEdge, MakesSome, RunsNothing, names_of}
+use Rattle.plan_scope.specs.Sound.{AreApart, IsPath, IsSound, IsSoundEdge, MakesSome, names_of}
 use Rattle.plan_scope.proofs.PathLemmas.{or_parts}
 
 -- none of these causes stands

@@ -6,7 +6,7 @@ use Rattle.std.specs.Hash as fed
 use Rattle.std.specs.Cmp.Rules.{hashing}
 use Rattle.std.proofs.Common.{rules}
 use Rattle.plan_scope.specs.declared.keys.Key.{Key}
-use Rattle.plan_scope.specs.Scopes.{Name, Scoped, frame, last_of}
+use Rattle.plan_scope.specs.Scopes.{Name, Bindings, Scoped, frame, last_of}
 
 -- the same scope and the same name
 abbrev pub same_key : ℕ × Name → ℕ × Name → Bool
@@ -39,6 +39,10 @@ marks = 64
 abbrev pub mark_of : Name → ℕ
 mark_of [] = 0
 mark_of (b ∷ rest) = (b + 3 * (length (b ∷ rest) % marks)) % marks
+
+-- no name is bound without its mark
+abbrev pub AreMarked : {V : Type 0} → List Bool → Bindings V → Type 0
+AreMarked marked bs = (length marked ≡ marks) × ((name : Name) → slice_index_or marked (mark_of name) false ≡ false → last_of name bs ≡ None)
 
 -- no scope has a name without its mark
 abbrev pub IsMarked : {V : Type 0} → List Bool → List (Key × V) → Type 0

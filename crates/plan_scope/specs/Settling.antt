@@ -1,5 +1,5 @@
 -- The texts of a rule's variables, found in steps from one variable to another, and those that are kept on the way.
-use Rattle.std.specs.Prelude.{◌≡◌, ◌≤◌, ℕ, zero, suc, true, false, List, [], ◌∷◌, ◌++◌, length, Option, Some, None, Result, Ok, Err, option_map}
+use Rattle.std.specs.Prelude.{◌≡◌, ◌≤◌, ℕ, zero, suc, true, false, List, [], ◌∷◌, ◌++◌, Option, Some, None, Result, Ok, Err, option_map}
 use Rattle.plan_scope.specs.declared.fault.Cause.TheVariants.{RuleCycle}
 use Rattle.plan_scope.specs.declared.fault.LineFault.{LineFault}
 use Rattle.plan_scope.specs.declared.fault.LineFault.TheVariants.{Refused, Memory}

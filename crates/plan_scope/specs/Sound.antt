@@ -1,9 +1,8 @@
 -- What holds of each manifest.
-use Rattle.std.specs.Prelude.{◌≡◌, ◌<◌, ◌≤◌, ◌+◌, ◌⊎◌, Bool, true, false, List, [], ◌∷◌, ◌++◌, length, map, Ok}
+use Rattle.std.specs.Prelude.{◌≡◌, ◌<◌, ◌≤◌, ◌+◌, ◌⊎◌, true, false, List, [], ◌∷◌, ◌++◌, length, map, Ok}
 use Rattle.std.specs.List.{All}
 use Rattle.plan_text.specs.Path.{canonical_of}
 use Rattle.plan_parse.specs.declared.statement.Build.{Build}
-use Rattle.plan_scope.specs.declared.manifest.DefaultTarget.{DefaultTarget}
 use Rattle.plan_scope.specs.declared.manifest.Edge.{Edge}
 use Rattle.plan_scope.specs.declared.manifest.Manifest.{Manifest}
 use Rattle.plan_scope.specs.declared.manifest.Pool.{Pool}

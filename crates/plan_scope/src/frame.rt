@@ -57,7 +57,18 @@ impl<'a, V> Frame<'a, V> {
     }
 
     /// The value of a name.
+    #[inline(always)]
     pub fn get(&self, name: &[u8]) -> Option<&V>
+        ensures { option_map (λ v. v.now) result ≡ last_of name.now self.now }
+    {
+        if self.few.is_empty() {
+            return None;
+        }
+        self.get_among(name)
+    }
+
+    /// The value of a name, where there are some.
+    fn get_among(&self, name: &[u8]) -> Option<&V>
         ensures { option_map (λ v. v.now) result ≡ last_of name.now self.now }
     {
         if self.few.len() < FEW {

@@ -5,6 +5,7 @@ ghost use Rattle.plan_scope.specs.Scopes.{last_of};
 ghost use Rattle.plan_scope.specs.Edges.{late};
 
 use crate::frame::Frame;
+use crate::scoped::{MARKS, mark};
 use plan_parse::Binding;
 use plan_text::Piece;
 use std::alloc::{AllocError, Global};
@@ -15,6 +16,8 @@ use std::marker::Model;
 pub struct RuleVariables<'a> {
     bindings: &'a [Binding],
     last: Frame<'a, &'a [Piece]>,
+    /// Whether a line binds a name of this mark.
+    marked: [bool; MARKS],
 }
 
 impl<'a> Model for RuleVariables<'a> {
@@ -22,12 +25,13 @@ impl<'a> Model for RuleVariables<'a> {
     ghost use Rattle.plan_text.specs.declared.piece_reader.Piece.{Piece};
     ghost use Rattle.plan_scope.specs.Scopes.{Bindings, Name, last_of};
     ghost use Rattle.plan_scope.specs.Edges.{late};
+    ghost use Rattle.plan_scope.specs.Keys.{AreMarked};
 
     ghost Value = { Bindings (List Piece) };
 
     ghost view = { λ r. late r.bindings.now };
 
-    ghost invariant = { λ r. (n : Name) → option_map (λ p. p.now) (last_of n r.last) ≡ last_of n (late r.bindings.now) };
+    ghost invariant = { λ r. ((n : Name) → option_map (λ p. p.now) (last_of n r.last) ≡ last_of n (late r.bindings.now)) × AreMarked r.marked (late r.bindings.now) };
 }
 
 impl<'a> RuleVariables<'a> {
@@ -36,10 +40,16 @@ impl<'a> RuleVariables<'a> {
         ensures { IfOk result (λ r. r ≡ late bindings.now) }
     {
         let mut last = Frame::new(alloc);
+        let mut marked = [false; MARKS];
         for binding in bindings {
             last.set(binding.name.as_slice(), binding.value.as_slice())?;
+            marked[mark(binding.name.as_slice())] = true;
         }
-        Ok(RuleVariables { bindings, last })
+        Ok(RuleVariables {
+            bindings,
+            last,
+            marked,
+        })
     }
 
     /// No variable.
@@ -49,6 +59,7 @@ impl<'a> RuleVariables<'a> {
         RuleVariables {
             bindings: &[],
             last: Frame::new(alloc),
+            marked: [false; MARKS],
         }
     }
 
@@ -63,6 +74,9 @@ impl<'a> RuleVariables<'a> {
     pub fn get(&self, name: &[u8]) -> Option<&'a [Piece]>
         ensures { option_map (λ p. p.now) result ≡ last_of name.now self.now }
     {
+        if !self.marked[mark(name)] {
+            return None;
+        }
         match self.last.get(name) {
             Some(pieces) => Some(*pieces),
             None => None,

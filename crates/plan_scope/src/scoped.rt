@@ -10,10 +10,10 @@ use std::alloc::{AllocError, Global};
 use std::marker::Model;
 
 /// How many marks names have.
-const MARKS: usize = 64;
+pub const MARKS: usize = 64;
 
 /// The mark of a name: names that have different marks differ.
-fn mark(name: &[u8]) -> usize
+pub fn mark(name: &[u8]) -> usize
     ensures mark { result ≡ mark_of name.now }
     ensures within { result < marks }
 {

@@ -1,8 +1,6 @@
-use Rattle.std.proofs.Common.{◌≡◌, ◌<◌, ℕ, ◌+◌, ◌++◌, ap, arith, length, List, Option, Some, subst, sym, ◌∙◌, option_map}
+use Rattle.std.proofs.Common.{ℕ, ◌+◌, arith, List, subst, sym}
 use Rattle.plan_text.specs.declared.piece_reader.Piece.{Piece}
-use Rattle.plan_scope.specs.declared.settled.Settled.{Settled}
 use Rattle.plan_scope.specs.Expansion.{Meaning, meaning_of, text_of_piece}
-use Rattle.plan_scope.specs.Frames.{kept}
 use Rattle.plan_scope.specs.HeldUses.{use_of}
 use Rattle.plan_scope.specs.Settling.{AppendsBy, AreSettled, text_by}
 use Rattle.plan_scope.specs.Shows.{shown_as}

@@ -1,4 +1,4 @@
-use Rattle.std.proofs.Common.{◌≡◌, ℕ, ◌+◌, ◌*◌, ◌≤◌, ◌++◌, List, Option, Some, take, option_map}
+use Rattle.std.proofs.Common.{◌≡◌, ℕ, ◌+◌, ◌*◌, ◌≤◌, ◌++◌, List, Some, take, option_map}
 use Rattle.plan_scope.specs.Expansion.{Meaning, meaning_of, joined}
 use Rattle.plan_scope.specs.Frames.{kept}
 use Rattle.plan_scope.specs.HeldUses.{use_of}

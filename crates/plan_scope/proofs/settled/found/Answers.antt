@@ -1,4 +1,4 @@
-use Rattle.std.proofs.Common.{ℕ, option_map}
+use Rattle.std.proofs.Common.{option_map}
 use Rattle.plan_scope.proofs.Settles.{found_more, near_enough, settled_at}
 use Rattle.plan_scope.proofs.settled.found.Goals as goal
 

@@ -1,5 +1,4 @@
-use Rattle.std.proofs.Common.{◌∙◌, sym, length, ap, List, subst}
-use Rattle.plan_scope.specs.declared.settled.Settled.{Settled}
+use Rattle.std.proofs.Common.{sym, subst}
 use Rattle.plan_scope.specs.Settling.{AreSettled}
 use Rattle.plan_scope.proofs.Settles.{settled_more}
 use Rattle.plan_scope.proofs.settled.settle.Goals as goal

@@ -1,4 +1,4 @@
-use Rattle.std.proofs.Common.{◌≡◌, ◌∙◌, sym}
+use Rattle.std.proofs.Common.{◌∙◌, sym}
 use Rattle.std.proofs.lemmas.Bool.{ltb-false}
 use Rattle.plan_scope.specs.Scopes.{max_text}
 use Rattle.plan_scope.proofs.Settles.{cut_behind}

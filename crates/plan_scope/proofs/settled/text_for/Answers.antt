@@ -1,7 +1,7 @@
-use Rattle.std.proofs.Common.{◌∙◌, sym, length, ap}
+use Rattle.std.proofs.Common.{◌∙◌, sym, length}
 use Rattle.std.proofs.lemmas.Bool.{ltb-true}
 use Rattle.plan_scope.specs.Scopes.{max_text}
-use Rattle.plan_scope.proofs.Settles.{found_long, found_text}
+use Rattle.plan_scope.proofs.Settles.{found_long}
 use Rattle.plan_scope.proofs.settled.text_for.Goals as goal
 
 pub returns-then-is_long : goal.returns-then-is_long

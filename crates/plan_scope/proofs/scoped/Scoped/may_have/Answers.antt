@@ -1,4 +1,4 @@
-use Rattle.std.proofs.Common.{◌≡◌, ℕ, List, Option, None, false, ap, subst, sym, ◌∙◌, slice_index_or}
+use Rattle.std.proofs.Common.{◌≡◌, None, false, ap, subst, sym, ◌∙◌, slice_index_or}
 use Rattle.plan_scope.specs.Scopes.{Scoped, nearest}
 use Rattle.plan_scope.specs.Keys.{scoped_by}
 use Rattle.plan_scope.proofs.ScopedSeen.{nearest_none}

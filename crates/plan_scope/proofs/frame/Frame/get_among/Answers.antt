@@ -3,7 +3,7 @@ use Rattle.std.specs.Prelude.{option_map}
 use Rattle.plan_scope.specs.Scopes.{Bindings, last_of, or_else}
 use Rattle.plan_scope.specs.Frames.{listed, shown}
 use Rattle.plan_scope.proofs.Seen.{last_of_both, last_of_shown}
-use Rattle.plan_scope.proofs.frame.Frame.get.Goals as goal
+use Rattle.plan_scope.proofs.frame.Frame.get_among.Goals as goal
 
 pub returns-in-Some : goal.returns-in-Some
 returns-in-Some g c =
