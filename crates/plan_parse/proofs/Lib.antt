@@ -4,3 +4,4 @@ pub mod BlockLemmas
 pub mod ProgressLemmas
 pub mod WholeLemmas
 pub mod LikeLemmas
+pub mod StatementLemmas
