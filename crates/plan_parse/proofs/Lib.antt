@@ -5,3 +5,4 @@ pub mod ProgressLemmas
 pub mod WholeLemmas
 pub mod LikeLemmas
 pub mod StatementLemmas
+pub mod JoinLemmas
