@@ -6,3 +6,4 @@ pub mod WholeLemmas
 pub mod LikeLemmas
 pub mod StatementLemmas
 pub mod JoinLemmas
+pub mod FaultLemmas

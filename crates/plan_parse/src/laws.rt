@@ -1,6 +1,6 @@
 //! What holds of all manifests.
 
-ghost use Rattle.plan_parse.specs.Laws.{StatementsAreWhole, StatementsJoin};
+ghost use Rattle.plan_parse.specs.Laws.{FaultsHavePlaces, StatementsAreWhole, StatementsJoin};
 
 use plan_text::lines_join;
 
@@ -16,3 +16,8 @@ pub fn statements_join()
 {
     lines_join();
 }
+
+/// Each fault of a text has an offset: none is want of memory, nor that of a path without a byte.
+pub fn faults_have_places()
+    ensures { FaultsHavePlaces }
+{}
