@@ -5,3 +5,6 @@ pub mod ProgressLemmas
 pub mod CompactLemmas
 pub mod WholeLemmas
 pub mod LikeLemmas
+pub mod StatementLemmas
+pub mod JoinLemmas
+pub mod FaultLemmas

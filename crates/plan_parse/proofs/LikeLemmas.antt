@@ -55,11 +55,11 @@ here at bytes = record { at = at; bytes = bytes }
 pub by_text : (P : Place → Place → Type 0) → ((a b : ℕ) (v : List ℕ) → P (here a v) (here b v)) → (p q : Place) → SameText p q → P p q
 by_text P h p q e = subst (λ (v : List ℕ). P p (here q.at v)) e (h p.at q.at p.bytes)
 
-by_test : {A B : Type 0} (R : A → B → Type 0) (t : Bool) (x : A) (y : B) (e f : ParseFault) → R x y → Like R (cond t (Err e) (Ok x)) (cond t (Err f) (Ok y))
+pub by_test : {A B : Type 0} (R : A → B → Type 0) (t : Bool) (x : A) (y : B) (e f : ParseFault) → R x y → Like R (cond t (Err e) (Ok x)) (cond t (Err f) (Ok y))
 by_test R true x y e f h = tt
 by_test R false x y e f h = h
 
-unless_test : {A B : Type 0} (R : A → B → Type 0) (t : Bool) (x : A) (y : B) (e f : ParseFault) → R x y → Like R (cond t (Ok x) (Err e)) (cond t (Ok y) (Err f))
+pub unless_test : {A B : Type 0} (R : A → B → Type 0) (t : Bool) (x : A) (y : B) (e f : ParseFault) → R x y → Like R (cond t (Ok x) (Err e)) (cond t (Ok y) (Err f))
 unless_test R true x y e f h = h
 unless_test R false x y e f h = tt
 

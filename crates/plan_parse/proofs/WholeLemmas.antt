@@ -26,12 +26,12 @@ use Rattle.plan_parse.specs.Statements.{bound_at, alone, first_word, is_named, w
 use Rattle.plan_parse.specs.Laws.{IsWhole}
 
 -- the first of two steps that both went well
-record Found {A B : Type 0} (r : Result A ParseFault) (f : A → Result B ParseFault) (y : B) : Type 0 where
-  first : A
-  was : r ≡ Ok first
-  gives : f first ≡ Ok y
+pub record Found {A B : Type 0} (r : Result A ParseFault) (f : A → Result B ParseFault) (y : B) : Type 0 where
+  pub first : A
+  pub was : r ≡ Ok first
+  pub gives : f first ≡ Ok y
 
-found : {A B : Type 0} (r : Result A ParseFault) (f : A → Result B ParseFault) (y : B) → (r >>= f) ≡ Ok y → Found r f y
+pub found : {A B : Type 0} (r : Result A ParseFault) (f : A → Result B ParseFault) (y : B) → (r >>= f) ≡ Ok y → Found r f y
 found (Ok x) f y e = record { first = x; was = refl; gives = e }
 found (Err e) f y h = absurd cc
 
