@@ -1,5 +1,5 @@
 -- What holds of the files, waits and defaults of all edges.
-use Rattle.std.proofs.Common.{◌≡◌, ◌≢◌, ◌<◌, ◌≤◌, ◌+◌, ◌++◌, ◌∷◌, [], ◌∙◌, ◌⊎◌, inl, inr, Bool, true, false, List, ℕ, zero, suc, Some, ap, arith, bytes_eq, get_or, length, map, refl, subst, sym}
+use Rattle.std.proofs.Common.{◌≡◌, ◌≢◌, ◌<◌, ◌+◌, ◌++◌, ◌∷◌, [], ◌∙◌, inl, inr, Bool, true, false, List, ℕ, zero, suc, Some, ap, arith, bytes_eq, get_or, length, map, refl, subst, sym}
 use Rattle.std.specs.Prelude.{◌||◌, All, Contains, flat_map, if◌then◌else◌, slice_get, slice_index}
 use Rattle.std.specs.Cmp.Lexicographic.{nat_list_eq_equiv}
 use Rattle.std.specs.List.{AllPairs}

@@ -1,4 +1,4 @@
-use Rattle.std.proofs.Common.{◌≡◌, ◌+◌, ◌*◌, ◌-◌, ◌<◌, ◌≤◌, [], ◌∙◌, List, Some, ℕ, ap, arith, get_or, length, set, subst, sym, take, vec_len}
+use Rattle.std.proofs.Common.{◌≡◌, ◌+◌, ◌-◌, ◌<◌, [], ◌∙◌, List, Some, ℕ, ap, arith, get_or, length, set, subst, sym, take, vec_len}
 use Rattle.std.specs.Prelude.{slice_get, slice_index}
 use Rattle.std.proofs.lemmas.Option.{slice_get_within}
 use Rattle.plan_graph.specs.Cycles.{rank_over}
