@@ -1,6 +1,6 @@
 -- What a table of paths shows of its set and of what is known of each path.
-use Rattle.std.proofs.Common.{◌≡◌, ◌<◌, ◌≤◌, ◌+◌, ℕ, true, false, List, [], ◌∷◌, ◌++◌, ◌∙◌, inl, inr, Bool, Option, Some, None, refl, ap, arith, bytes_eq, cond, get_or, length, map, not, set, subst, sym, zero, suc}
-use Rattle.std.specs.Prelude.{◌||◌, if◌then◌else◌, position, slice_get, nat_lt}
+use Rattle.std.proofs.Common.{◌≡◌, ◌<◌, ◌≤◌, ◌+◌, ℕ, true, false, List, [], ◌∷◌, ◌++◌, ◌∙◌, inl, inr, Bool, Option, Some, None, refl, ap, arith, bytes_eq, cond, get_or, length, map, not, set, sym, zero, suc}
+use Rattle.std.specs.Prelude.{◌||◌, if◌then◌else◌, position, nat_lt}
 use Rattle.std.specs.List.{list_any, position_or_len, zip}
 use Rattle.std.proofs.lemmas.Slice.Eq.{bytes_eq-Decides}
 use Rattle.std.proofs.lemmas.Bool.{cases_lt, false≢true, le-ltb, lt-ltb}

@@ -78,12 +78,12 @@ refuses_cycle m (TwoProducers path) sound h = absurd h
 refuses_cycle m (UnknownDefault path) sound h = absurd h
 refuses_cycle m TooManyEdges sound h = absurd h
 
-row_of : (f : Edge → List ℕ) (es : List Edge) (e : ℕ) → (get_or (map f es) e [] ≡ []) ⊎ ((x : Edge) × (get_or (map f es) e [] ≡ f x))
+pub row_of : (f : Edge → List ℕ) (es : List Edge) (e : ℕ) → (get_or (map f es) e [] ≡ []) ⊎ ((x : Edge) × (get_or (map f es) e [] ≡ f x))
 row_of f [] e = inl refl
 row_of f (x ∷ es) zero = inr (x, refl)
 row_of f (x ∷ es) (suc e) = row_of f es e
 
-numbers_below : (test : Edge → Bool) (edges : List Edge) → All (λ w. w < length edges) (numbers_from 0 test edges)
+pub numbers_below : (test : Edge → Bool) (edges : List Edge) → All (λ w. w < length edges) (numbers_from 0 test edges)
 numbers_below test edges k d h =
     let row = numbers_from 0 test edges in
     let n = numbers_given 0 test edges (get_or row k d) (in_list row (get_or row k d) (Contains-get_or row k d h)) in

@@ -9,4 +9,5 @@ pub mod LawLemmas
 pub mod InputLemmas
 pub mod RowListLemmas
 pub mod NumberLemmas
+pub mod EdgeLaws
 pub mod Rows

@@ -1,5 +1,5 @@
 -- The numbers that paths are given while build lines are read.
-use Rattle.std.proofs.Common.{◌≡◌, ◌<◌, ◌+◌, ◌++◌, ◌∷◌, [], ◌∙◌, Bool, true, false, List, ℕ, suc, Option, Result, Ok, Err, ap, bytes_eq, drop, get_or, length, map, refl, subst, sym, take}
+use Rattle.std.proofs.Common.{◌≡◌, ◌<◌, ◌+◌, ◌++◌, ◌∷◌, [], ◌∙◌, Bool, true, false, List, ℕ, suc, Option, Result, Ok, Err, ap, bytes_eq, drop, get_or, length, map, refl, sym, take}
 use Rattle.std.specs.Prelude.{◌||◌, flat_map, if◌then◌else◌, is_some, nat_le}
 use Rattle.std.proofs.lemmas.List.{append_assoc}
 use Rattle.std.proofs.lemmas.Slice.Eq.{bytes_eq-Decides}
@@ -8,7 +8,6 @@ use Rattle.plan_scope.specs.declared.manifest.Edge.{Edge}
 use Rattle.plan_scope.specs.Edges.{is_among}
 use Rattle.plan_graph.specs.declared.fault.GraphFault.{GraphFault}
 use Rattle.plan_graph.specs.declared.fault.GraphFault.TheVariants.{TooManyEdges, TwoProducers}
-use Rattle.plan_graph.specs.declared.files.File.{File}
 use Rattle.plan_graph.specs.Files.{Path, Table, file_of, number_of, numbers_past, paths_in, with_file, with_path, with_paths}
 use Rattle.plan_graph.specs.Graph.{due_len, inputs_named, max_edges, outputs_of, rows_of}
 use Rattle.plan_graph.specs.Reading.{◌>>=◌, fitting, inputs_past, made, outputs_past, own_of, used, with_edge, with_edges, with_input, with_inputs, with_output, with_outputs, with_targets}

@@ -9,7 +9,7 @@ use Rattle.plan_scope.specs.declared.manifest.DefaultTarget.{DefaultTarget}
 use Rattle.plan_scope.specs.declared.manifest.Edge.{Edge}
 use Rattle.plan_scope.specs.Edges.{is_among}
 use Rattle.plan_graph.specs.declared.files.File.{File}
-use Rattle.plan_graph.specs.Files.{Path, Table, file_at, is_used, maker_in, number_of, paths_in}
+use Rattle.plan_graph.specs.Files.{Path, Table, file_at, maker_in, number_of, paths_in}
 use Rattle.plan_graph.specs.Fitting.{Fits, IsAscending, makers, makers_at, other}
 use Rattle.plan_graph.specs.Graph.{default_edges, inputs_named, inputs_of, maker_from, maker_of, is_last, makes_any, numbers_from, outputs_of, rows_of, waits_of}
 use Rattle.plan_graph.specs.Reading.{is_own, own_of}

@@ -8,17 +8,17 @@ use Rattle.std.proofs.lemmas.Bool.Decides.{Decides-eqb, eqb_tells, same_from_dec
 use Rattle.std.proofs.lemmas.List.Sorted.{IsPermutation-append_comm}
 use Rattle.std.proofs.lemmas.Map.Keys.{IsDistinct-IsPermutation}
 use Rattle.std.proofs.lemmas.Map.Made.{AllPairs-from_IsDistinct, IsDistinct-from_AllPairs}
-use Rattle.std.proofs.lemmas.Option.{slice_get_within, slice_get_read, get_or_from_slice_get, slice_get-get_or}
+use Rattle.std.proofs.lemmas.Option.{slice_get_within, get_or_from_slice_get, slice_get-get_or}
 use Rattle.std.proofs.lemmas.List.Folds.{sum_by-replicate}
 use Rattle.std.proofs.Math.Seq.{take-length}
-use Rattle.std.proofs.lemmas.List.{get_or_append_left, get_or-append-add, append_assoc, append-nil, ext_get_or, get_or-drop, get_or-map, get_or-replicate, get_or_past, length-drop, length-map, length-replicate, take-append-drop, take_more}
+use Rattle.std.proofs.lemmas.List.{get_or_append_left, get_or-append-add, append_assoc, append-nil, ext_get_or, get_or-drop, get_or-map, get_or-replicate, get_or_default, get_or_past, length-drop, length-map, length-replicate, take-append-drop, take_more}
 use Rattle.std.proofs.lemmas.List.Elements.{All-contains, Contains-append_left, Contains-append_right, Contains-get_or, Contains-push_cases}
 use Rattle.std.proofs.lemmas.List.Sums.{sum_by-set}
 use Rattle.plan_graph.specs.declared.order.Mark.{Mark}
 use Rattle.plan_graph.specs.declared.order.Walk.{Walk}
 use Rattle.plan_graph.specs.declared.order.Mark.TheVariants.{New, Open, Done}
 use Rattle.plan_graph.specs.Cycles.{WaitsFor, Chain, IsCycle, IsLeastFirst, IsSimple, rank_over}
-use Rattle.plan_graph.specs.Walking.{AllDone, DoneTo, GoesOn, IsWalk, KeepsMarks, left, left_of}
+use Rattle.plan_graph.specs.Walking.{AllDone, DoneTo, GoesOn, IsWalk, KeepsMarks, is_pending, left, left_of, pending}
 use Rattle.plan_graph.proofs.MemberLemmas.{In, append_left, append_right, contained, in_append, in_list}
 
 pub get_same : {X : Type 0} (xs : List X) (i : ℕ) (y : X) → i < length xs → slice_get (set xs i y) i ≡ Some y
@@ -119,12 +119,24 @@ left_done marks i h e =
     let k : left_of (get_or marks i New) ≡ 1 = ap left_of (get_or_from_slice_get marks i Open New e) in
     omega (arith, s, k)
 
+pending_open : (marks : List Mark) (i : ℕ) → i < length marks → slice_get marks i ≡ Some New → pending (set marks i Open) ≡ pending marks
+pending_open marks i h e =
+    let s : pending (set marks i Open) + is_pending (get_or marks i New) ≡ pending marks + 1 = sum_by-set is_pending marks i Open New h in
+    let k : is_pending (get_or marks i New) ≡ 1 = ap is_pending (get_or_from_slice_get marks i New New e) in
+    omega (arith, s, k)
+
+pending_done : (marks : List Mark) (i : ℕ) → i < length marks → slice_get marks i ≡ Some Open → pending (set marks i Done) + 1 ≡ pending marks
+pending_done marks i h e =
+    let s : pending (set marks i Done) + is_pending (get_or marks i New) ≡ pending marks + 0 = sum_by-set is_pending marks i Done New h in
+    let k : is_pending (get_or marks i New) ≡ 1 = ap is_pending (get_or_from_slice_get marks i Open New e) in
+    omega (arith, s, k)
+
 pub opens : (waits : List (List ℕ)) (marks : List Mark) (passed ranks path : List ℕ) (next : ℕ) → IsWalk waits marks passed ranks path → slice_get marks next ≡ Some New
     → Chain waits (path ++ next ∷ []) → IsWalk waits (set marks next Open) passed ranks (path ++ next ∷ [])
 opens waits marks passed ranks path next w fresh waited =
     let fresh_not : slice_get marks next ≢ Some Done = λ e. cc in
     let range : next < length marks = slice_get_within marks next New fresh in
-    let less : left (set marks next Open) < left marks = left_open marks next range fresh in
+    let alike : pending (set marks next Open) ≡ pending marks = pending_open marks next range fresh in
     let same : length (set marks next Open) ≡ length marks = length-set marks next Open in
     record {
       marked = same ∙ w.marked;
@@ -153,9 +165,9 @@ opens waits marks passed ranks path next w fresh waited =
       behind = λ e. done_to_kept marks next Open (get_or waits e []) (slice_index passed e) fresh_not (w.behind e);
       low = λ e d. elim (get_cases marks next e Open Done d) [
         | inl c ↦ absurd (cc)
-        | inr c ↦ let low : slice_index ranks e + left marks ≤ 2 * length marks = w.low e c.1 in omega (arith, low, less, same)
+        | inr c ↦ let low : slice_index ranks e + pending marks < length marks = w.low e c.1 in omega (arith, low, alike, same)
       ];
-      most = let most : left marks ≤ 2 * length marks = w.most in omega (arith, most, less, same);
+      most = let most : pending marks ≤ length marks = w.most in omega (arith, most, alike, same);
     }
 
 -- the row that was closed just now
@@ -187,12 +199,12 @@ closes waits marks passed ranks path front top r w p alldone rank =
     let not_done : slice_get marks top ≢ Some Done = λ e. cc in
     let front_is : (i : ℕ) → i < length front → slice_index front i ≡ slice_index path i = λ i h. sym (before_end front top i h) ∙ ap (λ q. slice_index q i) (sym p) in
     let not_top : (i : ℕ) → i < length front → slice_index front i ≢ top = λ i h e. w.apart i (length front) h (omega (arith, long)) (sym (front_is i h) ∙ (e ∙ sym top_last)) in
-    let less : left (set marks top Done) < left marks = left_done marks top range top_open in
+    let less : pending (set marks top Done) + 1 ≡ pending marks = pending_done marks top range top_open in
     let same : length (set marks top Done) ≡ length marks = length-set marks top Done in
-    let raised : (e : ℕ) → slice_get marks e ≡ Some Done → slice_index ranks e + 1 ≤ 2 * length marks - left (set marks top Done)
-    = λ e d. let low : slice_index ranks e + left marks ≤ 2 * length marks = w.low e d in omega (arith, low, less) in
-    let top_low : rank_over ranks (get_or waits top []) ≤ 2 * length marks - left (set marks top Done) = rank_low marks ranks (get_or waits top []) (2 * length marks - left (set marks top Done)) raised alldone in
-    let most : left marks ≤ 2 * length marks = w.most in
+    let raised : (e : ℕ) → slice_get marks e ≡ Some Done → slice_index ranks e + 1 ≤ length marks - pending marks
+    = λ e d. let low : slice_index ranks e + pending marks < length marks = w.low e d in omega (arith, low) in
+    let top_low : rank_over ranks (get_or waits top []) ≤ length marks - pending marks = rank_low marks ranks (get_or waits top []) (length marks - pending marks) raised alldone in
+    let most : pending marks ≤ length marks = w.most in
     record {
       marked = same ∙ w.marked;
       ranked = length-set ranks top r ∙ w.ranked;
@@ -217,7 +229,7 @@ closes waits marks passed ranks path front top r w p alldone rank =
         | inl c ↦ let here : slice_index (set ranks top r) e ≡ rank_over ranks (get_or waits top []) = ap (slice_index (set ranks top r)) c.0 ∙ (get_or-set_same ranks top r 0 (omega (arith, w.ranked, w.marked, range)) ∙ rank) in
             omega (arith, here, top_low, less, most, same)
         | inr c ↦ let there : slice_index (set ranks top r) e ≡ slice_index ranks e = get_or-set_other ranks top e r 0 c.0 in
-            let low : slice_index ranks e + left marks ≤ 2 * length marks = w.low e c.1 in omega (arith, there, low, less, same)
+            let low : slice_index ranks e + pending marks < length marks = w.low e c.1 in omega (arith, there, low, less, same)
       ];
       most = omega (arith, most, less, same);
     }
@@ -403,7 +415,7 @@ starts waits =
       within = λ e. let zero_here = zero_at n e in omega (arith, zero_here);
       behind = λ e i h. let zero_here = zero_at n e in absurd (omega (arith, h, zero_here));
       low = λ e d. absurd (done_not_new (only_new n e Done d));
-      most = let sum : left (replicate n New) ≡ n * 2 = sum_by-replicate left_of n New in let long : length (replicate n New) ≡ n = length-replicate n New in omega (arith, sum, long);
+      most = let sum : pending (replicate n New) ≡ n * 1 = sum_by-replicate is_pending n New in let long : length (replicate n New) ≡ n = length-replicate n New in omega (arith, sum, long);
     }
 
 last_mark : (m : Mark) → m ≢ New → m ≢ Open → m ≡ Done
@@ -424,6 +436,17 @@ ranks_are waits marks passed ranks w met =
     let mark : slice_get marks e ≡ Some (get_or marks e New) = slice_get-get_or marks e New (omega (arith, here, w.marked)) in
     let done : get_or marks e New ≡ Done = last_mark (get_or marks e New) (λ n. met e here (mark ∙ ap (λ (m : Mark). Some m) n)) (λ o. nothing_open e (w.opened e (mark ∙ ap (λ (m : Mark). Some m) o))) in
     (w.finished e (mark ∙ ap (λ (m : Mark). Some m) done)).1 ∙ sym (get_or-map (rank_over ranks) waits e [] 0 here))
+
+-- they are less than the number of edges
+pub ranks_low : (waits : List (List ℕ)) (marks : List Mark) (passed ranks : List ℕ) → IsWalk waits marks passed ranks [] → ((e : ℕ) → e < length waits → slice_get marks e ≢ Some New)
+    → All (λ r. r < length waits) ranks
+ranks_low waits marks passed ranks w met e d h =
+    let here : e < length waits = omega (arith, h, w.ranked) in
+    let mark : slice_get marks e ≡ Some (get_or marks e New) = slice_get-get_or marks e New (omega (arith, here, w.marked)) in
+    let done : get_or marks e New ≡ Done = last_mark (get_or marks e New) (λ n. met e here (mark ∙ ap (λ (m : Mark). Some m) n)) (λ o. nothing_open e (w.opened e (mark ∙ ap (λ (m : Mark). Some m) o))) in
+    let low : slice_index ranks e + pending marks < length marks = w.low e (mark ∙ ap (λ (m : Mark). Some m) done) in
+    let same : get_or ranks e d ≡ slice_index ranks e = get_or_default ranks e d 0 h in
+    omega (arith, low, w.marked, same)
 
 -- what was met stays met, and the next is met
 pub met_next : (old new : List Mark) (n e : ℕ) → KeepsMarks old new → slice_get new n ≢ Some New → ((k : ℕ) → k < n → slice_get old k ≢ Some New) → e < n + 1 → slice_get new e ≢ Some New

@@ -1,5 +1,5 @@
 -- The build graph of a manifest. Edges are named by their numbers in the manifest, from 0.
-use Rattle.std.specs.Prelude.{◌≡◌, ◌≤◌, ℕ, ◌+◌, Bool, Contains, slice_get, not, List, [], ◌∷◌, ◌++◌, length, map, take, drop, Option, Some, None, Result, Ok, Err, nat_le, if◌then◌else◌, filter, flat_map}
+use Rattle.std.specs.Prelude.{◌≡◌, ◌≤◌, ℕ, ◌+◌, ◌<◌, All, Bool, Contains, slice_get, not, List, [], ◌∷◌, ◌++◌, length, map, take, drop, Option, Some, None, Result, Ok, Err, nat_le, if◌then◌else◌, filter, flat_map}
 use Rattle.std.specs.List.{list_any, prefix_len}
 use Rattle.plan_scope.specs.declared.manifest.DefaultTarget.{DefaultTarget}
 use Rattle.plan_scope.specs.declared.manifest.Edge.{Edge}
@@ -120,6 +120,7 @@ pub record IsGraph (m : Manifest) (g : GraphMeant) : Type 0 where
   pub inputs : g.inputs ≡ rows_of inputs_named (files_of m.edges) m.edges
   pub waits : g.waits ≡ all_waits m.edges
   pub ranks : AreRanks g.waits g.ranks
+  pub low : All (λ r. r < length m.edges) g.ranks
   pub defaults : g.defaults ≡ default_edges m.edges m.defaults
 
 -- why a manifest has no graph; a cycle only where nothing else is at fault

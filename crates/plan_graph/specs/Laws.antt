@@ -1,8 +1,12 @@
--- What holds of all waits.
-use Rattle.std.specs.Prelude.{◌<◌, ◌↔◌, ℕ, List, slice_index}
-use Rattle.plan_graph.specs.Cycles.{AreRanks, IsCycle, WaitsFor}
-use Rattle.plan_graph.specs.Graph.{all_waits}
+-- What holds of all edges and all waits.
+use Rattle.std.specs.Prelude.{◌≡◌, ◌≢◌, ◌<◌, ◌↔◌, ◌++◌, ℕ, All, Contains, List, [], Some, get_or, length, slice_get, slice_index}
+use Rattle.std.specs.List.{AllPairs}
+use Rattle.std.specs.List.Sorted.{IsStrictlyIncreasing}
+use Rattle.plan_scope.specs.declared.manifest.DefaultTarget.{DefaultTarget}
 use Rattle.plan_scope.specs.declared.manifest.Edge.{Edge}
+use Rattle.plan_graph.specs.Cycles.{AreRanks, IsCycle, WaitsFor}
+use Rattle.plan_graph.specs.Files.{Path, Table, maker_at, maker_in, number_of, paths_in}
+use Rattle.plan_graph.specs.Graph.{all_waits, default_edges, files_of, inputs_named, inputs_of, maker_of, outputs_of}
 
 -- the rank of an edge is greater than that of each edge which it waits for
 abbrev pub RanksRise : Type 0
@@ -11,3 +15,28 @@ RanksRise = (waits : List (List ℕ)) (ranks : List ℕ) (e w : ℕ) → AreRank
 -- edges have ranks exactly where there is no cycle
 abbrev pub RankedUnlessCyclic : Type 0
 RankedUnlessCyclic = (edges : List Edge) → ((ranks : List ℕ) × AreRanks (all_waits edges) ranks) ↔ ((es : List ℕ) → IsCycle (all_waits edges) es → ⊥)
+
+-- each path that an edge names is a file, at its number
+abbrev pub FilesComplete : Type 0
+FilesComplete = (edges : List Edge) (n : ℕ) (e : Edge) (path : Path) → slice_get edges n ≡ Some e → Contains (outputs_of e ++ inputs_named e) path
+    → slice_get (files_of edges) (number_of (files_of edges) path) ≡ Some path
+
+-- no file stands twice
+abbrev pub FilesDistinct : Type 0
+FilesDistinct = (edges : List Edge) → AllPairs (λ p q. p ≢ q) (files_of edges)
+
+-- what makes a path makes the path of its number
+abbrev pub MakersNumbered : Type 0
+MakersNumbered = (files : Table) (path : Path) → maker_at files (number_of (paths_in files) path) ≡ maker_in files path
+
+-- an edge waits for the makers of its inputs
+abbrev pub MakersWaited : Type 0
+MakersWaited = (edges : List Edge) (n w : ℕ) (e : Edge) (path : Path) → slice_get edges n ≡ Some e → Contains (inputs_of e) path → maker_of edges path ≡ Some w → WaitsFor (all_waits edges) n w
+
+-- what an edge waits for ascends, and is edges
+abbrev pub WaitsAscend : Type 0
+WaitsAscend = (edges : List Edge) (n : ℕ) → IsStrictlyIncreasing (get_or (all_waits edges) n []) × All (λ w. w < length edges) (get_or (all_waits edges) n [])
+
+-- so are the edges that are built where no target is asked for
+abbrev pub DefaultsAscend : Type 0
+DefaultsAscend = (edges : List Edge) (defaults : List DefaultTarget) → IsStrictlyIncreasing (default_edges edges defaults) × All (λ n. n < length edges) (default_edges edges defaults)

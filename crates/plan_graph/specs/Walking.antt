@@ -1,5 +1,5 @@
 -- How far a walk along waits has come.
-use Rattle.std.specs.Prelude.{◌≡◌, ◌≢◌, ◌+◌, ◌*◌, ◌<◌, ◌≤◌, ℕ, List, [], ◌∷◌, All, Contains, None, Option, Some, get_or, length, slice_get, slice_index, sum_by}
+use Rattle.std.specs.Prelude.{◌≡◌, ◌≢◌, ◌+◌, ◌<◌, ◌≤◌, ℕ, List, [], ◌∷◌, All, Contains, None, Option, Some, get_or, length, slice_get, slice_index, sum_by}
 use Rattle.plan_graph.specs.declared.order.Mark.{Mark}
 use Rattle.plan_graph.specs.declared.order.Mark.TheVariants.{Done, New, Open}
 use Rattle.plan_graph.specs.declared.order.Walk.{Walk}
@@ -29,7 +29,16 @@ left_of Done = 0
 abbrev pub left : List Mark → ℕ
 left marks = sum_by left_of marks
 
--- what is done has its rank, and what is open is the path; of what each edge waits for so many are done as were passed
+-- how many edges are not done
+abbrev pub is_pending : Mark → ℕ
+is_pending New = 1
+is_pending Open = 1
+is_pending Done = 0
+
+abbrev pub pending : List Mark → ℕ
+pending marks = sum_by is_pending marks
+
+-- what is done has its rank, which is less than the number of edges that are done; and what is open is the path; of what each edge waits for so many are done as were passed
 pub record IsWalk (waits : List (List ℕ)) (marks : List Mark) (passed ranks path : List ℕ) : Type 0 where
   pub marked : length marks ≡ length waits
   pub ranked : length ranks ≡ length waits
@@ -41,8 +50,8 @@ pub record IsWalk (waits : List (List ℕ)) (marks : List Mark) (passed ranks pa
   pub chain : Chain waits path
   pub within : (e : ℕ) → slice_index passed e ≤ length (get_or waits e [])
   pub behind : (e : ℕ) → DoneTo marks (get_or waits e []) (slice_index passed e)
-  pub low : (e : ℕ) → slice_get marks e ≡ Some Done → slice_index ranks e + left marks ≤ 2 * length marks
-  pub most : left marks ≤ 2 * length marks
+  pub low : (e : ℕ) → slice_get marks e ≡ Some Done → slice_index ranks e + pending marks < length marks
+  pub most : pending marks ≤ length marks
 
 abbrev pub Walks : List (List ℕ) → Walk → Type 0
 Walks waits w = IsWalk waits w.marks.items w.passed.items w.ranks.items w.path.items

@@ -1,6 +1,6 @@
-//! What holds of all waits.
+//! What holds of all edges and all waits.
 
-ghost use Rattle.plan_graph.specs.Laws.{RankedUnlessCyclic, RanksRise};
+ghost use Rattle.plan_graph.specs.Laws.{DefaultsAscend, FilesComplete, FilesDistinct, MakersNumbered, MakersWaited, RankedUnlessCyclic, RanksRise, WaitsAscend};
 
 /// The rank of an edge is greater than that of each edge which it waits for.
 pub fn ranks_rise()
@@ -10,4 +10,34 @@ pub fn ranks_rise()
 /// Edges have ranks exactly where there is no cycle.
 pub fn ranked_unless_cyclic()
     ensures { RankedUnlessCyclic }
+{}
+
+/// Each path that an edge names is a file, at its number.
+pub fn files_complete()
+    ensures { FilesComplete }
+{}
+
+/// No file stands twice.
+pub fn files_distinct()
+    ensures { FilesDistinct }
+{}
+
+/// The edge that makes a path makes the path of its number.
+pub fn makers_numbered()
+    ensures { MakersNumbered }
+{}
+
+/// An edge waits for the makers of its inputs.
+pub fn makers_waited()
+    ensures { MakersWaited }
+{}
+
+/// What an edge waits for is edges, in ascending order.
+pub fn waits_ascend()
+    ensures { WaitsAscend }
+{}
+
+/// What is built where no target is asked for is edges, in ascending order.
+pub fn defaults_ascend()
+    ensures { DefaultsAscend }
 {}

@@ -17,7 +17,10 @@ pub use build_graph::graph;
 pub use edges::{Graph, MAX_EDGES};
 pub use fault::GraphFault;
 pub use files::Files;
-pub use laws::{ranked_unless_cyclic, ranks_rise};
+pub use laws::{
+    defaults_ascend, files_complete, files_distinct, makers_numbered, makers_waited,
+    ranked_unless_cyclic, ranks_rise, waits_ascend,
+};
 pub use row_list::RowList;
 
 #[cfg(test)]

@@ -268,6 +268,7 @@ pub fn ranks(alloc: Global, waits: &RowList) -> Result<Items<usize>, GraphFault>
     requires range { InRange waits.now }
     requires few { length waits.now ≤ max_edges }
     ensures ranks { IfOk result (λ r. AreRanks waits.now r) }
+    ensures low { IfOk result (λ r. All (λ k. k < length waits.now) r) }
     ensures cycle { IfErr result (λ fault. TellsCycle waits.now fault) }
 {
     let mut walk = start(alloc, waits.len())?;

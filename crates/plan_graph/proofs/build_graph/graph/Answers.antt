@@ -1,4 +1,5 @@
-use Rattle.std.proofs.Common.{◌≡◌, ◌≤◌, ◌∙◌, List, ℕ, ap, arith, length, subst, sym}
+use Rattle.std.specs.Prelude.{All}
+use Rattle.std.proofs.Common.{◌≡◌, ◌<◌, ◌≤◌, ◌∙◌, List, ℕ, ap, arith, length, subst, sym}
 use Rattle.std.proofs.lemmas.List.{length-map}
 use Rattle.std.proofs.lemmas.Result.{err_from_is_err_and}
 use Rattle.plan_scope.specs.declared.manifest.Edge.{Edge}
@@ -61,6 +62,8 @@ returns c =
     let read = c.in_ok-read.read in
     let table = sound_table m read.files c.in_ok-read.ensures.table in
     let fits = table.1 in
+    let waits = sym (rows_are (all_waits c.as_slice.result.now) c.in_ok-waits.waits c.in_ok-waits.ensures) ∙ ap all_waits c.as_slice.ensures in
+    let long : length c.in_ok-waits.waits ≡ length m.edges = ap (λ (w : List (List ℕ)). length w) waits ∙ length-map m.edges (waits_of m.edges) in
     record {
       sound = table.0;
       few = fits.few;
@@ -69,8 +72,9 @@ returns c =
       own = own_maker read.files m.edges fits;
       outputs = outputs_known read.files m.edges read.outputs fits c.in_ok-read.ensures.outputs ∙ ap (λ (ps : List Path). rows_of outputs_of ps m.edges) fits.paths;
       inputs = inputs_known read.files m.edges read.inputs fits c.in_ok-read.ensures.inputs ∙ ap (λ (ps : List Path). rows_of inputs_named ps m.edges) fits.paths;
-      waits = sym (rows_are (all_waits c.as_slice.result.now) c.in_ok-waits.waits c.in_ok-waits.ensures) ∙ ap all_waits c.as_slice.ensures;
+      waits = waits;
       ranks = c.in_ok-ranks.ensures.ranks;
+      low = subst (λ n. All (λ r. r < n) c.in_ok-ranks.ranks) long c.in_ok-ranks.ensures.low;
       defaults =
           sym (row_is (default_edges c.as_slice-2.result.now c.as_slice-3.result.now) c.in_ok-defaults.defaults c.in_ok-defaults.ensures)
           ∙ (ap (λ (es : List Edge). default_edges es c.as_slice-3.result.now) c.as_slice-2.ensures ∙ ap (default_edges m.edges) c.as_slice-3.ensures);

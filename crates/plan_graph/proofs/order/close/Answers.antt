@@ -1,8 +1,8 @@
-use Rattle.std.proofs.Common.{◌≡◌, ◌+◌, ◌*◌, ◌-◌, ◌<◌, ◌≤◌, [], ◌∙◌, List, Some, ℕ, ap, arith, get_or, length, set, subst, sym, take, vec_len}
+use Rattle.std.proofs.Common.{◌≡◌, ◌+◌, ◌-◌, ◌<◌, [], ◌∙◌, List, Some, ℕ, ap, arith, get_or, length, set, subst, sym, take, vec_len}
 use Rattle.std.specs.Prelude.{slice_get, slice_index}
 use Rattle.std.proofs.lemmas.Option.{slice_get_within}
 use Rattle.plan_graph.specs.Cycles.{rank_over}
-use Rattle.plan_graph.specs.Walking.{AllDone, IsWalk, left}
+use Rattle.plan_graph.specs.Walking.{AllDone, IsWalk, pending}
 use Rattle.plan_graph.specs.declared.order.Mark.TheVariants.{Done, Open}
 use Rattle.plan_graph.proofs.WalkLemmas.{closes, done_not_new, done_of, left_done, length_end, marks_kept, take_end, top_open}
 use Rattle.plan_graph.proofs.order.close.Goals as goal
@@ -29,7 +29,7 @@ rank_of-requires-clause-low c k d lt =
     let within : c.args.top < length w.marks.items = slice_get_within w.marks.items c.args.top Open o in
     let e = get_or c.row.result.now k d in
     let done : slice_get w.marks.items e ≡ Some Done = done_of w.marks.items c.row.result.now k d lt (subst (AllDone w.marks.items) (sym c.row.ensures) c.requires.done) in
-    let low : slice_index w.ranks.items e + left w.marks.items ≤ 2 * length w.marks.items = c.requires.walk.low e done in
+    let low : slice_index w.ranks.items e + pending w.marks.items < length w.marks.items = c.requires.walk.low e done in
     subst (λ (r : List ℕ). slice_index r e + 1 < 18446744073709551616) (sym c.deref.ensures.value) (omega (arith, low, c.requires.few, c.requires.walk.marked))
 
 pub returns : goal.returns

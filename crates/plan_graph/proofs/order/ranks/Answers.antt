@@ -1,10 +1,10 @@
-use Rattle.std.proofs.Common.{◌≡◌, ◌∙◌, [], List, ℕ, ap, arith, length, subst, sym}
-use Rattle.std.specs.Prelude.{replicate}
+use Rattle.std.proofs.Common.{◌≡◌, ◌<◌, ◌∙◌, [], List, ℕ, ap, arith, length, subst, sym}
+use Rattle.std.specs.Prelude.{All, replicate}
 use Rattle.plan_graph.specs.Cycles.{AreRanks}
 use Rattle.plan_graph.specs.declared.order.Mark.{Mark}
 use Rattle.plan_graph.specs.declared.order.Mark.TheVariants.{New}
 use Rattle.plan_graph.specs.Walking.{IsWalk}
-use Rattle.plan_graph.proofs.WalkLemmas.{met_next, ranks_are, starts}
+use Rattle.plan_graph.proofs.WalkLemmas.{met_next, ranks_are, ranks_low, starts}
 use Rattle.plan_graph.proofs.order.ranks.Goals as goal
 
 pub loop-edge-init : goal.loop-edge-init
@@ -38,3 +38,12 @@ returns-clause-ranks c =
     let walk = subst (λ (p : List ℕ). IsWalk waits w.marks.items w.passed.items w.ranks.items p) inv.1 inv.0 in
     subst (AreRanks waits) (sym c.new.ensures)
     (ranks_are waits w.marks.items w.passed.items w.ranks.items walk (λ e h. inv.2 e (omega (arith, h, c.loop-edge-test.false))))
+
+pub returns-clause-low : goal.returns-clause-low
+returns-clause-low c =
+    let waits = c.args.waits.now in
+    let w = c.loop-edge.walk in
+    let inv = c.loop-edge.invariant in
+    let walk = subst (λ (p : List ℕ). IsWalk waits w.marks.items w.passed.items w.ranks.items p) inv.1 inv.0 in
+    subst (λ (ranks : List ℕ). All (λ k. k < length waits) ranks) (sym c.new.ensures)
+    (ranks_low waits w.marks.items w.passed.items w.ranks.items walk (λ e h. inv.2 e (omega (arith, h, c.loop-edge-test.false))))

@@ -1,4 +1,4 @@
-use Rattle.std.proofs.Common.{◌≡◌, ◌++◌, ◌∷◌, [], ◌∙◌, List, ap, sym, ℕ}
+use Rattle.std.proofs.Common.{◌++◌, ◌∷◌, [], ◌∙◌, List, ap, ℕ}
 use Rattle.plan_graph.specs.Files.{Path, numbers_past, paths_in}
 use Rattle.plan_graph.specs.Graph.{inputs_named, outputs_of}
 use Rattle.plan_graph.proofs.NumberLemmas.{outputs_paths}

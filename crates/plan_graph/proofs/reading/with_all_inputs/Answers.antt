@@ -1,4 +1,4 @@
-use Rattle.std.proofs.Common.{◌≡◌, ◌++◌, ◌∙◌, List, ap, subst, sym, ℕ}
+use Rattle.std.proofs.Common.{◌≡◌, ◌++◌, ◌∙◌, List, ap, sym}
 use Rattle.std.proofs.lemmas.List.{append_assoc}
 use Rattle.plan_graph.specs.Files.{Path, numbers_past, paths_in, with_paths}
 use Rattle.plan_graph.specs.Reading.{with_inputs}

@@ -1,7 +1,7 @@
-use Rattle.std.proofs.Common.{◌≡◌, ◌∙◌, Bool, false, ap, not, sym}
+use Rattle.std.proofs.Common.{◌≡◌, ◌∙◌, Bool, ap, not, sym}
 use Rattle.std.specs.Prelude.{◌||◌}
 use Rattle.plan_graph.specs.declared.files.File.{File}
-use Rattle.plan_graph.specs.Files.{Table, file_of, with_file}
+use Rattle.plan_graph.specs.Files.{file_of, with_file}
 use Rattle.plan_graph.specs.Reading.{is_own, used}
 use Rattle.plan_graph.proofs.FileLemmas.{file_there, known_there}
 use Rattle.plan_graph.proofs.ReadingLemmas.{okay, used_stays}

@@ -1,4 +1,4 @@
-use Rattle.std.proofs.Common.{◌≡◌, ◌++◌, ◌+◌, ◌∷◌, [], ◌∙◌, List, ℕ, ap, drop, subst, sym}
+use Rattle.std.proofs.Common.{◌≡◌, ◌++◌, ◌+◌, ◌∙◌, List, ℕ, ap, drop, subst, sym}
 use Rattle.plan_graph.specs.Files.{Path, number_of, numbers_past, paths_in}
 use Rattle.plan_graph.specs.Reading.{with_input}
 use Rattle.plan_graph.proofs.NumberLemmas.{input_path, inputs_step, numbers_step}

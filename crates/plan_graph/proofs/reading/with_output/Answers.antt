@@ -1,9 +1,8 @@
-use Rattle.std.proofs.Common.{◌≡◌, ◌∙◌, Bool, Err, Ok, Result, Some, ap, sym}
+use Rattle.std.proofs.Common.{◌≡◌, ◌∙◌, Bool, Some, ap, sym}
 use Rattle.std.specs.Prelude.{if◌then◌else◌, is_some}
-use Rattle.plan_graph.specs.declared.fault.GraphFault.{GraphFault}
 use Rattle.plan_graph.specs.declared.fault.GraphFault.TheVariants.{TwoProducers}
 use Rattle.plan_graph.specs.declared.files.File.{File}
-use Rattle.plan_graph.specs.Files.{Table, file_of, with_file}
+use Rattle.plan_graph.specs.Files.{file_of, with_file}
 use Rattle.plan_graph.specs.Reading.{made}
 use Rattle.plan_graph.proofs.FileLemmas.{file_there, known_there}
 use Rattle.plan_graph.proofs.ReadingLemmas.{okay, refused}

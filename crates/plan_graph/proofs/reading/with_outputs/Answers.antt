@@ -1,4 +1,4 @@
-use Rattle.std.proofs.Common.{◌≡◌, ◌++◌, ◌+◌, ◌∷◌, [], ◌∙◌, List, Ok, ℕ, ap, drop, subst, sym}
+use Rattle.std.proofs.Common.{◌≡◌, ◌++◌, ◌+◌, ◌∙◌, List, Ok, ℕ, ap, drop, subst}
 use Rattle.plan_graph.specs.Files.{Path, file_of, number_of, numbers_past, paths_in}
 use Rattle.plan_graph.specs.Reading.{with_output}
 use Rattle.plan_graph.proofs.NumberLemmas.{numbers_step, output_path, outputs_step}

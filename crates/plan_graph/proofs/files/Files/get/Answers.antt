@@ -1,5 +1,5 @@
-use Rattle.std.proofs.Common.{◌≡◌, ◌∙◌, ◌⊎◌, Option, Some, None, List, ap, subst, sym, ℕ}
-use Rattle.plan_graph.specs.Files.{Path, Table, file_at, file_of, number_of, paths_in, unknown}
+use Rattle.std.proofs.Common.{◌∙◌, ap}
+use Rattle.plan_graph.specs.Files.{file_at, paths_in}
 use Rattle.plan_graph.proofs.FileLemmas.{file_missing, file_numbered, place_given, place_missing}
 use Rattle.plan_graph.proofs.files.Files.get.Goals as goal
 

@@ -1,7 +1,5 @@
-use Rattle.std.proofs.Common.{◌≡◌, ◌<◌, ◌∷◌, [], ◌++◌, ◌∙◌, Bool, false, true, List, ap, arith, bytes_eq, length, map, sym, ℕ}
-use Rattle.std.specs.Prelude.{if◌then◌else◌}
+use Rattle.std.proofs.Common.{◌≡◌, ◌<◌, ◌∷◌, [], ◌++◌, ◌∙◌, false, true, List, ap, arith, bytes_eq, length, map, sym}
 use Rattle.std.specs.List.{list_any, zip}
-use Rattle.plan_scope.specs.Edges.{is_among}
 use Rattle.plan_graph.specs.declared.files.File.{File}
 use Rattle.plan_graph.specs.declared.key.Key.{Key}
 use Rattle.plan_graph.specs.Files.{Path, Table, file_of, number_of, paths_in, unknown, with_file}

@@ -1,4 +1,4 @@
-use Rattle.std.proofs.Common.{◌∙◌, List, None, Option, Some, ap, subst, sym, ℕ}
+use Rattle.std.proofs.Common.{◌∙◌, List, None, Some, ap, sym}
 use Rattle.std.specs.Prelude.{if◌then◌else◌}
 use Rattle.plan_scope.specs.Edges.{is_among}
 use Rattle.plan_graph.specs.Files.{Path, Table, number_of, paths_in}

@@ -1,7 +1,7 @@
-use Rattle.std.proofs.Common.{◌≡◌, ◌∙◌, None, Option, Some, ap, option_map, subst, sym}
+use Rattle.std.proofs.Common.{◌∙◌, ap, option_map, sym}
 use Rattle.std.specs.Prelude.{slice_get}
 use Rattle.std.proofs.lemmas.Option.{slice_get-map}
-use Rattle.plan_graph.specs.Files.{Path, Table, paths_in}
+use Rattle.plan_graph.specs.Files.{Table, paths_in}
 use Rattle.plan_graph.proofs.FileLemmas.{paths_are}
 use Rattle.plan_graph.proofs.files.Files.path.Goals as goal
 

@@ -1,4 +1,4 @@
-use Rattle.std.proofs.Common.{◌≡◌, ◌≤◌, [], ◌∷◌, ◌++◌, ◌+◌, ◌∙◌, List, ℕ, ap, arith, length, length-append, subst, sym}
+use Rattle.std.proofs.Common.{◌≡◌, [], ◌∷◌, ◌++◌, ◌+◌, ◌∙◌, List, ℕ, ap, arith, length, length-append, subst, sym}
 use Rattle.plan_graph.specs.RowLists.{AreEnds, rows_from}
 use Rattle.plan_graph.proofs.RowListLemmas.{ends_push, rows_push}
 use Rattle.plan_graph.proofs.row_list.RowList.push.Goals as goal

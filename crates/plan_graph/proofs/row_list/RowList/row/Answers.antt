@@ -1,4 +1,4 @@
-use Rattle.std.proofs.Common.{◌≡◌, ◌≤◌, ◌<◌, [], ◌∷◌, ◌∙◌, List, ℕ, ap, arith, get_or, length, subst, sym}
+use Rattle.std.proofs.Common.{◌≡◌, ◌≤◌, ◌<◌, [], ◌∷◌, ◌∙◌, List, ℕ, ap, arith, get_or, length, sym}
 use Rattle.std.specs.Prelude.{slice_range}
 use Rattle.std.proofs.lemmas.List.{get_or_default}
 use Rattle.plan_graph.proofs.RowListLemmas.{no_row, row_at, row_within}
