@@ -3,14 +3,14 @@
 ghost use Rattle.std.specs.Prelude.{◌≡◌};
 
 use plan_scope::{Source, SourceFault};
-use plan_text::Tally;
+use plan_text::{MAX_SOURCE, Tally};
 use std::alloc::Global;
 use std::io::{ErrorKind, Read};
 use std::rt::Files;
 use std::{fs, io, str};
 
 /// One byte more than a source may have, so that one which is too long is seen to be.
-const MAX_READ: u64 = 16_777_217;
+const MAX_READ: u64 = MAX_SOURCE as u64 + 1;
 
 /// The files that lie in the system, by their paths.
 #[derive(Drop)]

@@ -6,23 +6,12 @@ use Rattle.std.specs.Prelude.{nat_le, is_none, unwrap_or}
 use Rattle.plan_scope.specs.declared.fault.Cause.{Cause}
 use Rattle.plan_scope.specs.declared.fault.Cause.TheVariants.{DuplicatePool, TextTooLong, BadDepth}
 use Rattle.plan_scope.specs.declared.manifest.Pool.{Pool}
-use Rattle.plan_scope.specs.Scopes.{Name, Text, is_too_long, max_text}
-use Rattle.plan_scope.specs.Edges.{depth_in, first_of, is_among, mapped, number_past, max_depth, or_refused, pool_by}
+use Rattle.plan_scope.specs.Scopes.{Name, Text, is_too_long}
+use Rattle.plan_text.specs.Limits.{max_text}
+use Rattle.plan_scope.specs.Edges.{depth_in, first_of, is_among, mapped, or_refused, pool_by}
 use Rattle.plan_scope.specs.Frames.{kept}
 use Rattle.plan_scope.specs.Evaluation.{depth_by}
 use Rattle.plan_scope.proofs.Kept.{Same, same_from_kept}
-
--- more digits make no number less
-pub number_grows : (n : ℕ) (digits : List ℕ) → n ≤ number_past n digits
-number_grows n [] = omega arith
-number_grows n (b ∷ more) = let e : n * 10 + (b - 48) ≤ number_past (n * 10 + (b - 48)) more = number_grows (n * 10 + (b - 48)) more in omega (arith, e)
-
--- once a number is too great it stays so
-pub too_great : (n : ℕ) (digits : List ℕ) (all : ℕ) → number_past n digits ≡ all → max_depth < n → cond {A = Option ℕ} (nat_le all max_depth) (Some all) None ≡ None
-too_great n digits all e h =
-    let g = number_grows n digits in
-    let more : max_depth < all = omega (arith, e, g, h) in
-    ap (λ t. cond {A = Option ℕ} t (Some all) None) (lt-leb all max_depth more)
 
 long_depth : (text : Text) → max_text < length text → depth_by text ≡ Err TextTooLong
 long_depth text h =

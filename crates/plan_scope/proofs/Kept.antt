@@ -8,7 +8,8 @@ use Rattle.std.specs.Prelude.{codes}
 use Rattle.std.proofs.lemmas.Bool.{lt-ltb, le-ltb, cases_lt, ne_eqb}
 use Rattle.plan_text.specs.declared.piece_reader.Piece.{Piece}
 use Rattle.plan_text.specs.declared.piece_reader.Piece.TheVariants.{Literal, Reference}
-use Rattle.plan_scope.specs.Scopes.{Text, Name, value_of, expand, max_text, is_too_long}
+use Rattle.plan_scope.specs.Scopes.{Text, Name, value_of, expand, is_too_long}
+use Rattle.plan_text.specs.Limits.{max_text}
 use Rattle.plan_scope.specs.Expansion.{is_plain, escaped, quoted}
 use Rattle.plan_scope.specs.Frames.{kept}
 

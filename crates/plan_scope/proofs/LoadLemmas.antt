@@ -14,7 +14,8 @@ use Rattle.plan_scope.specs.declared.fault.ScopeFault.{ScopeFault}
 use Rattle.plan_scope.specs.declared.fault.ScopeFault.TheVariants.{SourceMissing, Parse, Refused, LoadMemory, Memory}
 use Rattle.plan_scope.specs.declared.tree.Tree.{Tree}
 use Rattle.plan_scope.specs.Trees.{Line}
-use Rattle.plan_scope.specs.Scopes.{Text, Name, Scoped, look, expand, bound_by, bound_in, is_long_path, is_empty, max_path}
+use Rattle.plan_scope.specs.Scopes.{Text, Name, Scoped, look, expand, bound_by, bound_in, is_long_path, is_empty}
+use Rattle.plan_text.specs.Limits.{max_path}
 use Rattle.plan_scope.specs.Frames.{kept, AgreesIn}
 use Rattle.plan_scope.specs.Loading.{Takes, Next, GoesOn, LoadsLine, LoadsAll, LoadsParsed, LoadsFile, LoadsWithin, LoadsFirst, Loads, IsMissing, cause_of_path, cause_to_load, greatest_scope, own_scope, scopes_in, taken_by}
 use Rattle.plan_scope.specs.Edges.{first_of}

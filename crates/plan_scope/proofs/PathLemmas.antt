@@ -6,7 +6,8 @@ use Rattle.std.proofs.lemmas.List.{map_more, map-append}
 use Rattle.std.proofs.lemmas.List.Folds.{list_any-append}
 use Rattle.plan_parse.specs.declared.statement.Binding.{Binding}
 use Rattle.plan_text.specs.Path.{canonical_of}
-use Rattle.plan_scope.specs.Scopes.{Text, Name, Bindings, last_of, expand, max_text, max_path, is_too_long, is_long_path, is_empty}
+use Rattle.plan_scope.specs.Scopes.{Text, Name, Bindings, last_of, expand, is_too_long, is_long_path, is_empty}
+use Rattle.plan_text.specs.Limits.{max_text, max_path}
 use Rattle.plan_scope.specs.declared.fault.Cause.TheVariants.{EmptyPath, PathTooLong}
 use Rattle.plan_scope.specs.declared.manifest.DefaultTarget.{DefaultTarget}
 use Rattle.plan_scope.specs.Edges.{block_of, near, path_of, canonical_or, first_of, or_refused, target_at, targets_by}

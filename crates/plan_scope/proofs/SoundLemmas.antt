@@ -21,8 +21,10 @@ use Rattle.plan_scope.specs.declared.manifest.Manifest.{Manifest}
 use Rattle.plan_scope.specs.declared.manifest.Pool.{Pool}
 use Rattle.plan_scope.specs.declared.variables.Variables.{Variables}
 use Rattle.plan_scope.specs.Trees.{Line}
-use Rattle.plan_scope.specs.Scopes.{Text, Name, Bindings, Scoped, nearest, look, expand, bound_by, is_too_long, is_long_path, is_empty, max_path, max_text}
-use Rattle.plan_scope.specs.Edges.{all_paths, all_variables, block_of, builds_in, builds_of, built_by, canonical_or, causes_of, console, defaults_alone, depth_in, edge_alone, edge_by, edge_of, edge_with, first_of, given_by, given_past, in_front, is_among, is_number, is_taken, manifest_of, mapped, max_depth, names_no_pool, near, nothing, number_past, or_refused, path_of, paths_of, phony_variables, pool_alone, pool_by, pools_in, pools_of, rules_of, target_at, targets_by, text_in, use_of, variables_of, with_front, with_more}
+use Rattle.plan_scope.specs.Scopes.{Text, Name, Bindings, Scoped, nearest, look, expand, bound_by, is_too_long, is_long_path, is_empty}
+use Rattle.plan_text.specs.Limits.{max_path, max_text}
+use Rattle.plan_text.specs.Numerals.{is_numeral, number_past}
+use Rattle.plan_scope.specs.Edges.{all_paths, all_variables, block_of, builds_in, builds_of, built_by, canonical_or, causes_of, console, defaults_alone, depth_in, edge_alone, edge_by, edge_of, edge_with, first_of, given_by, given_past, in_front, is_among, is_taken, manifest_of, mapped, max_depth, names_no_pool, near, nothing, or_refused, path_of, paths_of, phony_variables, pool_alone, pool_by, pools_in, pools_of, rules_of, target_at, targets_by, text_in, use_of, variables_of, with_front, with_more}
 use Rattle.plan_scope.specs.Sound.{AreApart, IsPath, IsSound, IsSoundEdge, MakesSome, names_of}
 use Rattle.plan_scope.proofs.PathLemmas.{or_parts}
 
@@ -180,9 +182,11 @@ mapped_parts : {A B : Type 0} (f : A → B) (r : Result A Cause) (y : B) → map
 mapped_parts f (Ok x) y e = let k : f x ≡ y = cc in (x, refl, k)
 mapped_parts f (Err cause) y e = cc
 
-depth_small : (t : Bool) (n : ℕ) → (t ≡ true → n ≤ max_depth) → unwrap_or (cond t (Some n) None) 0 ≤ max_depth
-depth_small true n h = h refl
-depth_small false n h = lit≤ tt
+depth_small : (short digits t : Bool) (n : ℕ) → (t ≡ true → n ≤ max_depth) → unwrap_or (cond short (cond digits (cond t (Some n) None) None) None) 0 ≤ max_depth
+depth_small true true true n h = h refl
+depth_small true true false n h = lit≤ tt
+depth_small true false t n h = lit≤ tt
+depth_small false digits t n h = lit≤ tt
 
 both_true : (a b : Bool) → (a && b) ≡ true → (a ≡ true) × (b ≡ true)
 both_true true b h = (refl, h)
@@ -195,7 +199,7 @@ pool_given pools before name text p h =
     let r = not_refused (first_of causes) made p h in
     let c = none_stands causes r.0 in
     let n = number_past 0 text in
-    let small : made.depth ≤ max_depth = depth_small (is_number text && leb n max_depth) n (λ e. leb-true n max_depth (both_true (is_number text) (leb n max_depth) e).1) in
+    let small : made.depth ≤ max_depth = depth_small (leb (length text) 7) (is_numeral text) (leb n max_depth) n (λ e. leb-true n max_depth e) in
     subst (λ (q : Pool). Adds pools before (name ∷ []) (pool_alone q)) r.1 (record {
       edges = All-nil (IsSoundEdge pools);
       apart = (c.0, tt {0});

@@ -11,7 +11,8 @@ use Rattle.plan_scope.specs.declared.build_line.Parts.{Parts}
 use Rattle.plan_scope.specs.declared.fault.Cause.{Cause}
 use Rattle.plan_scope.specs.declared.fault.Cause.TheVariants.{UnknownPool, RuleCycle, EmptyPath, Dyndep, Rspfile, DepsKind, PathTooLong, TextTooLong}
 use Rattle.plan_scope.specs.declared.variables.Variables.{Variables}
-use Rattle.plan_scope.specs.Scopes.{Text, Name, Bindings, last_of, is_too_long, is_empty, max_text}
+use Rattle.plan_scope.specs.Scopes.{Text, Name, Bindings, last_of, is_too_long, is_empty}
+use Rattle.plan_text.specs.Limits.{max_text}
 use Rattle.plan_scope.specs.Expansion.{Use, plain, quoted, listed, Meaning, Known, Late, or_known, or_late, meaning_of, both, text_of_piece, joined, text_of, text_within, variable}
 use Rattle.plan_scope.specs.Edges.{all_variables, edge_with, first_of, is_among, is_other_deps, is_present, names_no_pool, or_refused, phony_variables, text_in, use_of, variables_of}
 use Rattle.plan_scope.specs.Frames.{kept, Agrees, SameNames, StandsFor}

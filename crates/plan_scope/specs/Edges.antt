@@ -2,6 +2,7 @@
 use Rattle.std.specs.Prelude.{ℕ, ◌*◌, ◌+◌, ◌-◌, Bool, true, false, not, ◌||◌, ◌&&◌, List, [], ◌∷◌, ◌++◌, length, map, Option, Some, None, Result, Ok, Err, bytes_eq, nat_le, if◌then◌else◌, unwrap_or, flat_map, codes, is_none, is_some}
 use Rattle.std.specs.List.{list_any, list_all}
 use Rattle.plan_text.specs.Bytes.{line_feed}
+use Rattle.plan_text.specs.Numerals.{number_in}
 use Rattle.plan_text.specs.Path.{canonical_of}
 use Rattle.plan_text.specs.declared.fault.TextFault.{TextFault}
 use Rattle.plan_text.specs.declared.piece_reader.Piece.{Piece}
@@ -74,24 +75,12 @@ pools_of lines = codes "console" ∷ flat_map (λ l. pools_in l.kind) lines
 abbrev pub is_among : List Name → Name → Bool
 is_among names name = list_any (bytes_eq name) names
 
--- one to seven digits
-abbrev pub is_digit : ℕ → Bool
-is_digit b = nat_le 48 b && nat_le b 57
-
-abbrev pub is_number : Text → Bool
-is_number text = not (is_empty text) && nat_le (length text) 7 && list_all is_digit text
-
--- the number that digits mean, behind these
-abbrev pub number_past : ℕ → Text → ℕ
-number_past n [] = n
-number_past n (b ∷ more) = number_past (n * 10 + (b - 48)) more
-
 abbrev pub max_depth : ℕ
 max_depth = 1000000
 
--- the depth of a pool
+-- the depth in a text of one to seven digits
 abbrev pub depth_in : Text → Option ℕ
-depth_in text = if is_number text && nat_le (number_past 0 text) max_depth then Some (number_past 0 text) else None
+depth_in text = if nat_le (length text) 7 then number_in max_depth text else None
 
 -- the canonical form of a path; a path that has no byte, or is too long, stays as it is
 abbrev pub canonical_or : Text → Result Text TextFault → Text

@@ -5,6 +5,7 @@ use Rattle.plan_text.specs.declared.piece_reader.Piece.TheVariants.{Literal, Ref
 use Rattle.plan_parse.specs.declared.statement.StatementKind.{StatementKind}
 use Rattle.plan_parse.specs.declared.statement.StatementKind.TheVariants as kind
 use Rattle.plan_scope.specs.Trees.{Line}
+use Rattle.plan_text.specs.Limits.{max_path, max_text}
 
 abbrev pub Text : Type 0
 Text = List ℕ
@@ -75,16 +76,8 @@ bound_past above (l ∷ more) = bound_past (above ++ bound_in above l.scopes l.k
 abbrev pub bound_by : List Line → Scoped Text
 bound_by lines = bound_past [] lines
 
--- an expanded text has at most 1,048,576 bytes
-abbrev pub max_text : ℕ
-max_text = 1048576
-
 abbrev pub is_too_long : Text → Bool
 is_too_long text = nat_lt max_text (length text)
-
--- a path as expanded has at most 4,096 bytes
-abbrev pub max_path : ℕ
-max_path = 4096
 
 abbrev pub is_long_path : Text → Bool
 is_long_path path = nat_lt max_path (length path)

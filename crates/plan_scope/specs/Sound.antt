@@ -6,7 +6,8 @@ use Rattle.plan_parse.specs.declared.statement.Build.{Build}
 use Rattle.plan_scope.specs.declared.manifest.Edge.{Edge}
 use Rattle.plan_scope.specs.declared.manifest.Manifest.{Manifest}
 use Rattle.plan_scope.specs.declared.manifest.Pool.{Pool}
-use Rattle.plan_scope.specs.Scopes.{Text, Name, max_path, max_text}
+use Rattle.plan_scope.specs.Scopes.{Text, Name}
+use Rattle.plan_text.specs.Limits.{max_path, max_text}
 use Rattle.plan_scope.specs.Edges.{is_among, max_depth}
 
 -- a build line has an output of either sort

@@ -3,12 +3,13 @@
 ghost use Rattle.std.specs.Prelude.{◌≡◌, ◌≤◌, ◌+◌, ◌++◌, length, OnOk};
 ghost use Rattle.std.specs.List.{join_with_byte, list_all};
 ghost use Rattle.plan_scope.specs.Expansion.{escaped, is_plain, quoted};
-ghost use Rattle.plan_scope.specs.Scopes.{is_too_long, max_text};
+ghost use Rattle.plan_scope.specs.Scopes.{is_too_long};
+ghost use Rattle.plan_text.specs.Limits.{max_text};
 ghost use Rattle.plan_scope.specs.Frames.{kept};
 ghost use Rattle.plan_scope.specs.Shows.{shown_as};
 ghost use Rattle.std.specs.Prelude.{map, flat_map, [], ◌∷◌, if◌then◌else◌};
 
-use plan_text::SmallText;
+use plan_text::{MAX_TEXT, SmallText};
 use std::alloc::AllocError;
 
 /// How a path is shown.
@@ -19,12 +20,6 @@ pub enum Show {
     /// For a shell.
     Quoted,
 }
-
-/// The greatest length of an expanded text.
-pub const MAX_TEXT: usize = 1048576;
-
-/// The greatest length of a path as expanded.
-pub const MAX_PATH: usize = 4096;
 
 /// Whether a text is too long.
 pub fn is_long(text: &[u8]) -> bool

@@ -2,17 +2,18 @@
 
 ghost use Rattle.std.specs.Prelude.{◌≡◌, ◌≤◌, ◌+◌, List, length, IfOk, OnOk, map};
 ghost use Rattle.std.specs.List.{list_any};
-ghost use Rattle.plan_scope.specs.Scopes.{Bindings, Name, Text, expand, is_empty, is_long_path, is_too_long, max_text, value_of};
+ghost use Rattle.plan_scope.specs.Scopes.{Bindings, Name, Text, expand, is_empty, is_long_path, is_too_long, value_of};
+ghost use Rattle.plan_text.specs.Limits.{max_text};
 ghost use Rattle.plan_scope.specs.Edges.{block_of, near, path_of, paths_of};
 ghost use Rattle.plan_scope.specs.Frames.{Agrees, StandsFor, kept};
 ghost use Rattle.plan_scope.specs.Paths.{AreRead, IsListOf, kept_in, texts_of};
 ghost use Rattle.plan_scope.specs.Uses.{names_in};
 
-use crate::appending::{MAX_PATH, append, is_long};
+use crate::appending::{append, is_long};
 use crate::frame::Frame;
 use crate::scope::{Scope, expanded, text_in};
 use plan_parse::{Binding, Build};
-use plan_text::{Items, Piece, PieceList, SmallText, TextFault, canonical, is_canonical};
+use plan_text::{Items, MAX_PATH, Piece, PieceList, SmallText, TextFault, canonical, is_canonical};
 use std::alloc::{AllocError, Global};
 
 /// The variables of a build block.

@@ -10,7 +10,6 @@ ghost use Rattle.plan_scope.specs.Sources.{SameFiles};
 ghost use Rattle.plan_scope.specs.Taking.{Answers, IsBound, IsRead, IsRefusal, IsTaken, LoadsOne, takes_in};
 ghost use Rattle.plan_scope.specs.Uses.{names_in};
 
-use crate::appending::MAX_PATH;
 use crate::fault::{Cause, LineFault, ReadFault, ScopeFault};
 use crate::loaded::{Loaded, own_scope};
 use crate::parsed::Parsed;
@@ -18,7 +17,7 @@ use crate::scope::{Scope, bind_line, expanded};
 use crate::source::{Source, SourceFault};
 use crate::tree::{File, Line, Tree};
 use plan_parse::{CompactStatement, ParseFault, StatementKind, parse};
-use plan_text::{Items, Piece};
+use plan_text::{Items, MAX_PATH, Piece};
 use std::alloc::{AllocError, Global};
 use std::rc::Rc;
 

@@ -1,9 +1,8 @@
 //! Pools and their depths.
 
-ghost use Rattle.std.specs.Prelude.{◌≡◌, ◌≤◌, nat_le, if◌then◌else◌, Some, None, List, [], length};
-ghost use Rattle.std.specs.List.{list_all};
+ghost use Rattle.std.specs.Prelude.{◌≡◌, List};
 ghost use Rattle.plan_scope.specs.Scopes.{Name, Text, expand};
-ghost use Rattle.plan_scope.specs.Edges.{depth_in, is_digit, is_number, max_depth, number_past, pool_by};
+ghost use Rattle.plan_scope.specs.Edges.{depth_in, pool_by};
 ghost use Rattle.plan_scope.specs.Frames.{SameNames, StandsFor};
 ghost use Rattle.plan_scope.specs.Evaluation.{depth_by};
 ghost use Rattle.plan_scope.specs.Steps.{Gives};
@@ -15,6 +14,7 @@ use crate::loader::copied;
 use crate::manifest::Pool;
 use crate::pool_names::PoolNames;
 use crate::scope::{Scope, expanded};
+use plan_text::number_in;
 use std::alloc::Global;
 
 /// The greatest depth of a pool.
@@ -23,42 +23,14 @@ const MAX_DEPTH: u64 = 1_000_000;
 /// The most digits of a depth.
 const MAX_DIGITS: usize = 7;
 
-/// Whether each byte is a digit.
-fn is_all_digits(text: &[u8]) -> bool
-    ensures { result ≡ list_all is_digit text.now }
-{
-    text.iter().all(|b| matches!(*b, b'0'..=b'9'))
-}
-
-/// Whether a text is one to seven digits.
-fn is_number(text: &[u8]) -> bool
-    ensures { result ≡ is_number text.now }
-{
-    !text.is_empty() && text.len() <= MAX_DIGITS && is_all_digits(text)
-}
-
-/// The number that digits mean, unless it is above the greatest depth.
-fn number(digits: &[u8]) -> Option<u64>
-    ensures { result ≡ (if nat_le (number_past 0 digits.now) max_depth then Some (number_past 0 digits.now) else None) }
-{
-    let mut number = 0;
-    for digit in digits {
-        number = number * 10 + u64::from(digit.saturating_sub(b'0'));
-        if number > MAX_DEPTH {
-            return None;
-        }
-    }
-    Some(number)
-}
-
 /// The depth that a text says.
 fn depth_in(text: &[u8]) -> Option<u64>
     ensures { result ≡ depth_in text.now }
 {
-    if !is_number(text) {
+    if text.len() > MAX_DIGITS {
         return None;
     }
-    number(text)
+    number_in(text, MAX_DEPTH)
 }
 
 /// The depth that a text says, or why it is refused.

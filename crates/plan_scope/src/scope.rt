@@ -2,15 +2,16 @@
 
 ghost use Rattle.std.specs.Prelude.{◌≡◌, ◌≤◌, ◌+◌, [], ◌∷◌, ◌++◌, List, length, IfOk, OnOk};
 ghost use Rattle.std.specs.List.{list_any};
-ghost use Rattle.plan_scope.specs.Scopes.{Name, Scoped as Bound, Text, bound_by, bound_in, expand, in_own, is_too_long, look, max_text, value_of};
+ghost use Rattle.plan_scope.specs.Scopes.{Name, Scoped as Bound, Text, bound_by, bound_in, expand, in_own, is_too_long, look, value_of};
+ghost use Rattle.plan_text.specs.Limits.{max_text};
 ghost use Rattle.plan_scope.specs.Frames.{AgreesIn, StandsFor, kept};
 ghost use Rattle.plan_scope.specs.Uses.{names_in};
 
-use crate::appending::{MAX_TEXT, append, is_long};
+use crate::appending::{append, is_long};
 use crate::scoped::Scoped;
 use crate::tree::{Line, Said};
 use plan_parse::{Binding, StatementKind};
-use plan_text::{Items, Piece};
+use plan_text::{Items, MAX_TEXT, Piece};
 use std::alloc::{AllocError, Global};
 
 /// What names stand for at a place of a tree.

@@ -1,6 +1,6 @@
 use Rattle.std.proofs.Common.{◌++◌, ◌<◌, length, arith, length-append}
 use Rattle.std.proofs.lemmas.Grind.{common_steps}
-use Rattle.plan_scope.specs.Scopes.{max_text}
+use Rattle.plan_text.specs.Limits.{max_text}
 use Rattle.plan_scope.proofs.Kept.{both_long}
 use Rattle.plan_scope.proofs.appending.append.Goals as goal
 

@@ -2,7 +2,7 @@ use Rattle.std.proofs.Common.{ℕ, ◌++◌, ◌<◌, length, length-append, ltb
 use Rattle.std.specs.List.{join_with_byte}
 use Rattle.std.proofs.lemmas.Bool.{ltb-true}
 use Rattle.std.proofs.lemmas.Bool.Decides.{nat_tests}
-use Rattle.plan_scope.specs.Scopes.{max_text}
+use Rattle.plan_text.specs.Limits.{max_text}
 use Rattle.plan_scope.specs.Shows.{shown_as}
 use Rattle.plan_scope.specs.Frames.{kept}
 use Rattle.plan_scope.proofs.Kept.{both_long, kept_then, join_taken}

@@ -1,5 +1,6 @@
 use Rattle.std.proofs.Common.{◌≡◌, ◌≤◌, ◌+◌, length, take}
-use Rattle.plan_scope.specs.Scopes.{expand, max_text}
+use Rattle.plan_scope.specs.Scopes.{expand}
+use Rattle.plan_text.specs.Limits.{max_text}
 use Rattle.plan_scope.specs.Frames.{kept}
 use Rattle.plan_scope.specs.Uses.{names_in}
 use Rattle.plan_scope.proofs.scope.expanded.Given as goal

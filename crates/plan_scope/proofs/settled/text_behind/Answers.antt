@@ -1,6 +1,6 @@
 use Rattle.std.proofs.Common.{◌∙◌, sym}
 use Rattle.std.proofs.lemmas.Bool.{ltb-false}
-use Rattle.plan_scope.specs.Scopes.{max_text}
+use Rattle.plan_text.specs.Limits.{max_text}
 use Rattle.plan_scope.proofs.Settles.{cut_behind}
 use Rattle.plan_scope.proofs.settled.text_behind.Goals as goal
 

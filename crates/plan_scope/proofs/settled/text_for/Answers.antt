@@ -1,6 +1,6 @@
 use Rattle.std.proofs.Common.{◌∙◌, sym, length}
 use Rattle.std.proofs.lemmas.Bool.{ltb-true}
-use Rattle.plan_scope.specs.Scopes.{max_text}
+use Rattle.plan_text.specs.Limits.{max_text}
 use Rattle.plan_scope.proofs.Settles.{found_long}
 use Rattle.plan_scope.proofs.settled.text_for.Goals as goal
 
