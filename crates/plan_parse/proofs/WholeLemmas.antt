@@ -1,5 +1,5 @@
 -- Statements are whole.
-use Rattle.std.proofs.Common.{◌≡◌, ℕ, zero, suc, ◌+◌, ◌<◌, ◌==◌, Bool, true, false, not, ◌||◌, ◌&&◌, cond, List, [], ◌∷◌, ◌++◌, length, take, drop, Result, Ok, Err, refl, sym, ap, subst, ◌∙◌, arith, eqb}
+use Rattle.std.proofs.Common.{◌≡◌, ℕ, zero, suc, ◌+◌, ◌<◌, ◌==◌, Bool, true, false, not, ◌||◌, ◌&&◌, cond, List, [], ◌∷◌, ◌++◌, length, take, drop, Result, Ok, Err, refl, sym, ap, subst, ◌∙◌, arith}
 use Rattle.std.specs.Prelude.{codes}
 use Rattle.std.specs.List.{AllByRecursion, count_by, list_any, prefix_len}
 use Rattle.std.specs.Str.{bytes_eq}
@@ -19,7 +19,7 @@ use Rattle.plan_parse.specs.declared.owner.Owner.TheVariants.{Rule, Pool}
 use Rattle.plan_parse.specs.declared.statement.Binding.{Binding}
 use Rattle.plan_parse.specs.declared.statement.Statement.{Statement}
 use Rattle.plan_parse.specs.declared.statement.StatementKind.TheVariants as kind
-use Rattle.plan_parse.specs.Reading.{Place, past, past_gap, name_of, name_at, byte_at, value_at, paths_at, refusal, refused, line_end_at}
+use Rattle.plan_parse.specs.Reading.{Place, past, past_gap, name_of, name_at, byte_at, value_at, paths_at, refused, line_end_at}
 use Rattle.plan_parse.specs.Blocks.{Member, Says, Faulty, Block, told_of, below, blocks_of}
 use Rattle.plan_parse.specs.Statements as parsing
 use Rattle.plan_parse.specs.Statements.{bound_at, alone, first_word, is_named, wanted, unknown, not_once, knows, owned_at, all_owned_at, with_wanted, named_line, rule_of, build_of, pool_of, default_of, include_of, subninja_of, binding_of, implicit_at, some_path, outputs_at, inputs_at, targets_at, statement_of, statement_in, statements_of, member_at}
@@ -41,10 +41,10 @@ same_ok r x y e f = let both = sym e ∙ f in cc
 -- the word behind blanks is the name behind a gap, where there is one
 word_by : (b : ℕ) (rest : List ℕ) (t u : Bool) → (b == space) ≡ t → (b == tab) ≡ u
     → (0 < prefix_len is_name_byte (drop (gap_len rest) rest)
-      → drop (gap_len rest) rest ≡ drop (gap_len (drop (prefix_len (λ b. b == space || b == tab) rest) rest)) (drop (prefix_len (λ b. b == space || b == tab) rest) rest))
+    → drop (gap_len rest) rest ≡ drop (gap_len (drop (prefix_len (λ b. b == space || b == tab) rest) rest)) (drop (prefix_len (λ b. b == space || b == tab) rest) rest))
     → 0 < prefix_len is_name_byte (drop (gap_len (b ∷ rest)) (b ∷ rest))
     → drop (gap_len (b ∷ rest)) (b ∷ rest)
-      ≡ drop (gap_len (drop (prefix_len (λ b. b == space || b == tab) (b ∷ rest)) (b ∷ rest))) (drop (prefix_len (λ b. b == space || b == tab) (b ∷ rest)) (b ∷ rest))
+    ≡ drop (gap_len (drop (prefix_len (λ b. b == space || b == tab) (b ∷ rest)) (b ∷ rest))) (drop (prefix_len (λ b. b == space || b == tab) (b ∷ rest)) (b ∷ rest))
 word_by b rest true u e f more = λ h.
     let gap : gap_len (b ∷ rest) ≡ suc (gap_len rest) = rw e refl in
     let one : prefix_len (λ b. b == space || b == tab) (b ∷ rest) ≡ suc (prefix_len (λ b. b == space || b == tab) rest) = rw e (omega arith) in
@@ -88,6 +88,7 @@ bound_name p n b e h = by (name_at (past_gap p)) e h where
       let made : Binding = record { name = n.0; value = r.first } in
       let same : made ≡ b = cc in
       sym (ap (λ (x : Binding). x.name) same) ∙ ap (λ (x : List ℕ × Place). x.0) s
+
   by : (r : Result (List ℕ × Place) ParseFault) → r ≡ Ok n
       → (r >>= λ n. byte_at 61 fault.ExpectedEquals n.1 >>= λ v. value_at v >>= λ value. Ok (record { name = n.0; value = value })) ≡ Ok b → b.name ≡ n.0
   by (Ok m) e h = let same : m ≡ n = cc in last m n (byte_at 61 fault.ExpectedEquals m.1) same h
@@ -112,9 +113,8 @@ owned : (above : List Member) (m : Member) (b : Binding) → owned_at Rule above
 owned above (Faulty x) b e = absurd cc
 owned above (Says p) b e =
     let q = found (name_at (past_gap p))
-      (λ n. cond (not (knows Rule n.0)) (Err (unknown Rule (past_gap p).at)) (cond (bytes_eq n.0 command && list_any (is_named command) above) (Err (not_once Rule (past_gap p).at)) (bound_at p))) b e in
-    let o = owned_by p q.first b (not (knows Rule q.first.0)) (bytes_eq q.first.0 command && list_any (is_named command) above) q.was q.gives in
-    (
+    (λ n. cond (not (knows Rule n.0)) (Err (unknown Rule (past_gap p).at)) (cond (bytes_eq n.0 command && list_any (is_named command) above) (Err (not_once Rule (past_gap p).at)) (bound_at p))) b e in
+    let o = owned_by p q.first b (not (knows Rule q.first.0)) (bytes_eq q.first.0 command && list_any (is_named command) above) q.was q.gives in (
       ap (λ (v : List ℕ). bytes_eq v command) (named p q.first q.was ∙ sym o.1),
       ap (λ (v : List ℕ). bytes_eq v command && list_any (is_named command) above) o.1 ∙ o.0,
     )
@@ -147,12 +147,12 @@ bound_count above (m ∷ more) bs e =
     let same : q.first ∷ r.first ≡ bs = cc in
     let o = owned above m q.first q.was in
     let rest = bound_count (above ++ m ∷ []) more r.first r.was
-        ∙ ap (λ (t : Bool). count_by_flags t (list_any (is_named command) more)) (list_any-append (is_named command) above (m ∷ []) ∙ or_false (list_any (is_named command) above) (is_named command m)) in
+    ∙ ap (λ (t : Bool). count_by_flags t (list_any (is_named command) more)) (list_any-append (is_named command) above (m ∷ []) ∙ or_false (list_any (is_named command) above) (is_named command m)) in
     sym (ap commands same)
     ∙ sum_by-cons (λ b. cond (bytes_eq b.name command) 1 0) q.first r.first
     ∙ ap (λ (t : Bool). cond t 1 0 + commands r.first) (sym o.0)
     ∙ first_count (is_named command m) (list_any (is_named command) above) (list_any (is_named command) more) (commands r.first)
-      (ap (λ (t : Bool). t && list_any (is_named command) above) o.0 ∙ o.1) rest
+    (ap (λ (t : Bool). t && list_any (is_named command) above) o.0 ∙ o.1) rest
 
 wanted_by : (at : ℕ) (t : Bool) → (x : Unit {0}) → cond t (Ok tt) (Err (not_once Rule at)) ≡ Ok x → t ≡ true
 wanted_by at true x e = refl
@@ -258,7 +258,7 @@ two_whole (Ok x) (Ok y) make s h e = let same : make x ≡ s = cc in subst IsWho
 
 by_word : (p behind : Place) (members : List Member) (s : Statement) (a b c d e f : Bool)
     → cond a (rule_of p.at behind members) (cond b (build_of p.at behind members) (cond c (pool_of p.at behind members) (cond d (default_of p.at behind members)
-      (cond e (include_of p.at behind members) (cond f (subninja_of p.at behind members) (binding_of p members)))))) ≡ Ok s → IsWhole s
+    (cond e (include_of p.at behind members) (cond f (subninja_of p.at behind members) (binding_of p members)))))) ≡ Ok s → IsWhole s
 by_word p q members s true b c d e f h = rule_whole p.at q members s h
 by_word p q members s false true c d e f h = build_whole p.at q members s h
 by_word p q members s false false true d e f h =

@@ -11,7 +11,10 @@ ghost use Rattle.plan_parse.specs.Views.{place_of};
 use crate::cursor::Cursor;
 use crate::fault::ParseFault;
 use crate::statement::Binding;
-use plan_text::{Mode, PieceList, SmallText, TextFault, Unit, begins, escape_len, gap_len, name_len, pieces_at, run_len};
+use plan_text::{
+    Mode, PieceList, SmallText, TextFault, Unit, begins, escape_len, gap_len, name_len, pieces_at,
+    run_len,
+};
 use std::alloc::{AllocError, Global};
 
 /// The paths of a list, each as its pieces.
