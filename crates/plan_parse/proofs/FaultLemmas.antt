@@ -1,5 +1,5 @@
 -- Each fault of a text has an offset.
-use Rattle.std.proofs.Common.{◌≡◌, ℕ, zero, suc, ◌+◌, ◌-◌, ◌==◌, Bool, ◌&&◌, true, false, not, cond, List, [], ◌∷◌, ◌++◌, length, drop, take, Result, Ok, Err, Option, Some, None, is_some, refl, ap, subst, ◌∙◌}
+use Rattle.std.proofs.Common.{◌≡◌, ℕ, zero, suc, ◌+◌, ◌-◌, ◌==◌, Bool, ◌&&◌, true, false, not, cond, List, [], ◌∷◌, ◌++◌, length, drop, take, Result, Ok, Err, Option, Some, None, is_some, refl, subst}
 use Rattle.std.specs.Prelude.{codes, nat_lt}
 use Rattle.std.specs.List.{list_any, prefix_len, position_or_len}
 use Rattle.std.specs.Str.{bytes_eq}
@@ -24,7 +24,7 @@ use Rattle.plan_parse.specs.declared.statement.StatementKind.TheVariants as kind
 use Rattle.plan_parse.specs.declared.statement.Statement.{Statement}
 use Rattle.plan_parse.specs.Faults.{offset_of}
 use Rattle.plan_parse.specs.Reading.{Place, past, past_gap, refusal, refused, name_of, name_at, byte_at, line_end_at, value_at, lifted, path_len, path_at, path_onto, paths_past, paths_at}
-use Rattle.plan_parse.specs.Blocks.{Member, Says, Faulty, Told, Head, Below, Block, is_indented, told_in, told_of, below, blocks_of}
+use Rattle.plan_parse.specs.Blocks.{Member, Says, Faulty, Told, Head, Below, is_indented, told_in, told_of, below, blocks_of}
 use Rattle.plan_parse.specs.Statements.{bound_at, member_at, alone, is_named, wanted, unknown, not_once, knows, owned_at, all_owned_at, with_wanted, named_line, named_block, rule_of, pool_of, depth_of, is_bar, is_two_bars, is_validation, implicit_at, order_only_at, no_validation, some_path, outputs_at, inputs_at, build_of, targets_at, default_of, some_byte, file_at, include_of, subninja_of, binding_of, statement_of, statement_in, statements_of}
 
 -- a fault, if any, has an offset
@@ -110,7 +110,7 @@ paths_placed_past at (c ∷ rest) (suc n) = paths_placed_past (at + 1) rest n
 paths_placed_past at (c ∷ rest) zero = by (nat_lt 0 (gap_len (c ∷ rest))) (path_len (c ∷ rest) == 0) (λ n. paths_placed_past (at + 1) rest n) where
   by : (t u : Bool) → ((n : ℕ) → Placed (paths_past (at + 1) rest n))
       → Placed (cond t (paths_past (at + 1) rest (gap_len (c ∷ rest) - 1)) (cond u (Ok ([], record { at = at; bytes = c ∷ rest }))
-        (path_at (record { at = at; bytes = c ∷ rest }) (path_len (c ∷ rest)) >>= λ path. path_onto path (paths_past (at + 1) rest (path_len (c ∷ rest) - 1)))))
+      (path_at (record { at = at; bytes = c ∷ rest }) (path_len (c ∷ rest)) >>= λ path. path_onto path (paths_past (at + 1) rest (path_len (c ∷ rest) - 1)))))
   by true u more = more (gap_len (c ∷ rest) - 1)
   by false true more = tt
   by false false more =
@@ -125,7 +125,7 @@ bound_placed : (p : Place) → Placed (bound_at p)
 bound_placed p =
     bind_placed (name_at (past_gap p)) (λ n. byte_at equals_sign fault.ExpectedEquals n.1 >>= λ v. value_at v >>= λ value. Ok (record { name = n.0; value = value })) (name_placed (past_gap p))
     (λ n. bind_placed (byte_at equals_sign fault.ExpectedEquals n.1) (λ v. value_at v >>= λ value. Ok (record { name = n.0; value = value })) (byte_placed equals_sign fault.ExpectedEquals n.1 refl)
-      (λ v. bind_placed (value_at v) (λ value. Ok (record { name = n.0; value = value })) (value_placed v) (λ _. tt)))
+    (λ v. bind_placed (value_at v) (λ value. Ok (record { name = n.0; value = value })) (value_placed v) (λ _. tt)))
 
 abbrev PlacedMember : Member → Type 0
 PlacedMember (Says p) = Unit {0}
@@ -164,7 +164,7 @@ owned_placed o above (Says p) h =
     (λ n. cond (not (knows o n.0)) (Err (unknown o (past_gap p).at)) (cond (bytes_eq n.0 (wanted o) && list_any (is_named (wanted o)) above) (Err (not_once o (past_gap p).at)) (bound_at p)))
     (name_placed (past_gap p))
     (λ n. either (not (knows o n.0)) (Err (unknown o (past_gap p).at)) (cond (bytes_eq n.0 (wanted o) && list_any (is_named (wanted o)) above) (Err (not_once o (past_gap p).at)) (bound_at p)) (unknown_placed o (past_gap p).at)
-      (either (bytes_eq n.0 (wanted o) && list_any (is_named (wanted o)) above) (Err (not_once o (past_gap p).at)) (bound_at p) (once_placed o (past_gap p).at) (bound_placed p)))
+    (either (bytes_eq n.0 (wanted o) && list_any (is_named (wanted o)) above) (Err (not_once o (past_gap p).at)) (bound_at p) (once_placed o (past_gap p).at) (bound_placed p)))
 
 all_owned_placed : (o : Owner) (above ms : List Member) → PlacedMembers ms → Placed (all_owned_at o above ms)
 all_owned_placed o above [] h = tt
@@ -177,8 +177,8 @@ block_placed o at p ms h =
     bind_placed (with_wanted o at ms) (λ _. named_line p >>= λ name. all_owned_at o [] ms >>= λ bindings. Ok (name, bindings))
     (either (list_any (is_named (wanted o)) ms) (Ok tt) (Err (not_once o at)) tt (once_placed o at))
     (λ _. bind_placed (named_line p) (λ name. all_owned_at o [] ms >>= λ bindings. Ok (name, bindings))
-      (bind_placed (name_at p) (λ n. line_end_at n.0 n.1) (name_placed p) (λ n. end_placed n.0 n.1))
-      (λ name. bind_placed (all_owned_at o [] ms) (λ bindings. Ok (name, bindings)) (all_owned_placed o [] ms h) (λ _. tt)))
+    (bind_placed (name_at p) (λ n. line_end_at n.0 n.1) (name_placed p) (λ n. end_placed n.0 n.1))
+    (λ name. bind_placed (all_owned_at o [] ms) (λ bindings. Ok (name, bindings)) (all_owned_placed o [] ms h) (λ _. tt)))
 
 -- lists of paths
 implicit_placed : (p : Place) → Placed (implicit_at p)
@@ -199,8 +199,8 @@ outputs_placed p =
     (λ outputs. implicit_at outputs.1 >>= λ implicit. some_path implicit.1 outputs.0 implicit.0 >>= λ _. byte_at colon fault.ExpectedColon implicit.1 >>= λ behind. Ok (outputs.0, implicit.0, behind))
     (paths_placed p)
     (λ o. bind_placed (implicit_at o.1) (λ implicit. some_path implicit.1 o.0 implicit.0 >>= λ _. byte_at colon fault.ExpectedColon implicit.1 >>= λ behind. Ok (o.0, implicit.0, behind)) (implicit_placed o.1)
-      (λ i. bind_placed (some_path i.1 o.0 i.0) (λ _. byte_at colon fault.ExpectedColon i.1 >>= λ behind. Ok (o.0, i.0, behind)) (some_placed i.1 o.0 i.0)
-        (λ _. bind_placed (byte_at colon fault.ExpectedColon i.1) (λ behind. Ok (o.0, i.0, behind)) (byte_placed colon fault.ExpectedColon i.1 refl) (λ _. tt))))
+    (λ i. bind_placed (some_path i.1 o.0 i.0) (λ _. byte_at colon fault.ExpectedColon i.1 >>= λ behind. Ok (o.0, i.0, behind)) (some_placed i.1 o.0 i.0)
+    (λ _. bind_placed (byte_at colon fault.ExpectedColon i.1) (λ behind. Ok (o.0, i.0, behind)) (byte_placed colon fault.ExpectedColon i.1 refl) (λ _. tt))))
 
 inputs_placed : (p : Place) → Placed (inputs_at p)
 inputs_placed p =
@@ -208,8 +208,8 @@ inputs_placed p =
     (λ inputs. implicit_at inputs.1 >>= λ implicit. order_only_at implicit.1 >>= λ order_only. no_validation order_only.1 >>= λ _. line_end_at (inputs.0, implicit.0, order_only.0) order_only.1)
     (paths_placed p)
     (λ o. bind_placed (implicit_at o.1) (λ implicit. order_only_at implicit.1 >>= λ order_only. no_validation order_only.1 >>= λ _. line_end_at (o.0, implicit.0, order_only.0) order_only.1) (implicit_placed o.1)
-      (λ i. bind_placed (order_only_at i.1) (λ order_only. no_validation order_only.1 >>= λ _. line_end_at (o.0, i.0, order_only.0) order_only.1) (order_placed i.1)
-        (λ x. bind_placed (no_validation x.1) (λ _. line_end_at (o.0, i.0, x.0) x.1) (validation_placed x.1) (λ _. end_placed (o.0, i.0, x.0) x.1))))
+    (λ i. bind_placed (order_only_at i.1) (λ order_only. no_validation order_only.1 >>= λ _. line_end_at (o.0, i.0, order_only.0) order_only.1) (order_placed i.1)
+    (λ x. bind_placed (no_validation x.1) (λ _. line_end_at (o.0, i.0, x.0) x.1) (validation_placed x.1) (λ _. end_placed (o.0, i.0, x.0) x.1))))
 
 behind_placed : {A B : Type 0} (r : Result A ParseFault) (ms : List Member) (make : A → B) → Placed r → PlacedMembers ms → Placed (r >>= λ x. alone ms >>= λ _. Ok (make x))
 behind_placed r ms make h k = bind_placed r (λ x. alone ms >>= λ _. Ok (make x)) h (λ x. bind_placed (alone ms) (λ _. Ok (make x)) (alone_placed ms k) (λ _. tt))
@@ -250,8 +250,8 @@ unfolding build_made
 build_placed at p ms h =
     bind_placed (outputs_at p) (λ outputs. name_at outputs.2 >>= λ rule. inputs_at rule.1 >>= λ inputs. each member_at ms >>= λ bindings. Ok (build_made at outputs rule.0 inputs bindings)) (outputs_placed p)
     (λ o. bind_placed (name_at o.2) (λ rule. inputs_at rule.1 >>= λ inputs. each member_at ms >>= λ bindings. Ok (build_made at o rule.0 inputs bindings)) (name_placed o.2)
-      (λ r. bind_placed (inputs_at r.1) (λ inputs. each member_at ms >>= λ bindings. Ok (build_made at o r.0 inputs bindings)) (inputs_placed r.1)
-        (λ i. bind_placed (each member_at ms) (λ bindings. Ok (build_made at o r.0 i bindings)) (members_placed ms h) (λ _. tt))))
+    (λ r. bind_placed (inputs_at r.1) (λ inputs. each member_at ms >>= λ bindings. Ok (build_made at o r.0 inputs bindings)) (inputs_placed r.1)
+    (λ i. bind_placed (each member_at ms) (λ bindings. Ok (build_made at o r.0 i bindings)) (members_placed ms h) (λ _. tt))))
 
 statement_placed : (p : Place) (ms : List Member) → PlacedMembers ms → Placed (statement_of p ms)
 statement_placed p ms h =
@@ -259,11 +259,11 @@ statement_placed p ms h =
     let q = past_gap (past (length word) (past_gap p)) in
     either (bytes_eq word (codes "rule")) (rule_of p.at q ms) _ (rule_placed p.at q ms h)
     (either (bytes_eq word (codes "build")) (build_of p.at q ms) _ (build_placed p.at q ms h)
-      (either (bytes_eq word (codes "pool")) (pool_of p.at q ms) _ (pool_placed p.at q ms h)
-        (either (bytes_eq word (codes "default")) (default_of p.at q ms) _ (behind_placed (targets_at q) ms (λ x. record { offset = p.at; kind = kind.Default x }) (targets_placed q) h)
-          (either (bytes_eq word (codes "include")) (include_of p.at q ms) _ (behind_placed (file_at q) ms (λ x. record { offset = p.at; kind = kind.Include x }) (file_placed q) h)
-            (either (bytes_eq word (codes "subninja")) (subninja_of p.at q ms) (binding_of p ms) (behind_placed (file_at q) ms (λ x. record { offset = p.at; kind = kind.Subninja x }) (file_placed q) h)
-              (behind_placed (bound_at p) ms (λ x. record { offset = p.at; kind = kind.Binding x }) (bound_placed p) h))))))
+    (either (bytes_eq word (codes "pool")) (pool_of p.at q ms) _ (pool_placed p.at q ms h)
+    (either (bytes_eq word (codes "default")) (default_of p.at q ms) _ (behind_placed (targets_at q) ms (λ x. record { offset = p.at; kind = kind.Default x }) (targets_placed q) h)
+    (either (bytes_eq word (codes "include")) (include_of p.at q ms) _ (behind_placed (file_at q) ms (λ x. record { offset = p.at; kind = kind.Include x }) (file_placed q) h)
+    (either (bytes_eq word (codes "subninja")) (subninja_of p.at q ms) (binding_of p ms) (behind_placed (file_at q) ms (λ x. record { offset = p.at; kind = kind.Subninja x }) (file_placed q) h)
+    (behind_placed (bound_at p) ms (λ x. record { offset = p.at; kind = kind.Binding x }) (bound_placed p) h))))))
 
 -- what lines tell
 abbrev PlacedTold : Option Told → Type 0

@@ -1,7 +1,7 @@
 -- The statements of a text behind another one.
-use Rattle.std.proofs.Common.{◌≡◌, ℕ, zero, suc, ◌+◌, ◌-◌, ◌≤◌, ◌==◌, Bool, true, false, cond, List, [], ◌∷◌, ◌++◌, length, drop, take, Result, Ok, Err, Option, Some, None, refl, sym, ap, subst, ◌∙◌, arith, length-append}
+use Rattle.std.proofs.Common.{◌≡◌, ℕ, zero, suc, ◌+◌, ◌-◌, ◌≤◌, ◌==◌, Bool, true, false, cond, List, [], ◌∷◌, ◌++◌, length, drop, take, Result, Ok, Err, Option, Some, None, refl, sym, ap, ◌∙◌, arith, length-append}
 use Rattle.std.specs.Prelude.{map, nat_lt}
-use Rattle.std.specs.List.{position_or_len, filter_map}
+use Rattle.std.specs.List.{position_or_len}
 use Rattle.std.proofs.lemmas.List.Elements.{filter_map-append}
 use Rattle.std.proofs.lemmas.Bool.Decides.{nat_tests}
 use Rattle.plan_text.specs.Bytes.{nul, hash, begins_with}
@@ -14,7 +14,6 @@ use Rattle.plan_parse.specs.declared.fault.ParseFault.{ParseFault}
 use Rattle.plan_parse.specs.declared.fault.ParseFault.TheVariants as fault
 use Rattle.plan_parse.specs.declared.statement.Statement.{Statement}
 use Rattle.plan_parse.specs.declared.statement.StatementKind.{StatementKind}
-use Rattle.plan_parse.specs.Reading.{Place}
 use Rattle.plan_parse.specs.Blocks.{Member, Says, Faulty, Told, Head, Below, Block, is_indented, told_in, told_of, below, blocks_of}
 use Rattle.plan_parse.specs.Statements.{alone, statement_of, statement_in, statements_of}
 use Rattle.plan_parse.specs.Laws.{moved, leads, begins_block}
@@ -43,10 +42,10 @@ AllSame k (x ∷ xs) [] = ⊥
 
 told_by : (k at c : ℕ) (bytes : List ℕ) (t u v w : Bool) → c ≡ k + at
     → MaySame k
-      (cond t None (cond u (cond v (Some (Below (Faulty (NulByte (at + position_or_len (λ b. b == nul) bytes))))) None)
-        (Some (cond w (Below (Says (record { at = at + indent_len bytes; bytes = drop (indent_len bytes) bytes }))) (Head (record { at = at + indent_len bytes; bytes = drop (indent_len bytes) bytes }))))))
-      (cond t None (cond u (cond v (Some (Below (Faulty (NulByte (c + position_or_len (λ b. b == nul) bytes))))) None)
-        (Some (cond w (Below (Says (record { at = c + indent_len bytes; bytes = drop (indent_len bytes) bytes }))) (Head (record { at = c + indent_len bytes; bytes = drop (indent_len bytes) bytes }))))))
+    (cond t None (cond u (cond v (Some (Below (Faulty (NulByte (at + position_or_len (λ b. b == nul) bytes))))) None)
+    (Some (cond w (Below (Says (record { at = at + indent_len bytes; bytes = drop (indent_len bytes) bytes }))) (Head (record { at = at + indent_len bytes; bytes = drop (indent_len bytes) bytes }))))))
+    (cond t None (cond u (cond v (Some (Below (Faulty (NulByte (c + position_or_len (λ b. b == nul) bytes))))) None)
+    (Some (cond w (Below (Says (record { at = c + indent_len bytes; bytes = drop (indent_len bytes) bytes }))) (Head (record { at = c + indent_len bytes; bytes = drop (indent_len bytes) bytes }))))))
 told_by k at c bytes true u v w e = tt
 told_by k at c bytes false true true w e = tt
 told_by k at c bytes false true false w e = tt

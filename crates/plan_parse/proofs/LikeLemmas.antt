@@ -1,11 +1,10 @@
 -- What is read doesn't depend on where it stands.
-use Rattle.std.proofs.Common.{◌≡◌, ℕ, zero, suc, ◌+◌, ◌-◌, ◌==◌, Bool, ◌||◌, ◌&&◌, true, false, not, cond, List, [], ◌∷◌, ◌++◌, length, take, drop, Result, Ok, Err, Option, Some, None, refl, sym, ap, subst, ◌∙◌, arith}
-use Rattle.std.specs.Prelude.{codes, nat_lt, unwrap_or}
-use Rattle.std.specs.List.{list_any, prefix_len}
-use Rattle.std.specs.Str.{bytes_eq}
-use Rattle.plan_text.specs.Bytes.{nul, tab, dollar, colon, equals_sign, is_name_byte, begins_with}
+use Rattle.std.proofs.Common.{◌≡◌, ℕ, zero, suc, ◌+◌, ◌-◌, ◌==◌, Bool, ◌&&◌, true, false, cond, List, [], ◌∷◌, length, take, Result, Ok, Err, Option, Some, None, refl, ap, subst, ◌∙◌}
+use Rattle.std.specs.Prelude.{nat_lt}
+use Rattle.std.specs.List.{prefix_len}
+use Rattle.plan_text.specs.Bytes.{nul, tab, dollar, is_name_byte, begins_with}
 use Rattle.plan_text.specs.Lines.{gap_len}
-use Rattle.plan_text.specs.Outcome.{◌>>=◌, each}
+use Rattle.plan_text.specs.Outcome.{◌>>=◌}
 use Rattle.plan_text.specs.Pieces.{Sign, escape, or_bad, is_path, sign_at, in_front, all_onto, pieces_past}
 use Rattle.plan_text.specs.declared.fault.TextFault.{TextFault}
 use Rattle.plan_text.specs.declared.fault.TextFault.TheVariants as text
@@ -13,15 +12,7 @@ use Rattle.plan_text.specs.declared.piece_reader.Mode.{Mode}
 use Rattle.plan_text.specs.declared.piece_reader.Mode.TheVariants as mode
 use Rattle.plan_text.specs.declared.piece_reader.Piece.{Piece}
 use Rattle.plan_parse.specs.declared.fault.ParseFault.{ParseFault}
-use Rattle.plan_parse.specs.declared.fault.ParseFault.TheVariants as fault
-use Rattle.plan_parse.specs.declared.owner.Owner.{Owner}
-use Rattle.plan_parse.specs.declared.statement.Binding.{Binding}
-use Rattle.plan_parse.specs.declared.statement.StatementKind.{StatementKind}
-use Rattle.plan_parse.specs.declared.statement.StatementKind.TheVariants as kind
-use Rattle.plan_parse.specs.declared.statement.Statement.{Statement}
-use Rattle.plan_parse.specs.Reading.{Place, past, past_gap, refused, name_of, name_at, byte_at, line_end_at, value_at, lifted, path_len, path_at, path_onto, paths_past, paths_at}
-use Rattle.plan_parse.specs.Blocks.{Member, Says, Faulty}
-use Rattle.plan_parse.specs.Statements.{bound_at, member_at, alone, is_named, wanted, unknown, not_once, knows, owned_at, all_owned_at, with_wanted, named_line, named_block}
+use Rattle.plan_parse.specs.Reading.{Place, name_at, byte_at, line_end_at, value_at, lifted, path_len, path_at, path_onto, paths_past, paths_at}
 
 -- both go well alike, or neither does
 abbrev pub Like : {A B E F : Type 0} → (A → B → Type 0) → Result A E → Result B F → Type 0

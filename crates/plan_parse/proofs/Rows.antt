@@ -1,5 +1,5 @@
 -- Worked examples of statements.
-use Rattle.std.proofs.Common.{◌≡◌, ℕ, List, [], ◌∷◌, ◌++◌, Ok, Err, refl}
+use Rattle.std.proofs.Common.{◌≡◌, ℕ, true, false, List, [], ◌∷◌, ◌++◌, Ok, Err, refl}
 use Rattle.std.specs.Prelude.{codes}
 use Rattle.plan_text.specs.declared.piece_reader.Piece.{Piece}
 use Rattle.plan_text.specs.declared.piece_reader.Piece.TheVariants.{Literal, Reference}
@@ -8,6 +8,8 @@ use Rattle.plan_parse.specs.declared.fault.ParseFault.TheVariants.{Text, NoComma
 use Rattle.plan_parse.specs.declared.statement.Binding.{Binding}
 use Rattle.plan_parse.specs.declared.statement.Statement.{Statement}
 use Rattle.plan_parse.specs.declared.statement.StatementKind.TheVariants as kind
+use Rattle.plan_text.specs.Lines.{are_ended}
+use Rattle.plan_parse.specs.Laws.{begins_block}
 use Rattle.plan_parse.specs.Statements.{statements_of}
 
 abbrev lf : List ℕ
@@ -224,3 +226,20 @@ nul_for_indent = refl
 
 tab_in_value : statements_of (codes "x =  a" ++ 9 ∷ []) ≡ Ok (set 0 (codes "x") (Literal (codes "a" ++ 9 ∷ []) ∷ []) ∷ [])
 tab_in_value = refl
+
+-- whether a text begins a block: blank lines and comments stand before it, and it is not indented
+begins_1 : begins_block (10 ∷ codes "# c" ++ 10 ∷ codes "x = 1") ≡ true
+begins_1 = refl
+
+begins_2 : begins_block (codes "  x = 1") ≡ false
+begins_2 = refl
+
+-- whether the lines of a text are ended: a newline behind `$` or a lone CR ends none
+ended_1 : are_ended (codes "x = 1" ++ 10 ∷ 13 ∷ 10 ∷ []) ≡ true
+ended_1 = refl
+
+ended_2 : are_ended (codes "x = 1$" ++ 10 ∷ []) ≡ false
+ended_2 = refl
+
+ended_3 : are_ended (codes "x = 1" ++ 13 ∷ []) ≡ false
+ended_3 = refl

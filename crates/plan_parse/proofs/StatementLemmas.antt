@@ -1,7 +1,7 @@
 -- What a statement says doesn't depend on where it stands.
-use Rattle.std.proofs.Common.{◌≡◌, ℕ, ◌+◌, ◌==◌, Bool, ◌||◌, ◌&&◌, true, false, not, cond, List, [], ◌∷◌, ◌++◌, length, take, drop, Result, Ok, Err, refl, sym, ap, subst, ◌∙◌, arith}
+use Rattle.std.proofs.Common.{◌≡◌, ℕ, ◌+◌, ◌==◌, Bool, ◌||◌, ◌&&◌, true, false, not, cond, List, [], ◌∷◌, ◌++◌, length, Result, Ok, Err, refl, ap, subst, ◌∙◌}
 use Rattle.std.specs.Prelude.{codes}
-use Rattle.std.specs.List.{list_any, prefix_len}
+use Rattle.std.specs.List.{list_any}
 use Rattle.std.specs.Str.{bytes_eq}
 use Rattle.plan_text.specs.Bytes.{colon, equals_sign}
 use Rattle.plan_text.specs.Outcome.{◌>>=◌, each}
@@ -28,11 +28,11 @@ bound_like p q e =
     bind_like SameFound Same (name_at (past_gap p)) (name_at (past_gap q)) bound_rest bound_rest
     (by_text (λ p q. Like SameFound (name_at (past_gap p)) (name_at (past_gap q))) (λ a b v. name_like (past_gap (here a v)) (past_gap (here b v)) refl) p q e)
     (λ n m f. bind_like SameText Same (byte_at equals_sign fault.ExpectedEquals n.1) (byte_at equals_sign fault.ExpectedEquals m.1)
-      (λ v. value_at v >>= λ value. Ok (record { name = n.0; value = value })) (λ v. value_at v >>= λ value. Ok (record { name = m.0; value = value }))
-      (byte_like equals_sign fault.ExpectedEquals n.1 m.1 f.1)
-      (λ v w g. bind_like Same Same (value_at v) (value_at w) (λ value. Ok (record { name = n.0; value = value })) (λ value. Ok (record { name = m.0; value = value }))
-        (value_like v w g)
-        (λ x y h. made n.0 m.0 x y f.0 h)))
+    (λ v. value_at v >>= λ value. Ok (record { name = n.0; value = value })) (λ v. value_at v >>= λ value. Ok (record { name = m.0; value = value }))
+    (byte_like equals_sign fault.ExpectedEquals n.1 m.1 f.1)
+    (λ v w g. bind_like Same Same (value_at v) (value_at w) (λ value. Ok (record { name = n.0; value = value })) (λ value. Ok (record { name = m.0; value = value }))
+    (value_like v w g)
+    (λ x y h. made n.0 m.0 x y f.0 h)))
   where
     made : (n m : List ℕ) (x y : List Piece) → n ≡ m → x ≡ y → ◌≡◌ {A = Binding} (record { name = n; value = x }) (record { name = m; value = y })
     made n m x y e f = rw (e, f) refl
@@ -113,13 +113,13 @@ owned_like o a b s (Says p) (Says q) h =
   where
     last : (x y : List ℕ) → x ≡ y
         → Like Same (cond (not (knows o x)) (Err (unknown o (past_gap p).at)) (cond (bytes_eq x (wanted o) && list_any (is_named (wanted o)) a) (Err (not_once o (past_gap p).at)) (bound_at p)))
-          (cond (not (knows o y)) (Err (unknown o (past_gap q).at)) (cond (bytes_eq y (wanted o) && list_any (is_named (wanted o)) b) (Err (not_once o (past_gap q).at)) (bound_at q)))
+        (cond (not (knows o y)) (Err (unknown o (past_gap q).at)) (cond (bytes_eq y (wanted o) && list_any (is_named (wanted o)) b) (Err (not_once o (past_gap q).at)) (bound_at q)))
     last x y e =
         subst (λ (v : List ℕ). Like Same (cond (not (knows o x)) (Err (unknown o (past_gap p).at)) (cond (bytes_eq x (wanted o) && list_any (is_named (wanted o)) a) (Err (not_once o (past_gap p).at)) (bound_at p)))
-          (cond (not (knows o v)) (Err (unknown o (past_gap q).at)) (cond (bytes_eq v (wanted o) && list_any (is_named (wanted o)) b) (Err (not_once o (past_gap q).at)) (bound_at q)))) e
+        (cond (not (knows o v)) (Err (unknown o (past_gap q).at)) (cond (bytes_eq v (wanted o) && list_any (is_named (wanted o)) b) (Err (not_once o (past_gap q).at)) (bound_at q)))) e
         (subst (λ (t : Bool). Like Same (cond (not (knows o x)) (Err (unknown o (past_gap p).at)) (cond (bytes_eq x (wanted o) && list_any (is_named (wanted o)) a) (Err (not_once o (past_gap p).at)) (bound_at p)))
-          (cond (not (knows o x)) (Err (unknown o (past_gap q).at)) (cond (bytes_eq x (wanted o) && t) (Err (not_once o (past_gap q).at)) (bound_at q)))) (any_named (wanted o) a b s)
-          (tests_like Same (not (knows o x)) (bytes_eq x (wanted o) && list_any (is_named (wanted o)) a) _ _ _ _ (bound_at p) (bound_at q) (bound_like p q h)))
+        (cond (not (knows o x)) (Err (unknown o (past_gap q).at)) (cond (bytes_eq x (wanted o) && t) (Err (not_once o (past_gap q).at)) (bound_at q)))) (any_named (wanted o) a b s)
+        (tests_like Same (not (knows o x)) (bytes_eq x (wanted o) && list_any (is_named (wanted o)) a) _ _ _ _ (bound_at p) (bound_at q) (bound_like p q h)))
 owned_like o a b s (Faulty e) (Faulty f) h = tt
 owned_like o a b s (Says p) (Faulty f) h = absurd h
 owned_like o a b s (Faulty e) (Says q) h = absurd h
@@ -147,9 +147,9 @@ block_like o i j p q a b e h =
     (λ _. named_line p >>= λ name. all_owned_at o [] a >>= λ bindings. Ok (name, bindings)) (λ _. named_line q >>= λ name. all_owned_at o [] b >>= λ bindings. Ok (name, bindings))
     (wanted_like o i j a b h)
     (λ _ _ _. bind_like Same Same (named_line p) (named_line q) (λ name. all_owned_at o [] a >>= λ bindings. Ok (name, bindings)) (λ name. all_owned_at o [] b >>= λ bindings. Ok (name, bindings))
-      (named_line_like p q e)
-      (λ x y f. bind_like Same Same (all_owned_at o [] a) (all_owned_at o [] b) (λ bindings. Ok (x, bindings)) (λ bindings. Ok (y, bindings))
-        (all_owned_like o [] [] tt a b h) (λ v w g. pair x y v w f g)))
+    (named_line_like p q e)
+    (λ x y f. bind_like Same Same (all_owned_at o [] a) (all_owned_at o [] b) (λ bindings. Ok (x, bindings)) (λ bindings. Ok (y, bindings))
+    (all_owned_like o [] [] tt a b h) (λ v w g. pair x y v w f g)))
   where
     pair : (x y : List ℕ) (v w : List Binding) → x ≡ y → v ≡ w → ◌≡◌ {A = List ℕ × List Binding} (x, v) (y, w)
     pair x y v w f g = rw (f, g) refl
@@ -191,14 +191,14 @@ outputs_like p q e =
     (λ outputs. implicit_at outputs.1 >>= λ implicit. some_path implicit.1 outputs.0 implicit.0 >>= λ _. byte_at colon fault.ExpectedColon implicit.1 >>= λ behind. Ok (outputs.0, implicit.0, behind))
     (paths_like p q e)
     (λ o u f. bind_like SameFound SameOutputs (implicit_at o.1) (implicit_at u.1)
-      (λ implicit. some_path implicit.1 o.0 implicit.0 >>= λ _. byte_at colon fault.ExpectedColon implicit.1 >>= λ behind. Ok (o.0, implicit.0, behind))
-      (λ implicit. some_path implicit.1 u.0 implicit.0 >>= λ _. byte_at colon fault.ExpectedColon implicit.1 >>= λ behind. Ok (u.0, implicit.0, behind))
-      (implicit_like o.1 u.1 f.1)
-      (λ i j g. bind_like Same SameOutputs (some_path i.1 o.0 i.0) (some_path j.1 u.0 j.0)
-        (λ _. byte_at colon fault.ExpectedColon i.1 >>= λ behind. Ok (o.0, i.0, behind)) (λ _. byte_at colon fault.ExpectedColon j.1 >>= λ behind. Ok (u.0, j.0, behind))
-        (some_like i.1 j.1 o.0 u.0 i.0 j.0 f.0 g.0)
-        (λ _ _ _. bind_like SameText SameOutputs (byte_at colon fault.ExpectedColon i.1) (byte_at colon fault.ExpectedColon j.1) (λ behind. Ok (o.0, i.0, behind)) (λ behind. Ok (u.0, j.0, behind))
-          (byte_like colon fault.ExpectedColon i.1 j.1 g.1) (λ v w h. (f.0, g.0, h)))))
+    (λ implicit. some_path implicit.1 o.0 implicit.0 >>= λ _. byte_at colon fault.ExpectedColon implicit.1 >>= λ behind. Ok (o.0, implicit.0, behind))
+    (λ implicit. some_path implicit.1 u.0 implicit.0 >>= λ _. byte_at colon fault.ExpectedColon implicit.1 >>= λ behind. Ok (u.0, implicit.0, behind))
+    (implicit_like o.1 u.1 f.1)
+    (λ i j g. bind_like Same SameOutputs (some_path i.1 o.0 i.0) (some_path j.1 u.0 j.0)
+    (λ _. byte_at colon fault.ExpectedColon i.1 >>= λ behind. Ok (o.0, i.0, behind)) (λ _. byte_at colon fault.ExpectedColon j.1 >>= λ behind. Ok (u.0, j.0, behind))
+    (some_like i.1 j.1 o.0 u.0 i.0 j.0 f.0 g.0)
+    (λ _ _ _. bind_like SameText SameOutputs (byte_at colon fault.ExpectedColon i.1) (byte_at colon fault.ExpectedColon j.1) (λ behind. Ok (o.0, i.0, behind)) (λ behind. Ok (u.0, j.0, behind))
+    (byte_like colon fault.ExpectedColon i.1 j.1 g.1) (λ v w h. (f.0, g.0, h)))))
 
 inputs_like : (p q : Place) → SameText p q → Like Same (inputs_at p) (inputs_at q)
 inputs_like p q e =
@@ -207,16 +207,16 @@ inputs_like p q e =
     (λ inputs. implicit_at inputs.1 >>= λ implicit. order_only_at implicit.1 >>= λ order_only. no_validation order_only.1 >>= λ _. line_end_at (inputs.0, implicit.0, order_only.0) order_only.1)
     (paths_like p q e)
     (λ o u f. bind_like SameFound Same (implicit_at o.1) (implicit_at u.1)
-      (λ implicit. order_only_at implicit.1 >>= λ order_only. no_validation order_only.1 >>= λ _. line_end_at (o.0, implicit.0, order_only.0) order_only.1)
-      (λ implicit. order_only_at implicit.1 >>= λ order_only. no_validation order_only.1 >>= λ _. line_end_at (u.0, implicit.0, order_only.0) order_only.1)
-      (implicit_like o.1 u.1 f.1)
-      (λ i j g. bind_like SameFound Same (order_only_at i.1) (order_only_at j.1)
-        (λ order_only. no_validation order_only.1 >>= λ _. line_end_at (o.0, i.0, order_only.0) order_only.1)
-        (λ order_only. no_validation order_only.1 >>= λ _. line_end_at (u.0, j.0, order_only.0) order_only.1)
-        (order_like i.1 j.1 g.1)
-        (λ x y h. bind_like Same Same (no_validation x.1) (no_validation y.1) (λ _. line_end_at (o.0, i.0, x.0) x.1) (λ _. line_end_at (u.0, j.0, y.0) y.1)
-          (validation_like x.1 y.1 h.1)
-          (λ _ _ _. end_like (o.0, i.0, x.0) (u.0, j.0, y.0) (triple o.0 u.0 i.0 j.0 x.0 y.0 f.0 g.0 h.0) x.1 y.1 h.1))))
+    (λ implicit. order_only_at implicit.1 >>= λ order_only. no_validation order_only.1 >>= λ _. line_end_at (o.0, implicit.0, order_only.0) order_only.1)
+    (λ implicit. order_only_at implicit.1 >>= λ order_only. no_validation order_only.1 >>= λ _. line_end_at (u.0, implicit.0, order_only.0) order_only.1)
+    (implicit_like o.1 u.1 f.1)
+    (λ i j g. bind_like SameFound Same (order_only_at i.1) (order_only_at j.1)
+    (λ order_only. no_validation order_only.1 >>= λ _. line_end_at (o.0, i.0, order_only.0) order_only.1)
+    (λ order_only. no_validation order_only.1 >>= λ _. line_end_at (u.0, j.0, order_only.0) order_only.1)
+    (order_like i.1 j.1 g.1)
+    (λ x y h. bind_like Same Same (no_validation x.1) (no_validation y.1) (λ _. line_end_at (o.0, i.0, x.0) x.1) (λ _. line_end_at (u.0, j.0, y.0) y.1)
+    (validation_like x.1 y.1 h.1)
+    (λ _ _ _. end_like (o.0, i.0, x.0) (u.0, j.0, y.0) (triple o.0 u.0 i.0 j.0 x.0 y.0 f.0 g.0 h.0) x.1 y.1 h.1))))
   where
     triple : (a b c d e f : List (List Piece)) → a ≡ b → c ≡ d → e ≡ f → ◌≡◌ {A = Inputs} (a, c, e) (b, d, f)
     triple a b c d e f g h k = rw (g, h, k) refl
@@ -263,16 +263,16 @@ build_like i j p q a b e h =
     (λ outputs. name_at outputs.2 >>= λ rule. inputs_at rule.1 >>= λ inputs. each member_at b >>= λ bindings. Ok (build_made j outputs rule.0 inputs bindings))
     (outputs_like p q e)
     (λ o u f. bind_like SameFound (AtOffsets i j) (name_at o.2) (name_at u.2)
-      (λ rule. inputs_at rule.1 >>= λ inputs. each member_at a >>= λ bindings. Ok (build_made i o rule.0 inputs bindings))
-      (λ rule. inputs_at rule.1 >>= λ inputs. each member_at b >>= λ bindings. Ok (build_made j u rule.0 inputs bindings))
-      (name_like o.2 u.2 f.2)
-      (λ r s g. bind_like Same (AtOffsets i j) (inputs_at r.1) (inputs_at s.1)
-        (λ inputs. each member_at a >>= λ bindings. Ok (build_made i o r.0 inputs bindings)) (λ inputs. each member_at b >>= λ bindings. Ok (build_made j u s.0 inputs bindings))
-        (inputs_like r.1 s.1 g.1)
-        (λ x y k. bind_like Same (AtOffsets i j) (each member_at a) (each member_at b)
-          (λ bindings. Ok (build_made i o r.0 x bindings)) (λ bindings. Ok (build_made j u s.0 y bindings))
-          (members_like a b h)
-          (λ v w l. made_like i j o u r.0 s.0 x y v w f g.0 k l))))
+    (λ rule. inputs_at rule.1 >>= λ inputs. each member_at a >>= λ bindings. Ok (build_made i o rule.0 inputs bindings))
+    (λ rule. inputs_at rule.1 >>= λ inputs. each member_at b >>= λ bindings. Ok (build_made j u rule.0 inputs bindings))
+    (name_like o.2 u.2 f.2)
+    (λ r s g. bind_like Same (AtOffsets i j) (inputs_at r.1) (inputs_at s.1)
+    (λ inputs. each member_at a >>= λ bindings. Ok (build_made i o r.0 inputs bindings)) (λ inputs. each member_at b >>= λ bindings. Ok (build_made j u s.0 inputs bindings))
+    (inputs_like r.1 s.1 g.1)
+    (λ x y k. bind_like Same (AtOffsets i j) (each member_at a) (each member_at b)
+    (λ bindings. Ok (build_made i o r.0 x bindings)) (λ bindings. Ok (build_made j u s.0 y bindings))
+    (members_like a b h)
+    (λ v w l. made_like i j o u r.0 s.0 x y v w f g.0 k l))))
 
 -- a statement that has nothing below it
 alone_behind : {A : Type 0} (i j : ℕ) (make : ℕ → A → Statement) → ((x : A) → AtOffsets i j (make i x) (make j x)) → (r q : Result A ParseFault) (a b : List Member) → Like Same r q → SameMembers a b
@@ -280,14 +280,14 @@ alone_behind : {A : Type 0} (i j : ℕ) (make : ℕ → A → Statement) → ((x
 alone_behind i j make same r q a b h k =
     bind_like Same (AtOffsets i j) r q (λ x. alone a >>= λ _. Ok (make i x)) (λ x. alone b >>= λ _. Ok (make j x)) h
     (λ x y e. bind_like Same (AtOffsets i j) (alone a) (alone b) (λ _. Ok (make i x)) (λ _. Ok (make j y)) (alone_like a b k)
-      (λ _ _ _. subst (λ v. AtOffsets i j (make i x) (make j v)) e (same x)))
+    (λ _ _ _. subst (λ v. AtOffsets i j (make i x) (make j v)) e (same x)))
 
 targets_like : (p q : Place) → SameText p q → Like Same (targets_at p) (targets_at q)
 targets_like p q e =
     bind_like SameFound Same (paths_at p) (paths_at q) (λ targets. some_path targets.1 targets.0 [] >>= λ _. line_end_at targets.0 targets.1) (λ targets. some_path targets.1 targets.0 [] >>= λ _. line_end_at targets.0 targets.1)
     (paths_like p q e)
     (λ x y f. bind_like Same Same (some_path x.1 x.0 []) (some_path y.1 y.0 []) (λ _. line_end_at x.0 x.1) (λ _. line_end_at y.0 y.1)
-      (some_like x.1 y.1 x.0 y.0 [] [] f.0 refl) (λ _ _ _. end_like x.0 y.0 f.0 x.1 y.1 f.1))
+    (some_like x.1 y.1 x.0 y.0 [] [] f.0 refl) (λ _ _ _. end_like x.0 y.0 f.0 x.1 y.1 f.1))
 
 some_byte_like : (p q : Place) → SameText p q → Like Same (some_byte p) (some_byte q)
 some_byte_like = by_text (λ p q. Like Same (some_byte p) (some_byte q)) (λ a b v. by_test Same (path_len v == 0) tt tt _ _ refl)
@@ -295,12 +295,12 @@ some_byte_like = by_text (λ p q. Like Same (some_byte p) (some_byte q)) (λ a b
 file_like : (p q : Place) → SameText p q → Like Same (file_at p) (file_at q)
 file_like = by_text (λ p q. Like Same (file_at p) (file_at q))
     (λ a b v. bind_like Same Same (some_byte (here a v)) (some_byte (here b v))
-      (λ _. path_at (here a v) (path_len v) >>= λ path. line_end_at path (past_gap (past (path_len v) (here a v)))) (λ _. path_at (here b v) (path_len v) >>= λ path. line_end_at path (past_gap (past (path_len v) (here b v))))
-      (some_byte_like (here a v) (here b v) refl)
-      (λ _ _ _. bind_like Same Same (path_at (here a v) (path_len v)) (path_at (here b v) (path_len v))
-        (λ path. line_end_at path (past_gap (past (path_len v) (here a v)))) (λ path. line_end_at path (past_gap (past (path_len v) (here b v))))
-        (one_path_like (here a v) (here b v) refl)
-        (λ x y e. end_like x y e (past_gap (past (path_len v) (here a v))) (past_gap (past (path_len v) (here b v))) refl)))
+    (λ _. path_at (here a v) (path_len v) >>= λ path. line_end_at path (past_gap (past (path_len v) (here a v)))) (λ _. path_at (here b v) (path_len v) >>= λ path. line_end_at path (past_gap (past (path_len v) (here b v))))
+    (some_byte_like (here a v) (here b v) refl)
+    (λ _ _ _. bind_like Same Same (path_at (here a v) (path_len v)) (path_at (here b v) (path_len v))
+    (λ path. line_end_at path (past_gap (past (path_len v) (here a v)))) (λ path. line_end_at path (past_gap (past (path_len v) (here b v))))
+    (one_path_like (here a v) (here b v) refl)
+    (λ x y e. end_like x y e (past_gap (past (path_len v) (here a v))) (past_gap (past (path_len v) (here b v))) refl)))
 
 -- the sort of a statement is told by its first word
 words_like : {A B : Type 0} (R : A → B → Type 0) (s t u v w x : Bool) (r0 r1 r2 r3 r4 r5 r6 : Result A ParseFault) (q0 q1 q2 q3 q4 q5 q6 : Result B ParseFault)

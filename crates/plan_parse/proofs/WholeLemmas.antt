@@ -1,5 +1,5 @@
 -- Statements are whole.
-use Rattle.std.proofs.Common.{◌≡◌, ℕ, zero, suc, ◌+◌, ◌<◌, ◌==◌, Bool, true, false, not, ◌||◌, ◌&&◌, cond, List, [], ◌∷◌, ◌++◌, length, take, drop, Result, Ok, Err, refl, sym, ap, subst, ◌∙◌, arith, eqb}
+use Rattle.std.proofs.Common.{◌≡◌, ℕ, zero, suc, ◌+◌, ◌<◌, ◌==◌, Bool, true, false, not, ◌||◌, ◌&&◌, cond, List, [], ◌∷◌, ◌++◌, length, take, drop, Result, Ok, Err, refl, sym, ap, subst, ◌∙◌, arith}
 use Rattle.std.specs.Prelude.{codes}
 use Rattle.std.specs.List.{AllByRecursion, count_by, list_any, prefix_len}
 use Rattle.std.specs.Str.{bytes_eq}
@@ -19,7 +19,7 @@ use Rattle.plan_parse.specs.declared.owner.Owner.TheVariants.{Rule, Pool}
 use Rattle.plan_parse.specs.declared.statement.Binding.{Binding}
 use Rattle.plan_parse.specs.declared.statement.Statement.{Statement}
 use Rattle.plan_parse.specs.declared.statement.StatementKind.TheVariants as kind
-use Rattle.plan_parse.specs.Reading.{Place, past, past_gap, name_of, name_at, byte_at, value_at, paths_at, refusal, refused, line_end_at}
+use Rattle.plan_parse.specs.Reading.{Place, past, past_gap, name_of, name_at, byte_at, value_at, paths_at, refused, line_end_at}
 use Rattle.plan_parse.specs.Blocks.{Member, Says, Faulty, Block, told_of, below, blocks_of}
 use Rattle.plan_parse.specs.Statements as parsing
 use Rattle.plan_parse.specs.Statements.{bound_at, alone, first_word, is_named, wanted, unknown, not_once, knows, owned_at, all_owned_at, with_wanted, named_line, rule_of, build_of, pool_of, default_of, include_of, subninja_of, binding_of, implicit_at, some_path, outputs_at, inputs_at, targets_at, statement_of, statement_in, statements_of, member_at}

@@ -5,7 +5,6 @@ use Rattle.std.specs.Str.{bytes_eq}
 use Rattle.plan_text.specs.Limits.{max_source}
 use Rattle.plan_text.specs.Lines.{are_ended, raw_lines}
 use Rattle.plan_parse.specs.declared.fault.ParseFault.{ParseFault}
-use Rattle.plan_parse.specs.declared.statement.Binding.{Binding}
 use Rattle.plan_parse.specs.declared.statement.Statement.{Statement}
 use Rattle.plan_parse.specs.declared.statement.StatementKind.{StatementKind}
 use Rattle.plan_parse.specs.declared.statement.StatementKind.TheVariants as kind

@@ -1,14 +1,11 @@
 -- Lines of a text behind another one.
-use Rattle.std.proofs.Common.{◌≡◌, ℕ, zero, suc, ◌+◌, ◌-◌, ◌<◌, ◌≤◌, ◌==◌, Bool, ◌||◌, ◌&&◌, true, false, cond, List, [], ◌∷◌, ◌++◌, length, take, drop, refl, sym, ap, subst, ◌∙◌, arith, eqb, length-drop, length-append}
+use Rattle.std.proofs.Common.{◌≡◌, ℕ, zero, suc, ◌+◌, ◌-◌, ◌<◌, ◌≤◌, ◌==◌, Bool, ◌&&◌, true, false, cond, List, [], ◌∷◌, ◌++◌, length, take, drop, refl, sym, ap, subst, ◌∙◌, arith, eqb, length-drop}
 use Rattle.std.proofs.lemmas.Bool.{eqb-true, ltb-true}
-use Rattle.std.specs.Prelude.{nat_lt}
-use Rattle.std.specs.List.{prefix_len}
 use Rattle.std.proofs.lemmas.List.{take-append-le, drop-append-le, drop-drop}
 use Rattle.plan_text.specs.Bytes.{hash, dollar, space, is_space, begins_with}
 use Rattle.plan_text.specs.Lines.{newline_len, begins_newline, taken_along, line_unit, comment_unit, indent_len, logical_len, Raw, raw_past, ended_past}
 use Rattle.plan_text.specs.Runs.{and_more, run_past, run}
-use Rattle.plan_text.proofs.CoverLemmas.{logical_within, newline_within, run_within}
-use Rattle.plan_text.proofs.LineLemmas.{progress}
+use Rattle.plan_text.proofs.CoverLemmas.{logical_within, newline_within}
 
 -- a newline stays one, whatever follows
 newline_alone : (b : ℕ) (t : List ℕ) (f g : Bool) → 0 < cond f 1 (cond (g && false) 2 0) → cond {A = ℕ} f 1 (cond (g && begins_with 10 t) 2 0) ≡ cond f 1 (cond (g && false) 2 0)
