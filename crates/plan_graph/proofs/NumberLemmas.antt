@@ -10,7 +10,8 @@ use Rattle.plan_graph.specs.declared.fault.GraphFault.{GraphFault}
 use Rattle.plan_graph.specs.declared.fault.GraphFault.TheVariants.{TooManyEdges, TwoProducers}
 use Rattle.plan_graph.specs.Files.{Path, Table, file_of, number_of, numbers_past, paths_in, with_file, with_path, with_paths}
 use Rattle.plan_graph.specs.Graph.{due_len, inputs_named, max_edges, outputs_of, rows_of}
-use Rattle.plan_graph.specs.Reading.{◌>>=◌, fitting, inputs_past, made, outputs_past, own_of, used, with_edge, with_edges, with_input, with_inputs, with_output, with_outputs, with_targets}
+use Rattle.plan_text.specs.Outcome.{◌>>=◌}
+use Rattle.plan_graph.specs.Reading.{fitting, inputs_past, made, outputs_past, own_of, used, with_edge, with_edges, with_input, with_inputs, with_output, with_outputs, with_targets}
 use Rattle.plan_graph.proofs.TableLemmas.{any_append, paths_with, with_paths_app}
 use Rattle.plan_graph.proofs.WaitLemmas.{drop_next}
 

@@ -4,7 +4,8 @@ use Rattle.std.specs.Prelude.{◌||◌, if◌then◌else◌, not}
 use Rattle.plan_graph.specs.declared.fault.GraphFault.{GraphFault}
 use Rattle.plan_graph.specs.declared.files.File.{File}
 use Rattle.plan_graph.specs.Files.{Path, Table, file_of, with_file}
-use Rattle.plan_graph.specs.Reading.{◌>>=◌, is_own, used, with_input, with_inputs, with_output, with_outputs}
+use Rattle.plan_text.specs.Outcome.{◌>>=◌}
+use Rattle.plan_graph.specs.Reading.{is_own, used, with_input, with_inputs, with_output, with_outputs}
 
 abbrev pub okay : Table → Result Table GraphFault
 okay files = Ok files

@@ -20,7 +20,8 @@ use Rattle.plan_graph.specs.declared.files.File.{File}
 use Rattle.plan_graph.specs.Files.{Path, Table, file_of, is_used, maker_in, paths_in, with_file, with_path, with_paths}
 use Rattle.plan_graph.specs.Fitting.{Fits}
 use Rattle.plan_graph.specs.Graph.{due_len, fault_past, files_of, first_fault, inputs_named, inputs_of, made_twice, maker_from, maker_of, max_edges, one_too_many, outputs_of, unmade}
-use Rattle.plan_graph.specs.Reading.{◌>>=◌, fitting, is_own, made, own_of, table_of, used, with_edge, with_edges, with_input, with_inputs, with_outputs, with_targets}
+use Rattle.plan_text.specs.Outcome.{◌>>=◌}
+use Rattle.plan_graph.specs.Reading.{fitting, is_own, made, own_of, table_of, used, with_edge, with_edges, with_input, with_inputs, with_outputs, with_targets}
 
 bytes_same : (a b : List ℕ) → bytes_eq a b ≡ true → a ≡ b
 bytes_same a b e = (bytes_eq-Decides a b).0 e

@@ -1,4 +1,5 @@
 -- What the code knows of paths past some build lines.
+use Rattle.plan_text.specs.Outcome.{◌>>=◌}
 use Rattle.std.specs.Prelude.{ℕ, ◌+◌, Bool, false, not, ◌||◌, ◌==◌, List, [], ◌∷◌, take, drop, Option, Some, None, Result, Ok, Err, nat_le, if◌then◌else◌, is_some}
 use Rattle.plan_scope.specs.declared.manifest.DefaultTarget.{DefaultTarget}
 use Rattle.plan_scope.specs.declared.manifest.Edge.{Edge}
@@ -8,11 +9,6 @@ use Rattle.plan_graph.specs.declared.fault.GraphFault.TheVariants.{TwoProducers,
 use Rattle.plan_graph.specs.declared.files.File.{File}
 use Rattle.plan_graph.specs.Files.{Path, Table, file_of, maker_in, numbers_past, with_file, with_paths}
 use Rattle.plan_graph.specs.Graph.{due_len, inputs_named, max_edges, outputs_of}
-
-infixl 10 ◌>>=◌
-abbrev pub ◌>>=◌ : {A B : Type 0} → Result A GraphFault → (A → Result B GraphFault) → Result B GraphFault
-Ok x >>= f = f x
-Err fault >>= f = Err fault
 
 -- a file that this edge makes
 abbrev pub made : ℕ → File → File
