@@ -49,7 +49,7 @@ def tests(crate, cell):
 
 def edits(crate, cell):
     for name in filter(None, re.split(r",\s*", cell.strip())):
-        if not (crate / "must-fail" / f"{name}.edit").is_file():
+        if not any((crate / "must-fail").glob(f"**/{name}.edit")):
             yield f"no edit {name}"
 
 
