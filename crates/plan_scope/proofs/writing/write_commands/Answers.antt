@@ -23,13 +23,12 @@ returns-in_err-write_command g c =
 pub loop-edge-preserved : goal.loop-edge-preserved
 loop-edge-preserved g c =
     let so_far = c.loop-edge.invariant in
-    let line : List ℕ = command_line c.edge-item.result in
-    (
+    let line : List ℕ = command_line c.edge-item.result in (
       so_far.0 ++ line,
       one_more c.as_slice-edges.result.now c.loop-edge.edge-index c.edge-item.result so_far.0 c.loop-edge-test.true c.edge-item.is so_far.1,
       c.writes_join.ensures.join true
-      (g.W.Sink.failures c.args.out.now, g.W.Sink.taken c.args.out.now)
-      (g.W.Sink.failures c.loop-edge.out, g.W.Sink.taken c.loop-edge.out)
-      (g.W.Sink.failures c.write_command.new.out, g.W.Sink.taken c.write_command.new.out)
-      so_far.0 line so_far.2 c.in_ok-write_command.ensures,
+          (g.W.Sink.failures c.args.out.now, g.W.Sink.taken c.args.out.now)
+          (g.W.Sink.failures c.loop-edge.out, g.W.Sink.taken c.loop-edge.out)
+          (g.W.Sink.failures c.write_command.new.out, g.W.Sink.taken c.write_command.new.out)
+          so_far.0 line so_far.2 c.in_ok-write_command.ensures,
     )
