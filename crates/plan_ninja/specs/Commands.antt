@@ -1,7 +1,6 @@
 -- What `commands FILE` does.
-use Rattle.std.specs.Prelude.{◌≡◌, ◌+◌, ◌⊎◌, ℕ, List, Option, None, Result, Ok, Err}
-use Rattle.std.specs.Io.KnownBytes.{Appends}
-use Rattle.plan_text.specs.Sinks.{AppendsFront}
+use Rattle.std.specs.Prelude.{◌≡◌, ◌+◌, ◌⊎◌, ℕ, List, Option, None, Result, Ok, Err, Bool, true, false}
+use Rattle.plan_text.specs.Sinks.{Writes}
 use Rattle.plan_scope.specs.Trees.{Line}
 use Rattle.plan_scope.specs.Scopes.{Text}
 use Rattle.plan_scope.specs.Loading.{IsMissing, LoadsFirst}
@@ -23,14 +22,14 @@ HasGraph m = (first_fault m ≡ None) × (ranks : List ℕ) × AreRanks (all_wai
 abbrev pub MayLoad : Type 1
 MayLoad = Text → Result (List Line) ScopeFault → Type 0
 
--- the sink took the commands of the manifest that some lines mean which may be loaded from the path, the text of each and a newline, in order; and the manifest has a graph
-pub record WritesAll (loads : MayLoad) (path : Text) (old new : Option (List ℕ)) : Type 0 where
+-- no write failed, and the sink took the commands of the manifest that some lines mean which may be loaded from the path, the text of each and a newline, in order; and the manifest has a graph
+pub record WritesAll (loads : MayLoad) (path : Text) (old new : ℕ × Option (List ℕ)) : Type 0 where
   pub lines : List Line
   pub manifest : Manifest
   pub loaded : loads path (Ok lines)
   pub means : manifest_of lines ≡ Ok manifest
   pub graph : HasGraph manifest
-  pub written : Appends old new (commands_of manifest)
+  pub written : Writes true old new (commands_of manifest)
 
 -- some lines that may be loaded from the path are refused, for this cause
 pub record RefusesLines (loads : MayLoad) (path : Text) (fault : PlanFault) : Type 0 where
@@ -73,14 +72,13 @@ abbrev pub IsMeant : MayLoad → Text → Manifest → Type 0
 IsMeant loads path manifest = (lines : List Line) × loads path (Ok lines) × (manifest_of lines ≡ Ok manifest)
 
 -- a write failed, behind a front of the commands of the manifest that some lines mean which may be loaded from the path; and the manifest has a graph
-pub record FailsToWrite (loads : MayLoad) (path : Text) (old new : Option (List ℕ)) (before now : ℕ) (fault : PlanFault) : Type 0 where
+pub record FailsToWrite (loads : MayLoad) (path : Text) (old new : ℕ × Option (List ℕ)) (fault : PlanFault) : Type 0 where
   pub lines : List Line
   pub manifest : Manifest
   pub loaded : loads path (Ok lines)
   pub means : manifest_of lines ≡ Ok manifest
   pub graph : HasGraph manifest
-  pub front : AppendsFront old new (commands_of manifest)
-  pub failed : now ≡ before + 1
+  pub failed : Writes false old new (commands_of manifest)
   pub says : fault ≡ output_failed
 
 -- what may be loaded by what a source may give and which of its reads may fail, where its count of failed reads was this before and is that now

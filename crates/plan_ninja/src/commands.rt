@@ -47,12 +47,11 @@ pub fn do_commands<S: Source, W: Sink>(
     path: &[u8],
     out: &mut W,
 ) -> Result<u8, PlanFault>
-    ensures done { IfOk result (λ status. (status ≡ 0) × WritesAll (loading_by (S.gives source.old) (S.fails source.old) (S.failures source.old) (S.failures source.new)) path.now (W.taken out.old) (W.taken out.new)) }
-    ensures kept { OnOk result (W.failures out.new ≡ W.failures out.old) }
+    ensures done { IfOk result (λ status. (status ≡ 0) × WritesAll (loading_by (S.gives source.old) (S.fails source.old) (S.failures source.old) (S.failures source.new)) path.now (W.failures out.old, W.taken out.old) (W.failures out.new, W.taken out.new)) }
     ensures read { OnOk result (S.failures source.new ≡ S.failures source.old) }
     ensures refused { IfErr result (λ fault.
         ((out.new ≡ out.old) × IsRefused (loading_by (S.gives source.old) (S.fails source.old) (S.failures source.old) (S.failures source.new)) path.now fault)
-        ⊎ FailsToWrite (loading_by (S.gives source.old) (S.fails source.old) (S.failures source.old) (S.failures source.new)) path.now (W.taken out.old) (W.taken out.new) (W.failures out.old) (W.failures out.new) fault) }
+        ⊎ FailsToWrite (loading_by (S.gives source.old) (S.fails source.old) (S.failures source.old) (S.failures source.new)) path.now (W.failures out.old, W.taken out.old) (W.failures out.new, W.taken out.new) fault) }
 {
     let manifest = manifest_at(alloc, source, path)?;
     check_graph(alloc, &manifest)?;
