@@ -22,6 +22,11 @@ kit:
 	@command -v rt > /dev/null || { echo "the Rattle kit's command rt is not on the PATH: README.md, 'What it needs', says what it is and which version" >&2; exit 1; }
 	@command -v python3 > /dev/null || { echo "python3 is not on the PATH: the tests and this project's scripts need Python 3" >&2; exit 1; }
 
+# The program, as `make` left it.
+.PHONY: built
+built: kit
+	@test -x $(PROGRAM) || { echo "$(PROGRAM) is not there: make proves and builds it" >&2; exit 1; }
+
 # Builds the proved program.
 .PHONY: all
 all: kit
@@ -56,7 +61,7 @@ edits: kit
 
 # Compares the commands of many trees of CMake and Meson with ninja's, upstream projects among them (from Debian's mirror); `make` first.
 .PHONY: real
-real:
+real: built
 	python3 tests/real/real.py $(PROGRAM)
 
 .PHONY: install
@@ -66,7 +71,7 @@ install: all
 
 # Times the program beside ninja and make, and on hostile manifests; `make` first.
 .PHONY: bench
-bench:
+bench: built
 	python3 bench/run.py $(PROGRAM)
 	python3 bench/hostile.py $(PROGRAM)
 
