@@ -12,6 +12,7 @@ pub mod ListLemmas
 pub mod NameLemmas
 pub mod DepthLemmas
 pub mod LoadLemmas
+pub mod TreeLemmas
 pub mod Evaluated
 pub mod WritingLemmas
 pub mod SoundLemmas

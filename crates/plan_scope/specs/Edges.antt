@@ -1,6 +1,6 @@
 -- What the lines of a tree mean, each by the lines above it and by all of them.
-use Rattle.std.specs.Prelude.{ℕ, ◌*◌, ◌+◌, ◌-◌, Bool, true, false, not, ◌||◌, ◌&&◌, List, [], ◌∷◌, ◌++◌, length, map, Option, Some, None, Result, Ok, Err, bytes_eq, nat_le, if◌then◌else◌, unwrap_or, flat_map, codes, is_none, is_some}
-use Rattle.std.specs.List.{list_any, list_all}
+use Rattle.std.specs.Prelude.{ℕ, Bool, true, false, not, ◌||◌, ◌&&◌, List, [], ◌∷◌, ◌++◌, length, map, Option, Some, None, Result, Ok, Err, bytes_eq, nat_le, if◌then◌else◌, unwrap_or, flat_map, codes, is_none, is_some}
+use Rattle.std.specs.List.{list_any}
 use Rattle.plan_text.specs.Bytes.{line_feed}
 use Rattle.plan_text.specs.Numerals.{number_in}
 use Rattle.plan_text.specs.Path.{canonical_of}

@@ -1,7 +1,9 @@
 //! What holds of all manifests.
 
-ghost use Rattle.plan_scope.specs.Laws.{ManifestsAreSound};
+ghost use Rattle.plan_scope.specs.Laws.{LoadedManifestsAreSound, ManifestsAreSound, TreesAreWhole};
 
+use crate::source::Source;
+use plan_parse::statements_are_whole;
 use plan_text::canonical_stays;
 
 /// A manifest is sound where each build line has an output: so is each edge, its paths are canonical and within their limit, its texts within theirs, its pool is declared, and a phony runs nothing; pools differ in their names, and their depths are within their limit.
@@ -9,4 +11,19 @@ pub fn manifests_are_sound()
     ensures { ManifestsAreSound }
 {
     canonical_stays();
+}
+
+/// Each build line of a tree that is loaded from a source has an output, in whatever state the source is.
+pub fn trees_are_whole<S: Source>()
+    ensures { (source : S) → TreesAreWhole (S.gives source) (S.fails source) }
+{
+    statements_are_whole();
+}
+
+/// What the lines of a tree mean that is loaded from a source is sound.
+pub fn loaded_manifests_are_sound<S: Source>()
+    ensures { (source : S) → LoadedManifestsAreSound (S.gives source) (S.fails source) }
+{
+    trees_are_whole::<S>();
+    manifests_are_sound();
 }

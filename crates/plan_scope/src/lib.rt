@@ -29,7 +29,7 @@ mod writing;
 
 pub use evaluator::evaluate;
 pub use fault::{Cause, ScopeFault};
-pub use laws::manifests_are_sound;
+pub use laws::{loaded_manifests_are_sound, manifests_are_sound, trees_are_whole};
 pub use loader::load;
 pub use manifest::{DefaultTarget, Edge, Manifest, Pool};
 pub use source::{Source, SourceFault};

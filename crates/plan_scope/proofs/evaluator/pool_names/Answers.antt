@@ -1,5 +1,3 @@
-use Rattle.std.proofs.Common.{◌++◌, ◌∙◌, ap}
-use Rattle.plan_scope.specs.Edges.{is_among, pools_in}
 use Rattle.plan_scope.proofs.Evaluated.{pools_taken}
 use Rattle.plan_scope.proofs.evaluator.pool_names.Goals as goal
 

@@ -1,4 +1,4 @@
-use Rattle.std.proofs.Common.{◌++◌, List, ap, arith, length, subst}
+use Rattle.std.proofs.Common.{◌++◌, ap, arith, length, subst}
 use Rattle.plan_parse.specs.declared.statement.StatementKind.{StatementKind}
 use Rattle.plan_scope.specs.Scopes.{bound_by, bound_in}
 use Rattle.plan_scope.specs.Edges.{given_by, nothing}

@@ -2,7 +2,7 @@ use Rattle.std.proofs.Common.{◌≡◌, ◌∙◌, ℕ, ◌+◌, List, [], ◌�
 use Rattle.std.proofs.lemmas.Result.{on_ok_weaker}
 use Rattle.plan_text.specs.declared.piece_reader.Piece.{Piece}
 use Rattle.plan_parse.specs.declared.statement.StatementKind.{StatementKind}
-use Rattle.plan_scope.specs.Scopes.{Name, Text, Bindings, Scoped, bound_by, bound_in, expand, frame, in_own, last_of, look}
+use Rattle.plan_scope.specs.Scopes.{Name, Text, Bindings, Scoped, bound_by, expand, frame, in_own, last_of, look}
 use Rattle.plan_scope.specs.Edges.{built_by, builds_of, defaults_alone, edge_alone, given_by, is_among, late, mapped, nothing, paths_of, pool_alone, pool_by, pools_of, rules_of, targets_by}
 use Rattle.plan_scope.specs.Frames.{AgreesIn, SameIn}
 use Rattle.plan_scope.specs.Evaluation.{GivesMore, manifest_in}

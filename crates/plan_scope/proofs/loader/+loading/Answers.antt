@@ -1,4 +1,4 @@
-use Rattle.std.proofs.Common.{◌<◌, ◌++◌, ℕ, List, [], ◌∷◌, Option, Ok, Err, length, map, refl, ap, sym, subst, ◌∙◌, append_assoc, arith}
+use Rattle.std.proofs.Common.{◌<◌, ◌++◌, List, [], ◌∷◌, Option, Ok, Err, length, map, refl, ap, sym, subst, ◌∙◌, append_assoc, arith}
 use Rattle.plan_parse.specs.declared.fault.ParseFault.{ParseFault}
 use Rattle.std.proofs.lemmas.List.{map-append, map_push}
 use Rattle.plan_parse.specs.Compact.{said_in}

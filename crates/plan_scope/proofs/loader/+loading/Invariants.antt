@@ -1,4 +1,4 @@
-use Rattle.std.proofs.Common.{◌≡◌, ◌↔◌, ◌+◌, ◌*◌, ◌++◌, ℕ, List, Option, Ok, map}
+use Rattle.std.proofs.Common.{◌≡◌, ◌+◌, ◌*◌, ◌++◌, Ok, map}
 use Rattle.plan_parse.specs.Compact.{said_in}
 use Rattle.plan_scope.specs.Loading.{LoadsAll}
 use Rattle.plan_scope.specs.Sources.{SameFiles}

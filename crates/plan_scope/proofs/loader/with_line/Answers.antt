@@ -1,5 +1,4 @@
 use Rattle.std.proofs.Common.{ap, max, refl, sym, ◌∙◌}
-use Rattle.plan_scope.specs.Trees.{Line}
 use Rattle.plan_scope.specs.Scopes.{bound_by}
 use Rattle.plan_scope.specs.Loading.{greatest_scope, own_scope}
 use Rattle.plan_scope.proofs.LoadLemmas.{greatest_more, pushed_bound}
