@@ -119,6 +119,93 @@ fn has_path(alloc: Global, number: usize, path: &[u8]) -> bool {
     }
 }
 
+/// Two edges: the first names a path twice, and one that the second makes.
+const TWO: &[u8] = b"rule r\n  command = true\nbuild b | c: r a a || d\nbuild d: r e | a\n";
+
+/// Whether the two edges have these rows of outputs, of inputs and of waits, and an empty one past each end.
+fn has_rows(alloc: Global, outputs: &[&[usize]], inputs: &[&[usize]], waits: &[&[usize]]) -> bool {
+    let Some(manifest) = manifest_of(alloc, TWO) else {
+        return false;
+    };
+    match graph(alloc, &manifest) {
+        Ok(graph) => {
+            are_rows(&graph.outputs, outputs)
+                && are_rows(&graph.inputs, inputs)
+                && are_rows(&graph.waits, waits)
+                && graph.outputs.row(2).is_empty()
+                && graph.inputs.row(2).is_empty()
+                && graph.waits.row(2).is_empty()
+        }
+        Err(_) => false,
+    }
+}
+
+/// The number of a path of the two edges.
+fn number(alloc: Global, path: &[u8]) -> Option<usize> {
+    let manifest = manifest_of(alloc, TWO)?;
+    match graph(alloc, &manifest) {
+        Ok(graph) => graph.files.number(path),
+        Err(_) => None,
+    }
+}
+
+/// The edge that makes the path of a number, of the two edges.
+fn maker_at(alloc: Global, number: usize) -> Option<usize> {
+    let manifest = manifest_of(alloc, TWO)?;
+    match graph(alloc, &manifest) {
+        Ok(graph) => graph.files.maker_at(number),
+        Err(_) => None,
+    }
+}
+
+/// How many paths the edges of a text name.
+fn path_count(alloc: Global, text: &'static [u8]) -> Option<usize> {
+    let manifest = manifest_of(alloc, text)?;
+    match graph(alloc, &manifest) {
+        Ok(graph) => Some(graph.files.len()),
+        Err(_) => None,
+    }
+}
+
+#[test]
+fn rows_of_numbers(rt: HostRuntime) -> Result<(), Fail> {
+    assert!(rt;
+        has_rows(
+            rt.alloc(),
+            &[&[0, 1], &[3]],
+            &[&[2, 2, 3], &[4, 2]],
+            &[&[1], &[]]
+        )
+    );
+    Ok(())
+}
+
+#[test]
+fn numbers_of_paths(rt: HostRuntime) -> Result<(), Fail> {
+    assert!(rt; number(rt.alloc(), b"b") == Some(0));
+    assert!(rt; number(rt.alloc(), b"d") == Some(3));
+    assert!(rt; number(rt.alloc(), b"e") == Some(4));
+    assert!(rt; number(rt.alloc(), b"x").is_none());
+    Ok(())
+}
+
+#[test]
+fn makers_by_number(rt: HostRuntime) -> Result<(), Fail> {
+    assert!(rt; maker_at(rt.alloc(), 1) == Some(0));
+    assert!(rt; maker_at(rt.alloc(), 2).is_none());
+    assert!(rt; maker_at(rt.alloc(), 3) == Some(1));
+    assert!(rt; maker_at(rt.alloc(), 5).is_none());
+    Ok(())
+}
+
+#[test]
+fn paths_counted(rt: HostRuntime) -> Result<(), Fail> {
+    assert!(rt; path_count(rt.alloc(), TWO) == Some(5));
+    assert!(rt; path_count(rt.alloc(), THREE) == Some(3));
+    assert!(rt; path_count(rt.alloc(), b"rule r\n  command = true\n") == Some(0));
+    Ok(())
+}
+
 #[test]
 fn paths_in_order(rt: HostRuntime) -> Result<(), Fail> {
     assert!(rt; has_path(rt.alloc(), 0, b"c"));
