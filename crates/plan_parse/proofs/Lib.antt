@@ -1,5 +1,6 @@
 mod Rows
 pub mod ReadingLemmas
+mod PlainTable
 pub mod BlockLemmas
 pub mod ProgressLemmas
 pub mod CompactLemmas

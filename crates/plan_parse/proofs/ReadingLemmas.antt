@@ -1,17 +1,24 @@
 -- Reading paths from left to right.
-use Rattle.std.proofs.Common.{◌≡◌, ℕ, zero, suc, ◌+◌, ◌-◌, ◌<◌, ◌≤◌, List, [], ◌∷◌, ◌++◌, length, drop, Result, Ok, Err, refl, sym, ap, ◌∙◌, append_assoc, arith, add-zero, eqb, ◌==◌, Bool, true, false, not, ◌||◌, cond, unwrap_or}
+use Rattle.std.proofs.Common.{◌≡◌, ℕ, zero, suc, ◌+◌, ◌-◌, ◌<◌, ◌≤◌, List, [], ◌∷◌, ◌++◌, length, take, get_or, drop, Result, Ok, Err, refl, sym, ap, ◌∙◌, append_assoc, arith, add-zero, eqb, ◌==◌, Bool, true, false, not, ◌||◌, cond, unwrap_or}
 use Rattle.std.specs.Prelude.{nat_lt}
 use Rattle.std.specs.List.{prefix_len}
 use Rattle.std.proofs.lemmas.List.{append-nil}
 use Rattle.std.proofs.lemmas.Bool.Decides.{nat_tests}
 use Rattle.plan_text.specs.Outcome.{◌>>=◌}
 use Rattle.plan_text.specs.Lines.{gap_unit, gap_len}
-use Rattle.plan_text.specs.Bytes.{dollar}
-use Rattle.plan_text.specs.Pieces.{escape_size}
+use Rattle.plan_text.specs.Bytes.{dollar, nul, tab}
+use Rattle.plan_text.specs.Gathering.{is_special}
+use Rattle.plan_text.specs.declared.piece_reader.Mode.TheVariants as mode
+use Rattle.plan_text.proofs.PieceLemmas.{plain_pieces}
+use Rattle.plan_text.proofs.RunLemmas.{run_end}
+use Rattle.std.proofs.lemmas.List.{get_or-take, length-take-le}
+use Rattle.std.proofs.lemmas.List.Sums.{prefix_len_passes}
+use Rattle.plan_parse.specs.PlainPaths.{is_plain}
+use Rattle.plan_text.specs.Pieces.{escape_size, whole}
 use Rattle.plan_text.specs.Runs.{and_more, run_past, run}
 use Rattle.plan_text.specs.declared.piece_reader.Piece.{Piece}
 use Rattle.plan_parse.specs.declared.fault.ParseFault.{ParseFault}
-use Rattle.plan_parse.specs.Reading.{Place, past, past_gap, ends_path, path_unit, path_len, path_at, path_onto, paths_past, paths_at}
+use Rattle.plan_parse.specs.Reading.{Place, past, past_gap, ends_path, path_unit, path_len, path_at, lifted, path_onto, paths_past, paths_at}
 
 -- paths that were read, in front of those that follow
 abbrev pub with_front : List (List Piece) → Result (List (List Piece) × Place) ParseFault → Result (List (List Piece) × Place) ParseFault
@@ -59,18 +66,43 @@ path_unit_go size false false h = refl
 path_unit_go size false true h = absurd cc
 path_unit_go size true d h = absurd cc
 
-plain_go : (b : ℕ) (rest : List ℕ) (n : ℕ) (v : Bool) → not (ends_path b || b == dollar) ≡ v → path_len rest ≡ n + path_len (drop n rest) → path_len (b ∷ rest) ≡ cond v (1 + n) 0 + path_len (drop (cond v (1 + n) 0) (b ∷ rest))
+plain_unit : (d e n t : Bool) → not (e || (d || n || t)) ≡ true → not (e || d) ≡ true
+plain_unit false false n t h = refl
+plain_unit true false n t h = absurd cc
+plain_unit d true n t h = absurd cc
+
+plain_go : (b : ℕ) (rest : List ℕ) (n : ℕ) (v : Bool) → is_plain b ≡ v → path_len rest ≡ n + path_len (drop n rest) → path_len (b ∷ rest) ≡ cond v (1 + n) 0 + path_len (drop (cond v (1 + n) 0) (b ∷ rest))
 plain_go b rest n false e more = omega arith
 plain_go b rest n true e more =
-    let one : path_len (b ∷ rest) ≡ suc (path_len rest) = ap (λ (k : ℕ). and_more k (λ n. run_past path_unit rest n)) (path_unit_go (suc (unwrap_or (escape_size rest) 0)) (ends_path b) (b == dollar) e) in
+    let one : path_len (b ∷ rest) ≡ suc (path_len rest) = ap (λ (k : ℕ). and_more k (λ n. run_past path_unit rest n)) (path_unit_go (suc (unwrap_or (escape_size rest) 0)) (ends_path b) (b == dollar) (plain_unit (b == dollar) (ends_path b) (b == nul) (b == tab) e)) in
     let next : 1 + n ≡ suc n = omega arith in
     let left : path_len (drop (1 + n) (b ∷ rest)) ≡ path_len (drop n rest) = ap (λ (k : ℕ). path_len (drop k (b ∷ rest))) next in
     omega (arith, one, more, left)
 
--- bytes of a path that begin no escape
-pub path_plain : (text : List ℕ) → path_len text ≡ prefix_len (λ b. not (ends_path b || b == dollar)) text + path_len (drop (prefix_len (λ b. not (ends_path b || b == dollar)) text) text)
+-- bytes of a path that stand for themselves
+pub path_plain : (text : List ℕ) → path_len text ≡ prefix_len is_plain text + path_len (drop (prefix_len is_plain text) text)
 path_plain [] = refl
-path_plain (b ∷ rest) = plain_go b rest (prefix_len (λ b. not (ends_path b || b == dollar)) rest) (not (ends_path b || b == dollar)) refl (path_plain rest)
+path_plain (b ∷ rest) = plain_go b rest (prefix_len is_plain rest) (is_plain b) refl (path_plain rest)
+
+-- a path of bytes that stand for themselves
+pub path_ends : (text : List ℕ) → path_unit (drop (prefix_len is_plain text) text) ≡ 0 → prefix_len is_plain text ≡ path_len text
+path_ends text e =
+    let none = run_end path_unit (drop (prefix_len is_plain text) text) e in
+    let all = path_plain text in
+    omega (arith, none, all)
+
+not_special : (e s : Bool) → not (e || s) ≡ true → s ≡ false
+not_special false false h = refl
+not_special false true h = absurd cc
+not_special true s h = absurd cc
+
+-- and its pieces
+pub path_literal : (p : Place) (n : ℕ) → n ≤ length p.bytes → n ≤ prefix_len is_plain p.bytes → path_at p n ≡ Ok (whole (take n p.bytes))
+path_literal p n within plain =
+    ap lifted (plain_pieces mode.Path p.at (take n p.bytes) (λ k l.
+    let less : k < n = omega (arith, l, length-take-le n p.bytes within) in
+    ap (is_special mode.Path) (get_or-take n p.bytes k 0 less)
+    ∙ not_special (ends_path (get_or p.bytes k 0)) (is_special mode.Path (get_or p.bytes k 0)) (prefix_len_passes is_plain p.bytes k 0 (omega (arith, less, plain)))))
 
 some_test : (n : ℕ) → 0 < n → nat_lt 0 n ≡ true
 some_test n h = grind (arith, nat_tests)

@@ -4,6 +4,7 @@ pub mod Blocks
 pub mod Statements
 pub mod Views
 pub mod Members
+pub mod PlainPaths
 pub mod Compact
 pub mod Progress
 pub mod Laws

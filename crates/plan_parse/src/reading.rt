@@ -1,10 +1,10 @@
 //! Reading a line from left to right.
 
-ghost use Rattle.std.specs.Prelude.{◌≡◌, ◌==◌, ◌≤◌, ◌||◌, not, [], ◌∷◌, ◌++◌, length, OnOk};
+ghost use Rattle.std.specs.Prelude.{◌≡◌, ◌≤◌, true, [], ◌∷◌, ◌++◌, length, OnOk};
 ghost use Rattle.std.specs.List.{prefix_len};
-ghost use Rattle.plan_text.specs.Bytes.{dollar};
 ghost use Rattle.plan_text.specs.Outcome.{Meets, seen_by};
 ghost use Rattle.plan_parse.specs.Reading as syntax;
+ghost use Rattle.plan_parse.specs.PlainPaths.{is_plain};
 ghost use Rattle.plan_parse.specs.Statements as statements;
 ghost use Rattle.plan_parse.specs.Views.{place_of};
 
@@ -127,14 +127,40 @@ pub fn bound_at(alloc: Global, p: Cursor<'_>) -> Result<Binding, ParseFault>
     Ok(Binding { name, value })
 }
 
-/// How many bytes a text begins with that neither end a path nor begin an escape.
+/// The bytes that stand for themselves in a path: all but a space, `:`, `|`, `$`, NUL and tab.
+const PLAIN: [bool; 256] = [
+    false, true, true, true, true, true, true, true, true, false, true, true, true, true, true,
+    true, true, true, true, true, true, true, true, true, true, true, true, true, true, true, true,
+    true, false, true, true, true, false, true, true, true, true, true, true, true, true, true,
+    true, true, true, true, true, true, true, true, true, true, true, true, false, true, true,
+    true, true, true, true, true, true, true, true, true, true, true, true, true, true, true, true,
+    true, true, true, true, true, true, true, true, true, true, true, true, true, true, true, true,
+    true, true, true, true, true, true, true, true, true, true, true, true, true, true, true, true,
+    true, true, true, true, true, true, true, true, true, true, true, true, true, true, true,
+    false, true, true, true, true, true, true, true, true, true, true, true, true, true, true,
+    true, true, true, true, true, true, true, true, true, true, true, true, true, true, true, true,
+    true, true, true, true, true, true, true, true, true, true, true, true, true, true, true, true,
+    true, true, true, true, true, true, true, true, true, true, true, true, true, true, true, true,
+    true, true, true, true, true, true, true, true, true, true, true, true, true, true, true, true,
+    true, true, true, true, true, true, true, true, true, true, true, true, true, true, true, true,
+    true, true, true, true, true, true, true, true, true, true, true, true, true, true, true, true,
+    true, true, true, true, true, true, true, true, true, true, true, true, true, true, true, true,
+    true, true, true, true, true,
+];
+
+/// Whether a byte belongs to a path and stands for itself.
+fn is_plain(byte: u8) -> bool
+    ensures { result ≡ is_plain byte }
+{
+    PLAIN[usize::from(byte)]
+}
+
+/// How many bytes a text begins with that belong to a path and stand for themselves.
 fn plain_len(text: &[u8]) -> usize
-    ensures len { result ≡ prefix_len (λ b. not (syntax.ends_path b || b == dollar)) text.now }
+    ensures len { result ≡ prefix_len is_plain text.now }
     ensures within { result ≤ length text.now }
 {
-    text.iter()
-        .take_while(|b| !matches!(**b, b' ' | b':' | b'|' | b'$'))
-        .count()
+    text.iter().take_while(|b| is_plain(**b)).count()
 }
 
 /// A byte of a path, or a `$` with its escape.
@@ -156,20 +182,43 @@ impl Unit for PathUnit {
     }
 }
 
+/// How long a path is, and whether it is known that each of its bytes stands for itself.
+#[derive(Clone, Copy)]
+struct Extent {
+    len: usize,
+    is_plain: bool,
+}
+
 /// How long the path is that a text begins with.
-fn path_len(text: &[u8]) -> usize
-    ensures len { result ≡ syntax.path_len text.now }
-    ensures within { result ≤ length text.now }
+fn path_extent(text: &[u8]) -> Extent
+    ensures len { result.len ≡ syntax.path_len text.now }
+    ensures within { result.len ≤ length text.now }
+    ensures plain { result.is_plain ≡ true → result.len ≤ prefix_len is_plain text.now }
 {
-    run_len::<PathUnit>(text)
+    let plain = plain_len(text);
+    if PathUnit::unit_len(&text[plain..]) == 0 {
+        return Extent {
+            len: plain,
+            is_plain: true,
+        };
+    }
+    Extent {
+        len: run_len::<PathUnit>(text),
+        is_plain: false,
+    }
 }
 
 /// The path that takes so many bytes.
-fn path_at(alloc: Global, p: Cursor<'_>, len: usize) -> Result<PieceList, ParseFault>
-    requires { len ≤ length p.bytes.now }
-    ensures { Meets ParseFault.Memory (λ v. v) result (syntax.path_at (place_of p.entry) len) }
+fn path_at(alloc: Global, p: Cursor<'_>, extent: Extent) -> Result<PieceList, ParseFault>
+    requires within { extent.len ≤ length p.bytes.now }
+    requires plain { extent.is_plain ≡ true → extent.len ≤ prefix_len is_plain p.bytes.now }
+    ensures { Meets ParseFault.Memory (λ v. v) result (syntax.path_at (place_of p.entry) extent.len) }
 {
-    match pieces_at(alloc, &p.bytes[..len], p.at, Mode::Path) {
+    let path = &p.bytes[..extent.len];
+    if extent.is_plain {
+        return Ok(PieceList::literal(alloc, path)?);
+    }
+    match pieces_at(alloc, path, p.at, Mode::Path) {
         Ok(path) => Ok(path),
         Err(fault) => Err(of_text(fault)),
     }
@@ -193,13 +242,13 @@ fn paths_at(alloc: Global, p: Cursor<'_>) -> Result<(Paths, Cursor<'_>), ParseFa
     let mut paths = Vec::new(alloc);
     let mut rest = past_gap(p);
     loop {
-        let len = path_len(rest.bytes);
-        if len == 0 {
+        let extent = path_extent(rest.bytes);
+        if extent.len == 0 {
             paths.shrink_to_fit();
             return Ok((paths, rest));
         }
-        add_path(&mut paths, path_at(alloc, rest, len)?)?;
-        rest = past_gap(past(rest, len));
+        add_path(&mut paths, path_at(alloc, rest, extent)?)?;
+        rest = past_gap(past(rest, extent.len));
     }
 }
 
@@ -303,11 +352,11 @@ pub fn targets_at(alloc: Global, p: Cursor<'_>) -> Result<Paths, ParseFault>
 pub fn file_at(alloc: Global, p: Cursor<'_>) -> Result<PieceList, ParseFault>
     ensures { Meets ParseFault.Memory (λ v. v) result (statements.file_at (place_of p.entry)) }
 {
-    let len = path_len(p.bytes);
-    if len == 0 {
+    let extent = path_extent(p.bytes);
+    if extent.len == 0 {
         return Err(refusal(p, ParseFault::ExpectedPath(p.at as u64)));
     }
-    let path = path_at(alloc, p, len)?;
-    line_end_at(past_gap(past(p, len)))?;
+    let path = path_at(alloc, p, extent)?;
+    line_end_at(past_gap(past(p, extent.len)))?;
     Ok(path)
 }

@@ -2,6 +2,7 @@ mod Rows
 mod Walks
 pub mod ReducingLemmas
 pub mod PieceLemmas
+mod PlainTable
 pub mod RunLemmas
 pub mod LineLemmas
 pub mod SinkLemmas

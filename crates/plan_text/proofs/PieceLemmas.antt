@@ -131,6 +131,14 @@ passes_plain m base at n text rest old new all r h e done literal so_far =
     ∙ ap (with_front old) (sym (plain_past m (base + at) (drop at text) n within (λ k l. fails_before_first (is_special m) (drop at text) k 0 (omega (arith, first)))))
     ∙ so_far
 
+-- the pieces of a text of bytes that stand for themselves
+pub plain_pieces : (m : Mode) (at : ℕ) (text : List ℕ) → ((k : ℕ) → k < length text → is_special m (get_or text k 0) ≡ false) → pieces_past m at text 0 ≡ Ok (whole text)
+plain_pieces m at text plain =
+    plain_past m at text (length text) (omega arith) plain
+    ∙ ap (λ (v : List ℕ). bytes_all_onto v (pieces_past m (at + length text) (drop (length text) text) 0)) (take_all (length text) text (omega arith))
+    ∙ at_drop_all (λ (v : List ℕ). bytes_all_onto text (pieces_past m (at + length text) v 0)) text (length text) (omega arith)
+    ∙ ap (λ (v : List Piece). Ok v) (bytes_onto-end text)
+
 whole_text : (text : List ℕ) → 0 < length text → whole text ≡ Literal text ∷ []
 whole_text [] h = absurd (omega arith)
 whole_text (b ∷ rest) h = refl
@@ -138,10 +146,8 @@ whole_text (b ∷ rest) h = refl
 -- a text of bytes that stand for themselves
 pub all_plain : (m : Mode) (at : ℕ) (text : List ℕ) → 0 < length text → length text ≤ position_or_len (is_special m) text → pieces_past m at text 0 ≡ Ok (Literal text ∷ [])
 all_plain m at text some plain =
-    plain_past m at text (length text) (omega arith) (λ k l. fails_before_first (is_special m) text k 0 (omega (arith, plain)))
-    ∙ ap (λ (v : List ℕ). bytes_all_onto v (pieces_past m (at + length text) (drop (length text) text) 0)) (take_all (length text) text (omega arith))
-    ∙ at_drop_all (λ (v : List ℕ). bytes_all_onto text (pieces_past m (at + length text) v 0)) text (length text) (omega arith)
-    ∙ ap (λ (v : List Piece). Ok v) (bytes_onto-end text ∙ whole_text text some)
+    plain_pieces m at text (λ k l. fails_before_first (is_special m) text k 0 (omega (arith, plain)))
+    ∙ ap (λ (v : List Piece). Ok v) (whole_text text some)
 
 -- a fault at a place
 pub stops : (m : Mode) (base at : ℕ) (text : List ℕ) (fault : TextFault) (old : Gather) (all : Result (List Piece) TextFault) → at < length text

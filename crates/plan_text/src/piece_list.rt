@@ -1,9 +1,11 @@
 //! Lists of pieces.
 
-ghost use Rattle.std.specs.Prelude.{◌≡◌, ◌∷◌, []};
+ghost use Rattle.std.specs.Prelude.{◌≡◌, ◌∷◌, [], IfOk};
+ghost use Rattle.plan_text.specs.Pieces.{whole};
 
 use crate::piece_reader::Piece;
-use std::alloc::Global;
+use crate::small_text::SmallText;
+use std::alloc::{AllocError, Global};
 use std::marker::Model;
 
 /// Where pieces lie.
@@ -58,6 +60,17 @@ impl PieceList {
         PieceList {
             held: Held::One([piece]),
         }
+    }
+
+    /// The list of one literal of these bytes, without a piece where there is no byte.
+    pub fn literal(alloc: Global, bytes: &[u8]) -> Result<PieceList, AllocError>
+        ensures { IfOk result (λ pieces. pieces ≡ whole bytes.now) }
+    {
+        if bytes.is_empty() {
+            return Ok(PieceList::empty(alloc));
+        }
+        let literal = SmallText::new(alloc, bytes)?;
+        Ok(PieceList::one(Piece::Literal(literal)))
     }
 
     /// The pieces in their order, lent.

@@ -1,17 +1,18 @@
 //! The pieces of a path or a value.
 
-ghost use Rattle.std.specs.Prelude.{◌≡◌, ◌==◌, ◌<◌, ◌≤◌, ◌+◌, ◌^◌, ◌++◌, [], IfOk, IfSome, OnOk, map, length, drop, slice_index};
+ghost use Rattle.std.specs.Prelude.{◌≡◌, ◌==◌, ◌<◌, ◌≤◌, ◌+◌, ◌^◌, ◌++◌, [], IfOk, IfSome, OnOk, not, map, length, drop, slice_index};
 ghost use Rattle.std.specs.List.{prefix_len, position_or_len, take_while};
 ghost use Rattle.plan_text.specs.Bytes as bytes;
 ghost use Rattle.plan_text.specs.Pieces.{pieces_of, pieces_from, whole};
 ghost use Rattle.plan_text.specs.Pieces as syntax;
+ghost use Rattle.plan_text.specs.declared.piece_reader.Mode.TheVariants as mode;
 ghost use Rattle.plan_text.specs.Gathering.{seen, read, sign_of, is_special, Gathers, gathered};
 ghost use Rattle.plan_text.specs.Outcome.{Meets};
 
 use crate::fault::TextFault;
 use crate::piece_list::PieceList;
 use crate::small_text::SmallText;
-use memchr::{memchr2, memchr3};
+use memchr::memchr2;
 use std::alloc::{AllocError, Global};
 use std::mem;
 
@@ -145,13 +146,49 @@ fn sign_at(text: &[u8], base: usize, at: usize, mode: Mode) -> Result<(Found<'_>
     }
 }
 
+/// The bytes that stand for themselves in a path: all but `$`, NUL and tab.
+const PLAIN: [bool; 256] = [
+    false, true, true, true, true, true, true, true, true, false, true, true, true, true, true,
+    true, true, true, true, true, true, true, true, true, true, true, true, true, true, true, true,
+    true, true, true, true, true, false, true, true, true, true, true, true, true, true, true,
+    true, true, true, true, true, true, true, true, true, true, true, true, true, true, true, true,
+    true, true, true, true, true, true, true, true, true, true, true, true, true, true, true, true,
+    true, true, true, true, true, true, true, true, true, true, true, true, true, true, true, true,
+    true, true, true, true, true, true, true, true, true, true, true, true, true, true, true, true,
+    true, true, true, true, true, true, true, true, true, true, true, true, true, true, true, true,
+    true, true, true, true, true, true, true, true, true, true, true, true, true, true, true, true,
+    true, true, true, true, true, true, true, true, true, true, true, true, true, true, true, true,
+    true, true, true, true, true, true, true, true, true, true, true, true, true, true, true, true,
+    true, true, true, true, true, true, true, true, true, true, true, true, true, true, true, true,
+    true, true, true, true, true, true, true, true, true, true, true, true, true, true, true, true,
+    true, true, true, true, true, true, true, true, true, true, true, true, true, true, true, true,
+    true, true, true, true, true, true, true, true, true, true, true, true, true, true, true, true,
+    true, true, true, true, true, true, true, true, true, true, true, true, true, true, true, true,
+    true, true,
+];
+
+/// Whether a byte stands for itself in a path.
+fn is_plain(byte: u8) -> bool
+    ensures { result ≡ not (is_special mode.Path byte) }
+{
+    PLAIN[usize::from(byte)]
+}
+
+/// How many bytes a path begins with that stand for themselves. Paths are short: a look at each byte is sooner done than a search.
+fn plain_path_len(text: &[u8]) -> usize
+    ensures len { result ≡ position_or_len (is_special mode.Path) text.now }
+    ensures within { result ≤ length text.now }
+{
+    text.iter().take_while(|b| is_plain(**b)).count()
+}
+
 /// How many bytes a text begins with that stand for themselves.
 fn plain_len(text: &[u8], mode: Mode) -> usize
     ensures len { result ≡ position_or_len (is_special mode) text.now }
     ensures within { result ≤ length text.now }
 {
     match mode {
-        Mode::Path => memchr3(b'$', 0, b'\t', text).unwrap_or(text.len()),
+        Mode::Path => plain_path_len(text),
         Mode::Value => memchr2(b'$', 0, text).unwrap_or(text.len()),
     }
 }
