@@ -182,6 +182,13 @@ impl Unit for PathUnit {
     }
 }
 
+/// Whether a path ends where this text begins.
+fn ends_path(text: &[u8]) -> bool
+    ensures { result ≡ true → syntax.path_unit text.now ≡ 0 }
+{
+    matches!(text, [] | [b' ' | b':' | b'|', ..])
+}
+
 /// How long a path is, and whether it is known that each of its bytes stands for itself.
 #[derive(Clone, Copy)]
 struct Extent {
@@ -196,7 +203,7 @@ fn path_extent(text: &[u8]) -> Extent
     ensures plain { result.is_plain ≡ true → result.len ≤ prefix_len is_plain text.now }
 {
     let plain = plain_len(text);
-    if PathUnit::unit_len(&text[plain..]) == 0 {
+    if ends_path(&text[plain..]) {
         return Extent {
             len: plain,
             is_plain: true,

@@ -29,6 +29,7 @@ pub fn is_long(text: &[u8]) -> bool
 }
 
 /// Appends a text. Of a text that is too long no more is kept than shows it: one byte more than is allowed.
+#[inline(always)]
 pub fn append(out: &mut Vec<u8>, text: &[u8]) -> Result<(), AllocError>
     ensures appended { OnOk result (kept out.new.items ≡ kept (out.old.items ++ text.now)) }
     ensures within { OnOk result (length out.old.items ≤ max_text + 1 → length out.new.items ≤ max_text + 1) }

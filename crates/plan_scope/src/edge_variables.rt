@@ -27,11 +27,11 @@ fn is_unbound<'a>(edge: &Use<'a>, name: &[u8]) -> bool
     if edge.file.bound.may_have(name) {
         return false;
     }
-    match edge.block.get(name) {
+    match edge.rule.get(name) {
         Some(_) => return false,
         None => {}
     }
-    match edge.rule.get(name) {
+    match edge.block.get(name) {
         Some(_) => false,
         None => true,
     }

@@ -31,9 +31,7 @@ const FIRST_SCOPE: usize = 0;
 pub fn copied(alloc: Global, text: &[u8]) -> Result<Items<u8>, AllocError>
     ensures { IfOk result (λ copy. copy ≡ text.now) }
 {
-    let mut copy = Vec::new(alloc);
-    copy.extend_from_slice(text)?;
-    Ok(Items::new(copy))
+    Ok(Items::new(Vec::from_slice(alloc, text)?))
 }
 
 /// The fault of a line.

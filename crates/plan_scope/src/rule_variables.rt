@@ -71,6 +71,7 @@ impl<'a> RuleVariables<'a> {
     }
 
     /// The pieces of a variable.
+    #[inline(always)]
     pub fn get(&self, name: &[u8]) -> Option<&'a [Piece]>
         ensures { option_map (λ p. p.now) result ≡ last_of name.now self.now }
     {
