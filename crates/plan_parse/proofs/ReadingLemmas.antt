@@ -9,7 +9,7 @@ use Rattle.plan_text.specs.Lines.{gap_unit, gap_len}
 use Rattle.plan_text.specs.Bytes.{dollar, nul, tab}
 use Rattle.plan_text.specs.Gathering.{is_special}
 use Rattle.plan_text.specs.declared.piece_reader.Mode.TheVariants as mode
-use Rattle.plan_text.proofs.PieceLemmas.{plain_pieces}
+use Rattle.plan_text.specs.Laws.{PlainIsRead}
 use Rattle.plan_text.proofs.RunLemmas.{run_end}
 use Rattle.std.proofs.lemmas.List.{get_or-take, length-take-le}
 use Rattle.std.proofs.lemmas.List.Sums.{prefix_len_passes}
@@ -97,9 +97,9 @@ not_special false true h = absurd cc
 not_special true s h = absurd cc
 
 -- and its pieces
-pub path_literal : (p : Place) (n : ℕ) → n ≤ length p.bytes → n ≤ prefix_len is_plain p.bytes → path_at p n ≡ Ok (whole (take n p.bytes))
-path_literal p n within plain =
-    ap lifted (plain_pieces mode.Path p.at (take n p.bytes) (λ k l.
+pub path_literal : PlainIsRead → (p : Place) (n : ℕ) → n ≤ length p.bytes → n ≤ prefix_len is_plain p.bytes → path_at p n ≡ Ok (whole (take n p.bytes))
+path_literal law p n within plain =
+    ap lifted (law mode.Path p.at (take n p.bytes) (λ k l.
     let less : k < n = omega (arith, l, length-take-le n p.bytes within) in
     ap (is_special mode.Path) (get_or-take n p.bytes k 0 less)
     ∙ not_special (ends_path (get_or p.bytes k 0)) (is_special mode.Path (get_or p.bytes k 0)) (prefix_len_passes is_plain p.bytes k 0 (omega (arith, less, plain)))))

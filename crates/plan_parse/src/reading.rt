@@ -13,7 +13,7 @@ use crate::fault::ParseFault;
 use crate::statement::Binding;
 use plan_text::{
     Mode, PieceList, SmallText, TextFault, Unit, begins, escape_len, gap_len, name_len, pieces_at,
-    run_len,
+    plain_is_read, run_len,
 };
 use std::alloc::{AllocError, Global};
 
@@ -222,6 +222,7 @@ fn path_at(alloc: Global, p: Cursor<'_>, extent: Extent) -> Result<PieceList, Pa
     ensures { Meets ParseFault.Memory (λ v. v) result (syntax.path_at (place_of p.entry) extent.len) }
 {
     let path = &p.bytes[..extent.len];
+    plain_is_read();
     if extent.is_plain {
         return Ok(PieceList::literal(alloc, path)?);
     }

@@ -1,6 +1,6 @@
 //! What holds of all texts.
 
-ghost use Rattle.plan_text.specs.Laws.{CanonicalStays, EscapedIsRead, FailedWriteStays, LinesCover, LinesJoin, WritesJoin};
+ghost use Rattle.plan_text.specs.Laws.{CanonicalStays, EscapedIsRead, FailedWriteStays, LinesCover, LinesJoin, PlainIsRead, WritesJoin};
 
 /// A canonical path is canonical itself, has a byte, and is no longer than the path that it was made of.
 pub fn canonical_stays()
@@ -27,4 +27,9 @@ pub fn escaped_is_read()
 /// Behind a text each of whose logical lines is ended by a newline, the logical lines of another text stay what they are.
 pub fn lines_join()
     ensures { LinesJoin }
+{}
+
+/// Bytes that all stand for themselves are one piece.
+pub fn plain_is_read()
+    ensures { PlainIsRead }
 {}

@@ -40,7 +40,9 @@ pub use counted::Counted;
 pub use fault::TextFault;
 pub use items::Items;
 pub use lack::Memory;
-pub use laws::{canonical_stays, escaped_is_read, lines_cover, lines_join, writes_join};
+pub use laws::{
+    canonical_stays, escaped_is_read, lines_cover, lines_join, plain_is_read, writes_join,
+};
 pub use limits::{MAX_PATH, MAX_SOURCE, MAX_TEXT};
 pub use line_reader::{Line, gap_len, indent_len, lines, logical_len, newline_len, split_line};
 pub use numerals::number_in;
