@@ -1,6 +1,6 @@
 //! The paths that build lines name.
 
-ghost use Rattle.std.specs.Prelude.{◌≡◌, ◌<◌, [], IfOk, IfSome, List, OnOk, Option, Some, None, if◌then◌else◌, length, option_map, slice_get};
+ghost use Rattle.std.specs.Prelude.{◌≡◌, ◌<◌, [], IfOk, OnOk, Option, Some, None, if◌then◌else◌, length, option_map, slice_get};
 ghost use Rattle.plan_scope.specs.Edges.{is_among};
 ghost use Rattle.plan_graph.specs.Files.{Path, file_at, file_of, maker_at, maker_in, number_of, paths_in, with_file};
 
