@@ -1,6 +1,5 @@
 -- Statements as they are kept beside their text.
-use Rattle.std.specs.Prelude.{◌≡◌, ℕ, ◌+◌, ◌≤◌, List, [], length, take, drop, Option, Some, None, Result, Ok, Err}
-use Rattle.plan_parse.specs.declared.cursor.Cursor.{Cursor}
+use Rattle.std.specs.Prelude.{◌≡◌, ℕ, List, [], length, take, drop, Result, Ok, Err}
 use Rattle.plan_parse.specs.declared.fault.ParseFault.{ParseFault}
 use Rattle.plan_parse.specs.declared.span.Span.{Span}
 use Rattle.plan_parse.specs.declared.statement.Binding.{Binding}
@@ -11,7 +10,6 @@ use Rattle.plan_parse.specs.declared.compact.CompactStatement.{CompactStatement}
 use Rattle.plan_parse.specs.declared.compact.CompactStatement.TheVariants as kept
 use Rattle.plan_parse.specs.Reading.{Place}
 use Rattle.plan_parse.specs.Statements.{bound_at}
-use Rattle.plan_parse.specs.Views.{place_of}
 
 -- a line of a text
 abbrev pub line_in : List ℕ → Span → Place
