@@ -10,7 +10,7 @@ help:
 	@echo "make          proves and builds the program ($(PROGRAM)); from nothing about 10 minutes on 4 cores"
 	@echo "make demo     runs the program, not yet proved, on examples/demo/build.ninja; from nothing about a minute"
 	@echo "make check    the whole gate: proofs, tests, must-fail edits, rows, comparisons with ninja; docs/PROOF_NOTES.md has its time"
-	@echo "make edits    tries all must-fail edits, those that the gate leaves out too; CRATES=.. for some crates"
+	@echo "make edits    tries the must-fail edits that the gate leaves out (tests/edits); CRATES=.. for some crates"
 	@echo "make real     compares commands of CMake's and Meson's trees with ninja's, upstream projects too"
 	@echo "make bench    times the program beside ninja and make, and on hostile manifests"
 	@echo "make install  copies the program to PREFIX/bin (PREFIX is $(PREFIX))"
@@ -53,7 +53,7 @@ check: kit
 	python3 tests/run_rows.py $(PROGRAM)
 	python3 tests/real/real.py --short $(PROGRAM)
 
-# All must-fail edits of some crates, those of must-fail/more too, which the gate leaves out.
+# The must-fail edits of some crates that the gate leaves out.
 CRATES = $(notdir $(wildcard crates/*))
 .PHONY: edits
 edits: kit

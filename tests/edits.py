@@ -1,9 +1,9 @@
 #!/usr/bin/env python3
-"""Tries the must-fail edits that the gate leaves out, those of crates/*/must-fail/more: the prover has to refuse each.
+"""Tries the must-fail edits that the gate leaves out, those of tests/edits: the prover has to refuse each.
 
 usage: edits.py CRATE.. [--all]
 
-With --all also those of crates/*/must-fail, which the gate tries. They run on a copy of the tree, crates side by side; a crate takes some minutes, and
+With --all also those of the crate's must-fail, which the gate tries. They run on a copy of the tree, crates side by side; a crate takes some minutes, and
 20 to 60 seconds more for each edit. What `rt must-fail` says of each edit is printed; the last line is `N passed, M failed`.
 """
 import concurrent.futures
@@ -21,12 +21,12 @@ ROOT = pathlib.Path(__file__).resolve().parent.parent
 
 
 def lay(crate, home, whole):
-    """Puts the edits of must-fail/more where `rt must-fail` looks, with or without those that are there."""
+    """Puts the edits of tests/edits where `rt must-fail` looks, with or without those that are there."""
     edits = home / "crates" / crate / "must-fail"
     for edit in [] if whole else sorted(edits.glob("*.edit")):
         edit.unlink()
-    for edit in sorted((edits / "more").glob("*.edit")):
-        shutil.move(edit, edits / edit.name)
+    for edit in sorted((home / "tests" / "edits" / crate).glob("*.edit")):
+        shutil.copy(edit, edits / edit.name)
     return len(list(edits.glob("*.edit")))
 
 

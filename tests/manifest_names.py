@@ -49,7 +49,7 @@ def tests(crate, cell):
 
 def edits(crate, cell):
     for name in filter(None, re.split(r",\s*", cell.strip())):
-        if not any((crate / "must-fail").glob(f"**/{name}.edit")):
+        if not any((folder / f"{name}.edit").is_file() for folder in (crate / "must-fail", ROOT / "tests" / "edits" / crate.name)):
             yield f"no edit {name}"
 
 
