@@ -10,7 +10,6 @@ use Rattle.plan_text.specs.Bytes.{dollar, nul, tab}
 use Rattle.plan_text.specs.Gathering.{is_special}
 use Rattle.plan_text.specs.declared.piece_reader.Mode.TheVariants as mode
 use Rattle.plan_text.specs.Laws.{PlainIsRead}
-use Rattle.plan_text.proofs.RunLemmas.{run_end}
 use Rattle.std.proofs.lemmas.List.{get_or-take, length-take-le}
 use Rattle.std.proofs.lemmas.List.Sums.{prefix_len_passes}
 use Rattle.plan_parse.specs.PlainPaths.{is_plain}
@@ -83,6 +82,11 @@ plain_go b rest n true e more =
 pub path_plain : (text : List ℕ) → path_len text ≡ prefix_len is_plain text + path_len (drop (prefix_len is_plain text) text)
 path_plain [] = refl
 path_plain (b ∷ rest) = plain_go b rest (prefix_len is_plain rest) (is_plain b) refl (path_plain rest)
+
+-- no unit
+run_end : (size : List ℕ → ℕ) (text : List ℕ) → size text ≡ 0 → run size text ≡ 0
+run_end size [] e = refl
+run_end size (b ∷ rest) e = ap (λ (k : ℕ). and_more k (λ n. run_past size rest n)) e
 
 -- a path of bytes that stand for themselves
 pub path_ends : (text : List ℕ) → path_unit (drop (prefix_len is_plain text) text) ≡ 0 → prefix_len is_plain text ≡ path_len text
