@@ -1,9 +1,9 @@
 #!/usr/bin/env python3
 """Checks in the gate's log why each must-fail edit was refused.
 
-A refusal counts where the prover says that a goal of the code is not proved. Where it stops in a written answer instead,
-as that names what the code now does otherwise, the edit has to be listed with its reason in docs/PROOF_NOTES.md, under
-"Edits refused in a written answer".
+A refusal counts where the prover says that a goal of the code is not proved. Where it stops in a written answer
+instead, as that names what the code now does otherwise, the edit has to be listed with its reason in
+docs/PROOF_NOTES.md, under "Edits refused in a written answer".
 """
 import argparse
 import pathlib

@@ -1,8 +1,8 @@
 #!/usr/bin/env python3
 """Tries the must-fail edits that the gate leaves out, those of tests/edits: the prover has to refuse each.
 
-They run on a copy of the tree, crates side by side; a crate takes some minutes, and 20 to 60 seconds more for each edit.
-What `rt must-fail` says of each edit is printed; the last line is `N passed, M failed`.
+They run on a copy of the tree, crates side by side; a crate takes some minutes, and 20 to 60 seconds more for each
+edit. What `rt must-fail` says of each edit is printed; the last line is `N passed, M failed`.
 """
 import argparse
 import concurrent.futures
@@ -22,7 +22,7 @@ REFUSED = "refused, as it must be"
 
 
 def lay(crate: str, home: pathlib.Path, whole: bool) -> int:
-    """Puts the edits of tests/edits where `rt must-fail` looks, with or without those that are there; gives how many."""
+    """Puts the edits of tests/edits where `rt must-fail` looks, beside those there or in place of them; how many."""
     edits = home / "crates" / crate / "must-fail"
     for edit in [] if whole else sorted(edits.glob("*.edit")):
         edit.unlink()

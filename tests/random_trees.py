@@ -1,8 +1,8 @@
 """Random trees of manifests, whose edges wait for those above them alone.
 
-What ninja means otherwise is not written: a rule's variable bound in a file too (ninja lets it hide the rule's own where
-the build line has no block), a pool below its use or named by a variable, `..` behind a root, and what ninja refuses
-(`in`, `out`, `in_newline` and `rspfile_content` alone in a rule).
+What ninja means otherwise is not written: a rule's variable bound in a file too (ninja lets it hide the rule's own
+where the build line has no block), a pool below its use or named by a variable, `..` behind a root, and what ninja
+refuses (`in`, `out`, `in_newline` and `rspfile_content` alone in a rule).
 """
 import random
 import re

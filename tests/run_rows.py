@@ -2,7 +2,7 @@
 """Runs the program on the folders of tests/rows and compares what it prints.
 
 A row is a folder tests/rows/LAYER/NAME; no two rows have one name. PATTERN is a shell's pattern: of names (`tab_*`),
-or with the layer in front (`scopes/*`); without one all rows are run. Of a row that fails the whole difference is shown.
+or with the layer in front (`scopes/*`); without one all rows are run. Of a row that fails the difference is shown.
 
   files/         copied to a fresh folder, in which the program runs
   files.py       run there first, for files that are too large or too many to keep; row_files.py has what several share
@@ -119,7 +119,7 @@ def keep(row: pathlib.Path, name: str, text: bytes) -> None:
 
 
 def bless(program: str, row: pathlib.Path) -> list[str]:
-    """Makes what is found what is wanted. What only has to occur (`.has`) is written by hand; gives what then still differs."""
+    """Makes what is found what is wanted, but for what only has to occur (`.has`); gives what then still differs."""
     try:
         done = run(program, row)
     except subprocess.TimeoutExpired:
@@ -170,7 +170,8 @@ def main() -> None:
     parser.add_argument("--jobs", type=int, default=os.cpu_count() or 1, help="rows side by side (default: the cores)")
     asked = parser.parse_args()
     rows, failed = wanted(asked.patterns), 0
-    told = ["tests/run_rows.py", os.path.relpath(asked.program)]
+    here = os.path.relpath(asked.program)
+    told = ["tests/run_rows.py", asked.program if here.startswith("..") else here]
     check = bless if asked.bless else faults
     with concurrent.futures.ThreadPoolExecutor(max(1, asked.jobs)) as lanes:
         results = lanes.map(lambda row: check(asked.program, row), rows)

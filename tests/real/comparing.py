@@ -37,7 +37,8 @@ def first_lines(side: str, found: Lines) -> list[str]:
 
 def difference(ours: Lines, theirs: Lines) -> str:
     """What one prints and the other doesn't; empty where both print the same lines as often."""
-    return "\n".join([*first_lines("only ninja", theirs - ours), *first_lines("only here", ours - theirs)])
+    shown = [*first_lines("only ninja", theirs - ours), *first_lines("only here", ours - theirs)]
+    return "\n".join(shown)
 
 
 def refusal(done: Done) -> int | None:
@@ -83,5 +84,6 @@ def compared(program: str, ninja: str, manifest: str, folder: pathlib.Path) -> O
         copy = pathlib.Path(home)
         without_refused_lines(folder, copy)
         rest = outcome(programs.run([program, "commands", manifest], copy), theirs)
+    verdict: Literal["refused", "differs"] = "refused" if rest.verdict == "equal" else "differs"
     said = f"{number} {DECIDED[number]}; {rest.verdict} without such lines"
-    return Outcome("refused" if rest.verdict == "equal" else "differs", rest.commands, "\n".join([said, rest.said]).strip())
+    return Outcome(verdict, rest.commands, f"{said}\n{rest.said}".strip())

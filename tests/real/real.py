@@ -91,7 +91,7 @@ def own_trees(short: bool) -> list[Tree]:
 
 def main() -> None:
     parser = programs.arguments(__doc__)
-    parser.add_argument("words", metavar="WORD", nargs="*", help="those trees alone that have one of these in their name")
+    parser.add_argument("words", metavar="WORD", nargs="*", help="trees with one of these in their name")
     parser.add_argument("--short", action="store_true", help="some of this repository's own trees; nothing is fetched")
     asked = parser.parse_args()
     ninja, count = shutil.which("ninja"), Count()
