@@ -51,15 +51,19 @@ def rules(text: str) -> Iterator[Rule]:
 def definitions(rule: Rule) -> Iterator[str]:
     """`File `name`, `name`, File ..`: files of the crate's specs/ and their words."""
     for crate, text in rule.groups("defined"):
-        content = ""
-        for name, word in re.findall(r"(?:^|(?<=, ))(\w+)(?= `)|`([^`]+)`", text):
-            path = ROOT / "crates" / crate / "specs" / f"{name}.antt"
-            if name:
+        file, content = "no file", ""
+        for part in text.split(", "):
+            found = re.fullmatch(r"(?:(\w+) ?)?(?:`([^`]+)`)?", part)
+            if not found or not part:
+                yield f"what is {part!r}?"
+                continue
+            if found[1]:
+                file, path = found[1], ROOT / "crates" / crate / "specs" / f"{found[1]}.antt"
                 content = path.read_text() if path.is_file() else ""
-                if not content:
-                    yield f"no {name} in the specs of {crate}"
-            elif not re.search(rf"(?<!\w){re.escape(word)}(?!\w)", content):
-                yield f"no {word} in the specs of {crate} that it names"
+            if not content:
+                yield f"no {file} in the specs of {crate}"
+            elif found[2] and not re.search(rf"(?<!\w){re.escape(found[2])}(?!\w)", content):
+                yield f"no {found[2]} in {file} of {crate}"
 
 
 class Functions:
@@ -78,6 +82,8 @@ class Functions:
     def faults(self, rule: Rule, part: str) -> Iterator[str]:
         for crate, text in rule.groups(part):
             types = {name for source in self.program.sources.values() if source.crate == crate for name in source.types}
+            if other := re.sub(r"`[^`]+`|[, ]", "", text):
+                yield f"what is {other!r}?"
             for name in re.findall(r"`([^`]+)`", text):
                 found = self.named(crate, name)
                 if not found and name not in types:
