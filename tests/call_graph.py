@@ -1,4 +1,4 @@
-"""Which functions of crates/*/src the program reaches from its `main`: a plain call graph, by names.
+"""Which functions of the crates' src/ the program reaches from its `main`: a plain call graph, by names.
 
 It reads text, no types. A call `name(..)` means the function of that name in the same file, else in the crate that
 the file takes the name from; `.name(..)` means every method of that name, `Type::name` that type's. A function that is
@@ -20,6 +20,12 @@ CALL = re.compile(r"(?:(?<![.\w])|(?<=\.\.))(\w+)(?:::<[^()]*>)?\(")  # a dot in
 NOISE = re.compile(r"//[^\n]*|'(?:\\.|[^'\\])'|\"(?:\\[\s\S]|[^\"\\])*\"")
 
 
+def source_files(crate: str = "*") -> list[pathlib.Path]:
+    """The source files of a crate, or of all, without their tests."""
+    paths = sorted(CRATES.glob(f"{crate}/src/**/*.rt"))
+    return [path for path in paths if not {"tests", "tests.rt"} & set(path.relative_to(CRATES).parts)]
+
+
 class Function(NamedTuple):
     """A function; where it is a method, of which type, and of which trait that the type meets."""
 
@@ -35,7 +41,7 @@ class Source:
     """A file of a crate: its functions and types, and from which crates it takes names."""
 
     def __init__(self, path: pathlib.Path) -> None:
-        self.path, self.crate = path, path.parent.parent.name
+        self.path, self.crate = path, path.relative_to(CRATES).parts[0]
         self.text = NOISE.sub("", path.read_text())
         self.functions = list(functions(self.crate, path, self.text.splitlines()))
         self.types = set(TYPE.findall(self.text))
@@ -67,9 +73,8 @@ def functions(crate: str, path: pathlib.Path, lines: list[str]) -> Iterator[Func
 class Program:
     """The functions and types of all crates."""
 
-    def __init__(self, crates: pathlib.Path = CRATES) -> None:
-        paths = [path for path in sorted(crates.glob("*/src/*.rt")) if path.name != "tests.rt"]
-        self.sources = {path: Source(path) for path in paths}
+    def __init__(self) -> None:
+        self.sources = {path: Source(path) for path in source_files()}
         self.functions = [function for source in self.sources.values() for function in source.functions]
         self.types = {name for source in self.sources.values() for name in source.types}
 

@@ -8,9 +8,11 @@ import pathlib
 import re
 from collections.abc import Iterator
 
+import call_graph
+
 ROOT = pathlib.Path(__file__).resolve().parent.parent
 WIDTH = 120
-CODE = ("crates/*/src/*.rt", "crates/*/specs/**/*.antt", "crates/*/proofs/**/*.antt", "crates/*/must-fail/*.edit",
+CODE = ("crates/*/src/**/*.rt", "crates/*/specs/**/*.antt", "crates/*/proofs/**/*.antt", "crates/*/must-fail/*.edit",
         "tests/**/*.py", "tests/edits/**/*.edit", "tests/refusing.c", "bench/*.py", "Makefile", "crates.txt")
 NARROW = ("*.md", "docs/**/*.md", "tests/**/*.md", "tests/*.py", "tests/real/*.py", "bench/*.py")
 FOLDERS = ("crates", "tests", "bench", "examples")
@@ -42,18 +44,19 @@ FOREIGN: dict[str, set[str]] = {
 
 def printed_names() -> dict[int, str]:
     """The names by which plan_ninja prints numbers; any other number is want of memory."""
-    sources = "".join(path.read_text() for path in ROOT.glob("crates/plan_ninja/src/*.rt") if path.name != "tests.rt")
+    sources = "".join(path.read_text() for path in call_graph.source_files("plan_ninja"))
     return {int(number): name for number, name in re.findall(r'\b(\d+) => "([A-Z]\w*)"', sources)}
 
 
 def answered_numbers() -> dict[int, str]:
     """The variant that each number stands for in a function `number`, and the numbers that plan_ninja gives itself."""
     numbers: dict[int, str] = {}
-    for path in ROOT.glob("crates/*/src/*.rt"):
+    own = set(call_graph.source_files("plan_ninja"))
+    for path in call_graph.source_files():
         text = path.read_text()
         for body in re.findall(r"fn number\(.*?\n    }\n", text, flags=re.DOTALL):
             numbers |= {int(number): name for name, number in re.findall(r"\w+::(\w+)(?:\([^)]*\))? => (\d+)", body)}
-        if path.parent.parent.name == "plan_ninja" and path.name != "tests.rt":
+        if path in own:
             numbers |= {int(number): "" for number in re.findall(r"\bnumber: (\d+)", text)}
     return numbers
 

@@ -18,7 +18,7 @@ import doc_names
 
 ROOT = pathlib.Path(__file__).resolve().parent.parent
 MANIFEST = ROOT / "docs" / "MANIFEST.md"
-KEYS = {"manual", "defined", "done", "offered", "rows", "examples", "edits"}
+KEYS = {"manual", "defined", "done", "offered", "rows", "tests", "examples", "edits"}
 
 
 class Rule(NamedTuple):
@@ -58,8 +58,8 @@ def definitions(rule: Rule) -> Iterator[str]:
                 yield f"what is {part!r}?"
                 continue
             if found[1]:
-                file, path = found[1], ROOT / "crates" / crate / "specs" / f"{found[1]}.antt"
-                content = path.read_text() if path.is_file() else ""
+                file, paths = found[1], (ROOT / "crates" / crate / "specs").rglob(f"{found[1]}.antt")
+                content = "".join(path.read_text() for path in paths)
             if not content:
                 yield f"no {file} in the specs of {crate}"
             elif found[2] and not re.search(rf"(?<!\w){re.escape(found[2])}(?!\w)", content):
@@ -117,6 +117,9 @@ def faults_of(rule: Rule, functions: Functions) -> Iterator[str]:
     yield from functions.faults(rule, "done")
     yield from functions.faults(rule, "offered")
     yield from (f"no row {pattern}" for pattern, found in fitting(rule.parts.get("rows", ""), rows()) if not found)
+    for crate, text in rule.groups("tests"):
+        content = "".join(path.read_text() for path in ROOT.glob(f"crates/{crate}/src/**/*.rt"))
+        yield from (f"no test {name} in {crate}" for name in re.findall(r"\w+", text) if f"fn {name}(" not in content)
     for crate, _ in rule.groups("examples"):
         if not (ROOT / "crates" / crate / "proofs" / "Rows.antt").is_file():
             yield f"no Rows in {crate}"

@@ -81,7 +81,8 @@ def place(one: Sequence[bytes] | bytes, other: Sequence[bytes] | bytes) -> int:
 def difference(name: str, wanted: bytes, found: bytes) -> Iterator[str]:
     """A unified difference; of a long one its first lines."""
     before, after = wanted.splitlines(True), found.splitlines(True)
-    first = max(0, place(before, after) - 3)  # what is equal in front would only take time
+    long = max(len(before), len(after)) > MOST_LINES
+    first = max(0, place(before, after) - 3) if long else 0  # what is equal in front would only take time
     lines = difflib.unified_diff(
         [shown(line) for line in before[first:first + MOST_LINES]],
         [shown(line) for line in after[first:first + MOST_LINES]], f"wanted {name}", f"found {name}", lineterm="")
@@ -158,9 +159,10 @@ def again(words: Sequence[str], row: pathlib.Path) -> str:
     return f"again: python3 {shlex.quote(words[0])} {shlex.quote(words[1])} {row.name}"
 
 
-def progress(done: int, of: int) -> None:
+def progress(line: str) -> None:
+    """Shows a line on the terminal in place of the last one."""
     if sys.stderr.isatty():
-        print(f"\r{done} of {of} rows" + "\n" * (done == of), end="", file=sys.stderr, flush=True)
+        print(f"\r\033[K{line}", end="", file=sys.stderr, flush=True)
 
 
 def main() -> None:
@@ -176,10 +178,11 @@ def main() -> None:
     with concurrent.futures.ThreadPoolExecutor(max(1, asked.jobs)) as lanes:
         results = lanes.map(lambda row: check(asked.program, row), rows)
         for done, (row, found) in enumerate(zip(rows, results), 1):
-            progress(done, len(rows))
             if found:
                 failed += 1
-                print("\n".join([f"{name_of(row)}:", *(f"    {line}" for line in found), again(told, row)]))
+                progress("")
+                print("\n".join([f"{name_of(row)}:", *(f"    {line}" for line in found), again(told, row)]), flush=True)
+            progress(f"{done} of {len(rows)} rows" if done < len(rows) else "")
     programs.end(len(rows) - failed, failed)
 
 
