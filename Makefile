@@ -11,7 +11,7 @@ help:
 	@echo "make demo     runs the program, not yet proved, on examples/demo/build.ninja; from nothing about a minute"
 	@echo "make quick    proves one crate, or one module of it (CRATE=plan_text ONLY=path); 5 to 60 seconds for a module"
 	@echo "make rows     runs the rows of the built program, or some (NAMES='tab_* scopes/*'); half a minute"
-	@echo "make tests    the tests of the built program, without proofs: documents, rows, ninja, memory, trees; 2 minutes"
+	@echo "make tests    the tests of the built program, without proofs: documents, rows, ninja, memory, trees; 1 to 2 minutes"
 	@echo "make check    the whole gate: proofs, must-fail edits and these tests; docs/PROOF_NOTES.md has its time"
 	@echo "make edits    tries the must-fail edits that the gate leaves out (CRATES=plan_text for one crate); up to an hour"
 	@echo "make real     compares commands of CMake's and Meson's trees with ninja's, upstream projects too; some minutes"

@@ -4,6 +4,7 @@ import pathlib
 import shutil
 import subprocess
 from collections.abc import Callable, Mapping, Sequence
+from typing import Any
 
 import programs
 
@@ -31,7 +32,9 @@ COMPILERS = ("cc", "c++")
 
 def of_tool(tool: str) -> Callable[..., Tree]:
     """Makes trees of a tool, which need compilers of C and C++ where nothing else is said."""
-    def tree(name: str, files: Mapping[str, str], *options: str, needs: Sequence[str] = COMPILERS, **more) -> Tree:
+    def tree(
+        name: str, files: Mapping[str, str], *options: str, needs: Sequence[str] = COMPILERS, **more: Any,
+    ) -> Tree:
         return Tree(f"{tool} {name}", tool, files, *options, needs=needs, **more)
 
     return tree
