@@ -14,6 +14,7 @@ or with the layer in front (`scopes/*`); without one all rows are run. Of a row 
 
 The last line is `N passed, M failed`.
 """
+import collections
 import concurrent.futures
 import difflib
 import fnmatch
@@ -29,6 +30,8 @@ from collections.abc import Iterator, Sequence
 import programs
 
 ROWS = pathlib.Path(__file__).resolve().parent / "rows"
+LAYERS = ("text", "statements", "scopes", "edges", "graphs", "program")
+PARTS = {"files", "files.py", "args", "stdout", "stderr", "stdout.has", "stderr.has", "stdout.to", "status"}
 SECONDS = 60
 CLOSED = ["sh", "-c", 'exec "$0" "$@" >&-']  # a command without standard output
 MOST_LINES = 200  # of one difference
@@ -132,12 +135,19 @@ def bless(program: str, row: pathlib.Path) -> list[str]:
     return list(differences(row, done))
 
 
+def misplaced(rows: Sequence[pathlib.Path]) -> Iterator[str]:
+    """What stands in tests/rows and is no row of a layer, no part of a row, or a row of a name that another has."""
+    yield from (f"no layer: {path.name}" for path in sorted(ROWS.iterdir()) if path.name not in LAYERS)
+    for row in rows:
+        yield from (f"no part of a row: {name_of(row)}/{path.name}" for path in row.iterdir() if path.name not in PARTS)
+    names = collections.Counter(row.name for row in rows)
+    yield from (f"rows of one name: {name}" for name, count in names.items() if count > 1)
+
+
 def all_rows() -> list[pathlib.Path]:
-    rows = sorted(row for row in ROWS.glob("*/*") if row.is_dir())
-    names = [row.name for row in rows]
-    twice = {name for name in names if names.count(name) > 1}
-    if twice:
-        sys.exit(f"run_rows.py: rows of one name: {', '.join(sorted(twice))}")
+    rows = sorted(row for layer in LAYERS for row in (ROWS / layer).iterdir())
+    for fault in misplaced(rows):
+        sys.exit(f"run_rows.py: {fault}")
     return rows
 
 
