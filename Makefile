@@ -9,22 +9,30 @@ SHELL = /bin/bash -o pipefail
 help:
 	@echo "make          proves and builds the program ($(PROGRAM)); from nothing about 10 minutes on 4 cores"
 	@echo "make demo     runs the program, not yet proved, on examples/demo/build.ninja; from nothing about a minute"
-	@echo "make check    the whole gate: proofs, tests, must-fail edits, rows, comparisons with ninja; docs/PROOF_NOTES.md has its time"
-	@echo "make edits    tries the must-fail edits that the gate leaves out (tests/edits); CRATES=.. for some crates"
-	@echo "make real     compares commands of CMake's and Meson's trees with ninja's, upstream projects too"
-	@echo "make bench    times the program beside ninja and make, and on hostile manifests"
+	@echo "make quick    proves one crate, or one module of it (CRATE=plan_text ONLY=path); 5 to 60 seconds for a module"
+	@echo "make rows     runs the rows of the built program, or some (NAMES='tab_* scopes/*'); half a minute"
+	@echo "make tests    the tests of the built program, without proofs: documents, rows, ninja, memory, trees; 1 to 2 minutes"
+	@echo "make check    the whole gate: proofs, must-fail edits and these tests; docs/PROOF_NOTES.md has its time"
+	@echo "make edits    tries the must-fail edits that the gate leaves out (CRATES=plan_text for one crate); up to an hour"
+	@echo "make real     compares commands of CMake's and Meson's trees with ninja's, upstream projects too; some minutes"
+	@echo "make bench    times the program beside ninja and make, and on hostile manifests; some minutes"
 	@echo "make install  copies the program to PREFIX/bin (PREFIX is $(PREFIX))"
 	@echo "make clean    takes away what checks and builds left"
+	@echo "PROGRAM=.. tests another program than $(PROGRAM)"
 
-# The toolchain, and Python for the tests.
-.PHONY: kit
-kit:
-	@command -v rt > /dev/null || { echo "the Rattle kit's command rt is not on the PATH: README.md, 'What it needs', says what it is and which version" >&2; exit 1; }
+# Python, for the tests and the benches.
+.PHONY: python
+python:
 	@command -v python3 > /dev/null || { echo "python3 is not on the PATH: the tests and this project's scripts need Python 3" >&2; exit 1; }
+
+# The toolchain.
+.PHONY: kit
+kit: python
+	@command -v rt > /dev/null || { echo "the Rattle kit's command rt is not on the PATH: README.md, 'What it needs', says what it is and which version" >&2; exit 1; }
 
 # The program, as `make` left it.
 .PHONY: built
-built: kit
+built: python
 	@test -x $(PROGRAM) || { echo "$(PROGRAM) is not there: make proves and builds it" >&2; exit 1; }
 
 # Builds the proved program.
@@ -42,16 +50,36 @@ demo: kit
 	  || { cat $$log >&2; rm -f $$log; exit 1; }; rm -f $$log
 	@echo "(run without the proofs; make proves and builds the program, make check is the whole gate)" >&2
 
-# The gate: every proof, test and must-fail edit; then the program: refused allocations, ninja's commands, the rows of the command line, and real trees.
+# Proves one crate, or one module of it.
+CRATE =
+ONLY =
+.PHONY: quick
+quick: kit
+	@test -d "crates/$(CRATE)" -a -n "$(CRATE)" || { echo "which crate? make quick CRATE=.. [ONLY=module], of: $(CRATES)" >&2; exit 1; }
+	cd crates/$(CRATE) && rt check $(if $(ONLY),--only $(ONLY))
+
+# The rows of the built program, or those that some patterns fit.
+NAMES =
+.PHONY: rows
+rows: built
+	@set -f; python3 tests/run_rows.py $(PROGRAM) $(NAMES)
+
+# The built program: documents, rows, ninja's commands, refused allocations, and real trees.
+.PHONY: tests
+tests: built
+	python3 tests/manifest_names.py
+	python3 tests/run_rows.py $(PROGRAM)
+	python3 tests/against_ninja.py $(PROGRAM)
+	python3 tests/fail_alloc.py $(PROGRAM)
+	python3 tests/real/real.py --short $(PROGRAM)
+
+# The gate: the documents, then every proof, test and must-fail edit, then the program.
 .PHONY: check
 check: kit
 	python3 tests/manifest_names.py
 	rt ci | tee gate.log
 	python3 tests/edit_log.py gate.log
-	python3 tests/fail_alloc.py $(PROGRAM)
-	python3 tests/against_ninja.py $(PROGRAM)
-	python3 tests/run_rows.py $(PROGRAM)
-	python3 tests/real/real.py --short $(PROGRAM)
+	$(MAKE) tests
 
 # The must-fail edits of some crates that the gate leaves out.
 CRATES = $(notdir $(wildcard crates/*))

@@ -1,27 +1,28 @@
 #!/usr/bin/env python3
 """Tries the must-fail edits that the gate leaves out, those of tests/edits: the prover has to refuse each.
 
-usage: edits.py CRATE.. [--all]
-
-With --all also those of the crate's must-fail, which the gate tries. They run on a copy of the tree, crates side by side; a crate takes some minutes, and
-20 to 60 seconds more for each edit. What `rt must-fail` says of each edit is printed; the last line is `N passed, M failed`.
+They run on a copy of the tree, crates side by side; a crate takes some minutes, and 20 to 60 seconds more for each
+edit. What `rt must-fail` says of each edit is printed; the last line is `N passed, M failed`.
 """
+import argparse
 import concurrent.futures
 import os
 import pathlib
 import re
 import shutil
 import subprocess
-import sys
 import tempfile
+from collections.abc import Sequence
 
 import edit_log
+import programs
 
 ROOT = pathlib.Path(__file__).resolve().parent.parent
+REFUSED = "refused, as it must be"
 
 
-def lay(crate, home, whole):
-    """Puts the edits of tests/edits where `rt must-fail` looks, with or without those that are there."""
+def lay(crate: str, home: pathlib.Path, whole: bool) -> int:
+    """Puts the edits of tests/edits where `rt must-fail` looks, beside those there or in place of them; how many."""
     edits = home / "crates" / crate / "must-fail"
     for edit in [] if whole else sorted(edits.glob("*.edit")):
         edit.unlink()
@@ -30,31 +31,47 @@ def lay(crate, home, whole):
     return len(list(edits.glob("*.edit")))
 
 
-def tried(crate, home, jobs):
-    done = subprocess.run(["rt", "must-fail", crate], cwd=home, stdout=subprocess.PIPE, stderr=subprocess.STDOUT, env={**os.environ, "RT_JOBS": str(jobs)})
+def log_of(crate: str, home: pathlib.Path, jobs: int) -> str:
+    """What `rt must-fail` prints of a crate."""
+    env = {**os.environ, "RT_JOBS": str(jobs)}
+    words = ["rt", "must-fail", crate]
+    done = subprocess.run(words, cwd=home, stdout=subprocess.PIPE, stderr=subprocess.STDOUT, env=env)
     return done.stdout.decode(errors="replace")
 
 
-def main():
-    if len(sys.argv) < 2:
-        sys.exit(__doc__)
-    crates, whole = [word for word in sys.argv[1:] if not word.startswith("--")], "--all" in sys.argv
-    passed, failed = 0, 0
+def refused(log: str) -> int:
+    """How many edits were refused over a goal or for a reason that is known."""
+    weak = list(edit_log.weak(log))
+    for line in weak:
+        print(f"says too little: {line}")
+    return len(re.findall(REFUSED, log)) - len(weak)
+
+
+def tried(crates: Sequence[str], home: pathlib.Path, whole: bool) -> tuple[int, int]:
+    """Tries the edits of these crates; gives how many were refused, and how many not."""
+    counts = {crate: lay(crate, home, whole) for crate in crates}
+    busy = [crate for crate in crates if counts[crate]]
+    jobs, passed = max(1, (os.cpu_count() or 1) // max(1, len(busy))), 0
+    with concurrent.futures.ThreadPoolExecutor(max(1, len(busy))) as lanes:
+        for log in lanes.map(lambda crate: log_of(crate, home, jobs), busy):
+            print(log, end="", flush=True)
+            passed += refused(log)
+    return passed, sum(counts.values()) - passed
+
+
+def main() -> None:
+    parser = argparse.ArgumentParser(description=__doc__, formatter_class=argparse.RawDescriptionHelpFormatter)
+    parser.add_argument("crates", metavar="CRATE", nargs="+")
+    parser.add_argument("--all", action="store_true", help="also those of the crate's must-fail, which the gate tries")
+    asked = parser.parse_args()
+    for crate in asked.crates:
+        if not (ROOT / "crates" / crate).is_dir():
+            parser.error(f"no such crate: {crate}")
     with tempfile.TemporaryDirectory() as folder:
         home = pathlib.Path(folder) / "tree"
         shutil.copytree(ROOT, home, ignore=shutil.ignore_patterns(".git"))
-        wanted = {crate: lay(crate, home, whole) for crate in crates}
-        jobs = max(1, (os.cpu_count() or 1) // max(1, len(crates)))
-        with concurrent.futures.ThreadPoolExecutor(len(crates)) as lanes:
-            for crate, said in zip(crates, lanes.map(lambda crate: tried(crate, home, jobs) if wanted[crate] else "", crates)):
-                print(said, end="", flush=True)
-                refused = len(re.findall(r"refused, as it must be", said))
-                weak = list(edit_log.weak(said))
-                for line in weak:
-                    print(f"says too little: {line}")
-                passed, failed = passed + refused - len(weak), failed + wanted[crate] - refused + len(weak)
-    print(f"{passed} passed, {failed} failed")
-    sys.exit(1 if failed else 0)
+        passed, failed = tried(asked.crates, home, asked.all)
+    programs.end(passed, failed)
 
 
 if __name__ == "__main__":

@@ -1,17 +1,21 @@
 #!/usr/bin/env python3
 """Runs the program on small trees of manifests once for each of its allocations, and refuses that one.
 
-usage: fail_alloc.py PROGRAM
-
-Each run has to end in a fault of memory (status 2, `plan: 22 Memory`, 41, 54 or 131, nothing on standard output), or to print all that it
-prints with ample memory. Needs a C compiler, for the library that refuses. The last line is `N passed, M failed`.
+Each run has to end in a fault of memory (status 2, `plan: 22 Memory`, 41, 54 or 131, nothing on standard output), or to
+print all that it prints with ample memory. Needs a C compiler, for the library that refuses (refusing.c).
+The last line is `N passed, M failed`.
 """
-import os
 import pathlib
 import shutil
 import subprocess
 import sys
 import tempfile
+
+import programs
+
+SECONDS = 60
+LIBRARY = pathlib.Path(__file__).resolve().parent / "refusing.c"
+Ended = tuple[int, bytes, bytes]  # status, standard output and standard error
 
 # every statement, list of paths and sort of variable
 TREE = {
@@ -73,57 +77,27 @@ TREES = [
     (TREE, b""),
     ({"build.ninja": GRAPH}, b""),
     ({"build.ninja": RULE + "build a: r\nbuild b | a: r\n"}, b"plan: 50 TwoProducers a\n"),
-    ({"build.ninja": RULE + "build s: r a\nbuild a b: r c\nbuild c: r | d\nbuild d: r || b\n"}, b"plan: 51 Cycle a -> c -> d\n"),
+    ({"build.ninja": RULE + "build s: r a\nbuild a b: r c\nbuild c: r | d\nbuild d: r || b\n"},
+     b"plan: 51 Cycle a -> c -> d\n"),
     ({"build.ninja": RULE + "build a: r\ndefault a b\n"}, b"plan: 52 UnknownDefault b\n"),
 ]
 REFUSALS = {f"plan: {number} Memory\n".encode() for number in (22, 41, 54, 131)}
 
-LIBRARY = r"""
-#define _GNU_SOURCE
-#include <dlfcn.h>
-#include <errno.h>
-#include <stdio.h>
-#include <stdlib.h>
 
-static long asked;
-
-static int refused(void) {
-    const char *at = getenv("REFUSED_ALLOCATION");
-    return ++asked == (at ? atol(at) : 0);
-}
-
-#define NEXT(name) __typeof__(&name) next = (__typeof__(&name))dlsym(RTLD_NEXT, #name)
-
-void *malloc(size_t size) { NEXT(malloc); return refused() ? NULL : next(size); }
-void *realloc(void *old, size_t size) { NEXT(realloc); return refused() ? NULL : next(old, size); }
-void *aligned_alloc(size_t to, size_t size) { NEXT(aligned_alloc); return refused() ? NULL : next(to, size); }
-int posix_memalign(void **at, size_t to, size_t size) { NEXT(posix_memalign); return refused() ? ENOMEM : next(at, to, size); }
-
-__attribute__((destructor)) static void count(void) {
-    const char *path = getenv("ALLOCATIONS_FILE");
-    FILE *file = path ? fopen(path, "w") : NULL;
-    if (file) { fprintf(file, "%ld", asked); fclose(file); }
-}
-"""
+def run(program: str, library: pathlib.Path, folder: pathlib.Path, refused: int) -> tuple[Ended, int]:
+    """How a run ends of which one allocation is refused, and how many it asks for."""
+    count = folder / "allocations"
+    env = {"LD_PRELOAD": str(library), "REFUSED_ALLOCATION": str(refused), "ALLOCATIONS_FILE": str(count)}
+    words = [program, "commands", "build.ninja"]
+    done = subprocess.run(words, cwd=folder, capture_output=True, env=env, timeout=SECONDS)
+    return (done.returncode, done.stdout, done.stderr), int(count.read_text())
 
 
-def write(files, folder):
-    for name, text in files.items():
-        (pathlib.Path(folder) / name).write_text(text)
-
-
-def run(program, library, folder, refused):
-    told = pathlib.Path(folder) / "allocations"
-    env = {"LD_PRELOAD": library, "REFUSED_ALLOCATION": str(refused), "ALLOCATIONS_FILE": str(told)}
-    done = subprocess.run([program, "commands", "build.ninja"], cwd=folder, capture_output=True, env=env, timeout=60)
-    return (done.returncode, done.stdout, done.stderr), int(told.read_text())
-
-
-def is_want_of_memory(status, output, errors):
+def is_want_of_memory(status: int, output: bytes, errors: bytes) -> bool:
     return status == 2 and output == b"" and errors in REFUSALS
 
 
-def faults(program, library, folder, said):
+def faults(program: str, library: pathlib.Path, folder: pathlib.Path, said: bytes) -> tuple[int, list[str]]:
     """How many allocations the program makes for the tree in the folder, and those whose refusal ends otherwise."""
     whole, allocations = run(program, library, folder, 0)
     if allocations == 0 or whole[0] != (2 if said else 0) or whole[2] != said:
@@ -136,27 +110,24 @@ def faults(program, library, folder, said):
     return allocations, found
 
 
-def main():
-    if len(sys.argv) < 2:
-        sys.exit(__doc__)
-    program = str(pathlib.Path(sys.argv[1]).resolve())
+def main() -> None:
+    program = programs.arguments(__doc__).parse_args().program
     compiler = shutil.which("cc")
     if compiler is None:
         print("no C compiler: no allocation was refused")
         return
     passed, failed = 0, 0
     with tempfile.TemporaryDirectory() as home:
-        library = os.path.join(home, "refusing.so")
-        subprocess.run([compiler, "-shared", "-fPIC", "-o", library, "-xc", "-", "-ldl"], input=LIBRARY.encode(), check=True)
-        for files, said in TREES:
-            folder = tempfile.mkdtemp(dir=home)
-            write(files, folder)
+        library = pathlib.Path(home) / "refusing.so"
+        subprocess.run([compiler, "-shared", "-fPIC", "-o", str(library), str(LIBRARY), "-ldl"], check=True)
+        for number, (files, said) in enumerate(TREES):
+            folder = pathlib.Path(home) / f"tree{number}"
+            programs.write(files, folder)
             allocations, found = faults(program, library, folder, said)
             passed, failed = passed + allocations - len(found), failed + len(found)
             for fault in found:
                 print(fault)
-    print(f"{passed} passed, {failed} failed")
-    sys.exit(1 if failed else 0)
+    programs.end(passed, failed)
 
 
 if __name__ == "__main__":

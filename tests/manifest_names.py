@@ -1,78 +1,155 @@
 #!/usr/bin/env python3
-"""Checks that docs/MANIFEST.md leads where it says: each definition, function, row and must-fail edit that it names is there.
+"""Checks that the documents lead where they say.
 
-usage: manifest_names.py
+Of docs/MANIFEST.md, both ways: each definition, function, row and must-fail edit that a rule names is in its crate,
+what stands under "done" is reached from the program's `main` (call_graph.py), and every row and every edit stands under
+a rule. Of the other documents, what doc_names.py says. Each fault is a line; the last line is how many there are.
 """
+import argparse
+import fnmatch
 import pathlib
 import re
 import sys
+from collections.abc import Iterable, Iterator
+from typing import NamedTuple
+
+import call_graph
+import doc_names
 
 ROOT = pathlib.Path(__file__).resolve().parent.parent
-ROWS = ROOT / "tests" / "rows"
-ROW_OF_A_TABLE = re.compile(r"(?<!\\)\|")
+MANIFEST = ROOT / "docs" / "MANIFEST.md"
+KEYS = {"manual", "defined", "done", "offered", "rows", "tests", "examples", "edits"}
 
 
-def words(cell):
-    """The names between backticks."""
-    return re.findall(r"`([^`]+)`", cell)
+class Rule(NamedTuple):
+    """A rule's title, the crate of its section, and what stands under it by its words, as `rows`."""
+
+    title: str
+    crate: str
+    parts: dict[str, str]
+
+    def groups(self, part: str) -> Iterator[tuple[str, str]]:
+        """The pieces between semicolons, each with the crate in front of it, else the section's."""
+        for text in re.split(r";\s*", self.parts.get(part, "")):
+            found = re.match(r"(plan_\w+)\s+(.*)", text)
+            if text:
+                yield (found[1], found[2]) if found else (self.crate, text)
 
 
-def definitions(crate, cell):
-    """What is missing of `File (`name`, ..), ..`: a specs file of the crate, or of one below it, and its definitions."""
-    for name, listed in re.findall(r"(\w+)(?: \(([^)]*)\))?", re.sub(r"`([^`]*)`", r"\1", cell)):
-        path = crate / "specs" / f"{name}.antt"
-        text = path.read_text() if path.is_file() else ""
-        if not text:
-            yield f"no {name} in specs/"
-        for word in filter(None, re.split(r",\s*", listed)):
-            if not re.search(rf"(?<!\w){re.escape(word)}(?!\w)", text):
-                yield f"no {word} in {name}"
+def rules(text: str) -> Iterator[Rule]:
+    crate = ""
+    for section in re.split(r"^## ", text, flags=re.MULTILINE)[1:]:
+        heading, *blocks = re.split(r"^### ", section, flags=re.MULTILINE)
+        found = re.search(r"\((\w+)\)", heading)
+        crate = found[1] if found else crate
+        for block in blocks:
+            title = block.partition("\n")[0].rpartition("  [")[0] or block.partition("\n")[0]
+            items = re.findall(r"^- (\w+): ((?:.*\n?)(?:  .*\n?)*)", block, flags=re.MULTILINE)
+            yield Rule(title, crate, {key: " ".join(value.split()) for key, value in items})
 
 
-def functions(crate, cell):
-    """A function may be of a crate above."""
-    source = "\n".join(path.read_text() for path in sorted(crate.parent.glob("*/src/*.rt")))
-    for name in words(cell):
-        last = name.rpartition("::")[2]
-        if not re.search(rf"\b(fn|struct|trait|enum) {last}\b", source):
-            yield f"no function {name}"
+def definitions(rule: Rule) -> Iterator[str]:
+    """`File `name`, `name`, File ..`: files of the crate's specs/ and their words."""
+    for crate, text in rule.groups("defined"):
+        file, content = "no file", ""
+        for part in text.split(", "):
+            found = re.fullmatch(r"(?:(\w+) ?)?(?:`([^`]+)`)?", part)
+            if not found or not part:
+                yield f"what is {part!r}?"
+                continue
+            if found[1]:
+                file, paths = found[1], (ROOT / "crates" / crate / "specs").rglob(f"{found[1]}.antt")
+                content = "".join(path.read_text() for path in paths)
+            if not content:
+                yield f"no {file} in the specs of {crate}"
+            elif found[2] and not re.search(rf"(?<!\w){re.escape(found[2])}(?!\w)", content):
+                yield f"no {found[2]} in {file} of {crate}"
 
 
-def tests(crate, cell):
-    unit_tests = (crate / "src" / "tests.rt").read_text()
-    for name in words(cell):
-        if not any(ROWS.glob(name)) and f"fn {name}(" not in unit_tests:
-            yield f"no row {name}"
-    if "Rows" in cell and not (crate / "proofs" / "Rows.antt").is_file():
-        yield "no Rows"
+class Functions:
+    """What the crates have, and what of it the program reaches."""
+
+    def __init__(self) -> None:
+        self.program = call_graph.Program()
+        self.reached, self.types = self.program.reached()
+
+    def named(self, crate: str, name: str) -> list[call_graph.Function]:
+        """The functions of a crate by this name: `Type::method`, or a function or method."""
+        type_, _, last = name.rpartition("::")
+        return [found for found in self.program.functions
+                if found.crate == crate and found.name == last and type_ in ("", found.type)]
+
+    def faults(self, rule: Rule, part: str) -> Iterator[str]:
+        for crate, text in rule.groups(part):
+            types = {name for source in self.program.sources.values() if source.crate == crate for name in source.types}
+            if other := re.sub(r"`[^`]+`|[, ]", "", text):
+                yield f"what is {other!r}?"
+            for name in re.findall(r"`([^`]+)`", text):
+                found = self.named(crate, name)
+                if not found and name not in types:
+                    yield f"no {name} in {crate}"
+                elif part == "done" and name not in self.types and not self.reached & set(found):
+                    yield f"the program never calls {name} of {crate}"
 
 
-def edits(crate, cell):
-    for name in filter(None, re.split(r",\s*", cell.strip())):
-        if not any((folder / f"{name}.edit").is_file() for folder in (crate / "must-fail", ROOT / "tests" / "edits" / crate.name)):
-            yield f"no edit {name}"
+def rows() -> list[str]:
+    """LAYER/NAME of each row."""
+    return sorted(f"{row.parent.name}/{row.name}" for row in (ROOT / "tests" / "rows").glob("*/*") if row.is_dir())
 
 
-COLUMNS = [definitions, functions, tests, edits]
+def fitting(patterns: str, names: Iterable[str]) -> Iterator[tuple[str, set[str]]]:
+    """Which rows each of the patterns fits."""
+    for pattern in patterns.split():
+        whole = pattern if "/" in pattern else f"*/{pattern}"
+        yield pattern, {name for name in names if fnmatch.fnmatchcase(name, whole)}
 
 
-def missing():
-    """What the tables name that isn't there, each with the rule's first words."""
-    crate = None
-    for line in (ROOT / "docs" / "MANIFEST.md").read_text().splitlines():
-        heading = re.match(r"## .*\((\w+)\)$", line)
-        if heading:
-            crate = ROOT / "crates" / heading[1]
-        cells = [cell.strip() for cell in ROW_OF_A_TABLE.split(line)[1:-1]]
-        if len(cells) != 5 or cells[0] == "Rule" or set(cells[0]) == {"-"}:
-            continue
-        for check, cell in zip(COLUMNS, cells[1:]):
-            yield from (f"{cells[0][:60]}: {what}" for what in check(crate, cell))
+def edits() -> set[tuple[str, str]]:
+    """Crate and name of each must-fail edit."""
+    gate = {(path.parent.parent.name, path.stem) for path in ROOT.glob("crates/*/must-fail/*.edit")}
+    return gate | {(path.parent.name, path.stem) for path in ROOT.glob("tests/edits/*/*.edit")}
 
 
-def main():
-    found = list(missing())
-    print("\n".join(found) or "docs/MANIFEST.md: all names are there")
+def faults_of(rule: Rule, functions: Functions) -> Iterator[str]:
+    """What a rule names that isn't there."""
+    yield from (f"what is {key!r}?" for key in rule.parts.keys() - KEYS)
+    yield from definitions(rule)
+    yield from functions.faults(rule, "done")
+    yield from functions.faults(rule, "offered")
+    yield from (f"no row {pattern}" for pattern, found in fitting(rule.parts.get("rows", ""), rows()) if not found)
+    for crate, text in rule.groups("tests"):
+        content = "".join(path.read_text() for path in ROOT.glob(f"crates/{crate}/src/**/*.rt"))
+        yield from (f"no test {name} in {crate}" for name in re.findall(r"\w+", text) if f"fn {name}(" not in content)
+    for crate, _ in rule.groups("examples"):
+        if not (ROOT / "crates" / crate / "proofs" / "Rows.antt").is_file():
+            yield f"no Rows in {crate}"
+    yield from (f"no edit {name} of {crate}" for crate, name in edits_of(rule) if (crate, name) not in edits())
+    if not rule.parts.keys() & {"rows", "examples"}:
+        yield "no row and no example"
+
+
+def edits_of(rule: Rule) -> set[tuple[str, str]]:
+    return {(crate, name) for crate, text in rule.groups("edits") for name in re.findall(r"\w+", text)}
+
+
+def manifest_faults() -> Iterator[str]:
+    found, functions = list(rules(MANIFEST.read_text())), Functions()
+    for rule in found:
+        yield from (f"{rule.title}: {fault}" for fault in faults_of(rule, functions))
+    shown = set[str]().union(*(names for rule in found for _, names in fitting(rule.parts.get("rows", ""), rows())))
+    guarding = set[tuple[str, str]]().union(*map(edits_of, found))
+    yield from (f"the row {name} stands under no rule" for name in rows() if name not in shown)
+    yield from (f"the edit {name} of {crate} stands under no rule" for crate, name in sorted(edits() - guarding))
+    if not found:
+        yield "no rules"
+
+
+def main() -> None:
+    argparse.ArgumentParser(description=__doc__, formatter_class=argparse.RawDescriptionHelpFormatter).parse_args()
+    found = [f"docs/MANIFEST.md: {fault}" for fault in manifest_faults()] + list(doc_names.faults())
+    for fault in found:
+        print(fault)
+    print(f"documents: {len(found)} faults")
     sys.exit(1 if found else 0)
 
 

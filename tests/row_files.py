@@ -1,32 +1,33 @@
 """What several rows' files.py write: they find this module by PYTHONPATH."""
+import pathlib
+from collections.abc import Iterable
+
+LINES = 500_000  # of one file, so that none has more than 16 MiB
 
 
-def chain(word, files, last):
-    """Files of which each takes in the next by this word: build.ninja, f1 and so on, `files` in all, and one more with this text."""
+def chain(word: str, files: int, last: str) -> None:
+    """So many files of which each takes in the next by this word, build.ninja, f1 and so on; last one of this text."""
     for number in range(files):
         name = f"f{number}" if number else "build.ninja"
-        open(name, "w").write(f"x{number} = 1\n{word} f{number + 1}\n")
-    open(f"f{files}", "w").write(last)
+        pathlib.Path(name).write_text(f"x{number} = 1\n{word} f{number + 1}\n")
+    pathlib.Path(f"f{files}").write_text(last)
 
 
-LINES = 500_000
-
-
-def in_files(lines):
-    """A rule `r` and these lines, in files of so many lines that build.ninja includes, since no file may have more than 16 MiB."""
+def in_files(lines: Iterable[str]) -> None:
+    """A rule `r` and these lines, in files that build.ninja includes, since no file may have more than 16 MiB."""
     lines = list(lines)
     with open("build.ninja", "w") as main:
         main.write("rule r\n  command = $out\n")
         for first in range(0, len(lines), LINES):
-            open(f"f{first}", "w").write("".join(lines[first:first + LINES]))
+            pathlib.Path(f"f{first}").write_text("".join(lines[first:first + LINES]))
             main.write(f"include f{first}\n")
 
 
-def edges(count):
+def edges(count: int) -> list[str]:
     """Build lines of so many edges."""
     return [f"build {number:x}: phony\n" for number in range(count)]
 
 
-def listed(count, word=""):
+def listed(count: int, word: str = "") -> str:
     """So many paths."""
     return " ".join(f"{word}{number}" for number in range(count))

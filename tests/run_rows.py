@@ -1,11 +1,9 @@
 #!/usr/bin/env python3
-"""Runs the program on each folder of tests/rows and compares what it prints.
+"""Runs the program on the folders of tests/rows and compares what it prints.
 
-usage: run_rows.py PROGRAM [PATTERN..]
+A row is a folder tests/rows/LAYER/NAME; no two rows have one name. PATTERN is a shell's pattern: of names (`tab_*`),
+or with the layer in front (`scopes/*`); without one all rows are run. Of a row that fails the difference is shown.
 
-With patterns (as `cycle*`), those rows alone. Rows run side by side; how many are done is told on standard error.
-
-A row is a folder:
   files/         copied to a fresh folder, in which the program runs
   files.py       run there first, for files that are too large or too many to keep; row_files.py has what several share
   args           one word a line (default: commands build.ninja)
@@ -13,28 +11,46 @@ A row is a folder:
   stdout.has stderr.has   in place of these: what occurs there, one a line
   stdout.to      a file that standard output goes to, or the word `closed`
   status         the exit status (default: 0)
+
 The last line is `N passed, M failed`.
 """
+import collections
 import concurrent.futures
+import difflib
 import fnmatch
 import os
 import pathlib
+import shlex
 import shutil
 import subprocess
 import sys
 import tempfile
+from collections.abc import Iterator, Sequence
+
+import programs
 
 ROWS = pathlib.Path(__file__).resolve().parent / "rows"
+LAYERS = ("text", "statements", "scopes", "edges", "graphs", "program")
+PARTS = {"files", "files.py", "args", "stdout", "stderr", "stdout.has", "stderr.has", "stdout.to", "status"}
 SECONDS = 60
-STEP = 50  # how many rows go by between two lines of progress
+CLOSED = ["sh", "-c", 'exec "$0" "$@" >&-']  # a command without standard output
+MOST_LINES = 200  # of one difference
+MOST_BYTES = 400  # of one line of it
+
+Done = subprocess.CompletedProcess[bytes]
 
 
-def text(row, name, default=b""):
+def name_of(row: pathlib.Path) -> str:
+    """LAYER/NAME."""
+    return f"{row.parent.name}/{row.name}"
+
+
+def content(row: pathlib.Path, name: str, default: bytes = b"") -> bytes:
     path = row / name
     return path.read_bytes() if path.exists() else default
 
 
-def prepared(row, folder):
+def prepare(row: pathlib.Path, folder: str) -> None:
     if (row / "files").is_dir():
         shutil.copytree(row / "files", folder, dirs_exist_ok=True)
     if (row / "files.py").exists():
@@ -42,63 +58,142 @@ def prepared(row, folder):
         subprocess.run([sys.executable, str(row / "files.py")], cwd=folder, env=found, check=True)
 
 
-CLOSED = ["sh", "-c", 'exec "$0" "$@" >&-']  # a command without standard output
+def run(program: str, row: pathlib.Path) -> Done:
+    with tempfile.TemporaryDirectory() as folder:
+        prepare(row, folder)
+        words = content(row, "args", b"commands\nbuild.ninja\n").split(b"\n")[:-1]
+        target = content(row, "stdout.to").decode().strip()
+        out = open(target, "wb") if target not in ("", "closed") else subprocess.PIPE
+        command = [*(CLOSED if target == "closed" else []), os.fsencode(program), *words]
+        return subprocess.run(
+            command, cwd=folder, stdin=subprocess.DEVNULL, stdout=out, stderr=subprocess.PIPE, timeout=SECONDS)
 
 
-def run(program, row, folder):
-    words = text(row, "args", b"commands\nbuild.ninja\n").split(b"\n")[:-1]
-    target = text(row, "stdout.to").decode().strip()
-    out = open(target, "wb") if target not in ("", "closed") else subprocess.PIPE
-    before = CLOSED if target == "closed" else []
-    return subprocess.run(
-        [*before, os.fsencode(program), *words], cwd=folder, stdin=subprocess.DEVNULL, stdout=out, stderr=subprocess.PIPE, timeout=SECONDS)
+def shown(line: bytes) -> str:
+    """A line with escapes for all that is no printable ASCII."""
+    text = repr(line)[2:-1].replace("\\\\", "\\")
+    return text if len(text) <= MOST_BYTES else f"{text[:MOST_BYTES]}.. ({len(line)} bytes)"
 
 
-def differences(row, done):
-    wanted = int(text(row, "status", b"0"))
-    if done.returncode != wanted:
-        yield f"status {done.returncode}, wanted {wanted}"
+def place(one: Sequence[bytes] | bytes, other: Sequence[bytes] | bytes) -> int:
+    """Where two lists part."""
+    short = min(len(one), len(other))
+    return next((at for at in range(short) if one[at] != other[at]), short)
+
+
+def difference(name: str, wanted: bytes, found: bytes) -> Iterator[str]:
+    """A unified difference; of a long one its first lines."""
+    before, after = wanted.splitlines(True), found.splitlines(True)
+    long = max(len(before), len(after)) > MOST_LINES
+    first = max(0, place(before, after) - 3) if long else 0  # what is equal in front would only take time
+    lines = difflib.unified_diff(
+        [shown(line) for line in before[first:first + MOST_LINES]],
+        [shown(line) for line in after[first:first + MOST_LINES]], f"wanted {name}", f"found {name}", lineterm="")
+    yield from lines
+    yield f"({name} differs from byte {place(wanted, found)} on; {len(wanted)} bytes wanted, {len(found)} found)"
+
+
+def differences(row: pathlib.Path, done: Done) -> Iterator[str]:
+    """What is otherwise than the row says, as lines to show."""
+    status = int(content(row, "status", b"0"))
+    if done.returncode != status:
+        yield f"status {done.returncode}, wanted {status}"
     for name, found in (("stdout", done.stdout or b""), ("stderr", done.stderr)):
         if (row / f"{name}.has").exists():
-            for line in text(row, f"{name}.has").splitlines():
-                if line not in found:
-                    yield f"{name} lacks {line!r}: {found[:200]!r}"
-        elif found != text(row, name):
-            yield f"{name} is {found[:200]!r}, wanted {text(row, name)[:200]!r}"
+            lacking = [line for line in content(row, f"{name}.has").splitlines() if line not in found]
+            yield from (f"{name} lacks: {shown(line)}" for line in lacking)
+            yield from (f"found {name}: {shown(line)}" for line in found.splitlines()[:MOST_LINES] if lacking)
+        elif found != content(row, name):
+            yield from difference(name, content(row, name), found)
 
 
-def faults(program, row):
-    with tempfile.TemporaryDirectory() as folder:
-        prepared(row, folder)
-        try:
-            return list(differences(row, run(program, row, folder)))
-        except subprocess.TimeoutExpired:
-            return [f"no end within {SECONDS} seconds"]
+def faults(program: str, row: pathlib.Path) -> list[str]:
+    try:
+        return list(differences(row, run(program, row)))
+    except subprocess.TimeoutExpired:
+        return [f"no end within {SECONDS} seconds"]
 
 
-def wanted(patterns):
-    """The names of the rows that one of the patterns fits; all without a pattern."""
-    names = sorted(row.name for row in ROWS.iterdir() if row.is_dir())
+def keep(row: pathlib.Path, name: str, text: bytes) -> None:
+    """Writes a file of a row, or takes it away where it would say nothing."""
+    if text:
+        (row / name).write_bytes(text)
+    else:
+        (row / name).unlink(missing_ok=True)
+
+
+def bless(program: str, row: pathlib.Path) -> list[str]:
+    """Makes what is found what is wanted, but for what only has to occur (`.has`); gives what then still differs."""
+    try:
+        done = run(program, row)
+    except subprocess.TimeoutExpired:
+        return [f"no end within {SECONDS} seconds"]
+    keep(row, "status", f"{done.returncode}\n".encode() if done.returncode else b"")
+    for name, found in (("stdout", done.stdout or b""), ("stderr", done.stderr)):
+        if not (row / f"{name}.has").exists():
+            keep(row, name, found)
+    return list(differences(row, done))
+
+
+def misplaced(rows: Sequence[pathlib.Path]) -> Iterator[str]:
+    """What stands in tests/rows and is no row of a layer, no part of a row, or a row of a name that another has."""
+    yield from (f"no layer: {path.name}" for path in sorted(ROWS.iterdir()) if path.name not in LAYERS)
+    for row in rows:
+        yield from (f"no part of a row: {name_of(row)}/{path.name}" for path in row.iterdir() if path.name not in PARTS)
+    names = collections.Counter(row.name for row in rows)
+    yield from (f"rows of one name: {name}" for name, count in names.items() if count > 1)
+
+
+def all_rows() -> list[pathlib.Path]:
+    rows = sorted(row for layer in LAYERS for row in (ROWS / layer).iterdir())
+    for fault in misplaced(rows):
+        sys.exit(f"run_rows.py: {fault}")
+    return rows
+
+
+def fits(row: pathlib.Path, pattern: str) -> bool:
+    return fnmatch.fnmatchcase(name_of(row) if "/" in pattern else row.name, pattern)
+
+
+def wanted(patterns: Sequence[str]) -> list[pathlib.Path]:
+    """The rows that one of the patterns fits; all without a pattern."""
+    rows = all_rows()
     for pattern in patterns:
-        if not fnmatch.filter(names, pattern):
+        if not any(fits(row, pattern) for row in rows):
             sys.exit(f"run_rows.py: no such row: {pattern}")
-    return [name for name in names if not patterns or any(fnmatch.fnmatch(name, pattern) for pattern in patterns)]
+    return [row for row in rows if not patterns or any(fits(row, pattern) for pattern in patterns)]
 
 
-def main():
-    if len(sys.argv) < 2:
-        sys.exit(__doc__)
-    program = pathlib.Path(sys.argv[1]).resolve()
-    names, failed = wanted(sys.argv[2:]), 0
-    with concurrent.futures.ThreadPoolExecutor(min(4, os.cpu_count() or 1)) as lanes:
-        for done, (name, found) in enumerate(zip(names, lanes.map(lambda name: faults(program, ROWS / name), names)), 1):
-            failed += bool(found)
-            for fault in found:
-                print(f"{name}: {fault}")
-            if done % STEP == 0:
-                print(f"{done} of {len(names)} rows", file=sys.stderr, flush=True)
-    print(f"{len(names) - failed} passed, {failed} failed")
-    sys.exit(1 if failed else 0)
+def again(words: Sequence[str], row: pathlib.Path) -> str:
+    """The command that runs this row alone."""
+    return f"again: python3 {shlex.quote(words[0])} {shlex.quote(words[1])} {row.name}"
+
+
+def progress(line: str) -> None:
+    """Shows a line on the terminal in place of the last one."""
+    if sys.stderr.isatty():
+        print(f"\r\033[K{line}", end="", file=sys.stderr, flush=True)
+
+
+def main() -> None:
+    parser = programs.arguments(__doc__)
+    parser.add_argument("patterns", metavar="PATTERN", nargs="*", help="rows to run, as tab_* or scopes/*")
+    parser.add_argument("--bless", action="store_true", help="write what is found into the rows")
+    parser.add_argument("--jobs", type=int, default=os.cpu_count() or 1, help="rows side by side (default: the cores)")
+    asked = parser.parse_args()
+    rows, failed = wanted(asked.patterns), 0
+    here = os.path.relpath(asked.program)
+    told = ["tests/run_rows.py", asked.program if here.startswith("..") else here]
+    check = bless if asked.bless else faults
+    with concurrent.futures.ThreadPoolExecutor(max(1, asked.jobs)) as lanes:
+        results = lanes.map(lambda row: check(asked.program, row), rows)
+        for done, (row, found) in enumerate(zip(rows, results), 1):
+            if found:
+                failed += 1
+                progress("")
+                print("\n".join([f"{name_of(row)}:", *(f"    {line}" for line in found), again(told, row)]), flush=True)
+            progress(f"{done} of {len(rows)} rows" if done < len(rows) else "")
+    programs.end(len(rows) - failed, failed)
 
 
 if __name__ == "__main__":

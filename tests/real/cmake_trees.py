@@ -130,12 +130,12 @@ FORTRAN = {
 }
 
 
-def quoted(name):
+def quoted(name: str) -> str:
     """A CMake argument in which nothing is expanded."""
     return "[==[" + name.replace(";", "\\;") + "]==]"
 
 
-def odd_names():
+def odd_names() -> dict[str, str]:
     """Sources, outputs of commands, folders and definitions with odd names."""
     sources, made, folders = but("~first", "a:b", "${out}", "\\"), but("#", "<", "|", "\\", ";"), but("~first", "|", ";", "\\")
     top = [SMALL]
@@ -156,20 +156,20 @@ def odd_names():
     return files
 
 
-def many_sources(count):
+def many_sources(count: int) -> dict[str, str]:
     """One library of many sources and a program beside it."""
     return trees.many_sources("CMakeLists.txt", count, lambda names:
         f"{SMALL}add_library(many SHARED {' '.join(names)})\nadd_executable(app main.c)\ntarget_link_libraries(app many)\n")
 
 
-def part(n):
+def part(n: int) -> str:
     """A library, a program that uses those of the folders above it, and a command."""
     used = " ".join(f"part{m}" for m in range(max(0, n - 3), n + 1))
     return (f"add_custom_command(OUTPUT made.c COMMAND echo {n} > made.c)\nadd_library(part{n} made.c given.c)\n"
             f"add_executable(app{n} main.c)\ntarget_link_libraries(app{n} {used})\n")
 
 
-def many_targets(count):
+def many_targets(count: int) -> dict[str, str]:
     """Many folders with a few targets each."""
     return trees.many_folders("CMakeLists.txt", count, SMALL + "".join(f"add_subdirectory(part{n})\n" for n in range(count)), part)
 

@@ -89,11 +89,11 @@ PROJECT = {
 }
 
 
-def quoted(name):
+def quoted(name: str) -> str:
     return "'" + name.replace("\\", "\\\\").replace("'", "\\'") + "'"
 
 
-def odd_names():
+def odd_names() -> dict[str, str]:
     """Sources, outputs of commands, folders and arguments with odd names."""
     sources, made, folders = but(), but("|", "\\"), but("|", "\\")
     top = ["project('odd', 'c')\n"]
@@ -110,19 +110,19 @@ def odd_names():
     return {"meson.build": "".join(top), **files}
 
 
-def many_sources(count):
+def many_sources(count: int) -> dict[str, str]:
     """One library of many sources and a program beside it."""
     return trees.many_sources("meson.build", count, lambda names:
         f"project('many', 'c')\nmany = shared_library('many', {', '.join(map(quoted, names))})\nexecutable('app', 'main.c', link_with: many)\n")
 
 
-def part(n):
+def part(n: int) -> str:
     """A library, a program that uses it, and a command."""
     return (f"made = custom_target('made{n}', output: 'made{n}.c', command: ['touch', '@OUTPUT@'])\n"
             f"part = static_library('part{n}', made, 'given.c')\nexecutable('app{n}', 'main.c', link_with: part)\n")
 
 
-def many_targets(count):
+def many_targets(count: int) -> dict[str, str]:
     """Many folders with a few targets each."""
     return trees.many_folders("meson.build", count, "project('many', 'c')\n" + "".join(f"subdir('part{n}')\n" for n in range(count)), part)
 

@@ -6,6 +6,6 @@ ODD = [
     "two  blanks", "$in", "${out}", "$$", "dot.", "a$ b$:c", "semi;colon", "back\\slash"]
 
 
-def but(*parts):
+def but(*parts: str) -> list[str]:
     """The odd names without those that a tool refuses, or writes as ninja can't read them."""
     return [name for name in ODD if not any(part in name for part in parts)]

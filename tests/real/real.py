@@ -1,12 +1,10 @@
 #!/usr/bin/env python3
 """Compares the commands of build trees that CMake and Meson make here with those that ninja prints.
 
-usage: real.py [--short] PROGRAM [WORD..]
-
-The trees are of projects that cmake_trees.py and meson_trees.py write, and of the sources of some Debian packages (upstream.py), fetched and configured
-in a temporary folder and not built. With --short they are some of the former, and nothing is fetched; with words, those with one in their name.
-Commands are compared as multisets. A tree that is refused by a number that the project decided on is named, and compared again without
-the lines that are refused. What can't be made here is skipped, and why is said; without ninja nothing is compared. The last line is
+The trees are of projects that cmake_trees.py and meson_trees.py write, and of the sources of some Debian packages
+(upstream.py), fetched and configured in a temporary folder and not built. Commands are compared as multisets. A tree
+that is refused by a number that the project decided on is named, and compared again without the lines that are refused.
+What can't be made here is skipped, and why is said; without ninja nothing is compared. The last line is
 `N equal, M refused, K skipped, F failed`.
 """
 import pathlib
@@ -15,12 +13,17 @@ import shutil
 import subprocess
 import sys
 import tempfile
+from collections.abc import Sequence
 
-import comparing
-import trees
+sys.path.insert(0, str(pathlib.Path(__file__).resolve().parent.parent))  # programs.py
+
 import cmake_trees
+import comparing
 import meson_trees
+import programs
+import trees
 import upstream
+from trees import Tree
 
 WIDTH = 300
 
@@ -28,18 +31,18 @@ WIDTH = 300
 class Count:
     """What came of the trees."""
 
-    def __init__(self):
+    def __init__(self) -> None:
         self.equal = self.refused = self.skipped = self.failed = self.commands = 0
 
-    def skip(self, name, why):
+    def skip(self, name: str, why: str) -> None:
         self.skipped += 1
         print(f"{name}: skipped, {why}", flush=True)
 
-    def fail(self, name, why):
+    def fail(self, name: str, why: str) -> None:
         self.failed += 1
         print(f"{name}: FAILED\n{why}", flush=True)
 
-    def add(self, name, outcome):
+    def add(self, name: str, outcome: comparing.Outcome) -> None:
         if outcome.verdict == "differs":
             return self.fail(f"{name}, {outcome.commands} commands", outcome.said)
         setattr(self, outcome.verdict, getattr(self, outcome.verdict) + 1)
@@ -48,23 +51,23 @@ class Count:
         print(f"{name}, {outcome.commands} commands: {outcome.verdict}{more}", flush=True)
 
 
-def compare(tree, program, ninja, build, count):
+def compare(tree: Tree, program: str, ninja: str, build: pathlib.Path, count: Count) -> None:
     for manifest in trees.manifests(build):
         name = tree.name if manifest == "build.ninja" else f"{tree.name}, {manifest}"
         try:
             count.add(name, comparing.compared(program, ninja, manifest, build))
-        except (OSError, RuntimeError, subprocess.TimeoutExpired) as error:
+        except (OSError, programs.Refused, subprocess.TimeoutExpired) as error:
             count.fail(name, f"    {error}")
 
 
-def reason(text):
+def reason(text: str) -> str:
     """What a tool says from its first error on, else its last words."""
     words = " ".join(text.split())
     found = re.search("(CMake Error|ERROR).*", words)
     return found[0][:WIDTH] if found else words[-WIDTH:]
 
 
-def try_tree(tree, program, ninja, count):
+def try_tree(tree: Tree, program: str, ninja: str, count: Count) -> None:
     """A project of this repository must be configured; another may want what is not installed."""
     lacking = trees.lacking(tree)
     if lacking:
@@ -78,30 +81,30 @@ def try_tree(tree, program, ninja, count):
         compare(tree, program, ninja, build, count)
 
 
-def wanted(tree, words):
+def wanted(tree: Tree, words: Sequence[str]) -> bool:
     return not words or any(word in tree.name for word in words)
 
 
-def own_trees(short):
+def own_trees(short: bool) -> list[Tree]:
     return [tree for tree in [*cmake_trees.TREES, *meson_trees.TREES] if tree.short or not short]
 
 
-def main():
-    flags, words = [word for word in sys.argv[1:] if word.startswith("--")], [word for word in sys.argv[1:] if not word.startswith("--")]
-    if not words:
-        sys.exit(__doc__)
-    program, words, short = str(pathlib.Path(words[0]).resolve()), words[1:], "--short" in flags
+def main() -> None:
+    parser = programs.arguments(__doc__)
+    parser.add_argument("words", metavar="WORD", nargs="*", help="trees with one of these in their name")
+    parser.add_argument("--short", action="store_true", help="some of this repository's own trees; nothing is fetched")
+    asked = parser.parse_args()
     ninja, count = shutil.which("ninja"), Count()
     if ninja is None:
         print("no ninja: nothing was compared")
         return
-    for tree in own_trees(short):
-        if wanted(tree, words):
-            try_tree(tree, program, ninja, count)
-    if not short:
+    for tree in own_trees(asked.short):
+        if wanted(tree, asked.words):
+            try_tree(tree, asked.program, ninja, count)
+    if not asked.short:
         with tempfile.TemporaryDirectory() as folder:
-            for tree in upstream.fetched(pathlib.Path(folder), words, count.skip):
-                try_tree(tree, program, ninja, count)
+            for tree in upstream.fetched(pathlib.Path(folder), asked.words, count.skip):
+                try_tree(tree, asked.program, ninja, count)
     print(f"{count.commands} commands compared")
     print(f"{count.equal} equal, {count.refused} refused, {count.skipped} skipped, {count.failed} failed")
     sys.exit(1 if count.failed else 0)

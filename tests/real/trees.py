@@ -1,7 +1,12 @@
 """Build trees: how one is made and with which tool."""
 import os
+import pathlib
 import shutil
 import subprocess
+from collections.abc import Callable, Mapping, Sequence
+from typing import Any
+
+import programs
 
 SECONDS = 300
 
@@ -12,30 +17,36 @@ class Tree:
     Where there is a text `above`, it is the manifest of the folder above the build folder, and stands for the whole.
     """
 
-    def __init__(self, name, tool, files, *options, short=False, needs=(), build="build", above=None, environment=None):
+    def __init__(
+        self, name: str, tool: str, files: Mapping[str, str] | pathlib.Path, *options: str, short: bool = False,
+        needs: Sequence[str] = (), build: str = "build", above: str | None = None,
+        environment: Mapping[str, str] | None = None,
+    ) -> None:
         self.name, self.tool, self.files, self.options, self.short = name, tool, files, options, short
         self.needs, self.build, self.above, self.environment = [tool, *needs], build, above, environment or {}
-        self.own = isinstance(files, dict)
+        self.own = not isinstance(files, pathlib.Path)
 
 
 COMPILERS = ("cc", "c++")
 
 
-def of_tool(tool):
+def of_tool(tool: str) -> Callable[..., Tree]:
     """Makes trees of a tool, which need compilers of C and C++ where nothing else is said."""
-    def tree(name, files, *options, needs=COMPILERS, **more):
+    def tree(
+        name: str, files: Mapping[str, str], *options: str, needs: Sequence[str] = COMPILERS, **more: Any,
+    ) -> Tree:
         return Tree(f"{tool} {name}", tool, files, *options, needs=needs, **more)
 
     return tree
 
 
-def many_sources(manifest, count, text):
+def many_sources(manifest: str, count: int, text: Callable[[list[str]], str]) -> dict[str, str]:
     """One folder's manifest, whose text is made of the names of its sources, and these."""
     names = [f"part{n // 50}/file{n}.c" for n in range(count)]
     return {manifest: text(names), "main.c": "", **{name: "" for name in names}}
 
 
-def many_folders(manifest, count, top, text):
+def many_folders(manifest: str, count: int, top: str, text: Callable[[int], str]) -> dict[str, str]:
     """A manifest above many folders, each with one of its own and two sources."""
     files = {manifest: top}
     for n in range(count):
@@ -48,19 +59,12 @@ class NotConfigured(Exception):
     """The tool failed, or wrote no manifest; what it said."""
 
 
-def lacking(tree):
+def lacking(tree: Tree) -> list[str]:
     """The programs that a tree needs and that are not here."""
     return [name for name in tree.needs if shutil.which(name) is None]
 
 
-def write(files, folder):
-    for name, text in files.items():
-        path = folder / name
-        path.parent.mkdir(parents=True, exist_ok=True)
-        path.write_text(text, encoding="utf-8")
-
-
-def command(tree, source, build):
+def command(tree: Tree, source: pathlib.Path, build: pathlib.Path) -> list[str]:
     """The tool's words; `@source@` in an option is the folder of the sources."""
     options = [option.replace("@source@", str(source)) for option in tree.options]
     if tree.tool == "cmake":
@@ -69,11 +73,11 @@ def command(tree, source, build):
     return ["meson", "setup", *options, str(build), str(source)]
 
 
-def configured(tree, folder):
+def configured(tree: Tree, folder: pathlib.Path) -> pathlib.Path:
     """Makes a tree's sources and manifests below a folder; gives the folder of the manifests."""
     source, build = folder / "source", folder / tree.build
     if tree.own:
-        write(tree.files, source)
+        programs.write(tree.files, source)
     else:
         source = tree.files
     environment = {**os.environ, "LC_ALL": "C.UTF-8", **tree.environment}
@@ -83,10 +87,10 @@ def configured(tree, folder):
         raise NotConfigured(done.stdout.decode(errors="replace").strip())
     if tree.above is None:
         return build
-    write({"build.ninja": tree.above}, build.parent)
+    programs.write({"build.ninja": tree.above}, build.parent)
     return build.parent
 
 
-def manifests(folder):
+def manifests(folder: pathlib.Path) -> list[str]:
     """Manifests that stand by themselves: CMake writes one for each of several configurations."""
     return sorted(path.name for path in folder.glob("build*.ninja"))

@@ -3,8 +3,9 @@ import pathlib
 import re
 import shutil
 import subprocess
+from collections.abc import Callable, Iterator, Sequence
 
-import trees
+import programs
 from trees import Tree
 
 SECONDS = 20
@@ -45,15 +46,15 @@ LEFT_OUT = {"zlib": ["win32/zlib1.rc"]}  # what Debian leaves out and a project 
 class Mirror:
     """Debian's source packages, by apt-get with lists, sources and cache below one folder."""
 
-    def __init__(self, folder):
-        self.folder = folder
+    def __init__(self, folder: pathlib.Path) -> None:
+        self.folder, self.said = folder, ""
         for name in ("parts", "lists/partial", "cache/archives/partial"):
             (folder / name).mkdir(parents=True)
         for path in [pathlib.Path("/etc/apt/sources.list"), *pathlib.Path("/etc/apt/sources.list.d").glob("*")]:
             if path.suffix in (".list", ".sources") and path.is_file():
                 (folder / "parts" / path.name).write_text(of_sources(path.read_text()))
 
-    def run(self, *words):
+    def run(self, *words: str) -> None:
         """Runs apt-get; keeps what it complains of."""
         places = {
             "Dir::Etc::SourceList": "/dev/null", "Dir::Etc::SourceParts": self.folder / "parts", "Dir::State::Lists": self.folder / "lists",
@@ -63,7 +64,7 @@ class Mirror:
                               stdout=subprocess.DEVNULL, stderr=subprocess.PIPE)
         self.said = " ".join(done.stderr.decode(errors="replace").split())
 
-    def fetched(self, package):
+    def fetched(self, package: str) -> pathlib.Path | None:
         """The folder of a package's sources as upstream gave them out, or None."""
         unpacked = self.folder / "unpacked" / package
         if not unpacked.exists():
@@ -75,17 +76,17 @@ class Mirror:
         return next(unpacked.iterdir(), None)
 
 
-def of_sources(text):
+def of_sources(text: str) -> str:
     """A list of package sources that names the source packages alone."""
     return re.sub(r"^deb(?=[ \t])", "deb-src", re.sub(r"^Types:.*$", "Types: deb-src", text, flags=re.MULTILINE), flags=re.MULTILINE)
 
 
-def title(project):
+def title(project: Sequence[str]) -> str:
     package, tool, _, *options = project
     return " ".join([package, "by", tool, *options])
 
 
-def fetched(folder, words, skip):
+def fetched(folder: pathlib.Path, words: Sequence[str], skip: Callable[[str, str], None]) -> Iterator[Tree]:
     """The trees of upstream projects, one after the other, as they are fetched; with words, those with one in their name."""
     projects = [project for project in PROJECTS if not words or any(word in title(project) for word in words)]
     if not projects:
@@ -102,5 +103,5 @@ def fetched(folder, words, skip):
         if source is None:
             skip(title(project), f"not fetched: {mirror.said[:WIDTH]}")
             continue
-        trees.write({path: "" for path in LEFT_OUT.get(package, [])}, source)
+        programs.write({path: "" for path in LEFT_OUT.get(package, [])}, source)
         yield Tree(title(project), tool, source / place, *options)

@@ -13,6 +13,9 @@ pub enum Request<'a> {
     Commands(&'a str),
 }
 
+/// What `--version` prints behind the program's name.
+const VERSION: &str = "0.1.0";
+
 const ABOUT: &str =
     "Reads Ninja manifests. What it prints is proved to be what the manifest means.";
 
@@ -39,6 +42,7 @@ fn known<'a>(alloc: Global) -> Result<Command<'a>, AllocError> {
         .arg(file)?;
     Command::new(alloc, "plan_ninja")
         .about(ABOUT)
+        .version(VERSION)
         .subcommand_required(true)
         .arg_required_else_help(true)
         .subcommand(commands)

@@ -1,0 +1,116 @@
+"""Checks names, numbers and widths in the documents.
+
+The numbers and names of docs/FAULTS.md are those of the code, both ways. Words between backticks in docs/*.md that look
+like names of code (`foo_bar`, `FooBar`) occur in crates/, tests/, bench/ or the Makefile. Lines of documents and of the
+scripts have at most 120 columns.
+"""
+import pathlib
+import re
+from collections.abc import Iterator
+
+import call_graph
+
+ROOT = pathlib.Path(__file__).resolve().parent.parent
+WIDTH = 120
+CODE = ("crates/*/src/**/*.rt", "crates/*/specs/**/*.antt", "crates/*/proofs/**/*.antt", "crates/*/must-fail/*.edit",
+        "tests/**/*.py", "tests/edits/**/*.edit", "tests/refusing.c", "bench/*.py", "Makefile", "crates.txt")
+NARROW = ("*.md", "docs/**/*.md", "tests/**/*.md", "tests/*.py", "tests/real/*.py", "bench/*.py")
+FOLDERS = ("crates", "tests", "bench", "examples")
+LOOKS_LIKE_A_NAME = re.compile(r"[a-z]\w*_\w*[a-z0-9]|[A-Z][a-z0-9]+(?:[A-Z][a-z0-9]*)+")
+
+# Lines that may be wider, by file: tables that can't be broken, and the texts of other tools that scripts write.
+WIDE = {
+    "README.md": "tables, and prose that its owner breaks",
+    "docs/ARCHITECTURE.md": "tables, and prose that its owner breaks",
+    "docs/DECISIONS.md": "prose that its owner breaks",
+    "docs/PERFORMANCE.md": "tables, and prose that its owner breaks",
+    "docs/PROOF_NOTES.md": "tables, and prose that its owner breaks",
+    "docs/REFUSED.md": "tables, and prose that its owner breaks",
+    "tests/real/cmake_trees.py": "CMake's own lines",
+    "tests/real/meson_trees.py": "Meson's own lines",
+    "tests/real/odd_names.py": "a list of names",
+    "tests/real/upstream.py": "tables of packages and options",
+}
+
+# Names that are of no file here, by document: of the toolchain, of other tools, or of forms that were given up.
+FOREIGN: dict[str, set[str]] = {
+    "MANIFEST.md": {"ninja_required_version"},  # ninja's own variable
+    "DECISIONS.md": {"ninja_required_version", "expanded_path"},  # ninja's own variable; a function that is gone
+    "PROOF_NOTES.md": {  # of the toolchain, or in forms that it refuses
+        "at_exit", "insert_key", "into_iter_items", "on_err", "ord_max", "serde_json", "slice_get_cases", "with_item",
+        "with_x"},
+}
+
+
+def printed_names() -> dict[int, str]:
+    """The names by which plan_ninja prints numbers; any other number is want of memory."""
+    sources = "".join(path.read_text() for path in call_graph.source_files("plan_ninja"))
+    return {int(number): name for number, name in re.findall(r'\b(\d+) => "([A-Z]\w*)"', sources)}
+
+
+def answered_numbers() -> dict[int, str]:
+    """The variant that each number stands for in a function `number`, and the numbers that plan_ninja gives itself."""
+    numbers: dict[int, str] = {}
+    own = set(call_graph.source_files("plan_ninja"))
+    for path in call_graph.source_files():
+        text = path.read_text()
+        for body in re.findall(r"fn number\(.*?\n    }\n", text, flags=re.DOTALL):
+            numbers |= {int(number): name for name, number in re.findall(r"\w+::(\w+)(?:\([^)]*\))? => (\d+)", body)}
+        if path in own:
+            numbers |= {int(number): "" for number in re.findall(r"\bnumber: (\d+)", text)}
+    return numbers
+
+
+def fault_faults(text: str) -> Iterator[str]:
+    """Where docs/FAULTS.md and the code differ."""
+    printed, _, kept = text.partition("\n## Answered by functions, never printed")
+    listed = {int(number): name for number, name in re.findall(r"^### (\d+) (\w+)", printed, flags=re.MULTILINE)}
+    unprinted = {int(number): name for number, name in re.findall(r"^### (\d+) (\w+)", kept, flags=re.MULTILINE)}
+    names, numbers = printed_names(), answered_numbers()
+    for number in sorted(numbers.keys() | names.keys() | listed.keys() | unprinted.keys()):
+        name = listed.get(number, unprinted.get(number, "missing here"))
+        wanted = numbers.get(number) if number in unprinted else names.get(number, "Memory")
+        if number not in numbers:
+            yield f"{number} {name}: no function answers it"
+        elif name != wanted:
+            yield f"{number} {name}: the code says {wanted}"
+        elif numbers[number] not in ("", name) and not numbers[number].endswith(name):
+            yield f"{number} {name}: the variant is {numbers[number]}"
+
+
+def known_words() -> set[str]:
+    """All words of the code, and the names of its files and folders."""
+    words = {part for folder in FOLDERS for path in (ROOT / folder).rglob("*") for part in (path.name, path.stem)}
+    for pattern in CODE:
+        for path in set(ROOT.glob(pattern)) - {pathlib.Path(__file__).resolve()}:
+            words |= set(re.findall(r"\w+", path.read_text(errors="replace")))
+    return words
+
+
+def name_faults() -> Iterator[str]:
+    words = known_words()
+    for path in sorted((ROOT / "docs").glob("*.md")):
+        prose = re.sub(r"^```.*?^```", "", path.read_text(), flags=re.DOTALL | re.MULTILINE)
+        marked = {word for code in re.findall(r"`([^`]+)`", prose) for word in re.findall(r"\w+", code)}
+        named = {word for word in marked if LOOKS_LIKE_A_NAME.fullmatch(word)}
+        foreign = FOREIGN.get(path.name, set())
+        unneeded = foreign - (named - words)
+        yield from (f"docs/{path.name}: no {word} in the code" for word in sorted(named - words - foreign))
+        yield from (f"doc_names.py: {path.name} needs no exception for {word}" for word in sorted(unneeded))
+
+
+def width_faults() -> Iterator[str]:
+    for path in (path for pattern in NARROW for path in sorted(ROOT.glob(pattern))):
+        name = str(path.relative_to(ROOT))
+        wide = [at for at, line in enumerate(path.read_text().splitlines(), 1) if len(line) > WIDTH]
+        if name in WIDE and not wide:
+            yield f"doc_names.py: {name} needs no exception, its lines are narrow"
+        elif name not in WIDE:
+            yield from (f"{name}:{at}: more than {WIDTH} columns" for at in wide)
+
+
+def faults() -> Iterator[str]:
+    text = (ROOT / "docs" / "FAULTS.md").read_text()
+    yield from (f"docs/FAULTS.md: {fault}" for fault in fault_faults(text))
+    yield from name_faults()
+    yield from width_faults()

@@ -1,0 +1,77 @@
+"""What the tests and benches share: running programs, writing trees of files, and the commands that ninja prints."""
+import argparse
+import collections
+import io
+import pathlib
+import subprocess
+import sys
+from collections.abc import Mapping, Sequence
+from typing import NoReturn
+
+SECONDS = 120
+Lines = collections.Counter[bytes]  # how often each line was printed, with its newline
+
+
+class Refused(Exception):
+    """A program ended with another status than 0; what it said on standard error."""
+
+
+def program(path: str) -> str:
+    """The whole path of a program named on the command line, since it runs in other folders: a type of argparse."""
+    found = pathlib.Path(path).resolve()
+    if not found.is_file():
+        raise argparse.ArgumentTypeError(f"no such program: {path} (make builds it)")
+    return str(found)
+
+
+def arguments(usage: str) -> argparse.ArgumentParser:
+    """A script's command line: its docstring as help, and PROGRAM as its first word."""
+    parser = argparse.ArgumentParser(description=usage, formatter_class=argparse.RawDescriptionHelpFormatter)
+    parser.add_argument("program", metavar="PROGRAM", type=program, help="plan_ninja, as make built it")
+    return parser
+
+
+def run(words: Sequence[str], folder: pathlib.Path, seconds: float = SECONDS) -> subprocess.CompletedProcess[bytes]:
+    """Runs a program in a folder, without input; subprocess.TimeoutExpired where it takes longer."""
+    return subprocess.run(words, cwd=folder, stdin=subprocess.DEVNULL, capture_output=True, timeout=seconds)
+
+
+def write(files: Mapping[str, str], folder: pathlib.Path) -> None:
+    """Writes texts by their paths below a folder, byte for byte in UTF-8."""
+    for name, text in files.items():
+        path = folder / name
+        path.parent.mkdir(parents=True, exist_ok=True)
+        path.write_bytes(text.encode())
+
+
+def counted(printed: bytes) -> Lines:
+    return collections.Counter(io.BytesIO(printed))
+
+
+def printed_lines(words: Sequence[str], folder: pathlib.Path) -> Lines:
+    """The lines that a program prints, counted."""
+    done = run(words, folder)
+    if done.returncode != 0:
+        raise Refused(f"{words[0]}: {done.stderr.decode(errors='replace').strip()}")
+    return counted(done.stdout)
+
+
+def targets(printed: bytes | Lines) -> list[str]:
+    """The paths that `ninja -t targets all` has printed, each in front of its rule."""
+    lines = printed.splitlines() if isinstance(printed, bytes) else printed
+    return [line.rpartition(b": ")[0].decode(errors="surrogateescape") for line in lines]
+
+
+def ninja_commands(ninja: str, folder: pathlib.Path, manifest: str = "build.ninja") -> Lines:
+    """The commands of all edges, also where `default` names some.
+
+    Each edge stands once: `-t commands` passes over those that it has printed, so all targets stand in one call.
+    """
+    paths = targets(printed_lines([ninja, "-f", manifest, "-t", "targets", "all"], folder))
+    return printed_lines([ninja, "-f", manifest, "-t", "commands", "--", *paths], folder)
+
+
+def end(passed: int, failed: int) -> NoReturn:
+    """Prints what came of a test as its last line, and ends the script."""
+    print(f"{passed} passed, {failed} failed")
+    sys.exit(1 if failed else 0)
