@@ -20,12 +20,6 @@ LOOKS_LIKE_A_NAME = re.compile(r"[a-z]\w*_\w*[a-z0-9]|[A-Z][a-z0-9]+(?:[A-Z][a-z
 
 # Lines that may be wider, by file: tables that can't be broken, and the texts of other tools that scripts write.
 WIDE = {
-    "README.md": "tables, and prose that its owner breaks",
-    "docs/ARCHITECTURE.md": "tables, and prose that its owner breaks",
-    "docs/DECISIONS.md": "prose that its owner breaks",
-    "docs/PERFORMANCE.md": "tables, and prose that its owner breaks",
-    "docs/PROOF_NOTES.md": "tables, and prose that its owner breaks",
-    "docs/REFUSED.md": "tables, and prose that its owner breaks",
     "tests/real/cmake_trees.py": "CMake's own lines",
     "tests/real/meson_trees.py": "Meson's own lines",
     "tests/real/odd_names.py": "a list of names",
