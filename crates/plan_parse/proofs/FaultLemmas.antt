@@ -17,15 +17,15 @@ use Rattle.plan_text.specs.declared.piece_reader.Mode.TheVariants as mode
 use Rattle.plan_text.specs.declared.piece_reader.Piece.{Piece}
 use Rattle.plan_parse.specs.declared.fault.ParseFault.{ParseFault}
 use Rattle.plan_parse.specs.declared.fault.ParseFault.TheVariants as fault
-use Rattle.plan_parse.specs.declared.owner.Owner.{Owner}
-use Rattle.plan_parse.specs.declared.owner.Owner.TheVariants.{Rule, Pool}
+use Rattle.plan_parse.specs.declared.block_kind.BlockKind.{BlockKind}
+use Rattle.plan_parse.specs.declared.block_kind.BlockKind.TheVariants.{Rule, Pool}
 use Rattle.plan_parse.specs.declared.statement.Binding.{Binding}
 use Rattle.plan_parse.specs.declared.statement.StatementKind.TheVariants as kind
 use Rattle.plan_parse.specs.declared.statement.Statement.{Statement}
 use Rattle.plan_parse.specs.Faults.{offset_of}
-use Rattle.plan_parse.specs.Reading.{Place, past, past_gap, refusal, refused, name_of, name_at, byte_at, line_end_at, value_at, lifted, path_len, path_at, path_onto, paths_past, paths_at}
-use Rattle.plan_parse.specs.Blocks.{Member, Says, Faulty, Told, Head, Below, is_indented, told_in, told_of, below, blocks_of}
-use Rattle.plan_parse.specs.Statements.{bound_at, member_at, alone, is_named, wanted, unknown, not_once, knows, owned_at, all_owned_at, with_wanted, named_line, named_block, rule_of, pool_of, depth_of, is_bar, is_two_bars, is_validation, implicit_at, order_only_at, no_validation, some_path, outputs_at, inputs_at, build_of, targets_at, default_of, some_byte, file_at, include_of, subninja_of, binding_of, statement_of, statement_in, statements_of}
+use Rattle.plan_parse.specs.Reading.{Place, past, past_gap, refusal, refuse, name_of, name_at, byte_at, line_end_at, value_at, lift_fault, path_len, path_at, path_onto, paths_past, paths_at}
+use Rattle.plan_parse.specs.Blocks.{BlockLine, Text, Refused, LineRole, Head, Below, is_indented, role_of_line, roles_of_lines, below, blocks_of}
+use Rattle.plan_parse.specs.Statements.{binding_at, block_line_at, no_block_allowed, is_named, required_name, unknown_variable, missing_or_repeated, may_bind, block_variable_at, block_variables_at, has_required, named_line, named_block, rule_of, pool_of, depth_of, is_bar, is_two_bars, is_validation, implicit_at, order_only_at, no_validation, some_path, outputs_at, inputs_at, build_of, targets_at, default_of, some_byte, file_at, include_of, subninja_of, binding_of, statement_of, statement_in, statements_of}
 
 -- a fault, if any, has an offset
 abbrev Placed : {A : Type 0} → Result A ParseFault → Type 0
@@ -55,13 +55,13 @@ refused_placed : (expected : ℕ → ParseFault) (p : Place) → is_some (offset
 refused_placed expected p h = refusal_by (expected p.at) p.at (begins_with tab p.bytes) (begins_with nul p.bytes) (begins_with dollar p.bytes && Rattle.std.specs.Prelude.is_none (pieces.escape_size (drop 1 p.bytes))) h
 
 name_placed : (p : Place) → Placed (name_at p)
-name_placed p = either (prefix_len is_name_byte p.bytes == 0) (refused fault.ExpectedName p) (Ok (name_of p, past_gap (past (prefix_len is_name_byte p.bytes) p))) (refused_placed fault.ExpectedName p refl) tt
+name_placed p = either (prefix_len is_name_byte p.bytes == 0) (refuse fault.ExpectedName p) (Ok (name_of p, past_gap (past (prefix_len is_name_byte p.bytes) p))) (refused_placed fault.ExpectedName p refl) tt
 
 byte_placed : (b : ℕ) (expected : ℕ → ParseFault) (p : Place) → is_some (offset_of (expected p.at)) ≡ true → Placed (byte_at b expected p)
-byte_placed b expected p h = either (begins_with b p.bytes) (Ok (past_gap (past 1 p))) (refused expected p) tt (refused_placed expected p h)
+byte_placed b expected p h = either (begins_with b p.bytes) (Ok (past_gap (past 1 p))) (refuse expected p) tt (refused_placed expected p h)
 
 end_placed : {A : Type 0} (x : A) (p : Place) → Placed (line_end_at x p)
-end_placed x p = either (length p.bytes == 0) (Ok x) (refused fault.ExpectedLineEnd p) tt (refused_placed fault.ExpectedLineEnd p refl)
+end_placed x p = either (length p.bytes == 0) (Ok x) (refuse fault.ExpectedLineEnd p) tt (refused_placed fault.ExpectedLineEnd p refl)
 
 -- pieces
 sign_placed : (at c : ℕ) (t u v : Bool) (o : Option (Sign × ℕ)) → PlacedText (cond t (or_bad at o) (cond u (Err (text.NulByte at)) (cond v (Err (text.TabBlank at)) (Ok (pieces.Byte c, 0)))))
@@ -85,7 +85,7 @@ pieces_placed m at (c ∷ rest) (suc n) = pieces_placed m (at + 1) rest n
 pieces_placed m at (c ∷ rest) zero =
     front_placed (sign_at m at c rest) (λ n. pieces_past m (at + 1) rest n) (sign_placed at c (c == dollar) (c == nul) (c == tab && is_path m) (escape rest)) (λ n. pieces_placed m (at + 1) rest n)
 
-lifted_placed : {A : Type 0} (r : Result A TextFault) → PlacedText r → Placed (lifted r)
+lifted_placed : {A : Type 0} (r : Result A TextFault) → PlacedText r → Placed (lift_fault r)
 lifted_placed (Ok x) h = tt
 lifted_placed (Err (text.TabBlank at)) h = refl
 lifted_placed (Err (text.NulByte at)) h = refl
@@ -121,64 +121,64 @@ paths_placed : (p : Place) → Placed (paths_at p)
 paths_placed p = paths_placed_past p.at p.bytes 0
 
 -- bindings
-bound_placed : (p : Place) → Placed (bound_at p)
-bound_placed p =
+binding_placed : (p : Place) → Placed (binding_at p)
+binding_placed p =
     bind_placed (name_at (past_gap p)) (λ n. byte_at equals_sign fault.ExpectedEquals n.1 >>= λ v. value_at v >>= λ value. Ok (record { name = n.0; value = value })) (name_placed (past_gap p))
     (λ n. bind_placed (byte_at equals_sign fault.ExpectedEquals n.1) (λ v. value_at v >>= λ value. Ok (record { name = n.0; value = value })) (byte_placed equals_sign fault.ExpectedEquals n.1 refl)
     (λ v. bind_placed (value_at v) (λ value. Ok (record { name = n.0; value = value })) (value_placed v) (λ _. tt)))
 
-abbrev PlacedMember : Member → Type 0
-PlacedMember (Says p) = Unit {0}
-PlacedMember (Faulty e) = is_some (texts.offset_of e) ≡ true
+abbrev PlacedBlockLine : BlockLine → Type 0
+PlacedBlockLine (Text p) = Unit {0}
+PlacedBlockLine (Refused e) = is_some (texts.offset_of e) ≡ true
 
-abbrev PlacedMembers : List Member → Type 0
-PlacedMembers [] = Unit {0}
-PlacedMembers (m ∷ ms) = PlacedMember m × PlacedMembers ms
+abbrev PlacedBlockLines : List BlockLine → Type 0
+PlacedBlockLines [] = Unit {0}
+PlacedBlockLines (m ∷ ms) = PlacedBlockLine m × PlacedBlockLines ms
 
-member_placed : (m : Member) → PlacedMember m → Placed (member_at m)
-member_placed (Says p) h = bound_placed p
-member_placed (Faulty e) h = h
+block_line_placed : (m : BlockLine) → PlacedBlockLine m → Placed (block_line_at m)
+block_line_placed (Text p) h = binding_placed p
+block_line_placed (Refused e) h = h
 
-alone_placed : (ms : List Member) → PlacedMembers ms → Placed (alone ms)
-alone_placed [] h = tt
-alone_placed (Says p ∷ ms) h = refused_placed fault.UnexpectedIndent p refl
-alone_placed (Faulty e ∷ ms) h = h.0
+no_block_placed : (ms : List BlockLine) → PlacedBlockLines ms → Placed (no_block_allowed ms)
+no_block_placed [] h = tt
+no_block_placed (Text p ∷ ms) h = refused_placed fault.UnexpectedIndent p refl
+no_block_placed (Refused e ∷ ms) h = h.0
 
-members_placed : (ms : List Member) → PlacedMembers ms → Placed (each member_at ms)
-members_placed [] h = tt
-members_placed (m ∷ ms) h =
-    bind_placed (member_at m) (λ y. each member_at ms >>= λ ys. Ok (y ∷ ys)) (member_placed m h.0) (λ y. bind_placed (each member_at ms) (λ ys. Ok (y ∷ ys)) (members_placed ms h.1) (λ _. tt))
+block_lines_placed : (ms : List BlockLine) → PlacedBlockLines ms → Placed (each block_line_at ms)
+block_lines_placed [] h = tt
+block_lines_placed (m ∷ ms) h =
+    bind_placed (block_line_at m) (λ y. each block_line_at ms >>= λ ys. Ok (y ∷ ys)) (block_line_placed m h.0) (λ y. bind_placed (each block_line_at ms) (λ ys. Ok (y ∷ ys)) (block_lines_placed ms h.1) (λ _. tt))
 
-unknown_placed : (o : Owner) (at : ℕ) → is_some (offset_of (unknown o at)) ≡ true
-unknown_placed Rule at = refl
-unknown_placed Pool at = refl
+unknown_variable_placed : (o : BlockKind) (at : ℕ) → is_some (offset_of (unknown_variable o at)) ≡ true
+unknown_variable_placed Rule at = refl
+unknown_variable_placed Pool at = refl
 
-once_placed : (o : Owner) (at : ℕ) → is_some (offset_of (not_once o at)) ≡ true
+once_placed : (o : BlockKind) (at : ℕ) → is_some (offset_of (missing_or_repeated o at)) ≡ true
 once_placed Rule at = refl
 once_placed Pool at = refl
 
-owned_placed : (o : Owner) (above : List Member) (m : Member) → PlacedMember m → Placed (owned_at o above m)
-owned_placed o above (Faulty e) h = h
-owned_placed o above (Says p) h =
+block_variable_placed : (o : BlockKind) (above : List BlockLine) (m : BlockLine) → PlacedBlockLine m → Placed (block_variable_at o above m)
+block_variable_placed o above (Refused e) h = h
+block_variable_placed o above (Text p) h =
     bind_placed (name_at (past_gap p))
-    (λ n. cond (not (knows o n.0)) (Err (unknown o (past_gap p).at)) (cond (bytes_eq n.0 (wanted o) && list_any (is_named (wanted o)) above) (Err (not_once o (past_gap p).at)) (bound_at p)))
+    (λ n. cond (not (may_bind o n.0)) (Err (unknown_variable o (past_gap p).at)) (cond (bytes_eq n.0 (required_name o) && list_any (is_named (required_name o)) above) (Err (missing_or_repeated o (past_gap p).at)) (binding_at p)))
     (name_placed (past_gap p))
-    (λ n. either (not (knows o n.0)) (Err (unknown o (past_gap p).at)) (cond (bytes_eq n.0 (wanted o) && list_any (is_named (wanted o)) above) (Err (not_once o (past_gap p).at)) (bound_at p)) (unknown_placed o (past_gap p).at)
-    (either (bytes_eq n.0 (wanted o) && list_any (is_named (wanted o)) above) (Err (not_once o (past_gap p).at)) (bound_at p) (once_placed o (past_gap p).at) (bound_placed p)))
+    (λ n. either (not (may_bind o n.0)) (Err (unknown_variable o (past_gap p).at)) (cond (bytes_eq n.0 (required_name o) && list_any (is_named (required_name o)) above) (Err (missing_or_repeated o (past_gap p).at)) (binding_at p)) (unknown_variable_placed o (past_gap p).at)
+    (either (bytes_eq n.0 (required_name o) && list_any (is_named (required_name o)) above) (Err (missing_or_repeated o (past_gap p).at)) (binding_at p) (once_placed o (past_gap p).at) (binding_placed p)))
 
-all_owned_placed : (o : Owner) (above ms : List Member) → PlacedMembers ms → Placed (all_owned_at o above ms)
-all_owned_placed o above [] h = tt
-all_owned_placed o above (m ∷ ms) h =
-    bind_placed (owned_at o above m) (λ b. all_owned_at o (above ++ m ∷ []) ms >>= λ bs. Ok (b ∷ bs)) (owned_placed o above m h.0)
-    (λ b. bind_placed (all_owned_at o (above ++ m ∷ []) ms) (λ bs. Ok (b ∷ bs)) (all_owned_placed o (above ++ m ∷ []) ms h.1) (λ _. tt))
+block_variables_placed : (o : BlockKind) (above ms : List BlockLine) → PlacedBlockLines ms → Placed (block_variables_at o above ms)
+block_variables_placed o above [] h = tt
+block_variables_placed o above (m ∷ ms) h =
+    bind_placed (block_variable_at o above m) (λ b. block_variables_at o (above ++ m ∷ []) ms >>= λ bs. Ok (b ∷ bs)) (block_variable_placed o above m h.0)
+    (λ b. bind_placed (block_variables_at o (above ++ m ∷ []) ms) (λ bs. Ok (b ∷ bs)) (block_variables_placed o (above ++ m ∷ []) ms h.1) (λ _. tt))
 
-block_placed : (o : Owner) (at : ℕ) (p : Place) (ms : List Member) → PlacedMembers ms → Placed (named_block o at p ms)
+block_placed : (o : BlockKind) (at : ℕ) (p : Place) (ms : List BlockLine) → PlacedBlockLines ms → Placed (named_block o at p ms)
 block_placed o at p ms h =
-    bind_placed (with_wanted o at ms) (λ _. named_line p >>= λ name. all_owned_at o [] ms >>= λ bindings. Ok (name, bindings))
-    (either (list_any (is_named (wanted o)) ms) (Ok tt) (Err (not_once o at)) tt (once_placed o at))
-    (λ _. bind_placed (named_line p) (λ name. all_owned_at o [] ms >>= λ bindings. Ok (name, bindings))
+    bind_placed (has_required o at ms) (λ _. named_line p >>= λ name. block_variables_at o [] ms >>= λ bindings. Ok (name, bindings))
+    (either (list_any (is_named (required_name o)) ms) (Ok tt) (Err (missing_or_repeated o at)) tt (once_placed o at))
+    (λ _. bind_placed (named_line p) (λ name. block_variables_at o [] ms >>= λ bindings. Ok (name, bindings))
     (bind_placed (name_at p) (λ n. line_end_at n.0 n.1) (name_placed p) (λ n. end_placed n.0 n.1))
-    (λ name. bind_placed (all_owned_at o [] ms) (λ bindings. Ok (name, bindings)) (all_owned_placed o [] ms h) (λ _. tt)))
+    (λ name. bind_placed (block_variables_at o [] ms) (λ bindings. Ok (name, bindings)) (block_variables_placed o [] ms h) (λ _. tt)))
 
 -- lists of paths
 implicit_placed : (p : Place) → Placed (implicit_at p)
@@ -191,7 +191,7 @@ validation_placed : (p : Place) → Placed (no_validation p)
 validation_placed p = either (is_validation p) (Err (fault.Validation p.at)) (Ok tt) refl tt
 
 some_placed : (p : Place) (xs ys : List (List Piece)) → Placed (some_path p xs ys)
-some_placed p xs ys = either (length xs + length ys == 0) (refused fault.ExpectedPath p) (Ok tt) (refused_placed fault.ExpectedPath p refl) tt
+some_placed p xs ys = either (length xs + length ys == 0) (refuse fault.ExpectedPath p) (Ok tt) (refused_placed fault.ExpectedPath p refl) tt
 
 outputs_placed : (p : Place) → Placed (outputs_at p)
 outputs_placed p =
@@ -211,8 +211,8 @@ inputs_placed p =
     (λ i. bind_placed (order_only_at i.1) (λ order_only. no_validation order_only.1 >>= λ _. line_end_at (o.0, i.0, order_only.0) order_only.1) (order_placed i.1)
     (λ x. bind_placed (no_validation x.1) (λ _. line_end_at (o.0, i.0, x.0) x.1) (validation_placed x.1) (λ _. end_placed (o.0, i.0, x.0) x.1))))
 
-behind_placed : {A B : Type 0} (r : Result A ParseFault) (ms : List Member) (make : A → B) → Placed r → PlacedMembers ms → Placed (r >>= λ x. alone ms >>= λ _. Ok (make x))
-behind_placed r ms make h k = bind_placed r (λ x. alone ms >>= λ _. Ok (make x)) h (λ x. bind_placed (alone ms) (λ _. Ok (make x)) (alone_placed ms k) (λ _. tt))
+behind_placed : {A B : Type 0} (r : Result A ParseFault) (ms : List BlockLine) (make : A → B) → Placed r → PlacedBlockLines ms → Placed (r >>= λ x. no_block_allowed ms >>= λ _. Ok (make x))
+behind_placed r ms make h k = bind_placed r (λ x. no_block_allowed ms >>= λ _. Ok (make x)) h (λ x. bind_placed (no_block_allowed ms) (λ _. Ok (make x)) (no_block_placed ms k) (λ _. tt))
 
 targets_placed : (p : Place) → Placed (targets_at p)
 targets_placed p =
@@ -222,13 +222,13 @@ targets_placed p =
 file_placed : (p : Place) → Placed (file_at p)
 file_placed p =
     bind_placed (some_byte p) (λ _. path_at p (path_len p.bytes) >>= λ path. line_end_at path (past_gap (past (path_len p.bytes) p)))
-    (either (path_len p.bytes == 0) (refused fault.ExpectedPath p) (Ok tt) (refused_placed fault.ExpectedPath p refl) tt)
+    (either (path_len p.bytes == 0) (refuse fault.ExpectedPath p) (Ok tt) (refused_placed fault.ExpectedPath p refl) tt)
     (λ _. bind_placed (path_at p (path_len p.bytes)) (λ path. line_end_at path (past_gap (past (path_len p.bytes) p))) (path_placed p (path_len p.bytes)) (λ x. end_placed x (past_gap (past (path_len p.bytes) p))))
 
-rule_placed : (at : ℕ) (p : Place) (ms : List Member) → PlacedMembers ms → Placed (rule_of at p ms)
+rule_placed : (at : ℕ) (p : Place) (ms : List BlockLine) → PlacedBlockLines ms → Placed (rule_of at p ms)
 rule_placed at p ms h = bind_placed (named_block Rule at p ms) (λ x. Ok (record { offset = at; kind = kind.Rule (record { name = x.0; bindings = x.1 }) })) (block_placed Rule at p ms h) (λ _. tt)
 
-pool_placed : (at : ℕ) (p : Place) (ms : List Member) → PlacedMembers ms → Placed (pool_of at p ms)
+pool_placed : (at : ℕ) (p : Place) (ms : List BlockLine) → PlacedBlockLines ms → Placed (pool_of at p ms)
 pool_placed at p ms h = bind_placed (named_block Pool at p ms) (λ x. Ok (record { offset = at; kind = kind.Pool (record { name = x.0; depth = depth_of x.1 }) })) (block_placed Pool at p ms h) (λ _. tt)
 
 build_made : ℕ → List (List Piece) × List (List Piece) × Place → List ℕ → List (List Piece) × List (List Piece) × List (List Piece) → List Binding → Statement
@@ -245,15 +245,15 @@ build_made at o rule inputs bindings = record {
   });
 }
 
-build_placed : (at : ℕ) (p : Place) (ms : List Member) → PlacedMembers ms → Placed (build_of at p ms)
+build_placed : (at : ℕ) (p : Place) (ms : List BlockLine) → PlacedBlockLines ms → Placed (build_of at p ms)
 unfolding build_made
 build_placed at p ms h =
-    bind_placed (outputs_at p) (λ outputs. name_at outputs.2 >>= λ rule. inputs_at rule.1 >>= λ inputs. each member_at ms >>= λ bindings. Ok (build_made at outputs rule.0 inputs bindings)) (outputs_placed p)
-    (λ o. bind_placed (name_at o.2) (λ rule. inputs_at rule.1 >>= λ inputs. each member_at ms >>= λ bindings. Ok (build_made at o rule.0 inputs bindings)) (name_placed o.2)
-    (λ r. bind_placed (inputs_at r.1) (λ inputs. each member_at ms >>= λ bindings. Ok (build_made at o r.0 inputs bindings)) (inputs_placed r.1)
-    (λ i. bind_placed (each member_at ms) (λ bindings. Ok (build_made at o r.0 i bindings)) (members_placed ms h) (λ _. tt))))
+    bind_placed (outputs_at p) (λ outputs. name_at outputs.2 >>= λ rule. inputs_at rule.1 >>= λ inputs. each block_line_at ms >>= λ bindings. Ok (build_made at outputs rule.0 inputs bindings)) (outputs_placed p)
+    (λ o. bind_placed (name_at o.2) (λ rule. inputs_at rule.1 >>= λ inputs. each block_line_at ms >>= λ bindings. Ok (build_made at o rule.0 inputs bindings)) (name_placed o.2)
+    (λ r. bind_placed (inputs_at r.1) (λ inputs. each block_line_at ms >>= λ bindings. Ok (build_made at o r.0 inputs bindings)) (inputs_placed r.1)
+    (λ i. bind_placed (each block_line_at ms) (λ bindings. Ok (build_made at o r.0 i bindings)) (block_lines_placed ms h) (λ _. tt))))
 
-statement_placed : (p : Place) (ms : List Member) → PlacedMembers ms → Placed (statement_of p ms)
+statement_placed : (p : Place) (ms : List BlockLine) → PlacedBlockLines ms → Placed (statement_of p ms)
 statement_placed p ms h =
     let word = name_of (past_gap p) in
     let q = past_gap (past (length word) (past_gap p)) in
@@ -263,46 +263,46 @@ statement_placed p ms h =
     (either (bytes_eq word (codes "default")) (default_of p.at q ms) _ (behind_placed (targets_at q) ms (λ x. record { offset = p.at; kind = kind.Default x }) (targets_placed q) h)
     (either (bytes_eq word (codes "include")) (include_of p.at q ms) _ (behind_placed (file_at q) ms (λ x. record { offset = p.at; kind = kind.Include x }) (file_placed q) h)
     (either (bytes_eq word (codes "subninja")) (subninja_of p.at q ms) (binding_of p ms) (behind_placed (file_at q) ms (λ x. record { offset = p.at; kind = kind.Subninja x }) (file_placed q) h)
-    (behind_placed (bound_at p) ms (λ x. record { offset = p.at; kind = kind.Binding x }) (bound_placed p) h))))))
+    (behind_placed (binding_at p) ms (λ x. record { offset = p.at; kind = kind.Binding x }) (binding_placed p) h))))))
 
 -- what lines tell
-abbrev PlacedTold : Option Told → Type 0
-PlacedTold None = Unit {0}
-PlacedTold (Some (Head p)) = Unit {0}
-PlacedTold (Some (Below m)) = PlacedMember m
+abbrev PlacedRole : Option LineRole → Type 0
+PlacedRole None = Unit {0}
+PlacedRole (Some (Head p)) = Unit {0}
+PlacedRole (Some (Below m)) = PlacedBlockLine m
 
-abbrev PlacedTolds : List Told → Type 0
-PlacedTolds [] = Unit {0}
-PlacedTolds (Head p ∷ more) = PlacedTolds more
-PlacedTolds (Below m ∷ more) = PlacedMember m × PlacedTolds more
+abbrev PlacedRoles : List LineRole → Type 0
+PlacedRoles [] = Unit {0}
+PlacedRoles (Head p ∷ more) = PlacedRoles more
+PlacedRoles (Below m ∷ more) = PlacedBlockLine m × PlacedRoles more
 
-told_by : (at : ℕ) (p : Place) (n : ℕ) (t u v w : Bool) → PlacedTold (cond t None (cond u (cond v (Some (Below (Faulty (text.NulByte (at + n))))) None) (Some (cond w (Below (Says p)) (Head p)))))
-told_by at p n true u v w = tt
-told_by at p n false true true w = refl
-told_by at p n false true false w = tt
-told_by at p n false false v true = tt
-told_by at p n false false v false = tt
+role_by : (at : ℕ) (p : Place) (n : ℕ) (t u v w : Bool) → PlacedRole (cond t None (cond u (cond v (Some (Below (Refused (text.NulByte (at + n))))) None) (Some (cond w (Below (Text p)) (Head p)))))
+role_by at p n true u v w = tt
+role_by at p n false true true w = refl
+role_by at p n false true false w = tt
+role_by at p n false false v true = tt
+role_by at p n false false v false = tt
 
-told_placed : (raw : Raw) → PlacedTold (told_in raw)
-told_placed raw =
-    told_by raw.at (record { at = raw.at + indent_len raw.bytes; bytes = drop (indent_len raw.bytes) raw.bytes }) (position_or_len (λ b. b == nul) raw.bytes)
+role_placed : (raw : Raw) → PlacedRole (role_of_line raw)
+role_placed raw =
+    role_by raw.at (record { at = raw.at + indent_len raw.bytes; bytes = drop (indent_len raw.bytes) raw.bytes }) (position_or_len (λ b. b == nul) raw.bytes)
     (length raw.bytes == indent_len raw.bytes) (begins_with hash (drop (indent_len raw.bytes) raw.bytes)) (nat_lt (position_or_len (λ b. b == nul) raw.bytes) (length raw.bytes)) (is_indented raw.bytes)
 
-cons_placed : (o : Option Told) (more : List Told) → PlacedTold o → PlacedTolds more → PlacedTolds (Rattle.std.specs.List.cons_option o more)
+cons_placed : (o : Option LineRole) (more : List LineRole) → PlacedRole o → PlacedRoles more → PlacedRoles (Rattle.std.specs.List.cons_option o more)
 cons_placed None more h k = k
 cons_placed (Some (Head p)) more h k = k
 cons_placed (Some (Below m)) more h k = (h, k)
 
-lines_placed : (raws : List Raw) → PlacedTolds (told_of raws)
+lines_placed : (raws : List Raw) → PlacedRoles (roles_of_lines raws)
 lines_placed [] = tt
-lines_placed (raw ∷ raws) = cons_placed (told_in raw) (told_of raws) (told_placed raw) (lines_placed raws)
+lines_placed (raw ∷ raws) = cons_placed (role_of_line raw) (roles_of_lines raws) (role_placed raw) (lines_placed raws)
 
-below_placed : (told : List Told) → PlacedTolds told → PlacedMembers (below told)
+below_placed : (roles : List LineRole) → PlacedRoles roles → PlacedBlockLines (below roles)
 below_placed [] h = tt
 below_placed (Head p ∷ more) h = tt
 below_placed (Below m ∷ more) h = (h.0, below_placed more h.1)
 
-blocks_placed : (told : List Told) → PlacedTolds told → Placed (each statement_in (blocks_of told))
+blocks_placed : (roles : List LineRole) → PlacedRoles roles → Placed (each statement_in (blocks_of roles))
 blocks_placed [] h = tt
 blocks_placed (Below m ∷ more) h = blocks_placed more h.1
 blocks_placed (Head p ∷ more) h =
@@ -311,10 +311,10 @@ blocks_placed (Head p ∷ more) h =
 
 text_placed : (source : List ℕ) → Placed (statements_of source)
 text_placed source =
-    let told = told_of (raw_lines source) in
+    let roles = roles_of_lines (raw_lines source) in
     let h = lines_placed (raw_lines source) in
-    either (nat_lt max_source (length source)) (Err (fault.Text (text.SourceTooLong max_source))) (alone (below told) >>= λ _. each statement_in (blocks_of told)) refl
-    (bind_placed (alone (below told)) (λ _. each statement_in (blocks_of told)) (alone_placed (below told) (below_placed told h)) (λ _. blocks_placed told h))
+    either (nat_lt max_source (length source)) (Err (fault.Text (text.SourceTooLong max_source))) (no_block_allowed (below roles) >>= λ _. each statement_in (blocks_of roles)) refl
+    (bind_placed (no_block_allowed (below roles)) (λ _. each statement_in (blocks_of roles)) (no_block_placed (below roles) (below_placed roles h)) (λ _. blocks_placed roles h))
 
 pub all_placed : (source : List ℕ) (e : ParseFault) → statements_of source ≡ Err e → is_some (offset_of e) ≡ true
 all_placed source e h = subst (λ (r : Result (List Statement) ParseFault). Placed r) h (text_placed source)

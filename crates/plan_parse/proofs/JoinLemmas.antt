@@ -7,73 +7,73 @@ use Rattle.std.proofs.lemmas.Bool.Decides.{nat_tests}
 use Rattle.plan_text.specs.Bytes.{nul, hash, begins_with}
 use Rattle.plan_text.specs.Laws.{LinesJoin}
 use Rattle.plan_text.specs.Limits.{max_source}
-use Rattle.plan_text.specs.Lines.{Raw, newline_len, indent_len, logical_len, raw_past, raw_lines, are_ended}
+use Rattle.plan_text.specs.Lines.{Raw, newline_len, indent_len, logical_len, raw_past, raw_lines, has_ended_lines}
 use Rattle.plan_text.specs.Outcome.{◌>>=◌, each}
 use Rattle.plan_text.specs.declared.fault.TextFault.TheVariants.{NulByte, SourceTooLong}
 use Rattle.plan_parse.specs.declared.fault.ParseFault.{ParseFault}
 use Rattle.plan_parse.specs.declared.fault.ParseFault.TheVariants as fault
 use Rattle.plan_parse.specs.declared.statement.Statement.{Statement}
 use Rattle.plan_parse.specs.declared.statement.StatementKind.{StatementKind}
-use Rattle.plan_parse.specs.Blocks.{Member, Says, Faulty, Told, Head, Below, Block, is_indented, told_in, told_of, below, blocks_of}
-use Rattle.plan_parse.specs.Statements.{alone, statement_of, statement_in, statements_of}
+use Rattle.plan_parse.specs.Blocks.{BlockLine, Text, Refused, LineRole, Head, Below, Block, is_indented, role_of_line, roles_of_lines, below, blocks_of}
+use Rattle.plan_parse.specs.Statements.{no_block_allowed, statement_of, statement_in, statements_of}
 use Rattle.plan_parse.specs.Laws.{moved, leads, begins_block}
 use Rattle.plan_parse.proofs.LikeLemmas.{Like, SameText}
-use Rattle.plan_parse.proofs.StatementLemmas.{AtOffsets, SameMember, SameMembers, statement_like}
+use Rattle.plan_parse.proofs.StatementLemmas.{AtOffsets, SameBlockLine, SameBlockLines, statement_like}
 use Rattle.plan_parse.proofs.WholeLemmas.{found}
 
 -- what the same lines tell, k bytes further on
-abbrev SameTold : ℕ → Told → Told → Type 0
+abbrev SameTold : ℕ → LineRole → LineRole → Type 0
 SameTold k (Head p) (Head q) = (q.at ≡ k + p.at) × SameText p q
-SameTold k (Below m) (Below n) = SameMember m n
+SameTold k (Below m) (Below n) = SameBlockLine m n
 SameTold k (Head p) (Below n) = ⊥
 SameTold k (Below m) (Head q) = ⊥
 
-abbrev MaySame : ℕ → Option Told → Option Told → Type 0
+abbrev MaySame : ℕ → Option LineRole → Option LineRole → Type 0
 MaySame k None None = Unit {0}
 MaySame k (Some x) (Some y) = SameTold k x y
 MaySame k None (Some y) = ⊥
 MaySame k (Some x) None = ⊥
 
-abbrev AllSame : ℕ → List Told → List Told → Type 0
+abbrev AllSame : ℕ → List LineRole → List LineRole → Type 0
 AllSame k [] [] = Unit {0}
 AllSame k (x ∷ xs) (y ∷ ys) = SameTold k x y × AllSame k xs ys
 AllSame k [] (y ∷ ys) = ⊥
 AllSame k (x ∷ xs) [] = ⊥
 
-told_by : (k at c : ℕ) (bytes : List ℕ) (t u v w : Bool) → c ≡ k + at
+line_role_of : (k at c : ℕ) (bytes : List ℕ) (t u v w : Bool) → c ≡ k + at
     → MaySame k
-    (cond t None (cond u (cond v (Some (Below (Faulty (NulByte (at + position_or_len (λ b. b == nul) bytes))))) None)
-    (Some (cond w (Below (Says (record { at = at + indent_len bytes; bytes = drop (indent_len bytes) bytes }))) (Head (record { at = at + indent_len bytes; bytes = drop (indent_len bytes) bytes }))))))
-    (cond t None (cond u (cond v (Some (Below (Faulty (NulByte (c + position_or_len (λ b. b == nul) bytes))))) None)
-    (Some (cond w (Below (Says (record { at = c + indent_len bytes; bytes = drop (indent_len bytes) bytes }))) (Head (record { at = c + indent_len bytes; bytes = drop (indent_len bytes) bytes }))))))
-told_by k at c bytes true u v w e = tt
-told_by k at c bytes false true true w e = tt
-told_by k at c bytes false true false w e = tt
-told_by k at c bytes false false v true e = refl
-told_by k at c bytes false false v false e = (omega (arith, e), refl)
+    (cond t None (cond u (cond v (Some (Below (Refused (NulByte (at + position_or_len (λ b. b == nul) bytes))))) None)
+    (Some (cond w (Below (Text (record { at = at + indent_len bytes; bytes = drop (indent_len bytes) bytes }))) (Head (record { at = at + indent_len bytes; bytes = drop (indent_len bytes) bytes }))))))
+    (cond t None (cond u (cond v (Some (Below (Refused (NulByte (c + position_or_len (λ b. b == nul) bytes))))) None)
+    (Some (cond w (Below (Text (record { at = c + indent_len bytes; bytes = drop (indent_len bytes) bytes }))) (Head (record { at = c + indent_len bytes; bytes = drop (indent_len bytes) bytes }))))))
+line_role_of k at c bytes true u v w e = tt
+line_role_of k at c bytes false true true w e = tt
+line_role_of k at c bytes false true false w e = tt
+line_role_of k at c bytes false false v true e = refl
+line_role_of k at c bytes false false v false e = (omega (arith, e), refl)
 
-told_same : (k at c : ℕ) (bytes : List ℕ) → c ≡ k + at → MaySame k (told_in (record { at = at; bytes = bytes })) (told_in (record { at = c; bytes = bytes }))
-told_same k at c bytes e =
-    told_by k at c bytes (length bytes == indent_len bytes) (begins_with hash (drop (indent_len bytes) bytes)) (nat_lt (position_or_len (λ b. b == nul) bytes) (length bytes)) (is_indented bytes) e
+role_same : (k at c : ℕ) (bytes : List ℕ) → c ≡ k + at → MaySame k (role_of_line (record { at = at; bytes = bytes })) (role_of_line (record { at = c; bytes = bytes }))
+role_same k at c bytes e =
+    line_role_of k at c bytes (length bytes == indent_len bytes) (begins_with hash (drop (indent_len bytes) bytes)) (nat_lt (position_or_len (λ b. b == nul) bytes) (length bytes)) (is_indented bytes) e
 
-cons_same : (k : ℕ) (raw other : Raw) (more others : List Raw) (o u : Option Told) → told_in raw ≡ o → told_in other ≡ u → MaySame k o u → AllSame k (told_of more) (told_of others)
-    → AllSame k (told_of (raw ∷ more)) (told_of (other ∷ others))
+cons_same : (k : ℕ) (raw other : Raw) (more others : List Raw) (o u : Option LineRole) → role_of_line raw ≡ o → role_of_line other ≡ u → MaySame k o u → AllSame k (roles_of_lines more) (roles_of_lines others)
+    → AllSame k (roles_of_lines (raw ∷ more)) (roles_of_lines (other ∷ others))
 cons_same k raw other more others None None e f h rest = rw (e, f) rest
 cons_same k raw other more others (Some x) (Some y) e f h rest = rw (e, f) (h, rest)
 cons_same k raw other more others None (Some y) e f h rest = absurd h
 cons_same k raw other more others (Some x) None e f h rest = absurd h
 
-lines_same : (k at c : ℕ) (text : List ℕ) (n : ℕ) → c ≡ k + at → AllSame k (told_of (raw_past at text n)) (told_of (raw_past c text n))
+lines_same : (k at c : ℕ) (text : List ℕ) (n : ℕ) → c ≡ k + at → AllSame k (roles_of_lines (raw_past at text n)) (roles_of_lines (raw_past c text n))
 lines_same k at c [] n e = tt
 lines_same k at c (b ∷ rest) (suc n) e = lines_same k (at + 1) (c + 1) rest n (omega (arith, e))
 lines_same k at c (b ∷ rest) zero e =
     let len = logical_len (b ∷ rest) in
     let line = take len (b ∷ rest) in
     cons_same k (record { at = at; bytes = line }) (record { at = c; bytes = line }) (raw_past (at + 1) rest (len + newline_len (drop len (b ∷ rest)) - 1)) (raw_past (c + 1) rest (len + newline_len (drop len (b ∷ rest)) - 1))
-    (told_in (record { at = at; bytes = line })) (told_in (record { at = c; bytes = line })) refl refl (told_same k at c line e)
+    (role_of_line (record { at = at; bytes = line })) (role_of_line (record { at = c; bytes = line })) refl refl (role_same k at c line e)
     (lines_same k (at + 1) (c + 1) rest (len + newline_len (drop len (b ∷ rest)) - 1) (omega (arith, e)))
 
-below_same : (k : ℕ) (xs ys : List Told) → AllSame k xs ys → SameMembers (below xs) (below ys)
+below_same : (k : ℕ) (xs ys : List LineRole) → AllSame k xs ys → SameBlockLines (below xs) (below ys)
 below_same k [] [] h = tt
 below_same k (Head p ∷ xs) (Head q ∷ ys) h = tt
 below_same k (Below m ∷ xs) (Below n ∷ ys) h = (h.0, below_same k xs ys h.1)
@@ -82,7 +82,7 @@ below_same k (Below m ∷ xs) (Head q ∷ ys) h = absurd h.0
 below_same k [] (y ∷ ys) h = absurd h
 below_same k (x ∷ xs) [] h = absurd h
 
-leads_same : (k : ℕ) (xs ys : List Told) → AllSame k xs ys → leads xs ≡ leads ys
+leads_same : (k : ℕ) (xs ys : List LineRole) → AllSame k xs ys → leads xs ≡ leads ys
 leads_same k [] [] h = refl
 leads_same k (Head p ∷ xs) (Head q ∷ ys) h = refl
 leads_same k (Below m ∷ xs) (Below n ∷ ys) h = refl
@@ -107,7 +107,7 @@ moved_by k i j (Err d) q s h e f = absurd cc
 cons_ok : (r : Result Statement ParseFault) (q : Result (List Statement) ParseFault) (s : Statement) (ss : List Statement) → r ≡ Ok s → q ≡ Ok ss → (r >>= λ y. q >>= λ ys. Ok (y ∷ ys)) ≡ Ok (s ∷ ss)
 cons_ok r q s ss e f = rw (e, f) refl
 
-each_moved : (k : ℕ) (xs ys : List Told) (ss : List Statement) → AllSame k xs ys → each statement_in (blocks_of xs) ≡ Ok ss → each statement_in (blocks_of ys) ≡ Ok (map (moved k) ss)
+each_moved : (k : ℕ) (xs ys : List LineRole) (ss : List Statement) → AllSame k xs ys → each statement_in (blocks_of xs) ≡ Ok ss → each statement_in (blocks_of ys) ≡ Ok (map (moved k) ss)
 each_moved k [] [] ss h e = let same : [] ≡ ss = cc in ap (λ (v : List Statement). Ok (map (moved k) v)) same
 each_moved k (Head p ∷ xs) (Head q ∷ ys) ss h e =
     let a = found (statement_of p (below xs)) (λ y. each statement_in (blocks_of xs) >>= λ ys. Ok (y ∷ ys)) ss e in
@@ -124,18 +124,18 @@ each_moved k [] (y ∷ ys) ss h e = absurd h
 each_moved k (x ∷ xs) [] ss h e = absurd h
 
 -- lines in front of one that begins a block
-below_front : (xs ys : List Told) → leads ys ≡ true → below (xs ++ ys) ≡ below xs
+below_front : (xs ys : List LineRole) → leads ys ≡ true → below (xs ++ ys) ≡ below xs
 below_front [] [] e = cc
 below_front [] (Head p ∷ ys) e = refl
 below_front [] (Below m ∷ ys) e = cc
 below_front (Head p ∷ xs) ys e = refl
-below_front (Below m ∷ xs) ys e = ap (λ (v : List Member). m ∷ v) (below_front xs ys e)
+below_front (Below m ∷ xs) ys e = ap (λ (v : List BlockLine). m ∷ v) (below_front xs ys e)
 
-blocks_front : (xs ys : List Told) → leads ys ≡ true → blocks_of (xs ++ ys) ≡ blocks_of xs ++ blocks_of ys
+blocks_front : (xs ys : List LineRole) → leads ys ≡ true → blocks_of (xs ++ ys) ≡ blocks_of xs ++ blocks_of ys
 blocks_front [] ys e = refl
 blocks_front (Head p ∷ xs) ys e =
-    ap (λ (v : List Member). record { head = p; members = v } ∷ blocks_of (xs ++ ys)) (below_front xs ys e)
-    ∙ ap (λ (v : List Block). record { head = p; members = below xs } ∷ v) (blocks_front xs ys e)
+    ap (λ (v : List BlockLine). record { head = p; lines = v } ∷ blocks_of (xs ++ ys)) (below_front xs ys e)
+    ∙ ap (λ (v : List Block). record { head = p; lines = below xs } ∷ v) (blocks_front xs ys e)
 blocks_front (Below m ∷ xs) ys e = blocks_front xs ys e
 
 each_append : (a b : List Block) (xs ys : List Statement) → each statement_in a ≡ Ok xs → each statement_in b ≡ Ok ys → each statement_in (a ++ b) ≡ Ok (xs ++ ys)
@@ -149,40 +149,40 @@ each_append (x ∷ a) b xs ys e f =
 
 -- a text that has statements
 record Parsed (text : List ℕ) (ss : List Statement) : Type 0 where
-  front : alone (below (told_of (raw_lines text))) ≡ Ok tt
-  blocks : each statement_in (blocks_of (told_of (raw_lines text))) ≡ Ok ss
+  front : no_block_allowed (below (roles_of_lines (raw_lines text))) ≡ Ok tt
+  blocks : each statement_in (blocks_of (roles_of_lines (raw_lines text))) ≡ Ok ss
 
 parsed : (text : List ℕ) (ss : List Statement) → statements_of text ≡ Ok ss → Parsed text ss
 parsed text ss e = by (nat_lt max_source (length text)) e where
   by : (t : Bool)
-      → cond t (Err (fault.Text (SourceTooLong max_source))) (alone (below (told_of (raw_lines text))) >>= λ _. each statement_in (blocks_of (told_of (raw_lines text)))) ≡ Ok ss → Parsed text ss
+      → cond t (Err (fault.Text (SourceTooLong max_source))) (no_block_allowed (below (roles_of_lines (raw_lines text))) >>= λ _. each statement_in (blocks_of (roles_of_lines (raw_lines text)))) ≡ Ok ss → Parsed text ss
   by true e = absurd cc
   by false e =
-      let q = found (alone (below (told_of (raw_lines text)))) (λ _. each statement_in (blocks_of (told_of (raw_lines text)))) ss e in
+      let q = found (no_block_allowed (below (roles_of_lines (raw_lines text)))) (λ _. each statement_in (blocks_of (roles_of_lines (raw_lines text)))) ss e in
       record { front = q.was; blocks = q.gives }
 
 not_long : (n : ℕ) → n ≤ max_source → nat_lt max_source n ≡ false
 not_long n h = grind (arith, nat_tests)
 
-from_lines : (text : List ℕ) (told : List Told) (ss : List Statement) → length text ≤ max_source → told_of (raw_lines text) ≡ told → alone (below told) ≡ Ok tt → each statement_in (blocks_of told) ≡ Ok ss → statements_of text ≡ Ok ss
-from_lines text told ss l e f g =
-    ap (λ (t : Bool). cond t (Err (fault.Text (SourceTooLong max_source))) (alone (below (told_of (raw_lines text))) >>= λ _. each statement_in (blocks_of (told_of (raw_lines text))))) (not_long (length text) l)
-    ∙ ap (λ (v : List Told). alone (below v) >>= λ _. each statement_in (blocks_of v)) e
-    ∙ ap (λ (r : Result (Unit {0}) ParseFault). r >>= λ _. each statement_in (blocks_of told)) f
+from_lines : (text : List ℕ) (roles : List LineRole) (ss : List Statement) → length text ≤ max_source → roles_of_lines (raw_lines text) ≡ roles → no_block_allowed (below roles) ≡ Ok tt → each statement_in (blocks_of roles) ≡ Ok ss → statements_of text ≡ Ok ss
+from_lines text roles ss l e f g =
+    ap (λ (t : Bool). cond t (Err (fault.Text (SourceTooLong max_source))) (no_block_allowed (below (roles_of_lines (raw_lines text))) >>= λ _. each statement_in (blocks_of (roles_of_lines (raw_lines text))))) (not_long (length text) l)
+    ∙ ap (λ (v : List LineRole). no_block_allowed (below v) >>= λ _. each statement_in (blocks_of v)) e
+    ∙ ap (λ (r : Result (Unit {0}) ParseFault). r >>= λ _. each statement_in (blocks_of roles)) f
     ∙ g
 
-pub joined : LinesJoin → (front back : List ℕ) (xs ys : List Statement) → are_ended front ≡ true → begins_block back ≡ true → length front + length back ≤ max_source
+pub joined : LinesJoin → (front back : List ℕ) (xs ys : List Statement) → has_ended_lines front ≡ true → begins_block back ≡ true → length front + length back ≤ max_source
     → statements_of front ≡ Ok xs → statements_of back ≡ Ok ys → statements_of (front ++ back) ≡ Ok (xs ++ map (moved (length front)) ys)
-joined join front back xs ys ended begins short first second =
+joined join front back xs ys is_ended begins short first second =
     let a = parsed front xs first in
     let b = parsed back ys second in
     let k = length front in
-    let here = told_of (raw_lines front) in
-    let there = told_of (raw_past (0 + k) back 0) in
+    let here = roles_of_lines (raw_lines front) in
+    let there = roles_of_lines (raw_past (0 + k) back 0) in
     let e : 0 + k ≡ k + 0 = omega arith in
     let same = lines_same k 0 (0 + k) back 0 e in
-    let head : leads there ≡ true = sym (leads_same k (told_of (raw_lines back)) there same) ∙ begins in
-    let told : told_of (raw_lines (front ++ back)) ≡ here ++ there = ap told_of (join 0 front back ended) ∙ filter_map-append told_in (raw_lines front) (raw_past (0 + k) back 0) in
-    from_lines (front ++ back) (here ++ there) (xs ++ map (moved k) ys) (omega (arith, length-append front back, short)) told
-    (ap alone (below_front here there head) ∙ a.front)
-    (ap (each statement_in) (blocks_front here there head) ∙ each_append (blocks_of here) (blocks_of there) xs (map (moved k) ys) a.blocks (each_moved k (told_of (raw_lines back)) there ys same b.blocks))
+    let head : leads there ≡ true = sym (leads_same k (roles_of_lines (raw_lines back)) there same) ∙ begins in
+    let roles : roles_of_lines (raw_lines (front ++ back)) ≡ here ++ there = ap roles_of_lines (join 0 front back is_ended) ∙ filter_map-append role_of_line (raw_lines front) (raw_past (0 + k) back 0) in
+    from_lines (front ++ back) (here ++ there) (xs ++ map (moved k) ys) (omega (arith, length-append front back, short)) roles
+    (ap no_block_allowed (below_front here there head) ∙ a.front)
+    (ap (each statement_in) (blocks_front here there head) ∙ each_append (blocks_of here) (blocks_of there) xs (map (moved k) ys) a.blocks (each_moved k (roles_of_lines (raw_lines back)) there ys same b.blocks))

@@ -12,7 +12,7 @@ use Rattle.plan_text.specs.declared.piece_reader.Mode.{Mode}
 use Rattle.plan_text.specs.declared.piece_reader.Mode.TheVariants as mode
 use Rattle.plan_text.specs.declared.piece_reader.Piece.{Piece}
 use Rattle.plan_parse.specs.declared.fault.ParseFault.{ParseFault}
-use Rattle.plan_parse.specs.Reading.{Place, name_at, byte_at, line_end_at, value_at, lifted, path_len, path_at, path_onto, paths_past, paths_at}
+use Rattle.plan_parse.specs.Reading.{Place, name_at, byte_at, line_end_at, value_at, lift_fault, path_len, path_at, path_onto, paths_past, paths_at}
 
 -- both go well alike, or neither does
 abbrev pub Like : {A B E F : Type 0} → (A → B → Type 0) → Result A E → Result B F → Type 0
@@ -95,7 +95,7 @@ pieces_like m a b (c ∷ rest) zero =
     front_like (sign_at m a c rest) (sign_at m b c rest) (λ n. pieces_past m (a + 1) rest n) (λ n. pieces_past m (b + 1) rest n)
     (sign_like m a b c rest (c == dollar) (c == nul) (c == tab && is_path m) (escape rest)) (λ n. pieces_like m (a + 1) (b + 1) rest n)
 
-lifted_like : {A : Type 0} (r q : Result A TextFault) → Like Same r q → Like Same (lifted r) (lifted q)
+lifted_like : {A : Type 0} (r q : Result A TextFault) → Like Same r q → Like Same (lift_fault r) (lift_fault q)
 lifted_like (Ok x) (Ok y) h = h
 lifted_like (Err e) (Err f) h = tt
 lifted_like (Ok x) (Err f) h = absurd h

@@ -11,16 +11,16 @@ use Rattle.plan_parse.specs.declared.fault.ParseFault.{ParseFault}
 use Rattle.plan_parse.specs.declared.fault.ParseFault.TheVariants as fault
 use Rattle.plan_parse.specs.declared.statement.Statement.{Statement}
 use Rattle.plan_parse.specs.Reading.{Place}
-use Rattle.plan_parse.specs.Blocks.{Member, Told, Head, Below, told_of, below, blocks_of}
-use Rattle.plan_parse.specs.Statements.{alone, statement_of, statement_in, statements_of}
-use Rattle.plan_parse.specs.Progress.{State, closing, ended, followed}
+use Rattle.plan_parse.specs.Blocks.{BlockLine, LineRole, Head, Below, roles_of_lines, below, blocks_of}
+use Rattle.plan_parse.specs.Statements.{no_block_allowed, statement_of, statement_in, statements_of}
+use Rattle.plan_parse.specs.Progress.{State, block_statement, statements_at_end, statements_with}
 
 -- a line of the block
-pub takes_below : (done : List Statement) (head : Option Place) (members new : List Member) (m : Member) (rest : List Told) → new ≡ members ++ m ∷ []
-    → followed (record { done = done; head = head; members = new }) rest ≡ followed (record { done = done; head = head; members = members }) (Below m ∷ rest)
-takes_below done head members new m rest e =
-    ap (λ (v : List Member). closing head (v ++ below rest) >>= λ front. each statement_in (blocks_of rest) >>= λ back. Ok (done ++ (front ++ back))) e
-    ∙ ap (λ (v : List Member). closing head v >>= λ front. each statement_in (blocks_of rest) >>= λ back. Ok (done ++ (front ++ back))) (append_assoc members (m ∷ []) (below rest))
+pub takes_below : (done : List Statement) (head : Option Place) (lines new : List BlockLine) (m : BlockLine) (rest : List LineRole) → new ≡ lines ++ m ∷ []
+    → statements_with (record { done = done; head = head; lines = new }) rest ≡ statements_with (record { done = done; head = head; lines = lines }) (Below m ∷ rest)
+takes_below done head lines new m rest e =
+    ap (λ (v : List BlockLine). block_statement head (v ++ below rest) >>= λ front. each statement_in (blocks_of rest) >>= λ back. Ok (done ++ (front ++ back))) e
+    ∙ ap (λ (v : List BlockLine). block_statement head v >>= λ front. each statement_in (blocks_of rest) >>= λ back. Ok (done ++ (front ++ back))) (append_assoc lines (m ∷ []) (below rest))
 
 head_go : (done more : List Statement) (last : Result (List Statement) ParseFault) (next : Result Statement ParseFault) (rest : Result (List Statement) ParseFault) → (last >>= λ front. Ok (done ++ front)) ≡ Ok more
     → ((next >>= λ s. Ok (s ∷ [])) >>= λ front. rest >>= λ back. Ok (more ++ (front ++ back))) ≡ (last >>= λ front. (next >>= λ y. rest >>= λ ys. Ok (y ∷ ys)) >>= λ back. Ok (done ++ (front ++ back)))
@@ -31,36 +31,36 @@ head_go done more (Ok front) (Ok y) (Ok ys) h =
     let same : done ++ front ≡ more = cc in
     ap (λ (v : List Statement). Ok (v ++ y ∷ ys)) (sym same) ∙ ap (λ (v : List Statement). Ok v) (append_assoc done front (y ∷ ys))
 
-closing_all : (head : Option Place) (members : List Member) → closing head (members ++ []) ≡ closing head members
-closing_all head members = ap (closing head) (append-nil members)
+closing_all : (head : Option Place) (lines : List BlockLine) → block_statement head (lines ++ []) ≡ block_statement head lines
+closing_all head lines = ap (block_statement head) (append-nil lines)
 
 -- a line that ends the block and begins another
-pub takes_head : (s : State) (more : List Statement) (p : Place) (rest : List Told) → ended s ≡ Ok more
-    → followed (record { done = more; head = Some p; members = [] }) rest ≡ followed s (Head p ∷ rest)
+pub takes_head : (s : State) (more : List Statement) (p : Place) (rest : List LineRole) → statements_at_end s ≡ Ok more
+    → statements_with (record { done = more; head = Some p; lines = [] }) rest ≡ statements_with s (Head p ∷ rest)
 takes_head s more p rest e =
-    head_go s.done more (closing s.head s.members) (statement_of p (below rest)) (each statement_in (blocks_of rest)) e
-    ∙ ap (λ (r : Result (List Statement) ParseFault). r >>= λ front. (statement_of p (below rest) >>= λ y. each statement_in (blocks_of rest) >>= λ ys. Ok (y ∷ ys)) >>= λ back. Ok (s.done ++ (front ++ back))) (sym (closing_all s.head s.members))
+    head_go s.done more (block_statement s.head s.lines) (statement_of p (below rest)) (each statement_in (blocks_of rest)) e
+    ∙ ap (λ (r : Result (List Statement) ParseFault). r >>= λ front. (statement_of p (below rest) >>= λ y. each statement_in (blocks_of rest) >>= λ ys. Ok (y ∷ ys)) >>= λ back. Ok (s.done ++ (front ++ back))) (sym (closing_all s.head s.lines))
 
 fault_go : (done : List Statement) (last : Result (List Statement) ParseFault) (next : List Statement → Result (List Statement) ParseFault) (e : ParseFault) → (last >>= λ front. Ok (done ++ front)) ≡ Err e → (last >>= next) ≡ Err e
 fault_go done (Err x) next e h = h
 fault_go done (Ok front) next e h = absurd cc
 
 -- a line that ends a block with a fault
-pub ends_badly : (s : State) (e : ParseFault) (p : Place) (rest : List Told) → ended s ≡ Err e → followed s (Head p ∷ rest) ≡ Err e
+pub ends_badly : (s : State) (e : ParseFault) (p : Place) (rest : List LineRole) → statements_at_end s ≡ Err e → statements_with s (Head p ∷ rest) ≡ Err e
 ends_badly s e p rest h =
-    ap (λ (r : Result (List Statement) ParseFault). r >>= λ front. each statement_in (blocks_of (Head p ∷ rest)) >>= λ back. Ok (s.done ++ (front ++ back))) (closing_all s.head s.members)
-    ∙ fault_go s.done (closing s.head s.members) (λ front. each statement_in (blocks_of (Head p ∷ rest)) >>= λ back. Ok (s.done ++ (front ++ back))) e h
+    ap (λ (r : Result (List Statement) ParseFault). r >>= λ front. each statement_in (blocks_of (Head p ∷ rest)) >>= λ back. Ok (s.done ++ (front ++ back))) (closing_all s.head s.lines)
+    ∙ fault_go s.done (block_statement s.head s.lines) (λ front. each statement_in (blocks_of (Head p ∷ rest)) >>= λ back. Ok (s.done ++ (front ++ back))) e h
 
 last_go : (done : List Statement) (last : Result (List Statement) ParseFault) → (last >>= λ front. Ok (done ++ (front ++ []))) ≡ (last >>= λ front. Ok (done ++ front))
 last_go done (Ok front) = ap (λ (v : List Statement). Ok (done ++ v)) (append-nil front)
 last_go done (Err e) = refl
 
 -- the end of the text
-pub ends : (s : State) → followed s [] ≡ ended s
-ends s = ap (λ (r : Result (List Statement) ParseFault). r >>= λ front. Ok (s.done ++ (front ++ []))) (closing_all s.head s.members) ∙ last_go s.done (closing s.head s.members)
+pub ends : (s : State) → statements_with s [] ≡ statements_at_end s
+ends s = ap (λ (r : Result (List Statement) ParseFault). r >>= λ front. Ok (s.done ++ (front ++ []))) (closing_all s.head s.lines) ∙ last_go s.done (block_statement s.head s.lines)
 
 abbrev pub start : State
-start = record { done = []; head = None; members = [] }
+start = record { done = []; head = None; lines = [] }
 
 bind_same : (r : Result (List Statement) ParseFault) → (r >>= λ ys. Ok ys) ≡ r
 bind_same (Ok x) = refl
@@ -75,8 +75,8 @@ short_test : (n : ℕ) → n ≤ max_source → nat_lt max_source n ≡ false
 short_test n h = grind (arith, nat_tests)
 
 -- a text that isn't too long, from its first line on
-pub begins_all : (text : List ℕ) → length text ≤ max_source → statements_of text ≡ followed start (told_of (raw_lines text))
+pub begins_all : (text : List ℕ) → length text ≤ max_source → statements_of text ≡ statements_with start (roles_of_lines (raw_lines text))
 begins_all text h =
-    let told = told_of (raw_lines text) in
-    ap (λ (v : Bool). cond v (Err (fault.Text (SourceTooLong max_source))) (alone (below told) >>= λ _. each statement_in (blocks_of told))) (short_test (length text) h)
-    ∙ sym (begin_go (alone (below told)) (each statement_in (blocks_of told)))
+    let roles = roles_of_lines (raw_lines text) in
+    ap (λ (v : Bool). cond v (Err (fault.Text (SourceTooLong max_source))) (no_block_allowed (below roles) >>= λ _. each statement_in (blocks_of roles))) (short_test (length text) h)
+    ∙ sym (begin_go (no_block_allowed (below roles)) (each statement_in (blocks_of roles)))

@@ -15,14 +15,14 @@ use Rattle.plan_text.specs.declared.piece_reader.Piece.{Piece}
 use Rattle.std.specs.Prelude.{nat_lt}
 use Rattle.plan_parse.specs.declared.fault.ParseFault.{ParseFault}
 use Rattle.plan_parse.specs.declared.fault.ParseFault.TheVariants as fault
-use Rattle.plan_parse.specs.declared.owner.Owner.TheVariants.{Rule, Pool}
+use Rattle.plan_parse.specs.declared.block_kind.BlockKind.TheVariants.{Rule, Pool}
 use Rattle.plan_parse.specs.declared.statement.Binding.{Binding}
 use Rattle.plan_parse.specs.declared.statement.Statement.{Statement}
 use Rattle.plan_parse.specs.declared.statement.StatementKind.TheVariants as kind
-use Rattle.plan_parse.specs.Reading.{Place, past, past_gap, name_of, name_at, byte_at, value_at, paths_at, refused, line_end_at}
-use Rattle.plan_parse.specs.Blocks.{Member, Says, Faulty, Block, told_of, below, blocks_of}
+use Rattle.plan_parse.specs.Reading.{Place, past, past_gap, name_of, name_at, byte_at, value_at, paths_at, refuse, line_end_at}
+use Rattle.plan_parse.specs.Blocks.{BlockLine, Text, Refused, Block, roles_of_lines, below, blocks_of}
 use Rattle.plan_parse.specs.Statements as parsing
-use Rattle.plan_parse.specs.Statements.{bound_at, alone, first_word, is_named, wanted, unknown, not_once, knows, owned_at, all_owned_at, with_wanted, named_line, rule_of, build_of, pool_of, default_of, include_of, subninja_of, binding_of, implicit_at, some_path, outputs_at, inputs_at, targets_at, statement_of, statement_in, statements_of, member_at}
+use Rattle.plan_parse.specs.Statements.{binding_at, no_block_allowed, first_word, is_named, required_name, unknown_variable, missing_or_repeated, may_bind, block_variable_at, block_variables_at, has_required, named_line, rule_of, build_of, pool_of, default_of, include_of, subninja_of, binding_of, implicit_at, some_path, outputs_at, inputs_at, targets_at, statement_of, statement_in, statements_of, block_line_at}
 use Rattle.plan_parse.specs.Laws.{IsWhole}
 
 -- the first of two steps that both went well
@@ -68,7 +68,7 @@ some_of : (n : ℕ) → (n == 0) ≡ false → 0 < n
 some_of zero e = absurd cc
 some_of (suc n) e = omega arith
 
-name_by : (p : Place) (n : List ℕ × Place) (t : Bool) → cond t (refused fault.ExpectedName p) (Ok (name_of p, past_gap (past (prefix_len is_name_byte p.bytes) p))) ≡ Ok n → (t ≡ false) × (n.0 ≡ name_of p)
+name_by : (p : Place) (n : List ℕ × Place) (t : Bool) → cond t (refuse fault.ExpectedName p) (Ok (name_of p, past_gap (past (prefix_len is_name_byte p.bytes) p))) ≡ Ok n → (t ≡ false) × (n.0 ≡ name_of p)
 name_by p n true e = absurd cc
 name_by p n false e = let same : (name_of p, past_gap (past (prefix_len is_name_byte p.bytes) p)) ≡ n = cc in (refl, sym (ap (λ (x : List ℕ × Place). x.0) same))
 
@@ -78,7 +78,7 @@ named p n e =
     sym (here.1 ∙ ap (λ (v : List ℕ). take (prefix_len is_name_byte v) v) (word_behind p.bytes (some_of _ here.0)))
 
 -- a binding has the name that stands in front of it
-bound_name : (p : Place) (n : List ℕ × Place) (b : Binding) → name_at (past_gap p) ≡ Ok n → bound_at p ≡ Ok b → b.name ≡ n.0
+bound_name : (p : Place) (n : List ℕ × Place) (b : Binding) → name_at (past_gap p) ≡ Ok n → binding_at p ≡ Ok b → b.name ≡ n.0
 bound_name p n b e h = by (name_at (past_gap p)) e h where
   last : (n m : List ℕ × Place) (v : Result Place ParseFault) → n ≡ m
       → (v >>= λ v. value_at v >>= λ value. Ok (record { name = n.0; value = value })) ≡ Ok b → b.name ≡ m.0
@@ -101,20 +101,20 @@ command = codes "command"
 abbrev commands : List Binding → ℕ
 commands bs = count_by (λ b. bytes_eq b.name command) bs
 
-owned_by : (p : Place) (n : List ℕ × Place) (b : Binding) (t u : Bool) → name_at (past_gap p) ≡ Ok n
-    → cond t (Err (unknown Rule (past_gap p).at)) (cond u (Err (not_once Rule (past_gap p).at)) (bound_at p)) ≡ Ok b → (u ≡ false) × (b.name ≡ n.0)
-owned_by p n b true u e h = absurd cc
-owned_by p n b false true e h = absurd cc
-owned_by p n b false false e h = (refl, bound_name p n b e h)
+variable_by : (p : Place) (n : List ℕ × Place) (b : Binding) (t u : Bool) → name_at (past_gap p) ≡ Ok n
+    → cond t (Err (unknown_variable Rule (past_gap p).at)) (cond u (Err (missing_or_repeated Rule (past_gap p).at)) (binding_at p)) ≡ Ok b → (u ≡ false) × (b.name ≡ n.0)
+variable_by p n b true u e h = absurd cc
+variable_by p n b false true e h = absurd cc
+variable_by p n b false false e h = (refl, bound_name p n b e h)
 
 -- a line of a rule is named as what it binds, and doesn't bind the command again
-owned : (above : List Member) (m : Member) (b : Binding) → owned_at Rule above m ≡ Ok b
+owned : (above : List BlockLine) (m : BlockLine) (b : Binding) → block_variable_at Rule above m ≡ Ok b
     → (is_named command m ≡ bytes_eq b.name command) × ((bytes_eq b.name command && list_any (is_named command) above) ≡ false)
-owned above (Faulty x) b e = absurd cc
-owned above (Says p) b e =
+owned above (Refused x) b e = absurd cc
+owned above (Text p) b e =
     let q = found (name_at (past_gap p))
-    (λ n. cond (not (knows Rule n.0)) (Err (unknown Rule (past_gap p).at)) (cond (bytes_eq n.0 command && list_any (is_named command) above) (Err (not_once Rule (past_gap p).at)) (bound_at p))) b e in
-    let o = owned_by p q.first b (not (knows Rule q.first.0)) (bytes_eq q.first.0 command && list_any (is_named command) above) q.was q.gives in (
+    (λ n. cond (not (may_bind Rule n.0)) (Err (unknown_variable Rule (past_gap p).at)) (cond (bytes_eq n.0 command && list_any (is_named command) above) (Err (missing_or_repeated Rule (past_gap p).at)) (binding_at p))) b e in
+    let o = variable_by p q.first b (not (may_bind Rule q.first.0)) (bytes_eq q.first.0 command && list_any (is_named command) above) q.was q.gives in (
       ap (λ (v : List ℕ). bytes_eq v command) (named p q.first q.was ∙ sym o.1),
       ap (λ (v : List ℕ). bytes_eq v command && list_any (is_named command) above) o.1 ∙ o.0,
     )
@@ -135,15 +135,15 @@ or_false true y = refl
 or_false false true = refl
 or_false false false = refl
 
-bound_count : (above members : List Member) (bs : List Binding) → all_owned_at Rule above members ≡ Ok bs
-    → commands bs ≡ count_by_flags (list_any (is_named command) above) (list_any (is_named command) members)
+bound_count : (above lines : List BlockLine) (bs : List Binding) → block_variables_at Rule above lines ≡ Ok bs
+    → commands bs ≡ count_by_flags (list_any (is_named command) above) (list_any (is_named command) lines)
 bound_count above [] bs e = let same : [] ≡ bs = cc in by bs same (list_any (is_named command) above) where
   by : (bs : List Binding) → [] ≡ bs → (t : Bool) → commands bs ≡ count_by_flags t false
   by bs e true = ap commands (sym e)
   by bs e false = ap commands (sym e)
 bound_count above (m ∷ more) bs e =
-    let q = found (owned_at Rule above m) (λ b. all_owned_at Rule (above ++ m ∷ []) more >>= λ bs. Ok (b ∷ bs)) bs e in
-    let r = found (all_owned_at Rule (above ++ m ∷ []) more) (λ bs. Ok (q.first ∷ bs)) bs q.gives in
+    let q = found (block_variable_at Rule above m) (λ b. block_variables_at Rule (above ++ m ∷ []) more >>= λ bs. Ok (b ∷ bs)) bs e in
+    let r = found (block_variables_at Rule (above ++ m ∷ []) more) (λ bs. Ok (q.first ∷ bs)) bs q.gives in
     let same : q.first ∷ r.first ≡ bs = cc in
     let o = owned above m q.first q.was in
     let rest = bound_count (above ++ m ∷ []) more r.first r.was
@@ -154,13 +154,13 @@ bound_count above (m ∷ more) bs e =
     ∙ first_count (is_named command m) (list_any (is_named command) above) (list_any (is_named command) more) (commands r.first)
     (ap (λ (t : Bool). t && list_any (is_named command) above) o.0 ∙ o.1) rest
 
-wanted_by : (at : ℕ) (t : Bool) → (x : Unit {0}) → cond t (Ok tt) (Err (not_once Rule at)) ≡ Ok x → t ≡ true
-wanted_by at true x e = refl
-wanted_by at false x e = absurd cc
+required_by : (at : ℕ) (t : Bool) → (x : Unit {0}) → cond t (Ok tt) (Err (missing_or_repeated Rule at)) ≡ Ok x → t ≡ true
+required_by at true x e = refl
+required_by at false x e = absurd cc
 
-rule_whole : (at : ℕ) (p : Place) (members : List Member) (s : Statement) → rule_of at p members ≡ Ok s → IsWhole s
-rule_whole at p members s e = by (with_wanted Rule at members) (named_line p) (all_owned_at Rule [] members) refl refl e where
-  by : (w : Result (Unit {0}) ParseFault) (l : Result (List ℕ) ParseFault) (bs : Result (List Binding) ParseFault) → with_wanted Rule at members ≡ w → all_owned_at Rule [] members ≡ bs
+rule_whole : (at : ℕ) (p : Place) (lines : List BlockLine) (s : Statement) → rule_of at p lines ≡ Ok s → IsWhole s
+rule_whole at p lines s e = by (has_required Rule at lines) (named_line p) (block_variables_at Rule [] lines) refl refl e where
+  by : (w : Result (Unit {0}) ParseFault) (l : Result (List ℕ) ParseFault) (bs : Result (List Binding) ParseFault) → has_required Rule at lines ≡ w → block_variables_at Rule [] lines ≡ bs
       → ((w >>= λ _. l >>= λ name. bs >>= λ bindings. Ok (name, bindings)) >>= λ (x : List ℕ × List Binding). Ok (record { offset = at; kind = kind.Rule (record { name = x.0; bindings = x.1 }) })) ≡ Ok s → IsWhole s
   by (Err x) l bs v o h = absurd cc
   by (Ok x) (Err y) bs v o h = absurd cc
@@ -168,12 +168,12 @@ rule_whole at p members s e = by (with_wanted Rule at members) (named_line p) (a
   by (Ok x) (Ok l) (Ok bs) v o h =
       let made : Statement = record { offset = at; kind = kind.Rule (record { name = l; bindings = bs }) } in
       let same : made ≡ s = cc in
-      let some = wanted_by at (list_any (is_named command) members) x v in
-      let once : commands bs ≡ 1 = bound_count [] members bs o ∙ ap (count_by_flags false) some in
+      let some = required_by at (list_any (is_named command) lines) x v in
+      let once : commands bs ≡ 1 = bound_count [] lines bs o ∙ ap (count_by_flags false) some in
       subst IsWhole same once
 
 -- one path or more
-some_by : (p : Place) (n : ℕ) (x : Unit {0}) → cond (n == 0) (refused fault.ExpectedPath p) (Ok tt) ≡ Ok x → 0 < n
+some_by : (p : Place) (n : ℕ) (x : Unit {0}) → cond (n == 0) (refuse fault.ExpectedPath p) (Ok tt) ≡ Ok x → 0 < n
 some_by p zero x e = absurd cc
 some_by p (suc n) x e = omega arith
 
@@ -214,16 +214,16 @@ build_last at o rule (Err x) bindings s h e = absurd cc
 build_last at o rule (Ok inputs) (Err x) s h e = absurd cc
 build_last at o rule (Ok inputs) (Ok bindings) s h e = let same : build_made at o rule inputs bindings ≡ s = cc in subst IsWhole same h
 
-build_rest : (at : ℕ) (o : Outputs) (rule : Result (List ℕ × Place) ParseFault) (members : List Member) (s : Statement) → 0 < length o.0 + length o.1
-    → (rule >>= λ rule. inputs_at rule.1 >>= λ inputs. each member_at members >>= λ bindings. Ok (build_made at o rule.0 inputs bindings)) ≡ Ok s → IsWhole s
-build_rest at o (Err x) members s h e = absurd cc
-build_rest at o (Ok rule) members s h e = build_last at o rule.0 (inputs_at rule.1) (each member_at members) s h e
+build_rest : (at : ℕ) (o : Outputs) (rule : Result (List ℕ × Place) ParseFault) (lines : List BlockLine) (s : Statement) → 0 < length o.0 + length o.1
+    → (rule >>= λ rule. inputs_at rule.1 >>= λ inputs. each block_line_at lines >>= λ bindings. Ok (build_made at o rule.0 inputs bindings)) ≡ Ok s → IsWhole s
+build_rest at o (Err x) lines s h e = absurd cc
+build_rest at o (Ok rule) lines s h e = build_last at o rule.0 (inputs_at rule.1) (each block_line_at lines) s h e
 
-build_whole : (at : ℕ) (p : Place) (members : List Member) (s : Statement) → build_of at p members ≡ Ok s → IsWhole s
+build_whole : (at : ℕ) (p : Place) (lines : List BlockLine) (s : Statement) → build_of at p lines ≡ Ok s → IsWhole s
 unfolding build_made
-build_whole at p members s e =
-    let q = found (outputs_at p) (λ outputs. name_at outputs.2 >>= λ rule. inputs_at rule.1 >>= λ inputs. each member_at members >>= λ bindings. Ok (build_made at outputs rule.0 inputs bindings)) s e in
-    build_rest at q.first (name_at q.first.2) members s (outputs_some p q.first q.was) q.gives
+build_whole at p lines s e =
+    let q = found (outputs_at p) (λ outputs. name_at outputs.2 >>= λ rule. inputs_at rule.1 >>= λ inputs. each block_line_at lines >>= λ bindings. Ok (build_made at outputs rule.0 inputs bindings)) s e in
+    build_rest at q.first (name_at q.first.2) lines s (outputs_some p q.first q.was) q.gives
 
 targets_some : (p : Place) (targets : List (List Piece)) → targets_at p ≡ Ok targets → 0 < length targets
 targets_some p targets e =
@@ -233,14 +233,14 @@ targets_some p targets e =
     let same = line_end_same q.first.0 q.first.1 (length q.first.1.bytes == 0) targets r.gives in
     subst (λ (v : List (List Piece)). 0 < length v) same (omega (arith, n))
   where
-    line_end_same : (x : List (List Piece)) (p : Place) (t : Bool) (y : List (List Piece)) → cond t (Ok x) (refused fault.ExpectedLineEnd p) ≡ Ok y → x ≡ y
+    line_end_same : (x : List (List Piece)) (p : Place) (t : Bool) (y : List (List Piece)) → cond t (Ok x) (refuse fault.ExpectedLineEnd p) ≡ Ok y → x ≡ y
     line_end_same x p true y e = cc
     line_end_same x p false y e = absurd cc
 
-default_whole : (at : ℕ) (p : Place) (members : List Member) (s : Statement) → default_of at p members ≡ Ok s → IsWhole s
-default_whole at p members s e =
-    let q = found (targets_at p) (λ targets. alone members >>= λ _. Ok (record { offset = at; kind = kind.Default targets })) s e in
-    let r = found (alone members) (λ _. Ok (record { offset = at; kind = kind.Default q.first })) s q.gives in
+default_whole : (at : ℕ) (p : Place) (lines : List BlockLine) (s : Statement) → default_of at p lines ≡ Ok s → IsWhole s
+default_whole at p lines s e =
+    let q = found (targets_at p) (λ targets. no_block_allowed lines >>= λ _. Ok (record { offset = at; kind = kind.Default targets })) s e in
+    let r = found (no_block_allowed lines) (λ _. Ok (record { offset = at; kind = kind.Default q.first })) s q.gives in
     let made : Statement = record { offset = at; kind = kind.Default q.first } in
     let same : made ≡ s = cc in
     subst IsWhole same (targets_some p q.first q.was)
@@ -256,22 +256,22 @@ two_whole (Err x) more make s h e = absurd cc
 two_whole (Ok x) (Err y) make s h e = absurd cc
 two_whole (Ok x) (Ok y) make s h e = let same : make x ≡ s = cc in subst IsWhole same (h x)
 
-by_word : (p behind : Place) (members : List Member) (s : Statement) (a b c d e f : Bool)
-    → cond a (rule_of p.at behind members) (cond b (build_of p.at behind members) (cond c (pool_of p.at behind members) (cond d (default_of p.at behind members)
-    (cond e (include_of p.at behind members) (cond f (subninja_of p.at behind members) (binding_of p members)))))) ≡ Ok s → IsWhole s
-by_word p q members s true b c d e f h = rule_whole p.at q members s h
-by_word p q members s false true c d e f h = build_whole p.at q members s h
-by_word p q members s false false true d e f h =
-    plain_whole (parsing.named_block Pool p.at q members) (λ x. record { offset = p.at; kind = kind.Pool (record { name = x.0; depth = parsing.depth_of x.1 }) }) s (λ x. tt) h
-by_word p q members s false false false true e f h = default_whole p.at q members s h
-by_word p q members s false false false false true f h = two_whole (parsing.file_at q) (alone members) (λ path. record { offset = p.at; kind = kind.Include path }) s (λ x. tt) h
-by_word p q members s false false false false false true h = two_whole (parsing.file_at q) (alone members) (λ path. record { offset = p.at; kind = kind.Subninja path }) s (λ x. tt) h
-by_word p q members s false false false false false false h = two_whole (bound_at p) (alone members) (λ b. record { offset = p.at; kind = kind.Binding b }) s (λ x. tt) h
+by_word : (p behind : Place) (lines : List BlockLine) (s : Statement) (a b c d e f : Bool)
+    → cond a (rule_of p.at behind lines) (cond b (build_of p.at behind lines) (cond c (pool_of p.at behind lines) (cond d (default_of p.at behind lines)
+    (cond e (include_of p.at behind lines) (cond f (subninja_of p.at behind lines) (binding_of p lines)))))) ≡ Ok s → IsWhole s
+by_word p q lines s true b c d e f h = rule_whole p.at q lines s h
+by_word p q lines s false true c d e f h = build_whole p.at q lines s h
+by_word p q lines s false false true d e f h =
+    plain_whole (parsing.named_block Pool p.at q lines) (λ x. record { offset = p.at; kind = kind.Pool (record { name = x.0; depth = parsing.depth_of x.1 }) }) s (λ x. tt) h
+by_word p q lines s false false false true e f h = default_whole p.at q lines s h
+by_word p q lines s false false false false true f h = two_whole (parsing.file_at q) (no_block_allowed lines) (λ path. record { offset = p.at; kind = kind.Include path }) s (λ x. tt) h
+by_word p q lines s false false false false false true h = two_whole (parsing.file_at q) (no_block_allowed lines) (λ path. record { offset = p.at; kind = kind.Subninja path }) s (λ x. tt) h
+by_word p q lines s false false false false false false h = two_whole (binding_at p) (no_block_allowed lines) (λ b. record { offset = p.at; kind = kind.Binding b }) s (λ x. tt) h
 
 statement_whole : (b : Block) (s : Statement) → statement_in b ≡ Ok s → IsWhole s
 statement_whole b s e =
     let word = name_of (past_gap b.head) in
-    by_word b.head (past_gap (past (length word) (past_gap b.head))) b.members s
+    by_word b.head (past_gap (past (length word) (past_gap b.head))) b.lines s
     (bytes_eq word (codes "rule")) (bytes_eq word (codes "build")) (bytes_eq word (codes "pool")) (bytes_eq word (codes "default")) (bytes_eq word (codes "include")) (bytes_eq word (codes "subninja")) e
 
 blocks_whole : (bs : List Block) (ss : List Statement) → each statement_in bs ≡ Ok ss → AllByRecursion IsWhole ss
@@ -283,11 +283,11 @@ blocks_whole (b ∷ bs) ss e =
     subst (AllByRecursion IsWhole) same (statement_whole b q.first q.was, blocks_whole bs r.first r.was)
 
 text_by : (text : List ℕ) (t : Bool) (ss : List Statement)
-    → cond t (Err (fault.Text (SourceTooLong max_source))) (alone (below (told_of (raw_lines text))) >>= λ _. each statement_in (blocks_of (told_of (raw_lines text)))) ≡ Ok ss → AllByRecursion IsWhole ss
+    → cond t (Err (fault.Text (SourceTooLong max_source))) (no_block_allowed (below (roles_of_lines (raw_lines text))) >>= λ _. each statement_in (blocks_of (roles_of_lines (raw_lines text)))) ≡ Ok ss → AllByRecursion IsWhole ss
 text_by text true ss e = absurd cc
 text_by text false ss e =
-    let q = found (alone (below (told_of (raw_lines text)))) (λ _. each statement_in (blocks_of (told_of (raw_lines text)))) ss e in
-    blocks_whole (blocks_of (told_of (raw_lines text))) ss q.gives
+    let q = found (no_block_allowed (below (roles_of_lines (raw_lines text)))) (λ _. each statement_in (blocks_of (roles_of_lines (raw_lines text)))) ss e in
+    blocks_whole (blocks_of (roles_of_lines (raw_lines text))) ss q.gives
 
 pub all_whole : (text : List ℕ) (ss : List Statement) → statements_of text ≡ Ok ss → AllByRecursion IsWhole ss
 all_whole text ss e = text_by text (nat_lt max_source (length text)) ss e

@@ -4,7 +4,7 @@ use Rattle.std.proofs.lemmas.Bool.{eqb-true, ltb-true}
 use Rattle.std.proofs.lemmas.List.{drop-drop, take-append-drop, length-take}
 use Rattle.std.proofs.lemmas.List.Sums.{prefix_len-le-length}
 use Rattle.plan_text.specs.Bytes.{hash, dollar, begins_with, is_space}
-use Rattle.plan_text.specs.Lines.{newline_len, begins_newline, taken_along, line_unit, comment_unit, indent_len, logical_len, Raw, raw_past, EndsLine, AreLinesOf}
+use Rattle.plan_text.specs.Lines.{newline_len, begins_newline, escaped_len, line_unit, comment_unit, indent_len, logical_len, Raw, raw_past, EndsLine, AreLinesOf}
 use Rattle.plan_text.specs.Runs.{and_more, run_past, run}
 use Rattle.plan_text.proofs.LineLemmas.{progress}
 
@@ -61,7 +61,7 @@ newline_within (b ∷ rest) = by (eqb b 10) (eqb b 13) rest where
 line_stops : (text : List ℕ) → line_unit text ≡ 0 → 0 < length text → 0 < newline_len text
 line_stops [] e h = absurd (omega arith)
 line_stops (b ∷ rest) e h = by (begins_newline (b ∷ rest)) (eqb b dollar) refl e where
-  by : (t u : Bool) → begins_newline (b ∷ rest) ≡ t → cond t 0 (cond u (suc (taken_along rest)) 1) ≡ 0 → 0 < newline_len (b ∷ rest)
+  by : (t u : Bool) → begins_newline (b ∷ rest) ≡ t → cond t 0 (cond u (suc (escaped_len rest)) 1) ≡ 0 → 0 < newline_len (b ∷ rest)
   by true u e f = ltb-true 0 (newline_len (b ∷ rest)) e
   by false true e f = absurd (omega (arith, f))
   by false false e f = absurd (omega (arith, f))

@@ -5,7 +5,7 @@ use Rattle.plan_text.specs.Bytes.{nul, tab, space, dollar, colon}
 use Rattle.plan_text.specs.declared.fault.TextFault.{TextFault}
 use Rattle.plan_text.specs.declared.piece_reader.Mode.{Mode}
 use Rattle.plan_text.specs.declared.piece_reader.Piece.{Piece}
-use Rattle.plan_text.specs.Pieces.{Byte, onto, all_onto, pieces_past, escaped, is_allowed, is_path, whole}
+use Rattle.plan_text.specs.Pieces.{Byte, onto, all_onto, pieces_past, escape_bytes, is_allowed, is_path, literal_of}
 
 and_parts : (x y : Bool) → (x && y) ≡ true → (x ≡ true) × (y ≡ true)
 and_parts true y e = (refl, e)
@@ -15,7 +15,7 @@ not_true : (x : Bool) → not x ≡ true → x ≡ false
 not_true true e = cc
 not_true false e = refl
 
-onto_whole : (b : ℕ) (bytes : List ℕ) → onto (Byte b) (whole bytes) ≡ whole (b ∷ bytes)
+onto_whole : (b : ℕ) (bytes : List ℕ) → onto (Byte b) (literal_of bytes) ≡ literal_of (b ∷ bytes)
 onto_whole b [] = refl
 onto_whole b (c ∷ bytes) = refl
 
@@ -36,7 +36,7 @@ alone mode at b rest more e f h =
     let allowed = either_false (b == nul) (b == tab && is_path mode) f in
     rw (plain.0, allowed.0, allowed.1) (ap (all_onto (Byte b)) h)
 
-pub escaped_read : (mode : Mode) (at : ℕ) (bytes : List ℕ) → list_all (is_allowed mode) bytes ≡ true → pieces_past mode at (escaped bytes) 0 ≡ Ok (whole bytes)
+pub escaped_read : (mode : Mode) (at : ℕ) (bytes : List ℕ) → list_all (is_allowed mode) bytes ≡ true → pieces_past mode at (escape_bytes bytes) 0 ≡ Ok (literal_of bytes)
 escaped_read mode at [] h = refl
 escaped_read mode at (b ∷ bytes) h =
     let parts = and_parts (is_allowed mode b) (list_all (is_allowed mode) bytes) h in
@@ -44,7 +44,7 @@ escaped_read mode at (b ∷ bytes) h =
     (not_true (b == nul || b == tab && is_path mode) parts.0)
     ∙ ap (λ (v : List Piece). Ok v) (onto_whole b bytes)
   where
-    by : (t : Bool) → (b == dollar || b == space || b == colon) ≡ t → pieces_past mode (at + 1 + 1) (escaped bytes) 0 ≡ Ok (whole bytes) → pieces_past mode (at + 1) (escaped bytes) 0 ≡ Ok (whole bytes)
-        → (b == nul || b == tab && is_path mode) ≡ false → pieces_past mode at (cond t (dollar ∷ b ∷ escaped bytes) (b ∷ escaped bytes)) 0 ≡ Ok (onto (Byte b) (whole bytes))
-    by true e more next allowed = behind_dollar mode at b (escaped bytes) (Ok (whole bytes)) e more
-    by false e more next allowed = alone mode at b (escaped bytes) (Ok (whole bytes)) e allowed next
+    by : (t : Bool) → (b == dollar || b == space || b == colon) ≡ t → pieces_past mode (at + 1 + 1) (escape_bytes bytes) 0 ≡ Ok (literal_of bytes) → pieces_past mode (at + 1) (escape_bytes bytes) 0 ≡ Ok (literal_of bytes)
+        → (b == nul || b == tab && is_path mode) ≡ false → pieces_past mode at (cond t (dollar ∷ b ∷ escape_bytes bytes) (b ∷ escape_bytes bytes)) 0 ≡ Ok (onto (Byte b) (literal_of bytes))
+    by true e more next allowed = behind_dollar mode at b (escape_bytes bytes) (Ok (literal_of bytes)) e more
+    by false e more next allowed = alone mode at b (escape_bytes bytes) (Ok (literal_of bytes)) e allowed next

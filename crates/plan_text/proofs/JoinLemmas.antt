@@ -3,7 +3,7 @@ use Rattle.std.proofs.Common.{◌≡◌, ℕ, zero, suc, ◌+◌, ◌-◌, ◌<�
 use Rattle.std.proofs.lemmas.Bool.{eqb-true, ltb-true}
 use Rattle.std.proofs.lemmas.List.{take-append-le, drop-append-le, drop-drop}
 use Rattle.plan_text.specs.Bytes.{hash, dollar, space, is_space, begins_with}
-use Rattle.plan_text.specs.Lines.{newline_len, begins_newline, taken_along, line_unit, comment_unit, indent_len, logical_len, Raw, raw_past, ended_past}
+use Rattle.plan_text.specs.Lines.{newline_len, begins_newline, escaped_len, line_unit, comment_unit, indent_len, logical_len, Raw, raw_past, ended_past}
 use Rattle.plan_text.specs.Runs.{and_more, run_past, run}
 use Rattle.plan_text.proofs.CoverLemmas.{logical_within, newline_within}
 
@@ -39,7 +39,7 @@ line_last b t false false e h = absurd (omega arith)
 
 taken_last : (b c : ℕ) (t : List ℕ) (f d v : Bool) → begins_newline (c ∷ []) ≡ v
     → EndsAt (b ∷ c ∷ []) (and_more (cond f 0 (cond d (suc (cond v (newline_len (c ∷ [])) 1)) 1)) (λ n. run_past line_unit (c ∷ []) n))
-    → cond {A = ℕ} f 0 (cond d (suc (taken_along (c ∷ t))) 1) ≡ cond f 0 (cond d (suc (cond v (newline_len (c ∷ [])) 1)) 1)
+    → cond {A = ℕ} f 0 (cond d (suc (escaped_len (c ∷ t))) 1) ≡ cond f 0 (cond d (suc (cond v (newline_len (c ∷ [])) 1)) 1)
 taken_last b c t true d v e h = refl
 taken_last b c t false false v e h = refl
 taken_last b c t false true true e h = rw (newline_stays (c ∷ []) t (ltb-true 0 (newline_len (c ∷ [])) e), e) refl

@@ -6,7 +6,7 @@ use Rattle.memchr.specs.Find.{is_byte3}
 use Rattle.plan_text.specs.Bytes.{line_feed, carriage_return, hash, dollar, begins_with}
 use Rattle.plan_text.specs.declared.fault.TextFault.{TextFault}
 use Rattle.plan_text.specs.declared.line_reader.Line.{Line}
-use Rattle.plan_text.specs.Lines.{newline_len, begins_newline, taken_along, line_unit, comment_unit, indent_len, logical_len, Raw, raw_past, IsFirstLine}
+use Rattle.plan_text.specs.Lines.{newline_len, begins_newline, escaped_len, line_unit, comment_unit, indent_len, logical_len, Raw, raw_past, IsFirstLine}
 use Rattle.plan_text.specs.Runs.{run}
 use Rattle.plan_text.proofs.RunLemmas.{run_end, run_some}
 use Rattle.std.proofs.lemmas.Bool.Decides.{nat_tests}
@@ -127,4 +127,4 @@ unit_go rest true r d l e = absurd cc
 
 -- a byte that is no newline's and no `$` is a unit of a line
 pub line_plain : (b : ℕ) (rest : List ℕ) → is_byte3 line_feed carriage_return dollar b ≡ false → line_unit (b ∷ rest) ≡ 1
-line_plain b rest e = unit_go (taken_along rest) (b == line_feed) (b == carriage_return) (b == dollar) (begins_with line_feed rest) e
+line_plain b rest e = unit_go (escaped_len rest) (b == line_feed) (b == carriage_return) (b == dollar) (begins_with line_feed rest) e

@@ -10,12 +10,12 @@ use Rattle.plan_text.specs.declared.piece_reader.Mode.{Mode}
 use Rattle.plan_text.specs.declared.piece_reader.Gather.{Gather}
 use Rattle.plan_text.specs.declared.piece_reader.Piece.{Piece}
 use Rattle.plan_text.specs.declared.piece_reader.Piece.TheVariants.{Literal, Reference}
-use Rattle.plan_text.specs.Pieces.{whole, Sign, Byte, onto, all_onto, in_front, sign_at, pieces_past}
-use Rattle.plan_text.specs.Gathering.{is_special, bytes_onto, gathered, Gathers}
+use Rattle.plan_text.specs.Pieces.{literal_of, Sign, Byte, onto, all_onto, in_front, sign_at, pieces_past}
+use Rattle.plan_text.specs.Gathering.{is_special, bytes_onto, gathered_pieces, Gathers}
 
 -- what was gathered, in front of what is read of the rest
 abbrev pub with_front : Gather → Result (List Piece) TextFault → Result (List Piece) TextFault
-with_front g (Ok more) = Ok (gathered g more)
+with_front g (Ok more) = Ok (gathered_pieces g more)
 with_front g (Err fault) = Err fault
 
 -- bytes that are passed over
@@ -31,12 +31,12 @@ bytes_onto-append [] b more = refl
 bytes_onto-append (x ∷ a) b more = ap (onto (Byte x)) (bytes_onto-append a b more)
 
 -- bytes in front of a reference are a piece
-bytes_onto-reference : (bytes name : List ℕ) (more : List Piece) → bytes_onto bytes (Reference name ∷ more) ≡ whole bytes ++ Reference name ∷ more
+bytes_onto-reference : (bytes name : List ℕ) (more : List Piece) → bytes_onto bytes (Reference name ∷ more) ≡ literal_of bytes ++ Reference name ∷ more
 bytes_onto-reference [] name more = refl
 bytes_onto-reference (b ∷ []) name more = refl
 bytes_onto-reference (b ∷ c ∷ bytes) name more = ap (onto (Byte b)) (bytes_onto-reference (c ∷ bytes) name more)
 
-bytes_onto-end : (bytes : List ℕ) → bytes_onto bytes [] ≡ whole bytes
+bytes_onto-end : (bytes : List ℕ) → bytes_onto bytes [] ≡ literal_of bytes
 bytes_onto-end [] = refl
 bytes_onto-end (b ∷ []) = refl
 bytes_onto-end (b ∷ c ∷ bytes) = ap (onto (Byte b)) (bytes_onto-end (c ∷ bytes))
@@ -132,14 +132,14 @@ passes_plain m base at n text rest old new all r h e done literal so_far =
     ∙ so_far
 
 -- the pieces of a text of bytes that stand for themselves
-pub plain_pieces : (m : Mode) (at : ℕ) (text : List ℕ) → ((k : ℕ) → k < length text → is_special m (get_or text k 0) ≡ false) → pieces_past m at text 0 ≡ Ok (whole text)
+pub plain_pieces : (m : Mode) (at : ℕ) (text : List ℕ) → ((k : ℕ) → k < length text → is_special m (get_or text k 0) ≡ false) → pieces_past m at text 0 ≡ Ok (literal_of text)
 plain_pieces m at text plain =
     plain_past m at text (length text) (omega arith) plain
     ∙ ap (λ (v : List ℕ). bytes_all_onto v (pieces_past m (at + length text) (drop (length text) text) 0)) (take_all (length text) text (omega arith))
     ∙ at_drop_all (λ (v : List ℕ). bytes_all_onto text (pieces_past m (at + length text) v 0)) text (length text) (omega arith)
     ∙ ap (λ (v : List Piece). Ok v) (bytes_onto-end text)
 
-whole_text : (text : List ℕ) → 0 < length text → whole text ≡ Literal text ∷ []
+whole_text : (text : List ℕ) → 0 < length text → literal_of text ≡ Literal text ∷ []
 whole_text [] h = absurd (omega arith)
 whole_text (b ∷ rest) h = refl
 
@@ -162,16 +162,16 @@ gathers_byte done new_done bytes more_bytes b d e more =
     ap (λ (v : List Piece). v ++ bytes_onto more_bytes more) d ∙ ap (λ (v : List ℕ). done ++ bytes_onto v more) e ∙ ap (λ (v : List Piece). done ++ v) (bytes_onto-append bytes (b ∷ []) more)
 
 -- a reference, behind the bytes before it
-pub gathers_name : (done flushed added : List Piece) (bytes left name : List ℕ) → flushed ≡ done ++ whole bytes → added ≡ flushed ++ Reference name ∷ [] → left ≡ []
+pub gathers_name : (done flushed added : List Piece) (bytes left name : List ℕ) → flushed ≡ done ++ literal_of bytes → added ≡ flushed ++ Reference name ∷ [] → left ≡ []
     → (more : List Piece) → added ++ bytes_onto left more ≡ done ++ bytes_onto bytes (Reference name ∷ more)
 gathers_name done flushed added bytes left name e f g more =
     ap (λ (v : List ℕ). added ++ bytes_onto v more) g ∙ ap (λ (v : List Piece). v ++ more) (f ∙ ap (λ (v : List Piece). v ++ Reference name ∷ []) e)
-    ∙ append_assoc (done ++ whole bytes) (Reference name ∷ []) more ∙ append_assoc done (whole bytes) (Reference name ∷ more)
+    ∙ append_assoc (done ++ literal_of bytes) (Reference name ∷ []) more ∙ append_assoc done (literal_of bytes) (Reference name ∷ more)
     ∙ ap (λ (v : List Piece). done ++ v) (sym (bytes_onto-reference bytes name more))
 
 -- the end of the text
 pub ends : (m : Mode) (base at : ℕ) (text : List ℕ) (old : Gather) (done : List Piece) (all : Result (List Piece) TextFault) → length text ≤ at
-    → done ≡ old.done.items ++ whole old.literal → with_front old (pieces_past m (base + at) (drop at text) 0) ≡ all → all ≡ Ok done
+    → done ≡ old.done.items ++ literal_of old.literal → with_front old (pieces_past m (base + at) (drop at text) 0) ≡ all → all ≡ Ok done
 ends m base at text old done all h e so_far =
     sym so_far ∙ at_drop_all (λ (v : List ℕ). with_front old (pieces_past m (base + at) v 0)) text at h
     ∙ ap (λ (v : List Piece). Ok v) (ap (λ (v : List Piece). old.done.items ++ v) (bytes_onto-end old.literal) ∙ sym e)

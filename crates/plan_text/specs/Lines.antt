@@ -17,14 +17,14 @@ abbrev pub begins_newline : List ℕ → Bool
 begins_newline text = nat_lt 0 (newline_len text)
 
 -- what a `$` takes along: the newline behind it, else one byte
-abbrev pub taken_along : List ℕ → ℕ
-taken_along [] = 0
-taken_along (b ∷ rest) = if begins_newline (b ∷ rest) then newline_len (b ∷ rest) else 1
+abbrev pub escaped_len : List ℕ → ℕ
+escaped_len [] = 0
+escaped_len (b ∷ rest) = if begins_newline (b ∷ rest) then newline_len (b ∷ rest) else 1
 
 -- a unit of a logical line: a byte, or a `$` with what it takes along; a newline is none
 abbrev pub line_unit : List ℕ → ℕ
 line_unit [] = 0
-line_unit (b ∷ rest) = if begins_newline (b ∷ rest) then 0 else if b == dollar then suc (taken_along rest) else 1
+line_unit (b ∷ rest) = if begins_newline (b ∷ rest) then 0 else if b == dollar then suc (escaped_len rest) else 1
 
 -- a unit of a comment: a byte; a newline is none
 abbrev pub comment_unit : List ℕ → ℕ
@@ -85,15 +85,15 @@ line_onto line (Ok lines) = Ok (line ∷ lines)
 line_onto line (Err fault) = Err fault
 
 -- each line, up to the first fault
-abbrev pub collected : List (Result (Option Line) TextFault) → Result (List Line) TextFault
-collected [] = Ok []
-collected (Err fault ∷ more) = Err fault
-collected (Ok None ∷ more) = collected more
-collected (Ok (Some line) ∷ more) = line_onto line (collected more)
+abbrev pub collect_lines : List (Result (Option Line) TextFault) → Result (List Line) TextFault
+collect_lines [] = Ok []
+collect_lines (Err fault ∷ more) = Err fault
+collect_lines (Ok None ∷ more) = collect_lines more
+collect_lines (Ok (Some line) ∷ more) = line_onto line (collect_lines more)
 
 -- the lines of a text, or its first fault
 abbrev pub lines_of : List ℕ → Result (List Line) TextFault
-lines_of text = if nat_lt max_source (length text) then Err (SourceTooLong max_source) else collected (map line_of (raw_lines text))
+lines_of text = if nat_lt max_source (length text) then Err (SourceTooLong max_source) else collect_lines (map line_of (raw_lines text))
 
 -- a newline, LF or CR LF, and the text behind it; only where that is without a byte the newline may be absent
 abbrev pub EndsLine : List ℕ → List ℕ → Type 0
@@ -115,5 +115,5 @@ ended_past (b ∷ rest) zero =
     begins_newline (drop len (b ∷ rest)) && ended_past rest (len + newline_len (drop len (b ∷ rest)) - 1)
 
 -- whether each logical line of a text is ended by a newline, so that another text may follow
-abbrev pub are_ended : List ℕ → Bool
-are_ended text = ended_past text 0
+abbrev pub has_ended_lines : List ℕ → Bool
+has_ended_lines text = ended_past text 0

@@ -1,11 +1,9 @@
 use Rattle.std.proofs.Common.{eqb, rules}
-use Rattle.std.proofs.lemmas.Iterator.Search.{all_from_yields_List}
+use Rattle.std.proofs.lemmas.Iterator.Consumers.{map_from_collect}
 use Rattle.std.proofs.lemmas.Iterator.Splits.{YieldsList-from_slice_split}
-use Rattle.plan_text.specs.Path.{is_ordinary}
-use Rattle.plan_text.proofs.canonical_paths.are_ordinary.Goals as goal
+use Rattle.plan_text.proofs.path.split_components.Goals as goal
 
 pub returns : goal.returns
 returns c =
-    all_from_yields_List is_ordinary _ _ c.all.result c.all.ensures.ran
+    map_from_collect _ c.collect.ensures.ran
     (YieldsList-from_slice_split _ (λ b. eqb b 47) c.args.path.now c.split.ensures.rest c.split.ensures.done c.split.ensures.closure (λ x b q h. search rules))
-    (λ x b q h. search rules)

@@ -1,7 +1,7 @@
 use Rattle.std.proofs.Common.{◌≡◌, ◌≤◌, ◌-◌, ◌+◌, length, drop}
 use Rattle.plan_text.specs.Pieces.{pieces_past}
 use Rattle.plan_text.proofs.PieceLemmas.{with_front}
-use Rattle.plan_text.proofs.piece_reader.gathered_at.Given as goal
+use Rattle.plan_text.proofs.piece_reader.gather_pieces.Given as goal
 
 abbrev pub invariant-loop-gather : goal.invariant-loop-gather
 invariant-loop-gather l = record {

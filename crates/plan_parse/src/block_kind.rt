@@ -9,7 +9,7 @@ use crate::fault::ParseFault;
 
 /// Whose lines the lines of a block are, where not every name may stand in it.
 #[derive(Clone, Copy)]
-pub enum Owner {
+pub enum BlockKind {
     /// A rule: it knows many names, and binds `command` once.
     Rule,
     /// A pool: it binds `depth`, once, and nothing else.
@@ -36,44 +36,44 @@ fn is_rule_variable(name: &[u8]) -> bool
         || name == b"pool".as_slice()
 }
 
-impl Owner {
+impl BlockKind {
     /// Whether it may bind this name.
-    pub fn knows(self, name: &[u8]) -> bool
-        ensures { result ≡ statements.knows self name.now }
+    pub fn may_bind(self, name: &[u8]) -> bool
+        ensures { result ≡ statements.may_bind self name.now }
     {
         match self {
-            Owner::Rule => is_rule_variable(name),
-            Owner::Pool => name == b"depth".as_slice(),
+            BlockKind::Rule => is_rule_variable(name),
+            BlockKind::Pool => name == b"depth".as_slice(),
         }
     }
 
     /// The name that it binds exactly once.
-    pub fn wanted(self) -> &'static [u8]
-        ensures { result.now ≡ statements.wanted self }
+    pub fn required_name(self) -> &'static [u8]
+        ensures { result.now ≡ statements.required_name self }
     {
         match self {
-            Owner::Rule => b"command".as_slice(),
-            Owner::Pool => b"depth".as_slice(),
+            BlockKind::Rule => b"command".as_slice(),
+            BlockKind::Pool => b"depth".as_slice(),
         }
     }
 
     /// The fault of a name that it doesn't know.
-    pub fn unknown(self, at: u64) -> ParseFault
-        ensures { result ≡ statements.unknown self at }
+    pub fn unknown_variable(self, at: u64) -> ParseFault
+        ensures { result ≡ statements.unknown_variable self at }
     {
         match self {
-            Owner::Rule => ParseFault::UnknownRuleVariable(at),
-            Owner::Pool => ParseFault::BadPool(at),
+            BlockKind::Rule => ParseFault::UnknownRuleVariable(at),
+            BlockKind::Pool => ParseFault::BadPool(at),
         }
     }
 
     /// The fault of the name that it wants, where it is absent or stands there again.
-    pub fn not_once(self, at: u64) -> ParseFault
-        ensures { result ≡ statements.not_once self at }
+    pub fn missing_or_repeated(self, at: u64) -> ParseFault
+        ensures { result ≡ statements.missing_or_repeated self at }
     {
         match self {
-            Owner::Rule => ParseFault::NoCommand(at),
-            Owner::Pool => ParseFault::BadPool(at),
+            BlockKind::Rule => ParseFault::NoCommand(at),
+            BlockKind::Pool => ParseFault::BadPool(at),
         }
     }
 }
