@@ -14,11 +14,11 @@ use Rattle.plan_scope.specs.declared.manifest.Edge.{Edge}
 use Rattle.plan_scope.specs.Edges.{is_among}
 use Rattle.plan_graph.specs.Cycles.{WaitsFor}
 use Rattle.plan_graph.specs.Files.{Path, number_of, with_path, with_paths}
-use Rattle.plan_graph.specs.Graph.{all_waits, default_edges, files_of, inputs_named, inputs_of, is_last, maker_of, makes_any, numbers_from, outputs_of, waits_of}
+use Rattle.plan_graph.specs.Graph.{all_waits, default_edges, files_of, inputs_named, inputs_of, is_last, producer_of, produces_any, numbers_from, outputs_of, waits_of}
 use Rattle.plan_graph.proofs.GraphLemmas.{numbers_below, row_of}
 use Rattle.plan_graph.proofs.MemberLemmas.{In, Rises, contained, in_any, in_flat, in_list, some_is}
 use Rattle.plan_graph.proofs.NumberLemmas.{among_given, among_kept, names}
-use Rattle.plan_graph.proofs.WaitLemmas.{maker_found, numbers_kept, numbers_rise}
+use Rattle.plan_graph.proofs.WaitLemmas.{producer_found, numbers_kept, numbers_rise}
 
 -- a list of numbers, each less than the next
 rises_order : (n : ℕ) (xs : List ℕ) → Rises n xs → IsStrictlyIncreasing xs
@@ -40,19 +40,19 @@ waits_in_order edges n = elim (row_of (waits_of edges) edges n) [
   | inl empty ↦ subst (λ (row : List ℕ). IsStrictlyIncreasing row × All (λ w. w < length edges) row) (sym empty) (nothing_ascends, λ k d h. absurd (omega (arith, h)))
   | inr some ↦
       subst (λ (row : List ℕ). IsStrictlyIncreasing row × All (λ w. w < length edges) row) (sym some.1)
-      (numbers_ascend (makes_any (inputs_of some.0)) edges, numbers_below (makes_any (inputs_of some.0)) edges)
+      (numbers_ascend (produces_any (inputs_of some.0)) edges, numbers_below (produces_any (inputs_of some.0)) edges)
 ]
 
 pub defaults_in_order : (edges : List Edge) (defaults : List DefaultTarget) → IsStrictlyIncreasing (default_edges edges defaults) × All (λ n. n < length edges) (default_edges edges defaults)
 defaults_in_order edges [] = (numbers_ascend (is_last edges) edges, numbers_below (is_last edges) edges)
-defaults_in_order edges (d ∷ ds) = let test = makes_any (map (λ t. t.path) (d ∷ ds)) in (numbers_ascend test edges, numbers_below test edges)
+defaults_in_order edges (d ∷ ds) = let test = produces_any (map (λ t. t.path) (d ∷ ds)) in (numbers_ascend test edges, numbers_below test edges)
 
-pub makers_are_waited : (edges : List Edge) (n w : ℕ) (e : Edge) (path : Path) → slice_get edges n ≡ Some e → Contains (inputs_of e) path → maker_of edges path ≡ Some w → WaitsFor (all_waits edges) n w
-makers_are_waited edges n w e path here used maker =
+pub producers_are_waited : (edges : List Edge) (n w : ℕ) (e : Edge) (path : Path) → slice_get edges n ≡ Some e → Contains (inputs_of e) path → producer_of edges path ≡ Some w → WaitsFor (all_waits edges) n w
+producers_are_waited edges n w e path here used producer =
     let lt = slice_get_within edges n e here in
     let row : get_or (all_waits edges) n [] ≡ waits_of edges e = get_or-map (waits_of edges) edges n e [] lt ∙ ap (waits_of edges) (get_or_from_slice_get edges n e e here) in
-    let found = maker_found 0 edges path w maker in
-    let test = makes_any (inputs_of e) in
+    let found = producer_found 0 edges path w producer in
+    let test = produces_any (inputs_of e) in
     let makes : test found.edge ≡ true = in_any (is_among (outputs_of found.edge)) (inputs_of e) path (in_list (inputs_of e) path used) found.passes in
     let kept : In (0 + found.place) (numbers_from 0 test edges) = numbers_kept 0 test edges found.place found.edge found.here makes in
     let there : In w (waits_of edges e) = subst (λ k. In k (waits_of edges e)) (sym found.counts) kept in

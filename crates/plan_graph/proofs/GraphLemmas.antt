@@ -15,7 +15,7 @@ use Rattle.plan_graph.specs.declared.fault.GraphFault.{GraphFault}
 use Rattle.plan_graph.specs.declared.fault.GraphFault.TheVariants.{Cycle, Memory, TooManyEdges, TwoProducers, UnknownDefault}
 use Rattle.plan_graph.specs.Files.{Path, Table, paths_in}
 use Rattle.plan_graph.specs.Fitting.{Fits}
-use Rattle.plan_graph.specs.Graph.{Refuses, all_waits, due_len, fault_past, first_fault, made_twice, makes_any, max_edges, numbers_from, one_too_many, outputs_of, rows_of, unmade, waits_of, inputs_named, inputs_of, maker_of}
+use Rattle.plan_graph.specs.Graph.{Refuses, all_waits, targets_above, fault_past, first_fault, second_producer, produces_any, max_edges, numbers_from, edge_limit, outputs_of, rows_of, unknown_target, waits_of, inputs_named, inputs_of, producer_of}
 use Rattle.plan_graph.specs.Reading.{inputs_past, outputs_past, table_of}
 use Rattle.plan_graph.specs.Walking.{InRange, TellsCycle}
 use Rattle.plan_graph.proofs.MemberLemmas.{in_list}
@@ -38,29 +38,29 @@ IsRead (Some (TwoProducers path)) = Unit {0}
 IsRead (Some (UnknownDefault path)) = Unit {0}
 IsRead (Some TooManyEdges) = Unit {0}
 
-twice_read : (above os : List Path) → IsRead (made_twice above os)
-twice_read above [] = tt
-twice_read above (o ∷ os) = elim (is_among above o) as (λ b. IsRead (if b then Some (TwoProducers o) else made_twice (above ++ o ∷ []) os)) [ true ↦ tt | false ↦ twice_read (above ++ o ∷ []) os ]
+second_producer_read : (above os : List Path) → IsRead (second_producer above os)
+second_producer_read above [] = tt
+second_producer_read above (o ∷ os) = elim (is_among above o) as (λ b. IsRead (if b then Some (TwoProducers o) else second_producer (above ++ o ∷ []) os)) [ true ↦ tt | false ↦ second_producer_read (above ++ o ∷ []) os ]
 
-unmade_read : (above : List Edge) (ds : List DefaultTarget) → IsRead (unmade above ds)
-unmade_read above [] = tt
-unmade_read above (d ∷ ds) = elim (is_among (flat_map outputs_of above) d.path) as (λ b. IsRead (if b then unmade above ds else Some (UnknownDefault d.path))) [ true ↦ unmade_read above ds | false ↦ tt ]
+unknown_target_read : (above : List Edge) (ds : List DefaultTarget) → IsRead (unknown_target above ds)
+unknown_target_read above [] = tt
+unknown_target_read above (d ∷ ds) = elim (is_among (flat_map outputs_of above) d.path) as (λ b. IsRead (if b then unknown_target above ds else Some (UnknownDefault d.path))) [ true ↦ unknown_target_read above ds | false ↦ tt ]
 
-many_read : (above : List Edge) → IsRead (one_too_many above)
-many_read above = elim (nat_le max_edges (length above)) as (λ b. IsRead (if b then Some TooManyEdges else None)) [ true ↦ tt | false ↦ tt ]
+edge_limit_read : (above : List Edge) → IsRead (edge_limit above)
+edge_limit_read above = elim (nat_le max_edges (length above)) as (λ b. IsRead (if b then Some TooManyEdges else None)) [ true ↦ tt | false ↦ tt ]
 
 or_read : (a b : Option GraphFault) → IsRead a → IsRead b → IsRead (or_else a b)
 or_read None b h g = g
 or_read (Some f) b h g = h
 
 past_read : (above : List Edge) (ds : List DefaultTarget) (es : List Edge) → IsRead (fault_past above ds es)
-past_read above ds [] = unmade_read above ds
+past_read above ds [] = unknown_target_read above ds
 past_read above ds (e ∷ es) =
-    let due = due_len (length above) ds in
+    let due = targets_above (length above) ds in
     let rest = fault_past (above ++ e ∷ []) (drop due ds) es in
-    or_read (unmade above (take due ds)) (or_else (made_twice (flat_map outputs_of above) (outputs_of e)) (or_else (one_too_many above) rest)) (unmade_read above (take due ds))
-    (or_read (made_twice (flat_map outputs_of above) (outputs_of e)) (or_else (one_too_many above) rest) (twice_read (flat_map outputs_of above) (outputs_of e))
-    (or_read (one_too_many above) rest (many_read above) (past_read (above ++ e ∷ []) (drop due ds) es)))
+    or_read (unknown_target above (take due ds)) (or_else (second_producer (flat_map outputs_of above) (outputs_of e)) (or_else (edge_limit above) rest)) (unknown_target_read above (take due ds))
+    (or_read (second_producer (flat_map outputs_of above) (outputs_of e)) (or_else (edge_limit above) rest) (second_producer_read (flat_map outputs_of above) (outputs_of e))
+    (or_read (edge_limit above) rest (edge_limit_read above) (past_read (above ++ e ∷ []) (drop due ds) es)))
 
 -- why the table of a manifest is not there
 pub refuses : (m : Manifest) (fault : GraphFault) → (fault ≢ Memory → table_of m ≡ Err fault) → Refuses m fault
@@ -98,7 +98,7 @@ waits_range edges e =
     subst (λ n. All (λ w. w < n) (get_or (all_waits edges) e [])) (sym long)
     (elim (row_of (waits_of edges) edges e) [
       | inl empty ↦ subst (All (λ w. w < length edges)) (sym empty) (λ k d h. absurd (omega (arith, h)))
-      | inr some ↦ subst (All (λ w. w < length edges)) (sym some.1) (numbers_below (makes_any (inputs_of some.0)) edges)
+      | inr some ↦ subst (All (λ w. w < length edges)) (sym some.1) (numbers_below (produces_any (inputs_of some.0)) edges)
     ])
 
 abbrev okays : List (List ℕ) → Result (List (List ℕ)) GraphFault
@@ -114,6 +114,6 @@ outputs_known files edges outputs fits is = is ∙ (outputs_settle [] edges ∙ 
 pub inputs_known : (files : Table) (edges : List Edge) (inputs : List (List ℕ)) → Fits files edges → inputs ≡ inputs_past [] edges → inputs ≡ rows_of inputs_named (paths_in files) edges
 inputs_known files edges inputs fits is = is ∙ (inputs_settle [] edges ∙ ap (λ (ps : List Path). rows_of inputs_named ps edges) (sym fits.paths))
 
--- the maker of an output is its own edge
-pub own_maker : (files : Table) (edges : List Edge) → Fits files edges → (n : ℕ) (e : Edge) (path : Path) → slice_get edges n ≡ Some e → Contains (outputs_of e) path → maker_of edges path ≡ Some n
-own_maker files edges fits n e path here made = fits.once n e path here (list_any-from_Contains nat_list_eq_equiv path (outputs_of e) made)
+-- the producer of an output is its own edge
+pub own_producer : (files : Table) (edges : List Edge) → Fits files edges → (n : ℕ) (e : Edge) (path : Path) → slice_get edges n ≡ Some e → Contains (outputs_of e) path → producer_of edges path ≡ Some n
+own_producer files edges fits n e path here made = fits.once n e path here (list_any-from_Contains nat_list_eq_equiv path (outputs_of e) made)

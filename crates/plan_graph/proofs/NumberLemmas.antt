@@ -9,9 +9,9 @@ use Rattle.plan_scope.specs.Edges.{is_among}
 use Rattle.plan_graph.specs.declared.fault.GraphFault.{GraphFault}
 use Rattle.plan_graph.specs.declared.fault.GraphFault.TheVariants.{TooManyEdges, TwoProducers}
 use Rattle.plan_graph.specs.Files.{Path, Table, file_of, number_of, numbers_past, paths_in, with_file, with_path, with_paths}
-use Rattle.plan_graph.specs.Graph.{due_len, inputs_named, max_edges, outputs_of, rows_of}
+use Rattle.plan_graph.specs.Graph.{targets_above, inputs_named, max_edges, outputs_of, rows_of}
 use Rattle.plan_text.specs.Outcome.{◌>>=◌}
-use Rattle.plan_graph.specs.Reading.{fitting, inputs_past, made, outputs_past, own_of, used, with_edge, with_edges, with_input, with_inputs, with_output, with_outputs, with_targets}
+use Rattle.plan_graph.specs.Reading.{within_limit, inputs_past, with_producer, outputs_past, own_of, with_use, with_edge, with_edges, with_input, with_inputs, with_output, with_outputs, with_targets}
 use Rattle.plan_graph.proofs.TableLemmas.{any_append, paths_with, with_paths_app}
 use Rattle.plan_graph.proofs.WaitLemmas.{drop_next}
 
@@ -24,21 +24,21 @@ same_table x y e = cc
 
 pub output_path : (files : Table) (number : ℕ) (o : Path) (more : Table) → with_output files number o (file_of o files) ≡ Ok more → paths_in more ≡ with_path (paths_in files) o
 output_path files number o more h =
-    let next = with_file files o (made number (file_of o files)) in
-    elim (is_some (file_of o files).maker) as (λ b. ◌≡◌ {A = Result Table GraphFault} (if b then Err (TwoProducers o) else Ok next) (Ok more) → paths_in more ≡ with_path (paths_in files) o)
-    [ true ↦ λ e. cc | false ↦ λ e. ap paths_in (sym (same_table next more e)) ∙ paths_with files o (made number (file_of o files)) ] h
+    let next = with_file files o (with_producer number (file_of o files)) in
+    elim (is_some (file_of o files).producer) as (λ b. ◌≡◌ {A = Result Table GraphFault} (if b then Err (TwoProducers o) else Ok next) (Ok more) → paths_in more ≡ with_path (paths_in files) o)
+    [ true ↦ λ e. cc | false ↦ λ e. ap paths_in (sym (same_table next more e)) ∙ paths_with files o (with_producer number (file_of o files)) ] h
 
 pub outputs_paths : (files : Table) (number : ℕ) (os : List Path) (more : Table) → with_outputs files number os ≡ Ok more → paths_in more ≡ with_paths (paths_in files) os
 outputs_paths files number [] more h = ap paths_in (sym (same_table files more h))
 outputs_paths files number (o ∷ os) more h =
-    let next = with_file files o (made number (file_of o files)) in
-    elim (is_some (file_of o files).maker) as (λ b. ((if b then Err (TwoProducers o) else Ok next) >>= λ t. with_outputs t number os) ≡ Ok more → paths_in more ≡ with_paths (with_path (paths_in files) o) os) [
+    let next = with_file files o (with_producer number (file_of o files)) in
+    elim (is_some (file_of o files).producer) as (λ b. ((if b then Err (TwoProducers o) else Ok next) >>= λ t. with_outputs t number os) ≡ Ok more → paths_in more ≡ with_paths (with_path (paths_in files) o) os) [
       | true ↦ λ e. cc
-      | false ↦ λ e. outputs_paths next number os more e ∙ ap (λ (ps : List Path). with_paths ps os) (paths_with files o (made number (file_of o files)))
+      | false ↦ λ e. outputs_paths next number os more e ∙ ap (λ (ps : List Path). with_paths ps os) (paths_with files o (with_producer number (file_of o files)))
     ] h
 
 pub input_path : (own : Option ℕ) (files : Table) (i : Path) → paths_in (with_input own files i) ≡ with_path (paths_in files) i
-input_path own files i = paths_with files i (used own (file_of i files))
+input_path own files i = paths_with files i (with_use own (file_of i files))
 
 pub inputs_paths : (own : Option ℕ) (files : Table) (is : List Path) → paths_in (with_inputs own files is) ≡ with_paths (paths_in files) is
 inputs_paths own files [] = refl
@@ -156,29 +156,29 @@ row_more seen next row middle last xs ys one grown two =
 
 -- build lines that are read in turn
 pub due_refused : (files : Table) (number : ℕ) (ds : List DefaultTarget) (edges : List Edge) (i : ℕ) (e : Edge) (due : List DefaultTarget) (fault : GraphFault) → i < length edges → e ≡ get_or edges i e
-    → due ≡ take (due_len number ds) ds → with_targets files due ≡ Err fault → with_edges files number ds (drop i edges) ≡ Err fault
+    → due ≡ take (targets_above number ds) ds → with_targets files due ≡ Err fault → with_edges files number ds (drop i edges) ≡ Err fault
 due_refused files number ds edges i e due fault lt here is h =
     ap (with_edges files number ds) (drop_next edges i e lt here)
-    ∙ ap (λ (r : Result Table GraphFault). r >>= λ t. with_edge t number e >>= λ more. with_edges more (number + 1) (drop (due_len number ds) ds) (drop (i + 1) edges)) (ap (with_targets files) (sym is) ∙ h)
+    ∙ ap (λ (r : Result Table GraphFault). r >>= λ t. with_edge t number e >>= λ more. with_edges more (number + 1) (drop (targets_above number ds) ds) (drop (i + 1) edges)) (ap (with_targets files) (sym is) ∙ h)
 
 pub edge_refused : (files : Table) (number : ℕ) (ds : List DefaultTarget) (edges : List Edge) (i : ℕ) (e : Edge) (due : List DefaultTarget) (fault : GraphFault) → i < length edges → e ≡ get_or edges i e
-    → due ≡ take (due_len number ds) ds → with_targets files due ≡ Ok files → with_edge files number e ≡ Err fault → with_edges files number ds (drop i edges) ≡ Err fault
+    → due ≡ take (targets_above number ds) ds → with_targets files due ≡ Ok files → with_edge files number e ≡ Err fault → with_edges files number ds (drop i edges) ≡ Err fault
 edge_refused files number ds edges i e due fault lt here is checked h =
     ap (with_edges files number ds) (drop_next edges i e lt here)
-    ∙ (ap (λ (r : Result Table GraphFault). r >>= λ t. with_edge t number e >>= λ more. with_edges more (number + 1) (drop (due_len number ds) ds) (drop (i + 1) edges)) (ap (with_targets files) (sym is) ∙ checked)
-    ∙ ap (λ (r : Result Table GraphFault). r >>= λ more. with_edges more (number + 1) (drop (due_len number ds) ds) (drop (i + 1) edges)) h)
+    ∙ (ap (λ (r : Result Table GraphFault). r >>= λ t. with_edge t number e >>= λ more. with_edges more (number + 1) (drop (targets_above number ds) ds) (drop (i + 1) edges)) (ap (with_targets files) (sym is) ∙ checked)
+    ∙ ap (λ (r : Result Table GraphFault). r >>= λ more. with_edges more (number + 1) (drop (targets_above number ds) ds) (drop (i + 1) edges)) h)
 
 pub edge_read : (files more : Table) (number : ℕ) (ds : List DefaultTarget) (edges : List Edge) (i : ℕ) (e : Edge) (due rest : List DefaultTarget) → i < length edges → e ≡ get_or edges i e
-    → due ≡ take (due_len number ds) ds → rest ≡ drop (due_len number ds) ds → with_targets files due ≡ Ok files → with_edge files number e ≡ Ok more
+    → due ≡ take (targets_above number ds) ds → rest ≡ drop (targets_above number ds) ds → with_targets files due ≡ Ok files → with_edge files number e ≡ Ok more
     → with_edges files number ds (drop i edges) ≡ with_edges more (number + 1) rest (drop (i + 1) edges)
 edge_read files more number ds edges i e due rest lt here is left checked h =
     ap (with_edges files number ds) (drop_next edges i e lt here)
-    ∙ (ap (λ (r : Result Table GraphFault). r >>= λ t. with_edge t number e >>= λ m. with_edges m (number + 1) (drop (due_len number ds) ds) (drop (i + 1) edges)) (ap (with_targets files) (sym is) ∙ checked)
-    ∙ (ap (λ (r : Result Table GraphFault). r >>= λ m. with_edges m (number + 1) (drop (due_len number ds) ds) (drop (i + 1) edges)) h
+    ∙ (ap (λ (r : Result Table GraphFault). r >>= λ t. with_edge t number e >>= λ m. with_edges m (number + 1) (drop (targets_above number ds) ds) (drop (i + 1) edges)) (ap (with_targets files) (sym is) ∙ checked)
+    ∙ (ap (λ (r : Result Table GraphFault). r >>= λ m. with_edges m (number + 1) (drop (targets_above number ds) ds) (drop (i + 1) edges)) h
     ∙ ap (λ (d : List DefaultTarget). with_edges more (number + 1) d (drop (i + 1) edges)) (sym left)))
 
 edge_paths_by : (files : Table) (number : ℕ) (e : Edge) (more : Table) (r : Result Table GraphFault) → with_outputs files number (outputs_of e) ≡ r
-    → (r >>= λ outputs. fitting number outputs >>= λ m. Ok (with_inputs (own_of number e) m (inputs_named e))) ≡ Ok more
+    → (r >>= λ outputs. within_limit number outputs >>= λ m. Ok (with_inputs (own_of number e) m (inputs_named e))) ≡ Ok more
     → paths_in more ≡ with_paths (with_paths (paths_in files) (outputs_of e)) (inputs_named e)
 edge_paths_by files number e more (Err fault) same h = cc
 edge_paths_by files number e more (Ok outputs) same h =

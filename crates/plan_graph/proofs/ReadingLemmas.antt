@@ -5,7 +5,7 @@ use Rattle.plan_graph.specs.declared.fault.GraphFault.{GraphFault}
 use Rattle.plan_graph.specs.declared.files.File.{File}
 use Rattle.plan_graph.specs.Files.{Path, Table, file_of, with_file}
 use Rattle.plan_text.specs.Outcome.{◌>>=◌}
-use Rattle.plan_graph.specs.Reading.{is_own, used, with_input, with_inputs, with_output, with_outputs}
+use Rattle.plan_graph.specs.Reading.{is_own, with_use, with_input, with_inputs, with_output, with_outputs}
 
 abbrev pub okay : Table → Result Table GraphFault
 okay files = Ok files
@@ -48,8 +48,8 @@ pub row_is : (x y : List ℕ) → row_okay x ≡ row_okay y → x ≡ y
 row_is x y e = cc
 
 -- a path that is used stays as it is
-pub used_stays : (own : Option ℕ) (file : File) → file.is_used ≡ true → used own file ≡ file
-used_stays own file e = ap (λ b. record { maker = file.maker; is_used = b || not (is_own file.maker own) }) e ∙ ap (λ b. record { maker = file.maker; is_used = b }) (sym e)
+pub used_stays : (own : Option ℕ) (file : File) → file.is_used ≡ true → with_use own file ≡ file
+used_stays own file e = ap (λ b. record { producer = file.producer; is_used = b || not (is_own file.producer own) }) e ∙ ap (λ b. record { producer = file.producer; is_used = b }) (sym e)
 
 file_stays : (files : Table) (path : Path) → (file_of path files).is_used ≡ true → with_file files path (file_of path files) ≡ files
 file_stays [] path e = cc

@@ -1,4 +1,4 @@
--- What edges wait for, by the makers of their inputs.
+-- What edges wait for, by the producers of their inputs.
 use Rattle.std.proofs.Common.{◌≡◌, ◌<◌, ◌+◌, ℕ, zero, suc, List, [], ◌∷◌, ◌++◌, inl, inr, Bool, true, false, Option, Some, None, length, refl, ap, sym, subst, arith, ◌∙◌}
 use Rattle.std.specs.List.{list_any}
 use Rattle.std.specs.Prelude.{◌||◌, ◌==◌, flat_map, drop, filter, get_or, if◌then◌else◌, map, not, slice_get}
@@ -9,9 +9,9 @@ use Rattle.plan_scope.specs.declared.manifest.DefaultTarget.{DefaultTarget}
 use Rattle.plan_scope.specs.declared.manifest.Edge.{Edge}
 use Rattle.plan_scope.specs.Edges.{is_among}
 use Rattle.plan_graph.specs.declared.files.File.{File}
-use Rattle.plan_graph.specs.Files.{Path, Table, file_at, maker_in, number_of, paths_in}
-use Rattle.plan_graph.specs.Fitting.{Fits, IsAscending, makers, makers_at, other}
-use Rattle.plan_graph.specs.Graph.{default_edges, inputs_named, inputs_of, maker_from, maker_of, is_last, makes_any, numbers_from, outputs_of, rows_of, waits_of}
+use Rattle.plan_graph.specs.Files.{Path, Table, file_at, producer_in, number_of, paths_in}
+use Rattle.plan_graph.specs.Fitting.{Fits, IsAscending, producers, producers_at, unless_own}
+use Rattle.plan_graph.specs.Graph.{default_edges, inputs_named, inputs_of, producer_from, producer_of, is_last, produces_any, numbers_from, outputs_of, rows_of, waits_of}
 use Rattle.plan_graph.specs.Reading.{is_own, own_of}
 use Rattle.plan_graph.proofs.FileLemmas.{file_numbered}
 use Rattle.plan_graph.proofs.InputLemmas.{inputs_are}
@@ -55,13 +55,13 @@ numbers_kept n test (x ∷ es) (suc i) e h t =
     let later : In (n + suc i) (numbers_from (n + 1) test es) = subst (λ k. In k (numbers_from (n + 1) test es)) moved (numbers_kept (n + 1) test es i e h t) in
     elim (test x) as (λ b. In (n + suc i) (if b then n ∷ numbers_from (n + 1) test es else numbers_from (n + 1) test es)) [ true ↦ inr later | false ↦ later ]
 
--- the first maker of a path makes it
-pub maker_found : (n : ℕ) (es : List Edge) (path : Path) (k : ℕ) → maker_from n es path ≡ Some k → Numbered n (λ e. is_among (outputs_of e) path) es k
-maker_found n [] path k h = cc
-maker_found n (e ∷ es) path k h =
-    elim (is_among (outputs_of e) path) as (λ b. is_among (outputs_of e) path ≡ b → (if b then Some n else maker_from (n + 1) es path) ≡ Some k → Numbered n (λ x. is_among (outputs_of x) path) (e ∷ es) k) [
+-- the first producer of a path makes it
+pub producer_found : (n : ℕ) (es : List Edge) (path : Path) (k : ℕ) → producer_from n es path ≡ Some k → Numbered n (λ e. is_among (outputs_of e) path) es k
+producer_found n [] path k h = cc
+producer_found n (e ∷ es) path k h =
+    elim (is_among (outputs_of e) path) as (λ b. is_among (outputs_of e) path ≡ b → (if b then Some n else producer_from (n + 1) es path) ≡ Some k → Numbered n (λ x. is_among (outputs_of x) path) (e ∷ es) k) [
       | true ↦ λ t i. record { place = 0; edge = e; here = refl; passes = t; counts = let same : n ≡ k = some_is n k i in omega (arith, same) }
-      | false ↦ λ t i. numbered_later n (λ x. is_among (outputs_of x) path) e es k (maker_found (n + 1) es path k i)
+      | false ↦ λ t i. numbered_later n (λ x. is_among (outputs_of x) path) e es k (producer_found (n + 1) es path k i)
     ] refl h
 
 own_differs : (k n : ℕ) → k ≡ n → (k == n) ≡ false → ⊥
@@ -75,7 +75,7 @@ in_nothing : (k : ℕ) (own : Bool) → In k (if own then [] else []) → ⊥
 in_nothing k true h = h
 in_nothing k false h = h
 
-pub in_listed : (own : Option ℕ) (k : ℕ) (maker : Option ℕ) → In k (other own maker) → (maker ≡ Some k) × (is_own (Some k) own ≡ false)
+pub in_listed : (own : Option ℕ) (k : ℕ) (producer : Option ℕ) → In k (unless_own own producer) → (producer ≡ Some k) × (is_own (Some k) own ≡ false)
 in_listed own k None h = absurd (in_nothing k (is_own None own) h)
 in_listed own k (Some n) h =
     elim (is_own (Some n) own) as (λ b. is_own (Some n) own ≡ b → In k (if b then [] else n ∷ []) → (Some n ≡ Some k) × (is_own (Some k) own ≡ false)) [
@@ -83,19 +83,19 @@ in_listed own k (Some n) h =
       | false ↦ λ e i. elim i [ inl same ↦ (ap (λ (x : ℕ). Some x) same, subst (λ x. is_own (Some x) own ≡ false) same e) | inr j ↦ absurd j ]
     ] refl h
 
-pub listed_in : (own : Option ℕ) (k : ℕ) (maker : Option ℕ) → maker ≡ Some k → is_own (Some k) own ≡ false → In k (other own maker)
-listed_in own k maker e h =
-    subst (λ m. In k (other own m)) (sym e) (subst (λ b. In k (if b then [] else k ∷ [])) (sym h) (inl refl))
+pub listed_in : (own : Option ℕ) (k : ℕ) (producer : Option ℕ) → producer ≡ Some k → is_own (Some k) own ≡ false → In k (unless_own own producer)
+listed_in own k producer e h =
+    subst (λ m. In k (unless_own own m)) (sym e) (subst (λ b. In k (if b then [] else k ∷ [])) (sym h) (inl refl))
 
 -- an input is no output of the edge itself where that is a phony
-phony_given : (edges : List Edge) (number : ℕ) (e : Edge) (p : Path) (k : ℕ) (phony : Bool) → ((p : Path) → is_among (outputs_of e) p ≡ true → maker_of edges p ≡ Some number)
-    → In p (inputs_named e) → maker_of edges p ≡ Some k → is_own (Some k) (if phony then Some number else None) ≡ false
+phony_given : (edges : List Edge) (number : ℕ) (e : Edge) (p : Path) (k : ℕ) (phony : Bool) → ((p : Path) → is_among (outputs_of e) p ≡ true → producer_of edges p ≡ Some number)
+    → In p (inputs_named e) → producer_of edges p ≡ Some k → is_own (Some k) (if phony then Some number else None) ≡ false
     → In p (if phony then filter (λ q. not (is_among (outputs_of e) q)) (inputs_named e) else inputs_named e)
-phony_given edges number e p k false once i maker h = i
-phony_given edges number e p k true once i maker h =
+phony_given edges number e p k false once i producer h = i
+phony_given edges number e p k true once i producer h =
     in_filter (λ q. not (is_among (outputs_of e) q)) (inputs_named e) p i
     (elim (is_among (outputs_of e) p) as (λ b. is_among (outputs_of e) p ≡ b → not b ≡ true)
-    [ true ↦ λ t. let same : k ≡ number = some_is k number (sym maker ∙ once p t) in absurd (own_differs k number same h) | false ↦ λ t. refl ] refl)
+    [ true ↦ λ t. let same : k ≡ number = some_is k number (sym producer ∙ once p t) in absurd (own_differs k number same h) | false ↦ λ t. refl ] refl)
 
 phony_kept : (edges : List Edge) (number : ℕ) (e : Edge) (p : Path) (k : ℕ) (phony : Bool) → (k ≡ number → is_among (outputs_of e) p ≡ true)
     → In p (if phony then filter (λ q. not (is_among (outputs_of e) q)) (inputs_named e) else inputs_named e)
@@ -106,54 +106,54 @@ phony_kept edges number e p k true makes i =
     (kept.0, elim (k == number) as (λ b. (k == number) ≡ b → b ≡ false) [ true ↦ λ t. absurd (makes_not (is_among (outputs_of e) p) (makes (eqb-true k number t)) kept.1) | false ↦ λ t. refl ] refl)
 
 pub given_input : (files : Table) (edges : List Edge) (number : ℕ) (e : Edge) (p : Path) (k : ℕ) → Fits files edges → slice_get edges number ≡ Some e
-    → In p (inputs_named e) → maker_of edges p ≡ Some k → is_own (Some k) (own_of number e) ≡ false → In p (inputs_of e)
-given_input files edges number e p k fits here i maker h = subst (In p) (sym (inputs_are e)) (phony_given edges number e p k e.phony (λ q t. fits.once number e q here t) i maker h)
+    → In p (inputs_named e) → producer_of edges p ≡ Some k → is_own (Some k) (own_of number e) ≡ false → In p (inputs_of e)
+given_input files edges number e p k fits here i producer h = subst (In p) (sym (inputs_are e)) (phony_given edges number e p k e.phony (λ q t. fits.once number e q here t) i producer h)
 
 pub kept_input : (files : Table) (edges : List Edge) (number : ℕ) (e : Edge) (p : Path) (k : ℕ) → Fits files edges → slice_get edges number ≡ Some e
-    → In p (inputs_of e) → maker_of edges p ≡ Some k → In p (inputs_named e) × (is_own (Some k) (own_of number e) ≡ false)
-kept_input files edges number e p k fits here i maker =
+    → In p (inputs_of e) → producer_of edges p ≡ Some k → In p (inputs_named e) × (is_own (Some k) (own_of number e) ≡ false)
+kept_input files edges number e p k fits here i producer =
     phony_kept edges number e p k e.phony (λ same.
-    let n = maker_found 0 edges p k maker in
+    let n = producer_found 0 edges p k producer in
     let place : n.place ≡ number = omega (arith, n.counts, same) in
     let edge : n.edge ≡ e = some_is n.edge e (sym n.here ∙ (ap (slice_get edges) place ∙ here)) in
     subst (λ x. is_among (outputs_of x) p ≡ true) edge n.passes) (subst (In p) (inputs_are e) i)
 
--- the makers of some paths, but for the edge itself, are the edges that make one of these inputs
-pub makers_are : (files : Table) (edges : List Edge) (own : Option ℕ) (named inputs : List Path) (row : List ℕ) → Fits files edges
-    → ((p : Path) (k : ℕ) → In p named → maker_of edges p ≡ Some k → is_own (Some k) own ≡ false → In p inputs)
-    → ((p : Path) (k : ℕ) → In p inputs → maker_of edges p ≡ Some k → In p named × (is_own (Some k) own ≡ false))
-    → IsAscending (makers files own named) row → numbers_from 0 (makes_any inputs) edges ≡ row
-makers_are files edges own named inputs row fits given kept ascending =
-    same_members 0 (numbers_from 0 (makes_any inputs) edges) row (numbers_rise 0 (makes_any inputs) edges) (rises_from 0 row (λ h. omega arith) ascending.order)
+-- the producers of some paths, but for the edge itself, are the edges that make one of these inputs
+pub producers_are : (files : Table) (edges : List Edge) (own : Option ℕ) (named inputs : List Path) (row : List ℕ) → Fits files edges
+    → ((p : Path) (k : ℕ) → In p named → producer_of edges p ≡ Some k → is_own (Some k) own ≡ false → In p inputs)
+    → ((p : Path) (k : ℕ) → In p inputs → producer_of edges p ≡ Some k → In p named × (is_own (Some k) own ≡ false))
+    → IsAscending (producers files own named) row → numbers_from 0 (produces_any inputs) edges ≡ row
+producers_are files edges own named inputs row fits given kept ascending =
+    same_members 0 (numbers_from 0 (produces_any inputs) edges) row (numbers_rise 0 (produces_any inputs) edges) (rises_from 0 row (λ h. omega arith) ascending.order)
     (λ k i.
-    let n = numbers_given 0 (makes_any inputs) edges k i in
+    let n = numbers_given 0 (produces_any inputs) edges k i in
     let p = any_in (is_among (outputs_of n.edge)) inputs n.passes in
     let place : k ≡ n.place = omega (arith, n.counts) in
-    let maker : maker_of edges p.0 ≡ Some k = fits.once n.place n.edge p.0 n.here p.2 ∙ ap (λ (x : ℕ). Some x) (sym place) in
-    let named_too = kept p.0 k p.1 maker in
-    in_list row k (ascending.kept k (contained (makers files own named) k (in_flat (λ q. other own (maker_in files q)) named p.0 k named_too.0
-    (listed_in own k (maker_in files p.0) (fits.makers p.0 ∙ maker) named_too.1)))))
+    let producer : producer_of edges p.0 ≡ Some k = fits.once n.place n.edge p.0 n.here p.2 ∙ ap (λ (x : ℕ). Some x) (sym place) in
+    let named_too = kept p.0 k p.1 producer in
+    in_list row k (ascending.kept k (contained (producers files own named) k (in_flat (λ q. unless_own own (producer_in files q)) named p.0 k named_too.0
+    (listed_in own k (producer_in files p.0) (fits.producers p.0 ∙ producer) named_too.1)))))
     (λ k i.
-    let p = flat_in (λ q. other own (maker_in files q)) named k (in_list (makers files own named) k (ascending.given k (contained row k i))) in
-    let is = in_listed own k (maker_in files p.0) p.2 in
-    let maker : maker_of edges p.0 ≡ Some k = sym (fits.makers p.0) ∙ is.0 in
-    let n = maker_found 0 edges p.0 k maker in
-    subst (λ j. In j (numbers_from 0 (makes_any inputs) edges)) (sym n.counts)
-    (numbers_kept 0 (makes_any inputs) edges n.place n.edge n.here (in_any (is_among (outputs_of n.edge)) inputs p.0 (given p.0 k p.1 maker is.1) n.passes)))
+    let p = flat_in (λ q. unless_own own (producer_in files q)) named k (in_list (producers files own named) k (ascending.given k (contained row k i))) in
+    let is = in_listed own k (producer_in files p.0) p.2 in
+    let producer : producer_of edges p.0 ≡ Some k = sym (fits.producers p.0) ∙ is.0 in
+    let n = producer_found 0 edges p.0 k producer in
+    subst (λ j. In j (numbers_from 0 (produces_any inputs) edges)) (sym n.counts)
+    (numbers_kept 0 (produces_any inputs) edges n.place n.edge n.here (in_any (is_among (outputs_of n.edge)) inputs p.0 (given p.0 k p.1 producer is.1) n.passes)))
 
 -- what the edge of this number waits for
 pub waits_are : (files : Table) (edges : List Edge) (number : ℕ) (e : Edge) (row : List ℕ) → Fits files edges → slice_get edges number ≡ Some e
-    → IsAscending (makers files (own_of number e) (inputs_named e)) row → waits_of edges e ≡ row
+    → IsAscending (producers files (own_of number e) (inputs_named e)) row → waits_of edges e ≡ row
 waits_are files edges number e row fits here ascending =
-    makers_are files edges (own_of number e) (inputs_named e) (inputs_of e) row fits
-    (λ p k i maker other. given_input files edges number e p k fits here i maker other)
-    (λ p k i maker. kept_input files edges number e p k fits here i maker)
+    producers_are files edges (own_of number e) (inputs_named e) (inputs_of e) row fits
+    (λ p k i producer unless_own. given_input files edges number e p k fits here i producer unless_own)
+    (λ p k i producer. kept_input files edges number e p k fits here i producer)
     ascending
 
--- the makers of targets of `default` statements
+-- the producers of targets of `default` statements
 pub targets_are : (files : Table) (edges : List Edge) (targets : List Path) (row : List ℕ) → Fits files edges
-    → IsAscending (makers files None targets) row → numbers_from 0 (makes_any targets) edges ≡ row
-targets_are files edges targets row fits ascending = makers_are files edges None targets targets row fits (λ p k i maker h. i) (λ p k i maker. (i, refl)) ascending
+    → IsAscending (producers files None targets) row → numbers_from 0 (produces_any targets) edges ≡ row
+targets_are files edges targets row fits ascending = producers_are files edges None targets targets row fits (λ p k i producer h. i) (λ p k i producer. (i, refl)) ascending
 
 -- what is left past one edge more
 pub drop_next : {X : Type 0} (xs : List X) (i : ℕ) (x : X) → i < length xs → x ≡ get_or xs i x → drop i xs ≡ x ∷ drop (i + 1) xs
@@ -168,16 +168,16 @@ next_waits edges i e rows row all h here is so_far =
     ∙ (ap (λ (es : List Edge). rows ++ map (waits_of edges) es) (sym (drop_next edges i e h here)) ∙ so_far))
 
 pub named_defaults : (files : Table) (edges : List Edge) (defaults : List DefaultTarget) (row : List ℕ) → Fits files edges → (length defaults == 0) ≡ false
-    → IsAscending (makers files None (map (λ t. t.path) defaults)) row → default_edges edges defaults ≡ row
+    → IsAscending (producers files None (map (λ t. t.path) defaults)) row → default_edges edges defaults ≡ row
 named_defaults files edges [] row fits some ascending = cc
 named_defaults files edges (d ∷ ds) row fits some ascending = targets_are files edges (map (λ t. t.path) (d ∷ ds)) row fits ascending
 
 -- what is known by numbers is known by paths
-pub makers_numbered : (files : Table) (own : Option ℕ) (ps : List Path) → makers_at files own (map (number_of (paths_in files)) ps) ≡ makers files own ps
-makers_numbered files own [] = refl
-makers_numbered files own (p ∷ ps) =
-    ap (λ (f : File). other own f.maker ++ makers_at files own (map (number_of (paths_in files)) ps)) (file_numbered files p)
-    ∙ ap (λ (ns : List ℕ). other own (maker_in files p) ++ ns) (makers_numbered files own ps)
+pub producers_numbered : (files : Table) (own : Option ℕ) (ps : List Path) → producers_at files own (map (number_of (paths_in files)) ps) ≡ producers files own ps
+producers_numbered files own [] = refl
+producers_numbered files own (p ∷ ps) =
+    ap (λ (f : File). unless_own own f.producer ++ producers_at files own (map (number_of (paths_in files)) ps)) (file_numbered files p)
+    ∙ ap (λ (ns : List ℕ). unless_own own (producer_in files p) ++ ns) (producers_numbered files own ps)
 
 unused_numbered : (files : Table) (edges : List Edge) (ps : List Path) → Fits files edges
     → list_any (λ n. not (file_at n files).is_used) (map (number_of (paths_in files)) ps) ≡ list_any (λ o. not (is_among (flat_map inputs_of edges) o)) ps

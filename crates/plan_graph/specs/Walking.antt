@@ -1,8 +1,8 @@
 -- How far a walk along waits has come.
 use Rattle.std.specs.Prelude.{◌≡◌, ◌≢◌, ◌+◌, ◌<◌, ◌≤◌, ℕ, List, [], ◌∷◌, All, Contains, None, Option, Some, get_or, length, slice_get, slice_index, sum_by}
-use Rattle.plan_graph.specs.declared.order.Mark.{Mark}
-use Rattle.plan_graph.specs.declared.order.Mark.TheVariants.{Done, New, Open}
-use Rattle.plan_graph.specs.declared.order.Walk.{Walk}
+use Rattle.plan_graph.specs.declared.walk.Mark.{Mark}
+use Rattle.plan_graph.specs.declared.walk.Mark.TheVariants.{Done, New, Open}
+use Rattle.plan_graph.specs.declared.walk.Walk.{Walk}
 use Rattle.plan_graph.specs.declared.fault.GraphFault.{GraphFault}
 use Rattle.plan_graph.specs.declared.fault.GraphFault.TheVariants.{Cycle, Memory, TooManyEdges, TwoProducers, UnknownDefault}
 use Rattle.plan_graph.specs.Cycles.{Chain, IsCycle, IsLeastFirst, IsSimple, WaitsFor, rank_over}
