@@ -29,7 +29,7 @@ rises_order n (x ∷ y ∷ xs) r (suc k) h =
     let next : suc (k + 1) ≡ suc k + 1 = omega arith in
     subst (λ j. slice_index (x ∷ y ∷ xs) (suc k) < slice_index (x ∷ y ∷ xs) j) next (rises_order (x + 1) (y ∷ xs) r.1 k (omega (arith, h)))
 
-pub numbers_ascend : (test : Edge → Bool) (edges : List Edge) → IsStrictlyIncreasing (numbers_from 0 test edges)
+numbers_ascend : (test : Edge → Bool) (edges : List Edge) → IsStrictlyIncreasing (numbers_from 0 test edges)
 numbers_ascend test edges = rises_order 0 (numbers_from 0 test edges) (numbers_rise 0 test edges)
 
 nothing_ascends : IsStrictlyIncreasing []
@@ -59,7 +59,7 @@ producers_are_waited edges n w e path here used producer =
     subst (λ (r : List ℕ). Contains r w) (sym row) (contained (waits_of edges e) w there)
 
 -- the path of its number
-pub place_given : (ps : List Path) (p : Path) → is_among ps p ≡ true → slice_get ps (number_of ps p) ≡ Some p
+place_given : (ps : List Path) (p : Path) → is_among ps p ≡ true → slice_get ps (number_of ps p) ≡ Some p
 place_given [] p h = cc
 place_given (x ∷ ps) p h =
     elim (bytes_eq p x) as (λ b. bytes_eq p x ≡ b → (b || is_among ps p) ≡ true → slice_get (x ∷ ps) (if b then 0 else suc (number_of ps p)) ≡ Some p)

@@ -8,20 +8,20 @@ use Rattle.plan_scope.specs.Edges.{is_among}
 use Rattle.plan_graph.specs.declared.files.File.{File}
 use Rattle.plan_graph.specs.Files.{Path, Table, file_at, file_of, number_of, paths_in, unknown, with_file}
 
-pub file_zip : (ps : List Path) (fs : List File) (n : ℕ) → length fs ≡ length ps → file_at n (zip ps fs) ≡ get_or fs n unknown
+file_zip : (ps : List Path) (fs : List File) (n : ℕ) → length fs ≡ length ps → file_at n (zip ps fs) ≡ get_or fs n unknown
 file_zip [] [] n h = refl
 file_zip [] (f ∷ fs) n h = absurd (omega (arith, h))
 file_zip (p ∷ ps) [] n h = absurd (omega (arith, h))
 file_zip (p ∷ ps) (f ∷ fs) zero h = refl
 file_zip (p ∷ ps) (f ∷ fs) (suc n) h = file_zip ps fs n (omega (arith, h))
 
-pub zip_paths : (ps : List Path) (fs : List File) → length fs ≡ length ps → paths_in (zip ps fs) ≡ ps
+zip_paths : (ps : List Path) (fs : List File) → length fs ≡ length ps → paths_in (zip ps fs) ≡ ps
 zip_paths [] [] h = refl
 zip_paths [] (f ∷ fs) h = absurd (omega (arith, h))
 zip_paths (p ∷ ps) [] h = absurd (omega (arith, h))
 zip_paths (p ∷ ps) (f ∷ fs) h = ap (λ (qs : List Path). p ∷ qs) (zip_paths ps fs (omega (arith, h)))
 
-pub zip_length : (ps : List Path) (fs : List File) → length fs ≡ length ps → length (zip ps fs) ≡ length ps
+zip_length : (ps : List Path) (fs : List File) → length fs ≡ length ps → length (zip ps fs) ≡ length ps
 zip_length [] [] h = refl
 zip_length [] (f ∷ fs) h = absurd (omega (arith, h))
 zip_length (p ∷ ps) [] h = absurd (omega (arith, h))
@@ -33,13 +33,13 @@ file_numbered [] path = refl
 file_numbered (f ∷ fs) path =
     elim (bytes_eq path f.0) as (λ b. file_at (if b then 0 else suc (number_of (paths_in fs) path)) (f ∷ fs) ≡ (if b then f.1 else file_of path fs)) [ true ↦ refl | false ↦ file_numbered fs path ]
 
-pub number_within : (ps : List Path) (path : Path) → is_among ps path ≡ true → number_of ps path < length ps
+number_within : (ps : List Path) (path : Path) → is_among ps path ≡ true → number_of ps path < length ps
 number_within [] path h = cc
 number_within (p ∷ ps) path h =
     elim (bytes_eq path p) as (λ b. (b || is_among ps path) ≡ true → (if b then 0 else suc (number_of ps path)) < length (p ∷ ps))
     [ true ↦ λ _. omega arith | false ↦ λ i. let rest : number_of ps path < length ps = number_within ps path i in omega (arith, rest) ] h
 
-pub number_past : (ps : List Path) (path : Path) → is_among ps path ≡ false → number_of ps path ≡ length ps
+number_past : (ps : List Path) (path : Path) → is_among ps path ≡ false → number_of ps path ≡ length ps
 number_past [] path h = refl
 number_past (p ∷ ps) path h =
     elim (bytes_eq path p) as (λ b. (b || is_among ps path) ≡ false → (if b then 0 else suc (number_of ps path)) ≡ length (p ∷ ps))
@@ -73,7 +73,7 @@ place_is shown path keys =
     ] refl)
 
 -- a path that is there keeps what is known of it
-pub named_before : (files : Table) (path : Path) → is_among (paths_in files) path ≡ true → files ≡ with_file files path (file_of path files)
+named_before : (files : Table) (path : Path) → is_among (paths_in files) path ≡ true → files ≡ with_file files path (file_of path files)
 named_before [] path h = cc
 named_before (f ∷ fs) path h =
     elim (bytes_eq path f.0) as (λ b. (b || is_among (paths_in fs) path) ≡ true
@@ -81,7 +81,7 @@ named_before (f ∷ fs) path h =
     [ true ↦ λ i. refl | false ↦ λ i. ap (λ (t : Table). f ∷ t) (named_before fs path i) ] h
 
 -- of a path that is new nothing is known
-pub named_now : (files : Table) (path : Path) → is_among (paths_in files) path ≡ false → files ++ (path, unknown) ∷ [] ≡ with_file files path (file_of path files)
+named_now : (files : Table) (path : Path) → is_among (paths_in files) path ≡ false → files ++ (path, unknown) ∷ [] ≡ with_file files path (file_of path files)
 named_now [] path h = refl
 named_now (f ∷ fs) path h =
     elim (bytes_eq path f.0) as (λ b. (b || is_among (paths_in fs) path) ≡ false
@@ -123,7 +123,7 @@ pub table_at : {X : Type 0} (shown : X → Path) (keys : List X) (fs : List File
 table_at shown keys fs n h = file_zip (map shown keys) fs n (h ∙ sym (map_length shown keys))
 
 -- what is written at the number of a path is known of the path
-pub zip_set : (ps : List Path) (fs : List File) (path : Path) (file : File) → length fs ≡ length ps → number_of ps path < length ps → zip ps (set fs (number_of ps path) file) ≡ with_file (zip ps fs) path file
+zip_set : (ps : List Path) (fs : List File) (path : Path) (file : File) → length fs ≡ length ps → number_of ps path < length ps → zip ps (set fs (number_of ps path) file) ≡ with_file (zip ps fs) path file
 zip_set [] fs path file h lt = absurd (omega (arith, lt))
 zip_set (p ∷ ps) [] path file h lt = absurd (omega (arith, h))
 zip_set (p ∷ ps) (f ∷ fs) path file h lt =
@@ -178,7 +178,7 @@ bytes_self : (path : Path) → bytes_eq path path ≡ true
 bytes_self path = (bytes_eq-Decides path path).1 refl
 
 -- a path keeps its number once something is known of it
-pub number_named : (files : Table) (path : Path) (file : File) → number_of (paths_in (with_file files path file)) path ≡ number_of (paths_in files) path
+number_named : (files : Table) (path : Path) (file : File) → number_of (paths_in (with_file files path file)) path ≡ number_of (paths_in files) path
 number_named [] path file = ap (λ (b : Bool). if b then 0 else 1) (bytes_self path)
 number_named (f ∷ fs) path file =
     elim (bytes_eq path f.0) as (λ b. bytes_eq path f.0 ≡ b → number_of (paths_in (if b then (f.0, file) ∷ fs else f ∷ with_file fs path file)) path ≡ (if b then 0 else suc (number_of (paths_in fs) path))) [
@@ -187,7 +187,7 @@ number_named (f ∷ fs) path file =
     ] refl
 
 -- what is known last of a path
-pub with_twice : (files : Table) (path : Path) (one two : File) → with_file (with_file files path one) path two ≡ with_file files path two
+with_twice : (files : Table) (path : Path) (one two : File) → with_file (with_file files path one) path two ≡ with_file files path two
 with_twice [] path one two = ap (λ (b : Bool). if b then (path, two) ∷ [] else (path, one) ∷ (path, two) ∷ []) (bytes_self path)
 with_twice (f ∷ fs) path one two =
     elim (bytes_eq path f.0) as (λ b. bytes_eq path f.0 ≡ b → with_file (if b then (f.0, one) ∷ fs else f ∷ with_file fs path one) path two ≡ (if b then (f.0, two) ∷ fs else f ∷ with_file fs path two)) [
@@ -195,7 +195,7 @@ with_twice (f ∷ fs) path one two =
       | false ↦ λ e. ap (λ (b : Bool). if b then (f.0, two) ∷ with_file fs path one else f ∷ with_file (with_file fs path one) path two) e ∙ ap (λ (t : Table). f ∷ t) (with_twice fs path one two)
     ] refl
 
-pub file_named : (files : Table) (path : Path) (file : File) → file_at (number_of (paths_in files) path) (with_file files path file) ≡ file
+file_named : (files : Table) (path : Path) (file : File) → file_at (number_of (paths_in files) path) (with_file files path file) ≡ file
 file_named [] path file = refl
 file_named (f ∷ fs) path file =
     elim (bytes_eq path f.0) as (λ b. file_at (if b then 0 else suc (number_of (paths_in fs) path)) (if b then (f.0, file) ∷ fs else f ∷ with_file fs path file) ≡ file)

@@ -26,7 +26,7 @@ use Rattle.plan_graph.proofs.WaitLemmas.{numbers_given}
 pub sound_table : (m : Manifest) (files : Table) → table_of m ≡ Ok files → (first_fault m ≡ None) × Fits files m.edges
 sound_table m files e = subst (Reads m.edges (first_fault m)) e (table_read m)
 
-pub refused_table : (m : Manifest) (fault : GraphFault) → table_of m ≡ Err fault → first_fault m ≡ Some fault
+refused_table : (m : Manifest) (fault : GraphFault) → table_of m ≡ Err fault → first_fault m ≡ Some fault
 refused_table m fault e = subst (Reads m.edges (first_fault m)) e (table_read m)
 
 -- a fault that is found while build lines are read

@@ -8,7 +8,7 @@ use Rattle.plan_scope.specs.Edges.{is_among}
 use Rattle.plan_graph.specs.Files.{Path}
 use Rattle.plan_graph.specs.Graph.{inputs_named, inputs_of, outputs_of, without_own}
 
-pub without_append : (e : Edge) (xs ys : List Path) → without_own e (xs ++ ys) ≡ without_own e xs ++ without_own e ys
+without_append : (e : Edge) (xs ys : List Path) → without_own e (xs ++ ys) ≡ without_own e xs ++ without_own e ys
 without_append e xs ys =
     let test = λ (p : Path). not (is_among (outputs_of e) p) in
     elim e.phony as (λ b. (if b then filter test (xs ++ ys) else xs ++ ys) ≡ (if b then filter test xs else xs) ++ (if b then filter test ys else ys))

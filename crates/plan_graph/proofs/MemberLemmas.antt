@@ -36,7 +36,7 @@ pub rises_from : (n : ℕ) (xs : List ℕ) → (0 < length xs → n ≤ slice_in
 rises_from n [] low r = tt
 rises_from n (x ∷ xs) low r = (low (omega arith), rises_from (x + 1) xs (λ h. let lt : x < slice_index xs 0 = r 0 (omega (arith, h)) in omega (arith, lt)) (rises_rest x xs r))
 
-pub rises_bound : (n k : ℕ) (xs : List ℕ) → Rises n xs → In k xs → n ≤ k
+rises_bound : (n k : ℕ) (xs : List ℕ) → Rises n xs → In k xs → n ≤ k
 rises_bound n k [] r h = absurd h
 rises_bound n k (x ∷ xs) r h = elim h [ inl e ↦ omega (arith, r.0, e) | inr i ↦ let later : x + 1 ≤ k = rises_bound (x + 1) k xs r.1 i in omega (arith, r.0, later) ]
 

@@ -15,7 +15,7 @@ use Rattle.plan_graph.specs.Reading.{within_limit, inputs_past, with_producer, o
 use Rattle.plan_graph.proofs.TableLemmas.{any_append, paths_with, with_paths_app}
 use Rattle.plan_graph.proofs.WaitLemmas.{drop_next}
 
-pub numbers_append : (seen xs ys : List Path) → numbers_past seen (xs ++ ys) ≡ numbers_past seen xs ++ numbers_past (with_paths seen xs) ys
+numbers_append : (seen xs ys : List Path) → numbers_past seen (xs ++ ys) ≡ numbers_past seen xs ++ numbers_past (with_paths seen xs) ys
 numbers_append seen [] ys = refl
 numbers_append seen (x ∷ xs) ys = ap (λ (ns : List ℕ). number_of seen x ∷ ns) (numbers_append (with_path seen x) xs ys)
 
@@ -82,7 +82,7 @@ pub among_kept : (seen ps : List Path) (p : Path) → is_among seen p ≡ true �
 among_kept seen [] p h = h
 among_kept seen (x ∷ ps) p h = among_kept (with_path seen x) ps p (among_step seen x p h)
 
-pub number_kept : (seen ps : List Path) (p : Path) → is_among seen p ≡ true → number_of (with_paths seen ps) p ≡ number_of seen p
+number_kept : (seen ps : List Path) (p : Path) → is_among seen p ≡ true → number_of (with_paths seen ps) p ≡ number_of seen p
 number_kept seen [] p h = refl
 number_kept seen (x ∷ ps) p h = number_kept (with_path seen x) ps p (among_step seen x p h) ∙ number_step seen x p h
 
@@ -106,7 +106,7 @@ among_given seen p =
     [ true ↦ λ e. e | false ↦ λ e. any_append (bytes_eq p) seen (p ∷ []) ∙ or_true (is_among seen p) (bytes_eq p p) (bytes_self p) ] refl
 
 -- the numbers that paths are given are theirs at the end
-pub numbers_settle : (seen ps later : List Path) → numbers_past seen ps ≡ map (number_of (with_paths (with_paths seen ps) later)) ps
+numbers_settle : (seen ps later : List Path) → numbers_past seen ps ≡ map (number_of (with_paths (with_paths seen ps) later)) ps
 numbers_settle seen [] later = refl
 numbers_settle seen (p ∷ ps) later =
     let more = with_path seen p in
@@ -142,7 +142,7 @@ inputs_settle seen (e ∷ es) =
     ∙ (ap (λ (rows : List (List ℕ)). map (number_of (with_paths more rest)) ins ∷ rows) (inputs_settle more es) ∙ ap (λ (ps : List Path). rows_of inputs_named ps (e ∷ es)) (sym (next_paths seen e es)))
 
 -- where build lines are read in turn
-pub rows_step : (done : List (List ℕ)) (row : List ℕ) (rest all : List (List ℕ)) → done ++ (row ∷ rest) ≡ all → (done ++ row ∷ []) ++ rest ≡ all
+rows_step : (done : List (List ℕ)) (row : List ℕ) (rest all : List (List ℕ)) → done ++ (row ∷ rest) ≡ all → (done ++ row ∷ []) ++ rest ≡ all
 rows_step done row rest all h = append_assoc done (row ∷ []) rest ∙ h
 
 -- a row of the numbers of some paths, and of more behind them

@@ -20,7 +20,7 @@ pub inputs_app : (own : Option ℕ) (files : Table) (xs ys : List Path) → with
 inputs_app own files [] ys = refl
 inputs_app own files (x ∷ xs) ys = inputs_app own (with_input own files x) xs ys
 
-pub outputs_app : (number : ℕ) (files : Table) (xs ys : List Path) → with_outputs files number (xs ++ ys) ≡ (with_outputs files number xs >>= λ more. with_outputs more number ys)
+outputs_app : (number : ℕ) (files : Table) (xs ys : List Path) → with_outputs files number (xs ++ ys) ≡ (with_outputs files number xs >>= λ more. with_outputs more number ys)
 outputs_app number files [] ys = refl
 outputs_app number files (x ∷ xs) ys =
     elim (with_output files number x (file_of x files)) as (λ r. (r >>= λ more. with_outputs more number (xs ++ ys)) ≡ ((r >>= λ more. with_outputs more number xs) >>= λ more. with_outputs more number ys))
@@ -57,6 +57,3 @@ file_stays (f ∷ fs) path e =
     elim (bytes_eq path f.0) as (λ b. (if b then f.1 else file_of path fs).is_used ≡ true
     → (if b then (f.0, (if b then f.1 else file_of path fs)) ∷ fs else f ∷ with_file fs path (if b then f.1 else file_of path fs)) ≡ f ∷ fs)
     [ true ↦ λ h. refl | false ↦ λ h. ap (λ (t : Table). f ∷ t) (file_stays fs path h) ] e
-
-pub input_stays : (own : Option ℕ) (files : Table) (path : Path) → (file_of path files).is_used ≡ true → with_input own files path ≡ files
-input_stays own files path e = ap (with_file files path) (used_stays own (file_of path files) e) ∙ file_stays files path e

@@ -2,7 +2,6 @@
 use Rattle.std.proofs.Common.{◌≡◌, ◌<◌, ◌+◌, ◌++◌, ◌∷◌, [], ◌∙◌, ◌⊎◌, inl, inr, Bool, true, false, List, ℕ, zero, suc, Option, Some, None, Result, Ok, Err, ap, arith, bytes_eq, cond, length, length-append, refl, subst, sym}
 use Rattle.std.specs.Prelude.{◌||◌, drop, filter, flat_map, if◌then◌else◌, is_some, nat_le, not, slice_get, take}
 use Rattle.std.proofs.lemmas.Slice.Eq.{bytes_eq-Decides}
-use Rattle.std.proofs.lemmas.Bool.Decides.{same_from_decides}
 use Rattle.std.specs.List.{list_any}
 use Rattle.std.proofs.lemmas.Bool.{eq-eqb, leb-false}
 use Rattle.std.proofs.lemmas.Bool.Decides.{eqb_tells}
@@ -28,11 +27,6 @@ bytes_same a b e = (bytes_eq-Decides a b).0 e
 
 bytes_self : (a : List ℕ) → bytes_eq a a ≡ true
 bytes_self a = (bytes_eq-Decides a a).1 refl
-
-bytes_sym : (a b : List ℕ) → bytes_eq a b ≡ bytes_eq b a
-bytes_sym a b =
-    let there = bytes_eq-Decides b a in
-    same_from_decides (bytes_eq a b) (bytes_eq b a) (bytes_eq-Decides a b) (λ e. sym (there.0 e), λ e. there.1 (sym e))
 
 -- a table after one path
 paths_shift : (path x : Path) (xs : List Path) (b : Bool) → bytes_eq path x ≡ b → b ≡ false → with_path (x ∷ xs) path ≡ x ∷ with_path xs path
@@ -61,7 +55,7 @@ file_apart x path p one file other apart =
       | false ↦ λ e. refl
     ] refl
 
-pub file_with : (files : Table) (path p : Path) (file : File) → file_of p (with_file files path file) ≡ (if bytes_eq p path then file else file_of p files)
+file_with : (files : Table) (path p : Path) (file : File) → file_of p (with_file files path file) ≡ (if bytes_eq p path then file else file_of p files)
 file_with [] path p file = refl
 file_with (f ∷ fs) path p file =
     elim (bytes_eq path f.0) as (λ t. bytes_eq path f.0 ≡ t → file_of p (if t then (f.0, file) ∷ fs else f ∷ with_file fs path file) ≡ (if bytes_eq p path then file else (if bytes_eq p f.0 then f.1 else file_of p fs))) [
@@ -131,17 +125,17 @@ use_with_use own files i p =
     ] refl
 
 -- the table after some outputs, where none was made before
-pub record Outputs (files : Table) (number : ℕ) (os : List Path) (more : Table) : Type 0 where
+record Outputs (files : Table) (number : ℕ) (os : List Path) (more : Table) : Type 0 where
   pub paths : paths_in more ≡ with_paths (paths_in files) os
   pub producers : (p : Path) → producer_in more p ≡ (if is_among os p then Some number else producer_in files p)
   pub uses : (p : Path) → is_used more p ≡ is_used files p
   pub fresh : (p : Path) → is_among os p ≡ true → is_some (producer_in files p) ≡ false
 
-abbrev pub ReadsOutputs : Table → ℕ → List Path → List Path → Result Table GraphFault → Type 0
+abbrev ReadsOutputs : Table → ℕ → List Path → List Path → Result Table GraphFault → Type 0
 ReadsOutputs files number above os (Ok more) = (second_producer above os ≡ None) × Outputs files number os more
 ReadsOutputs files number above os (Err fault) = second_producer above os ≡ Some fault
 
-abbrev pub Known : Table → List Path → Type 0
+abbrev Known : Table → List Path → Type 0
 Known files above = (p : Path) → is_some (producer_in files p) ≡ is_among above p
 
 next_known : (files : Table) (number : ℕ) (above : List Path) (o : Path) → Known files above → Known (with_file files o (with_producer number (file_of o files))) (above ++ o ∷ [])
@@ -176,7 +170,7 @@ next_outputs files number above o os (Ok t) e skip h =
       },
     )
 
-pub reads_outputs : (files : Table) (number : ℕ) (above os : List Path) → Known files above → ReadsOutputs files number above os (with_outputs files number os)
+reads_outputs : (files : Table) (number : ℕ) (above os : List Path) → Known files above → ReadsOutputs files number above os (with_outputs files number os)
 reads_outputs files number above [] known = (refl, record { paths = refl; producers = λ p. refl; uses = λ p. refl; fresh = λ p e. cc })
 reads_outputs files number above (o ∷ os) known =
     let more = with_file files o (with_producer number (file_of o files)) in
@@ -190,7 +184,7 @@ reads_outputs files number above (o ∷ os) known =
     ] refl
 
 -- the table after some inputs
-pub record Inputs (own : Option ℕ) (files : Table) (is : List Path) (more : Table) : Type 0 where
+record Inputs (own : Option ℕ) (files : Table) (is : List Path) (more : Table) : Type 0 where
   pub paths : paths_in more ≡ with_paths (paths_in files) is
   pub producers : (p : Path) → producer_in more p ≡ producer_in files p
   pub uses : (p : Path) → is_used more p ≡ (is_used files p || is_among (filter (counts own (producer_in files)) is) p)
@@ -202,7 +196,7 @@ filter_same f g (p ∷ ps) h = ap (λ (b : Bool). cond b (p ∷ filter f ps) (fi
 filter_next : (f : Path → Bool) (i : Path) (is : List Path) → filter f (i ∷ is) ≡ filter f (i ∷ []) ++ filter f is
 filter_next f i is = elim (f i) as (λ b. cond b (i ∷ filter f is) (filter f is) ≡ cond b (i ∷ []) [] ++ filter f is) [ true ↦ refl | false ↦ refl ]
 
-pub reads_inputs : (own : Option ℕ) (files : Table) (is : List Path) → Inputs own files is (with_inputs own files is)
+reads_inputs : (own : Option ℕ) (files : Table) (is : List Path) → Inputs own files is (with_inputs own files is)
 reads_inputs own files [] = record { paths = refl; producers = λ p. refl; uses = λ p. sym (or_false (is_used files p)) }
 reads_inputs own files (i ∷ is) =
     let more = with_input own files i in
@@ -241,7 +235,7 @@ nothing_plus : (n : ℕ) → 0 + n ≡ n
 nothing_plus n = omega arith
 
 -- the producer of a path among some edges and one more
-pub producer_last : (n : ℕ) (above : List Edge) (e : Edge) (p : Path)
+producer_last : (n : ℕ) (above : List Edge) (e : Edge) (p : Path)
     → producer_from n (above ++ e ∷ []) p ≡ or_else (producer_from n above p) (if is_among (outputs_of e) p then Some (n + length above) else None)
 producer_last n [] e p = ap (λ k. if is_among (outputs_of e) p then Some k else None) (sym (plus_nothing n))
 producer_last n (x ∷ above) e p =
@@ -251,13 +245,13 @@ producer_last n (x ∷ above) e p =
       | false ↦ producer_last (n + 1) above e p ∙ ap (λ k. or_else (producer_from (n + 1) above p) (if is_among (outputs_of e) p then Some k else None)) moved
     ]
 
-pub producer_known : (n : ℕ) (above : List Edge) (p : Path) → is_some (producer_from n above p) ≡ is_among (flat_map outputs_of above) p
+producer_known : (n : ℕ) (above : List Edge) (p : Path) → is_some (producer_from n above p) ≡ is_among (flat_map outputs_of above) p
 producer_known n [] p = refl
 producer_known n (x ∷ above) p =
     elim (is_among (outputs_of x) p) as (λ b. is_some (if b then Some n else producer_from (n + 1) above p) ≡ (b || is_among (flat_map outputs_of above) p)) [ true ↦ refl | false ↦ producer_known (n + 1) above p ]
     ∙ sym (any_append (bytes_eq p) (outputs_of x) (flat_map outputs_of above))
 
-pub producer_below : (n : ℕ) (above : List Edge) (p : Path) (k : ℕ) → producer_from n above p ≡ Some k → k < n + length above
+producer_below : (n : ℕ) (above : List Edge) (p : Path) (k : ℕ) → producer_from n above p ≡ Some k → k < n + length above
 producer_below n [] p k h = cc
 producer_below n (x ∷ above) p k h =
     elim (is_among (outputs_of x) p) as (λ b. (if b then Some n else producer_from (n + 1) above p) ≡ Some k → k < n + length (x ∷ above))
@@ -341,7 +335,7 @@ fits_next files outputs all above e fits room o i =
     }
 
 -- what reading one edge more says
-abbrev pub ReadsEdge : List Edge → Edge → Result Table GraphFault → Type 0
+abbrev ReadsEdge : List Edge → Edge → Result Table GraphFault → Type 0
 ReadsEdge above e (Ok more) = (or_else (second_producer (flat_map outputs_of above) (outputs_of e)) (edge_limit above) ≡ None) × Fits more (above ++ e ∷ [])
 ReadsEdge above e (Err fault) = or_else (second_producer (flat_map outputs_of above) (outputs_of e)) (edge_limit above) ≡ Some fault
 
@@ -359,7 +353,7 @@ after_outputs files above e (Ok outputs) fits h =
       )
     ] refl
 
-pub reads_edge : (files : Table) (above : List Edge) (e : Edge) → Fits files above → ReadsEdge above e (with_edge files (length above) e)
+reads_edge : (files : Table) (above : List Edge) (e : Edge) → Fits files above → ReadsEdge above e (with_edge files (length above) e)
 reads_edge files above e fits =
     after_outputs files above e (with_outputs files (length above) (outputs_of e)) fits
     (reads_outputs files (length above) (flat_map outputs_of above) (outputs_of e) (λ p. ap is_some (fits.producers p) ∙ producer_known 0 above p))
@@ -369,7 +363,7 @@ abbrev told : Table → Option GraphFault → Result Table GraphFault
 told files None = Ok files
 told files (Some fault) = Err fault
 
-pub reads_targets : (files : Table) (above : List Edge) (ds : List DefaultTarget) → Fits files above → with_targets files ds ≡ told files (unknown_target above ds)
+reads_targets : (files : Table) (above : List Edge) (ds : List DefaultTarget) → Fits files above → with_targets files ds ≡ told files (unknown_target above ds)
 reads_targets files above [] fits = refl
 reads_targets files above (d ∷ ds) fits =
     ap (λ b. if b then with_targets files ds else Err (UnknownDefault d.path)) (ap is_some (fits.producers d.path) ∙ producer_known 0 above d.path)
@@ -402,7 +396,7 @@ read_on above e es files (Some fault) r go rest h k = refl
 read_on above e es files None r go rest h k = read_rest above e es (r files) go rest h k
 
 -- what reading build lines leaves, and why it stops
-pub reads : (files : Table) (above : List Edge) (ds : List DefaultTarget) (es : List Edge) → Fits files above → Reads (above ++ es) (fault_past above ds es) (with_edges files (length above) ds es)
+reads : (files : Table) (above : List Edge) (ds : List DefaultTarget) (es : List Edge) → Fits files above → Reads (above ++ es) (fault_past above ds es) (with_edges files (length above) ds es)
 reads files above ds [] fits =
     subst (Reads (above ++ []) (unknown_target above ds)) (sym (reads_targets files above ds fits))
     (elim (unknown_target above ds) as (λ m. Reads (above ++ []) m (told files m)) [ None ↦ (refl, subst (Fits files) (sym (append-nil above)) fits) | Some fault ↦ refl ])

@@ -33,7 +33,7 @@ pub record Numbered (n : ℕ) (test : Edge → Bool) (es : List Edge) (k : ℕ) 
   pub passes : test edge ≡ true
   pub counts : k ≡ n + place
 
-pub numbered_later : (n : ℕ) (test : Edge → Bool) (e : Edge) (es : List Edge) (k : ℕ) → Numbered (n + 1) test es k → Numbered n test (e ∷ es) k
+numbered_later : (n : ℕ) (test : Edge → Bool) (e : Edge) (es : List Edge) (k : ℕ) → Numbered (n + 1) test es k → Numbered n test (e ∷ es) k
 numbered_later n test e es k x = record { place = suc x.place; edge = x.edge; here = x.here; passes = x.passes; counts = omega (arith, x.counts) }
 
 pub numbers_given : (n : ℕ) (test : Edge → Bool) (es : List Edge) (k : ℕ) → In k (numbers_from n test es) → Numbered n test es k
@@ -75,7 +75,7 @@ in_nothing : (k : ℕ) (own : Bool) → In k (if own then [] else []) → ⊥
 in_nothing k true h = h
 in_nothing k false h = h
 
-pub in_listed : (own : Option ℕ) (k : ℕ) (producer : Option ℕ) → In k (unless_own own producer) → (producer ≡ Some k) × (is_own (Some k) own ≡ false)
+in_listed : (own : Option ℕ) (k : ℕ) (producer : Option ℕ) → In k (unless_own own producer) → (producer ≡ Some k) × (is_own (Some k) own ≡ false)
 in_listed own k None h = absurd (in_nothing k (is_own None own) h)
 in_listed own k (Some n) h =
     elim (is_own (Some n) own) as (λ b. is_own (Some n) own ≡ b → In k (if b then [] else n ∷ []) → (Some n ≡ Some k) × (is_own (Some k) own ≡ false)) [
@@ -83,7 +83,7 @@ in_listed own k (Some n) h =
       | false ↦ λ e i. elim i [ inl same ↦ (ap (λ (x : ℕ). Some x) same, subst (λ x. is_own (Some x) own ≡ false) same e) | inr j ↦ absurd j ]
     ] refl h
 
-pub listed_in : (own : Option ℕ) (k : ℕ) (producer : Option ℕ) → producer ≡ Some k → is_own (Some k) own ≡ false → In k (unless_own own producer)
+listed_in : (own : Option ℕ) (k : ℕ) (producer : Option ℕ) → producer ≡ Some k → is_own (Some k) own ≡ false → In k (unless_own own producer)
 listed_in own k producer e h =
     subst (λ m. In k (unless_own own m)) (sym e) (subst (λ b. In k (if b then [] else k ∷ [])) (sym h) (inl refl))
 
@@ -105,11 +105,11 @@ phony_kept edges number e p k true makes i =
     let kept = filter_in (λ q. not (is_among (outputs_of e) q)) (inputs_named e) p i in
     (kept.0, elim (k == number) as (λ b. (k == number) ≡ b → b ≡ false) [ true ↦ λ t. absurd (makes_not (is_among (outputs_of e) p) (makes (eqb-true k number t)) kept.1) | false ↦ λ t. refl ] refl)
 
-pub given_input : (files : Table) (edges : List Edge) (number : ℕ) (e : Edge) (p : Path) (k : ℕ) → Fits files edges → slice_get edges number ≡ Some e
+given_input : (files : Table) (edges : List Edge) (number : ℕ) (e : Edge) (p : Path) (k : ℕ) → Fits files edges → slice_get edges number ≡ Some e
     → In p (inputs_named e) → producer_of edges p ≡ Some k → is_own (Some k) (own_of number e) ≡ false → In p (inputs_of e)
 given_input files edges number e p k fits here i producer h = subst (In p) (sym (inputs_are e)) (phony_given edges number e p k e.phony (λ q t. fits.once number e q here t) i producer h)
 
-pub kept_input : (files : Table) (edges : List Edge) (number : ℕ) (e : Edge) (p : Path) (k : ℕ) → Fits files edges → slice_get edges number ≡ Some e
+kept_input : (files : Table) (edges : List Edge) (number : ℕ) (e : Edge) (p : Path) (k : ℕ) → Fits files edges → slice_get edges number ≡ Some e
     → In p (inputs_of e) → producer_of edges p ≡ Some k → In p (inputs_named e) × (is_own (Some k) (own_of number e) ≡ false)
 kept_input files edges number e p k fits here i producer =
     phony_kept edges number e p k e.phony (λ same.
@@ -119,7 +119,7 @@ kept_input files edges number e p k fits here i producer =
     subst (λ x. is_among (outputs_of x) p ≡ true) edge n.passes) (subst (In p) (inputs_are e) i)
 
 -- the producers of some paths, but for the edge itself, are the edges that make one of these inputs
-pub producers_are : (files : Table) (edges : List Edge) (own : Option ℕ) (named inputs : List Path) (row : List ℕ) → Fits files edges
+producers_are : (files : Table) (edges : List Edge) (own : Option ℕ) (named inputs : List Path) (row : List ℕ) → Fits files edges
     → ((p : Path) (k : ℕ) → In p named → producer_of edges p ≡ Some k → is_own (Some k) own ≡ false → In p inputs)
     → ((p : Path) (k : ℕ) → In p inputs → producer_of edges p ≡ Some k → In p named × (is_own (Some k) own ≡ false))
     → IsAscending (producers files own named) row → numbers_from 0 (produces_any inputs) edges ≡ row
@@ -151,7 +151,7 @@ waits_are files edges number e row fits here ascending =
     ascending
 
 -- the producers of targets of `default` statements
-pub targets_are : (files : Table) (edges : List Edge) (targets : List Path) (row : List ℕ) → Fits files edges
+targets_are : (files : Table) (edges : List Edge) (targets : List Path) (row : List ℕ) → Fits files edges
     → IsAscending (producers files None targets) row → numbers_from 0 (produces_any targets) edges ≡ row
 targets_are files edges targets row fits ascending = producers_are files edges None targets targets row fits (λ p k i producer h. i) (λ p k i producer. (i, refl)) ascending
 
@@ -188,7 +188,7 @@ unused_numbered files edges (p ∷ ps) fits =
     ∙ ap (λ (b : Bool). not (is_among (flat_map inputs_of edges) p) || b) (unused_numbered files edges ps fits))
 
 -- an edge by its number
-pub edge_at : (edges : List Edge) (i : ℕ) → i < length edges → (e : Edge) × (slice_get edges i ≡ Some e)
+edge_at : (edges : List Edge) (i : ℕ) → i < length edges → (e : Edge) × (slice_get edges i ≡ Some e)
 edge_at [] i h = absurd (omega (arith, h))
 edge_at (e ∷ es) zero h = (e, refl)
 edge_at (e ∷ es) (suc i) h = edge_at es i (omega (arith, h))
@@ -198,7 +198,7 @@ drop_at [] i e h = cc
 drop_at (x ∷ es) zero e h = ap (λ (y : Edge). y ∷ es) (some_is x e h)
 drop_at (x ∷ es) (suc i) e h = let next : suc (i + 1) ≡ suc i + 1 = omega arith in drop_at es i e h ∙ ap (λ k. e ∷ drop k (x ∷ es)) next
 
-pub row_of_edge : (named : Edge → List Path) (paths : List Path) (edges : List Edge) (i : ℕ) (e : Edge) → slice_get edges i ≡ Some e → get_or (rows_of named paths edges) i [] ≡ map (number_of paths) (named e)
+row_of_edge : (named : Edge → List Path) (paths : List Path) (edges : List Edge) (i : ℕ) (e : Edge) → slice_get edges i ≡ Some e → get_or (rows_of named paths edges) i [] ≡ map (number_of paths) (named e)
 row_of_edge named paths [] i e h = cc
 row_of_edge named paths (x ∷ es) zero e h = ap (λ (y : Edge). map (number_of paths) (named y)) (some_is x e h)
 row_of_edge named paths (x ∷ es) (suc i) e h = row_of_edge named paths es i e h

@@ -2,6 +2,7 @@
 #![tactic(auto)]
 
 mod build_graph;
+mod cycle;
 mod defaults;
 mod edge_reader;
 mod fault;
@@ -9,6 +10,7 @@ mod files;
 mod graph_data;
 mod key;
 mod laws;
+mod mark;
 mod row_list;
 mod waits;
 mod walk;

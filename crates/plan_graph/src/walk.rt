@@ -1,30 +1,26 @@
-//! The ranks of edges, or a cycle.
+//! A walk along waits, which gives each edge its rank or runs into a cycle.
 
-ghost use Rattle.std.specs.Prelude.{◌≡◌, ◌≢◌, ◌<◌, ◌≤◌, ◌+◌, ◌++◌, ◌∷◌, [], ℕ, List, All, Contains, IfErr, IfOk, IsFalse, IsTrue, None, Some, drop, get_or, length, slice_get, slice_index, take, replicate, ◌^◌};
+ghost use Rattle.std.specs.Prelude.{◌≡◌, ◌≢◌, ◌<◌, ◌≤◌, ◌+◌, ◌++◌, ◌∷◌, [], ℕ, List, All, IfErr, IfOk, OnOk, Some, get_or, length, slice_get, slice_index, ◌^◌};
 ghost use Rattle.plan_graph.specs.Graph.{max_edges};
-ghost use Rattle.plan_graph.specs.Cycles.{AreRanks, Chain, IsSimple, rank_over};
-ghost use Rattle.plan_graph.specs.Walking.{AllDone, DoneTo, GoesOn, InRange, KeepsMarks, Passes, TellsCycle, Walks};
+ghost use Rattle.plan_graph.specs.Cycles.{AreRanks, Chain, rank_over};
+ghost use Rattle.plan_graph.specs.Walking.{AllDone, DoneTo, GoesOn, HasMet, InRange, IsLast, IsNext, IsUntrodden, TellsCycle};
+ghost use Rattle.plan_graph.specs.declared.mark.Mark.TheVariants as mark;
 
+use crate::cycle::cycle_from;
 use crate::fault::GraphFault;
+use crate::mark::{Mark, is_done, is_new};
 use crate::row_list::RowList;
 use plan_text::Items;
 use std::alloc::{AllocError, Global};
+use std::marker::Model;
 
-/// How far the walk has come with an edge.
-#[derive(Clone, Copy, Drop)]
-enum Mark {
-    /// The walk has not met it.
-    New,
-    /// The walk is on its way through what it waits for.
-    Open,
-    /// It has its rank.
-    Done,
-}
-
-/// A walk along waits.
+/// A walk along waits. Contracts see what each edge waits for, the marks and the path.
 #[derive(Drop)]
-struct Walk {
-    /// How far it has come with each edge.
+struct Walk<'a> {
+    alloc: Global,
+    /// What each edge waits for.
+    waits: &'a RowList,
+    /// How far the walk has come with each edge.
     marks: Vec<Mark>,
     /// How many of the waits of each edge it has passed; they are done.
     passed: Vec<usize>,
@@ -34,16 +30,14 @@ struct Walk {
     path: Vec<usize>,
 }
 
-/// Opens an edge that the last of the path waits for.
-fn open(waits: &RowList, mut walk: Walk, next: usize) -> Result<Walk, AllocError>
-    requires walk { Walks waits.now walk }
-    requires fresh { slice_get walk.marks.items next ≡ Some Mark.New }
-    requires waited { Chain waits.now (walk.path.items ++ next ∷ []) }
-    ensures { IfOk result (λ w. GoesOn waits.now walk w × (slice_get w.marks.items next ≢ Some Mark.New)) }
-{
-    walk.path.push(next)?;
-    walk.marks[next] = Mark::Open;
-    Ok(walk)
+impl<'a> Model for Walk<'a> {
+    ghost use Rattle.plan_graph.specs.Walking.{IsSound, State};
+
+    ghost Value = { State };
+
+    ghost view = { λ w. record { waits = w.waits.now; marks = w.marks.items; path = w.path.items } };
+
+    ghost invariant = { λ w. IsSound w.waits.now w.marks.items w.passed.items w.ranks.items w.path.items };
 }
 
 /// One more than the greatest rank of a row, 0 of an empty one.
@@ -59,52 +53,13 @@ fn rank_of(row: &[usize], ranks: &[usize]) -> usize
     greatest
 }
 
-/// Closes the last of the path, all of whose waits are done.
-fn close(waits: &RowList, mut walk: Walk, top: usize) -> Walk
-    requires walk { Walks waits.now walk }
-    requires range { InRange waits.now }
-    requires few { length waits.now ≤ max_edges }
-    requires last { (front : List ℕ) × (walk.path.items ≡ front ++ top ∷ []) }
-    requires done { AllDone walk.marks.items (get_or waits.now top []) }
-    ensures { GoesOn waits.now walk result }
-{
-    walk.ranks[top] = rank_of(waits.row(top), &walk.ranks);
-    walk.marks[top] = Mark::Done;
-    let _ = walk.path.pop();
-    walk
-}
-
-/// Whether an edge is done.
-fn is_done(mark: Mark) -> bool
-    ensures yes { IsTrue result → mark ≡ Mark.Done }
-    ensures no { IsFalse result → mark ≢ Mark.Done }
-{
-    match mark {
-        Mark::Done => true,
-        Mark::New => false,
-        Mark::Open => false,
-    }
-}
-
-/// Whether the walk has not met an edge.
-fn is_new(mark: Mark) -> bool
-    ensures yes { IsTrue result → mark ≡ Mark.New }
-    ensures no { IsFalse result → mark ≢ Mark.New }
-{
-    match mark {
-        Mark::New => true,
-        Mark::Open => false,
-        Mark::Done => false,
-    }
-}
-
 /// How many edges at the front of a row are done, where so many are known to be.
 fn done_len(row: &[usize], marks: &[Mark], known: usize) -> usize
     requires range { All (λ w. w < length marks.now) row.now }
     requires known { (known ≤ length row.now) × DoneTo marks.now row.now known }
     ensures within { result ≤ length row.now }
     ensures done { DoneTo marks.now row.now result }
-    ensures stops { result < length row.now → slice_get marks.now (slice_index row.now result) ≢ Some Mark.Done }
+    ensures stops { result < length row.now → slice_get marks.now (slice_index row.now result) ≢ Some mark.Done }
 {
     let mut len = known;
     while len < row.len() {
@@ -116,154 +71,146 @@ fn done_len(row: &[usize], marks: &[Mark], known: usize) -> usize
     len
 }
 
-/// Passes what an edge waits for and is done, and answers the first that isn't.
-fn pass(waits: &RowList, mut walk: Walk, edge: usize) -> (Walk, Option<usize>)
-    requires walk { Walks waits.now walk }
-    requires range { InRange waits.now }
-    requires here { edge < length waits.now }
-    ensures { Passes waits.now edge walk result.0 result.1 }
-{
-    let row = waits.row(edge);
-    let passed = done_len(row, &walk.marks, walk.passed[edge]);
-    walk.passed[edge] = passed;
-    if passed == row.len() {
-        return (walk, None);
+impl<'a> Walk<'a> {
+    /// A walk that has met no edge.
+    fn new(alloc: Global, waits: &'a RowList) -> Result<Walk<'a>, AllocError>
+        requires range { InRange waits.now }
+        requires few { length waits.now ≤ max_edges }
+        ensures { IfOk result (λ walk. IsUntrodden waits.now walk) }
+    {
+        let edges = waits.len();
+        Ok(Walk {
+            alloc,
+            waits,
+            marks: vec![in alloc; Mark::New; edges]?,
+            passed: vec![in alloc; 0; edges]?,
+            ranks: vec![in alloc; 0; edges]?,
+            path: Vec::new(alloc),
+        })
     }
-    (walk, Some(row[passed]))
-}
 
-/// Where the least of these numbers stands.
-fn least(numbers: &[usize]) -> usize
-    requires { 0 < length numbers.now }
-    ensures within { result < length numbers.now }
-    ensures least { All (λ n. slice_index numbers.now result ≤ n) numbers.now }
-{
-    let mut at = 0;
-    for other in 0..numbers.len() {
-        if numbers[other] < numbers[at] {
-            at = other;
+    /// The last of the path.
+    fn last(&self) -> Option<usize>
+        ensures { IsLast self.now.path result }
+    {
+        self.path.last().copied()
+    }
+
+    /// Opens an edge that the last of the path waits for.
+    fn open(&mut self, next: usize) -> Result<(), AllocError>
+        requires fresh { slice_get self.old.marks next ≡ Some mark.New }
+        requires waited { Chain self.old.waits (self.old.path ++ next ∷ []) }
+        ensures goes_on { OnOk result (GoesOn self.old self.new) }
+        ensures met { OnOk result (slice_get self.new.marks next ≢ Some mark.New) }
+    {
+        self.path.push(next)?;
+        self.marks[next] = Mark::Open;
+        Ok(())
+    }
+
+    /// Closes the last of the path, all of whose waits are done.
+    fn close(&mut self, top: usize)
+        requires last { (front : List ℕ) × (self.old.path ≡ front ++ top ∷ []) }
+        requires done { AllDone self.old.marks (get_or self.old.waits top []) }
+        ensures { GoesOn self.old self.new }
+    {
+        self.ranks[top] = rank_of(self.waits.row(top), &self.ranks);
+        self.marks[top] = Mark::Done;
+        let _ = self.path.pop();
+    }
+
+    /// Passes what the last of the path waits for and is done, and answers the first that isn't.
+    fn pass(&mut self, top: usize) -> Option<usize>
+        requires { (front : List ℕ) × (self.old.path ≡ front ++ top ∷ []) }
+        ensures same { self.new ≡ self.old }
+        ensures next { IsNext self.new top result }
+    {
+        let row = self.waits.row(top);
+        let passed = done_len(row, &self.marks, self.passed[top]);
+        self.passed[top] = passed;
+        if passed == row.len() {
+            return None;
         }
+        Some(row[passed])
     }
-    at
-}
 
-/// The same cycle from its least edge on.
-fn rotate_to_least(alloc: Global, cycle: &[usize]) -> Result<Items<usize>, AllocError>
-    requires { 0 < length cycle.now }
-    ensures { IfOk result (λ es. (at : ℕ) × (at < length cycle.now) × All (λ n. slice_index cycle.now at ≤ n) cycle.now × (es ≡ drop at cycle.now ++ take at cycle.now)) }
-{
-    let (back, front) = cycle.split_at(least(cycle));
-    let mut edges = Vec::from_slice(alloc, front)?;
-    edges.extend_from_slice(back)?;
-    Ok(Items::new(edges))
-}
-
-/// Where an edge stands on a path.
-fn place_of(path: &[usize], edge: usize) -> usize
-    requires { Contains path.now edge }
-    ensures within { result < length path.now }
-    ensures here { slice_index path.now result ≡ edge }
-{
-    let mut at = 0;
-    while path[at] != edge {
-        at += 1;
+    /// The cycle that the path closes, the last of which waits for an edge that is open.
+    fn cycle(&self, next: usize) -> GraphFault
+        requires opened { slice_get self.now.marks next ≡ Some mark.Open }
+        requires waited { Chain self.now.waits (self.now.path ++ next ∷ []) }
+        ensures { TellsCycle self.now.waits result }
+    {
+        cycle_from(self.alloc, self.waits, &self.path, next)
     }
-    at
-}
 
-/// The cycle that the path closes, the last of which waits for an edge on it.
-fn cycle_from(alloc: Global, waits: &RowList, path: &[usize], edge: usize) -> GraphFault
-    requires here { Contains path.now edge }
-    requires chain { Chain waits.now (path.now ++ edge ∷ []) }
-    requires simple { IsSimple path.now }
-    ensures { TellsCycle waits.now result }
-{
-    match rotate_to_least(alloc, &path[place_of(path, edge)..]) {
-        Ok(cycle) => GraphFault::Cycle(cycle),
-        Err(_) => GraphFault::Memory,
+    /// Opens an edge that the last of the path waits for; where it is open already, there is a cycle.
+    fn open_or_cycle(&mut self, next: usize) -> Result<(), GraphFault>
+        requires here { next < length self.old.waits }
+        requires undone { slice_get self.old.marks next ≢ Some mark.Done }
+        requires waited { Chain self.old.waits (self.old.path ++ next ∷ []) }
+        ensures goes_on { OnOk result (GoesOn self.old self.new) }
+        ensures cycle { IfErr result (λ fault. TellsCycle self.old.waits fault) }
+    {
+        if !is_new(self.marks[next]) {
+            return Err(self.cycle(next));
+        }
+        self.open(next)?;
+        Ok(())
+    }
+
+    /// Goes on from the last of the path: opens an edge that it waits for, or closes it.
+    fn step(&mut self, top: usize) -> Result<(), GraphFault>
+        requires { (front : List ℕ) × (self.old.path ≡ front ++ top ∷ []) }
+        ensures goes_on { OnOk result (GoesOn self.old self.new) }
+        ensures cycle { IfErr result (λ fault. TellsCycle self.old.waits fault) }
+    {
+        match self.pass(top) {
+            Some(next) => self.open_or_cycle(next)?,
+            None => self.close(top),
+        }
+        Ok(())
+    }
+
+    /// Walks from an edge until it is done, and all that it waits for.
+    fn visit(&mut self, start: usize) -> Result<(), GraphFault>
+        requires empty { self.old.path ≡ [] }
+        requires fresh { slice_get self.old.marks start ≡ Some mark.New }
+        ensures met { OnOk result (HasMet start self.old self.new) }
+        ensures cycle { IfErr result (λ fault. TellsCycle self.old.waits fault) }
+    {
+        self.open(start)?;
+        while let Some(top) = self.last() {
+            self.step(top)?;
+        }
+        Ok(())
+    }
+
+    /// Walks from an edge, unless the walk has met it.
+    fn visit_unless_met(&mut self, edge: usize) -> Result<(), GraphFault>
+        requires empty { self.old.path ≡ [] }
+        requires here { edge < length self.old.waits }
+        ensures met { OnOk result (HasMet edge self.old self.new) }
+        ensures cycle { IfErr result (λ fault. TellsCycle self.old.waits fault) }
+    {
+        if is_new(self.marks[edge]) {
+            self.visit(edge)?;
+        }
+        Ok(())
+    }
+
+    /// The rank of each edge, where the walk has met all.
+    fn into_ranks(self) -> Items<usize>
+        requires empty { self.path ≡ [] }
+        requires met { (e : ℕ) → e < length self.waits → slice_get self.marks e ≢ Some mark.New }
+        ensures ranks { AreRanks self.entry.waits result }
+        ensures low { All (λ rank. rank < length self.entry.waits) result }
+    {
+        let Walk { ranks, .. } = self;
+        Items::new(ranks)
     }
 }
 
-/// Opens an edge that the last of the path waits for; where it is open already, there is a cycle.
-fn open_or_cycle(
-    alloc: Global,
-    waits: &RowList,
-    walk: Walk,
-    next: usize,
-) -> Result<Walk, GraphFault>
-    requires walk { Walks waits.now walk }
-    requires here { next < length waits.now }
-    requires undone { slice_get walk.marks.items next ≢ Some Mark.Done }
-    requires waited { Chain waits.now (walk.path.items ++ next ∷ []) }
-    ensures goes_on { IfOk result (λ w. GoesOn waits.now walk w) }
-    ensures cycle { IfErr result (λ fault. TellsCycle waits.now fault) }
-{
-    if is_new(walk.marks[next]) {
-        return Ok(open(waits, walk, next)?);
-    }
-    Err(cycle_from(alloc, waits, &walk.path, next))
-}
-
-/// Goes on from the last of the path: opens an edge that it waits for, or closes it.
-fn step(alloc: Global, waits: &RowList, walk: Walk, top: usize) -> Result<Walk, GraphFault>
-    requires walk { Walks waits.now walk }
-    requires range { InRange waits.now }
-    requires few { length waits.now ≤ max_edges }
-    requires last { (front : List ℕ) × (walk.path.items ≡ front ++ top ∷ []) }
-    ensures goes_on { IfOk result (λ w. GoesOn waits.now walk w) }
-    ensures cycle { IfErr result (λ fault. TellsCycle waits.now fault) }
-{
-    let (walk, next) = pass(waits, walk, top);
-    match next {
-        Some(next) => open_or_cycle(alloc, waits, walk, next),
-        None => Ok(close(waits, walk, top)),
-    }
-}
-
-/// Walks from an edge until it is done, and all that it waits for.
-fn visit(alloc: Global, waits: &RowList, walk: Walk, start: usize) -> Result<Walk, GraphFault>
-    requires walk { Walks waits.now walk × (walk.path.items ≡ []) }
-    requires range { InRange waits.now }
-    requires few { length waits.now ≤ max_edges }
-    requires fresh { slice_get walk.marks.items start ≡ Some Mark.New }
-    ensures goes_on { IfOk result (λ w. GoesOn waits.now walk w × (w.path.items ≡ []) × (slice_get w.marks.items start ≢ Some Mark.New)) }
-    ensures cycle { IfErr result (λ fault. TellsCycle waits.now fault) }
-{
-    let mut walk = open(waits, walk, start)?;
-    while let Some(top) = walk.path.last().copied() {
-        walk = step(alloc, waits, walk, top)?;
-    }
-    Ok(walk)
-}
-
-/// Walks from an edge, unless the walk has met it.
-fn visited(alloc: Global, waits: &RowList, walk: Walk, edge: usize) -> Result<Walk, GraphFault>
-    requires walk { Walks waits.now walk × (walk.path.items ≡ []) }
-    requires range { InRange waits.now }
-    requires few { length waits.now ≤ max_edges }
-    requires here { edge < length waits.now }
-    ensures walk { IfOk result (λ w. Walks waits.now w × (w.path.items ≡ []) × KeepsMarks walk.marks.items w.marks.items × (slice_get w.marks.items edge ≢ Some Mark.New)) }
-    ensures cycle { IfErr result (λ fault. TellsCycle waits.now fault) }
-{
-    if is_new(walk.marks[edge]) {
-        return visit(alloc, waits, walk, edge);
-    }
-    Ok(walk)
-}
-
-/// A walk that has met no edge.
-fn start(alloc: Global, edges: usize) -> Result<Walk, AllocError>
-    ensures { IfOk result (λ w. (w.path.items ≡ []) × (w.marks.items ≡ replicate edges Mark.New) × (w.passed.items ≡ replicate edges 0) × (w.ranks.items ≡ replicate edges 0)) }
-{
-    Ok(Walk {
-        marks: vec![in alloc; Mark::New; edges]?,
-        passed: vec![in alloc; 0; edges]?,
-        ranks: vec![in alloc; 0; edges]?,
-        path: Vec::new(alloc),
-    })
-}
-
-/// The rank of each edge, by what each waits for.
+/// The rank of each edge, by what each waits for, or a cycle.
 pub fn ranks(alloc: Global, waits: &RowList) -> Result<Items<usize>, GraphFault>
     requires range { InRange waits.now }
     requires few { length waits.now ≤ max_edges }
@@ -271,9 +218,9 @@ pub fn ranks(alloc: Global, waits: &RowList) -> Result<Items<usize>, GraphFault>
     ensures low { IfOk result (λ r. All (λ k. k < length waits.now) r) }
     ensures cycle { IfErr result (λ fault. TellsCycle waits.now fault) }
 {
-    let mut walk = start(alloc, waits.len())?;
+    let mut walk = Walk::new(alloc, waits)?;
     for edge in 0..waits.len() {
-        walk = visited(alloc, waits, walk, edge)?;
+        walk.visit_unless_met(edge)?;
     }
-    Ok(Items::new(walk.ranks))
+    Ok(walk.into_ranks())
 }

@@ -1,8 +1,7 @@
 use Rattle.std.proofs.Common.{◌≡◌, ◌≢◌, ◌<◌, [], Some, ℕ}
 use Rattle.std.specs.Prelude.{slice_get}
-use Rattle.plan_graph.specs.declared.walk.Mark.TheVariants.{New}
-use Rattle.plan_graph.specs.Walking.{Walks}
+use Rattle.plan_graph.specs.declared.mark.Mark.TheVariants.{New}
 use Rattle.plan_graph.proofs.walk.ranks.Given as goal
 
 abbrev pub invariant-loop-edge : goal.invariant-loop-edge
-invariant-loop-edge l = Walks l.waits l.walk × (l.walk.path.items ≡ []) × ((e : ℕ) → e < l.edge → slice_get l.walk.marks.items e ≢ Some New)
+invariant-loop-edge l = (l.walk.waits ≡ l.waits) × (l.walk.path ≡ []) × ((e : ℕ) → e < l.edge → slice_get l.walk.marks e ≢ Some New)

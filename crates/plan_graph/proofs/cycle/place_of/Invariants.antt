@@ -1,5 +1,5 @@
 use Rattle.std.proofs.Common.{◌≡◌, ◌<◌, ◌≤◌, ◌-◌, ℕ, length, get_or}
-use Rattle.plan_graph.proofs.walk.place_of.Given as goal
+use Rattle.plan_graph.proofs.cycle.place_of.Given as goal
 
 abbrev pub invariant-loop-at : goal.invariant-loop-at
 invariant-loop-at l = (k : ℕ) × (l.at ≤ k) × (k < length l.path) × (get_or l.path k 0 ≡ l.edge)

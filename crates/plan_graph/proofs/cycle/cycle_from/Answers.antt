@@ -2,7 +2,7 @@ use Rattle.std.proofs.Common.{◌≡◌, ◌-◌, drop, length, subst, sym, take
 use Rattle.std.proofs.lemmas.List.{take_rest}
 use Rattle.plan_graph.specs.Cycles.{IsCycle, IsSimple}
 use Rattle.plan_graph.proofs.WalkLemmas.{cycle_closed, cycle_told, simple_back}
-use Rattle.plan_graph.proofs.walk.cycle_from.Goals as goal
+use Rattle.plan_graph.proofs.cycle.cycle_from.Goals as goal
 
 pub returns-in-Ok : goal.returns-in-Ok
 returns-in-Ok c =
