@@ -5,7 +5,7 @@ use crate::row_list::RowList;
 use plan_text::Items;
 
 /// The greatest number of edges of a manifest.
-pub const MAX_EDGES: usize = 1048576;
+pub const MAX_EDGES: usize = 1_048_576;
 
 /// What the edges of a manifest wait for. Edges are named by their numbers in the manifest, from 0.
 #[derive(Drop)]

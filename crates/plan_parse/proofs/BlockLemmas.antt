@@ -17,11 +17,7 @@ abbrev pub in_front : {B : Type 0} → List B → Result (List B) ParseFault →
 in_front front (Ok more) = Ok (front ++ more)
 in_front front (Err e) = Err e
 
-pub front_none : {B : Type 0} (r : Result (List B) ParseFault) → in_front [] r ≡ r
-front_none (Ok x) = refl
-front_none (Err e) = refl
-
-pub regroup : {B : Type 0} (front : List B) (y : B) (r : Result (List B) ParseFault) → in_front (front ++ y ∷ []) r ≡ in_front front (r >>= λ ys. Ok (y ∷ ys))
+regroup : {B : Type 0} (front : List B) (y : B) (r : Result (List B) ParseFault) → in_front (front ++ y ∷ []) r ≡ in_front front (r >>= λ ys. Ok (y ∷ ys))
 regroup front y (Ok ys) = ap (λ (v : List _). Ok v) (append_assoc front (y ∷ []) ys)
 regroup front y (Err e) = refl
 
@@ -30,23 +26,12 @@ pub one_more : {A B : Type 0} (f : A → Result B ParseFault) (front : List B) (
     → in_front front (each f (x ∷ xs)) ≡ all → in_front (front ++ y ∷ []) (each f xs) ≡ all
 one_more f front x xs y all e so_far = regroup front y (each f xs) ∙ ap (λ r. in_front front (r >>= λ y. each f xs >>= λ ys. Ok (y ∷ ys))) (sym e) ∙ so_far
 
--- a line with a fault
-pub stops : {A B : Type 0} (f : A → Result B ParseFault) (front : List B) (x : A) (xs : List A) (fault : ParseFault) (all : Result (List B) ParseFault) → f x ≡ Err fault
-    → in_front front (each f (x ∷ xs)) ≡ all → all ≡ Err fault
-stops f front x xs fault all e so_far = sym so_far ∙ ap (λ r. in_front front (r >>= λ y. each f xs >>= λ ys. Ok (y ∷ ys))) e
-
 -- one more line of a rule or a pool
 pub one_more_variable : (block : BlockKind) (front : List Binding) (above : List BlockLine) (m : BlockLine) (more : List BlockLine) (b : Binding) (all : Result (List Binding) ParseFault) → block_variable_at block above m ≡ Ok b
     → in_front front (block_variables_at block above (m ∷ more)) ≡ all → in_front (front ++ b ∷ []) (block_variables_at block (above ++ m ∷ []) more) ≡ all
 one_more_variable block front above m more b all e so_far =
     regroup front b (block_variables_at block (above ++ m ∷ []) more)
     ∙ ap (λ r. in_front front (r >>= λ b. block_variables_at block (above ++ m ∷ []) more >>= λ bs. Ok (b ∷ bs))) (sym e) ∙ so_far
-
--- a line of a rule or a pool with a fault
-pub variables_stop : (block : BlockKind) (front : List Binding) (above : List BlockLine) (m : BlockLine) (more : List BlockLine) (fault : ParseFault) (all : Result (List Binding) ParseFault) → block_variable_at block above m ≡ Err fault
-    → in_front front (block_variables_at block above (m ∷ more)) ≡ all → all ≡ Err fault
-variables_stop block front above m more fault all e so_far =
-    sym so_far ∙ ap (λ r. in_front front (r >>= λ b. block_variables_at block (above ++ m ∷ []) more >>= λ bs. Ok (b ∷ bs))) e
 
 -- the lines from one on
 pub lines_from : (ms : List the_line.BlockLine) (i : ℕ) (m : the_line.BlockLine) → i < length ms → m ≡ get_or ms i m → block_lines_of (drop i ms) ≡ block_line_of m ∷ block_lines_of (drop (i + 1) ms)

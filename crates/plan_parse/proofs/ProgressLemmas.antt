@@ -45,12 +45,6 @@ fault_go : (done : List Statement) (last : Result (List Statement) ParseFault) (
 fault_go done (Err x) next e h = h
 fault_go done (Ok front) next e h = absurd cc
 
--- a line that ends a block with a fault
-pub ends_badly : (s : State) (e : ParseFault) (p : Place) (rest : List LineRole) → statements_at_end s ≡ Err e → statements_with s (Head p ∷ rest) ≡ Err e
-ends_badly s e p rest h =
-    ap (λ (r : Result (List Statement) ParseFault). r >>= λ front. each statement_in (blocks_of (Head p ∷ rest)) >>= λ back. Ok (s.done ++ (front ++ back))) (closing_all s.head s.lines)
-    ∙ fault_go s.done (block_statement s.head s.lines) (λ front. each statement_in (blocks_of (Head p ∷ rest)) >>= λ back. Ok (s.done ++ (front ++ back))) e h
-
 last_go : (done : List Statement) (last : Result (List Statement) ParseFault) → (last >>= λ front. Ok (done ++ (front ++ []))) ≡ (last >>= λ front. Ok (done ++ front))
 last_go done (Ok front) = ap (λ (v : List Statement). Ok (done ++ v)) (append-nil front)
 last_go done (Err e) = refl
@@ -59,7 +53,7 @@ last_go done (Err e) = refl
 pub ends : (s : State) → statements_with s [] ≡ statements_at_end s
 ends s = ap (λ (r : Result (List Statement) ParseFault). r >>= λ front. Ok (s.done ++ (front ++ []))) (closing_all s.head s.lines) ∙ last_go s.done (block_statement s.head s.lines)
 
-abbrev pub start : State
+abbrev start : State
 start = record { done = []; head = None; lines = [] }
 
 bind_same : (r : Result (List Statement) ParseFault) → (r >>= λ ys. Ok ys) ≡ r
@@ -73,10 +67,3 @@ begin_go (Err e) r = refl
 
 short_test : (n : ℕ) → n ≤ max_source → nat_lt max_source n ≡ false
 short_test n h = grind (arith, nat_tests)
-
--- a text that isn't too long, from its first line on
-pub begins_all : (text : List ℕ) → length text ≤ max_source → statements_of text ≡ statements_with start (roles_of_lines (raw_lines text))
-begins_all text h =
-    let roles = roles_of_lines (raw_lines text) in
-    ap (λ (v : Bool). cond v (Err (fault.Text (SourceTooLong max_source))) (no_block_allowed (below roles) >>= λ _. each statement_in (blocks_of roles))) (short_test (length text) h)
-    ∙ sym (begin_go (no_block_allowed (below roles)) (each statement_in (blocks_of roles)))

@@ -35,9 +35,6 @@ pub found : {A B : Type 0} (r : Result A ParseFault) (f : A → Result B ParseFa
 found (Ok x) f y e = record { first = x; was = refl; gives = e }
 found (Err e) f y h = absurd cc
 
-same_ok : {A : Type 0} (r : Result A ParseFault) (x y : A) → r ≡ Ok x → r ≡ Ok y → x ≡ y
-same_ok r x y e f = let both = sym e ∙ f in cc
-
 -- the word behind blanks is the name behind a gap, where there is one
 word_by : (b : ℕ) (rest : List ℕ) (t u : Bool) → (b == space) ≡ t → (b == tab) ≡ u
     → (0 < prefix_len is_name_byte (drop (gap_len rest) rest)

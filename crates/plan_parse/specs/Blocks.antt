@@ -1,13 +1,13 @@
 -- The lines of a text by blocks: an unindented line, and the indented lines below it.
-use Rattle.std.specs.Prelude.{ℕ, ◌+◌, ◌==◌, nat_lt, Bool, ◌||◌, List, [], ◌∷◌, length, drop, if◌then◌else◌, Option, Some, None}
+use Rattle.std.specs.Prelude.{ℕ, ◌+◌, ◌==◌, nat_lt, Bool, false, List, [], ◌∷◌, length, drop, if◌then◌else◌, Option, Some, None}
 use Rattle.std.specs.List.{position_or_len, filter_map}
-use Rattle.plan_text.specs.Bytes.{nul, tab, space, hash, begins_with}
+use Rattle.plan_text.specs.Bytes.{nul, hash, is_blank, begins_with}
 use Rattle.plan_text.specs.Lines.{indent_len, Raw}
 use Rattle.plan_text.specs.declared.fault.TextFault.{TextFault}
 use Rattle.plan_text.specs.declared.fault.TextFault.TheVariants.{NulByte}
 use Rattle.plan_parse.specs.Reading.{Place}
 
--- a line of a block: what it says, past its indentation, or the fault of a comment
+-- a line of a block: its text, past its indentation, or the fault of a comment
 pub data BlockLine : Type 0 where
   Text : Place → BlockLine
   Refused : TextFault → BlockLine
@@ -19,14 +19,15 @@ pub data LineRole : Type 0 where
 
 -- a line that begins with a space or a tab is indented
 abbrev pub is_indented : List ℕ → Bool
-is_indented bytes = begins_with space bytes || begins_with tab bytes
+is_indented [] = false
+is_indented (b ∷ rest) = is_blank b
 
 abbrev pub role_of_comment : ℕ → List ℕ → Option LineRole
 role_of_comment at bytes =
     let nul_at = position_or_len (λ b. b == nul) bytes in
     if nat_lt nul_at (length bytes) then Some (Below (Refused (NulByte (at + nul_at)))) else None
 
--- What a logical line tells: nothing where it is blank; a comment nothing but its NUL.
+-- The role of a logical line: none where it is blank; a comment has one for its NUL alone.
 abbrev pub role_of_line : Raw → Option LineRole
 role_of_line raw =
     let indent = indent_len raw.bytes in

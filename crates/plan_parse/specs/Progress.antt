@@ -55,7 +55,7 @@ abbrev pub HeadStandsIn : List ℕ → Option Place → Type 0
 HeadStandsIn text None = Unit {0}
 HeadStandsIn text (Some p) = StandsIn text p
 
--- the same of what a line tells
+-- the same of a line by its role
 abbrev pub RoleStandsIn : List ℕ → Option LineRole → Type 0
 RoleStandsIn text None = Unit {0}
 RoleStandsIn text (Some (Head p)) = StandsIn text p

@@ -2,7 +2,7 @@
 use Rattle.std.specs.Prelude.{ℕ, zero, suc, ◌+◌, ◌-◌, ◌==◌, nat_lt, Bool, ◌||◌, ◌&&◌, List, [], ◌∷◌, length, take, drop, if◌then◌else◌, Result, Ok, Err, is_none, unwrap_or}
 use Rattle.std.specs.List.{prefix_len}
 use Rattle.plan_text.specs.Outcome.{◌>>=◌}
-use Rattle.plan_text.specs.Bytes.{nul, tab, space, dollar, colon, bar, is_name_byte, begins_with}
+use Rattle.plan_text.specs.Bytes.{nul, tab, dollar, colon, bar, is_name_byte, is_space, begins_with}
 use Rattle.plan_text.specs.Runs.{run}
 use Rattle.plan_text.specs.Pieces.{escape_size, pieces_from}
 use Rattle.plan_text.specs.Lines.{gap_len}
@@ -71,7 +71,7 @@ value_at p = lift_fault (pieces_from mode.Value p.at p.bytes)
 
 -- a space, `:` or `|` ends a path
 abbrev pub ends_path : ℕ → Bool
-ends_path b = b == space || b == colon || b == bar
+ends_path b = is_space b || b == colon || b == bar
 
 -- a unit of a path: a byte, or a `$` with its escape
 abbrev pub path_unit : List ℕ → ℕ
@@ -88,10 +88,10 @@ path_at p len = lift_fault (pieces_from mode.Path p.at (take len p.bytes))
 abbrev pub path_onto : List Piece → Result (List (List Piece) × Place) ParseFault → Result (List (List Piece) × Place) ParseFault
 path_onto path more = more >>= λ x. Ok (path ∷ x.0, x.1)
 
--- The paths of a list and the place of the first byte that belongs to none, past the first n bytes. Gaps stand between paths.
+-- The paths of a list and the place of the first byte that belongs to none, past the bytes to skip (plan_text, Runs). Gaps stand between paths.
 abbrev pub paths_past : ℕ → List ℕ → ℕ → Result (List (List Piece) × Place) ParseFault
-paths_past at [] n = Ok ([], record { at = at; bytes = [] })
-paths_past at (b ∷ rest) (suc n) = paths_past (at + 1) rest n
+paths_past at [] skip = Ok ([], record { at = at; bytes = [] })
+paths_past at (b ∷ rest) (suc skip) = paths_past (at + 1) rest skip
 paths_past at (b ∷ rest) zero =
     let gap = gap_len (b ∷ rest) in
     let len = path_len (b ∷ rest) in

@@ -3,7 +3,7 @@ use Rattle.std.specs.Prelude.{ℕ, ◌+◌, ◌==◌, nat_lt, Bool, false, not, 
 use Rattle.std.specs.List.{prefix_len, list_any}
 use Rattle.std.specs.Str.{bytes_eq}
 use Rattle.plan_text.specs.Outcome.{◌>>=◌, each}
-use Rattle.plan_text.specs.Bytes.{at_sign, tab, space, colon, bar, equals_sign, begins_with}
+use Rattle.plan_text.specs.Bytes.{at_sign, colon, bar, equals_sign, is_blank, begins_with}
 use Rattle.plan_text.specs.Lines.{raw_lines}
 use Rattle.plan_text.specs.Limits.{max_source}
 use Rattle.plan_text.specs.declared.fault.TextFault.TheVariants.{SourceTooLong}
@@ -37,7 +37,7 @@ no_block_allowed (Refused e ∷ more) = Err (fault.Text e)
 
 -- the first word of a line, whatever spaces and tabs stand before it
 abbrev pub first_word : Place → List ℕ
-first_word p = name_of (past_gap (past (prefix_len (λ b. b == space || b == tab) p.bytes) p))
+first_word p = name_of (past_gap (past (prefix_len is_blank p.bytes) p))
 
 -- whether a line binds this name, well or not
 abbrev pub is_named : List ℕ → BlockLine → Bool
@@ -60,17 +60,17 @@ abbrev pub required_name : BlockKind → List ℕ
 required_name Rule = codes "command"
 required_name Pool = codes "depth"
 
--- the fault of a name that it doesn't know
+-- the fault of a name that it may not bind
 abbrev pub unknown_variable : BlockKind → ℕ → ParseFault
 unknown_variable Rule at = fault.UnknownRuleVariable at
 unknown_variable Pool at = fault.BadPool at
 
--- the fault of the name that it wants, where it is absent or stands there again
+-- the fault of the required name, where it is absent or stands there again
 abbrev pub missing_or_repeated : BlockKind → ℕ → ParseFault
 missing_or_repeated Rule at = fault.NoCommand at
 missing_or_repeated Pool at = fault.BadPool at
 
--- a rule or a pool binds what it knows, and what it wants once; the lines above this one are given
+-- a rule or a pool binds what it may bind, and the required name once; the lines above this one are given
 abbrev pub block_variable_at : BlockKind → List BlockLine → BlockLine → Result Binding ParseFault
 block_variable_at block above (Refused e) = Err (fault.Text e)
 block_variable_at block above (Text p) =

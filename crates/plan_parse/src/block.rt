@@ -1,7 +1,8 @@
 //! Blocks: a line, and the indented lines below it.
 
-ghost use Rattle.std.specs.Prelude.{◌≡◌, ◌==◌, ◌+◌, ◌<◌, ◌≤◌, ◌^◌, ◌||◌, List, [], length};
+ghost use Rattle.std.specs.Prelude.{◌≡◌, ◌==◌, ◌+◌, ◌<◌, ◌≤◌, ◌^◌, List, [], length};
 ghost use Rattle.std.specs.List.{prefix_len, list_any};
+ghost use Rattle.plan_text.specs.Bytes.{is_blank};
 ghost use Rattle.plan_text.specs.Outcome.{Meets, each};
 ghost use Rattle.plan_parse.specs.Blocks as blocks;
 ghost use Rattle.plan_parse.specs.Statements as statements;
@@ -16,16 +17,16 @@ use crate::statement::Binding;
 use plan_text::{TextFault, begins, indent_len, nul_at};
 use std::alloc::Global;
 
-/// A line of a block: what it says, past its indentation, or the fault of a comment.
+/// A line of a block: its text, past its indentation, or the fault of a comment.
 #[derive(Clone, Copy)]
 pub enum BlockLine<'a> {
-    /// What it says.
+    /// Its text.
     Text(Cursor<'a>),
     /// The fault of a comment.
     Refused(TextFault),
 }
 
-/// A line that begins a block, or one that belongs to the block above it.
+/// The role of a line: it begins a block, or belongs to the block above it.
 #[derive(Clone, Copy)]
 pub enum LineRole<'a> {
     /// It begins a block.
@@ -41,7 +42,7 @@ fn is_indented(bytes: &[u8]) -> bool
     matches!(bytes, [b' ' | b'\t', ..])
 }
 
-/// What a comment tells: nothing but its NUL.
+/// The role of a comment: none but for its NUL.
 fn role_of_comment(at: usize, bytes: &[u8]) -> Option<LineRole<'_>>
     requires { at + length bytes.now < 2 ^ 63 }
     ensures { line_role_if_any result ≡ blocks.role_of_comment at bytes.now }
@@ -55,7 +56,7 @@ fn role_of_comment(at: usize, bytes: &[u8]) -> Option<LineRole<'_>>
     }
 }
 
-/// What a logical line tells: nothing where it is blank.
+/// The role of a logical line: none where it is blank.
 pub fn role_of_line(at: usize, bytes: &[u8]) -> Option<LineRole<'_>>
     requires { at + length bytes.now < 2 ^ 63 }
     ensures { line_role_if_any result ≡ blocks.role_of_line (record { at = at; bytes = bytes.now }) }
@@ -91,7 +92,7 @@ pub fn no_block_allowed(lines: &[BlockLine<'_>]) -> Result<(), ParseFault>
 
 /// How many spaces and tabs a text begins with.
 fn blanks_len(text: &[u8]) -> usize
-    ensures len { result ≡ prefix_len (λ b. b == 32 || b == 9) text.now }
+    ensures len { result ≡ prefix_len is_blank text.now }
     ensures within { result ≤ length text.now }
 {
     text.iter()
@@ -137,7 +138,7 @@ fn binds(line: BlockLine<'_>, name: &[u8]) -> bool
     }
 }
 
-/// What a line of a rule or a pool binds, where `is_bound` says whether a line above it binds the name that is wanted once.
+/// What the text of a line of a rule or a pool binds, where `is_bound` says whether a line above it binds the required name.
 fn variable_at(
     alloc: Global,
     block: BlockKind,
@@ -158,7 +159,7 @@ fn variable_at(
     binding_at(alloc, p)
 }
 
-/// A line of a rule or a pool, where `is_bound` says whether a line above it binds the name that is wanted once.
+/// What a line of a rule or a pool binds, where `is_bound` says whether a line above it binds the required name.
 fn block_variable_at(
     alloc: Global,
     block: BlockKind,
@@ -174,7 +175,7 @@ fn block_variable_at(
     }
 }
 
-/// The lines of a rule or a pool in order.
+/// What the lines of a rule or a pool bind, in order.
 pub fn block_variables_at(
     alloc: Global,
     block: BlockKind,
@@ -191,7 +192,7 @@ pub fn block_variables_at(
     Ok(found)
 }
 
-/// A rule or a pool binds what is wanted of it; where it doesn't, that counts before all else of its block.
+/// Whether a rule or a pool binds its required name; where it doesn't, that fault counts before all else of its block.
 pub fn has_required(block: BlockKind, at: usize, lines: &[BlockLine<'_>]) -> Result<(), ParseFault>
     ensures { result ≡ statements.has_required block at (block_lines_of lines.now) }
 {

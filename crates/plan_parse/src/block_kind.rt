@@ -7,10 +7,10 @@ ghost use Rattle.plan_parse.specs.Statements as statements;
 
 use crate::fault::ParseFault;
 
-/// Whose lines the lines of a block are, where not every name may stand in it.
+/// A kind of block in which not every name may stand.
 #[derive(Clone, Copy)]
 pub enum BlockKind {
-    /// A rule: it knows many names, and binds `command` once.
+    /// A rule: it may bind many names, and binds `command` once.
     Rule,
     /// A pool: it binds `depth`, once, and nothing else.
     Pool,
@@ -57,7 +57,7 @@ impl BlockKind {
         }
     }
 
-    /// The fault of a name that it doesn't know.
+    /// The fault of a name that it may not bind.
     pub fn unknown_variable(self, at: u64) -> ParseFault
         ensures { result ≡ statements.unknown_variable self at }
     {
@@ -67,7 +67,7 @@ impl BlockKind {
         }
     }
 
-    /// The fault of the name that it wants, where it is absent or stands there again.
+    /// The fault of the required name, where it is absent or stands there again.
     pub fn missing_or_repeated(self, at: u64) -> ParseFault
         ensures { result ≡ statements.missing_or_repeated self at }
     {

@@ -54,7 +54,7 @@ impl<'a> Reader<'a> {
         Ok(())
     }
 
-    /// Takes what one more line tells.
+    /// Takes one more line by its role.
     fn take(&mut self, role: LineRole<'a>) -> Result<(), ParseFault>
         requires head { HeadStandsIn self.now.text.now (head_of self.now.head) }
         requires role { RoleStandsIn self.now.text.now (Some (line_role_of role)) }

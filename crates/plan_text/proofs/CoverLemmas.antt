@@ -17,7 +17,7 @@ run_stops size none (b ∷ rest) zero = by (size (b ∷ rest)) refl (λ n. run_s
   by zero e more = e
   by (suc n) e more = more n
 
-pub run_within : (size : List ℕ → ℕ) (text : List ℕ) (n : ℕ) → run_past size text n ≤ length text
+run_within : (size : List ℕ → ℕ) (text : List ℕ) (n : ℕ) → run_past size text n ≤ length text
 run_within size [] n = omega arith
 run_within size (b ∷ rest) (suc n) = let more = run_within size rest n in omega (arith, more)
 run_within size (b ∷ rest) zero = by (size (b ∷ rest)) (λ n. run_within size rest n) where

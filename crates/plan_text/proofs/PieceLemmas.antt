@@ -66,7 +66,7 @@ goes_on m base at more text sign old new all h found gathers so_far =
     ap (with_front new) (sym there) ∙ with_front-onto old new sign gathers (pieces_past m (base + at + 1) (drop (at + 1) text) more) ∙ ap (with_front old) (sym here) ∙ so_far
 
 -- bytes in front of what is read behind them
-abbrev pub bytes_all_onto : List ℕ → Result (List Piece) TextFault → Result (List Piece) TextFault
+abbrev bytes_all_onto : List ℕ → Result (List Piece) TextFault → Result (List Piece) TextFault
 bytes_all_onto bytes (Ok more) = Ok (bytes_onto bytes more)
 bytes_all_onto bytes (Err fault) = Err fault
 

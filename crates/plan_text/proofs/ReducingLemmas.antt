@@ -87,7 +87,7 @@ joined-more : (c : ℕ) (xs : List (List ℕ)) (y x : List ℕ) → join_with_by
 joined-more c [] y x = refl
 joined-more c (z ∷ xs) y x = ap (λ (v : List ℕ). y ++ c ∷ v) (joined-more c xs z x) ∙ sym (append_assoc y (c ∷ join_with_byte c (z ∷ xs)) (c ∷ x))
 
-pub texts-append : (a b : List (Bor (List ℕ))) → texts (a ++ b) ≡ texts a ++ texts b
+texts-append : (a b : List (Bor (List ℕ))) → texts (a ++ b) ≡ texts a ++ texts b
 texts-append [] b = refl
 texts-append (x ∷ a) b = ap (λ (v : List (List ℕ)). x.now ∷ v) (texts-append a b)
 

@@ -11,7 +11,7 @@ use denote.Struct.Struct.{Struct, within}
 abbrev pub none : Val
 none = vstruct vnil
 
-abbrev pub fieldless : RattleType
+abbrev fieldless : RattleType
 fieldless = Struct (record { name = []; args = []; types = []; fields = [] })
 
 pub none_made : {M : Type 1} {𝓤 : Ura M} {𝓛 : Logic 𝓤} {K : Type 0} {Γ : List (Item 𝓤)} {G : Goal 𝓤 𝓛.H} → K → Step K 𝓛 (‵ (fieldless.own_val tt (none ∷ [])) ∷ Γ) G Γ G

@@ -1,7 +1,7 @@
 -- The logical lines of a text. (Ninja manual, "Lexical syntax": newlines are significant, `$` and a newline continue a line, a comment runs to the end of its line.)
 use Rattle.std.specs.Prelude.{◌≡◌, ◌⊎◌, ◌++◌, ℕ, zero, suc, ◌+◌, ◌-◌, ◌==◌, nat_lt, Bool, true, ◌||◌, ◌&&◌, List, [], ◌∷◌, length, take, drop, if◌then◌else◌, Result, Ok, Err, Option, Some, None, map}
 use Rattle.std.specs.List.{prefix_len, position_or_len}
-use Rattle.plan_text.specs.Bytes.{nul, tab, line_feed, carriage_return, space, hash, dollar, is_space, begins_with}
+use Rattle.plan_text.specs.Bytes.{nul, tab, line_feed, carriage_return, hash, dollar, is_space, begins_with}
 use Rattle.plan_text.specs.Runs.{run}
 use Rattle.plan_text.specs.Limits.{max_source}
 use Rattle.plan_text.specs.declared.fault.TextFault.{TextFault}
@@ -34,7 +34,7 @@ comment_unit (b ∷ rest) = if begins_newline (b ∷ rest) then 0 else 1
 -- a unit of a gap between words: a space, or `$` and a newline
 abbrev pub gap_unit : List ℕ → ℕ
 gap_unit [] = 0
-gap_unit (b ∷ rest) = if b == space then 1 else if b == dollar && begins_newline rest then suc (newline_len rest) else 0
+gap_unit (b ∷ rest) = if is_space b then 1 else if b == dollar && begins_newline rest then suc (newline_len rest) else 0
 
 -- how many bytes of gaps a text begins with
 abbrev pub gap_len : List ℕ → ℕ
@@ -55,10 +55,10 @@ pub record Raw : Type 0 where
   pub at : ℕ
   pub bytes : List ℕ
 
--- the logical lines of a text past its first n bytes; the text stands at offset `at`
+-- the logical lines of a text past the bytes to skip (see Runs); the text stands at offset `at`
 abbrev pub raw_past : ℕ → List ℕ → ℕ → List Raw
-raw_past at [] n = []
-raw_past at (b ∷ rest) (suc n) = raw_past (at + 1) rest n
+raw_past at [] skip = []
+raw_past at (b ∷ rest) (suc skip) = raw_past (at + 1) rest skip
 raw_past at (b ∷ rest) zero =
     let len = logical_len (b ∷ rest) in
     record { at = at; bytes = take len (b ∷ rest) } ∷ raw_past (at + 1) rest (len + newline_len (drop len (b ∷ rest)) - 1)
@@ -106,10 +106,10 @@ AreLinesOf at (raw ∷ more) text =
     (newline : List ℕ) × (rest : List ℕ) × (raw.at ≡ at) × (text ≡ raw.bytes ++ (newline ++ rest)) × EndsLine newline rest
     × AreLinesOf (at + length raw.bytes + length newline) more rest
 
--- whether each logical line of a text past its first n bytes is ended by a newline
+-- whether each logical line of a text past the bytes to skip is ended by a newline
 abbrev pub ended_past : List ℕ → ℕ → Bool
-ended_past [] n = true
-ended_past (b ∷ rest) (suc n) = ended_past rest n
+ended_past [] skip = true
+ended_past (b ∷ rest) (suc skip) = ended_past rest skip
 ended_past (b ∷ rest) zero =
     let len = logical_len (b ∷ rest) in
     begins_newline (drop len (b ∷ rest)) && ended_past rest (len + newline_len (drop len (b ∷ rest)) - 1)

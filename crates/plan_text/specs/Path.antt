@@ -5,7 +5,7 @@ use Rattle.plan_text.specs.Bytes.{dot, slash}
 use Rattle.plan_text.specs.declared.fault.TextFault.{TextFault}
 use Rattle.plan_text.specs.declared.fault.TextFault.TheVariants.{EmptyPath}
 
--- whether a component is empty or `.`
+-- whether a component is empty or `.`: it names the folder in which it stands
 abbrev pub is_current_dir : List ℕ → Bool
 is_current_dir [] = true
 is_current_dir (b ∷ []) = b == dot
@@ -22,7 +22,7 @@ is_parent_dir (b ∷ c ∷ d ∷ rest) = false
 abbrev pub is_normal : List ℕ → Bool
 is_normal component = not (is_current_dir component) && not (is_parent_dir component)
 
--- an normal component in front of the components that stay of what follows it: `..` takes it away
+-- a normal component in front of the components that stay of what follows it: `..` takes it away
 abbrev pub normal_onto : List ℕ → List (List ℕ) → List (List ℕ)
 normal_onto component [] = component ∷ []
 normal_onto component (next ∷ rest) = if is_parent_dir next then rest else component ∷ next ∷ rest

@@ -75,11 +75,11 @@ abbrev pub in_front : Result (Sign × ℕ) TextFault → (ℕ → Result (List P
 in_front (Ok x) more = all_onto x.0 (more x.1)
 in_front (Err fault) more = Err fault
 
--- the pieces of a text past its first n bytes, or its first fault; the text stands at offset `at`
+-- the pieces of a text past the bytes to skip (see Runs), or its first fault; the text stands at offset `at`
 abbrev pub pieces_past : Mode → ℕ → List ℕ → ℕ → Result (List Piece) TextFault
-pieces_past mode at [] n = Ok []
-pieces_past mode at (b ∷ rest) (suc n) = pieces_past mode (at + 1) rest n
-pieces_past mode at (b ∷ rest) zero = in_front (sign_at mode at b rest) (λ n. pieces_past mode (at + 1) rest n)
+pieces_past mode at [] skip = Ok []
+pieces_past mode at (b ∷ rest) (suc skip) = pieces_past mode (at + 1) rest skip
+pieces_past mode at (b ∷ rest) zero = in_front (sign_at mode at b rest) (λ skip. pieces_past mode (at + 1) rest skip)
 
 -- the pieces of a text that stands at offset `at`
 abbrev pub pieces_from : Mode → ℕ → List ℕ → Result (List Piece) TextFault

@@ -1,12 +1,12 @@
 //! The pieces of a path or a value.
 
-ghost use Rattle.std.specs.Prelude.{◌≡◌, ◌==◌, ◌<◌, ◌≤◌, ◌+◌, ◌^◌, ◌++◌, [], IfOk, IfSome, OnOk, not, map, length, drop, slice_index};
+ghost use Rattle.std.specs.Prelude.{◌≡◌, ◌==◌, ◌<◌, ◌≤◌, ◌+◌, ◌^◌, ◌++◌, [], IfOk, IfSome, OnOk, not, length, drop, slice_index};
 ghost use Rattle.std.specs.List.{prefix_len, position_or_len, take_while};
 ghost use Rattle.plan_text.specs.Bytes as bytes;
 ghost use Rattle.plan_text.specs.Pieces.{pieces_of, pieces_from, literal_of};
 ghost use Rattle.plan_text.specs.Pieces as syntax;
 ghost use Rattle.plan_text.specs.declared.piece_reader.Mode.TheVariants as mode;
-ghost use Rattle.plan_text.specs.Gathering.{sign_and_len, sign_or_fault, sign_of, is_special, Gathers, gathered_pieces};
+ghost use Rattle.plan_text.specs.Gathering.{sign_and_len, sign_or_fault, sign_of, is_special, Gathers};
 ghost use Rattle.plan_text.specs.Outcome.{Meets};
 
 use crate::fault::TextFault;
@@ -50,18 +50,21 @@ struct Gather {
     literal: SmallText,
 }
 
+/// Whether a byte belongs to a name right behind `$`.
 fn is_bare_name_byte(b: u8) -> bool
     ensures { result ≡ bytes.is_bare_name_byte b }
 {
     b.is_ascii_alphanumeric() || b == b'_' || b == b'-'
 }
 
+/// Whether a byte belongs to any other name.
 fn is_name_byte(b: u8) -> bool
     ensures { result ≡ bytes.is_name_byte b }
 {
     is_bare_name_byte(b) || b == b'.'
 }
 
+/// How many bytes of a name right behind `$` a text begins with.
 fn bare_name_len(text: &[u8]) -> usize
     ensures len { result ≡ prefix_len bytes.is_bare_name_byte text.now }
     ensures within { result ≤ length text.now }
@@ -131,6 +134,7 @@ pub fn escape_len(text: &[u8]) -> Option<usize>
     }
 }
 
+/// What stands at this place, and how many bytes behind it belong to it.
 fn sign_at(text: &[u8], base: usize, at: usize, mode: Mode) -> Result<(Found<'_>, usize), TextFault>
     requires inside { at < length text.now }
     requires fits { base + length text.now < 2 ^ 64 }
@@ -222,6 +226,7 @@ impl Gather {
         Ok(())
     }
 
+    /// Takes what stands at one place.
     fn add(&mut self, found: Found<'_>) -> Result<(), AllocError>
         ensures { OnOk result (Gathers self.old (sign_of found.entry) self.new) }
     {
