@@ -1,18 +1,12 @@
 -- Blocks that end where the next begins.
-use Rattle.std.proofs.Common.{◌≡◌, ℕ, ◌≤◌, Bool, false, cond, List, [], ◌∷◌, ◌++◌, length, Result, Ok, Err, Option, Some, None, refl, sym, ap, ◌∙◌, append_assoc, arith}
-use Rattle.std.specs.Prelude.{nat_lt}
+use Rattle.std.proofs.Common.{◌≡◌, List, [], ◌∷◌, ◌++◌, Result, Ok, Err, Option, Some, refl, sym, ap, ◌∙◌, append_assoc}
 use Rattle.std.proofs.lemmas.List.{append-nil}
-use Rattle.std.proofs.lemmas.Bool.Decides.{nat_tests}
 use Rattle.plan_text.specs.Outcome.{◌>>=◌, each}
-use Rattle.plan_text.specs.Lines.{raw_lines}
-use Rattle.plan_text.specs.Limits.{max_source}
-use Rattle.plan_text.specs.declared.fault.TextFault.TheVariants.{SourceTooLong}
 use Rattle.plan_parse.specs.declared.fault.ParseFault.{ParseFault}
-use Rattle.plan_parse.specs.declared.fault.ParseFault.TheVariants as fault
 use Rattle.plan_parse.specs.declared.statement.Statement.{Statement}
 use Rattle.plan_parse.specs.Reading.{Place}
-use Rattle.plan_parse.specs.Blocks.{BlockLine, LineRole, Head, Below, roles_of_lines, below, blocks_of}
-use Rattle.plan_parse.specs.Statements.{no_block_allowed, statement_of, statement_in, statements_of}
+use Rattle.plan_parse.specs.Blocks.{BlockLine, LineRole, Head, Below, below, blocks_of}
+use Rattle.plan_parse.specs.Statements.{statement_of, statement_in}
 use Rattle.plan_parse.specs.Progress.{State, block_statement, statements_at_end, statements_with}
 
 -- a line of the block
@@ -41,10 +35,6 @@ takes_head s more p rest e =
     head_go s.done more (block_statement s.head s.lines) (statement_of p (below rest)) (each statement_in (blocks_of rest)) e
     ∙ ap (λ (r : Result (List Statement) ParseFault). r >>= λ front. (statement_of p (below rest) >>= λ y. each statement_in (blocks_of rest) >>= λ ys. Ok (y ∷ ys)) >>= λ back. Ok (s.done ++ (front ++ back))) (sym (closing_all s.head s.lines))
 
-fault_go : (done : List Statement) (last : Result (List Statement) ParseFault) (next : List Statement → Result (List Statement) ParseFault) (e : ParseFault) → (last >>= λ front. Ok (done ++ front)) ≡ Err e → (last >>= next) ≡ Err e
-fault_go done (Err x) next e h = h
-fault_go done (Ok front) next e h = absurd cc
-
 last_go : (done : List Statement) (last : Result (List Statement) ParseFault) → (last >>= λ front. Ok (done ++ (front ++ []))) ≡ (last >>= λ front. Ok (done ++ front))
 last_go done (Ok front) = ap (λ (v : List Statement). Ok (done ++ v)) (append-nil front)
 last_go done (Err e) = refl
@@ -52,18 +42,3 @@ last_go done (Err e) = refl
 -- the end of the text
 pub ends : (s : State) → statements_with s [] ≡ statements_at_end s
 ends s = ap (λ (r : Result (List Statement) ParseFault). r >>= λ front. Ok (s.done ++ (front ++ []))) (closing_all s.head s.lines) ∙ last_go s.done (block_statement s.head s.lines)
-
-abbrev start : State
-start = record { done = []; head = None; lines = [] }
-
-bind_same : (r : Result (List Statement) ParseFault) → (r >>= λ ys. Ok ys) ≡ r
-bind_same (Ok x) = refl
-bind_same (Err e) = refl
-
-begin_go : (front : Result (Unit {0}) ParseFault) (r : Result (List Statement) ParseFault)
-    → ((front >>= λ _. Ok []) >>= λ (front : List Statement). r >>= λ back. Ok ([] ++ (front ++ back))) ≡ (front >>= λ _. r)
-begin_go (Ok x) r = bind_same r
-begin_go (Err e) r = refl
-
-short_test : (n : ℕ) → n ≤ max_source → nat_lt max_source n ≡ false
-short_test n h = grind (arith, nat_tests)

@@ -22,7 +22,7 @@ use Rattle.plan_parse.specs.declared.statement.StatementKind.TheVariants as kind
 use Rattle.plan_parse.specs.Reading.{Place, past, past_gap, name_of, name_at, byte_at, value_at, paths_at, refuse, line_end_at}
 use Rattle.plan_parse.specs.Blocks.{BlockLine, Text, Refused, Block, roles_of_lines, below, blocks_of}
 use Rattle.plan_parse.specs.Statements as parsing
-use Rattle.plan_parse.specs.Statements.{binding_at, no_block_allowed, first_word, is_named, required_name, unknown_variable, missing_or_repeated, may_bind, block_variable_at, block_variables_at, has_required, named_line, rule_of, build_of, pool_of, default_of, include_of, subninja_of, binding_of, implicit_at, some_path, outputs_at, inputs_at, targets_at, statement_of, statement_in, statements_of, block_line_at}
+use Rattle.plan_parse.specs.Statements.{binding_at, no_block_allowed, first_word, is_named, unknown_variable, missing_or_repeated, may_bind, block_variable_at, block_variables_at, has_required, named_line, rule_of, build_of, pool_of, default_of, include_of, subninja_of, binding_of, implicit_at, some_path, outputs_at, inputs_at, targets_at, statement_in, statements_of, block_line_at}
 use Rattle.plan_parse.specs.Laws.{IsWhole}
 
 -- the first of two steps that both went well
