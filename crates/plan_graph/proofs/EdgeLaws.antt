@@ -15,10 +15,10 @@ use Rattle.plan_scope.specs.Edges.{is_among}
 use Rattle.plan_graph.specs.Cycles.{WaitsFor}
 use Rattle.plan_graph.specs.Files.{Path, number_of, with_path, with_paths}
 use Rattle.plan_graph.specs.Graph.{all_waits, default_edges, files_of, inputs_named, inputs_of, is_last, producer_of, produces_any, numbers_from, outputs_of, waits_of}
-use Rattle.plan_graph.proofs.GraphLemmas.{numbers_below, row_of}
+use Rattle.plan_graph.proofs.BuildGraphLemmas.{numbers_below, row_of}
 use Rattle.plan_graph.proofs.MemberLemmas.{In, Rises, contained, in_any, in_flat, in_list, some_is}
 use Rattle.plan_graph.proofs.NumberLemmas.{among_given, among_kept, names}
-use Rattle.plan_graph.proofs.WaitLemmas.{producer_found, numbers_kept, numbers_rise}
+use Rattle.plan_graph.proofs.WaitsLemmas.{producer_found, numbers_kept, numbers_rise}
 
 -- a list of numbers, each less than the next
 rises_order : (n : ℕ) (xs : List ℕ) → Rises n xs → IsStrictlyIncreasing xs
@@ -35,6 +35,7 @@ numbers_ascend test edges = rises_order 0 (numbers_from 0 test edges) (numbers_r
 nothing_ascends : IsStrictlyIncreasing []
 nothing_ascends k h = absurd (omega (arith, h))
 
+-- what an edge waits for ascends, and is edges
 pub waits_in_order : (edges : List Edge) (n : ℕ) → IsStrictlyIncreasing (get_or (all_waits edges) n []) × All (λ w. w < length edges) (get_or (all_waits edges) n [])
 waits_in_order edges n = elim (row_of (waits_of edges) edges n) [
   | inl empty ↦ subst (λ (row : List ℕ). IsStrictlyIncreasing row × All (λ w. w < length edges) row) (sym empty) (nothing_ascends, λ k d h. absurd (omega (arith, h)))
@@ -43,10 +44,12 @@ waits_in_order edges n = elim (row_of (waits_of edges) edges n) [
       (numbers_ascend (produces_any (inputs_of some.0)) edges, numbers_below (produces_any (inputs_of some.0)) edges)
 ]
 
+-- so do the edges that are built where no target is asked for
 pub defaults_in_order : (edges : List Edge) (defaults : List DefaultTarget) → IsStrictlyIncreasing (default_edges edges defaults) × All (λ n. n < length edges) (default_edges edges defaults)
 defaults_in_order edges [] = (numbers_ascend (is_last edges) edges, numbers_below (is_last edges) edges)
 defaults_in_order edges (d ∷ ds) = let test = produces_any (map (λ t. t.path) (d ∷ ds)) in (numbers_ascend test edges, numbers_below test edges)
 
+-- an edge waits for the producers of its inputs
 pub producers_are_waited : (edges : List Edge) (n w : ℕ) (e : Edge) (path : Path) → slice_get edges n ≡ Some e → Contains (inputs_of e) path → producer_of edges path ≡ Some w → WaitsFor (all_waits edges) n w
 producers_are_waited edges n w e path here used producer =
     let lt = slice_get_within edges n e here in
@@ -77,6 +80,7 @@ edge_in [] n e h = cc
 edge_in (x ∷ es) zero e h = inl (some_is x e h)
 edge_in (x ∷ es) (suc n) e h = inr (edge_in es n e h)
 
+-- each path that an edge names is a file, at its number
 pub all_named : (edges : List Edge) (n : ℕ) (e : Edge) (path : Path) → slice_get edges n ≡ Some e → Contains (outputs_of e ++ inputs_named e) path → slice_get (files_of edges) (number_of (files_of edges) path) ≡ Some path
 all_named edges n e path here named =
     place_given (files_of edges) path (given_later [] (flat_map names edges) path (in_flat names edges e path (edge_in edges n e here) (in_list (names e) path named)))
@@ -100,5 +104,6 @@ distinct_all : (seen ps : List Path) → AllPairs (λ x y. x ≢ y) seen → All
 distinct_all seen [] h = h
 distinct_all seen (p ∷ ps) h = distinct_all (with_path seen p) ps (distinct_step seen p h)
 
+-- no file stands twice
 pub none_twice : (edges : List Edge) → AllPairs (λ x y. x ≢ y) (files_of edges)
 none_twice edges = distinct_all [] (flat_map names edges) (λ i j d h g same. omega (arith, g))

@@ -1,4 +1,4 @@
--- What reading build lines leaves in the table of paths.
+-- What reading build lines leaves in the table of paths. Serves src/edge_reader.rt: the table of paths.
 use Rattle.std.proofs.Common.{◌≡◌, ◌<◌, ◌+◌, ◌++◌, ◌∷◌, [], ◌∙◌, ◌⊎◌, inl, inr, Bool, true, false, List, ℕ, zero, suc, Option, Some, None, Result, Ok, Err, ap, arith, bytes_eq, cond, length, length-append, refl, subst, sym}
 use Rattle.std.specs.Prelude.{◌||◌, drop, filter, flat_map, if◌then◌else◌, is_some, nat_le, not, slice_get, take}
 use Rattle.std.proofs.lemmas.Slice.Eq.{bytes_eq-Decides}
@@ -22,6 +22,8 @@ use Rattle.plan_graph.specs.Graph.{targets_above, fault_past, files_of, first_fa
 use Rattle.plan_text.specs.Outcome.{◌>>=◌}
 use Rattle.plan_graph.specs.Reading.{within_limit, is_own, with_producer, own_of, table_of, with_use, with_edge, with_edges, with_input, with_inputs, with_outputs, with_targets}
 
+-- === Paths and tables ===
+
 bytes_same : (a b : List ℕ) → bytes_eq a b ≡ true → a ≡ b
 bytes_same a b e = (bytes_eq-Decides a b).0 e
 
@@ -37,6 +39,7 @@ paths_shift path x xs b e f =
 paths_stay : (path x : Path) (xs : List Path) → bytes_eq path x ≡ true → with_path (x ∷ xs) path ≡ x ∷ xs
 paths_stay path x xs e = subst (λ t. (if t || is_among xs path then x ∷ xs else x ∷ (xs ++ path ∷ [])) ≡ x ∷ xs) (sym e) refl
 
+-- the paths of a table with one path more
 pub paths_with : (files : Table) (path : Path) (file : File) → paths_in (with_file files path file) ≡ with_path (paths_in files) path
 paths_with [] path file = refl
 paths_with (f ∷ fs) path file =
@@ -80,6 +83,7 @@ or_or : (a b c : Bool) → ((a || b) || c) ≡ (a || (b || c))
 or_or true b c = refl
 or_or false b c = refl
 
+-- whether any of two lists passes a test
 pub any_append : {X : Type 0} (test : X → Bool) (xs ys : List X) → list_any test (xs ++ ys) ≡ (list_any test xs || list_any test ys)
 any_append test [] ys = refl
 any_append test (x ∷ xs) ys = ap (λ b. test x || b) (any_append test xs ys) ∙ sym (or_or (test x) (list_any test xs) (list_any test ys))
@@ -91,6 +95,8 @@ one_among false i p e = refl
 none_among : (b : Bool) (i p : Path) → bytes_eq p i ≡ false → is_among (cond b (i ∷ []) []) p ≡ false
 none_among true i p e = ap (λ c. c || false) e
 none_among false i p e = refl
+
+-- === One output, one input ===
 
 -- what is known after one output, and after one input
 producer_with_producer : (files : Table) (number : ℕ) (o p : Path) → producer_in (with_file files o (with_producer number (file_of o files))) p ≡ (if bytes_eq p o then Some number else producer_in files p)
@@ -123,6 +129,8 @@ use_with_use own files i p =
           ∙ ap (λ b. is_used files p || b) (sym (one_among (counts own (producer_in files) i) i p e))
       | false ↦ λ e. sym (ap (λ b. is_used files p || b) (none_among (counts own (producer_in files) i) i p e) ∙ or_false (is_used files p))
     ] refl
+
+-- === The outputs of an edge ===
 
 -- the table after some outputs, where none was made before
 record Outputs (files : Table) (number : ℕ) (os : List Path) (more : Table) : Type 0 where
@@ -183,6 +191,8 @@ reads_outputs files number above (o ∷ os) known =
           next_outputs files number above o os (with_outputs more number os) e skip (reads_outputs more number (above ++ o ∷ []) os (next_known files number above o known))
     ] refl
 
+-- === The inputs of an edge ===
+
 -- the table after some inputs
 record Inputs (own : Option ℕ) (files : Table) (is : List Path) (more : Table) : Type 0 where
   pub paths : paths_in more ≡ with_paths (paths_in files) is
@@ -233,6 +243,8 @@ plus_nothing n = omega arith
 
 nothing_plus : (n : ℕ) → 0 + n ≡ n
 nothing_plus n = omega arith
+
+-- === An edge behind others ===
 
 -- the producer of a path among some edges and one more
 producer_last : (n : ℕ) (above : List Edge) (e : Edge) (p : Path)
@@ -298,6 +310,8 @@ or_nothing (Some x) = refl
 below_limit : (n limit : ℕ) → nat_le limit n ≡ false → n < limit
 below_limit n limit h = leb-false limit n h
 
+-- === A table that fits one edge more ===
+
 -- the table after one edge more
 fits_next : (files outputs all : Table) (above : List Edge) (e : Edge) → Fits files above → nat_le max_edges (length above) ≡ false
     → Outputs files (length above) (outputs_of e) outputs → Inputs (own_of (length above) e) outputs (inputs_named e) all → Fits all (above ++ e ∷ [])
@@ -357,6 +371,8 @@ reads_edge : (files : Table) (above : List Edge) (e : Edge) → Fits files above
 reads_edge files above e fits =
     after_outputs files above e (with_outputs files (length above) (outputs_of e)) fits
     (reads_outputs files (length above) (flat_map outputs_of above) (outputs_of e) (λ p. ap is_some (fits.producers p) ∙ producer_known 0 above p))
+
+-- === All edges and targets ===
 
 -- what the check of targets says
 abbrev told : Table → Option GraphFault → Result Table GraphFault

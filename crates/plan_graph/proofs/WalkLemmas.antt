@@ -1,4 +1,4 @@
--- How a walk goes on.
+-- How a walk goes on. Serves src/walk.rt and src/cycle.rt.
 use Rattle.std.proofs.Common.{◌≡◌, ◌≢◌, ℕ, zero, suc, ◌+◌, ◌-◌, ◌*◌, ◌<◌, ◌≤◌, max, List, [], ◌∷◌, ◌++◌, length, refl, sym, ◌∙◌, ap, subst, arith, get_or, set, Some, ◌⊎◌, inl, inr, length-append, length-set, get_or-set_same, get_or-set_other, take, drop, drop-cons, map}
 use Rattle.std.specs.Prelude.{◌==◌, All, replicate, slice_get, slice_index, Contains}
 use Rattle.std.specs.List.Sorted.{IsPermutation}
@@ -18,6 +18,8 @@ use Rattle.plan_graph.specs.declared.mark.Mark.TheVariants.{New, Open, Done}
 use Rattle.plan_graph.specs.Cycles.{WaitsFor, Chain, IsCycle, IsLeastFirst, IsSimple, rank_over}
 use Rattle.plan_graph.specs.Walking.{AllDone, DoneTo, IsWalk, KeepsMarks, is_pending, left, left_of, pending}
 use Rattle.plan_graph.proofs.MemberLemmas.{In, append_left, append_right, contained, in_append, in_list}
+
+-- === Marks, ranks and paths behind a change ===
 
 get_same : {X : Type 0} (xs : List X) (i : ℕ) (y : X) → i < length xs → slice_get (set xs i y) i ≡ Some y
 get_same [] i y h = absurd (omega (arith, h))
@@ -57,6 +59,7 @@ at_end path x = let h : get_or (path ++ x ∷ []) (length path + 0) 0 ≡ x = ge
 before_end : (path : List ℕ) (x i : ℕ) → i < length path → slice_index (path ++ x ∷ []) i ≡ slice_index path i
 before_end path x i h = get_or_append_left path (x ∷ []) 0 i h
 
+-- the length of a path with one edge more
 pub length_end : (path : List ℕ) (x : ℕ) → length (path ++ x ∷ []) ≡ length path + 1
 length_end path x = length-append path (x ∷ [])
 
@@ -64,6 +67,8 @@ end_cases : (path : List ℕ) (x i : ℕ) → i < length (path ++ x ∷ []) → 
 end_cases path x i h = let l : length (path ++ x ∷ []) ≡ length path + 1 = length_end path x in
     let le : i ≤ length path = omega (arith, l, h) in
     elim (eq-or-lt_of_le le) [ inl e ↦ inr e | inr lt ↦ inl lt ]
+
+-- === Chains ===
 
 -- chains that are cut, that go on, and that meet
 chain_front : (waits : List (List ℕ)) (xs ys : List ℕ) → Chain waits (xs ++ ys) → Chain waits xs
@@ -77,6 +82,7 @@ chain_back waits (x ∷ []) [] h = tt
 chain_back waits (x ∷ []) (y ∷ ys) h = h.1
 chain_back waits (x ∷ z ∷ xs) ys h = chain_back waits (z ∷ xs) ys h.1
 
+-- a chain with one edge more, which its last waits for
 pub chain_push : (waits : List (List ℕ)) (front : List ℕ) (top next : ℕ) → Chain waits (front ++ top ∷ []) → WaitsFor waits top next → Chain waits ((front ++ top ∷ []) ++ next ∷ [])
 chain_push waits [] top next h w = (w, tt)
 chain_push waits (x ∷ []) top next h w = (h.0, (w, tt))
@@ -87,10 +93,13 @@ chain_join waits [] y ys h g = g
 chain_join waits (x ∷ []) y ys h g = (h.0, g)
 chain_join waits (x ∷ z ∷ xs) y ys h g = (h.0, chain_join waits (z ∷ xs) y ys h.1 g)
 
+-- === What is left to do ===
+
 -- what was done to i stays done to i
 done_to_kept : (marks : List Mark) (i : ℕ) (y : Mark) (row : List ℕ) (n : ℕ) → slice_get marks i ≢ Some Done → DoneTo marks row n → DoneTo (set marks i y) row n
 done_to_kept marks i y row n not_done h k lt = get_other marks i (slice_index row k) y (λ e. not_done (ap (slice_get marks) (sym e) ∙ h k lt)) ∙ h k lt
 
+-- a mark that is not new leaves what is new as it was
 pub marks_kept : (marks : List Mark) (i : ℕ) (y : Mark) → y ≢ New → KeepsMarks marks (set marks i y)
 marks_kept marks i y old e h = elim (get_cases marks i e y New h) [ inl c ↦ absurd (old c.1) | inr c ↦ c.1 ]
 
@@ -98,6 +107,7 @@ marks_kept marks i y old e h = elim (get_cases marks i e y New h) [ inl c ↦ ab
 not_new : (waits : List (List ℕ)) (marks : List Mark) (passed ranks path : List ℕ) (next : ℕ) → IsWalk waits marks passed ranks path → slice_get marks next ≡ Some New → (i : ℕ) → i < length path → slice_index path i ≢ next
 not_new waits marks passed ranks path next w fresh i lt same = let e : slice_get marks next ≡ Some Open = subst (λ v. slice_get marks v ≡ Some Open) same (w.on_path i lt) in cc
 
+-- opening an edge leaves less to do
 pub left_open : (marks : List Mark) (i : ℕ) → i < length marks → slice_get marks i ≡ Some New → left (set marks i Open) < left marks
 left_open marks i h e =
     let s : left (set marks i Open) + left_of (get_or marks i New) ≡ left marks + 1 = sum_by-set left_of marks i Open New h in
@@ -105,6 +115,7 @@ left_open marks i h e =
     let k : left_of (get_or marks i New) ≡ 2 = ap left_of g in
     omega (arith, s, k)
 
+-- so does closing one
 pub left_done : (marks : List Mark) (i : ℕ) → i < length marks → slice_get marks i ≡ Some Open → left (set marks i Done) < left marks
 left_done marks i h e =
     let s : left (set marks i Done) + left_of (get_or marks i New) ≡ left marks + 0 = sum_by-set left_of marks i Done New h in
@@ -123,6 +134,9 @@ pending_done marks i h e =
     let k : is_pending (get_or marks i New) ≡ 1 = ap is_pending (get_or_from_slice_get marks i Open New e) in
     omega (arith, s, k)
 
+-- === An edge that is opened or closed ===
+
+-- what holds of a walk holds behind an edge that is opened
 pub opens : (waits : List (List ℕ)) (marks : List Mark) (passed ranks path : List ℕ) (next : ℕ) → IsWalk waits marks passed ranks path → slice_get marks next ≡ Some New
     → Chain waits (path ++ next ∷ []) → IsWalk waits (set marks next Open) passed ranks (path ++ next ∷ [])
 opens waits marks passed ranks path next w fresh waited =
@@ -181,6 +195,7 @@ rank_low marks ranks (w ∷ ws) bound low h =
     let rest : rank_over ranks ws ≤ bound = rank_low marks ranks ws bound low h.1 in
     omega (arith, first, rest)
 
+-- what holds of a walk holds behind an edge that is closed
 pub closes : (waits : List (List ℕ)) (marks : List Mark) (passed ranks path front : List ℕ) (top r : ℕ) → IsWalk waits marks passed ranks path → path ≡ front ++ top ∷ []
     → AllDone marks (get_or waits top []) → r ≡ rank_over ranks (get_or waits top []) → IsWalk waits (set marks top Done) passed (set ranks top r) front
 closes waits marks passed ranks path front top r w p alldone rank =
@@ -226,14 +241,18 @@ closes waits marks passed ranks path front top r w p alldone rank =
       most = omega (arith, most, less, same);
     }
 
+-- the last of the path is open
 pub top_open : (waits : List (List ℕ)) (marks : List Mark) (passed ranks path front : List ℕ) (top : ℕ) → IsWalk waits marks passed ranks path → path ≡ front ++ top ∷ [] → slice_get marks top ≡ Some Open
 top_open waits marks passed ranks path front top w p =
     let long : length path ≡ length front + 1 = ap length p ∙ length_end front top in
     subst (λ v. slice_get marks v ≡ Some Open) (ap (λ q. slice_index q (length front)) p ∙ at_end front top) (w.on_path (length front) (omega (arith, long)))
 
+-- a list with one item more, without it
 pub take_end : (front : List ℕ) (x : ℕ) → take (length front) (front ++ x ∷ []) ≡ front
 take_end [] x = refl
 take_end (y ∷ front) x = ap (λ ys. y ∷ ys) (take_end front x)
+
+-- === The cycle that a path closes ===
 
 -- the cycle that a path closes: from a place on
 cycle_at : (waits : List (List ℕ)) (xs : List ℕ) (y : ℕ) (ys : List ℕ) → Chain waits ((xs ++ y ∷ ys) ++ y ∷ []) → IsCycle waits (y ∷ ys)
@@ -249,19 +268,24 @@ cycle_turned waits (x ∷ xs) y ys h =
     let joined : Chain waits ((y ∷ ys) ++ (x ∷ (xs ++ y ∷ []))) = chain_join waits (y ∷ ys) x (xs ++ y ∷ []) back front in
     subst (Chain waits) (ap (λ (zs : List ℕ). y ∷ zs) (sym (append_assoc ys (x ∷ xs) (y ∷ [])))) joined
 
+-- === Marks ===
+
 other_mark : (m : Mark) → m ≢ New → m ≢ Done → m ≡ Open
 other_mark New a b = absurd (a refl)
 other_mark Open a b = refl
 other_mark Done a b = absurd (b refl)
 
+-- what is neither new nor done is open
 pub is_open : (marks : List Mark) (next : ℕ) → next < length marks → get_or marks next New ≢ New → slice_get marks next ≢ Some Done → slice_get marks next ≡ Some Open
 is_open marks next lt new done =
     let g : slice_get marks next ≡ Some (get_or marks next New) = slice_get-get_or marks next New lt in
     g ∙ ap (λ x. Some x) (other_mark (get_or marks next New) new (λ d. done (g ∙ ap (λ x. Some x) d)))
 
+-- the marks differ
 pub open_not_new : Open ≢ New
 open_not_new e = cc
 
+-- the marks differ
 pub done_not_new : Done ≢ New
 done_not_new e = cc
 
@@ -276,8 +300,11 @@ pub all_done : (marks : List Mark) (row : List ℕ) → DoneTo marks row (length
 all_done marks [] h = tt
 all_done marks (w ∷ ws) h = (h 0 (omega arith), all_done marks ws (λ i lt. h (suc i) (omega (arith, lt))))
 
+-- an edge that is opened is not new
 pub opened_not_new : (marks : List Mark) (i : ℕ) → i < length marks → slice_get (set marks i Open) i ≢ Some New
 opened_not_new marks i h e = let here : slice_get (set marks i Open) i ≡ Some Open = get_same marks i Open h in cc
+
+-- === A cycle from its least edge on ===
 
 -- each of two parts of a list is within it
 part_in : (waits : List (List ℕ)) (cycle : List ℕ) (at : ℕ) (y : ℕ) (ys : List ℕ) (x : ℕ) → drop at cycle ≡ y ∷ ys → In x (ys ++ take at cycle) → In x cycle
@@ -330,6 +357,8 @@ cycle_closed waits path edge place h here chain =
     let split : drop place path ≡ edge ∷ rest = drop-cons path place 0 h ∙ ap (λ (x : ℕ). x ∷ rest) here in
     let whole : path ≡ take place path ++ (edge ∷ rest) = sym (ap (λ (zs : List ℕ). take place path ++ zs) (sym split) ∙ take-append-drop place path) in
     subst (IsCycle waits) (sym split) (cycle_at waits (take place path) edge rest (subst (λ (zs : List ℕ). Chain waits (zs ++ edge ∷ [])) whole chain))
+
+-- === What was passed; the beginning and the end of a walk ===
 
 -- what an edge waits for was passed as far as it is done
 pub passes : (waits : List (List ℕ)) (marks : List Mark) (passed ranks path : List ℕ) (e n : ℕ) → IsWalk waits marks passed ranks path → e < length waits → n ≤ length (get_or waits e []) → DoneTo marks (get_or waits e []) n

@@ -1,4 +1,4 @@
--- Lines of a block read in order.
+-- Lines of a block read in order. Serves src/block.rt.
 use Rattle.std.proofs.Common.{◌≡◌, ℕ, ◌+◌, ◌<◌, Bool, true, false, List, [], ◌∷◌, ◌++◌, length, get_or, take, drop, Result, Ok, Err, refl, sym, ap, ◌∙◌, append_assoc}
 use Rattle.std.specs.Prelude.{◌||◌}
 use Rattle.std.specs.List.{list_any}
@@ -41,6 +41,7 @@ lines_from ms i m h e = ap block_lines_of (drop_more ms i m h ∙ ap (λ (x : th
 pub lines_to : (ms : List the_line.BlockLine) (i : ℕ) (m : the_line.BlockLine) → i < length ms → m ≡ get_or ms i m → block_lines_of (take (i + 1) ms) ≡ block_lines_of (take i ms) ++ block_line_of m ∷ []
 lines_to ms i m h e = ap block_lines_of (take_more ms i m h ∙ ap (λ (x : the_line.BlockLine). take i ms ++ x ∷ []) (sym e)) ∙ map_push block_line_of (take i ms) m
 
+-- whether any of some passes a test, with one more
 pub any_more : {A : Type 0} (test : A → Bool) (xs : List A) (x : A) → list_any test (xs ++ x ∷ []) ≡ list_any test xs || test x
 any_more test [] x = or_false (test x) where
   or_false : (v : Bool) → v || false ≡ v

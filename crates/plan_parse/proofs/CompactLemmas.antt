@@ -1,4 +1,4 @@
--- A statement that is a binding is read again from its line.
+-- A statement that is a binding is read again from its line. Serves src/compact.rt.
 use Rattle.std.proofs.Common.{◌≡◌, ℕ, Bool, true, false, if◌then◌else◌, List, length, Result, Ok, Err, refl, subst, codes}
 use Rattle.std.specs.Str.{bytes_eq}
 use Rattle.plan_parse.specs.declared.fault.ParseFault.{ParseFault}

@@ -1,4 +1,4 @@
--- Reading paths from left to right.
+-- Reading paths from left to right. Serves src/reading.rt.
 use Rattle.std.proofs.Common.{◌≡◌, ℕ, zero, suc, ◌+◌, ◌-◌, ◌<◌, ◌≤◌, List, [], ◌∷◌, ◌++◌, length, take, get_or, drop, Result, Ok, Err, refl, sym, ap, ◌∙◌, append_assoc, arith, add-zero, eqb, ◌==◌, Bool, true, false, not, ◌||◌, cond, unwrap_or}
 use Rattle.std.specs.Prelude.{nat_lt}
 use Rattle.std.specs.List.{prefix_len}
@@ -24,6 +24,7 @@ abbrev pub with_front : List (List Piece) → Result (List (List Piece) × Place
 with_front front (Ok x) = Ok (front ++ x.0, x.1)
 with_front front (Err e) = Err e
 
+-- no path in front changes nothing
 pub front_none : (r : Result (List (List Piece) × Place) ParseFault) → with_front [] r ≡ r
 front_none (Ok x) = refl
 front_none (Err e) = refl
@@ -49,6 +50,7 @@ run_within size [] n = omega arith
 run_within size (b ∷ rest) (suc n) = let e = run_within size rest n in omega (arith, e)
 run_within size (b ∷ rest) zero = within_front (λ n. run_past size rest n) (length rest) (size (b ∷ rest)) (λ n. run_within size rest n)
 
+-- no gap follows a gap
 pub gap_over : (p : Place) → gap_len (past_gap p).bytes ≡ 0
 gap_over p = run_over gap_unit p.bytes 0
 

@@ -1,4 +1,4 @@
--- What a statement says doesn't depend on where it stands.
+-- What a statement says doesn't depend on where it stands. Serves the law statements_join.
 use Rattle.std.proofs.Common.{◌≡◌, ℕ, ◌+◌, ◌==◌, Bool, ◌||◌, ◌&&◌, true, false, not, cond, List, [], ◌∷◌, ◌++◌, length, Result, Ok, Err, refl, ap, subst, ◌∙◌}
 use Rattle.std.specs.Prelude.{codes}
 use Rattle.std.specs.List.{list_any}
@@ -17,6 +17,8 @@ use Rattle.plan_parse.specs.Reading.{Place, past, past_gap, name_of, name_at, by
 use Rattle.plan_parse.specs.Blocks.{BlockLine, Text, Refused}
 use Rattle.plan_parse.specs.Statements.{binding_at, block_line_at, no_block_allowed, is_named, required_name, unknown_variable, missing_or_repeated, may_bind, block_variable_at, block_variables_at, has_required, named_line, named_block, rule_of, pool_of, depth_of, is_bar, is_two_bars, is_validation, implicit_at, order_only_at, no_validation, some_path, outputs_at, inputs_at, build_of, targets_at, default_of, some_byte, file_at, include_of, subninja_of, binding_of, statement_of}
 use Rattle.plan_parse.proofs.LikeLemmas.{Like, Same, SameText, SameFound, bind_like, here, by_text, name_like, byte_like, end_like, value_like, paths_like, one_path_like, by_test, unless_test}
+
+-- === Bindings and lines of blocks ===
 
 -- `name = value`
 bound_rest : List ℕ × Place → Result Binding ParseFault
@@ -44,6 +46,7 @@ SameBlockLine (Refused e) (Refused f) = Unit {0}
 SameBlockLine (Text p) (Refused f) = ⊥
 SameBlockLine (Refused e) (Text q) = ⊥
 
+-- lines of two blocks that say the same, one by one
 abbrev pub SameBlockLines : List BlockLine → List BlockLine → Type 0
 SameBlockLines [] [] = Unit {0}
 SameBlockLines (m ∷ ms) (n ∷ ns) = SameBlockLine m n × SameBlockLines ms ns
@@ -84,6 +87,8 @@ block_lines_like (m ∷ a) (n ∷ b) h =
     (block_line_like m n h.0) (λ x y e. cons_like x y e (each block_line_at a) (each block_line_at b) (block_lines_like a b h.1))
 block_lines_like [] (n ∷ b) h = absurd h
 block_lines_like (m ∷ a) [] h = absurd h
+
+-- === Lines of a rule or a pool ===
 
 -- lines of a rule or a pool
 named_same : (name : List ℕ) (p q : Place) → SameText p q → is_named name (Text p) ≡ is_named name (Text q)
@@ -154,6 +159,8 @@ block_like o i j p q a b e h =
     pair : (x y : List ℕ) (v w : List Binding) → x ≡ y → v ≡ w → ◌≡◌ {A = List ℕ × List Binding} (x, v) (y, w)
     pair x y v w f g = rw (f, g) refl
 
+-- === Lists of paths ===
+
 -- lists of paths
 list_by : (t : Bool) (r q : Result (List (List Piece) × Place) ParseFault) (x y : List (List Piece) × Place) → Like SameFound r q → SameFound x y → Like SameFound (cond t r (Ok x)) (cond t q (Ok y))
 list_by true r q x y h k = h
@@ -220,6 +227,8 @@ inputs_like p q e =
   where
     triple : (a b c d e f : List (List Piece)) → a ≡ b → c ≡ d → e ≡ f → ◌≡◌ {A = Inputs} (a, c, e) (b, d, f)
     triple a b c d e f g h k = rw (g, h, k) refl
+
+-- === Statements ===
 
 -- statements of one text, at these offsets
 abbrev pub AtOffsets : ℕ → ℕ → Statement → Statement → Type 0
@@ -328,5 +337,6 @@ at_here i j v a b h =
     (no_block_behind i j (λ at x. record { offset = at; kind = kind.Subninja x }) (λ x. (refl, refl, refl)) (file_at p) (file_at q) a b (file_like p q refl) h)
     (no_block_behind i j (λ at x. record { offset = at; kind = kind.Binding x }) (λ x. (refl, refl, refl)) (binding_at (here i v)) (binding_at (here j v)) a b (binding_like (here i v) (here j v) refl) h)
 
+-- two lines that say the same, with blocks that do, are alike as statements
 pub statement_like : (p q : Place) (a b : List BlockLine) → SameText p q → SameBlockLines a b → Like (AtOffsets p.at q.at) (statement_of p a) (statement_of q b)
 statement_like p q a b e h = subst (λ (v : List ℕ). Like (AtOffsets p.at q.at) (statement_of p a) (statement_of (here q.at v) b)) e (at_here p.at q.at p.bytes a b h)

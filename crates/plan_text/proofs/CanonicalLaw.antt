@@ -1,10 +1,10 @@
--- What is canonical stays.
+-- What is canonical stays. Serves the law canonical_stays.
 use Rattle.std.proofs.Common.{◌≡◌, ℕ, suc, ◌+◌, ◌<◌, ◌≤◌, Bool, true, false, cond, List, [], ◌∷◌, ◌++◌, length, Ok, refl, sym, ap, subst, ◌∙◌, arith, eqb, length-append}
 use Rattle.std.specs.List.{join_with_byte, onto_first}
 use Rattle.std.proofs.lemmas.List.Splits.{join_with_byte-slice_split, length-slice_split, slice_split-cons_no}
 use Rattle.plan_text.specs.Path.{is_current_dir, is_parent_dir, normal_onto, reduced, without_parent_dirs, components_of, relative_path, absolute_path, canonical_of}
 use Rattle.plan_text.specs.Reducing.{AllParentDirs, AllNormal}
-use Rattle.plan_text.proofs.ReducingLemmas.{reduced-kept, reduced-normal, normal_onto-up, normal_onto-normal, without_parent_dirs-normal, without_parent_dirs-kept}
+use Rattle.plan_text.proofs.PathLemmas.{reduced-kept, reduced-normal, normal_onto-up, normal_onto-normal, without_parent_dirs-normal, without_parent_dirs-kept}
 
 abbrev Slashless : List ℕ → Type 0
 Slashless [] = Unit {0}
@@ -189,6 +189,7 @@ stays_by b rest false =
     let light = reduced_lighter (components_of (b ∷ rest)) in
     relative_stays (reduced (components_of (b ∷ rest))) (suc (length rest)) (omega arith) (shaped (components_of (b ∷ rest))) (reduced_whole (components_of (b ∷ rest)) (components_slashless (b ∷ rest))) (omega (arith, weighs, light))
 
+-- a canonical form is canonical itself, has a byte, and is no longer than its path
 pub stays : (path form : List ℕ) → canonical_of path ≡ Ok form → Stays (length path) form
 stays [] form e = cc
 stays (b ∷ rest) form e =

@@ -3,7 +3,7 @@ use Rattle.std.proofs.lemmas.List.{append_assoc}
 use Rattle.plan_graph.specs.Files.{Path, numbers_past, paths_in, with_paths}
 use Rattle.plan_graph.specs.Reading.{with_inputs}
 use Rattle.plan_graph.proofs.NumberLemmas.{inputs_paths, row_more}
-use Rattle.plan_graph.proofs.ReadingLemmas.{inputs_app, ok_is, okay, three_inputs}
+use Rattle.plan_graph.proofs.EdgeReaderLemmas.{inputs_app, ok_is, okay, three_inputs}
 use Rattle.plan_graph.proofs.edge_reader.with_all_inputs.Goals as goal
 
 pub returns-clause-table : goal.returns-clause-table

@@ -3,7 +3,7 @@ use Rattle.std.proofs.lemmas.Result.{err_from_is_err_and}
 use Rattle.plan_graph.specs.Files.{Path, numbers_past, paths_in}
 use Rattle.plan_graph.specs.Reading.{with_outputs}
 use Rattle.plan_graph.proofs.NumberLemmas.{outputs_paths, row_more}
-use Rattle.plan_graph.proofs.ReadingLemmas.{two_outputs, outputs_refused}
+use Rattle.plan_graph.proofs.EdgeReaderLemmas.{two_outputs, outputs_refused}
 use Rattle.plan_graph.proofs.edge_reader.with_all_outputs.Goals as goal
 
 pub returns-in_err-with_outputs-clause-table : goal.returns-in_err-with_outputs-clause-table

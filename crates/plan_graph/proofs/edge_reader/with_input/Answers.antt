@@ -3,8 +3,8 @@ use Rattle.std.specs.Prelude.{◌||◌}
 use Rattle.plan_graph.specs.declared.files.File.{File}
 use Rattle.plan_graph.specs.Files.{file_of, with_file}
 use Rattle.plan_graph.specs.Reading.{is_own, with_use}
-use Rattle.plan_graph.proofs.FileLemmas.{file_there, known_there}
-use Rattle.plan_graph.proofs.ReadingLemmas.{okay, used_stays}
+use Rattle.plan_graph.proofs.FilesLemmas.{file_there, known_there}
+use Rattle.plan_graph.proofs.EdgeReaderLemmas.{okay, used_stays}
 use Rattle.plan_graph.proofs.edge_reader.with_input.Goals as goal
 
 pub returns-then-file-clause-table : goal.returns-then-file-clause-table

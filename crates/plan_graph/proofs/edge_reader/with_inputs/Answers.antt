@@ -2,7 +2,7 @@ use Rattle.std.proofs.Common.{◌≡◌, ◌++◌, ◌+◌, ◌∙◌, List, ℕ
 use Rattle.plan_graph.specs.Files.{Path, number_of, numbers_past, paths_in}
 use Rattle.plan_graph.specs.Reading.{with_input}
 use Rattle.plan_graph.proofs.NumberLemmas.{input_path, inputs_step, numbers_step}
-use Rattle.plan_graph.proofs.ReadingLemmas.{ok_is}
+use Rattle.plan_graph.proofs.EdgeReaderLemmas.{ok_is}
 use Rattle.plan_graph.proofs.edge_reader.with_inputs.Goals as goal
 
 pub loop-input-preserved : goal.loop-input-preserved

@@ -4,8 +4,8 @@ use Rattle.plan_graph.specs.declared.fault.GraphFault.TheVariants.{TwoProducers}
 use Rattle.plan_graph.specs.declared.files.File.{File}
 use Rattle.plan_graph.specs.Files.{file_of, with_file}
 use Rattle.plan_graph.specs.Reading.{with_producer}
-use Rattle.plan_graph.proofs.FileLemmas.{file_there, known_there}
-use Rattle.plan_graph.proofs.ReadingLemmas.{okay, refused}
+use Rattle.plan_graph.proofs.FilesLemmas.{file_there, known_there}
+use Rattle.plan_graph.proofs.EdgeReaderLemmas.{okay, refused}
 use Rattle.plan_graph.proofs.edge_reader.with_output.Goals as goal
 
 pub returns-then-is_some-clause-table : goal.returns-then-is_some-clause-table

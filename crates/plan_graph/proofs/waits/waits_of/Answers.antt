@@ -1,8 +1,8 @@
 use Rattle.std.proofs.Common.{◌++◌, ◌∙◌, List, ℕ, ap, subst, sym}
 use Rattle.plan_graph.specs.Fitting.{IsAscending, producers, producers_at}
 use Rattle.plan_graph.specs.Graph.{inputs_named}
-use Rattle.plan_graph.proofs.ReadingLemmas.{row_is, row_okay}
-use Rattle.plan_graph.proofs.WaitLemmas.{producers_numbered, waits_are}
+use Rattle.plan_graph.proofs.EdgeReaderLemmas.{row_is, row_okay}
+use Rattle.plan_graph.proofs.WaitsLemmas.{producers_numbered, waits_are}
 use Rattle.plan_graph.proofs.waits.waits_of.Goals as goal
 
 pub returns : goal.returns

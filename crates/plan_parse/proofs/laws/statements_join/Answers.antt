@@ -1,4 +1,4 @@
-use Rattle.plan_parse.proofs.JoinLemmas.{joined}
+use Rattle.plan_parse.proofs.JoinLaw.{joined}
 use Rattle.plan_parse.proofs.laws.statements_join.Goals as goal
 
 pub returns : goal.returns

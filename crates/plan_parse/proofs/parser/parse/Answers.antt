@@ -9,7 +9,7 @@ use Rattle.plan_parse.specs.Compact.{said_in}
 use Rattle.plan_parse.specs.Blocks.{roles_of_lines}
 use Rattle.plan_parse.specs.Statements.{statements_of}
 use Rattle.plan_parse.specs.Progress.{state_of, statements_with, statements_at_end}
-use Rattle.plan_parse.proofs.ProgressLemmas.{ends}
+use Rattle.plan_parse.proofs.ParserLemmas.{ends}
 use Rattle.plan_parse.proofs.parser.parse.Goals as goal
 
 pub returns : goal.returns

@@ -1,5 +1,5 @@
 use Rattle.std.proofs.Common.{◌∙◌, ◌-◌, sym, rules, take, drop, length}
-use Rattle.plan_text.proofs.CanonicalLemmas.{cut_first, path_stays, rooted_stays}
+use Rattle.plan_text.proofs.CanonicalPathsLemmas.{cut_first, path_stays, rooted_stays}
 use Rattle.plan_text.proofs.canonical_paths.is_canonical.Goals as goal
 
 pub returns-in-47-clause-canonical : goal.returns-in-47-clause-canonical

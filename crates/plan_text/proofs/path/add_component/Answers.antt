@@ -1,7 +1,7 @@
 use Rattle.std.proofs.Common.{◌≡◌, true, false, sym, ◌∙◌, arith, is_some}
 use Rattle.plan_text.specs.Path.{is_parent_dir}
 use Rattle.plan_text.specs.Reducing.{kept_of}
-use Rattle.plan_text.proofs.ReducingLemmas.{adds_current_dir, shape_popped, shape_pushed, parent_dirs_pushed, takes_popped}
+use Rattle.plan_text.proofs.PathLemmas.{adds_current_dir, shape_popped, shape_pushed, parent_dirs_pushed, takes_popped}
 use Rattle.plan_text.proofs.path.add_component.Goals as goal
 
 pub returns-then-is_current_dir-clause-takes : goal.returns-then-is_current_dir-clause-takes

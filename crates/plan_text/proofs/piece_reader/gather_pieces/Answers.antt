@@ -2,7 +2,7 @@ use Rattle.std.proofs.Common.{◌+◌, ◌<◌, sym, ap, length, arith, length-d
 use Rattle.std.proofs.lemmas.List.{take_rest}
 use Rattle.std.proofs.lemmas.Result.{err_from_is_err_and}
 use Rattle.plan_text.specs.Gathering.{sign_of}
-use Rattle.plan_text.proofs.PieceLemmas.{passes_plain, goes_on, stops, ends}
+use Rattle.plan_text.proofs.PieceReaderLemmas.{passes_plain, goes_on, stops, ends}
 use Rattle.plan_text.proofs.piece_reader.gather_pieces.Goals as goal
 
 pub returns-then-at-text : goal.returns-then-at-text

@@ -1,6 +1,6 @@
 use Rattle.std.proofs.Common.{◌≡◌, ◌≤◌, ◌-◌, ◌+◌, length, drop}
 use Rattle.plan_text.specs.Pieces.{pieces_past}
-use Rattle.plan_text.proofs.PieceLemmas.{with_front}
+use Rattle.plan_text.proofs.PieceReaderLemmas.{with_front}
 use Rattle.plan_text.proofs.piece_reader.gather_pieces.Given as goal
 
 abbrev pub invariant-loop-gather : goal.invariant-loop-gather

@@ -6,7 +6,7 @@ use Rattle.plan_parse.specs.Compact.{said_in}
 use Rattle.plan_parse.specs.Views.{place_of}
 use Rattle.plan_parse.specs.BlockLines.{block_line_of, block_lines_of, line_role_of}
 use Rattle.plan_parse.specs.Progress.{state_of, head_of, statements_with}
-use Rattle.plan_parse.proofs.ProgressLemmas.{takes_below, takes_head}
+use Rattle.plan_parse.proofs.ParserLemmas.{takes_below, takes_head}
 use Rattle.plan_parse.proofs.parser.Reader.take.Goals as goal
 
 pub returns-in_ok-end_block-in-Head-clause-takes : goal.returns-in_ok-end_block-in-Head-clause-takes

@@ -1,4 +1,4 @@
--- Paths each part of which is normal.
+-- Paths each part of which is normal. Serves src/canonical_paths.rt.
 use Rattle.std.proofs.Common.{◌≡◌, ℕ, Bool, true, false, not, ◌&&◌, ◌<◌, List, [], ◌∷◌, length, Ok, refl, ap, sym, ◌∙◌, cond, eqb, arith, ◌≤◌, ◌-◌, get_or, take, drop}
 use Rattle.std.specs.List.{list_all, join_with_byte}
 use Rattle.std.proofs.lemmas.List.{take_rest}

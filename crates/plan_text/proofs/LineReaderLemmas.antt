@@ -1,4 +1,4 @@
--- Logical lines read from left to right.
+-- Logical lines read from left to right. Serves src/line_reader.rt.
 use Rattle.std.proofs.Common.{◌≡◌, ℕ, zero, suc, ◌+◌, ◌-◌, ◌<◌, ◌==◌, Bool, ◌||◌, ◌&&◌, true, false, cond, List, [], ◌∷◌, ◌++◌, length, get_or, take, drop, Result, Ok, Err, refl, sym, ap, subst, ◌∙◌, arith, add-zero, eqb, ◌≢◌}
 use Rattle.std.proofs.lemmas.Bool.{eqb-true, ltb-true}
 use Rattle.std.specs.Prelude.{nat_lt}
@@ -8,7 +8,7 @@ use Rattle.plan_text.specs.declared.fault.TextFault.{TextFault}
 use Rattle.plan_text.specs.declared.line_reader.Line.{Line}
 use Rattle.plan_text.specs.Lines.{newline_len, begins_newline, escaped_len, line_unit, comment_unit, indent_len, logical_len, Raw, raw_past, IsFirstLine}
 use Rattle.plan_text.specs.Runs.{run}
-use Rattle.plan_text.proofs.RunLemmas.{run_end, run_some}
+use Rattle.plan_text.proofs.RunReaderLemmas.{run_end, run_some}
 use Rattle.std.proofs.lemmas.Bool.Decides.{nat_tests}
 
 -- what was found, in front of what is found in the rest
@@ -38,6 +38,7 @@ line_progress b rest false e =
     let some = run_some line_unit b rest (line_unit_some b rest (eqb b dollar) e refl) in
     omega (arith, some)
 
+-- a text with a byte has a line or a newline with one
 pub progress : (s : List ℕ) (v : Bool) → 0 < length s → begins_with hash (drop (indent_len s) s) ≡ v → 0 < logical_len s + newline_len (drop (logical_len s) s)
 progress [] v h e = absurd (omega arith)
 progress (b ∷ rest) true h e =

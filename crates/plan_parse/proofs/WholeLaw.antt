@@ -1,4 +1,4 @@
--- Statements are whole.
+-- Statements are whole. Serves the law statements_are_whole.
 use Rattle.std.proofs.Common.{◌≡◌, ℕ, zero, suc, ◌+◌, ◌<◌, ◌==◌, Bool, true, false, not, ◌||◌, ◌&&◌, cond, List, [], ◌∷◌, ◌++◌, length, take, drop, Result, Ok, Err, refl, sym, ap, subst, ◌∙◌, arith}
 use Rattle.std.specs.Prelude.{codes}
 use Rattle.std.specs.List.{AllByRecursion, count_by, list_any, prefix_len}
@@ -31,6 +31,7 @@ pub record Found {A B : Type 0} (r : Result A ParseFault) (f : A → Result B Pa
   pub was : r ≡ Ok first
   pub gives : f first ≡ Ok y
 
+-- what goes well in two steps goes well in each
 pub found : {A B : Type 0} (r : Result A ParseFault) (f : A → Result B ParseFault) (y : B) → (r >>= f) ≡ Ok y → Found r f y
 found (Ok x) f y e = record { first = x; was = refl; gives = e }
 found (Err e) f y h = absurd cc
@@ -286,5 +287,6 @@ text_by text false ss e =
     let q = found (no_block_allowed (below (roles_of_lines (raw_lines text)))) (λ _. each statement_in (blocks_of (roles_of_lines (raw_lines text)))) ss e in
     blocks_whole (blocks_of (roles_of_lines (raw_lines text))) ss q.gives
 
+-- each statement of a text is whole
 pub all_whole : (text : List ℕ) (ss : List Statement) → statements_of text ≡ Ok ss → AllByRecursion IsWhole ss
 all_whole text ss e = text_by text (nat_lt max_source (length text)) ss e

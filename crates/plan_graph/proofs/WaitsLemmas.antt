@@ -1,4 +1,4 @@
--- What edges wait for, by the producers of their inputs.
+-- What edges wait for, by the producers of their inputs. Serves src/waits.rt and src/defaults.rt.
 use Rattle.std.proofs.Common.{◌≡◌, ◌<◌, ◌+◌, ℕ, zero, suc, List, [], ◌∷◌, ◌++◌, inl, inr, Bool, true, false, Option, Some, None, length, refl, ap, sym, subst, arith, ◌∙◌}
 use Rattle.std.specs.List.{list_any}
 use Rattle.std.specs.Prelude.{◌||◌, ◌==◌, flat_map, drop, filter, get_or, if◌then◌else◌, map, not, slice_get}
@@ -13,7 +13,7 @@ use Rattle.plan_graph.specs.Files.{Path, Table, file_at, producer_in, number_of,
 use Rattle.plan_graph.specs.Fitting.{Fits, IsAscending, producers, producers_at, unless_own}
 use Rattle.plan_graph.specs.Graph.{default_edges, inputs_named, inputs_of, producer_from, producer_of, is_last, produces_any, numbers_from, outputs_of, rows_of, waits_of}
 use Rattle.plan_graph.specs.Reading.{is_own, own_of}
-use Rattle.plan_graph.proofs.FileLemmas.{file_numbered}
+use Rattle.plan_graph.proofs.FilesLemmas.{file_numbered}
 use Rattle.plan_graph.proofs.InputLemmas.{inputs_are}
 use Rattle.plan_graph.proofs.MemberLemmas.{In, Rises, any_in, contained, filter_in, flat_in, in_any, in_filter, in_flat, in_list, rises_from, rises_lower, same_members, some_is}
 
@@ -36,6 +36,7 @@ pub record Numbered (n : ℕ) (test : Edge → Bool) (es : List Edge) (k : ℕ) 
 numbered_later : (n : ℕ) (test : Edge → Bool) (e : Edge) (es : List Edge) (k : ℕ) → Numbered (n + 1) test es k → Numbered n test (e ∷ es) k
 numbered_later n test e es k x = record { place = suc x.place; edge = x.edge; here = x.here; passes = x.passes; counts = omega (arith, x.counts) }
 
+-- a number that is given is that of an edge which passes the test
 pub numbers_given : (n : ℕ) (test : Edge → Bool) (es : List Edge) (k : ℕ) → In k (numbers_from n test es) → Numbered n test es k
 numbers_given n test [] k h = absurd h
 numbers_given n test (e ∷ es) k h =
@@ -44,6 +45,7 @@ numbers_given n test (e ∷ es) k h =
       | false ↦ λ t i. numbered_later n test e es k (numbers_given (n + 1) test es k i)
     ] refl h
 
+-- the number of an edge that passes the test is given
 pub numbers_kept : (n : ℕ) (test : Edge → Bool) (es : List Edge) (i : ℕ) (e : Edge) → slice_get es i ≡ Some e → test e ≡ true → In (n + i) (numbers_from n test es)
 numbers_kept n test [] i e h t = cc
 numbers_kept n test (x ∷ es) zero e h t =
@@ -167,6 +169,7 @@ next_waits edges i e rows row all h here is so_far =
     ∙ (ap (λ (r : List ℕ). rows ++ (r ∷ map (waits_of edges) (drop (i + 1) edges))) (sym is)
     ∙ (ap (λ (es : List Edge). rows ++ map (waits_of edges) es) (sym (drop_next edges i e h here)) ∙ so_far))
 
+-- the producers of targets, in ascending order, are the edges that are built by default
 pub named_defaults : (files : Table) (edges : List Edge) (defaults : List DefaultTarget) (row : List ℕ) → Fits files edges → (length defaults == 0) ≡ false
     → IsAscending (producers files None (map (λ t. t.path) defaults)) row → default_edges edges defaults ≡ row
 named_defaults files edges [] row fits some ascending = cc

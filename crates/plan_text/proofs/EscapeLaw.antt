@@ -1,4 +1,4 @@
--- Escaped bytes, read.
+-- Escaped bytes, read. Serves the law escaped_is_read.
 use Rattle.std.proofs.Common.{◌≡◌, ℕ, ◌+◌, ◌==◌, Bool, true, false, not, ◌||◌, ◌&&◌, cond, List, [], ◌∷◌, Result, Ok, refl, ap, ◌∙◌}
 use Rattle.std.specs.List.{list_all}
 use Rattle.plan_text.specs.Bytes.{nul, tab, space, dollar, colon}
@@ -36,6 +36,7 @@ alone mode at b rest more e f h =
     let allowed = either_false (b == nul) (b == tab && is_path mode) f in
     rw (plain.0, allowed.0, allowed.1) (ap (all_onto (Byte b)) h)
 
+-- escaped bytes are read as one literal
 pub escaped_read : (mode : Mode) (at : ℕ) (bytes : List ℕ) → list_all (is_allowed mode) bytes ≡ true → pieces_past mode at (escape_bytes bytes) 0 ≡ Ok (literal_of bytes)
 escaped_read mode at [] h = refl
 escaped_read mode at (b ∷ bytes) h =

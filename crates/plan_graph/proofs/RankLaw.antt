@@ -1,4 +1,4 @@
--- Ranks and cycles.
+-- Ranks and cycles. Serves the laws ranks_rise and ranked_unless_cyclic.
 use Rattle.std.proofs.Common.{◌≡◌, ◌≢◌, ◌<◌, ◌≤◌, ◌+◌, ◌++◌, ◌∷◌, [], ◌∙◌, ◌⊎◌, inl, inr, List, ℕ, zero, suc, Some, ap, arith, get_or, length, max, refl, set, subst, sym}
 use Rattle.std.specs.Prelude.{Contains, drop, replicate, slice_get, slice_index}
 use Rattle.std.proofs.lemmas.Bool.{cases_lt}
@@ -20,6 +20,7 @@ rank_above ranks (x ∷ xs) w h = elim h [
   | inr i ↦ let below : slice_index ranks w < rank_over ranks xs = rank_above ranks xs w i in omega (arith, below)
 ]
 
+-- the rank of an edge is greater than that of each edge which it waits for
 pub rise : (waits : List (List ℕ)) (ranks : List ℕ) (e w : ℕ) → AreRanks waits ranks → WaitsFor waits e w → slice_index ranks w < slice_index ranks e
 rise waits ranks e w are h = elim (cases_lt e (length waits)) [
   | inl here ↦
@@ -37,6 +38,7 @@ chain_falls waits ranks x (z ∷ xs) y are h =
     let rest : slice_index ranks y < slice_index ranks z = chain_falls waits ranks z xs y are h.1 in
     omega (arith, first, rest)
 
+-- where edges have ranks there is no cycle
 pub no_cycle : (waits : List (List ℕ)) (ranks es : List ℕ) → AreRanks waits ranks → IsCycle waits es → ⊥
 no_cycle waits ranks [] are h = h
 no_cycle waits ranks (e ∷ es) are h = let falls : slice_index ranks e < slice_index ranks e = chain_falls waits ranks e es e are h in omega (arith, falls)
@@ -154,6 +156,7 @@ walked : (waits : List (List ℕ)) → InRange waits → ((es : List ℕ) → Is
 walked waits range acyclic zero s h = elim (next_stage waits range acyclic s) [ inl r ↦ r | inr t ↦ absurd (omega (arith, h, t.1)) ]
 walked waits range acyclic (suc steps) s h = elim (next_stage waits range acyclic s) [ inl r ↦ r | inr t ↦ walked waits range acyclic steps t.0 (let less : left t.0.marks < left s.marks = t.1 in omega (arith, h, less)) ]
 
+-- where there is no cycle, edges have ranks
 pub ranked : (waits : List (List ℕ)) → InRange waits → ((es : List ℕ) → IsCycle waits es → ⊥) → (ranks : List ℕ) × AreRanks waits ranks
 ranked waits range acyclic =
     let n = length waits in

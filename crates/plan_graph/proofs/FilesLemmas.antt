@@ -1,4 +1,4 @@
--- What a table of paths shows of its set and of what is known of each path.
+-- What a table of paths shows of its set and of what is known of each path. Serves src/files.rt.
 use Rattle.std.proofs.Common.{◌≡◌, ◌<◌, ◌≤◌, ◌+◌, ℕ, true, false, List, [], ◌∷◌, ◌++◌, ◌∙◌, inl, inr, Bool, Option, Some, None, refl, ap, arith, bytes_eq, cond, get_or, length, map, not, set, sym, zero, suc}
 use Rattle.std.specs.Prelude.{◌||◌, if◌then◌else◌, position, nat_lt}
 use Rattle.std.specs.List.{list_any, position_or_len, zip}
@@ -45,6 +45,7 @@ number_past (p ∷ ps) path h =
     elim (bytes_eq path p) as (λ b. (b || is_among ps path) ≡ false → (if b then 0 else suc (number_of ps path)) ≡ length (p ∷ ps))
     [ true ↦ λ i. cc | false ↦ λ i. ap suc (number_past ps path i) ] h
 
+-- where a path stands among keys is its number
 pub number_is : {X : Type 0} (shown : X → Path) (path : Path) (keys : List X) → position_or_len (λ k. bytes_eq path (shown k)) keys ≡ number_of (map shown keys) path
 number_is shown path [] = refl
 number_is shown path (k ∷ ks) =
@@ -52,6 +53,7 @@ number_is shown path (k ∷ ks) =
     elim (bytes_eq path (shown k)) as (λ b. cond (not b) (1 + position_or_len (λ x. bytes_eq path (shown x)) ks) 0 ≡ (if b then 0 else suc (number_of (map shown ks) path)))
     [ true ↦ refl | false ↦ omega (arith, rest) ]
 
+-- a path is among keys where one shows it
 pub among_is : {X : Type 0} (shown : X → Path) (path : Path) (keys : List X) → list_any (λ k. bytes_eq path (shown k)) keys ≡ is_among (map shown keys) path
 among_is shown path [] = refl
 among_is shown path (k ∷ ks) = ap (λ (b : Bool). bytes_eq path (shown k) || b) (among_is shown path ks)
@@ -107,18 +109,22 @@ table_new shown keys fs key h new =
     ap (λ (qs : List Path). zip qs (fs ++ unknown ∷ [])) (map_push shown keys key)
     ∙ (zip_push ps fs (shown key) unknown long ∙ named_now (zip ps fs) (shown key) (ap (λ (qs : List Path). is_among qs (shown key)) (zip_paths ps fs long) ∙ new))
 
+-- a path that is there stays with what is known of it
 pub table_old : {X : Type 0} (shown : X → Path) (keys : List X) (fs : List File) (key : X) → length fs ≡ length keys → is_among (map shown keys) (shown key) ≡ true
     → zip (map shown keys) fs ≡ with_file (zip (map shown keys) fs) (shown key) (file_of (shown key) (zip (map shown keys) fs))
 table_old shown keys fs key h old =
     let ps = map shown keys in
     named_before (zip ps fs) (shown key) (ap (λ (qs : List Path). is_among qs (shown key)) (zip_paths ps fs (h ∙ sym (map_length shown keys))) ∙ old)
 
+-- the paths of a table are those of its keys
 pub paths_are : {X : Type 0} (shown : X → Path) (keys : List X) (fs : List File) → length fs ≡ length keys → paths_in (zip (map shown keys) fs) ≡ map shown keys
 paths_are shown keys fs h = zip_paths (map shown keys) fs (h ∙ sym (map_length shown keys))
 
+-- a table is as long as its keys
 pub table_length : {X : Type 0} (shown : X → Path) (keys : List X) (fs : List File) → length fs ≡ length keys → length (zip (map shown keys) fs) ≡ length keys
 table_length shown keys fs h = zip_length (map shown keys) fs (h ∙ sym (map_length shown keys)) ∙ map_length shown keys
 
+-- what is known at a number
 pub table_at : {X : Type 0} (shown : X → Path) (keys : List X) (fs : List File) (n : ℕ) → length fs ≡ length keys → file_at n (zip (map shown keys) fs) ≡ get_or fs n unknown
 table_at shown keys fs n h = file_zip (map shown keys) fs n (h ∙ sym (map_length shown keys))
 
@@ -131,6 +137,7 @@ zip_set (p ∷ ps) (f ∷ fs) path file h lt =
     → zip (p ∷ ps) (set (f ∷ fs) (if b then 0 else suc (number_of ps path)) file) ≡ (if b then (p, file) ∷ zip ps fs else (p, f) ∷ with_file (zip ps fs) path file))
     [ true ↦ λ _. refl | false ↦ λ l. ap (λ (t : Table). (p, f) ∷ t) (zip_set ps fs path file (omega (arith, h)) (omega (arith, l))) ] lt
 
+-- what is known of a path is set at its number
 pub table_set : {X : Type 0} (shown : X → Path) (keys : List X) (fs : List File) (path : Path) (file : File) (n : ℕ) → length fs ≡ length keys → n < length fs
     → n ≡ number_of (paths_in (zip (map shown keys) fs)) path → zip (map shown keys) (set fs n file) ≡ with_file (zip (map shown keys) fs) path file
 table_set shown keys fs path file n h lt e =
@@ -139,24 +146,30 @@ table_set shown keys fs path file n h lt e =
     let place : n ≡ number_of ps path = e ∙ ap (λ (qs : List Path). number_of qs path) (zip_paths ps fs long) in
     ap (λ k. zip ps (set fs k file)) place ∙ zip_set ps fs path file long (omega (arith, place, lt, long))
 
+-- where a number is found, it is that of the path
 pub place_given : (ps : List Path) (path : Path) (n : ℕ) → Some n ≡ (if is_among ps path then Some (number_of ps path) else None) → n ≡ number_of ps path
 place_given ps path n h = elim (is_among ps path) as (λ b. Some n ≡ (if b then Some (number_of ps path) else None) → n ≡ number_of ps path) [ true ↦ λ e. cc | false ↦ λ e. cc ] h
 
+-- where none is found, the path is not there
 pub place_missing : (ps : List Path) (path : Path) → ◌≡◌ {A = Option ℕ} None (if is_among ps path then Some (number_of ps path) else None) → is_among ps path ≡ false
 place_missing ps path h = elim (is_among ps path) as (λ b. ◌≡◌ {A = Option ℕ} None (if b then Some (number_of ps path) else None) → b ≡ false) [ true ↦ λ e. cc | false ↦ λ e. refl ] h
 
+-- of a path that is not there nothing is known
 pub file_missing : (files : Table) (path : Path) → is_among (paths_in files) path ≡ false → unknown ≡ file_of path files
 file_missing [] path h = refl
 file_missing (f ∷ fs) path h =
     elim (bytes_eq path f.0) as (λ b. (b || is_among (paths_in fs) path) ≡ false → unknown ≡ (if b then f.1 else file_of path fs)) [ true ↦ λ i. cc | false ↦ λ i. file_missing fs path i ] h
 
+-- a number that is not below a length
 pub not_below : (n len : ℕ) → false ≡ nat_lt n len → len ≤ n
 not_below n len h = elim (cases_lt n len) [ inl lt ↦ absurd (false≢true (h ∙ lt-ltb n len lt)) | inr ge ↦ ge ]
 
+-- a key that is new was not there
 pub was_new : (there new : Bool) → new ≡ not there → new ≡ true → there ≡ false
 was_new true new e h = sym h ∙ e
 was_new false new e h = refl
 
+-- a key that is not new was there
 pub was_old : (there new : Bool) → new ≡ not there → new ≡ false → there ≡ true
 was_old true new e h = refl
 was_old false new e h = sym h ∙ e
@@ -165,9 +178,11 @@ was_old false new e h = sym h ∙ e
 pub keys_new : {X : Type 0} (there : Bool) (keys : List X) (key : X) → there ≡ false → (if there then keys else keys ++ key ∷ []) ≡ keys ++ key ∷ []
 keys_new there keys key h = ap (λ (b : Bool). if b then keys else keys ++ key ∷ []) h
 
+-- keys stay where the key is there
 pub keys_old : {X : Type 0} (there : Bool) (keys : List X) (key : X) → there ≡ true → (if there then keys else keys ++ key ∷ []) ≡ keys
 keys_old there keys key h = ap (λ (b : Bool). if b then keys else keys ++ key ∷ []) h
 
+-- the number of a path is within the table that has it
 pub named_within : (files : Table) (path : Path) (file : File) → number_of (paths_in files) path < length (with_file files path file)
 named_within [] path file = omega arith
 named_within (f ∷ fs) path file =

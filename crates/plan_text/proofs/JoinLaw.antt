@@ -1,11 +1,11 @@
--- Lines of a text behind another one.
+-- Lines of a text behind another one. Serves the law lines_join.
 use Rattle.std.proofs.Common.{◌≡◌, ℕ, zero, suc, ◌+◌, ◌-◌, ◌<◌, ◌≤◌, ◌==◌, Bool, ◌&&◌, true, false, cond, List, [], ◌∷◌, ◌++◌, length, take, drop, refl, sym, ap, subst, ◌∙◌, arith, eqb, length-drop}
 use Rattle.std.proofs.lemmas.Bool.{eqb-true, ltb-true}
 use Rattle.std.proofs.lemmas.List.{take-append-le, drop-append-le, drop-drop}
 use Rattle.plan_text.specs.Bytes.{hash, dollar, space, is_space, begins_with}
 use Rattle.plan_text.specs.Lines.{newline_len, begins_newline, escaped_len, line_unit, comment_unit, indent_len, logical_len, Raw, raw_past, ended_past}
 use Rattle.plan_text.specs.Runs.{and_more, run_past, run}
-use Rattle.plan_text.proofs.CoverLemmas.{logical_within, newline_within}
+use Rattle.plan_text.proofs.CoverLaw.{logical_within, newline_within}
 
 -- a newline stays one, whatever follows
 newline_alone : (b : ℕ) (t : List ℕ) (f g : Bool) → 0 < cond f 1 (cond (g && false) 2 0) → cond {A = ℕ} f 1 (cond (g && begins_with 10 t) 2 0) ≡ cond f 1 (cond (g && false) 2 0)
@@ -136,5 +136,6 @@ joined_past at (b ∷ rest) t zero w h =
     ∙ ap (λ (v : List Raw). record { at = at; bytes = take len s } ∷ v) (joined_past (at + 1) rest t (len + newline_len (drop len s) - 1) (omega (arith, within, l, second)) parts.1)
     ∙ ap (λ (k : ℕ). record { at = at; bytes = take len s } ∷ (raw_past (at + 1) rest (len + newline_len (drop len s) - 1) ++ raw_past k t 0)) e
 
+-- behind a text whose lines are ended, the lines of another stay what they are
 pub joined : (at : ℕ) (s t : List ℕ) (n : ℕ) → ended_past s 0 ≡ true → raw_past at (s ++ t) 0 ≡ raw_past at s 0 ++ raw_past (at + length s) t 0
 joined at s t n h = joined_past at s t 0 (omega arith) h

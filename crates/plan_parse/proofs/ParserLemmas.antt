@@ -1,4 +1,4 @@
--- Blocks that end where the next begins.
+-- Blocks that end where the next begins. Serves src/parser.rt.
 use Rattle.std.proofs.Common.{◌≡◌, List, [], ◌∷◌, ◌++◌, Result, Ok, Err, Option, Some, refl, sym, ap, ◌∙◌, append_assoc}
 use Rattle.std.proofs.lemmas.List.{append-nil}
 use Rattle.plan_text.specs.Outcome.{◌>>=◌, each}

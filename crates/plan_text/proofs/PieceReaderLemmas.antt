@@ -1,4 +1,4 @@
--- Pieces gathered from left to right.
+-- Pieces gathered from left to right. Serves src/piece_reader.rt.
 use Rattle.std.proofs.Common.{◌≡◌, ℕ, zero, suc, ◌+◌, ◌<◌, ◌≤◌, ◌==◌, Bool, true, false, ◌||◌, ◌&&◌, cond, List, [], ◌∷◌, ◌++◌, length, get_or, take, drop, Result, Ok, Err, refl, sym, ap, ◌∙◌, append_assoc, arith, add-zero}
 use Rattle.std.proofs.lemmas.List.{drop_more, drop-drop, at_drop_all, take_all}
 use Rattle.std.proofs.lemmas.List.Sums.{fails_before_first}

@@ -1,4 +1,4 @@
--- Logical lines and their newlines, joined.
+-- Logical lines and their newlines, joined. Serves the law lines_cover.
 use Rattle.std.proofs.Common.{◌≡◌, inl, inr, ℕ, zero, suc, ◌+◌, ◌-◌, ◌<◌, ◌≤◌, Bool, ◌&&◌, true, false, cond, List, [], ◌∷◌, ◌++◌, length, take, drop, refl, sym, ap, subst, ◌∙◌, arith, eqb, length-drop}
 use Rattle.std.proofs.lemmas.Bool.{eqb-true, ltb-true}
 use Rattle.std.proofs.lemmas.List.{drop-drop, take-append-drop, length-take}
@@ -6,7 +6,7 @@ use Rattle.std.proofs.lemmas.List.Sums.{prefix_len-le-length}
 use Rattle.plan_text.specs.Bytes.{hash, dollar, begins_with, is_space}
 use Rattle.plan_text.specs.Lines.{newline_len, begins_newline, escaped_len, line_unit, comment_unit, indent_len, logical_len, Raw, raw_past, EndsLine, AreLinesOf}
 use Rattle.plan_text.specs.Runs.{and_more, run_past, run}
-use Rattle.plan_text.proofs.LineLemmas.{progress}
+use Rattle.plan_text.proofs.LineReaderLemmas.{progress}
 
 -- no unit stands where a run ends
 run_stops : (size : List ℕ → ℕ) → size [] ≡ 0 → (text : List ℕ) (n : ℕ) → size (drop (run_past size text n) text) ≡ 0
@@ -45,6 +45,7 @@ newline_ends : (text : List ℕ) → (0 < length text → 0 < newline_len text) 
 newline_ends [] h = inr (inr (refl, refl))
 newline_ends (b ∷ rest) h = ends_here b rest (eqb b 10) refl (h (omega arith))
 
+-- a newline is within its text
 pub newline_within : (text : List ℕ) → newline_len text ≤ length text
 newline_within [] = omega arith
 newline_within (b ∷ rest) = by (eqb b 10) (eqb b 13) rest where
@@ -94,6 +95,7 @@ within_by text true =
     omega (arith, first, more, length-drop (indent_len text) text)
 within_by text false = run_within line_unit text 0
 
+-- a logical line is within its text
 pub logical_within : (text : List ℕ) → logical_len text ≤ length text
 logical_within text = within_by text (begins_with hash (drop (indent_len text) text))
 
@@ -143,5 +145,6 @@ covers_past at (b ∷ rest) zero h =
         subst (λ (m : ℕ). AreLinesOf m (record { at = at; bytes = take (logical_len (b ∷ rest)) (b ∷ rest) } ∷ raw_past (at + 1) rest (suc n - 1)) (b ∷ rest)) z
         (rw k (one_line at (suc n) (b ∷ rest) (raw_past (at + 1) rest n) e (subst (λ (m : ℕ). AreLinesOf m (raw_past (at + 1) rest n) (drop n rest)) o (more n (omega arith)))))
 
+-- the lines of a text and their newlines, joined, are the text
 pub covers : (at : ℕ) (text : List ℕ) → AreLinesOf at (raw_past at text 0) text
 covers at text = let z : at + 0 ≡ at = omega arith in subst (λ (k : ℕ). AreLinesOf k (raw_past at text 0) text) z (covers_past at text 0 (omega arith))

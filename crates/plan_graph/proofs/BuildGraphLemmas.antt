@@ -1,4 +1,4 @@
--- What a graph stands on.
+-- What a graph stands on. Serves src/build_graph.rt.
 use Rattle.std.proofs.Common.{Bool, true, false, ◌≡◌, ◌≢◌, ◌<◌, ◌+◌, ◌++◌, ◌∷◌, [], ◌⊎◌, inl, inr, List, ℕ, zero, suc, Option, Some, None, Result, Ok, Err, ap, arith, ◌∙◌, get_or, length, refl, subst, sym}
 use Rattle.std.specs.Cmp.Lexicographic.{nat_list_eq_equiv}
 use Rattle.std.proofs.lemmas.Map.Views.{list_any-from_Contains}
@@ -21,8 +21,9 @@ use Rattle.plan_graph.specs.Walking.{InRange, TellsCycle}
 use Rattle.plan_graph.proofs.MemberLemmas.{in_list}
 use Rattle.plan_graph.proofs.NumberLemmas.{inputs_settle, outputs_settle}
 use Rattle.plan_graph.proofs.TableLemmas.{Reads, table_read}
-use Rattle.plan_graph.proofs.WaitLemmas.{numbers_given}
+use Rattle.plan_graph.proofs.WaitsLemmas.{numbers_given}
 
+-- where a manifest has a table, nothing is at fault, and the table fits its edges
 pub sound_table : (m : Manifest) (files : Table) → table_of m ≡ Ok files → (first_fault m ≡ None) × Fits files m.edges
 sound_table m files e = subst (Reads m.edges (first_fault m)) e (table_read m)
 
@@ -78,11 +79,13 @@ refuses_cycle m (TwoProducers path) sound h = absurd h
 refuses_cycle m (UnknownDefault path) sound h = absurd h
 refuses_cycle m TooManyEdges sound h = absurd h
 
+-- a row of a list made edge by edge: none, or that of an edge
 pub row_of : (f : Edge → List ℕ) (es : List Edge) (e : ℕ) → (get_or (map f es) e [] ≡ []) ⊎ ((x : Edge) × (get_or (map f es) e [] ≡ f x))
 row_of f [] e = inl refl
 row_of f (x ∷ es) zero = inr (x, refl)
 row_of f (x ∷ es) (suc e) = row_of f es e
 
+-- numbers of edges are less than how many there are
 pub numbers_below : (test : Edge → Bool) (edges : List Edge) → All (λ w. w < length edges) (numbers_from 0 test edges)
 numbers_below test edges k d h =
     let row = numbers_from 0 test edges in
@@ -104,6 +107,7 @@ waits_range edges e =
 abbrev okays : List (List ℕ) → Result (List (List ℕ)) GraphFault
 okays rows = Ok rows
 
+-- equal answers give equal rows
 pub rows_are : (x y : List (List ℕ)) → okays x ≡ okays y → x ≡ y
 rows_are x y e = cc
 
@@ -111,6 +115,7 @@ rows_are x y e = cc
 pub outputs_known : (files : Table) (edges : List Edge) (outputs : List (List ℕ)) → Fits files edges → outputs ≡ outputs_past [] edges → outputs ≡ rows_of outputs_of (paths_in files) edges
 outputs_known files edges outputs fits is = is ∙ (outputs_settle [] edges ∙ ap (λ (ps : List Path). rows_of outputs_of ps edges) (sym fits.paths))
 
+-- the numbers of inputs as they were read are those among all files
 pub inputs_known : (files : Table) (edges : List Edge) (inputs : List (List ℕ)) → Fits files edges → inputs ≡ inputs_past [] edges → inputs ≡ rows_of inputs_named (paths_in files) edges
 inputs_known files edges inputs fits is = is ∙ (inputs_settle [] edges ∙ ap (λ (ps : List Path). rows_of inputs_named ps edges) (sym fits.paths))
 

@@ -1,4 +1,4 @@
--- The statements of a text behind another one.
+-- The statements of a text behind another one. Serves the law statements_join.
 use Rattle.std.proofs.Common.{◌≡◌, ℕ, zero, suc, ◌+◌, ◌-◌, ◌≤◌, ◌==◌, Bool, true, false, cond, List, [], ◌∷◌, ◌++◌, length, drop, take, Result, Ok, Err, Option, Some, None, refl, sym, ap, ◌∙◌, arith, length-append}
 use Rattle.std.specs.Prelude.{map, nat_lt}
 use Rattle.std.specs.List.{position_or_len}
@@ -19,7 +19,7 @@ use Rattle.plan_parse.specs.Statements.{no_block_allowed, statement_of, statemen
 use Rattle.plan_parse.specs.Laws.{moved, leads, begins_block}
 use Rattle.plan_parse.proofs.LikeLemmas.{Like, SameText}
 use Rattle.plan_parse.proofs.StatementLemmas.{AtOffsets, SameBlockLine, SameBlockLines, statement_like}
-use Rattle.plan_parse.proofs.WholeLemmas.{found}
+use Rattle.plan_parse.proofs.WholeLaw.{found}
 
 -- what the same lines tell, k bytes further on
 abbrev SameTold : ℕ → LineRole → LineRole → Type 0
@@ -171,6 +171,7 @@ from_lines text roles ss l e f g =
     ∙ ap (λ (r : Result (Unit {0}) ParseFault). r >>= λ _. each statement_in (blocks_of roles)) f
     ∙ g
 
+-- behind a text whose lines are ended, the statements of one that begins a block follow, further on by its length
 pub joined : LinesJoin → (front back : List ℕ) (xs ys : List Statement) → has_ended_lines front ≡ true → begins_block back ≡ true → length front + length back ≤ max_source
     → statements_of front ≡ Ok xs → statements_of back ≡ Ok ys → statements_of (front ++ back) ≡ Ok (xs ++ map (moved (length front)) ys)
 joined join front back xs ys is_ended begins short first second =

@@ -1,4 +1,4 @@
--- How the components that stay grow by one component.
+-- How the components that stay grow by one component. Serves src/path.rt.
 use Rattle.std.proofs.Common.{◌≡◌, ℕ, true, false, List, [], ◌∷◌, ◌++◌, refl, sym, ap, subst, ◌∙◌, append_assoc, Option, Some, None, is_some, take, get_or, ◌<◌, ◌+◌, suc, length, arith}
 use Rattle.std.proofs.lemmas.List.{take_more, length-take}
 use Rattle.std.specs.Prelude.{option_to_list}
@@ -29,9 +29,11 @@ component_onto-up p rest e f = rw (e, f) refl
 component_onto-normal : (p : List ℕ) (rest : List (List ℕ)) → is_current_dir p ≡ false → is_parent_dir p ≡ false → component_onto p rest ≡ normal_onto p rest
 component_onto-normal p rest e f = rw (e, f) refl
 
+-- `..` takes away the component before it
 pub normal_onto-up : (p q : List ℕ) (rest : List (List ℕ)) → is_parent_dir q ≡ true → normal_onto p (q ∷ rest) ≡ rest
 normal_onto-up p q rest e = rw e refl
 
+-- a normal component stays in front of one that is no `..`
 pub normal_onto-normal : (p q : List ℕ) (rest : List (List ℕ)) → is_parent_dir q ≡ false → normal_onto p (q ∷ rest) ≡ p ∷ q ∷ rest
 normal_onto-normal p q rest e = rw e refl
 
@@ -71,6 +73,7 @@ pub reduced-kept : (us ns : List (List ℕ)) → AllParentDirs us → AllNormal 
 reduced-kept [] ns h k = reduced-normal ns k
 reduced-kept (u ∷ us) ns h k = ap (component_onto u) (reduced-kept us ns h.2 k) ∙ component_onto-up u (us ++ ns) h.0 h.1
 
+-- normal components hold no `..` to take away
 pub without_parent_dirs-normal : (ns : List (List ℕ)) → AllNormal ns → without_parent_dirs ns ≡ ns
 without_parent_dirs-normal [] h = refl
 without_parent_dirs-normal (p ∷ ns) h = rw h.1 refl
@@ -78,6 +81,7 @@ without_parent_dirs-normal (p ∷ ns) h = rw h.1 refl
 without_parent_dirs-up : (u : List ℕ) (x : List (List ℕ)) → is_parent_dir u ≡ true → without_parent_dirs (u ∷ x) ≡ without_parent_dirs x
 without_parent_dirs-up u x e = rw e refl
 
+-- each `..` in front goes behind the root
 pub without_parent_dirs-kept : (us ns : List (List ℕ)) → AllParentDirs us → AllNormal ns → without_parent_dirs (us ++ ns) ≡ ns
 without_parent_dirs-kept [] ns h k = without_parent_dirs-normal ns k
 without_parent_dirs-kept (u ∷ us) ns h k = without_parent_dirs-up u (us ++ ns) h.1 ∙ without_parent_dirs-kept us ns h.2 k
@@ -96,10 +100,12 @@ pub shape_popped : (ns left : List (Bor (List ℕ))) (o : Option (Bor (List ℕ)
 shape_popped ns left o e h =
     (AllNormal-components (texts left) (texts (option_to_list o)) (subst AllNormal (ap texts e ∙ texts-append left (option_to_list o)) h)).0
 
+-- normal components with one more are normal
 pub shape_pushed : (ns more : List (Bor (List ℕ))) (p : Bor (List ℕ)) → more ≡ ns ++ p ∷ [] → AllNormal (texts ns) → is_current_dir p.now ≡ false → is_parent_dir p.now ≡ false → AllNormal (texts more)
 shape_pushed ns more p e h k l =
     subst AllNormal (sym (ap texts e ∙ texts-append ns (p ∷ []))) (AllNormal-append (texts ns) (p.now ∷ []) h (k, l, tt))
 
+-- a list of `..` with one more is one
 pub parent_dirs_pushed : (us more : List (Bor (List ℕ))) (p : Bor (List ℕ)) → more ≡ us ++ p ∷ [] → AllParentDirs (texts us) → is_current_dir p.now ≡ false → is_parent_dir p.now ≡ true → AllParentDirs (texts more)
 parent_dirs_pushed us more p e h k l =
     subst AllParentDirs (sym (ap texts e ∙ texts-append us (p ∷ []))) (AllParentDirs-append (texts us) (p.now ∷ []) h (k, l, tt))
@@ -111,6 +117,7 @@ takes_last us left n up rest h u1 u2 =
     adds_parent_dir (texts us ++ texts left) n.now up rest last.0 last.1 u1 u2
     ∙ ap (λ (v : List (List ℕ)). reduced (v ++ up ∷ rest)) (append_assoc (texts us) (texts left) (n.now ∷ []) ∙ ap (λ (v : List (List ℕ)). texts us ++ v) (sym (texts-append left (n ∷ []))))
 
+-- a `..` takes away the last normal component that stays so far
 pub takes_popped : (us ns left : List (Bor (List ℕ))) (o : Option (Bor (List ℕ))) (up : List ℕ) (rest : List (List ℕ)) → ns ≡ left ++ option_to_list o → is_some o ≡ true → AllNormal (texts ns)
     → is_current_dir up ≡ false → is_parent_dir up ≡ true → reduced ((texts us ++ texts left) ++ rest) ≡ reduced ((texts us ++ texts ns) ++ up ∷ rest)
 takes_popped us ns left None up rest e s h u1 u2 = absurd cc

@@ -1,4 +1,4 @@
--- Each fault of a text has an offset.
+-- Each fault of a text has an offset. Serves the law faults_have_places.
 use Rattle.std.proofs.Common.{◌≡◌, ℕ, zero, suc, ◌+◌, ◌-◌, ◌==◌, Bool, ◌&&◌, true, false, not, cond, List, [], ◌∷◌, ◌++◌, length, drop, take, Result, Ok, Err, Option, Some, None, is_some, refl, subst}
 use Rattle.std.specs.Prelude.{codes, nat_lt}
 use Rattle.std.specs.List.{list_any, prefix_len, position_or_len}
@@ -26,6 +26,8 @@ use Rattle.plan_parse.specs.Faults.{offset_of}
 use Rattle.plan_parse.specs.Reading.{Place, past, past_gap, refusal, refuse, name_of, name_at, byte_at, line_end_at, value_at, lift_fault, path_len, path_at, path_onto, paths_past, paths_at}
 use Rattle.plan_parse.specs.Blocks.{BlockLine, Text, Refused, LineRole, Head, Below, is_indented, role_of_line, roles_of_lines, below, blocks_of}
 use Rattle.plan_parse.specs.Statements.{binding_at, block_line_at, no_block_allowed, is_named, required_name, unknown_variable, missing_or_repeated, may_bind, block_variable_at, block_variables_at, has_required, named_line, named_block, rule_of, pool_of, depth_of, is_bar, is_two_bars, is_validation, implicit_at, order_only_at, no_validation, some_path, outputs_at, inputs_at, build_of, targets_at, default_of, some_byte, file_at, include_of, subninja_of, binding_of, statement_of, statement_in, statements_of}
+
+-- === Faults with an offset ===
 
 -- a fault, if any, has an offset
 abbrev Placed : {A : Type 0} → Result A ParseFault → Type 0
@@ -62,6 +64,8 @@ byte_placed b expected p h = either (begins_with b p.bytes) (Ok (past_gap (past 
 
 end_placed : {A : Type 0} (x : A) (p : Place) → Placed (line_end_at x p)
 end_placed x p = either (length p.bytes == 0) (Ok x) (refuse fault.ExpectedLineEnd p) tt (refused_placed fault.ExpectedLineEnd p refl)
+
+-- === Pieces and paths ===
 
 -- pieces
 sign_placed : (at c : ℕ) (t u v : Bool) (o : Option (Sign × ℕ)) → PlacedText (cond t (or_bad at o) (cond u (Err (text.NulByte at)) (cond v (Err (text.TabBlank at)) (Ok (pieces.Byte c, 0)))))
@@ -119,6 +123,8 @@ paths_placed_past at (c ∷ rest) zero = by (nat_lt 0 (gap_len (c ∷ rest))) (p
 
 paths_placed : (p : Place) → Placed (paths_at p)
 paths_placed p = paths_placed_past p.at p.bytes 0
+
+-- === Bindings and lines of blocks ===
 
 -- bindings
 binding_placed : (p : Place) → Placed (binding_at p)
@@ -180,6 +186,8 @@ block_placed o at p ms h =
     (bind_placed (name_at p) (λ n. line_end_at n.0 n.1) (name_placed p) (λ n. end_placed n.0 n.1))
     (λ name. bind_placed (block_variables_at o [] ms) (λ bindings. Ok (name, bindings)) (block_variables_placed o [] ms h) (λ _. tt)))
 
+-- === Lists of paths ===
+
 -- lists of paths
 implicit_placed : (p : Place) → Placed (implicit_at p)
 implicit_placed p = either (is_bar p) (paths_at (past 1 p)) (Ok ([], p)) (paths_placed (past 1 p)) tt
@@ -225,6 +233,8 @@ file_placed p =
     (either (path_len p.bytes == 0) (refuse fault.ExpectedPath p) (Ok tt) (refused_placed fault.ExpectedPath p refl) tt)
     (λ _. bind_placed (path_at p (path_len p.bytes)) (λ path. line_end_at path (past_gap (past (path_len p.bytes) p))) (path_placed p (path_len p.bytes)) (λ x. end_placed x (past_gap (past (path_len p.bytes) p))))
 
+-- === Statements ===
+
 rule_placed : (at : ℕ) (p : Place) (ms : List BlockLine) → PlacedBlockLines ms → Placed (rule_of at p ms)
 rule_placed at p ms h = bind_placed (named_block Rule at p ms) (λ x. Ok (record { offset = at; kind = kind.Rule (record { name = x.0; bindings = x.1 }) })) (block_placed Rule at p ms h) (λ _. tt)
 
@@ -264,6 +274,8 @@ statement_placed p ms h =
     (either (bytes_eq word (codes "include")) (include_of p.at q ms) _ (behind_placed (file_at q) ms (λ x. record { offset = p.at; kind = kind.Include x }) (file_placed q) h)
     (either (bytes_eq word (codes "subninja")) (subninja_of p.at q ms) (binding_of p ms) (behind_placed (file_at q) ms (λ x. record { offset = p.at; kind = kind.Subninja x }) (file_placed q) h)
     (behind_placed (binding_at p) ms (λ x. record { offset = p.at; kind = kind.Binding x }) (binding_placed p) h))))))
+
+-- === Lines and blocks ===
 
 -- what lines tell
 abbrev PlacedRole : Option LineRole → Type 0
@@ -316,5 +328,6 @@ text_placed source =
     either (nat_lt max_source (length source)) (Err (fault.Text (text.SourceTooLong max_source))) (no_block_allowed (below roles) >>= λ _. each statement_in (blocks_of roles)) refl
     (bind_placed (no_block_allowed (below roles)) (λ _. each statement_in (blocks_of roles)) (no_block_placed (below roles) (below_placed roles h)) (λ _. blocks_placed roles h))
 
+-- each fault of a text has an offset
 pub all_placed : (source : List ℕ) (e : ParseFault) → statements_of source ≡ Err e → is_some (offset_of e) ≡ true
 all_placed source e h = subst (λ (r : Result (List Statement) ParseFault). Placed r) h (text_placed source)
