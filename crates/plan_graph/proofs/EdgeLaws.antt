@@ -14,11 +14,11 @@ use Rattle.plan_scope.specs.declared.manifest.Edge.{Edge}
 use Rattle.plan_scope.specs.Edges.{is_among}
 use Rattle.plan_graph.specs.Cycles.{WaitsFor}
 use Rattle.plan_graph.specs.Files.{Path, number_of, with_path, with_paths}
-use Rattle.plan_graph.specs.Graph.{all_waits, default_edges, files_of, inputs_named, inputs_of, is_last, maker_of, makes_any, numbers_from, outputs_of, waits_of}
-use Rattle.plan_graph.proofs.GraphLemmas.{numbers_below, row_of}
+use Rattle.plan_graph.specs.Graph.{all_waits, default_edges, files_of, inputs_named, inputs_of, is_last, producer_of, produces_any, numbers_from, outputs_of, waits_of}
+use Rattle.plan_graph.proofs.BuildGraphLemmas.{numbers_below, row_of}
 use Rattle.plan_graph.proofs.MemberLemmas.{In, Rises, contained, in_any, in_flat, in_list, some_is}
 use Rattle.plan_graph.proofs.NumberLemmas.{among_given, among_kept, names}
-use Rattle.plan_graph.proofs.WaitLemmas.{maker_found, numbers_kept, numbers_rise}
+use Rattle.plan_graph.proofs.WaitsLemmas.{producer_found, numbers_kept, numbers_rise}
 
 -- a list of numbers, each less than the next
 rises_order : (n : ℕ) (xs : List ℕ) → Rises n xs → IsStrictlyIncreasing xs
@@ -29,37 +29,40 @@ rises_order n (x ∷ y ∷ xs) r (suc k) h =
     let next : suc (k + 1) ≡ suc k + 1 = omega arith in
     subst (λ j. slice_index (x ∷ y ∷ xs) (suc k) < slice_index (x ∷ y ∷ xs) j) next (rises_order (x + 1) (y ∷ xs) r.1 k (omega (arith, h)))
 
-pub numbers_ascend : (test : Edge → Bool) (edges : List Edge) → IsStrictlyIncreasing (numbers_from 0 test edges)
+numbers_ascend : (test : Edge → Bool) (edges : List Edge) → IsStrictlyIncreasing (numbers_from 0 test edges)
 numbers_ascend test edges = rises_order 0 (numbers_from 0 test edges) (numbers_rise 0 test edges)
 
 nothing_ascends : IsStrictlyIncreasing []
 nothing_ascends k h = absurd (omega (arith, h))
 
+-- what an edge waits for ascends, and is edges
 pub waits_in_order : (edges : List Edge) (n : ℕ) → IsStrictlyIncreasing (get_or (all_waits edges) n []) × All (λ w. w < length edges) (get_or (all_waits edges) n [])
 waits_in_order edges n = elim (row_of (waits_of edges) edges n) [
   | inl empty ↦ subst (λ (row : List ℕ). IsStrictlyIncreasing row × All (λ w. w < length edges) row) (sym empty) (nothing_ascends, λ k d h. absurd (omega (arith, h)))
   | inr some ↦
       subst (λ (row : List ℕ). IsStrictlyIncreasing row × All (λ w. w < length edges) row) (sym some.1)
-      (numbers_ascend (makes_any (inputs_of some.0)) edges, numbers_below (makes_any (inputs_of some.0)) edges)
+      (numbers_ascend (produces_any (inputs_of some.0)) edges, numbers_below (produces_any (inputs_of some.0)) edges)
 ]
 
+-- so do the edges that are built where no target is asked for
 pub defaults_in_order : (edges : List Edge) (defaults : List DefaultTarget) → IsStrictlyIncreasing (default_edges edges defaults) × All (λ n. n < length edges) (default_edges edges defaults)
 defaults_in_order edges [] = (numbers_ascend (is_last edges) edges, numbers_below (is_last edges) edges)
-defaults_in_order edges (d ∷ ds) = let test = makes_any (map (λ t. t.path) (d ∷ ds)) in (numbers_ascend test edges, numbers_below test edges)
+defaults_in_order edges (d ∷ ds) = let test = produces_any (map (λ t. t.path) (d ∷ ds)) in (numbers_ascend test edges, numbers_below test edges)
 
-pub makers_are_waited : (edges : List Edge) (n w : ℕ) (e : Edge) (path : Path) → slice_get edges n ≡ Some e → Contains (inputs_of e) path → maker_of edges path ≡ Some w → WaitsFor (all_waits edges) n w
-makers_are_waited edges n w e path here used maker =
+-- an edge waits for the producers of its inputs
+pub producers_are_waited : (edges : List Edge) (n w : ℕ) (e : Edge) (path : Path) → slice_get edges n ≡ Some e → Contains (inputs_of e) path → producer_of edges path ≡ Some w → WaitsFor (all_waits edges) n w
+producers_are_waited edges n w e path here used producer =
     let lt = slice_get_within edges n e here in
     let row : get_or (all_waits edges) n [] ≡ waits_of edges e = get_or-map (waits_of edges) edges n e [] lt ∙ ap (waits_of edges) (get_or_from_slice_get edges n e e here) in
-    let found = maker_found 0 edges path w maker in
-    let test = makes_any (inputs_of e) in
+    let found = producer_found 0 edges path w producer in
+    let test = produces_any (inputs_of e) in
     let makes : test found.edge ≡ true = in_any (is_among (outputs_of found.edge)) (inputs_of e) path (in_list (inputs_of e) path used) found.passes in
     let kept : In (0 + found.place) (numbers_from 0 test edges) = numbers_kept 0 test edges found.place found.edge found.here makes in
     let there : In w (waits_of edges e) = subst (λ k. In k (waits_of edges e)) (sym found.counts) kept in
     subst (λ (r : List ℕ). Contains r w) (sym row) (contained (waits_of edges e) w there)
 
 -- the path of its number
-pub place_given : (ps : List Path) (p : Path) → is_among ps p ≡ true → slice_get ps (number_of ps p) ≡ Some p
+place_given : (ps : List Path) (p : Path) → is_among ps p ≡ true → slice_get ps (number_of ps p) ≡ Some p
 place_given [] p h = cc
 place_given (x ∷ ps) p h =
     elim (bytes_eq p x) as (λ b. bytes_eq p x ≡ b → (b || is_among ps p) ≡ true → slice_get (x ∷ ps) (if b then 0 else suc (number_of ps p)) ≡ Some p)
@@ -77,6 +80,7 @@ edge_in [] n e h = cc
 edge_in (x ∷ es) zero e h = inl (some_is x e h)
 edge_in (x ∷ es) (suc n) e h = inr (edge_in es n e h)
 
+-- each path that an edge names is a file, at its number
 pub all_named : (edges : List Edge) (n : ℕ) (e : Edge) (path : Path) → slice_get edges n ≡ Some e → Contains (outputs_of e ++ inputs_named e) path → slice_get (files_of edges) (number_of (files_of edges) path) ≡ Some path
 all_named edges n e path here named =
     place_given (files_of edges) path (given_later [] (flat_map names edges) path (in_flat names edges e path (edge_in edges n e here) (in_list (names e) path named)))
@@ -100,5 +104,6 @@ distinct_all : (seen ps : List Path) → AllPairs (λ x y. x ≢ y) seen → All
 distinct_all seen [] h = h
 distinct_all seen (p ∷ ps) h = distinct_all (with_path seen p) ps (distinct_step seen p h)
 
+-- no file stands twice
 pub none_twice : (edges : List Edge) → AllPairs (λ x y. x ≢ y) (files_of edges)
 none_twice edges = distinct_all [] (flat_map names edges) (λ i j d h g same. omega (arith, g))

@@ -8,11 +8,12 @@ use Rattle.plan_scope.specs.Edges.{is_among}
 use Rattle.plan_graph.specs.Files.{Path}
 use Rattle.plan_graph.specs.Graph.{inputs_named, inputs_of, outputs_of, without_own}
 
-pub without_append : (e : Edge) (xs ys : List Path) → without_own e (xs ++ ys) ≡ without_own e xs ++ without_own e ys
+without_append : (e : Edge) (xs ys : List Path) → without_own e (xs ++ ys) ≡ without_own e xs ++ without_own e ys
 without_append e xs ys =
     let test = λ (p : Path). not (is_among (outputs_of e) p) in
     elim e.phony as (λ b. (if b then filter test (xs ++ ys) else xs ++ ys) ≡ (if b then filter test xs else xs) ++ (if b then filter test ys else ys))
     [ true ↦ filter-append test xs ys | false ↦ refl ]
 
+-- the inputs of all sorts are those that are named, without an edge's own
 pub inputs_are : (e : Edge) → inputs_of e ≡ without_own e (inputs_named e)
 inputs_are e = sym (without_append e (e.inputs ++ e.implicit_inputs) e.order_only_inputs) ∙ ap (without_own e) (append_assoc e.inputs e.implicit_inputs e.order_only_inputs)

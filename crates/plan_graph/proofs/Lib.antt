@@ -1,11 +1,11 @@
-pub mod FileLemmas
-pub mod ReadingLemmas
+pub mod FilesLemmas
+pub mod EdgeReaderLemmas
 pub mod MemberLemmas
-pub mod WaitLemmas
+pub mod WaitsLemmas
 pub mod WalkLemmas
 pub mod TableLemmas
-pub mod GraphLemmas
-pub mod LawLemmas
+pub mod BuildGraphLemmas
+pub mod RankLaw
 pub mod InputLemmas
 pub mod RowListLemmas
 pub mod NumberLemmas

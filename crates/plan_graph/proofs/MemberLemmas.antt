@@ -9,11 +9,13 @@ abbrev pub In : {X : Type 0} → X → List X → Type 0
 In x [] = ⊥
 In x (y ∷ ys) = (y ≡ x) ⊎ In x ys
 
+-- a member by index is one by recursion
 pub in_list : {X : Type 0} (xs : List X) (x : X) → Contains xs x → In x xs
 in_list [] x (k, h, e) = absurd (omega (arith, h))
 in_list (y ∷ ys) x (zero, h, e) = inl e
 in_list (y ∷ ys) x (suc k, h, e) = inr (in_list ys x (k, omega (arith, h), e))
 
+-- and the other way round
 pub contained : {X : Type 0} (xs : List X) (x : X) → In x xs → Contains xs x
 contained [] x h = absurd h
 contained (y ∷ ys) x h = elim h [ inl e ↦ (0, omega arith, e) | inr i ↦ (suc (contained ys x i).0, omega (arith, (contained ys x i).1), (contained ys x i).2) ]
@@ -23,6 +25,7 @@ abbrev pub Rises : ℕ → List ℕ → Type 0
 Rises n [] = Unit {0}
 Rises n (x ∷ xs) = (n ≤ x) × Rises (x + 1) xs
 
+-- numbers that rise from a bound rise from a lower one
 pub rises_lower : (m n : ℕ) (xs : List ℕ) → m ≤ n → Rises n xs → Rises m xs
 rises_lower m n [] h r = tt
 rises_lower m n (x ∷ xs) h r = (omega (arith, h, r.0), r.1)
@@ -32,11 +35,12 @@ rises_rest x xs r k h =
     let next : suc k + 1 ≡ suc (k + 1) = omega arith in
     subst (λ j. slice_index (x ∷ xs) (suc k) < slice_index (x ∷ xs) j) next (r (suc k) (omega (arith, h)))
 
+-- strictly increasing numbers rise from the first
 pub rises_from : (n : ℕ) (xs : List ℕ) → (0 < length xs → n ≤ slice_index xs 0) → IsStrictlyIncreasing xs → Rises n xs
 rises_from n [] low r = tt
 rises_from n (x ∷ xs) low r = (low (omega arith), rises_from (x + 1) xs (λ h. let lt : x < slice_index xs 0 = r 0 (omega (arith, h)) in omega (arith, lt)) (rises_rest x xs r))
 
-pub rises_bound : (n k : ℕ) (xs : List ℕ) → Rises n xs → In k xs → n ≤ k
+rises_bound : (n k : ℕ) (xs : List ℕ) → Rises n xs → In k xs → n ≤ k
 rises_bound n k [] r h = absurd h
 rises_bound n k (x ∷ xs) r h = elim h [ inl e ↦ omega (arith, r.0, e) | inr i ↦ let later : x + 1 ≤ k = rises_bound (x + 1) k xs r.1 i in omega (arith, r.0, later) ]
 
@@ -72,9 +76,11 @@ in_any test (y ∷ ys) x h t = elim (test y) as (λ b. test y ≡ b → b || lis
   | false ↦ λ e. elim h [ inl same ↦ absurd (cc) | inr i ↦ in_any test ys x i t ]
 ] refl
 
+-- equal options have equal values
 pub some_is : {X : Type 0} (x y : X) → Some x ≡ Some y → x ≡ y
 some_is x y e = cc
 
+-- where any member passes a test, there is one
 pub any_in : {X : Type 0} (test : X → Bool) (xs : List X) → list_any test xs ≡ true → (x : X) × In x xs × (test x ≡ true)
 any_in test [] h = absurd (cc)
 any_in {X} test (y ∷ ys) h =
@@ -92,6 +98,7 @@ in_filter test (y ∷ ys) x h t =
       | false ↦ λ e. elim h [ inl same ↦ absurd (cc) | inr i ↦ in_filter test ys x i t ]
     ] refl
 
+-- what a filter keeps is a member that passes the test
 pub filter_in : {X : Type 0} (test : X → Bool) (xs : List X) (x : X) → In x (filter test xs) → In x xs × (test x ≡ true)
 filter_in test [] x h = absurd h
 filter_in test (y ∷ ys) x h =
@@ -100,22 +107,27 @@ filter_in test (y ∷ ys) x h =
       | false ↦ λ e i. (inr (filter_in test ys x i).0, (filter_in test ys x i).1)
     ] refl h
 
+-- a member of two lists put together is one of either
 pub in_append : {X : Type 0} (xs ys : List X) (x : X) → In x (xs ++ ys) → In x xs ⊎ In x ys
 in_append [] ys x h = inr h
 in_append (y ∷ xs) ys x h = elim h [ inl e ↦ inl (inl e) | inr i ↦ elim (in_append xs ys x i) [ inl j ↦ inl (inr j) | inr j ↦ inr j ] ]
 
+-- a member of the first list
 pub append_left : {X : Type 0} (xs ys : List X) (x : X) → In x xs → In x (xs ++ ys)
 append_left [] ys x h = absurd h
 append_left (y ∷ xs) ys x h = elim h [ inl e ↦ inl e | inr i ↦ inr (append_left xs ys x i) ]
 
+-- a member of the second list
 pub append_right : {X : Type 0} (xs ys : List X) (x : X) → In x ys → In x (xs ++ ys)
 append_right [] ys x h = h
 append_right (y ∷ xs) ys x h = inr (append_right xs ys x h)
 
+-- a member of lists put together comes of one of them
 pub flat_in : {X Y : Type 0} (f : X → List Y) (xs : List X) (y : Y) → In y (flat_map f xs) → (x : X) × In x xs × In y (f x)
 flat_in f [] y h = absurd h
 flat_in f (x ∷ xs) y h = elim (in_append (f x) (flat_map f xs) y h) [ inl i ↦ (x, inl refl, i) | inr i ↦ let rest = flat_in f xs y i in (rest.0, inr rest.1, rest.2) ]
 
+-- and the other way round
 pub in_flat : {X Y : Type 0} (f : X → List Y) (xs : List X) (x : X) (y : Y) → In x xs → In y (f x) → In y (flat_map f xs)
 in_flat f [] x y h i = absurd h
 in_flat f (z ∷ xs) x y h i = elim h [ inl e ↦ append_left (f z) (flat_map f xs) y (subst (λ v. In y (f v)) (sym e) i) | inr j ↦ append_right (f z) (flat_map f xs) y (in_flat f xs x y j i) ]

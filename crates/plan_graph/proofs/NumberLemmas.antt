@@ -1,4 +1,4 @@
--- The numbers that paths are given while build lines are read.
+-- The numbers that paths are given while build lines are read. Serves src/edge_reader.rt: numbers.
 use Rattle.std.proofs.Common.{◌≡◌, ◌<◌, ◌+◌, ◌++◌, ◌∷◌, [], ◌∙◌, Bool, true, false, List, ℕ, suc, Option, Result, Ok, Err, ap, bytes_eq, drop, get_or, length, map, refl, sym, take}
 use Rattle.std.specs.Prelude.{◌||◌, flat_map, if◌then◌else◌, is_some, nat_le}
 use Rattle.std.proofs.lemmas.List.{append_assoc}
@@ -9,37 +9,41 @@ use Rattle.plan_scope.specs.Edges.{is_among}
 use Rattle.plan_graph.specs.declared.fault.GraphFault.{GraphFault}
 use Rattle.plan_graph.specs.declared.fault.GraphFault.TheVariants.{TooManyEdges, TwoProducers}
 use Rattle.plan_graph.specs.Files.{Path, Table, file_of, number_of, numbers_past, paths_in, with_file, with_path, with_paths}
-use Rattle.plan_graph.specs.Graph.{due_len, inputs_named, max_edges, outputs_of, rows_of}
+use Rattle.plan_graph.specs.Graph.{targets_above, inputs_named, max_edges, outputs_of, rows_of}
 use Rattle.plan_text.specs.Outcome.{◌>>=◌}
-use Rattle.plan_graph.specs.Reading.{fitting, inputs_past, made, outputs_past, own_of, used, with_edge, with_edges, with_input, with_inputs, with_output, with_outputs, with_targets}
+use Rattle.plan_graph.specs.Reading.{within_limit, inputs_past, with_producer, outputs_past, own_of, with_use, with_edge, with_edges, with_input, with_inputs, with_output, with_outputs, with_targets}
 use Rattle.plan_graph.proofs.TableLemmas.{any_append, paths_with, with_paths_app}
-use Rattle.plan_graph.proofs.WaitLemmas.{drop_next}
+use Rattle.plan_graph.proofs.WaitsLemmas.{drop_next}
 
-pub numbers_append : (seen xs ys : List Path) → numbers_past seen (xs ++ ys) ≡ numbers_past seen xs ++ numbers_past (with_paths seen xs) ys
+numbers_append : (seen xs ys : List Path) → numbers_past seen (xs ++ ys) ≡ numbers_past seen xs ++ numbers_past (with_paths seen xs) ys
 numbers_append seen [] ys = refl
 numbers_append seen (x ∷ xs) ys = ap (λ (ns : List ℕ). number_of seen x ∷ ns) (numbers_append (with_path seen x) xs ys)
 
 same_table : (x y : Table) → ◌≡◌ {A = Result Table GraphFault} (Ok x) (Ok y) → x ≡ y
 same_table x y e = cc
 
+-- the paths behind one output
 pub output_path : (files : Table) (number : ℕ) (o : Path) (more : Table) → with_output files number o (file_of o files) ≡ Ok more → paths_in more ≡ with_path (paths_in files) o
 output_path files number o more h =
-    let next = with_file files o (made number (file_of o files)) in
-    elim (is_some (file_of o files).maker) as (λ b. ◌≡◌ {A = Result Table GraphFault} (if b then Err (TwoProducers o) else Ok next) (Ok more) → paths_in more ≡ with_path (paths_in files) o)
-    [ true ↦ λ e. cc | false ↦ λ e. ap paths_in (sym (same_table next more e)) ∙ paths_with files o (made number (file_of o files)) ] h
+    let next = with_file files o (with_producer number (file_of o files)) in
+    elim (is_some (file_of o files).producer) as (λ b. ◌≡◌ {A = Result Table GraphFault} (if b then Err (TwoProducers o) else Ok next) (Ok more) → paths_in more ≡ with_path (paths_in files) o)
+    [ true ↦ λ e. cc | false ↦ λ e. ap paths_in (sym (same_table next more e)) ∙ paths_with files o (with_producer number (file_of o files)) ] h
 
+-- the paths behind some outputs
 pub outputs_paths : (files : Table) (number : ℕ) (os : List Path) (more : Table) → with_outputs files number os ≡ Ok more → paths_in more ≡ with_paths (paths_in files) os
 outputs_paths files number [] more h = ap paths_in (sym (same_table files more h))
 outputs_paths files number (o ∷ os) more h =
-    let next = with_file files o (made number (file_of o files)) in
-    elim (is_some (file_of o files).maker) as (λ b. ((if b then Err (TwoProducers o) else Ok next) >>= λ t. with_outputs t number os) ≡ Ok more → paths_in more ≡ with_paths (with_path (paths_in files) o) os) [
+    let next = with_file files o (with_producer number (file_of o files)) in
+    elim (is_some (file_of o files).producer) as (λ b. ((if b then Err (TwoProducers o) else Ok next) >>= λ t. with_outputs t number os) ≡ Ok more → paths_in more ≡ with_paths (with_path (paths_in files) o) os) [
       | true ↦ λ e. cc
-      | false ↦ λ e. outputs_paths next number os more e ∙ ap (λ (ps : List Path). with_paths ps os) (paths_with files o (made number (file_of o files)))
+      | false ↦ λ e. outputs_paths next number os more e ∙ ap (λ (ps : List Path). with_paths ps os) (paths_with files o (with_producer number (file_of o files)))
     ] h
 
+-- the paths behind one input
 pub input_path : (own : Option ℕ) (files : Table) (i : Path) → paths_in (with_input own files i) ≡ with_path (paths_in files) i
-input_path own files i = paths_with files i (used own (file_of i files))
+input_path own files i = paths_with files i (with_use own (file_of i files))
 
+-- the paths behind some inputs
 pub inputs_paths : (own : Option ℕ) (files : Table) (is : List Path) → paths_in (with_inputs own files is) ≡ with_paths (paths_in files) is
 inputs_paths own files [] = refl
 inputs_paths own files (i ∷ is) = inputs_paths own (with_input own files i) is ∙ ap (λ (ps : List Path). with_paths ps is) (input_path own files i)
@@ -50,10 +54,12 @@ pub outputs_step : (files more : Table) (number : ℕ) (os : List Path) (i : ℕ
 outputs_step files more number os i o lt here e =
     ap (λ (r : Result Table GraphFault). r >>= λ t. with_outputs t number (drop (i + 1) os)) (sym e) ∙ ap (with_outputs files number) (sym (drop_next os i o lt here))
 
+-- one input more, and those that are left
 pub inputs_step : (own : Option ℕ) (files more : Table) (is : List Path) (k : ℕ) (i : Path) → k < length is → i ≡ get_or is k i → with_input own files i ≡ more
     → with_inputs own more (drop (k + 1) is) ≡ with_inputs own files (drop k is)
 inputs_step own files more is k i lt here e = ap (λ (t : Table). with_inputs own t (drop (k + 1) is)) (sym e) ∙ ap (with_inputs own files) (sym (drop_next is k i lt here))
 
+-- one number more, and those that are left
 pub numbers_step : (seen next : List Path) (row : List ℕ) (ps : List Path) (i : ℕ) (p : Path) (n : ℕ) → i < length ps → p ≡ get_or ps i p → n ≡ number_of seen p → next ≡ with_path seen p
     → (row ++ n ∷ []) ++ numbers_past next (drop (i + 1) ps) ≡ row ++ numbers_past seen (drop i ps)
 numbers_step seen next row ps i p n lt here number grown =
@@ -78,11 +84,12 @@ number_step seen x p h = elim (is_among seen x) as (λ b. number_of (if b then s
 among_step : (seen : List Path) (x p : Path) → is_among seen p ≡ true → is_among (with_path seen x) p ≡ true
 among_step seen x p h = elim (is_among seen x) as (λ b. is_among (if b then seen else seen ++ x ∷ []) p ≡ true) [ true ↦ h | false ↦ among_before seen (x ∷ []) p h ]
 
+-- a path stays among paths
 pub among_kept : (seen ps : List Path) (p : Path) → is_among seen p ≡ true → is_among (with_paths seen ps) p ≡ true
 among_kept seen [] p h = h
 among_kept seen (x ∷ ps) p h = among_kept (with_path seen x) ps p (among_step seen x p h)
 
-pub number_kept : (seen ps : List Path) (p : Path) → is_among seen p ≡ true → number_of (with_paths seen ps) p ≡ number_of seen p
+number_kept : (seen ps : List Path) (p : Path) → is_among seen p ≡ true → number_of (with_paths seen ps) p ≡ number_of seen p
 number_kept seen [] p h = refl
 number_kept seen (x ∷ ps) p h = number_kept (with_path seen x) ps p (among_step seen x p h) ∙ number_step seen x p h
 
@@ -100,13 +107,14 @@ or_true : (b c : Bool) → c ≡ true → (b || (c || false)) ≡ true
 or_true true c h = refl
 or_true false c h = ap (λ x. x || false) h
 
+-- a path is among them once it is named
 pub among_given : (seen : List Path) (p : Path) → is_among (with_path seen p) p ≡ true
 among_given seen p =
     elim (is_among seen p) as (λ b. is_among seen p ≡ b → is_among (if b then seen else seen ++ p ∷ []) p ≡ true)
     [ true ↦ λ e. e | false ↦ λ e. any_append (bytes_eq p) seen (p ∷ []) ∙ or_true (is_among seen p) (bytes_eq p p) (bytes_self p) ] refl
 
 -- the numbers that paths are given are theirs at the end
-pub numbers_settle : (seen ps later : List Path) → numbers_past seen ps ≡ map (number_of (with_paths (with_paths seen ps) later)) ps
+numbers_settle : (seen ps later : List Path) → numbers_past seen ps ≡ map (number_of (with_paths (with_paths seen ps) later)) ps
 numbers_settle seen [] later = refl
 numbers_settle seen (p ∷ ps) later =
     let more = with_path seen p in
@@ -115,12 +123,14 @@ numbers_settle seen (p ∷ ps) later =
     let same : number_of seen p ≡ number_of last p = sym (number_kept (with_paths more ps) later p (among_kept more ps p there) ∙ (number_kept more ps p there ∙ number_given seen p)) in
     ap (λ (n : ℕ). n ∷ numbers_past more ps) same ∙ ap (λ (ns : List ℕ). number_of last p ∷ ns) (numbers_settle more ps later)
 
+-- the paths that an edge names
 abbrev pub names : Edge → List Path
 names e = outputs_of e ++ inputs_named e
 
 next_paths : (seen : List Path) (e : Edge) (es : List Edge) → with_paths seen (flat_map names (e ∷ es)) ≡ with_paths (with_paths (with_paths seen (outputs_of e)) (inputs_named e)) (flat_map names es)
 next_paths seen e es = with_paths_app seen (names e) (flat_map names es) ∙ ap (λ (ps : List Path). with_paths ps (flat_map names es)) (with_paths_app seen (outputs_of e) (inputs_named e))
 
+-- the numbers of outputs while reading are those among all files
 pub outputs_settle : (seen : List Path) (es : List Edge) → outputs_past seen es ≡ rows_of outputs_of (with_paths seen (flat_map names es)) es
 outputs_settle seen [] = refl
 outputs_settle seen (e ∷ es) =
@@ -131,6 +141,7 @@ outputs_settle seen (e ∷ es) =
     ap (λ (row : List ℕ). row ∷ outputs_past more es) (numbers_settle seen outs (ins ++ rest) ∙ ap (λ (ps : List Path). map (number_of ps) outs) (with_paths_app (with_paths seen outs) ins rest))
     ∙ (ap (λ (rows : List (List ℕ)). map (number_of (with_paths more rest)) outs ∷ rows) (outputs_settle more es) ∙ ap (λ (ps : List Path). rows_of outputs_of ps (e ∷ es)) (sym (next_paths seen e es)))
 
+-- so are those of inputs
 pub inputs_settle : (seen : List Path) (es : List Edge) → inputs_past seen es ≡ rows_of inputs_named (with_paths seen (flat_map names es)) es
 inputs_settle seen [] = refl
 inputs_settle seen (e ∷ es) =
@@ -142,7 +153,7 @@ inputs_settle seen (e ∷ es) =
     ∙ (ap (λ (rows : List (List ℕ)). map (number_of (with_paths more rest)) ins ∷ rows) (inputs_settle more es) ∙ ap (λ (ps : List Path). rows_of inputs_named ps (e ∷ es)) (sym (next_paths seen e es)))
 
 -- where build lines are read in turn
-pub rows_step : (done : List (List ℕ)) (row : List ℕ) (rest all : List (List ℕ)) → done ++ (row ∷ rest) ≡ all → (done ++ row ∷ []) ++ rest ≡ all
+rows_step : (done : List (List ℕ)) (row : List ℕ) (rest all : List (List ℕ)) → done ++ (row ∷ rest) ≡ all → (done ++ row ∷ []) ++ rest ≡ all
 rows_step done row rest all h = append_assoc done (row ∷ []) rest ∙ h
 
 -- a row of the numbers of some paths, and of more behind them
@@ -156,29 +167,31 @@ row_more seen next row middle last xs ys one grown two =
 
 -- build lines that are read in turn
 pub due_refused : (files : Table) (number : ℕ) (ds : List DefaultTarget) (edges : List Edge) (i : ℕ) (e : Edge) (due : List DefaultTarget) (fault : GraphFault) → i < length edges → e ≡ get_or edges i e
-    → due ≡ take (due_len number ds) ds → with_targets files due ≡ Err fault → with_edges files number ds (drop i edges) ≡ Err fault
+    → due ≡ take (targets_above number ds) ds → with_targets files due ≡ Err fault → with_edges files number ds (drop i edges) ≡ Err fault
 due_refused files number ds edges i e due fault lt here is h =
     ap (with_edges files number ds) (drop_next edges i e lt here)
-    ∙ ap (λ (r : Result Table GraphFault). r >>= λ t. with_edge t number e >>= λ more. with_edges more (number + 1) (drop (due_len number ds) ds) (drop (i + 1) edges)) (ap (with_targets files) (sym is) ∙ h)
+    ∙ ap (λ (r : Result Table GraphFault). r >>= λ t. with_edge t number e >>= λ more. with_edges more (number + 1) (drop (targets_above number ds) ds) (drop (i + 1) edges)) (ap (with_targets files) (sym is) ∙ h)
 
+-- the fault of an edge is that of all that is left
 pub edge_refused : (files : Table) (number : ℕ) (ds : List DefaultTarget) (edges : List Edge) (i : ℕ) (e : Edge) (due : List DefaultTarget) (fault : GraphFault) → i < length edges → e ≡ get_or edges i e
-    → due ≡ take (due_len number ds) ds → with_targets files due ≡ Ok files → with_edge files number e ≡ Err fault → with_edges files number ds (drop i edges) ≡ Err fault
+    → due ≡ take (targets_above number ds) ds → with_targets files due ≡ Ok files → with_edge files number e ≡ Err fault → with_edges files number ds (drop i edges) ≡ Err fault
 edge_refused files number ds edges i e due fault lt here is checked h =
     ap (with_edges files number ds) (drop_next edges i e lt here)
-    ∙ (ap (λ (r : Result Table GraphFault). r >>= λ t. with_edge t number e >>= λ more. with_edges more (number + 1) (drop (due_len number ds) ds) (drop (i + 1) edges)) (ap (with_targets files) (sym is) ∙ checked)
-    ∙ ap (λ (r : Result Table GraphFault). r >>= λ more. with_edges more (number + 1) (drop (due_len number ds) ds) (drop (i + 1) edges)) h)
+    ∙ (ap (λ (r : Result Table GraphFault). r >>= λ t. with_edge t number e >>= λ more. with_edges more (number + 1) (drop (targets_above number ds) ds) (drop (i + 1) edges)) (ap (with_targets files) (sym is) ∙ checked)
+    ∙ ap (λ (r : Result Table GraphFault). r >>= λ more. with_edges more (number + 1) (drop (targets_above number ds) ds) (drop (i + 1) edges)) h)
 
+-- one edge more, and those that are left
 pub edge_read : (files more : Table) (number : ℕ) (ds : List DefaultTarget) (edges : List Edge) (i : ℕ) (e : Edge) (due rest : List DefaultTarget) → i < length edges → e ≡ get_or edges i e
-    → due ≡ take (due_len number ds) ds → rest ≡ drop (due_len number ds) ds → with_targets files due ≡ Ok files → with_edge files number e ≡ Ok more
+    → due ≡ take (targets_above number ds) ds → rest ≡ drop (targets_above number ds) ds → with_targets files due ≡ Ok files → with_edge files number e ≡ Ok more
     → with_edges files number ds (drop i edges) ≡ with_edges more (number + 1) rest (drop (i + 1) edges)
 edge_read files more number ds edges i e due rest lt here is left checked h =
     ap (with_edges files number ds) (drop_next edges i e lt here)
-    ∙ (ap (λ (r : Result Table GraphFault). r >>= λ t. with_edge t number e >>= λ m. with_edges m (number + 1) (drop (due_len number ds) ds) (drop (i + 1) edges)) (ap (with_targets files) (sym is) ∙ checked)
-    ∙ (ap (λ (r : Result Table GraphFault). r >>= λ m. with_edges m (number + 1) (drop (due_len number ds) ds) (drop (i + 1) edges)) h
+    ∙ (ap (λ (r : Result Table GraphFault). r >>= λ t. with_edge t number e >>= λ m. with_edges m (number + 1) (drop (targets_above number ds) ds) (drop (i + 1) edges)) (ap (with_targets files) (sym is) ∙ checked)
+    ∙ (ap (λ (r : Result Table GraphFault). r >>= λ m. with_edges m (number + 1) (drop (targets_above number ds) ds) (drop (i + 1) edges)) h
     ∙ ap (λ (d : List DefaultTarget). with_edges more (number + 1) d (drop (i + 1) edges)) (sym left)))
 
 edge_paths_by : (files : Table) (number : ℕ) (e : Edge) (more : Table) (r : Result Table GraphFault) → with_outputs files number (outputs_of e) ≡ r
-    → (r >>= λ outputs. fitting number outputs >>= λ m. Ok (with_inputs (own_of number e) m (inputs_named e))) ≡ Ok more
+    → (r >>= λ outputs. within_limit number outputs >>= λ m. Ok (with_inputs (own_of number e) m (inputs_named e))) ≡ Ok more
     → paths_in more ≡ with_paths (with_paths (paths_in files) (outputs_of e)) (inputs_named e)
 edge_paths_by files number e more (Err fault) same h = cc
 edge_paths_by files number e more (Ok outputs) same h =
@@ -191,9 +204,11 @@ edge_paths_by files number e more (Ok outputs) same h =
           ∙ (inputs_paths own outputs (inputs_named e) ∙ ap (λ (ps : List Path). with_paths ps (inputs_named e)) (outputs_paths files number (outputs_of e) outputs same))
     ] h
 
+-- the paths behind one edge
 pub edge_paths : (files : Table) (number : ℕ) (e : Edge) (more : Table) → with_edge files number e ≡ Ok more → paths_in more ≡ with_paths (with_paths (paths_in files) (outputs_of e)) (inputs_named e)
 edge_paths files number e more h = edge_paths_by files number e more (with_outputs files number (outputs_of e)) refl h
 
+-- one row of outputs more, and those that are left
 pub outputs_read : (seen next : List Path) (done all : List (List ℕ)) (edges : List Edge) (i : ℕ) (e : Edge) → i < length edges → e ≡ get_or edges i e → next ≡ with_paths (with_paths seen (outputs_of e)) (inputs_named e)
     → done ++ outputs_past seen (drop i edges) ≡ all → (done ++ numbers_past seen (outputs_of e) ∷ []) ++ outputs_past next (drop (i + 1) edges) ≡ all
 outputs_read seen next done all edges i e lt here grown so_far =
@@ -201,6 +216,7 @@ outputs_read seen next done all edges i e lt here grown so_far =
     rows_step done row (outputs_past next (drop (i + 1) edges)) all
     (ap (λ (ps : List Path). done ++ (row ∷ outputs_past ps (drop (i + 1) edges))) grown ∙ (ap (λ (es : List Edge). done ++ outputs_past seen es) (sym (drop_next edges i e lt here)) ∙ so_far))
 
+-- one row of inputs more, and those that are left
 pub inputs_read : (seen next : List Path) (done all : List (List ℕ)) (edges : List Edge) (i : ℕ) (e : Edge) → i < length edges → e ≡ get_or edges i e → next ≡ with_paths (with_paths seen (outputs_of e)) (inputs_named e)
     → done ++ inputs_past seen (drop i edges) ≡ all → (done ++ numbers_past (with_paths seen (outputs_of e)) (inputs_named e) ∷ []) ++ inputs_past next (drop (i + 1) edges) ≡ all
 inputs_read seen next done all edges i e lt here grown so_far =

@@ -7,7 +7,7 @@ use Rattle.plan_scope.specs.declared.manifest.Manifest.{Manifest}
 use Rattle.plan_graph.specs.declared.fault.GraphFault.TheVariants.{TwoProducers, UnknownDefault}
 use Rattle.plan_graph.specs.Files.{Path}
 use Rattle.plan_graph.specs.Cycles.{AreRanks, IsCycle, IsLeastFirst}
-use Rattle.plan_graph.specs.Graph.{all_waits, default_edges, files_of, first_fault, maker_of}
+use Rattle.plan_graph.specs.Graph.{all_waits, default_edges, files_of, first_fault, producer_of}
 
 abbrev a : Path
 a = codes "a"
@@ -120,11 +120,11 @@ named_defaults = refl
 files_in_order : files_of (line false (c ∷ []) (a ∷ []) (b ∷ a ∷ []) [] (d ∷ []) ∷ r (b ∷ []) (d ∷ []) ∷ []) ≡ c ∷ a ∷ b ∷ d ∷ []
 files_in_order = refl
 
-makers : maker_of three a ≡ Some 1
-makers = refl
+producers : producer_of three a ≡ Some 1
+producers = refl
 
-no_maker : maker_of three d ≡ None
-no_maker = refl
+no_producer : producer_of three d ≡ None
+no_producer = refl
 
 -- build a: r / build b a: r
 two_producers : first_fault (manifest (r (a ∷ []) [] ∷ r (b ∷ a ∷ []) [] ∷ []) []) ≡ Some (TwoProducers a)

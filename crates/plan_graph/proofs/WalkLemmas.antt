@@ -1,4 +1,4 @@
--- How a walk goes on.
+-- How a walk goes on. Serves src/walk.rt and src/cycle.rt.
 use Rattle.std.proofs.Common.{◌≡◌, ◌≢◌, ℕ, zero, suc, ◌+◌, ◌-◌, ◌*◌, ◌<◌, ◌≤◌, max, List, [], ◌∷◌, ◌++◌, length, refl, sym, ◌∙◌, ap, subst, arith, get_or, set, Some, ◌⊎◌, inl, inr, length-append, length-set, get_or-set_same, get_or-set_other, take, drop, drop-cons, map}
 use Rattle.std.specs.Prelude.{◌==◌, All, replicate, slice_get, slice_index, Contains}
 use Rattle.std.specs.List.Sorted.{IsPermutation}
@@ -10,23 +10,23 @@ use Rattle.std.proofs.lemmas.Map.Keys.{IsDistinct-IsPermutation}
 use Rattle.std.proofs.lemmas.Map.Made.{AllPairs-from_IsDistinct, IsDistinct-from_AllPairs}
 use Rattle.std.proofs.lemmas.Option.{slice_get_within, get_or_from_slice_get, slice_get-get_or}
 use Rattle.std.proofs.lemmas.List.Folds.{sum_by-replicate}
-use Rattle.std.proofs.Math.Seq.{take-length}
-use Rattle.std.proofs.lemmas.List.{get_or_append_left, get_or-append-add, append_assoc, append-nil, ext_get_or, get_or-drop, get_or-map, get_or-replicate, get_or_default, get_or_past, length-drop, length-map, length-replicate, take-append-drop, take_more}
+use Rattle.std.proofs.lemmas.List.{get_or_append_left, get_or-append-add, append_assoc, append-nil, ext_get_or, get_or-drop, get_or-map, get_or-replicate, get_or_default, get_or_past, length-drop, length-map, length-replicate, take-append-drop}
 use Rattle.std.proofs.lemmas.List.Elements.{All-contains, Contains-append_left, Contains-append_right, Contains-get_or, Contains-push_cases}
 use Rattle.std.proofs.lemmas.List.Sums.{sum_by-set}
-use Rattle.plan_graph.specs.declared.order.Mark.{Mark}
-use Rattle.plan_graph.specs.declared.order.Walk.{Walk}
-use Rattle.plan_graph.specs.declared.order.Mark.TheVariants.{New, Open, Done}
+use Rattle.plan_graph.specs.declared.mark.Mark.{Mark}
+use Rattle.plan_graph.specs.declared.mark.Mark.TheVariants.{New, Open, Done}
 use Rattle.plan_graph.specs.Cycles.{WaitsFor, Chain, IsCycle, IsLeastFirst, IsSimple, rank_over}
-use Rattle.plan_graph.specs.Walking.{AllDone, DoneTo, GoesOn, IsWalk, KeepsMarks, is_pending, left, left_of, pending}
+use Rattle.plan_graph.specs.Walking.{AllDone, DoneTo, IsWalk, KeepsMarks, is_pending, left, left_of, pending}
 use Rattle.plan_graph.proofs.MemberLemmas.{In, append_left, append_right, contained, in_append, in_list}
 
-pub get_same : {X : Type 0} (xs : List X) (i : ℕ) (y : X) → i < length xs → slice_get (set xs i y) i ≡ Some y
+-- === Marks, ranks and paths behind a change ===
+
+get_same : {X : Type 0} (xs : List X) (i : ℕ) (y : X) → i < length xs → slice_get (set xs i y) i ≡ Some y
 get_same [] i y h = absurd (omega (arith, h))
 get_same (x ∷ xs) zero y h = refl
 get_same (x ∷ xs) (suc i) y h = get_same xs i y (omega (arith, h))
 
-pub get_other : {X : Type 0} (xs : List X) (i j : ℕ) (y : X) → j ≢ i → slice_get (set xs i y) j ≡ slice_get xs j
+get_other : {X : Type 0} (xs : List X) (i j : ℕ) (y : X) → j ≢ i → slice_get (set xs i y) j ≡ slice_get xs j
 get_other [] i j y h = refl
 get_other (x ∷ xs) zero zero y h = absurd (h refl)
 get_other (x ∷ xs) zero (suc j) y h = refl
@@ -34,7 +34,7 @@ get_other (x ∷ xs) (suc i) zero y h = refl
 get_other (x ∷ xs) (suc i) (suc j) y h = get_other xs i j y (λ e. h (ap suc e))
 
 -- what is read after a write
-pub get_cases : {X : Type 0} (xs : List X) (i j : ℕ) (y x : X) → slice_get (set xs i y) j ≡ Some x → ((j ≡ i) × (y ≡ x)) ⊎ ((j ≢ i) × (slice_get xs j ≡ Some x))
+get_cases : {X : Type 0} (xs : List X) (i j : ℕ) (y x : X) → slice_get (set xs i y) j ≡ Some x → ((j ≡ i) × (y ≡ x)) ⊎ ((j ≢ i) × (slice_get xs j ≡ Some x))
 get_cases [] i j y x h = cc
 get_cases (a ∷ xs) zero zero y x h = inl (refl, cc)
 get_cases (a ∷ xs) zero (suc j) y x h = inr (λ e. omega (arith, e), h)
@@ -42,70 +42,72 @@ get_cases (a ∷ xs) (suc i) zero y x h = inr (λ e. omega (arith, e), h)
 get_cases (a ∷ xs) (suc i) (suc j) y x h = elim (get_cases xs i j y x h) [ inl e ↦ inl (ap suc e.0, e.1) | inr e ↦ inr (λ f. e.0 (omega (arith, f)), e.1) ]
 
 -- done stays done
-pub done_kept : (marks : List Mark) (i : ℕ) (y : Mark) (ws : List ℕ) → slice_get marks i ≢ Some Done → AllDone marks ws → AllDone (set marks i y) ws
+done_kept : (marks : List Mark) (i : ℕ) (y : Mark) (ws : List ℕ) → slice_get marks i ≢ Some Done → AllDone marks ws → AllDone (set marks i y) ws
 done_kept marks i y [] n h = tt
 done_kept marks i y (w ∷ ws) n h = (get_other marks i w y (λ e. n (ap (slice_get marks) (sym e) ∙ h.0)) ∙ h.0, done_kept marks i y ws n h.1)
 
-pub rank_kept : (marks : List Mark) (ranks : List ℕ) (i r : ℕ) (ws : List ℕ) → slice_get marks i ≢ Some Done → AllDone marks ws → rank_over (set ranks i r) ws ≡ rank_over ranks ws
+rank_kept : (marks : List Mark) (ranks : List ℕ) (i r : ℕ) (ws : List ℕ) → slice_get marks i ≢ Some Done → AllDone marks ws → rank_over (set ranks i r) ws ≡ rank_over ranks ws
 rank_kept marks ranks i r [] n h = refl
 rank_kept marks ranks i r (w ∷ ws) n h =
     let other : w ≢ i = λ e. n (ap (slice_get marks) (sym e) ∙ h.0) in
     ap (λ v. max (v + 1) (rank_over (set ranks i r) ws)) (get_or-set_other ranks i w r 0 other) ∙ ap (λ v. max (slice_index ranks w + 1) v) (rank_kept marks ranks i r ws n h.1)
 
-pub new_not_done : New ≢ Done
-new_not_done e = cc
-
-pub open_not_done : Open ≢ Done
-open_not_done e = cc
-
 -- the last of a list, and those before it
-pub at_end : (path : List ℕ) (x : ℕ) → slice_index (path ++ x ∷ []) (length path) ≡ x
+at_end : (path : List ℕ) (x : ℕ) → slice_index (path ++ x ∷ []) (length path) ≡ x
 at_end path x = let h : get_or (path ++ x ∷ []) (length path + 0) 0 ≡ x = get_or-append-add path (x ∷ []) 0 0 in subst (λ n. get_or (path ++ x ∷ []) n 0 ≡ x) (omega arith) h
 
-pub before_end : (path : List ℕ) (x i : ℕ) → i < length path → slice_index (path ++ x ∷ []) i ≡ slice_index path i
+before_end : (path : List ℕ) (x i : ℕ) → i < length path → slice_index (path ++ x ∷ []) i ≡ slice_index path i
 before_end path x i h = get_or_append_left path (x ∷ []) 0 i h
 
+-- the length of a path with one edge more
 pub length_end : (path : List ℕ) (x : ℕ) → length (path ++ x ∷ []) ≡ length path + 1
 length_end path x = length-append path (x ∷ [])
 
-pub end_cases : (path : List ℕ) (x i : ℕ) → i < length (path ++ x ∷ []) → (i < length path) ⊎ (i ≡ length path)
+end_cases : (path : List ℕ) (x i : ℕ) → i < length (path ++ x ∷ []) → (i < length path) ⊎ (i ≡ length path)
 end_cases path x i h = let l : length (path ++ x ∷ []) ≡ length path + 1 = length_end path x in
     let le : i ≤ length path = omega (arith, l, h) in
     elim (eq-or-lt_of_le le) [ inl e ↦ inr e | inr lt ↦ inl lt ]
 
+-- === Chains ===
+
 -- chains that are cut, that go on, and that meet
-pub chain_front : (waits : List (List ℕ)) (xs ys : List ℕ) → Chain waits (xs ++ ys) → Chain waits xs
+chain_front : (waits : List (List ℕ)) (xs ys : List ℕ) → Chain waits (xs ++ ys) → Chain waits xs
 chain_front waits [] ys h = tt
 chain_front waits (x ∷ []) ys h = tt
 chain_front waits (x ∷ y ∷ xs) ys h = (h.0, chain_front waits (y ∷ xs) ys h.1)
 
-pub chain_back : (waits : List (List ℕ)) (xs ys : List ℕ) → Chain waits (xs ++ ys) → Chain waits ys
+chain_back : (waits : List (List ℕ)) (xs ys : List ℕ) → Chain waits (xs ++ ys) → Chain waits ys
 chain_back waits [] ys h = h
 chain_back waits (x ∷ []) [] h = tt
 chain_back waits (x ∷ []) (y ∷ ys) h = h.1
 chain_back waits (x ∷ z ∷ xs) ys h = chain_back waits (z ∷ xs) ys h.1
 
+-- a chain with one edge more, which its last waits for
 pub chain_push : (waits : List (List ℕ)) (front : List ℕ) (top next : ℕ) → Chain waits (front ++ top ∷ []) → WaitsFor waits top next → Chain waits ((front ++ top ∷ []) ++ next ∷ [])
 chain_push waits [] top next h w = (w, tt)
 chain_push waits (x ∷ []) top next h w = (h.0, (w, tt))
 chain_push waits (x ∷ y ∷ front) top next h w = (h.0, chain_push waits (y ∷ front) top next h.1 w)
 
-pub chain_join : (waits : List (List ℕ)) (xs : List ℕ) (y : ℕ) (ys : List ℕ) → Chain waits (xs ++ y ∷ []) → Chain waits (y ∷ ys) → Chain waits (xs ++ y ∷ ys)
+chain_join : (waits : List (List ℕ)) (xs : List ℕ) (y : ℕ) (ys : List ℕ) → Chain waits (xs ++ y ∷ []) → Chain waits (y ∷ ys) → Chain waits (xs ++ y ∷ ys)
 chain_join waits [] y ys h g = g
 chain_join waits (x ∷ []) y ys h g = (h.0, g)
 chain_join waits (x ∷ z ∷ xs) y ys h g = (h.0, chain_join waits (z ∷ xs) y ys h.1 g)
 
+-- === What is left to do ===
+
 -- what was done to i stays done to i
-pub done_to_kept : (marks : List Mark) (i : ℕ) (y : Mark) (row : List ℕ) (n : ℕ) → slice_get marks i ≢ Some Done → DoneTo marks row n → DoneTo (set marks i y) row n
+done_to_kept : (marks : List Mark) (i : ℕ) (y : Mark) (row : List ℕ) (n : ℕ) → slice_get marks i ≢ Some Done → DoneTo marks row n → DoneTo (set marks i y) row n
 done_to_kept marks i y row n not_done h k lt = get_other marks i (slice_index row k) y (λ e. not_done (ap (slice_get marks) (sym e) ∙ h k lt)) ∙ h k lt
 
+-- a mark that is not new leaves what is new as it was
 pub marks_kept : (marks : List Mark) (i : ℕ) (y : Mark) → y ≢ New → KeepsMarks marks (set marks i y)
 marks_kept marks i y old e h = elim (get_cases marks i e y New h) [ inl c ↦ absurd (old c.1) | inr c ↦ c.1 ]
 
 -- what is on the path isn't new
-pub not_new : (waits : List (List ℕ)) (marks : List Mark) (passed ranks path : List ℕ) (next : ℕ) → IsWalk waits marks passed ranks path → slice_get marks next ≡ Some New → (i : ℕ) → i < length path → slice_index path i ≢ next
+not_new : (waits : List (List ℕ)) (marks : List Mark) (passed ranks path : List ℕ) (next : ℕ) → IsWalk waits marks passed ranks path → slice_get marks next ≡ Some New → (i : ℕ) → i < length path → slice_index path i ≢ next
 not_new waits marks passed ranks path next w fresh i lt same = let e : slice_get marks next ≡ Some Open = subst (λ v. slice_get marks v ≡ Some Open) same (w.on_path i lt) in cc
 
+-- opening an edge leaves less to do
 pub left_open : (marks : List Mark) (i : ℕ) → i < length marks → slice_get marks i ≡ Some New → left (set marks i Open) < left marks
 left_open marks i h e =
     let s : left (set marks i Open) + left_of (get_or marks i New) ≡ left marks + 1 = sum_by-set left_of marks i Open New h in
@@ -113,6 +115,7 @@ left_open marks i h e =
     let k : left_of (get_or marks i New) ≡ 2 = ap left_of g in
     omega (arith, s, k)
 
+-- so does closing one
 pub left_done : (marks : List Mark) (i : ℕ) → i < length marks → slice_get marks i ≡ Some Open → left (set marks i Done) < left marks
 left_done marks i h e =
     let s : left (set marks i Done) + left_of (get_or marks i New) ≡ left marks + 0 = sum_by-set left_of marks i Done New h in
@@ -131,6 +134,9 @@ pending_done marks i h e =
     let k : is_pending (get_or marks i New) ≡ 1 = ap is_pending (get_or_from_slice_get marks i Open New e) in
     omega (arith, s, k)
 
+-- === An edge that is opened or closed ===
+
+-- what holds of a walk holds behind an edge that is opened
 pub opens : (waits : List (List ℕ)) (marks : List Mark) (passed ranks path : List ℕ) (next : ℕ) → IsWalk waits marks passed ranks path → slice_get marks next ≡ Some New
     → Chain waits (path ++ next ∷ []) → IsWalk waits (set marks next Open) passed ranks (path ++ next ∷ [])
 opens waits marks passed ranks path next w fresh waited =
@@ -171,7 +177,7 @@ opens waits marks passed ranks path next w fresh waited =
     }
 
 -- the row that was closed just now
-pub closed_row : (waits : List (List ℕ)) (marks : List Mark) (ranks : List ℕ) (top r e : ℕ) → e ≡ top → length ranks ≡ length waits → length marks ≡ length waits → top < length marks
+closed_row : (waits : List (List ℕ)) (marks : List Mark) (ranks : List ℕ) (top r e : ℕ) → e ≡ top → length ranks ≡ length waits → length marks ≡ length waits → top < length marks
     → slice_get marks top ≢ Some Done → AllDone marks (get_or waits top []) → r ≡ rank_over ranks (get_or waits top [])
     → AllDone (set marks top Done) (get_or waits e []) × (slice_index (set ranks top r) e ≡ rank_over (set ranks top r) (get_or waits e []))
 closed_row waits marks ranks top r e same ranked marked range not_done alldone rank =
@@ -182,13 +188,14 @@ closed_row waits marks ranks top r e same ranked marked range not_done alldone r
     )
 
 -- a rank over ranks that are low
-pub rank_low : (marks : List Mark) (ranks row : List ℕ) (bound : ℕ) → ((e : ℕ) → slice_get marks e ≡ Some Done → slice_index ranks e + 1 ≤ bound) → AllDone marks row → rank_over ranks row ≤ bound
+rank_low : (marks : List Mark) (ranks row : List ℕ) (bound : ℕ) → ((e : ℕ) → slice_get marks e ≡ Some Done → slice_index ranks e + 1 ≤ bound) → AllDone marks row → rank_over ranks row ≤ bound
 rank_low marks ranks [] bound low h = omega arith
 rank_low marks ranks (w ∷ ws) bound low h =
     let first : slice_index ranks w + 1 ≤ bound = low w h.0 in
     let rest : rank_over ranks ws ≤ bound = rank_low marks ranks ws bound low h.1 in
     omega (arith, first, rest)
 
+-- what holds of a walk holds behind an edge that is closed
 pub closes : (waits : List (List ℕ)) (marks : List Mark) (passed ranks path front : List ℕ) (top r : ℕ) → IsWalk waits marks passed ranks path → path ≡ front ++ top ∷ []
     → AllDone marks (get_or waits top []) → r ≡ rank_over ranks (get_or waits top []) → IsWalk waits (set marks top Done) passed (set ranks top r) front
 closes waits marks passed ranks path front top r w p alldone rank =
@@ -234,21 +241,25 @@ closes waits marks passed ranks path front top r w p alldone rank =
       most = omega (arith, most, less, same);
     }
 
+-- the last of the path is open
 pub top_open : (waits : List (List ℕ)) (marks : List Mark) (passed ranks path front : List ℕ) (top : ℕ) → IsWalk waits marks passed ranks path → path ≡ front ++ top ∷ [] → slice_get marks top ≡ Some Open
 top_open waits marks passed ranks path front top w p =
     let long : length path ≡ length front + 1 = ap length p ∙ length_end front top in
     subst (λ v. slice_get marks v ≡ Some Open) (ap (λ q. slice_index q (length front)) p ∙ at_end front top) (w.on_path (length front) (omega (arith, long)))
 
+-- a list with one item more, without it
 pub take_end : (front : List ℕ) (x : ℕ) → take (length front) (front ++ x ∷ []) ≡ front
 take_end [] x = refl
 take_end (y ∷ front) x = ap (λ ys. y ∷ ys) (take_end front x)
 
+-- === The cycle that a path closes ===
+
 -- the cycle that a path closes: from a place on
-pub cycle_at : (waits : List (List ℕ)) (xs : List ℕ) (y : ℕ) (ys : List ℕ) → Chain waits ((xs ++ y ∷ ys) ++ y ∷ []) → IsCycle waits (y ∷ ys)
+cycle_at : (waits : List (List ℕ)) (xs : List ℕ) (y : ℕ) (ys : List ℕ) → Chain waits ((xs ++ y ∷ ys) ++ y ∷ []) → IsCycle waits (y ∷ ys)
 cycle_at waits xs y ys h = chain_back waits xs (y ∷ (ys ++ y ∷ [])) (subst (Chain waits) (append_assoc xs (y ∷ ys) (y ∷ [])) h)
 
 -- a cycle from another of its edges on
-pub cycle_turned : (waits : List (List ℕ)) (xs : List ℕ) (y : ℕ) (ys : List ℕ) → IsCycle waits (xs ++ y ∷ ys) → IsCycle waits (y ∷ (ys ++ xs))
+cycle_turned : (waits : List (List ℕ)) (xs : List ℕ) (y : ℕ) (ys : List ℕ) → IsCycle waits (xs ++ y ∷ ys) → IsCycle waits (y ∷ (ys ++ xs))
 cycle_turned waits [] y ys h = subst (λ zs. Chain waits (y ∷ (zs ++ y ∷ []))) (sym (append-nil ys)) h
 cycle_turned waits (x ∷ xs) y ys h =
     let whole : Chain waits ((x ∷ xs) ++ (y ∷ (ys ++ x ∷ []))) = subst (Chain waits) (ap (λ (zs : List ℕ). x ∷ zs) (append_assoc xs (y ∷ ys) (x ∷ []))) h in
@@ -257,19 +268,24 @@ cycle_turned waits (x ∷ xs) y ys h =
     let joined : Chain waits ((y ∷ ys) ++ (x ∷ (xs ++ y ∷ []))) = chain_join waits (y ∷ ys) x (xs ++ y ∷ []) back front in
     subst (Chain waits) (ap (λ (zs : List ℕ). y ∷ zs) (sym (append_assoc ys (x ∷ xs) (y ∷ [])))) joined
 
-pub other_mark : (m : Mark) → m ≢ New → m ≢ Done → m ≡ Open
+-- === Marks ===
+
+other_mark : (m : Mark) → m ≢ New → m ≢ Done → m ≡ Open
 other_mark New a b = absurd (a refl)
 other_mark Open a b = refl
 other_mark Done a b = absurd (b refl)
 
+-- what is neither new nor done is open
 pub is_open : (marks : List Mark) (next : ℕ) → next < length marks → get_or marks next New ≢ New → slice_get marks next ≢ Some Done → slice_get marks next ≡ Some Open
 is_open marks next lt new done =
     let g : slice_get marks next ≡ Some (get_or marks next New) = slice_get-get_or marks next New lt in
     g ∙ ap (λ x. Some x) (other_mark (get_or marks next New) new (λ d. done (g ∙ ap (λ x. Some x) d)))
 
+-- the marks differ
 pub open_not_new : Open ≢ New
 open_not_new e = cc
 
+-- the marks differ
 pub done_not_new : Done ≢ New
 done_not_new e = cc
 
@@ -284,8 +300,11 @@ pub all_done : (marks : List Mark) (row : List ℕ) → DoneTo marks row (length
 all_done marks [] h = tt
 all_done marks (w ∷ ws) h = (h 0 (omega arith), all_done marks ws (λ i lt. h (suc i) (omega (arith, lt))))
 
+-- an edge that is opened is not new
 pub opened_not_new : (marks : List Mark) (i : ℕ) → i < length marks → slice_get (set marks i Open) i ≢ Some New
 opened_not_new marks i h e = let here : slice_get (set marks i Open) i ≡ Some Open = get_same marks i Open h in cc
+
+-- === A cycle from its least edge on ===
 
 -- each of two parts of a list is within it
 part_in : (waits : List (List ℕ)) (cycle : List ℕ) (at : ℕ) (y : ℕ) (ys : List ℕ) (x : ℕ) → drop at cycle ≡ y ∷ ys → In x (ys ++ take at cycle) → In x cycle
@@ -339,11 +358,7 @@ cycle_closed waits path edge place h here chain =
     let whole : path ≡ take place path ++ (edge ∷ rest) = sym (ap (λ (zs : List ℕ). take place path ++ zs) (sym split) ∙ take-append-drop place path) in
     subst (IsCycle waits) (sym split) (cycle_at waits (take place path) edge rest (subst (λ (zs : List ℕ). Chain waits (zs ++ edge ∷ [])) whole chain))
 
-pub goes_on : (waits : List (List ℕ)) (one two three : Walk) → GoesOn waits one two → GoesOn waits two three → GoesOn waits one three
-goes_on waits one two three g h = record { walk = h.walk; less = omega (arith, g.less, h.less); kept = λ e n. g.kept e (h.kept e n) }
-
-pub stays_met : (marks more : List Mark) (e : ℕ) → KeepsMarks marks more → slice_get marks e ≢ Some New → slice_get more e ≢ Some New
-stays_met marks more e kept met new = met (kept e new)
+-- === What was passed; the beginning and the end of a walk ===
 
 -- what an edge waits for was passed as far as it is done
 pub passes : (waits : List (List ℕ)) (marks : List Mark) (passed ranks path : List ℕ) (e n : ℕ) → IsWalk waits marks passed ranks path → e < length waits → n ≤ length (get_or waits e []) → DoneTo marks (get_or waits e []) n
@@ -370,16 +385,6 @@ passes waits marks passed ranks path e n w here within done =
       low = w.low;
       most = w.most;
     }
-
--- the last of a path, and those before it
-pub last_split : (xs : List ℕ) (x : ℕ) → slice_get xs (length xs - 1) ≡ Some x → (front : List ℕ) × (xs ≡ front ++ x ∷ [])
-last_split xs x e =
-    let lt = slice_get_within xs (length xs - 1) x e in
-    let all : length xs - 1 + 1 ≡ length xs = omega (arith, lt) in
-    let here : get_or xs (length xs - 1) 0 ≡ x = get_or_from_slice_get xs (length xs - 1) x 0 e in (
-      take (length xs - 1) xs,
-      sym (take-length xs) ∙ (ap (λ n. take n xs) (sym all) ∙ (take_more xs (length xs - 1) 0 lt ∙ ap (λ (y : ℕ). take (length xs - 1) xs ++ y ∷ []) here)),
-    )
 
 abbrev zeros : ℕ → List ℕ
 zeros n = replicate n 0
@@ -447,10 +452,3 @@ ranks_low waits marks passed ranks w met e d h =
     let low : slice_index ranks e + pending marks < length marks = w.low e (mark ∙ ap (λ (m : Mark). Some m) done) in
     let same : get_or ranks e d ≡ slice_index ranks e = get_or_default ranks e d 0 h in
     omega (arith, low, w.marked, same)
-
--- what was met stays met, and the next is met
-pub met_next : (old new : List Mark) (n e : ℕ) → KeepsMarks old new → slice_get new n ≢ Some New → ((k : ℕ) → k < n → slice_get old k ≢ Some New) → e < n + 1 → slice_get new e ≢ Some New
-met_next old new n e kept here before h = elim (cases_lt e n) [
-  | inl lt ↦ stays_met old new e kept (before e lt)
-  | inr ge ↦ let same : n ≡ e = omega (arith, h, ge) in subst (λ k. slice_get new k ≢ Some New) same here
-]

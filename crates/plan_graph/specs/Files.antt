@@ -8,7 +8,7 @@ Path = List ℕ
 
 -- a path that no edge makes or uses
 abbrev pub unknown : File
-unknown = record { maker = None; is_used = false }
+unknown = record { producer = None; is_used = false }
 
 -- paths, each with what is known of it
 abbrev pub Table : Type 0
@@ -24,8 +24,8 @@ abbrev pub with_file : Table → Path → File → Table
 with_file [] path file = (path, file) ∷ []
 with_file (f ∷ fs) path file = if bytes_eq path f.0 then (f.0, file) ∷ fs else f ∷ with_file fs path file
 
-abbrev pub maker_in : Table → Path → Option ℕ
-maker_in files path = (file_of path files).maker
+abbrev pub producer_in : Table → Path → Option ℕ
+producer_in files path = (file_of path files).producer
 
 abbrev pub is_used : Table → Path → Bool
 is_used files path = (file_of path files).is_used
@@ -44,8 +44,8 @@ file_at number [] = unknown
 file_at zero (f ∷ fs) = f.1
 file_at (suc number) (f ∷ fs) = file_at number fs
 
-abbrev pub maker_at : Table → ℕ → Option ℕ
-maker_at files number = (file_at number files).maker
+abbrev pub producer_at : Table → ℕ → Option ℕ
+producer_at files number = (file_at number files).producer
 
 -- one path more, unless it is there
 abbrev pub with_path : List Path → Path → List Path

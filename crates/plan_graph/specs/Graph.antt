@@ -8,8 +8,8 @@ use Rattle.plan_scope.specs.Scopes.{or_else}
 use Rattle.plan_scope.specs.Edges.{is_among}
 use Rattle.plan_graph.specs.declared.fault.GraphFault.{GraphFault}
 use Rattle.plan_graph.specs.declared.fault.GraphFault.TheVariants.{TwoProducers, Cycle, UnknownDefault, TooManyEdges, Memory}
-use Rattle.plan_graph.specs.declared.edges.Graph.{Graph as GraphMeant}
-use Rattle.plan_graph.specs.Files.{Path, maker_in, number_of, paths_in, with_paths}
+use Rattle.plan_graph.specs.declared.graph_data.Graph.{Graph as GraphMeant}
+use Rattle.plan_graph.specs.Files.{Path, producer_in, number_of, paths_in, with_paths}
 use Rattle.plan_graph.specs.Cycles.{AreRanks, IsCycle, IsLeastFirst, IsSimple}
 
 -- explicit outputs before implicit ones
@@ -36,8 +36,8 @@ abbrev pub inputs_of : Edge → List Path
 inputs_of e = named_inputs_of e ++ order_only_of e
 
 -- an edge that makes one of these paths
-abbrev pub makes_any : List Path → Edge → Bool
-makes_any paths e = list_any (is_among (outputs_of e)) paths
+abbrev pub produces_any : List Path → Edge → Bool
+produces_any paths e = list_any (is_among (outputs_of e)) paths
 
 -- the numbers, from n on, of the edges at which the test gives true
 abbrev pub numbers_from : ℕ → (Edge → Bool) → List Edge → List ℕ
@@ -46,18 +46,18 @@ numbers_from n test (e ∷ es) = if test e then n ∷ numbers_from (n + 1) test 
 
 -- what an edge waits for, ascending: each edge that makes one of its inputs
 abbrev pub waits_of : List Edge → Edge → List ℕ
-waits_of edges e = numbers_from 0 (makes_any (inputs_of e)) edges
+waits_of edges e = numbers_from 0 (produces_any (inputs_of e)) edges
 
 abbrev pub all_waits : List Edge → List (List ℕ)
 all_waits edges = map (waits_of edges) edges
 
 -- the number, from n on, of the first edge that makes a path
-abbrev pub maker_from : ℕ → List Edge → Path → Option ℕ
-maker_from n [] path = None
-maker_from n (e ∷ es) path = if is_among (outputs_of e) path then Some n else maker_from (n + 1) es path
+abbrev pub producer_from : ℕ → List Edge → Path → Option ℕ
+producer_from n [] path = None
+producer_from n (e ∷ es) path = if is_among (outputs_of e) path then Some n else producer_from (n + 1) es path
 
-abbrev pub maker_of : List Edge → Path → Option ℕ
-maker_of edges path = maker_from 0 edges path
+abbrev pub producer_of : List Edge → Path → Option ℕ
+producer_of edges path = producer_from 0 edges path
 
 -- each path that build lines name, once, where it first stands
 abbrev pub files_of : List Edge → List Path
@@ -74,36 +74,36 @@ is_last edges e = list_any (λ o. not (is_among (flat_map inputs_of edges) o)) (
 -- what is built where no target is asked for: what `default` statements name, else each edge that is last
 abbrev pub default_edges : List Edge → List DefaultTarget → List ℕ
 default_edges edges [] = numbers_from 0 (is_last edges) edges
-default_edges edges (d ∷ ds) = numbers_from 0 (makes_any (map (λ t. t.path) (d ∷ ds))) edges
+default_edges edges (d ∷ ds) = numbers_from 0 (produces_any (map (λ t. t.path) (d ∷ ds))) edges
 
 -- the first of these outputs that stands above already: in front of it, or among these paths
-abbrev pub made_twice : List Path → List Path → Option GraphFault
-made_twice above [] = None
-made_twice above (o ∷ os) = if is_among above o then Some (TwoProducers o) else made_twice (above ++ o ∷ []) os
+abbrev pub second_producer : List Path → List Path → Option GraphFault
+second_producer above [] = None
+second_producer above (o ∷ os) = if is_among above o then Some (TwoProducers o) else second_producer (above ++ o ∷ []) os
 
 -- the first of these targets that no edge above makes
-abbrev pub unmade : List Edge → List DefaultTarget → Option GraphFault
-unmade above [] = None
-unmade above (d ∷ ds) = if is_among (flat_map outputs_of above) d.path then unmade above ds else Some (UnknownDefault d.path)
+abbrev pub unknown_target : List Edge → List DefaultTarget → Option GraphFault
+unknown_target above [] = None
+unknown_target above (d ∷ ds) = if is_among (flat_map outputs_of above) d.path then unknown_target above ds else Some (UnknownDefault d.path)
 
 abbrev pub max_edges : ℕ
 max_edges = 1048576
 
-abbrev pub one_too_many : List Edge → Option GraphFault
-one_too_many above = if nat_le max_edges (length above) then Some TooManyEdges else None
+abbrev pub edge_limit : List Edge → Option GraphFault
+edge_limit above = if nat_le max_edges (length above) then Some TooManyEdges else None
 
 -- how many of these targets of `default` statements stand above the build line of this number
-abbrev pub due_len : ℕ → List DefaultTarget → ℕ
-due_len number defaults = prefix_len (λ d. nat_le d.edges_above number) defaults
+abbrev pub targets_above : ℕ → List DefaultTarget → ℕ
+targets_above number defaults = prefix_len (λ d. nat_le d.edges_above number) defaults
 
 -- the first fault in the order of reading, past these edges: of the targets that are left, and of the edges that are left
 abbrev pub fault_past : List Edge → List DefaultTarget → List Edge → Option GraphFault
-fault_past above defaults [] = unmade above defaults
+fault_past above defaults [] = unknown_target above defaults
 fault_past above defaults (e ∷ es) =
-    let due = due_len (length above) defaults in
-    or_else (unmade above (take due defaults))
-    (or_else (made_twice (flat_map outputs_of above) (outputs_of e))
-    (or_else (one_too_many above)
+    let due = targets_above (length above) defaults in
+    or_else (unknown_target above (take due defaults))
+    (or_else (second_producer (flat_map outputs_of above) (outputs_of e))
+    (or_else (edge_limit above)
     (fault_past (above ++ e ∷ []) (drop due defaults) es)))
 
 abbrev pub first_fault : Manifest → Option GraphFault
@@ -114,8 +114,8 @@ pub record IsGraph (m : Manifest) (g : GraphMeant) : Type 0 where
   pub sound : first_fault m ≡ None
   pub few : length m.edges ≤ max_edges
   pub files : paths_in g.files ≡ files_of m.edges
-  pub makers : (path : Path) → maker_in g.files path ≡ maker_of m.edges path
-  pub own : (n : ℕ) (e : Edge) (path : Path) → slice_get m.edges n ≡ Some e → Contains (outputs_of e) path → maker_of m.edges path ≡ Some n
+  pub producers : (path : Path) → producer_in g.files path ≡ producer_of m.edges path
+  pub own : (n : ℕ) (e : Edge) (path : Path) → slice_get m.edges n ≡ Some e → Contains (outputs_of e) path → producer_of m.edges path ≡ Some n
   pub outputs : g.outputs ≡ rows_of outputs_of (files_of m.edges) m.edges
   pub inputs : g.inputs ≡ rows_of inputs_named (files_of m.edges) m.edges
   pub waits : g.waits ≡ all_waits m.edges

@@ -5,8 +5,8 @@ use Rattle.std.specs.List.Sorted.{IsStrictlyIncreasing}
 use Rattle.plan_scope.specs.declared.manifest.DefaultTarget.{DefaultTarget}
 use Rattle.plan_scope.specs.declared.manifest.Edge.{Edge}
 use Rattle.plan_graph.specs.Cycles.{AreRanks, IsCycle, WaitsFor}
-use Rattle.plan_graph.specs.Files.{Path, Table, maker_at, maker_in, number_of, paths_in}
-use Rattle.plan_graph.specs.Graph.{all_waits, default_edges, files_of, inputs_named, inputs_of, maker_of, outputs_of}
+use Rattle.plan_graph.specs.Files.{Path, Table, producer_at, producer_in, number_of, paths_in}
+use Rattle.plan_graph.specs.Graph.{all_waits, default_edges, files_of, inputs_named, inputs_of, producer_of, outputs_of}
 
 -- the rank of an edge is greater than that of each edge which it waits for
 abbrev pub RanksRise : Type 0
@@ -26,12 +26,12 @@ abbrev pub FilesDistinct : Type 0
 FilesDistinct = (edges : List Edge) → AllPairs (λ p q. p ≢ q) (files_of edges)
 
 -- what makes a path makes the path of its number
-abbrev pub MakersNumbered : Type 0
-MakersNumbered = (files : Table) (path : Path) → maker_at files (number_of (paths_in files) path) ≡ maker_in files path
+abbrev pub ProducersNumbered : Type 0
+ProducersNumbered = (files : Table) (path : Path) → producer_at files (number_of (paths_in files) path) ≡ producer_in files path
 
--- an edge waits for the makers of its inputs
-abbrev pub MakersWaited : Type 0
-MakersWaited = (edges : List Edge) (n w : ℕ) (e : Edge) (path : Path) → slice_get edges n ≡ Some e → Contains (inputs_of e) path → maker_of edges path ≡ Some w → WaitsFor (all_waits edges) n w
+-- an edge waits for the producers of its inputs
+abbrev pub ProducersWaited : Type 0
+ProducersWaited = (edges : List Edge) (n w : ℕ) (e : Edge) (path : Path) → slice_get edges n ≡ Some e → Contains (inputs_of e) path → producer_of edges path ≡ Some w → WaitsFor (all_waits edges) n w
 
 -- what an edge waits for ascends, and is edges
 abbrev pub WaitsAscend : Type 0

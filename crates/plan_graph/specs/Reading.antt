@@ -7,33 +7,33 @@ use Rattle.plan_scope.specs.declared.manifest.Manifest.{Manifest}
 use Rattle.plan_graph.specs.declared.fault.GraphFault.{GraphFault}
 use Rattle.plan_graph.specs.declared.fault.GraphFault.TheVariants.{TwoProducers, UnknownDefault, TooManyEdges}
 use Rattle.plan_graph.specs.declared.files.File.{File}
-use Rattle.plan_graph.specs.Files.{Path, Table, file_of, maker_in, numbers_past, with_file, with_paths}
-use Rattle.plan_graph.specs.Graph.{due_len, inputs_named, max_edges, outputs_of}
+use Rattle.plan_graph.specs.Files.{Path, Table, file_of, producer_in, numbers_past, with_file, with_paths}
+use Rattle.plan_graph.specs.Graph.{targets_above, inputs_named, max_edges, outputs_of}
 
 -- a file that this edge makes
-abbrev pub made : ℕ → File → File
-made number file = record { maker = Some number; is_used = file.is_used }
+abbrev pub with_producer : ℕ → File → File
+with_producer number file = record { producer = Some number; is_used = file.is_used }
 
--- a table with one output more of this edge, unless it has a maker
+-- a table with one output more of this edge, unless it has a producer
 abbrev pub with_output : Table → ℕ → Path → File → Result Table GraphFault
-with_output files number path file = if is_some file.maker then Err (TwoProducers path) else Ok (with_file files path (made number file))
+with_output files number path file = if is_some file.producer then Err (TwoProducers path) else Ok (with_file files path (with_producer number file))
 
 abbrev pub with_outputs : Table → ℕ → List Path → Result Table GraphFault
 with_outputs files number [] = Ok files
 with_outputs files number (o ∷ os) = with_output files number o (file_of o files) >>= λ more. with_outputs more number os
 
--- whether the maker of a path is the edge itself
+-- whether the producer of a path is the edge itself
 abbrev pub is_own : Option ℕ → Option ℕ → Bool
-is_own (Some maker) (Some own) = maker == own
-is_own (Some maker) None = false
+is_own (Some producer) (Some own) = producer == own
+is_own (Some producer) None = false
 is_own None own = false
 
 -- a file that is an input, unless it is the edge's own
-abbrev pub used : Option ℕ → File → File
-used own file = record { maker = file.maker; is_used = file.is_used || not (is_own file.maker own) }
+abbrev pub with_use : Option ℕ → File → File
+with_use own file = record { producer = file.producer; is_used = file.is_used || not (is_own file.producer own) }
 
 abbrev pub with_input : Option ℕ → Table → Path → Table
-with_input own files path = with_file files path (used own (file_of path files))
+with_input own files path = with_file files path (with_use own (file_of path files))
 
 abbrev pub with_inputs : Option ℕ → Table → List Path → Table
 with_inputs own files [] = files
@@ -43,24 +43,24 @@ with_inputs own files (i ∷ is) = with_inputs own (with_input own files i) is
 abbrev pub own_of : ℕ → Edge → Option ℕ
 own_of number e = if e.phony then Some number else None
 
-abbrev pub fitting : ℕ → Table → Result Table GraphFault
-fitting number files = if nat_le max_edges number then Err TooManyEdges else Ok files
+abbrev pub within_limit : ℕ → Table → Result Table GraphFault
+within_limit number files = if nat_le max_edges number then Err TooManyEdges else Ok files
 
 -- a table with one edge more, which has this number
 abbrev pub with_edge : Table → ℕ → Edge → Result Table GraphFault
 with_edge files number e =
-    with_outputs files number (outputs_of e) >>= λ outputs. fitting number outputs >>= λ more. Ok (with_inputs (own_of number e) more (inputs_named e))
+    with_outputs files number (outputs_of e) >>= λ outputs. within_limit number outputs >>= λ more. Ok (with_inputs (own_of number e) more (inputs_named e))
 
--- a table that has a maker of these targets
+-- a table that has a producer of these targets
 abbrev pub with_targets : Table → List DefaultTarget → Result Table GraphFault
 with_targets files [] = Ok files
-with_targets files (d ∷ ds) = if is_some (maker_in files d.path) then with_targets files ds else Err (UnknownDefault d.path)
+with_targets files (d ∷ ds) = if is_some (producer_in files d.path) then with_targets files ds else Err (UnknownDefault d.path)
 
 -- a table with the edges and targets that are left, the first edge of which has this number
 abbrev pub with_edges : Table → ℕ → List DefaultTarget → List Edge → Result Table GraphFault
 with_edges files number defaults [] = with_targets files defaults
 with_edges files number defaults (e ∷ es) =
-    let due = due_len number defaults in
+    let due = targets_above number defaults in
     with_targets files (take due defaults) >>= λ checked. with_edge checked number e >>= λ more. with_edges more (number + 1) (drop due defaults) es
 
 abbrev pub table_of : Manifest → Result Table GraphFault

@@ -1,11 +1,11 @@
--- How far a walk along waits has come.
-use Rattle.std.specs.Prelude.{◌≡◌, ◌≢◌, ◌+◌, ◌<◌, ◌≤◌, ℕ, List, [], ◌∷◌, All, Contains, None, Option, Some, get_or, length, slice_get, slice_index, sum_by}
-use Rattle.plan_graph.specs.declared.order.Mark.{Mark}
-use Rattle.plan_graph.specs.declared.order.Mark.TheVariants.{Done, New, Open}
-use Rattle.plan_graph.specs.declared.order.Walk.{Walk}
+-- How far a walk along waits has come, and what holds of it at all times.
+use Rattle.std.specs.Prelude.{◌≡◌, ◌≢◌, ◌+◌, ◌<◌, ◌≤◌, ◌++◌, ℕ, List, [], ◌∷◌, All, Contains, None, Option, Some, get_or, length, replicate, slice_get, slice_index, sum_by}
+use Rattle.plan_graph.specs.declared.mark.Mark.{Mark}
+use Rattle.plan_graph.specs.declared.mark.Mark.TheVariants.{Done, New, Open}
 use Rattle.plan_graph.specs.declared.fault.GraphFault.{GraphFault}
 use Rattle.plan_graph.specs.declared.fault.GraphFault.TheVariants.{Cycle, Memory, TooManyEdges, TwoProducers, UnknownDefault}
-use Rattle.plan_graph.specs.Cycles.{Chain, IsCycle, IsLeastFirst, IsSimple, WaitsFor, rank_over}
+use Rattle.plan_graph.specs.Graph.{max_edges}
+use Rattle.plan_graph.specs.Cycles.{Chain, IsCycle, IsLeastFirst, IsSimple, rank_over}
 
 -- each edge that is waited for is one
 abbrev pub InRange : List (List ℕ) → Type 0
@@ -38,45 +38,73 @@ is_pending Done = 0
 abbrev pub pending : List Mark → ℕ
 pending marks = sum_by is_pending marks
 
--- what is done has its rank, which is less than the number of edges that are done; and what is open is the path; of what each edge waits for so many are done as were passed
+-- What holds of a walk: of what each edge waits for, the marks, how many waits of each edge were passed, the ranks and the path.
 pub record IsWalk (waits : List (List ℕ)) (marks : List Mark) (passed ranks path : List ℕ) : Type 0 where
+  -- each edge has a mark, a rank and a number of waits that were passed
   pub marked : length marks ≡ length waits
   pub ranked : length ranks ≡ length waits
   pub counted : length passed ≡ length waits
+  -- what is done has its rank, and all that it waits for is done
   pub finished : (e : ℕ) → slice_get marks e ≡ Some Done → AllDone marks (get_or waits e []) × (slice_index ranks e ≡ rank_over ranks (get_or waits e []))
+  -- what is open stands on the path, and nothing else does
   pub opened : (e : ℕ) → slice_get marks e ≡ Some Open → Contains path e
   pub on_path : (i : ℕ) → i < length path → slice_get marks (slice_index path i) ≡ Some Open
+  -- no edge stands on the path twice
   pub apart : (i j : ℕ) → i < j → j < length path → slice_index path i ≢ slice_index path j
+  -- each edge of the path waits for the next
   pub chain : Chain waits path
+  -- no more waits of an edge were passed than there are, and those are done
   pub within : (e : ℕ) → slice_index passed e ≤ length (get_or waits e [])
   pub behind : (e : ℕ) → DoneTo marks (get_or waits e []) (slice_index passed e)
+  -- a rank is less than the number of edges that are done
   pub low : (e : ℕ) → slice_get marks e ≡ Some Done → slice_index ranks e + pending marks < length marks
   pub most : pending marks ≤ length marks
 
-abbrev pub Walks : List (List ℕ) → Walk → Type 0
-Walks waits w = IsWalk waits w.marks.items w.passed.items w.ranks.items w.path.items
+-- what holds of a walk of the program: also that its edges are few, and that no other is waited for
+pub record IsSound (waits : List (List ℕ)) (marks : List Mark) (passed ranks path : List ℕ) : Type 0 where
+  pub range : InRange waits
+  pub few : length waits ≤ max_edges
+  pub walk : IsWalk waits marks passed ranks path
+
+-- a walk as contracts see it
+pub record State : Type 0 where
+  -- what each edge waits for
+  pub waits : List (List ℕ)
+  -- how far the walk has come with each edge
+  pub marks : List Mark
+  -- the edges that are open, each of which waits for the next
+  pub path : List ℕ
+
+-- a walk that has met no edge
+abbrev pub IsUntrodden : List (List ℕ) → State → Type 0
+IsUntrodden waits w = (w.waits ≡ waits) × (w.marks ≡ replicate (length waits) New) × (w.path ≡ [])
+
+-- the last of a path; none where it is empty
+abbrev pub IsLast : List ℕ → Option ℕ → Type 0
+IsLast path None = path ≡ []
+IsLast path (Some top) = (front : List ℕ) × (path ≡ front ++ top ∷ [])
 
 -- what is new was new before
 abbrev pub KeepsMarks : List Mark → List Mark → Type 0
 KeepsMarks old new = (e : ℕ) → slice_get new e ≡ Some New → slice_get old e ≡ Some New
 
 -- a walk goes on
-pub record GoesOn (waits : List (List ℕ)) (old new : Walk) : Type 0 where
-  pub walk : Walks waits new
-  pub less : left new.marks.items < left old.marks.items
-  pub kept : KeepsMarks old.marks.items new.marks.items
+pub record GoesOn (old new : State) : Type 0 where
+  pub same : new.waits ≡ old.waits
+  pub less : left new.marks < left old.marks
+  pub kept : KeepsMarks old.marks new.marks
 
--- an edge that is waited for and isn't done; none where all are
-abbrev pub IsNext : List (List ℕ) → List Mark → ℕ → Option ℕ → Type 0
-IsNext waits marks e None = AllDone marks (get_or waits e [])
-IsNext waits marks e (Some w) = WaitsFor waits e w × (slice_get marks w ≢ Some Done)
+-- a walk has met an edge, and no edge is open
+pub record HasMet (e : ℕ) (old new : State) : Type 0 where
+  pub same : new.waits ≡ old.waits
+  pub empty : new.path ≡ []
+  pub kept : KeepsMarks old.marks new.marks
+  pub met : slice_get new.marks e ≢ Some New
 
--- what an edge waits for and is done is passed
-pub record Passes (waits : List (List ℕ)) (e : ℕ) (old new : Walk) (next : Option ℕ) : Type 0 where
-  pub walk : Walks waits new
-  pub marks : new.marks ≡ old.marks
-  pub path : new.path ≡ old.path
-  pub answer : IsNext waits new.marks.items e next
+-- an edge that the last of the path waits for and that isn't done; none where all are
+abbrev pub IsNext : State → ℕ → Option ℕ → Type 0
+IsNext w top None = AllDone w.marks (get_or w.waits top [])
+IsNext w top (Some next) = (next < length w.waits) × (slice_get w.marks next ≢ Some Done) × Chain w.waits (w.path ++ next ∷ [])
 
 -- a fault that tells of a cycle
 abbrev pub TellsCycle : List (List ℕ) → GraphFault → Type 0

@@ -3,11 +3,11 @@
 ghost use Rattle.plan_graph.specs.Graph.{GraphIs};
 
 use crate::defaults::default_edges;
-use crate::edges::Graph;
+use crate::edge_reader::read_edges;
 use crate::fault::GraphFault;
-use crate::order::ranks;
-use crate::reading::reading_of;
+use crate::graph_data::Graph;
 use crate::waits::all_waits;
+use crate::walk::ranks;
 use plan_scope::Manifest;
 use std::alloc::Global;
 
@@ -23,7 +23,7 @@ use std::alloc::Global;
 pub fn graph<'a>(alloc: Global, manifest: &'a Manifest) -> Result<Graph<'a>, GraphFault>
     ensures { GraphIs manifest.now result }
 {
-    let read = reading_of(alloc, manifest)?;
+    let read = read_edges(alloc, manifest)?;
     let waits = all_waits(alloc, &read.files, &read.inputs, manifest.edges.as_slice())?;
     let ranks = ranks(alloc, &waits)?;
     let defaults = default_edges(

@@ -5,13 +5,13 @@ ghost use Rattle.std.specs.List.{list_any};
 ghost use Rattle.plan_text.specs.Outcome.{Meets};
 ghost use Rattle.plan_graph.specs.declared.fault.GraphFault.TheVariants.{Memory};
 ghost use Rattle.plan_graph.specs.Files.{file_at, paths_in};
-ghost use Rattle.plan_graph.specs.Fitting.{Fits, makers};
+ghost use Rattle.plan_graph.specs.Fitting.{Fits, producers};
 ghost use Rattle.plan_graph.specs.Graph.{default_edges, is_last, numbers_from, outputs_of, rows_of};
 
 use crate::fault::GraphFault;
 use crate::files::Files;
 use crate::row_list::RowList;
-use crate::waits::{add_maker, ascend};
+use crate::waits::{add_producer, ascend};
 use plan_scope::{DefaultTarget, Edge};
 use plan_text::Items;
 use std::alloc::Global;
@@ -48,17 +48,17 @@ fn last_edges<'a>(
     Ok(Items::new(numbers))
 }
 
-/// The makers of the targets of `default` statements, in their order.
-fn makers_of_targets<'a>(
+/// The producers of the targets of `default` statements, in their order.
+fn producers_of_targets<'a>(
     alloc: Global,
     files: &Files<'a>,
     targets: &[DefaultTarget],
 ) -> Result<Vec<usize>, GraphFault>
-    ensures { Meets Memory (λ v. v.items) result (Ok (makers files.now None (map (λ t. t.path) targets.now))) }
+    ensures { Meets Memory (λ v. v.items) result (Ok (producers files.now None (map (λ t. t.path) targets.now))) }
 {
     let mut numbers = Vec::new(alloc);
     for target in targets {
-        add_maker(&mut numbers, None, files.maker(target.path.as_slice()))?;
+        add_producer(&mut numbers, None, files.producer(target.path.as_slice()))?;
     }
     Ok(numbers)
 }
@@ -78,7 +78,7 @@ pub fn default_edges<'a>(
     if defaults.is_empty() {
         return last_edges(alloc, files, outputs, edges);
     }
-    let mut numbers = makers_of_targets(alloc, files, defaults)?;
+    let mut numbers = producers_of_targets(alloc, files, defaults)?;
     ascend(&mut numbers);
     Ok(Items::new(numbers))
 }

@@ -2,7 +2,7 @@
 
 ghost use Rattle.std.specs.Prelude.{◌≡◌, ◌<◌, [], IfOk, OnOk, Option, Some, None, if◌then◌else◌, length, option_map, slice_get};
 ghost use Rattle.plan_scope.specs.Edges.{is_among};
-ghost use Rattle.plan_graph.specs.Files.{Path, file_at, file_of, maker_at, maker_in, number_of, paths_in, with_file};
+ghost use Rattle.plan_graph.specs.Files.{Path, file_at, file_of, producer_at, producer_in, number_of, paths_in, with_file};
 
 use crate::key::Key;
 use indexmap::IndexSet;
@@ -13,14 +13,14 @@ use std::marker::Model;
 #[derive(Clone, Copy)]
 pub struct File {
     /// The edge that makes it.
-    pub maker: Option<usize>,
+    pub producer: Option<usize>,
     /// Whether it is an input of an edge.
     pub is_used: bool,
 }
 
 /// What is known of a path that no build line names.
 const UNKNOWN: File = File {
-    maker: None,
+    producer: None,
     is_used: false,
 };
 
@@ -130,16 +130,16 @@ impl<'a> Files<'a> {
     }
 
     /// The edge that makes a path.
-    pub fn maker(&self, path: &[u8]) -> Option<usize>
-        ensures { result ≡ maker_in self.now path.now }
+    pub fn producer(&self, path: &[u8]) -> Option<usize>
+        ensures { result ≡ producer_in self.now path.now }
     {
-        self.get(path).maker
+        self.get(path).producer
     }
 
     /// The edge that makes the path of this number.
-    pub fn maker_at(&self, number: usize) -> Option<usize>
-        ensures { result ≡ maker_at self.now number }
+    pub fn producer_at(&self, number: usize) -> Option<usize>
+        ensures { result ≡ producer_at self.now number }
     {
-        self.at(number).maker
+        self.at(number).producer
     }
 }

@@ -1,6 +1,6 @@
 //! What holds of all edges and all waits.
 
-ghost use Rattle.plan_graph.specs.Laws.{DefaultsAscend, FilesComplete, FilesDistinct, MakersNumbered, MakersWaited, RankedUnlessCyclic, RanksRise, WaitsAscend};
+ghost use Rattle.plan_graph.specs.Laws.{DefaultsAscend, FilesComplete, FilesDistinct, ProducersNumbered, ProducersWaited, RankedUnlessCyclic, RanksRise, WaitsAscend};
 
 /// The rank of an edge is greater than that of each edge which it waits for.
 pub fn ranks_rise()
@@ -23,13 +23,13 @@ pub fn files_distinct()
 {}
 
 /// The edge that makes a path makes the path of its number.
-pub fn makers_numbered()
-    ensures { MakersNumbered }
+pub fn producers_numbered()
+    ensures { ProducersNumbered }
 {}
 
-/// An edge waits for the makers of its inputs.
-pub fn makers_waited()
-    ensures { MakersWaited }
+/// An edge waits for the producers of its inputs.
+pub fn producers_waited()
+    ensures { ProducersWaited }
 {}
 
 /// What an edge waits for is edges, in ascending order.

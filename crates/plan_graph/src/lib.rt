@@ -2,23 +2,25 @@
 #![tactic(auto)]
 
 mod build_graph;
+mod cycle;
 mod defaults;
-mod edges;
+mod edge_reader;
 mod fault;
 mod files;
+mod graph_data;
 mod key;
 mod laws;
-mod order;
-mod reading;
+mod mark;
 mod row_list;
 mod waits;
+mod walk;
 
 pub use build_graph::graph;
-pub use edges::{Graph, MAX_EDGES};
 pub use fault::GraphFault;
 pub use files::Files;
+pub use graph_data::{Graph, MAX_EDGES};
 pub use laws::{
-    defaults_ascend, files_complete, files_distinct, makers_numbered, makers_waited,
+    defaults_ascend, files_complete, files_distinct, producers_numbered, producers_waited,
     ranked_unless_cyclic, ranks_rise, waits_ascend,
 };
 pub use row_list::RowList;

@@ -97,10 +97,10 @@ fn has_cycle(alloc: Global, text: &'static [u8], edges: &[usize]) -> bool {
 }
 
 /// The edge that makes a path of the three edges.
-fn maker(alloc: Global, path: &[u8]) -> Option<usize> {
+fn producer(alloc: Global, path: &[u8]) -> Option<usize> {
     let manifest = manifest_of(alloc, THREE)?;
     match graph(alloc, &manifest) {
-        Ok(graph) => graph.files.maker(path),
+        Ok(graph) => graph.files.producer(path),
         Err(_) => None,
     }
 }
@@ -150,10 +150,10 @@ fn number(alloc: Global, path: &[u8]) -> Option<usize> {
 }
 
 /// The edge that makes the path of a number, of the two edges.
-fn maker_at(alloc: Global, number: usize) -> Option<usize> {
+fn producer_at(alloc: Global, number: usize) -> Option<usize> {
     let manifest = manifest_of(alloc, TWO)?;
     match graph(alloc, &manifest) {
-        Ok(graph) => graph.files.maker_at(number),
+        Ok(graph) => graph.files.producer_at(number),
         Err(_) => None,
     }
 }
@@ -191,10 +191,10 @@ fn numbers_of_paths(rt: HostRuntime) -> Result<(), Fail> {
 
 #[test]
 fn makers_by_number(rt: HostRuntime) -> Result<(), Fail> {
-    assert!(rt; maker_at(rt.alloc(), 1) == Some(0));
-    assert!(rt; maker_at(rt.alloc(), 2).is_none());
-    assert!(rt; maker_at(rt.alloc(), 3) == Some(1));
-    assert!(rt; maker_at(rt.alloc(), 5).is_none());
+    assert!(rt; producer_at(rt.alloc(), 1) == Some(0));
+    assert!(rt; producer_at(rt.alloc(), 2).is_none());
+    assert!(rt; producer_at(rt.alloc(), 3) == Some(1));
+    assert!(rt; producer_at(rt.alloc(), 5).is_none());
     Ok(())
 }
 
@@ -222,9 +222,9 @@ fn three_edges(rt: HostRuntime) -> Result<(), Fail> {
 }
 
 #[test]
-fn makers(rt: HostRuntime) -> Result<(), Fail> {
-    assert!(rt; maker(rt.alloc(), b"b") == Some(2));
-    assert!(rt; maker(rt.alloc(), b"d").is_none());
+fn producers(rt: HostRuntime) -> Result<(), Fail> {
+    assert!(rt; producer(rt.alloc(), b"b") == Some(2));
+    assert!(rt; producer(rt.alloc(), b"d").is_none());
     Ok(())
 }
 

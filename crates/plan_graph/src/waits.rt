@@ -5,28 +5,28 @@ ghost use Rattle.plan_text.specs.Outcome.{Meets};
 ghost use Rattle.plan_scope.specs.declared.manifest.Edge.{Edge as EdgeMeant};
 ghost use Rattle.plan_graph.specs.declared.fault.GraphFault.TheVariants.{Memory};
 ghost use Rattle.plan_graph.specs.Files.{number_of, paths_in};
-ghost use Rattle.plan_graph.specs.Fitting.{Fits, IsAscending, makers_at, other};
+ghost use Rattle.plan_graph.specs.Fitting.{Fits, IsAscending, producers_at, unless_own};
 ghost use Rattle.plan_graph.specs.Graph.{all_waits, inputs_named, rows_of, waits_of};
 
+use crate::edge_reader::{is_own, own_of};
 use crate::fault::GraphFault;
 use crate::files::Files;
-use crate::reading::{is_own, own_of};
 use crate::row_list::RowList;
 use plan_scope::Edge;
 use std::alloc::Global;
 
-/// Appends the maker of a path, unless it is the edge itself.
-pub fn add_maker(
+/// Appends the producer of a path, unless it is the edge itself.
+pub fn add_producer(
     row: &mut Vec<usize>,
     own: Option<usize>,
-    maker: Option<usize>,
+    producer: Option<usize>,
 ) -> Result<(), GraphFault>
-    ensures { Meets Memory (λ _. row.new.items) result (Ok (row.old.items ++ other own maker)) }
+    ensures { Meets Memory (λ _. row.new.items) result (Ok (row.old.items ++ unless_own own producer)) }
 {
-    match maker {
-        Some(maker) => {
-            if !is_own(Some(maker), own) {
-                row.push(maker)?;
+    match producer {
+        Some(producer) => {
+            if !is_own(Some(producer), own) {
+                row.push(producer)?;
             }
             Ok(())
         }
@@ -34,17 +34,17 @@ pub fn add_maker(
     }
 }
 
-/// Appends the makers of the paths of these numbers, unless they are the edge itself.
-fn add_makers<'a>(
+/// Appends the producers of the paths of these numbers, unless they are the edge itself.
+fn add_producers<'a>(
     row: &mut Vec<usize>,
     files: &Files<'a>,
     own: Option<usize>,
     numbers: &[usize],
 ) -> Result<(), GraphFault>
-    ensures { Meets Memory (λ _. row.new.items) result (Ok (row.old.items ++ makers_at files.now own numbers.now)) }
+    ensures { Meets Memory (λ _. row.new.items) result (Ok (row.old.items ++ producers_at files.now own numbers.now)) }
 {
     for number in numbers {
-        add_maker(row, own, files.maker_at(*number))?;
+        add_producer(row, own, files.producer_at(*number))?;
     }
     Ok(())
 }
@@ -69,7 +69,7 @@ fn waits_of<'a>(
     ensures { (edges : List EdgeMeant) → Fits files.now edges → slice_get edges number ≡ Some edge.now → Meets Memory (λ _. row.new.items) result (Ok (waits_of edges edge.now)) }
 {
     row.clear();
-    add_makers(row, files, own_of(number, edge), inputs)?;
+    add_producers(row, files, own_of(number, edge), inputs)?;
     ascend(row);
     Ok(())
 }

@@ -75,19 +75,51 @@ no_memory = record { number = 131; rest = [] }
 abbrev pub output_failed : PlanFault
 output_failed = record { number = 133; rest = codes " -" }
 
--- the name of each number
+-- the name of each fault by its number; every other number is want of memory
+abbrev pub names : List (ℕ × List ℕ)
+names =
+    (1, codes "TabBlank")
+    ∷ (2, codes "NulByte")
+    ∷ (3, codes "BadEscape")
+    ∷ (4, codes "SourceTooLong")
+    ∷ (10, codes "ExpectedName")
+    ∷ (11, codes "ExpectedEquals")
+    ∷ (12, codes "ExpectedColon")
+    ∷ (13, codes "ExpectedPath")
+    ∷ (14, codes "UnexpectedIndent")
+    ∷ (15, codes "UnknownRuleVariable")
+    ∷ (16, codes "NoCommand")
+    ∷ (17, codes "BadPool")
+    ∷ (18, codes "Validation")
+    ∷ (19, codes "ExpectedLineEnd")
+    ∷ (20, codes "SourceMissing")
+    ∷ (21, codes "IncludeDepth")
+    ∷ (30, codes "DuplicateRule")
+    ∷ (31, codes "UnknownRule")
+    ∷ (32, codes "DuplicatePool")
+    ∷ (33, codes "UnknownPool")
+    ∷ (34, codes "RuleCycle")
+    ∷ (35, codes "EmptyPath")
+    ∷ (36, codes "Dyndep")
+    ∷ (37, codes "Rspfile")
+    ∷ (38, codes "DepsKind")
+    ∷ (39, codes "PathTooLong")
+    ∷ (40, codes "TextTooLong")
+    ∷ (42, codes "BadDepth")
+    ∷ (50, codes "TwoProducers")
+    ∷ (51, codes "Cycle")
+    ∷ (52, codes "UnknownDefault")
+    ∷ (53, codes "TooManyEdges")
+    ∷ (133, codes "FileFault")
+    ∷ []
+
+-- the name at a number, Memory where none stands there
+abbrev pub name_among : List (ℕ × List ℕ) → ℕ → List ℕ
+name_among [] n = codes "Memory"
+name_among (x ∷ more) n = if n == x.0 then x.1 else name_among more n
+
 abbrev pub name_of : ℕ → List ℕ
-name_of n =
-    if n == 1 then codes "TabBlank" else if n == 2 then codes "NulByte" else if n == 3 then codes "BadEscape" else if n == 4 then codes "SourceTooLong"
-    else if n == 10 then codes "ExpectedName" else if n == 11 then codes "ExpectedEquals" else if n == 12 then codes "ExpectedColon" else if n == 13 then codes "ExpectedPath"
-    else if n == 14 then codes "UnexpectedIndent" else if n == 15 then codes "UnknownRuleVariable" else if n == 16 then codes "NoCommand" else if n == 17 then codes "BadPool"
-    else if n == 18 then codes "Validation" else if n == 19 then codes "ExpectedLineEnd"
-    else if n == 20 then codes "SourceMissing" else if n == 21 then codes "IncludeDepth" else if n == 30 then codes "DuplicateRule" else if n == 31 then codes "UnknownRule"
-    else if n == 32 then codes "DuplicatePool" else if n == 33 then codes "UnknownPool" else if n == 34 then codes "RuleCycle" else if n == 35 then codes "EmptyPath"
-    else if n == 36 then codes "Dyndep" else if n == 37 then codes "Rspfile" else if n == 38 then codes "DepsKind" else if n == 39 then codes "PathTooLong"
-    else if n == 40 then codes "TextTooLong" else if n == 42 then codes "BadDepth" else if n == 50 then codes "TwoProducers" else if n == 51 then codes "Cycle"
-    else if n == 52 then codes "UnknownDefault" else if n == 53 then codes "TooManyEdges" else if n == 133 then codes "FileFault"
-    else codes "Memory"
+name_of n = name_among names n
 
 -- the line that the program prints of a fault
 abbrev pub line_of : PlanFault → List ℕ

@@ -13,9 +13,11 @@ use std::mem::forget;
 
 /// What the manifest at the path means.
 fn manifest_at<S: Source>(alloc: Global, source: &mut S, path: &[u8]) -> Result<Manifest, PlanFault>
-    ensures meant { IfOk result (λ manifest. IsMeant (loading_by (S.gives source.old) (S.fails source.old) (S.failures source.old) (S.failures source.new)) path.now manifest) }
+    ensures meant { let loads = loading_by (S.gives source.old) (S.fails source.old) (S.failures source.old) (S.failures source.new) in
+        IfOk result (λ manifest. IsMeant loads path.now manifest) }
     ensures read { OnOk result (S.failures source.new ≡ S.failures source.old) }
-    ensures refused { IfErr result (λ fault. IsRefused (loading_by (S.gives source.old) (S.fails source.old) (S.failures source.old) (S.failures source.new)) path.now fault) }
+    ensures refused { let loads = loading_by (S.gives source.old) (S.fails source.old) (S.failures source.old) (S.failures source.new) in
+        IfErr result (λ fault. IsRefused loads path.now fault) }
 {
     let tree = match load(alloc, source, path) {
         Ok(tree) => tree,
@@ -47,11 +49,12 @@ pub fn do_commands<S: Source, W: Sink>(
     path: &[u8],
     out: &mut W,
 ) -> Result<u8, PlanFault>
-    ensures done { IfOk result (λ status. (status ≡ 0) × WritesAll (loading_by (S.gives source.old) (S.fails source.old) (S.failures source.old) (S.failures source.new)) path.now (W.failures out.old, W.taken out.old) (W.failures out.new, W.taken out.new)) }
+    ensures done { let loads = loading_by (S.gives source.old) (S.fails source.old) (S.failures source.old) (S.failures source.new) in
+        IfOk result (λ status. (status ≡ 0) × WritesAll loads path.now (W.failures out.old, W.taken out.old) (W.failures out.new, W.taken out.new)) }
     ensures read { OnOk result (S.failures source.new ≡ S.failures source.old) }
-    ensures refused { IfErr result (λ fault.
-        ((out.new ≡ out.old) × IsRefused (loading_by (S.gives source.old) (S.fails source.old) (S.failures source.old) (S.failures source.new)) path.now fault)
-        ⊎ FailsToWrite (loading_by (S.gives source.old) (S.fails source.old) (S.failures source.old) (S.failures source.new)) path.now (W.failures out.old, W.taken out.old) (W.failures out.new, W.taken out.new) fault) }
+    ensures refused { let loads = loading_by (S.gives source.old) (S.fails source.old) (S.failures source.old) (S.failures source.new) in
+        IfErr result (λ fault. ((out.new ≡ out.old) × IsRefused loads path.now fault)
+        ⊎ FailsToWrite loads path.now (W.failures out.old, W.taken out.old) (W.failures out.new, W.taken out.new) fault) }
 {
     let manifest = manifest_at(alloc, source, path)?;
     check_graph(alloc, &manifest)?;

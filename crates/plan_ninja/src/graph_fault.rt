@@ -1,6 +1,6 @@
 //! Why a manifest has no graph, as it is printed.
 
-ghost use Rattle.std.specs.Prelude.{◌≡◌, ◌⊎◌, ◌++◌, ◌∷◌, IfOk, OnOk, codes, flat_map, slice_get};
+ghost use Rattle.std.specs.Prelude.{◌≡◌, ◌⊎◌, ◌++◌, ◌∷◌, IfOk, OnOk, codes, flat_map};
 ghost use Rattle.std.specs.List.{join_by};
 ghost use Rattle.plan_text.specs.Bytes.{space};
 ghost use Rattle.plan_ninja.specs.Faults as defined;

@@ -62,6 +62,7 @@ fn report<E: Print>(alloc: Global, errors: &E, fault: &PlanFault) -> u8
 {
     let _ = match fault.line(alloc) {
         Ok(line) => errors.write_all(&line),
+        // The same line without taking memory.
         Err(_) => errors.write_all(b"plan: 131 Memory\n"),
     };
     REFUSED

@@ -1,27 +1,23 @@
--- Lines of a block read in order.
+-- Lines of a block read in order. Serves src/block.rt.
 use Rattle.std.proofs.Common.{◌≡◌, ℕ, ◌+◌, ◌<◌, Bool, true, false, List, [], ◌∷◌, ◌++◌, length, get_or, take, drop, Result, Ok, Err, refl, sym, ap, ◌∙◌, append_assoc}
 use Rattle.std.specs.Prelude.{◌||◌}
 use Rattle.std.specs.List.{list_any}
 use Rattle.std.proofs.lemmas.List.{drop_more, take_more, map_push}
 use Rattle.plan_text.specs.Outcome.{◌>>=◌, each}
-use Rattle.plan_parse.specs.declared.block.Member as the_member
-use Rattle.plan_parse.specs.Members.{member_of, members_of}
+use Rattle.plan_parse.specs.declared.block.BlockLine as the_line
+use Rattle.plan_parse.specs.BlockLines.{block_line_of, block_lines_of}
 use Rattle.plan_parse.specs.declared.fault.ParseFault.{ParseFault}
-use Rattle.plan_parse.specs.declared.owner.Owner.{Owner}
+use Rattle.plan_parse.specs.declared.block_kind.BlockKind.{BlockKind}
 use Rattle.plan_parse.specs.declared.statement.Binding.{Binding}
-use Rattle.plan_parse.specs.Blocks.{Member}
-use Rattle.plan_parse.specs.Statements.{owned_at, all_owned_at}
+use Rattle.plan_parse.specs.Blocks.{BlockLine}
+use Rattle.plan_parse.specs.Statements.{block_variable_at, block_variables_at}
 
 -- what was read, in front of what is read of the rest
 abbrev pub in_front : {B : Type 0} → List B → Result (List B) ParseFault → Result (List B) ParseFault
 in_front front (Ok more) = Ok (front ++ more)
 in_front front (Err e) = Err e
 
-pub front_none : {B : Type 0} (r : Result (List B) ParseFault) → in_front [] r ≡ r
-front_none (Ok x) = refl
-front_none (Err e) = refl
-
-pub regroup : {B : Type 0} (front : List B) (y : B) (r : Result (List B) ParseFault) → in_front (front ++ y ∷ []) r ≡ in_front front (r >>= λ ys. Ok (y ∷ ys))
+regroup : {B : Type 0} (front : List B) (y : B) (r : Result (List B) ParseFault) → in_front (front ++ y ∷ []) r ≡ in_front front (r >>= λ ys. Ok (y ∷ ys))
 regroup front y (Ok ys) = ap (λ (v : List _). Ok v) (append_assoc front (y ∷ []) ys)
 regroup front y (Err e) = refl
 
@@ -30,32 +26,22 @@ pub one_more : {A B : Type 0} (f : A → Result B ParseFault) (front : List B) (
     → in_front front (each f (x ∷ xs)) ≡ all → in_front (front ++ y ∷ []) (each f xs) ≡ all
 one_more f front x xs y all e so_far = regroup front y (each f xs) ∙ ap (λ r. in_front front (r >>= λ y. each f xs >>= λ ys. Ok (y ∷ ys))) (sym e) ∙ so_far
 
--- a line with a fault
-pub stops : {A B : Type 0} (f : A → Result B ParseFault) (front : List B) (x : A) (xs : List A) (fault : ParseFault) (all : Result (List B) ParseFault) → f x ≡ Err fault
-    → in_front front (each f (x ∷ xs)) ≡ all → all ≡ Err fault
-stops f front x xs fault all e so_far = sym so_far ∙ ap (λ r. in_front front (r >>= λ y. each f xs >>= λ ys. Ok (y ∷ ys))) e
-
 -- one more line of a rule or a pool
-pub one_more_owned : (owner : Owner) (front : List Binding) (above : List Member) (m : Member) (more : List Member) (b : Binding) (all : Result (List Binding) ParseFault) → owned_at owner above m ≡ Ok b
-    → in_front front (all_owned_at owner above (m ∷ more)) ≡ all → in_front (front ++ b ∷ []) (all_owned_at owner (above ++ m ∷ []) more) ≡ all
-one_more_owned owner front above m more b all e so_far =
-    regroup front b (all_owned_at owner (above ++ m ∷ []) more)
-    ∙ ap (λ r. in_front front (r >>= λ b. all_owned_at owner (above ++ m ∷ []) more >>= λ bs. Ok (b ∷ bs))) (sym e) ∙ so_far
-
--- a line of a rule or a pool with a fault
-pub owned_stops : (owner : Owner) (front : List Binding) (above : List Member) (m : Member) (more : List Member) (fault : ParseFault) (all : Result (List Binding) ParseFault) → owned_at owner above m ≡ Err fault
-    → in_front front (all_owned_at owner above (m ∷ more)) ≡ all → all ≡ Err fault
-owned_stops owner front above m more fault all e so_far =
-    sym so_far ∙ ap (λ r. in_front front (r >>= λ b. all_owned_at owner (above ++ m ∷ []) more >>= λ bs. Ok (b ∷ bs))) e
+pub one_more_variable : (block : BlockKind) (front : List Binding) (above : List BlockLine) (m : BlockLine) (more : List BlockLine) (b : Binding) (all : Result (List Binding) ParseFault) → block_variable_at block above m ≡ Ok b
+    → in_front front (block_variables_at block above (m ∷ more)) ≡ all → in_front (front ++ b ∷ []) (block_variables_at block (above ++ m ∷ []) more) ≡ all
+one_more_variable block front above m more b all e so_far =
+    regroup front b (block_variables_at block (above ++ m ∷ []) more)
+    ∙ ap (λ r. in_front front (r >>= λ b. block_variables_at block (above ++ m ∷ []) more >>= λ bs. Ok (b ∷ bs))) (sym e) ∙ so_far
 
 -- the lines from one on
-pub members_from : (ms : List the_member.Member) (i : ℕ) (m : the_member.Member) → i < length ms → m ≡ get_or ms i m → members_of (drop i ms) ≡ member_of m ∷ members_of (drop (i + 1) ms)
-members_from ms i m h e = ap members_of (drop_more ms i m h ∙ ap (λ (x : the_member.Member). x ∷ drop (i + 1) ms) (sym e))
+pub lines_from : (ms : List the_line.BlockLine) (i : ℕ) (m : the_line.BlockLine) → i < length ms → m ≡ get_or ms i m → block_lines_of (drop i ms) ≡ block_line_of m ∷ block_lines_of (drop (i + 1) ms)
+lines_from ms i m h e = ap block_lines_of (drop_more ms i m h ∙ ap (λ (x : the_line.BlockLine). x ∷ drop (i + 1) ms) (sym e))
 
 -- the lines up to one
-pub members_to : (ms : List the_member.Member) (i : ℕ) (m : the_member.Member) → i < length ms → m ≡ get_or ms i m → members_of (take (i + 1) ms) ≡ members_of (take i ms) ++ member_of m ∷ []
-members_to ms i m h e = ap members_of (take_more ms i m h ∙ ap (λ (x : the_member.Member). take i ms ++ x ∷ []) (sym e)) ∙ map_push member_of (take i ms) m
+pub lines_to : (ms : List the_line.BlockLine) (i : ℕ) (m : the_line.BlockLine) → i < length ms → m ≡ get_or ms i m → block_lines_of (take (i + 1) ms) ≡ block_lines_of (take i ms) ++ block_line_of m ∷ []
+lines_to ms i m h e = ap block_lines_of (take_more ms i m h ∙ ap (λ (x : the_line.BlockLine). take i ms ++ x ∷ []) (sym e)) ∙ map_push block_line_of (take i ms) m
 
+-- whether any of some passes a test, with one more
 pub any_more : {A : Type 0} (test : A → Bool) (xs : List A) (x : A) → list_any test (xs ++ x ∷ []) ≡ list_any test xs || test x
 any_more test [] x = or_false (test x) where
   or_false : (v : Bool) → v || false ≡ v

@@ -2,10 +2,10 @@ mod Rows
 pub mod ReadingLemmas
 mod PlainTable
 pub mod BlockLemmas
-pub mod ProgressLemmas
+pub mod ParserLemmas
 pub mod CompactLemmas
-pub mod WholeLemmas
+pub mod WholeLaw
 pub mod LikeLemmas
 pub mod StatementLemmas
-pub mod JoinLemmas
-pub mod FaultLemmas
+pub mod JoinLaw
+pub mod FaultLaw

@@ -1,4 +1,4 @@
--- What is read doesn't depend on where it stands.
+-- What is read doesn't depend on where it stands. Serves the law statements_join.
 use Rattle.std.proofs.Common.{◌≡◌, ℕ, zero, suc, ◌+◌, ◌-◌, ◌==◌, Bool, ◌&&◌, true, false, cond, List, [], ◌∷◌, length, take, Result, Ok, Err, Option, Some, None, refl, ap, subst, ◌∙◌}
 use Rattle.std.specs.Prelude.{nat_lt}
 use Rattle.std.specs.List.{prefix_len}
@@ -12,7 +12,7 @@ use Rattle.plan_text.specs.declared.piece_reader.Mode.{Mode}
 use Rattle.plan_text.specs.declared.piece_reader.Mode.TheVariants as mode
 use Rattle.plan_text.specs.declared.piece_reader.Piece.{Piece}
 use Rattle.plan_parse.specs.declared.fault.ParseFault.{ParseFault}
-use Rattle.plan_parse.specs.Reading.{Place, name_at, byte_at, line_end_at, value_at, lifted, path_len, path_at, path_onto, paths_past, paths_at}
+use Rattle.plan_parse.specs.Reading.{Place, name_at, byte_at, line_end_at, value_at, lift_fault, path_len, path_at, path_onto, paths_past, paths_at}
 
 -- both go well alike, or neither does
 abbrev pub Like : {A B E F : Type 0} → (A → B → Type 0) → Result A E → Result B F → Type 0
@@ -21,6 +21,7 @@ Like R (Err e) (Err f) = Unit {0}
 Like R (Ok x) (Err f) = ⊥
 Like R (Err e) (Ok y) = ⊥
 
+-- equality, as a relation
 abbrev pub Same : {A : Type 0} → A → A → Type 0
 Same x y = x ≡ y
 
@@ -32,6 +33,7 @@ SameText p q = p.bytes ≡ q.bytes
 abbrev pub SameFound : {A : Type 0} → A × Place → A × Place → Type 0
 SameFound x y = (x.0 ≡ y.0) × (x.1.bytes ≡ y.1.bytes)
 
+-- two steps go alike where the first ones do, and then the second
 pub bind_like : {A B C D : Type 0} (R : A → B → Type 0) (S : C → D → Type 0) (r : Result A ParseFault) (s : Result B ParseFault) (f : A → Result C ParseFault) (g : B → Result D ParseFault)
     → Like R r s → ((x : A) (y : B) → R x y → Like S (f x) (g y)) → Like S (r >>= f) (s >>= g)
 bind_like R S (Ok x) (Ok y) f g h k = k x y h
@@ -43,25 +45,31 @@ bind_like R S (Err e) (Ok y) f g h k = absurd h
 abbrev pub here : ℕ → List ℕ → Place
 here at bytes = record { at = at; bytes = bytes }
 
+-- what holds of places that only differ in their offsets
 pub by_text : (P : Place → Place → Type 0) → ((a b : ℕ) (v : List ℕ) → P (here a v) (here b v)) → (p q : Place) → SameText p q → P p q
 by_text P h p q e = subst (λ (v : List ℕ). P p (here q.at v)) e (h p.at q.at p.bytes)
 
+-- a fault where a test says so, else what is alike
 pub by_test : {A B : Type 0} (R : A → B → Type 0) (t : Bool) (x : A) (y : B) (e f : ParseFault) → R x y → Like R (cond t (Err e) (Ok x)) (cond t (Err f) (Ok y))
 by_test R true x y e f h = tt
 by_test R false x y e f h = h
 
+-- what is alike where a test says so, else a fault
 pub unless_test : {A B : Type 0} (R : A → B → Type 0) (t : Bool) (x : A) (y : B) (e f : ParseFault) → R x y → Like R (cond t (Ok x) (Err e)) (cond t (Ok y) (Err f))
 unless_test R true x y e f h = h
 unless_test R false x y e f h = tt
 
+-- names
 pub name_like : (p q : Place) → SameText p q → Like SameFound (name_at p) (name_at q)
 name_like = by_text (λ p q. Like SameFound (name_at p) (name_at q))
     (λ a b v. by_test SameFound (prefix_len is_name_byte v == 0) _ _ _ _ (refl, refl))
 
+-- single bytes
 pub byte_like : (c : ℕ) (expected : ℕ → ParseFault) (p q : Place) → SameText p q → Like SameText (byte_at c expected p) (byte_at c expected q)
 byte_like c expected = by_text (λ p q. Like SameText (byte_at c expected p) (byte_at c expected q))
     (λ a b v. unless_test SameText (begins_with c v) _ _ _ _ refl)
 
+-- ends of lines
 pub end_like : {A : Type 0} (x y : A) → x ≡ y → (p q : Place) → SameText p q → Like Same (line_end_at x p) (line_end_at y q)
 end_like x y e = by_text (λ p q. Like Same (line_end_at x p) (line_end_at y q))
     (λ a b v. unless_test Same (length v == 0) _ _ _ _ e)
@@ -95,12 +103,13 @@ pieces_like m a b (c ∷ rest) zero =
     front_like (sign_at m a c rest) (sign_at m b c rest) (λ n. pieces_past m (a + 1) rest n) (λ n. pieces_past m (b + 1) rest n)
     (sign_like m a b c rest (c == dollar) (c == nul) (c == tab && is_path m) (escape rest)) (λ n. pieces_like m (a + 1) (b + 1) rest n)
 
-lifted_like : {A : Type 0} (r q : Result A TextFault) → Like Same r q → Like Same (lifted r) (lifted q)
+lifted_like : {A : Type 0} (r q : Result A TextFault) → Like Same r q → Like Same (lift_fault r) (lift_fault q)
 lifted_like (Ok x) (Ok y) h = h
 lifted_like (Err e) (Err f) h = tt
 lifted_like (Ok x) (Err f) h = absurd h
 lifted_like (Err e) (Ok y) h = absurd h
 
+-- values
 pub value_like : (p q : Place) → SameText p q → Like Same (value_at p) (value_at q)
 value_like = by_text (λ p q. Like Same (value_at p) (value_at q))
     (λ a b v. lifted_like (pieces_past mode.Value a v 0) (pieces_past mode.Value b v 0) (pieces_like mode.Value a b v 0))
@@ -131,8 +140,10 @@ paths_like_past a b (c ∷ rest) zero =
         (λ path. path_onto path (paths_past (a + 1) rest (path_len (c ∷ rest) - 1))) (λ path. path_onto path (paths_past (b + 1) rest (path_len (c ∷ rest) - 1)))
         (path_like a b (c ∷ rest) (path_len (c ∷ rest))) (λ x y e. onto_paths_like x y e _ _ (more (path_len (c ∷ rest) - 1)))
 
+-- lists of paths
 pub paths_like : (p q : Place) → SameText p q → Like SameFound (paths_at p) (paths_at q)
 paths_like = by_text (λ p q. Like SameFound (paths_at p) (paths_at q)) (λ a b v. paths_like_past a b v 0)
 
+-- single paths
 pub one_path_like : (p q : Place) → SameText p q → Like Same (path_at p (path_len p.bytes)) (path_at q (path_len q.bytes))
 one_path_like = by_text (λ p q. Like Same (path_at p (path_len p.bytes)) (path_at q (path_len q.bytes))) (λ a b v. path_like a b v (path_len v))

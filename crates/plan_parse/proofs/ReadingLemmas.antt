@@ -1,4 +1,4 @@
--- Reading paths from left to right.
+-- Reading paths from left to right. Serves src/reading.rt.
 use Rattle.std.proofs.Common.{◌≡◌, ℕ, zero, suc, ◌+◌, ◌-◌, ◌<◌, ◌≤◌, List, [], ◌∷◌, ◌++◌, length, take, get_or, drop, Result, Ok, Err, refl, sym, ap, ◌∙◌, append_assoc, arith, add-zero, eqb, ◌==◌, Bool, true, false, not, ◌||◌, cond, unwrap_or}
 use Rattle.std.specs.Prelude.{nat_lt}
 use Rattle.std.specs.List.{prefix_len}
@@ -13,17 +13,18 @@ use Rattle.plan_text.specs.Laws.{PlainIsRead}
 use Rattle.std.proofs.lemmas.List.{get_or-take, length-take-le}
 use Rattle.std.proofs.lemmas.List.Sums.{prefix_len_passes}
 use Rattle.plan_parse.specs.PlainPaths.{is_plain}
-use Rattle.plan_text.specs.Pieces.{escape_size, whole}
+use Rattle.plan_text.specs.Pieces.{escape_size, literal_of}
 use Rattle.plan_text.specs.Runs.{and_more, run_past, run}
 use Rattle.plan_text.specs.declared.piece_reader.Piece.{Piece}
 use Rattle.plan_parse.specs.declared.fault.ParseFault.{ParseFault}
-use Rattle.plan_parse.specs.Reading.{Place, past, past_gap, ends_path, path_unit, path_len, path_at, lifted, path_onto, paths_past, paths_at}
+use Rattle.plan_parse.specs.Reading.{Place, past, past_gap, ends_path, path_unit, path_len, path_at, lift_fault, path_onto, paths_past, paths_at}
 
 -- paths that were read, in front of those that follow
 abbrev pub with_front : List (List Piece) → Result (List (List Piece) × Place) ParseFault → Result (List (List Piece) × Place) ParseFault
 with_front front (Ok x) = Ok (front ++ x.0, x.1)
 with_front front (Err e) = Err e
 
+-- no path in front changes nothing
 pub front_none : (r : Result (List (List Piece) × Place) ParseFault) → with_front [] r ≡ r
 front_none (Ok x) = refl
 front_none (Err e) = refl
@@ -49,6 +50,7 @@ run_within size [] n = omega arith
 run_within size (b ∷ rest) (suc n) = let e = run_within size rest n in omega (arith, e)
 run_within size (b ∷ rest) zero = within_front (λ n. run_past size rest n) (length rest) (size (b ∷ rest)) (λ n. run_within size rest n)
 
+-- no gap follows a gap
 pub gap_over : (p : Place) → gap_len (past_gap p).bytes ≡ 0
 gap_over p = run_over gap_unit p.bytes 0
 
@@ -101,9 +103,9 @@ not_special false true h = absurd cc
 not_special true s h = absurd cc
 
 -- and its pieces
-pub path_literal : PlainIsRead → (p : Place) (n : ℕ) → n ≤ length p.bytes → n ≤ prefix_len is_plain p.bytes → path_at p n ≡ Ok (whole (take n p.bytes))
+pub path_literal : PlainIsRead → (p : Place) (n : ℕ) → n ≤ length p.bytes → n ≤ prefix_len is_plain p.bytes → path_at p n ≡ Ok (literal_of (take n p.bytes))
 path_literal law p n within plain =
-    ap lifted (law mode.Path p.at (take n p.bytes) (λ k l.
+    ap lift_fault (law mode.Path p.at (take n p.bytes) (λ k l.
     let less : k < n = omega (arith, l, length-take-le n p.bytes within) in
     ap (is_special mode.Path) (get_or-take n p.bytes k 0 less)
     ∙ not_special (ends_path (get_or p.bytes k 0)) (is_special mode.Path (get_or p.bytes k 0)) (prefix_len_passes is_plain p.bytes k 0 (omega (arith, less, plain)))))

@@ -8,7 +8,7 @@ use Rattle.plan_parse.specs.declared.fault.ParseFault.TheVariants.{Text, NoComma
 use Rattle.plan_parse.specs.declared.statement.Binding.{Binding}
 use Rattle.plan_parse.specs.declared.statement.Statement.{Statement}
 use Rattle.plan_parse.specs.declared.statement.StatementKind.TheVariants as kind
-use Rattle.plan_text.specs.Lines.{are_ended}
+use Rattle.plan_text.specs.Lines.{has_ended_lines}
 use Rattle.plan_parse.specs.Laws.{begins_block}
 use Rattle.plan_parse.specs.Statements.{statements_of}
 
@@ -235,11 +235,11 @@ begins_2 : begins_block (codes "  x = 1") ≡ false
 begins_2 = refl
 
 -- whether the lines of a text are ended: a newline behind `$` or a lone CR ends none
-ended_1 : are_ended (codes "x = 1" ++ 10 ∷ 13 ∷ 10 ∷ []) ≡ true
+ended_1 : has_ended_lines (codes "x = 1" ++ 10 ∷ 13 ∷ 10 ∷ []) ≡ true
 ended_1 = refl
 
-ended_2 : are_ended (codes "x = 1$" ++ 10 ∷ []) ≡ false
+ended_2 : has_ended_lines (codes "x = 1$" ++ 10 ∷ []) ≡ false
 ended_2 = refl
 
-ended_3 : are_ended (codes "x = 1" ++ 13 ∷ []) ≡ false
+ended_3 : has_ended_lines (codes "x = 1" ++ 13 ∷ []) ≡ false
 ended_3 = refl

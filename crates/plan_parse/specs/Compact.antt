@@ -9,19 +9,19 @@ use Rattle.plan_parse.specs.declared.statement.StatementKind.TheVariants as kind
 use Rattle.plan_parse.specs.declared.compact.CompactStatement.{CompactStatement}
 use Rattle.plan_parse.specs.declared.compact.CompactStatement.TheVariants as kept
 use Rattle.plan_parse.specs.Reading.{Place}
-use Rattle.plan_parse.specs.Statements.{bound_at}
+use Rattle.plan_parse.specs.Statements.{binding_at}
 
 -- a line of a text
 abbrev pub line_in : List ℕ → Span → Place
 line_in text span = record { at = span.at; bytes = take span.len (drop span.at text) }
 
-abbrev pub binding_or : Result Binding ParseFault → Binding
-binding_or (Ok b) = b
-binding_or (Err e) = record { name = []; value = [] }
+abbrev pub binding_or_empty : Result Binding ParseFault → Binding
+binding_or_empty (Ok b) = b
+binding_or_empty (Err e) = record { name = []; value = [] }
 
 -- what a line of a text binds; nothing to nothing where it is no binding
 abbrev pub bound_in : List ℕ → Span → Binding
-bound_in text span = binding_or (bound_at (line_in text span))
+bound_in text span = binding_or_empty (binding_at (line_in text span))
 
 -- a statement that is kept beside its text
 abbrev pub said_in : List ℕ → CompactStatement → Statement
@@ -34,7 +34,7 @@ StandsIn text p = p.bytes ≡ take (length p.bytes) (drop p.at text)
 
 -- what is left of a line gives a statement again, where that is a binding
 abbrev pub ReadsKind : Place → ℕ → StatementKind → Type 0
-ReadsKind p offset (kind.Binding b) = (offset ≡ p.at) × (bound_at p ≡ Ok b)
+ReadsKind p offset (kind.Binding b) = (offset ≡ p.at) × (binding_at p ≡ Ok b)
 ReadsKind p offset (kind.Rule r) = Unit {0}
 ReadsKind p offset (kind.Build b) = Unit {0}
 ReadsKind p offset (kind.Pool q) = Unit {0}

@@ -3,12 +3,12 @@ use Rattle.std.specs.Prelude.{◌≡◌, ◌+◌, ◌<◌, ◌≤◌, ℕ, Bool,
 use Rattle.std.specs.List.{AllByRecursion, count_by}
 use Rattle.std.specs.Str.{bytes_eq}
 use Rattle.plan_text.specs.Limits.{max_source}
-use Rattle.plan_text.specs.Lines.{are_ended, raw_lines}
+use Rattle.plan_text.specs.Lines.{has_ended_lines, raw_lines}
 use Rattle.plan_parse.specs.declared.fault.ParseFault.{ParseFault}
 use Rattle.plan_parse.specs.declared.statement.Statement.{Statement}
 use Rattle.plan_parse.specs.declared.statement.StatementKind.{StatementKind}
 use Rattle.plan_parse.specs.declared.statement.StatementKind.TheVariants as kind
-use Rattle.plan_parse.specs.Blocks.{Told, Head, Below, told_of}
+use Rattle.plan_parse.specs.Blocks.{LineRole, Head, Below, roles_of_lines}
 use Rattle.plan_parse.specs.Faults.{offset_of}
 use Rattle.plan_parse.specs.Statements.{statements_of}
 
@@ -34,19 +34,19 @@ abbrev pub moved : ℕ → Statement → Statement
 moved n s = record { offset = n + s.offset; kind = s.kind }
 
 -- whether the first of these lines begins a block
-abbrev pub leads : List Told → Bool
+abbrev pub leads : List LineRole → Bool
 leads [] = false
 leads (Head p ∷ more) = true
-leads (Below m ∷ more) = false
+leads (Below line ∷ more) = false
 
 -- whether the first line of a text that is neither blank nor a comment begins a block: it is not indented
 abbrev pub begins_block : List ℕ → Bool
-begins_block text = leads (told_of (raw_lines text))
+begins_block text = leads (roles_of_lines (raw_lines text))
 
 -- behind a text whose lines are ended, the statements of one that begins a block follow as they are, further on by the first text's length
 abbrev pub StatementsJoin : Type 0
 StatementsJoin =
-    (front back : List ℕ) (xs ys : List Statement) → are_ended front ≡ true → begins_block back ≡ true → length front + length back ≤ max_source
+    (front back : List ℕ) (xs ys : List Statement) → has_ended_lines front ≡ true → begins_block back ≡ true → length front + length back ≤ max_source
     → statements_of front ≡ Ok xs → statements_of back ≡ Ok ys → statements_of (front ++ back) ≡ Ok (xs ++ map (moved (length front)) ys)
 
 -- each fault of a text has an offset: none is want of memory, nor that of a path without a byte

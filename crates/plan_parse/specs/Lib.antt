@@ -3,7 +3,7 @@ pub mod Reading
 pub mod Blocks
 pub mod Statements
 pub mod Views
-pub mod Members
+pub mod BlockLines
 pub mod PlainPaths
 pub mod Compact
 pub mod Progress

@@ -2,7 +2,7 @@
 use Rattle.std.specs.Prelude.{ℕ, zero, suc, ◌+◌, ◌-◌, ◌==◌, nat_lt, Bool, ◌||◌, ◌&&◌, List, [], ◌∷◌, length, take, drop, if◌then◌else◌, Result, Ok, Err, is_none, unwrap_or}
 use Rattle.std.specs.List.{prefix_len}
 use Rattle.plan_text.specs.Outcome.{◌>>=◌}
-use Rattle.plan_text.specs.Bytes.{nul, tab, space, dollar, colon, bar, is_name_byte, begins_with}
+use Rattle.plan_text.specs.Bytes.{nul, tab, dollar, colon, bar, is_name_byte, is_space, begins_with}
 use Rattle.plan_text.specs.Runs.{run}
 use Rattle.plan_text.specs.Pieces.{escape_size, pieces_from}
 use Rattle.plan_text.specs.Lines.{gap_len}
@@ -33,8 +33,8 @@ refusal expected p =
     else if begins_with dollar p.bytes && is_none (escape_size (drop 1 p.bytes)) then fault.Text (text.BadEscape p.at)
     else expected
 
-abbrev pub refused : {A : Type 0} → (ℕ → ParseFault) → Place → Result A ParseFault
-refused expected p = Err (refusal (expected p.at) p)
+abbrev pub refuse : {A : Type 0} → (ℕ → ParseFault) → Place → Result A ParseFault
+refuse expected p = Err (refusal (expected p.at) p)
 
 -- the name that stands here, empty where none does
 abbrev pub name_of : Place → List ℕ
@@ -42,15 +42,15 @@ name_of p = take (prefix_len is_name_byte p.bytes) p.bytes
 
 -- a name, and the place past it and the gap behind it
 abbrev pub name_at : Place → Result (List ℕ × Place) ParseFault
-name_at p = if prefix_len is_name_byte p.bytes == 0 then refused fault.ExpectedName p else Ok (name_of p, past_gap (past (prefix_len is_name_byte p.bytes) p))
+name_at p = if prefix_len is_name_byte p.bytes == 0 then refuse fault.ExpectedName p else Ok (name_of p, past_gap (past (prefix_len is_name_byte p.bytes) p))
 
 -- one byte; the place past it and the gap behind it
 abbrev pub byte_at : ℕ → (ℕ → ParseFault) → Place → Result Place ParseFault
-byte_at b expected p = if begins_with b p.bytes then Ok (past_gap (past 1 p)) else refused expected p
+byte_at b expected p = if begins_with b p.bytes then Ok (past_gap (past 1 p)) else refuse expected p
 
 -- the end of the line, with what was read of it
 abbrev pub line_end_at : {A : Type 0} → A → Place → Result A ParseFault
-line_end_at x p = if length p.bytes == 0 then Ok x else refused fault.ExpectedLineEnd p
+line_end_at x p = if length p.bytes == 0 then Ok x else refuse fault.ExpectedLineEnd p
 
 -- a fault of the text, as one of the statements
 abbrev pub of_text : TextFault → ParseFault
@@ -61,17 +61,17 @@ of_text (text.BadEscape at) = fault.Text (text.BadEscape at)
 of_text (text.SourceTooLong at) = fault.Text (text.SourceTooLong at)
 of_text text.EmptyPath = fault.Text text.EmptyPath
 
-abbrev pub lifted : {A : Type 0} → Result A TextFault → Result A ParseFault
-lifted (Ok x) = Ok x
-lifted (Err e) = Err (of_text e)
+abbrev pub lift_fault : {A : Type 0} → Result A TextFault → Result A ParseFault
+lift_fault (Ok x) = Ok x
+lift_fault (Err e) = Err (of_text e)
 
 -- the rest of the line, as a value
 abbrev pub value_at : Place → Result (List Piece) ParseFault
-value_at p = lifted (pieces_from mode.Value p.at p.bytes)
+value_at p = lift_fault (pieces_from mode.Value p.at p.bytes)
 
 -- a space, `:` or `|` ends a path
 abbrev pub ends_path : ℕ → Bool
-ends_path b = b == space || b == colon || b == bar
+ends_path b = is_space b || b == colon || b == bar
 
 -- a unit of a path: a byte, or a `$` with its escape
 abbrev pub path_unit : List ℕ → ℕ
@@ -83,15 +83,15 @@ path_len text = run path_unit text
 
 -- the path that takes so many bytes
 abbrev pub path_at : Place → ℕ → Result (List Piece) ParseFault
-path_at p len = lifted (pieces_from mode.Path p.at (take len p.bytes))
+path_at p len = lift_fault (pieces_from mode.Path p.at (take len p.bytes))
 
 abbrev pub path_onto : List Piece → Result (List (List Piece) × Place) ParseFault → Result (List (List Piece) × Place) ParseFault
 path_onto path more = more >>= λ x. Ok (path ∷ x.0, x.1)
 
--- The paths of a list and the place of the first byte that belongs to none, past the first n bytes. Gaps stand between paths.
+-- The paths of a list and the place of the first byte that belongs to none, past the bytes to skip (plan_text, Runs). Gaps stand between paths.
 abbrev pub paths_past : ℕ → List ℕ → ℕ → Result (List (List Piece) × Place) ParseFault
-paths_past at [] n = Ok ([], record { at = at; bytes = [] })
-paths_past at (b ∷ rest) (suc n) = paths_past (at + 1) rest n
+paths_past at [] skip = Ok ([], record { at = at; bytes = [] })
+paths_past at (b ∷ rest) (suc skip) = paths_past (at + 1) rest skip
 paths_past at (b ∷ rest) zero =
     let gap = gap_len (b ∷ rest) in
     let len = path_len (b ∷ rest) in

@@ -1,37 +1,38 @@
 //! Blocks: a line, and the indented lines below it.
 
-ghost use Rattle.std.specs.Prelude.{◌≡◌, ◌==◌, ◌+◌, ◌<◌, ◌≤◌, ◌^◌, ◌||◌, List, [], length};
+ghost use Rattle.std.specs.Prelude.{◌≡◌, ◌==◌, ◌+◌, ◌<◌, ◌≤◌, ◌^◌, List, [], length};
 ghost use Rattle.std.specs.List.{prefix_len, list_any};
+ghost use Rattle.plan_text.specs.Bytes.{is_blank};
 ghost use Rattle.plan_text.specs.Outcome.{Meets, each};
 ghost use Rattle.plan_parse.specs.Blocks as blocks;
 ghost use Rattle.plan_parse.specs.Statements as statements;
 ghost use Rattle.plan_parse.specs.Views.{place_of};
-ghost use Rattle.plan_parse.specs.Members.{member_of, members_of, told_seen};
+ghost use Rattle.plan_parse.specs.BlockLines.{block_line_of, block_lines_of, line_role_if_any};
 
+use crate::block_kind::BlockKind;
 use crate::cursor::Cursor;
 use crate::fault::ParseFault;
-use crate::owner::Owner;
-use crate::reading::{bound_at, name_at, name_of, past, past_gap, refusal};
+use crate::reading::{binding_at, name_at, name_of, past, past_gap, refusal};
 use crate::statement::Binding;
 use plan_text::{TextFault, begins, indent_len, nul_at};
 use std::alloc::Global;
 
-/// A line of a block: what it says, past its indentation, or the fault of a comment.
+/// A line of a block: its text, past its indentation, or the fault of a comment.
 #[derive(Clone, Copy)]
-pub enum Member<'a> {
-    /// What it says.
-    Says(Cursor<'a>),
+pub enum BlockLine<'a> {
+    /// Its text.
+    Text(Cursor<'a>),
     /// The fault of a comment.
-    Faulty(TextFault),
+    Refused(TextFault),
 }
 
-/// A line that begins a block, or one that belongs to the block above it.
+/// The role of a line: it begins a block, or belongs to the block above it.
 #[derive(Clone, Copy)]
-pub enum Told<'a> {
+pub enum LineRole<'a> {
     /// It begins a block.
     Head(Cursor<'a>),
     /// It belongs to the block above it.
-    Below(Member<'a>),
+    Below(BlockLine<'a>),
 }
 
 /// Whether a line begins with a space or a tab.
@@ -41,24 +42,24 @@ fn is_indented(bytes: &[u8]) -> bool
     matches!(bytes, [b' ' | b'\t', ..])
 }
 
-/// What a comment tells: nothing but its NUL.
-fn commented(at: usize, bytes: &[u8]) -> Option<Told<'_>>
+/// The role of a comment: none but for its NUL.
+fn role_of_comment(at: usize, bytes: &[u8]) -> Option<LineRole<'_>>
     requires { at + length bytes.now < 2 ^ 63 }
-    ensures { told_seen result ≡ blocks.commented at bytes.now }
+    ensures { line_role_if_any result ≡ blocks.role_of_comment at bytes.now }
 {
     let nul = nul_at(bytes);
     if nul < bytes.len() {
         let fault = TextFault::NulByte((at + nul) as u64);
-        Some(Told::Below(Member::Faulty(fault)))
+        Some(LineRole::Below(BlockLine::Refused(fault)))
     } else {
         None
     }
 }
 
-/// What a logical line tells: nothing where it is blank.
-pub fn told_in(at: usize, bytes: &[u8]) -> Option<Told<'_>>
+/// The role of a logical line: none where it is blank.
+pub fn role_of_line(at: usize, bytes: &[u8]) -> Option<LineRole<'_>>
     requires { at + length bytes.now < 2 ^ 63 }
-    ensures { told_seen result ≡ blocks.told_in (record { at = at; bytes = bytes.now }) }
+    ensures { line_role_if_any result ≡ blocks.role_of_line (record { at = at; bytes = bytes.now }) }
 {
     let indent = indent_len(bytes);
     let place = Cursor {
@@ -68,30 +69,30 @@ pub fn told_in(at: usize, bytes: &[u8]) -> Option<Told<'_>>
     if place.bytes.is_empty() {
         None
     } else if begins(place.bytes, b'#') {
-        commented(at, bytes)
+        role_of_comment(at, bytes)
     } else if is_indented(bytes) {
-        Some(Told::Below(Member::Says(place)))
+        Some(LineRole::Below(BlockLine::Text(place)))
     } else {
-        Some(Told::Head(place))
+        Some(LineRole::Head(place))
     }
 }
 
 /// Nothing may be indented below other statements.
-pub fn alone(members: &[Member<'_>]) -> Result<(), ParseFault>
-    ensures { result ≡ statements.alone (members_of members.now) }
+pub fn no_block_allowed(lines: &[BlockLine<'_>]) -> Result<(), ParseFault>
+    ensures { result ≡ statements.no_block_allowed (block_lines_of lines.now) }
 {
-    match members {
+    match lines {
         [] => Ok(()),
         [first, ..] => match *first {
-            Member::Says(p) => Err(refusal(p, ParseFault::UnexpectedIndent(p.at as u64))),
-            Member::Faulty(fault) => Err(ParseFault::Text(fault)),
+            BlockLine::Text(p) => Err(refusal(p, ParseFault::UnexpectedIndent(p.at as u64))),
+            BlockLine::Refused(fault) => Err(ParseFault::Text(fault)),
         },
     }
 }
 
 /// How many spaces and tabs a text begins with.
 fn blanks_len(text: &[u8]) -> usize
-    ensures len { result ≡ prefix_len (λ b. b == 32 || b == 9) text.now }
+    ensures len { result ≡ prefix_len is_blank text.now }
     ensures within { result ≤ length text.now }
 {
     text.iter()
@@ -107,98 +108,98 @@ fn first_word(p: Cursor<'_>) -> &[u8]
 }
 
 /// A line of a block as a binding.
-fn member_at(alloc: Global, member: Member<'_>) -> Result<Binding, ParseFault>
-    ensures { Meets ParseFault.Memory (λ b. b) result (statements.member_at (member_of member.entry)) }
+fn block_line_at(alloc: Global, line: BlockLine<'_>) -> Result<Binding, ParseFault>
+    ensures { Meets ParseFault.Memory (λ b. b) result (statements.block_line_at (block_line_of line.entry)) }
 {
-    match member {
-        Member::Says(p) => bound_at(alloc, p),
-        Member::Faulty(fault) => Err(ParseFault::Text(fault)),
+    match line {
+        BlockLine::Text(p) => binding_at(alloc, p),
+        BlockLine::Refused(fault) => Err(ParseFault::Text(fault)),
     }
 }
 
 /// The lines of a block as bindings.
-pub fn bindings_at(alloc: Global, members: &[Member<'_>]) -> Result<Vec<Binding>, ParseFault>
-    ensures { Meets ParseFault.Memory (λ v. v.items) result (each statements.member_at (members_of members.now)) }
+pub fn bindings_at(alloc: Global, lines: &[BlockLine<'_>]) -> Result<Vec<Binding>, ParseFault>
+    ensures { Meets ParseFault.Memory (λ v. v.items) result (each statements.block_line_at (block_lines_of lines.now)) }
 {
-    let mut found = Vec::with_capacity(alloc, members.len())?;
-    for member in members {
-        found.push(member_at(alloc, *member)?)?;
+    let mut found = Vec::with_capacity(alloc, lines.len())?;
+    for line in lines {
+        found.push(block_line_at(alloc, *line)?)?;
     }
     Ok(found)
 }
 
 /// Whether a line binds this name, well or not.
-fn binds(member: Member<'_>, name: &[u8]) -> bool
-    ensures { result ≡ statements.is_named name.now (member_of member.entry) }
+fn binds(line: BlockLine<'_>, name: &[u8]) -> bool
+    ensures { result ≡ statements.is_named name.now (block_line_of line.entry) }
 {
-    match member {
-        Member::Says(p) => first_word(p) == name,
-        Member::Faulty(_) => false,
+    match line {
+        BlockLine::Text(p) => first_word(p) == name,
+        BlockLine::Refused(_) => false,
     }
 }
 
-/// What a line of a rule or a pool binds, where `is_bound` says whether a line above it binds the name that is wanted once.
-fn owned_bound_at(
+/// What the text of a line of a rule or a pool binds, where `is_bound` says whether a line above it binds the required name.
+fn variable_at(
     alloc: Global,
-    owner: Owner,
+    block: BlockKind,
     p: Cursor<'_>,
     is_bound: bool,
 ) -> Result<Binding, ParseFault>
-    ensures { (above : List blocks.Member) → is_bound ≡ list_any (statements.is_named (statements.wanted owner)) above →
-        Meets ParseFault.Memory (λ b. b) result (statements.owned_at owner above (blocks.Says (place_of p.entry))) }
+    ensures { (above : List blocks.BlockLine) → is_bound ≡ list_any (statements.is_named (statements.required_name block)) above →
+        Meets ParseFault.Memory (λ b. b) result (statements.block_variable_at block above (blocks.Text (place_of p.entry))) }
 {
     let start = past_gap(p);
     let (name, _) = name_at(start)?;
-    if !owner.knows(name) {
-        return Err(owner.unknown(start.at as u64));
+    if !block.may_bind(name) {
+        return Err(block.unknown_variable(start.at as u64));
     }
-    if is_bound && name == owner.wanted() {
-        return Err(owner.not_once(start.at as u64));
+    if is_bound && name == block.required_name() {
+        return Err(block.missing_or_repeated(start.at as u64));
     }
-    bound_at(alloc, p)
+    binding_at(alloc, p)
 }
 
-/// A line of a rule or a pool, where `is_bound` says whether a line above it binds the name that is wanted once.
-fn owned_at(
+/// What a line of a rule or a pool binds, where `is_bound` says whether a line above it binds the required name.
+fn block_variable_at(
     alloc: Global,
-    owner: Owner,
-    member: Member<'_>,
+    block: BlockKind,
+    line: BlockLine<'_>,
     is_bound: bool,
 ) -> Result<Binding, ParseFault>
-    ensures { (above : List blocks.Member) → is_bound ≡ list_any (statements.is_named (statements.wanted owner)) above →
-        Meets ParseFault.Memory (λ b. b) result (statements.owned_at owner above (member_of member.entry)) }
+    ensures { (above : List blocks.BlockLine) → is_bound ≡ list_any (statements.is_named (statements.required_name block)) above →
+        Meets ParseFault.Memory (λ b. b) result (statements.block_variable_at block above (block_line_of line.entry)) }
 {
-    match member {
-        Member::Says(p) => owned_bound_at(alloc, owner, p, is_bound),
-        Member::Faulty(fault) => Err(ParseFault::Text(fault)),
+    match line {
+        BlockLine::Text(p) => variable_at(alloc, block, p, is_bound),
+        BlockLine::Refused(fault) => Err(ParseFault::Text(fault)),
     }
 }
 
-/// The lines of a rule or a pool in order.
-pub fn all_owned_at(
+/// What the lines of a rule or a pool bind, in order.
+pub fn block_variables_at(
     alloc: Global,
-    owner: Owner,
-    members: &[Member<'_>],
+    block: BlockKind,
+    lines: &[BlockLine<'_>],
 ) -> Result<Vec<Binding>, ParseFault>
-    ensures { Meets ParseFault.Memory (λ v. v.items) result (statements.all_owned_at owner [] (members_of members.now)) }
+    ensures { Meets ParseFault.Memory (λ v. v.items) result (statements.block_variables_at block [] (block_lines_of lines.now)) }
 {
-    let mut found = Vec::with_capacity(alloc, members.len())?;
+    let mut found = Vec::with_capacity(alloc, lines.len())?;
     let mut is_bound = false;
-    for member in members {
-        found.push(owned_at(alloc, owner, *member, is_bound)?)?;
-        is_bound |= binds(*member, owner.wanted());
+    for line in lines {
+        found.push(block_variable_at(alloc, block, *line, is_bound)?)?;
+        is_bound |= binds(*line, block.required_name());
     }
     Ok(found)
 }
 
-/// A rule or a pool binds what is wanted of it; where it doesn't, that counts before all else of its block.
-pub fn with_wanted(owner: Owner, at: usize, members: &[Member<'_>]) -> Result<(), ParseFault>
-    ensures { result ≡ statements.with_wanted owner at (members_of members.now) }
+/// Whether a rule or a pool binds its required name; where it doesn't, that fault counts before all else of its block.
+pub fn has_required(block: BlockKind, at: usize, lines: &[BlockLine<'_>]) -> Result<(), ParseFault>
+    ensures { result ≡ statements.has_required block at (block_lines_of lines.now) }
 {
-    for member in members {
-        if binds(*member, owner.wanted()) {
+    for line in lines {
+        if binds(*line, block.required_name()) {
             return Ok(());
         }
     }
-    Err(owner.not_once(at as u64))
+    Err(block.missing_or_repeated(at as u64))
 }

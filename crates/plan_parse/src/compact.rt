@@ -2,13 +2,13 @@
 
 ghost use Rattle.std.specs.Prelude.{◌≡◌, ℕ, IfOk, List, Some, length};
 ghost use Rattle.plan_parse.specs.Compact as compact;
-ghost use Rattle.plan_parse.specs.Statements.{bound_at};
+ghost use Rattle.plan_parse.specs.Statements.{binding_at};
 ghost use Rattle.plan_parse.specs.Views.{place_of};
 ghost use Rattle.plan_parse.specs.declared.span.Span as the_span;
 
 use crate::cursor::Cursor;
 use crate::fault::ParseFault;
-use crate::reading::bound_at;
+use crate::reading::binding_at;
 use crate::span::Span;
 use crate::statement::{Binding, Statement, StatementKind};
 use plan_text::{PieceList, SmallText};
@@ -40,10 +40,10 @@ fn line_in(text: &[u8], span: Span) -> Cursor<'_>
 }
 
 /// What a line binds; nothing to nothing where it is no binding.
-fn bound_or(alloc: Global, place: Cursor<'_>) -> Result<Binding, AllocError>
-    ensures { IfOk result (λ b. b ≡ compact.binding_or (bound_at (place_of place.entry))) }
+fn binding_or_empty(alloc: Global, place: Cursor<'_>) -> Result<Binding, AllocError>
+    ensures { IfOk result (λ b. b ≡ compact.binding_or_empty (binding_at (place_of place.entry))) }
 {
-    match bound_at(alloc, place) {
+    match binding_at(alloc, place) {
         Ok(binding) => Ok(binding),
         Err(ParseFault::Memory) => Err(AllocError),
         Err(_) => Ok(Binding {
@@ -57,7 +57,7 @@ fn bound_or(alloc: Global, place: Cursor<'_>) -> Result<Binding, AllocError>
 pub fn read_binding(alloc: Global, text: &[u8], span: Span) -> Result<Binding, AllocError>
     ensures { IfOk result (λ b. b ≡ compact.bound_in text.now span) }
 {
-    bound_or(alloc, line_in(text, span))
+    binding_or_empty(alloc, line_in(text, span))
 }
 
 /// Where a line stands, if its numbers tell.
@@ -71,7 +71,7 @@ fn span_of(p: Cursor<'_>) -> Option<Span>
 }
 
 /// The statement of a line and of the lines below it, kept beside its text.
-pub fn compacted(
+pub fn compact_statement(
     alloc: Global,
     p: Cursor<'_>,
     statement: Statement,

@@ -6,11 +6,11 @@
 #![tactic(auto)]
 
 mod block;
+mod block_kind;
 mod compact;
 mod cursor;
 mod fault;
 mod laws;
-mod owner;
 mod parser;
 mod reading;
 mod span;

@@ -4,11 +4,11 @@ ghost use Rattle.std.specs.Prelude.{◌≡◌, ◌+◌, ◌<◌, ◌^◌, [], On
 ghost use Rattle.plan_text.specs.Outcome.{Meets};
 ghost use Rattle.plan_parse.specs.Statements.{statements_of};
 ghost use Rattle.plan_parse.specs.Views.{place_of};
-ghost use Rattle.plan_parse.specs.Members.{members_of, told_by};
+ghost use Rattle.plan_parse.specs.BlockLines.{block_lines_of, line_role_of};
 ghost use Rattle.plan_parse.specs.Compact.{StandsIn, said_in};
-ghost use Rattle.plan_parse.specs.Progress.{HeadStandsIn, TakesLine, ToldStandsIn, ReadsLine, head_of, state_of, ended};
+ghost use Rattle.plan_parse.specs.Progress.{HeadStandsIn, TakesLine, RoleStandsIn, ReadsLine, head_of, state_of, statements_at_end};
 
-use crate::block::{Member, Told, alone, told_in};
+use crate::block::{BlockLine, LineRole, no_block_allowed, role_of_line};
 use crate::compact::CompactStatement;
 use crate::cursor::Cursor;
 use crate::fault::ParseFault;
@@ -23,18 +23,18 @@ struct Reader<'a> {
     text: &'a [u8],
     statements: Vec<CompactStatement>,
     head: Option<Cursor<'a>>,
-    members: Vec<Member<'a>>,
+    lines: Vec<BlockLine<'a>>,
 }
 
 impl<'a> Reader<'a> {
     /// Adds the statement of the block that this line began.
     fn add(&mut self, head: Cursor<'a>) -> Result<(), ParseFault>
         requires { StandsIn self.now.text.now (place_of head) }
-        ensures statements { Meets ParseFault.Memory (λ _. map (said_in self.old.text.now) self.new.statements.items) result (ended (record { done = map (said_in self.old.text.now) self.old.statements.items; head = Some (place_of head.entry); members = members_of self.old.members.items })) }
+        ensures statements { Meets ParseFault.Memory (λ _. map (said_in self.old.text.now) self.new.statements.items) result (statements_at_end (record { done = map (said_in self.old.text.now) self.old.statements.items; head = Some (place_of head.entry); lines = block_lines_of self.old.lines.items })) }
         ensures text { self.new.text ≡ self.old.text }
         ensures head { self.new.head ≡ self.old.head }
     {
-        let statement = compact_of(self.alloc, head, &self.members)?;
+        let statement = compact_of(self.alloc, head, &self.lines)?;
         self.statements.push(statement)?;
         Ok(())
     }
@@ -42,32 +42,32 @@ impl<'a> Reader<'a> {
     /// Ends the block: its statement joins those before it, and no line is left of it.
     fn end_block(&mut self) -> Result<(), ParseFault>
         requires { HeadStandsIn self.now.text.now (head_of self.now.head) }
-        ensures statements { Meets ParseFault.Memory (λ _. map (said_in self.old.text.now) self.new.statements.items) result (ended (state_of self.old)) }
-        ensures members { OnOk result (self.new.members.items ≡ []) }
+        ensures statements { Meets ParseFault.Memory (λ _. map (said_in self.old.text.now) self.new.statements.items) result (statements_at_end (state_of self.old)) }
+        ensures lines { OnOk result (self.new.lines.items ≡ []) }
         ensures text { self.new.text ≡ self.old.text }
     {
         match self.head {
             Some(head) => self.add(head)?,
-            None => alone(&self.members)?,
+            None => no_block_allowed(&self.lines)?,
         }
-        self.members.clear();
+        self.lines.clear();
         Ok(())
     }
 
-    /// Takes what one more line tells.
-    fn take(&mut self, told: Told<'a>) -> Result<(), ParseFault>
+    /// Takes one more line by its role.
+    fn take(&mut self, role: LineRole<'a>) -> Result<(), ParseFault>
         requires head { HeadStandsIn self.now.text.now (head_of self.now.head) }
-        requires told { ToldStandsIn self.now.text.now (Some (told_by told)) }
+        requires role { RoleStandsIn self.now.text.now (Some (line_role_of role)) }
         ensures head { OnOk result (HeadStandsIn self.new.text.now (head_of self.new.head)) }
         ensures text { self.new.text ≡ self.old.text }
-        ensures takes { TakesLine result (state_of self.old) (told_by told.entry) (state_of self.new) }
+        ensures takes { TakesLine result (state_of self.old) (line_role_of role.entry) (state_of self.new) }
     {
-        match told {
-            Told::Head(head) => {
+        match role {
+            LineRole::Head(head) => {
                 self.end_block()?;
                 self.head = Some(head);
             }
-            Told::Below(member) => self.members.push(member)?,
+            LineRole::Below(line) => self.lines.push(line)?,
         }
         Ok(())
     }
@@ -81,8 +81,8 @@ impl<'a> Reader<'a> {
         ensures text { self.new.text ≡ self.old.text }
         ensures reads { ReadsLine result (state_of self.old) (record { at = at; bytes = line.now }) (state_of self.new) }
     {
-        match told_in(at, line) {
-            Some(told) => self.take(told),
+        match role_of_line(at, line) {
+            Some(role) => self.take(role),
             None => Ok(()),
         }
     }
@@ -90,7 +90,7 @@ impl<'a> Reader<'a> {
     /// The statements, where no line follows.
     fn finish(mut self) -> Result<Vec<CompactStatement>, ParseFault>
         requires { HeadStandsIn self.text.now (head_of self.head) }
-        ensures { Meets ParseFault.Memory (λ v. map (said_in self.entry.text.now) v.items) result (ended (state_of self.entry)) }
+        ensures { Meets ParseFault.Memory (λ v. map (said_in self.entry.text.now) v.items) result (statements_at_end (state_of self.entry)) }
     {
         self.end_block()?;
         Ok(self.statements)
@@ -110,7 +110,7 @@ pub fn parse(alloc: Global, text: &[u8]) -> Result<Vec<CompactStatement>, ParseF
         text,
         statements: Vec::new(alloc),
         head: None,
-        members: Vec::new(alloc),
+        lines: Vec::new(alloc),
     };
     let mut at = 0;
     while at < text.len() {

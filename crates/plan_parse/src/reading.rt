@@ -117,8 +117,8 @@ fn value_at(alloc: Global, p: Cursor<'_>) -> Result<PieceList, ParseFault>
 }
 
 /// `name = value`.
-pub fn bound_at(alloc: Global, p: Cursor<'_>) -> Result<Binding, ParseFault>
-    ensures { Meets ParseFault.Memory (λ b. b) result (statements.bound_at (place_of p.entry)) }
+pub fn binding_at(alloc: Global, p: Cursor<'_>) -> Result<Binding, ParseFault>
+    ensures { Meets ParseFault.Memory (λ b. b) result (statements.binding_at (place_of p.entry)) }
 {
     let (name, rest) = name_at(past_gap(p))?;
     let rest = byte_at(rest, b'=', ParseFault::ExpectedEquals(rest.at as u64))?;

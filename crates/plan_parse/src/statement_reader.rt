@@ -4,16 +4,16 @@ ghost use Rattle.std.specs.Prelude.{◌≡◌, ℕ, List};
 ghost use Rattle.plan_text.specs.Outcome.{Meets, seen_by};
 ghost use Rattle.plan_parse.specs.Statements as statements;
 ghost use Rattle.plan_parse.specs.Views.{place_of};
-ghost use Rattle.plan_parse.specs.Members.{members_of};
+ghost use Rattle.plan_parse.specs.BlockLines.{block_lines_of};
 ghost use Rattle.plan_parse.specs.Compact.{StandsIn, said_in};
 
-use crate::block::{Member, all_owned_at, alone, bindings_at, with_wanted};
-use crate::compact::{CompactStatement, compacted};
+use crate::block::{BlockLine, bindings_at, block_variables_at, has_required, no_block_allowed};
+use crate::block_kind::BlockKind;
+use crate::compact::{CompactStatement, compact_statement};
 use crate::cursor::Cursor;
 use crate::fault::ParseFault;
-use crate::owner::Owner;
 use crate::reading::{
-    bound_at, file_at, inputs_at, line_end_at, name_at, name_of, outputs_at, past, past_gap,
+    binding_at, file_at, inputs_at, line_end_at, name_at, name_of, outputs_at, past, past_gap,
     targets_at,
 };
 use crate::statement::{Binding, Build, Pool, Rule, Statement, StatementKind};
@@ -32,16 +32,16 @@ fn named_line(p: Cursor<'_>) -> Result<&[u8], ParseFault>
 /// A rule or a pool, from its name on, and the lines below it.
 fn named_block(
     alloc: Global,
-    owner: Owner,
+    block: BlockKind,
     at: usize,
     p: Cursor<'_>,
-    members: &[Member<'_>],
+    lines: &[BlockLine<'_>],
 ) -> Result<(SmallText, Vec<Binding>), ParseFault>
-    ensures { Meets ParseFault.Memory (λ x. (x.0, x.1.items)) result (statements.named_block owner at (place_of p.entry) (members_of members.now)) }
+    ensures { Meets ParseFault.Memory (λ x. (x.0, x.1.items)) result (statements.named_block block at (place_of p.entry) (block_lines_of lines.now)) }
 {
-    with_wanted(owner, at, members)?;
+    has_required(block, at, lines)?;
     let name = named_line(p)?;
-    let bindings = all_owned_at(alloc, owner, members)?;
+    let bindings = block_variables_at(alloc, block, lines)?;
     let name = SmallText::new(alloc, name)?;
     Ok((name, bindings))
 }
@@ -51,11 +51,11 @@ fn rule_of(
     alloc: Global,
     at: usize,
     p: Cursor<'_>,
-    members: &[Member<'_>],
+    lines: &[BlockLine<'_>],
 ) -> Result<Statement, ParseFault>
-    ensures { Meets ParseFault.Memory (λ s. s) result (statements.rule_of at (place_of p.entry) (members_of members.now)) }
+    ensures { Meets ParseFault.Memory (λ s. s) result (statements.rule_of at (place_of p.entry) (block_lines_of lines.now)) }
 {
-    let (name, bindings) = named_block(alloc, Owner::Rule, at, p, members)?;
+    let (name, bindings) = named_block(alloc, BlockKind::Rule, at, p, lines)?;
     Ok(Statement {
         offset: at as u64,
         kind: StatementKind::Rule(Rule {
@@ -80,11 +80,11 @@ fn pool_of(
     alloc: Global,
     at: usize,
     p: Cursor<'_>,
-    members: &[Member<'_>],
+    lines: &[BlockLine<'_>],
 ) -> Result<Statement, ParseFault>
-    ensures { Meets ParseFault.Memory (λ s. s) result (statements.pool_of at (place_of p.entry) (members_of members.now)) }
+    ensures { Meets ParseFault.Memory (λ s. s) result (statements.pool_of at (place_of p.entry) (block_lines_of lines.now)) }
 {
-    let (name, bindings) = named_block(alloc, Owner::Pool, at, p, members)?;
+    let (name, bindings) = named_block(alloc, BlockKind::Pool, at, p, lines)?;
     let depth = depth_of(alloc, bindings);
     Ok(Statement {
         offset: at as u64,
@@ -97,14 +97,14 @@ fn build_of(
     alloc: Global,
     at: usize,
     p: Cursor<'_>,
-    members: &[Member<'_>],
+    lines: &[BlockLine<'_>],
 ) -> Result<Statement, ParseFault>
-    ensures { Meets ParseFault.Memory (λ s. s) result (statements.build_of at (place_of p.entry) (members_of members.now)) }
+    ensures { Meets ParseFault.Memory (λ s. s) result (statements.build_of at (place_of p.entry) (block_lines_of lines.now)) }
 {
     let (outputs, implicit_outputs, rest) = outputs_at(alloc, p)?;
     let (rule, rest) = name_at(rest)?;
     let (inputs, implicit_inputs, order_only_inputs) = inputs_at(alloc, rest)?;
-    let bindings = bindings_at(alloc, members)?;
+    let bindings = bindings_at(alloc, lines)?;
     let rule = SmallText::new(alloc, rule)?;
     Ok(Statement {
         offset: at as u64,
@@ -125,12 +125,12 @@ fn default_of(
     alloc: Global,
     at: usize,
     p: Cursor<'_>,
-    members: &[Member<'_>],
+    lines: &[BlockLine<'_>],
 ) -> Result<Statement, ParseFault>
-    ensures { Meets ParseFault.Memory (λ s. s) result (statements.default_of at (place_of p.entry) (members_of members.now)) }
+    ensures { Meets ParseFault.Memory (λ s. s) result (statements.default_of at (place_of p.entry) (block_lines_of lines.now)) }
 {
     let targets = targets_at(alloc, p)?;
-    alone(members)?;
+    no_block_allowed(lines)?;
     Ok(Statement {
         offset: at as u64,
         kind: StatementKind::Default(Items::new(targets)),
@@ -142,12 +142,12 @@ fn include_of(
     alloc: Global,
     at: usize,
     p: Cursor<'_>,
-    members: &[Member<'_>],
+    lines: &[BlockLine<'_>],
 ) -> Result<Statement, ParseFault>
-    ensures { Meets ParseFault.Memory (λ s. s) result (statements.include_of at (place_of p.entry) (members_of members.now)) }
+    ensures { Meets ParseFault.Memory (λ s. s) result (statements.include_of at (place_of p.entry) (block_lines_of lines.now)) }
 {
     let path = file_at(alloc, p)?;
-    alone(members)?;
+    no_block_allowed(lines)?;
     Ok(Statement {
         offset: at as u64,
         kind: StatementKind::Include(path),
@@ -159,12 +159,12 @@ fn subninja_of(
     alloc: Global,
     at: usize,
     p: Cursor<'_>,
-    members: &[Member<'_>],
+    lines: &[BlockLine<'_>],
 ) -> Result<Statement, ParseFault>
-    ensures { Meets ParseFault.Memory (λ s. s) result (statements.subninja_of at (place_of p.entry) (members_of members.now)) }
+    ensures { Meets ParseFault.Memory (λ s. s) result (statements.subninja_of at (place_of p.entry) (block_lines_of lines.now)) }
 {
     let path = file_at(alloc, p)?;
-    alone(members)?;
+    no_block_allowed(lines)?;
     Ok(Statement {
         offset: at as u64,
         kind: StatementKind::Subninja(path),
@@ -172,11 +172,15 @@ fn subninja_of(
 }
 
 /// `name = value`, and nothing below it.
-fn binding_of(alloc: Global, p: Cursor<'_>, members: &[Member<'_>]) -> Result<Statement, ParseFault>
-    ensures { Meets ParseFault.Memory (λ s. s) result (statements.binding_of (place_of p.entry) (members_of members.now)) }
+fn binding_of(
+    alloc: Global,
+    p: Cursor<'_>,
+    lines: &[BlockLine<'_>],
+) -> Result<Statement, ParseFault>
+    ensures { Meets ParseFault.Memory (λ s. s) result (statements.binding_of (place_of p.entry) (block_lines_of lines.now)) }
 {
-    let binding = bound_at(alloc, p)?;
-    alone(members)?;
+    let binding = binding_at(alloc, p)?;
+    no_block_allowed(lines)?;
     Ok(Statement {
         offset: p.at as u64,
         kind: StatementKind::Binding(binding),
@@ -187,27 +191,27 @@ fn binding_of(alloc: Global, p: Cursor<'_>, members: &[Member<'_>]) -> Result<St
 pub fn statement_of(
     alloc: Global,
     p: Cursor<'_>,
-    members: &[Member<'_>],
+    lines: &[BlockLine<'_>],
 ) -> Result<Statement, ParseFault>
-    ensures { Meets ParseFault.Memory (λ s. s) result (statements.statement_of (place_of p.entry) (members_of members.now)) }
+    ensures { Meets ParseFault.Memory (λ s. s) result (statements.statement_of (place_of p.entry) (block_lines_of lines.now)) }
 {
     let start = past_gap(p);
     let word = name_of(start);
     let behind = past_gap(past(start, word.len()));
     if word == b"rule".as_slice() {
-        rule_of(alloc, p.at, behind, members)
+        rule_of(alloc, p.at, behind, lines)
     } else if word == b"build".as_slice() {
-        build_of(alloc, p.at, behind, members)
+        build_of(alloc, p.at, behind, lines)
     } else if word == b"pool".as_slice() {
-        pool_of(alloc, p.at, behind, members)
+        pool_of(alloc, p.at, behind, lines)
     } else if word == b"default".as_slice() {
-        default_of(alloc, p.at, behind, members)
+        default_of(alloc, p.at, behind, lines)
     } else if word == b"include".as_slice() {
-        include_of(alloc, p.at, behind, members)
+        include_of(alloc, p.at, behind, lines)
     } else if word == b"subninja".as_slice() {
-        subninja_of(alloc, p.at, behind, members)
+        subninja_of(alloc, p.at, behind, lines)
     } else {
-        binding_of(alloc, p, members)
+        binding_of(alloc, p, lines)
     }
 }
 
@@ -215,10 +219,10 @@ pub fn statement_of(
 pub fn compact_of(
     alloc: Global,
     p: Cursor<'_>,
-    members: &[Member<'_>],
+    lines: &[BlockLine<'_>],
 ) -> Result<CompactStatement, ParseFault>
-    ensures { (text : List ℕ) → StandsIn text (place_of p.entry) → Meets ParseFault.Memory (said_in text) result (statements.statement_of (place_of p.entry) (members_of members.now)) }
+    ensures { (text : List ℕ) → StandsIn text (place_of p.entry) → Meets ParseFault.Memory (said_in text) result (statements.statement_of (place_of p.entry) (block_lines_of lines.now)) }
 {
-    let statement = statement_of(alloc, p, members)?;
-    Ok(compacted(alloc, p, statement)?)
+    let statement = statement_of(alloc, p, lines)?;
+    Ok(compact_statement(alloc, p, statement)?)
 }

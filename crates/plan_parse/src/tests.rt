@@ -70,7 +70,7 @@ fn statements(alloc: Global, text: &[u8]) -> Result<Vec<Statement>, ParseFault> 
 }
 
 /// The fault of a text that is refused.
-fn refused(alloc: Global, text: &[u8]) -> Option<ParseFault> {
+fn refuse(alloc: Global, text: &[u8]) -> Option<ParseFault> {
     match parse(alloc, text) {
         Ok(_) => None,
         Err(fault) => Some(fault),
@@ -230,7 +230,7 @@ fn refused_lines(rt: HostRuntime) {
         (b"x y".as_slice(), ParseFault::ExpectedEquals(2)),
         (b"= y".as_slice(), ParseFault::ExpectedName(0)),
     ] {
-        assert_eq!(rt; refused(rt.alloc(), text), Some(fault));
+        assert_eq!(rt; refuse(rt.alloc(), text), Some(fault));
     }
 }
 
@@ -268,7 +268,7 @@ fn refused_blocks(rt: HostRuntime) {
             ParseFault::UnexpectedIndent(12),
         ),
     ] {
-        assert_eq!(rt; refused(rt.alloc(), text), Some(fault));
+        assert_eq!(rt; refuse(rt.alloc(), text), Some(fault));
     }
 }
 
@@ -279,7 +279,7 @@ fn refused_bytes(rt: HostRuntime) {
         (b"rule r\n\tcommand = a".as_slice(), TextFault::TabBlank(7)),
         (b"include a\0".as_slice(), TextFault::NulByte(9)),
     ] {
-        assert_eq!(rt; refused(rt.alloc(), text), Some(ParseFault::Text(fault)));
+        assert_eq!(rt; refuse(rt.alloc(), text), Some(ParseFault::Text(fault)));
     }
 }
 

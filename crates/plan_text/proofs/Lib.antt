@@ -1,14 +1,14 @@
 mod Rows
 mod Walks
-pub mod ReducingLemmas
-pub mod PieceLemmas
+pub mod PathLemmas
+pub mod PieceReaderLemmas
 mod PlainTable
-pub mod RunLemmas
-pub mod LineLemmas
+pub mod RunReaderLemmas
+pub mod LineReaderLemmas
 pub mod SinkLemmas
-pub mod CanonicalLemmas
+pub mod CanonicalPathsLemmas
 pub mod CanonicalLaw
-pub mod NumberLemmas
-pub mod EscapeLemmas
-pub mod CoverLemmas
-pub mod JoinLemmas
+pub mod NumeralsLemmas
+pub mod EscapeLaw
+pub mod CoverLaw
+pub mod JoinLaw

@@ -29,5 +29,6 @@ told n (t ∷ ts) h zero k lt e =
     same_is t (not (is_special mode.Path n)) (both_true (same t (not (is_special mode.Path n))) (tells (suc n) ts) h).0 ∙ ap (λ (b : ℕ). not (is_special mode.Path b)) (sym here)
 told n (t ∷ ts) h (suc i) k lt e = told (suc n) ts (both_true (same t (not (is_special mode.Path n))) (tells (suc n) ts) h).1 i k (omega arith) (omega (arith, e))
 
+-- the table says of each byte whether it stands for itself in a path
 pub plain_told : (b : ℕ) → b < 256 → get_or PLAIN b false ≡ not (is_special mode.Path b)
 plain_told b lt = told 0 PLAIN refl b b lt (omega arith)

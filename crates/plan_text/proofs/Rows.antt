@@ -5,8 +5,8 @@ use Rattle.plan_text.specs.declared.fault.TextFault.TheVariants.{EmptyPath, BadE
 use Rattle.plan_text.specs.declared.piece_reader.Mode.TheVariants.{Path, Value}
 use Rattle.plan_text.specs.declared.piece_reader.Piece.TheVariants.{Literal, Reference}
 use Rattle.plan_text.specs.Numerals.{number_in}
-use Rattle.plan_text.specs.Pieces.{escaped, pieces_of, whole}
-use Rattle.plan_text.specs.Path.{canonical_of, is_ordinary}
+use Rattle.plan_text.specs.Pieces.{escape_bytes, pieces_of, literal_of}
+use Rattle.plan_text.specs.Path.{canonical_of, is_normal}
 use Rattle.plan_text.specs.Lines.{lines_of, raw_lines}
 use Rattle.plan_text.specs.declared.line_reader.Line.{Line}
 
@@ -144,10 +144,10 @@ unfolding line
 line_9 = refl
 
 -- bytes that are escaped, and what they are then
-escape_1 : escaped (codes "a b$c:d") ≡ codes "a$ b$$c$:d"
+escape_1 : escape_bytes (codes "a b$c:d") ≡ codes "a$ b$$c$:d"
 escape_1 = refl
 
-escape_2 : pieces_of Path (codes "a$ b$$c$:d") ≡ Ok (whole (codes "a b$c:d"))
+escape_2 : pieces_of Path (codes "a$ b$$c$:d") ≡ Ok (literal_of (codes "a b$c:d"))
 escape_2 = refl
 
 -- numbers in digits: a bound, zeros in front, and what is none
@@ -167,10 +167,10 @@ number_5 : number_in 9 (codes "1x") ≡ None
 number_5 = refl
 
 -- ordinary parts
-part_1 : is_ordinary (codes "..a") ≡ true
+part_1 : is_normal (codes "..a") ≡ true
 part_1 = refl
 
-part_2 : is_ordinary (codes "..") ≡ false
+part_2 : is_normal (codes "..") ≡ false
 part_2 = refl
 
 -- the first line of a text, continued and ended by CR LF

@@ -1,4 +1,4 @@
--- What a sink took where it stopped.
+-- What a sink took where it stopped. Serves src/sink.rt.
 use Rattle.std.proofs.Common.{◌≡◌, ◌++◌, ℕ, ◌+◌, Bool, true, false, List, length, take, Option, sym, ap, subst, ◌∙◌, arith}
 use Rattle.std.proofs.lemmas.List.{length-append, take-append-le}
 use Rattle.std.proofs.KnownBytes.{Appends-kept, Appends-trans}
@@ -26,9 +26,11 @@ front_behind a b c xs ys h k =
     let n = length-append xs ys in
     (length xs + k.0, omega (arith, k.1, n), subst (Appends a c) (sym (take-append-add xs ys k.0)) (Appends-trans a b c xs (take k.0 ys) h k.2))
 
+-- a write behind one that is well is one write of the bytes of both
 pub join : (well : Bool) (a b c : ℕ × Option (List ℕ)) (xs ys : List ℕ) → Writes true a b xs → Writes well b c ys → Writes well a c (xs ++ ys)
 join true a b c xs ys h k = (k.0 ∙ h.0, Appends-trans a.1 b.1 c.1 xs ys h.1 k.1)
 join false a b c xs ys h k = (k.0 ∙ ap (λ (n : ℕ). n + 1) h.0, front_behind a.1 b.1 c.1 xs ys h.1 k.1)
 
+-- a write that failed is one of more bytes that failed
 pub failed : (a b : ℕ × Option (List ℕ)) (xs ys : List ℕ) → Writes false a b xs → Writes false a b (xs ++ ys)
 failed a b xs ys h = (h.0, front_longer a.1 b.1 xs ys h.1)

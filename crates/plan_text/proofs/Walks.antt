@@ -8,12 +8,14 @@ use denote.RattleType.{RattleType, Valss}
 use denote.Steps.{nothing}
 use denote.Struct.Struct.{Struct, within}
 
+-- the value of a ghost field
 abbrev pub none : Val
 none = vstruct vnil
 
-abbrev pub fieldless : RattleType
+abbrev fieldless : RattleType
 fieldless = Struct (record { name = []; args = []; types = []; fields = [] })
 
+-- it is made of nothing
 pub none_made : {M : Type 1} {𝓤 : Ura M} {𝓛 : Logic 𝓤} {K : Type 0} {Γ : List (Item 𝓤)} {G : Goal 𝓤 𝓛.H} → K → Step K 𝓛 (‵ (fieldless.own_val tt (none ∷ [])) ∷ Γ) G Γ G
 none_made t = step (λ s.
     nothing t $ feq_i t (List Val) (none ∷ []) (none ∷ []) refl $ fjoin t $

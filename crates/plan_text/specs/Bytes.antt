@@ -23,11 +23,20 @@ hash = 35
 abbrev pub dollar : ℕ
 dollar = 36
 
+abbrev pub hyphen : ℕ
+hyphen = 45
+
 abbrev pub dot : ℕ
 dot = 46
 
 abbrev pub slash : ℕ
 slash = 47
+
+abbrev pub digit_zero : ℕ
+digit_zero = 48
+
+abbrev pub digit_nine : ℕ
+digit_nine = 57
 
 abbrev pub colon : ℕ
 colon = 58
@@ -37,6 +46,9 @@ equals_sign = 61
 
 abbrev pub at_sign : ℕ
 at_sign = 64
+
+abbrev pub underscore : ℕ
+underscore = 95
 
 abbrev pub left_brace : ℕ
 left_brace = 123
@@ -49,7 +61,7 @@ right_brace = 125
 
 -- a letter, a digit, `_` or `-`: a byte of a name behind `$`
 abbrev pub is_bare_name_byte : ℕ → Bool
-is_bare_name_byte b = is_ascii_alphanumeric b || b == 95 || b == 45
+is_bare_name_byte b = is_ascii_alphanumeric b || b == underscore || b == hyphen
 
 -- the same, or `.`: a byte of any other name
 abbrev pub is_name_byte : ℕ → Bool
@@ -57,6 +69,10 @@ is_name_byte b = is_bare_name_byte b || b == dot
 
 abbrev pub is_space : ℕ → Bool
 is_space b = b == space
+
+-- a space or a tab
+abbrev pub is_blank : ℕ → Bool
+is_blank b = b == space || b == tab
 
 -- whether a text begins with this byte
 abbrev pub begins_with : ℕ → List ℕ → Bool

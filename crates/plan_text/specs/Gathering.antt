@@ -15,13 +15,13 @@ sign_of (found.Byte b) = Byte b
 sign_of (found.Name name) = Name name.now
 sign_of found.Nothing = Nothing
 
-abbrev pub seen : Option (Found × ℕ) → Option (Sign × ℕ)
-seen None = None
-seen (Some x) = Some (sign_of x.0, x.1)
+abbrev pub sign_and_len : Option (Found × ℕ) → Option (Sign × ℕ)
+sign_and_len None = None
+sign_and_len (Some x) = Some (sign_of x.0, x.1)
 
-abbrev pub read : Result (Found × ℕ) TextFault → Result (Sign × ℕ) TextFault
-read (Ok x) = Ok (sign_of x.0, x.1)
-read (Err fault) = Err fault
+abbrev pub sign_or_fault : Result (Found × ℕ) TextFault → Result (Sign × ℕ) TextFault
+sign_or_fault (Ok x) = Ok (sign_of x.0, x.1)
+sign_or_fault (Err fault) = Err fault
 
 -- whether a byte doesn't stand for itself
 abbrev pub is_special : Mode → ℕ → Bool
@@ -34,9 +34,9 @@ bytes_onto [] more = more
 bytes_onto (b ∷ bytes) more = onto (Byte b) (bytes_onto bytes more)
 
 -- what was gathered, in front of the pieces that follow
-abbrev pub gathered : Gather → List Piece → List Piece
-gathered g more = g.done.items ++ bytes_onto g.literal more
+abbrev pub gathered_pieces : Gather → List Piece → List Piece
+gathered_pieces g more = g.done.items ++ bytes_onto g.literal more
 
 -- new stands for old and what stands at one more place, whatever follows
 abbrev pub Gathers : Gather → Sign → Gather → Type 0
-Gathers old sign new = (more : List Piece) → gathered new more ≡ gathered old (onto sign more)
+Gathers old sign new = (more : List Piece) → gathered_pieces new more ≡ gathered_pieces old (onto sign more)

@@ -1,7 +1,7 @@
 -- The logical lines of a text. (Ninja manual, "Lexical syntax": newlines are significant, `$` and a newline continue a line, a comment runs to the end of its line.)
 use Rattle.std.specs.Prelude.{◌≡◌, ◌⊎◌, ◌++◌, ℕ, zero, suc, ◌+◌, ◌-◌, ◌==◌, nat_lt, Bool, true, ◌||◌, ◌&&◌, List, [], ◌∷◌, length, take, drop, if◌then◌else◌, Result, Ok, Err, Option, Some, None, map}
 use Rattle.std.specs.List.{prefix_len, position_or_len}
-use Rattle.plan_text.specs.Bytes.{nul, tab, line_feed, carriage_return, space, hash, dollar, is_space, begins_with}
+use Rattle.plan_text.specs.Bytes.{nul, tab, line_feed, carriage_return, hash, dollar, is_space, begins_with}
 use Rattle.plan_text.specs.Runs.{run}
 use Rattle.plan_text.specs.Limits.{max_source}
 use Rattle.plan_text.specs.declared.fault.TextFault.{TextFault}
@@ -17,14 +17,14 @@ abbrev pub begins_newline : List ℕ → Bool
 begins_newline text = nat_lt 0 (newline_len text)
 
 -- what a `$` takes along: the newline behind it, else one byte
-abbrev pub taken_along : List ℕ → ℕ
-taken_along [] = 0
-taken_along (b ∷ rest) = if begins_newline (b ∷ rest) then newline_len (b ∷ rest) else 1
+abbrev pub escaped_len : List ℕ → ℕ
+escaped_len [] = 0
+escaped_len (b ∷ rest) = if begins_newline (b ∷ rest) then newline_len (b ∷ rest) else 1
 
 -- a unit of a logical line: a byte, or a `$` with what it takes along; a newline is none
 abbrev pub line_unit : List ℕ → ℕ
 line_unit [] = 0
-line_unit (b ∷ rest) = if begins_newline (b ∷ rest) then 0 else if b == dollar then suc (taken_along rest) else 1
+line_unit (b ∷ rest) = if begins_newline (b ∷ rest) then 0 else if b == dollar then suc (escaped_len rest) else 1
 
 -- a unit of a comment: a byte; a newline is none
 abbrev pub comment_unit : List ℕ → ℕ
@@ -34,7 +34,7 @@ comment_unit (b ∷ rest) = if begins_newline (b ∷ rest) then 0 else 1
 -- a unit of a gap between words: a space, or `$` and a newline
 abbrev pub gap_unit : List ℕ → ℕ
 gap_unit [] = 0
-gap_unit (b ∷ rest) = if b == space then 1 else if b == dollar && begins_newline rest then suc (newline_len rest) else 0
+gap_unit (b ∷ rest) = if is_space b then 1 else if b == dollar && begins_newline rest then suc (newline_len rest) else 0
 
 -- how many bytes of gaps a text begins with
 abbrev pub gap_len : List ℕ → ℕ
@@ -55,10 +55,10 @@ pub record Raw : Type 0 where
   pub at : ℕ
   pub bytes : List ℕ
 
--- the logical lines of a text past its first n bytes; the text stands at offset `at`
+-- the logical lines of a text past the bytes to skip (see Runs); the text stands at offset `at`
 abbrev pub raw_past : ℕ → List ℕ → ℕ → List Raw
-raw_past at [] n = []
-raw_past at (b ∷ rest) (suc n) = raw_past (at + 1) rest n
+raw_past at [] skip = []
+raw_past at (b ∷ rest) (suc skip) = raw_past (at + 1) rest skip
 raw_past at (b ∷ rest) zero =
     let len = logical_len (b ∷ rest) in
     record { at = at; bytes = take len (b ∷ rest) } ∷ raw_past (at + 1) rest (len + newline_len (drop len (b ∷ rest)) - 1)
@@ -85,15 +85,15 @@ line_onto line (Ok lines) = Ok (line ∷ lines)
 line_onto line (Err fault) = Err fault
 
 -- each line, up to the first fault
-abbrev pub collected : List (Result (Option Line) TextFault) → Result (List Line) TextFault
-collected [] = Ok []
-collected (Err fault ∷ more) = Err fault
-collected (Ok None ∷ more) = collected more
-collected (Ok (Some line) ∷ more) = line_onto line (collected more)
+abbrev pub collect_lines : List (Result (Option Line) TextFault) → Result (List Line) TextFault
+collect_lines [] = Ok []
+collect_lines (Err fault ∷ more) = Err fault
+collect_lines (Ok None ∷ more) = collect_lines more
+collect_lines (Ok (Some line) ∷ more) = line_onto line (collect_lines more)
 
 -- the lines of a text, or its first fault
 abbrev pub lines_of : List ℕ → Result (List Line) TextFault
-lines_of text = if nat_lt max_source (length text) then Err (SourceTooLong max_source) else collected (map line_of (raw_lines text))
+lines_of text = if nat_lt max_source (length text) then Err (SourceTooLong max_source) else collect_lines (map line_of (raw_lines text))
 
 -- a newline, LF or CR LF, and the text behind it; only where that is without a byte the newline may be absent
 abbrev pub EndsLine : List ℕ → List ℕ → Type 0
@@ -106,14 +106,14 @@ AreLinesOf at (raw ∷ more) text =
     (newline : List ℕ) × (rest : List ℕ) × (raw.at ≡ at) × (text ≡ raw.bytes ++ (newline ++ rest)) × EndsLine newline rest
     × AreLinesOf (at + length raw.bytes + length newline) more rest
 
--- whether each logical line of a text past its first n bytes is ended by a newline
+-- whether each logical line of a text past the bytes to skip is ended by a newline
 abbrev pub ended_past : List ℕ → ℕ → Bool
-ended_past [] n = true
-ended_past (b ∷ rest) (suc n) = ended_past rest n
+ended_past [] skip = true
+ended_past (b ∷ rest) (suc skip) = ended_past rest skip
 ended_past (b ∷ rest) zero =
     let len = logical_len (b ∷ rest) in
     begins_newline (drop len (b ∷ rest)) && ended_past rest (len + newline_len (drop len (b ∷ rest)) - 1)
 
 -- whether each logical line of a text is ended by a newline, so that another text may follow
-abbrev pub are_ended : List ℕ → Bool
-are_ended text = ended_past text 0
+abbrev pub has_ended_lines : List ℕ → Bool
+has_ended_lines text = ended_past text 0

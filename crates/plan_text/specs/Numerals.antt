@@ -1,9 +1,10 @@
 -- Numbers in digits.
 use Rattle.std.specs.Prelude.{ℕ, ◌+◌, ◌-◌, ◌*◌, ◌==◌, nat_le, Bool, not, ◌&&◌, List, [], ◌∷◌, length, if◌then◌else◌, Option, Some, None}
 use Rattle.std.specs.List.{list_all}
+use Rattle.plan_text.specs.Bytes.{digit_zero, digit_nine}
 
 abbrev pub is_digit : ℕ → Bool
-is_digit b = nat_le 48 b && nat_le b 57
+is_digit b = nat_le digit_zero b && nat_le b digit_nine
 
 -- a digit or more, and nothing else
 abbrev pub is_numeral : List ℕ → Bool
@@ -12,7 +13,7 @@ is_numeral text = not (length text == 0) && list_all is_digit text
 -- the number that digits mean, behind those of this number
 abbrev pub number_past : ℕ → List ℕ → ℕ
 number_past n [] = n
-number_past n (b ∷ more) = number_past (n * 10 + (b - 48)) more
+number_past n (b ∷ more) = number_past (n * 10 + (b - digit_zero)) more
 
 -- the number that digits mean, where it is at most this
 abbrev pub at_most : ℕ → List ℕ → Option ℕ

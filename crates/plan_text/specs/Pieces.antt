@@ -16,14 +16,14 @@ pub data Sign : Type 0 where
   Nothing : Sign
 
 -- a name behind `$`; without a byte it is no reference
-abbrev pub bare : List ℕ → Option (Sign × ℕ)
-bare [] = None
-bare (b ∷ name) = Some (Name (b ∷ name), length (b ∷ name))
+abbrev pub bare_name : List ℕ → Option (Sign × ℕ)
+bare_name [] = None
+bare_name (b ∷ name) = Some (Name (b ∷ name), length (b ∷ name))
 
 -- a name behind `${`, and what follows it: a closing brace
-abbrev pub braced : List ℕ → List ℕ → Option (Sign × ℕ)
-braced [] rest = None
-braced (b ∷ name) rest = if begins_with right_brace rest then Some (Name (b ∷ name), length (b ∷ name) + 2) else None
+abbrev pub braced_name : List ℕ → List ℕ → Option (Sign × ℕ)
+braced_name [] rest = None
+braced_name (b ∷ name) rest = if begins_with right_brace rest then Some (Name (b ∷ name), length (b ∷ name) + 2) else None
 
 -- What `$` and the text behind it stand for, and how many bytes of that text; a newline takes along the spaces behind it.
 abbrev pub escape : List ℕ → Option (Sign × ℕ)
@@ -32,8 +32,8 @@ escape (b ∷ rest) =
     if b == dollar || b == space || b == colon then Some (Byte b, 1)
     else if b == line_feed then Some (Nothing, 1 + prefix_len is_space rest)
     else if b == carriage_return && begins_with line_feed rest then Some (Nothing, 2 + prefix_len is_space (drop 1 rest))
-    else if b == left_brace then braced (take_while is_name_byte rest) (drop (prefix_len is_name_byte rest) rest)
-    else bare (take_while is_bare_name_byte (b ∷ rest))
+    else if b == left_brace then braced_name (take_while is_name_byte rest) (drop (prefix_len is_name_byte rest) rest)
+    else bare_name (take_while is_bare_name_byte (b ∷ rest))
 
 -- how many bytes behind a `$` belong to its escape
 abbrev pub size_of : Option (Sign × ℕ) → Option ℕ
@@ -75,11 +75,11 @@ abbrev pub in_front : Result (Sign × ℕ) TextFault → (ℕ → Result (List P
 in_front (Ok x) more = all_onto x.0 (more x.1)
 in_front (Err fault) more = Err fault
 
--- the pieces of a text past its first n bytes, or its first fault; the text stands at offset `at`
+-- the pieces of a text past the bytes to skip (see Runs), or its first fault; the text stands at offset `at`
 abbrev pub pieces_past : Mode → ℕ → List ℕ → ℕ → Result (List Piece) TextFault
-pieces_past mode at [] n = Ok []
-pieces_past mode at (b ∷ rest) (suc n) = pieces_past mode (at + 1) rest n
-pieces_past mode at (b ∷ rest) zero = in_front (sign_at mode at b rest) (λ n. pieces_past mode (at + 1) rest n)
+pieces_past mode at [] skip = Ok []
+pieces_past mode at (b ∷ rest) (suc skip) = pieces_past mode (at + 1) rest skip
+pieces_past mode at (b ∷ rest) zero = in_front (sign_at mode at b rest) (λ skip. pieces_past mode (at + 1) rest skip)
 
 -- the pieces of a text that stands at offset `at`
 abbrev pub pieces_from : Mode → ℕ → List ℕ → Result (List Piece) TextFault
@@ -90,15 +90,15 @@ abbrev pub pieces_of : Mode → List ℕ → Result (List Piece) TextFault
 pieces_of mode text = pieces_from mode 0 text
 
 -- bytes as a text in which they stand for themselves: a `$` before each `$`, space and colon
-abbrev pub escaped : List ℕ → List ℕ
-escaped [] = []
-escaped (b ∷ rest) = if b == dollar || b == space || b == colon then dollar ∷ b ∷ escaped rest else b ∷ escaped rest
+abbrev pub escape_bytes : List ℕ → List ℕ
+escape_bytes [] = []
+escape_bytes (b ∷ rest) = if b == dollar || b == space || b == colon then dollar ∷ b ∷ escape_bytes rest else b ∷ escape_bytes rest
 
 -- whether a byte may stand there, if need be behind a `$`: no NUL, and no tab in a path
 abbrev pub is_allowed : Mode → ℕ → Bool
 is_allowed mode b = not (b == nul || b == tab && is_path mode)
 
 -- one piece of these bytes, or none where there is no byte
-abbrev pub whole : List ℕ → List Piece
-whole [] = []
-whole (b ∷ bytes) = Literal (b ∷ bytes) ∷ []
+abbrev pub literal_of : List ℕ → List Piece
+literal_of [] = []
+literal_of (b ∷ bytes) = Literal (b ∷ bytes) ∷ []

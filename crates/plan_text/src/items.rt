@@ -31,7 +31,7 @@ impl<T> Items<T> {
     pub fn empty(alloc: Global) -> Self
         ensures { result ≡ [] }
     {
-        Items {
+        Self {
             held: Vec::new(alloc),
         }
     }

@@ -21,10 +21,10 @@ mod counted;
 mod fault;
 mod front;
 mod items;
-mod lack;
 mod laws;
 mod limits;
 mod line_reader;
+mod memory;
 mod numerals;
 mod path;
 mod piece_list;
@@ -39,12 +39,12 @@ pub use canonical_paths::is_canonical;
 pub use counted::Counted;
 pub use fault::TextFault;
 pub use items::Items;
-pub use lack::Memory;
 pub use laws::{
     canonical_stays, escaped_is_read, lines_cover, lines_join, plain_is_read, writes_join,
 };
 pub use limits::{MAX_PATH, MAX_SOURCE, MAX_TEXT};
 pub use line_reader::{Line, gap_len, indent_len, lines, logical_len, newline_len, split_line};
+pub use memory::Memory;
 pub use numerals::number_in;
 pub use path::canonical;
 pub use piece_list::PieceList;

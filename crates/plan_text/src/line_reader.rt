@@ -38,8 +38,8 @@ pub fn newline_len(text: &[u8]) -> usize
 }
 
 /// What a `$` takes along: the newline behind it, else one byte.
-fn taken_along(text: &[u8]) -> usize
-    ensures len { result ≡ syntax.taken_along text.now }
+fn escaped_len(text: &[u8]) -> usize
+    ensures len { result ≡ syntax.escaped_len text.now }
     ensures within { result ≤ length text.now }
 {
     if text.is_empty() {
@@ -65,7 +65,7 @@ impl Unit for LineUnit {
         }
         match text {
             [] => 0,
-            [b'$', rest @ ..] => 1 + taken_along(rest),
+            [b'$', rest @ ..] => 1 + escaped_len(rest),
             _ => 1,
         }
     }

@@ -1,7 +1,7 @@
 //! Lists of pieces.
 
 ghost use Rattle.std.specs.Prelude.{◌≡◌, ◌∷◌, [], IfOk};
-ghost use Rattle.plan_text.specs.Pieces.{whole};
+ghost use Rattle.plan_text.specs.Pieces.{literal_of};
 
 use crate::piece_reader::Piece;
 use crate::small_text::SmallText;
@@ -64,7 +64,7 @@ impl PieceList {
 
     /// The list of one literal of these bytes, without a piece where there is no byte.
     pub fn literal(alloc: Global, bytes: &[u8]) -> Result<PieceList, AllocError>
-        ensures { IfOk result (λ pieces. pieces ≡ whole bytes.now) }
+        ensures { IfOk result (λ pieces. pieces ≡ literal_of bytes.now) }
     {
         if bytes.is_empty() {
             return Ok(PieceList::empty(alloc));

@@ -1,12 +1,12 @@
 //! The pieces of a path or a value.
 
-ghost use Rattle.std.specs.Prelude.{◌≡◌, ◌==◌, ◌<◌, ◌≤◌, ◌+◌, ◌^◌, ◌++◌, [], IfOk, IfSome, OnOk, not, map, length, drop, slice_index};
+ghost use Rattle.std.specs.Prelude.{◌≡◌, ◌==◌, ◌<◌, ◌≤◌, ◌+◌, ◌^◌, ◌++◌, [], IfOk, IfSome, OnOk, not, length, drop, slice_index};
 ghost use Rattle.std.specs.List.{prefix_len, position_or_len, take_while};
 ghost use Rattle.plan_text.specs.Bytes as bytes;
-ghost use Rattle.plan_text.specs.Pieces.{pieces_of, pieces_from, whole};
+ghost use Rattle.plan_text.specs.Pieces.{pieces_of, pieces_from, literal_of};
 ghost use Rattle.plan_text.specs.Pieces as syntax;
 ghost use Rattle.plan_text.specs.declared.piece_reader.Mode.TheVariants as mode;
-ghost use Rattle.plan_text.specs.Gathering.{seen, read, sign_of, is_special, Gathers, gathered};
+ghost use Rattle.plan_text.specs.Gathering.{sign_and_len, sign_or_fault, sign_of, is_special, Gathers};
 ghost use Rattle.plan_text.specs.Outcome.{Meets};
 
 use crate::fault::TextFault;
@@ -50,18 +50,21 @@ struct Gather {
     literal: SmallText,
 }
 
+/// Whether a byte belongs to a name right behind `$`.
 fn is_bare_name_byte(b: u8) -> bool
     ensures { result ≡ bytes.is_bare_name_byte b }
 {
     b.is_ascii_alphanumeric() || b == b'_' || b == b'-'
 }
 
+/// Whether a byte belongs to any other name.
 fn is_name_byte(b: u8) -> bool
     ensures { result ≡ bytes.is_name_byte b }
 {
     is_bare_name_byte(b) || b == b'.'
 }
 
+/// How many bytes of a name right behind `$` a text begins with.
 fn bare_name_len(text: &[u8]) -> usize
     ensures len { result ≡ prefix_len bytes.is_bare_name_byte text.now }
     ensures within { result ≤ length text.now }
@@ -84,10 +87,10 @@ fn spaces_len(text: &[u8]) -> usize
     text.iter().take_while(|b| **b == b' ').count()
 }
 
-fn braced(text: &[u8]) -> Option<(Found<'_>, usize)>
+fn braced_name(text: &[u8]) -> Option<(Found<'_>, usize)>
     requires { length text.now + 1 < 2 ^ 64 }
     ensures within { IfSome result (λ x. x.1 ≤ length text.now + 1) }
-    ensures found { seen result ≡ syntax.braced (take_while bytes.is_name_byte text.now) (drop (prefix_len bytes.is_name_byte text.now) text.now) }
+    ensures found { sign_and_len result ≡ syntax.braced_name (take_while bytes.is_name_byte text.now) (drop (prefix_len bytes.is_name_byte text.now) text.now) }
 {
     let (name, rest) = text.split_at(name_len(text));
     match rest {
@@ -98,7 +101,7 @@ fn braced(text: &[u8]) -> Option<(Found<'_>, usize)>
 
 /// What stands for `$` and the text behind it, and how many bytes of that text.
 fn escape(text: &[u8]) -> Option<(Found<'_>, usize)>
-    ensures found { seen result ≡ syntax.escape text.now }
+    ensures found { sign_and_len result ≡ syntax.escape text.now }
     ensures within { IfSome result (λ x. x.1 ≤ length text.now) }
 {
     match text {
@@ -106,7 +109,7 @@ fn escape(text: &[u8]) -> Option<(Found<'_>, usize)>
         [b @ (b'$' | b' ' | b':'), ..] => Some((Found::Byte(*b), 1)),
         [b'\n', rest @ ..] => Some((Found::Nothing, 1 + spaces_len(rest))),
         [b'\r', b'\n', rest @ ..] => Some((Found::Nothing, 2 + spaces_len(rest))),
-        [b'{', rest @ ..] => braced(rest),
+        [b'{', rest @ ..] => braced_name(rest),
         _ => {
             let name = &text[..bare_name_len(text)];
             if name.is_empty() {
@@ -131,11 +134,12 @@ pub fn escape_len(text: &[u8]) -> Option<usize>
     }
 }
 
+/// What stands at this place, and how many bytes behind it belong to it.
 fn sign_at(text: &[u8], base: usize, at: usize, mode: Mode) -> Result<(Found<'_>, usize), TextFault>
     requires inside { at < length text.now }
     requires fits { base + length text.now < 2 ^ 64 }
     ensures within { IfOk result (λ x. at + 1 + x.1 ≤ length text.now) }
-    ensures sign { read result ≡ syntax.sign_at mode (base + at) (slice_index text.now at) (drop (at + 1) text.now) }
+    ensures sign { sign_or_fault result ≡ syntax.sign_at mode (base + at) (slice_index text.now at) (drop (at + 1) text.now) }
 {
     let place = (base + at) as u64;
     match text[at] {
@@ -210,7 +214,7 @@ impl Gather {
     /// Ends the literal, where another piece follows: the first two take no more room than they need, since most texts have no others.
     fn finish_literal(&mut self) -> Result<(), AllocError>
         ensures literal { OnOk result (self.new.literal ≡ []) }
-        ensures done { OnOk result (self.new.done.items ≡ self.old.done.items ++ whole self.old.literal) }
+        ensures done { OnOk result (self.new.done.items ≡ self.old.done.items ++ literal_of self.old.literal) }
     {
         if self.done.is_empty() {
             self.done.reserve_exact(2)?;
@@ -222,6 +226,7 @@ impl Gather {
         Ok(())
     }
 
+    /// Takes what stands at one place.
     fn add(&mut self, found: Found<'_>) -> Result<(), AllocError>
         ensures { OnOk result (Gathers self.old (sign_of found.entry) self.new) }
     {
@@ -239,7 +244,7 @@ impl Gather {
 
     /// The pieces, where no byte follows.
     fn finish(self) -> Result<PieceList, AllocError>
-        ensures { IfOk result (λ pieces. pieces ≡ self.done.items ++ whole self.literal) }
+        ensures { IfOk result (λ pieces. pieces ≡ self.done.items ++ literal_of self.literal) }
     {
         let Gather {
             mut done,
@@ -260,7 +265,12 @@ impl Gather {
 }
 
 /// `pieces_at` of any text.
-fn gathered_at(alloc: Global, text: &[u8], base: usize, mode: Mode) -> Result<PieceList, TextFault>
+fn gather_pieces(
+    alloc: Global,
+    text: &[u8],
+    base: usize,
+    mode: Mode,
+) -> Result<PieceList, TextFault>
     requires { base + length text.now < 2 ^ 64 }
     ensures { Meets TextFault.Memory (λ v. v) result (pieces_from mode base text.now) }
 {
@@ -295,7 +305,7 @@ pub fn pieces_at(
     ensures { Meets TextFault.Memory (λ v. v) result (pieces_from mode base text.now) }
 {
     if text.is_empty() || plain_len(text, mode) < text.len() {
-        return gathered_at(alloc, text, base, mode);
+        return gather_pieces(alloc, text, base, mode);
     }
     let literal = SmallText::new(alloc, text)?;
     Ok(PieceList::one(Piece::Literal(literal)))

@@ -7,8 +7,8 @@ use Rattle.plan_graph.specs.Files.{Path, paths_in}
 use Rattle.plan_graph.specs.Fitting.{Fits}
 use Rattle.plan_graph.specs.Graph.{all_waits, default_edges, inputs_named, max_edges, outputs_of, rows_of, waits_of}
 use Rattle.plan_graph.specs.Walking.{InRange, TellsCycle}
-use Rattle.plan_graph.proofs.GraphLemmas.{inputs_known, outputs_known, own_maker, refuses, refuses_cycle, rows_are, sound_table, waits_range}
-use Rattle.plan_graph.proofs.ReadingLemmas.{row_is}
+use Rattle.plan_graph.proofs.BuildGraphLemmas.{inputs_known, outputs_known, own_producer, refuses, refuses_cycle, rows_are, sound_table, waits_range}
+use Rattle.plan_graph.proofs.EdgeReaderLemmas.{row_is}
 use Rattle.plan_graph.proofs.build_graph.graph.Goals as goal
 
 pub returns-in_err-read : goal.returns-in_err-read
@@ -68,8 +68,8 @@ returns c =
       sound = table.0;
       few = fits.few;
       files = fits.paths;
-      makers = fits.makers;
-      own = own_maker read.files m.edges fits;
+      producers = fits.producers;
+      own = own_producer read.files m.edges fits;
       outputs = outputs_known read.files m.edges read.outputs fits c.in_ok-read.ensures.outputs ∙ ap (λ (ps : List Path). rows_of outputs_of ps m.edges) fits.paths;
       inputs = inputs_known read.files m.edges read.inputs fits c.in_ok-read.ensures.inputs ∙ ap (λ (ps : List Path). rows_of inputs_named ps m.edges) fits.paths;
       waits = waits;

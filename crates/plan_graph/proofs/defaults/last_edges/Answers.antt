@@ -3,7 +3,7 @@ use Rattle.std.specs.Prelude.{if◌then◌else◌, not}
 use Rattle.std.specs.List.{list_any}
 use Rattle.plan_graph.specs.Files.{file_at}
 use Rattle.plan_graph.specs.Graph.{is_last, numbers_from}
-use Rattle.plan_graph.proofs.WaitLemmas.{last_step}
+use Rattle.plan_graph.proofs.WaitsLemmas.{last_step}
 use Rattle.plan_graph.proofs.defaults.last_edges.Goals as goal
 use Rattle.plan_graph.proofs.defaults.last_edges.Goals.{then-has_unused+in_ok-push, else-has_unused}
 

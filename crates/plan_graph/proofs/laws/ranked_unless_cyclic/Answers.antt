@@ -1,6 +1,6 @@
 use Rattle.plan_graph.specs.Graph.{all_waits}
-use Rattle.plan_graph.proofs.GraphLemmas.{waits_range}
-use Rattle.plan_graph.proofs.LawLemmas.{no_cycle, ranked}
+use Rattle.plan_graph.proofs.BuildGraphLemmas.{waits_range}
+use Rattle.plan_graph.proofs.RankLaw.{no_cycle, ranked}
 use Rattle.plan_graph.proofs.laws.ranked_unless_cyclic.Goals as goal
 
 pub returns : goal.returns

@@ -1,4 +1,4 @@
-use Rattle.plan_graph.proofs.LawLemmas.{rise}
+use Rattle.plan_graph.proofs.RankLaw.{rise}
 use Rattle.plan_graph.proofs.laws.ranks_rise.Goals as goal
 
 pub returns : goal.returns

@@ -2,8 +2,8 @@ use Rattle.std.proofs.Common.{◌≡◌, ◌+◌, ◌++◌, ◌∷◌, [], ◌�
 use Rattle.std.proofs.lemmas.Option.{slice_get_read}
 use Rattle.std.specs.Prelude.{length, slice_get}
 use Rattle.plan_graph.specs.Graph.{all_waits, waits_of}
-use Rattle.plan_graph.proofs.ReadingLemmas.{row_is}
-use Rattle.plan_graph.proofs.WaitLemmas.{next_waits}
+use Rattle.plan_graph.proofs.EdgeReaderLemmas.{row_is}
+use Rattle.plan_graph.proofs.WaitsLemmas.{next_waits}
 use Rattle.plan_graph.proofs.waits.all_waits.Goals as goal
 
 pub loop-edge-preserved : goal.loop-edge-preserved

@@ -1,4 +1,4 @@
-use Rattle.plan_parse.proofs.FaultLemmas.{all_placed}
+use Rattle.plan_parse.proofs.FaultLaw.{all_placed}
 use Rattle.plan_parse.proofs.laws.faults_have_places.Goals as goal
 
 pub returns : goal.returns

@@ -1,4 +1,4 @@
-use Rattle.plan_parse.proofs.WholeLemmas.{all_whole}
+use Rattle.plan_parse.proofs.WholeLaw.{all_whole}
 use Rattle.plan_parse.proofs.laws.statements_are_whole.Goals as goal
 
 pub returns : goal.returns

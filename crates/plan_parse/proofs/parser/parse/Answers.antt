@@ -6,19 +6,19 @@ use Rattle.plan_parse.specs.declared.fault.ParseFault.{ParseFault}
 use Rattle.plan_parse.specs.declared.fault.ParseFault.TheVariants as fault
 use Rattle.plan_parse.specs.declared.statement.Statement.{Statement}
 use Rattle.plan_parse.specs.Compact.{said_in}
-use Rattle.plan_parse.specs.Blocks.{told_of}
+use Rattle.plan_parse.specs.Blocks.{roles_of_lines}
 use Rattle.plan_parse.specs.Statements.{statements_of}
-use Rattle.plan_parse.specs.Progress.{state_of, followed, ended}
-use Rattle.plan_parse.proofs.ProgressLemmas.{ends}
+use Rattle.plan_parse.specs.Progress.{state_of, statements_with, statements_at_end}
+use Rattle.plan_parse.proofs.ParserLemmas.{ends}
 use Rattle.plan_parse.proofs.parser.parse.Goals as goal
 
 pub returns : goal.returns
 returns c =
-    let all : ended (state_of c.loop-at.reader) ≡ statements_of c.args.text.now =
+    let all : statements_at_end (state_of c.loop-at.reader) ≡ statements_of c.args.text.now =
     sym (ends (state_of c.loop-at.reader))
-    ∙ sym (at_drop_all (λ (v : List ℕ). followed (state_of c.loop-at.reader) (told_of (raw_past c.loop-at.at v 0))) c.args.text.now c.loop-at.at c.loop-at-test.false)
+    ∙ sym (at_drop_all (λ (v : List ℕ). statements_with (state_of c.loop-at.reader) (roles_of_lines (raw_past c.loop-at.at v 0))) c.args.text.now c.loop-at.at c.loop-at-test.false)
     ∙ c.loop-at.invariant.same in
-    let kept = subst (λ (t : List ℕ). Meets fault.Memory (λ v. map (said_in t) v.items) c.finish.result (ended (state_of c.loop-at.reader))) c.loop-at.invariant.text c.finish.ensures in
+    let kept = subst (λ (t : List ℕ). Meets fault.Memory (λ v. map (said_in t) v.items) c.finish.result (statements_at_end (state_of c.loop-at.reader))) c.loop-at.invariant.text c.finish.ensures in
     subst (λ (m : Result (List Statement) ParseFault). Meets fault.Memory (λ v. map (said_in c.args.text.now) v.items) c.finish.result m) all kept
 
 pub read-requires-clause-line : goal.read-requires-clause-line

@@ -1,4 +1,4 @@
-use Rattle.plan_text.proofs.EscapeLemmas.{escaped_read}
+use Rattle.plan_text.proofs.EscapeLaw.{escaped_read}
 use Rattle.plan_text.proofs.laws.escaped_is_read.Goals as goal
 
 pub returns : goal.returns

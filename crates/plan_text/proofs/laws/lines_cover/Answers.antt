@@ -1,4 +1,4 @@
-use Rattle.plan_text.proofs.CoverLemmas.{covers}
+use Rattle.plan_text.proofs.CoverLaw.{covers}
 use Rattle.plan_text.proofs.laws.lines_cover.Goals as goal
 
 pub returns : goal.returns

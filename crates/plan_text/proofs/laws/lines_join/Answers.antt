@@ -1,4 +1,4 @@
-use Rattle.plan_text.proofs.JoinLemmas.{joined}
+use Rattle.plan_text.proofs.JoinLaw.{joined}
 use Rattle.plan_text.proofs.laws.lines_join.Goals as goal
 
 pub returns : goal.returns

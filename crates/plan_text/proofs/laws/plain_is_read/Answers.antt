@@ -1,4 +1,4 @@
-use Rattle.plan_text.proofs.PieceLemmas.{plain_pieces}
+use Rattle.plan_text.proofs.PieceReaderLemmas.{plain_pieces}
 use Rattle.plan_text.proofs.laws.plain_is_read.Goals as goal
 
 pub returns : goal.returns

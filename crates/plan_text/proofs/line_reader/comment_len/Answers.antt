@@ -1,6 +1,6 @@
 use Rattle.std.proofs.Common.{◌≡◌, ℕ, suc, ◌-◌, get_or, sym, ◌∙◌, ap, arith, eq-eqb}
 use Rattle.std.proofs.lemmas.Bool.{eqb-true}
-use Rattle.plan_text.proofs.LineLemmas.{comment_to_end, comment_to_cr, comment_to_lf}
+use Rattle.plan_text.proofs.LineReaderLemmas.{comment_to_end, comment_to_cr, comment_to_lf}
 use Rattle.plan_text.proofs.line_reader.comment_len.Goals as goal
 use Rattle.plan_text.proofs.line_reader.comment_len.Goals.{else-at-gt0-via-then-at-gt0+else-text-at-eq13, else-at-gt0-via-else-at-gt0}
 

@@ -1,4 +1,4 @@
-use Rattle.plan_text.proofs.LineLemmas.{first_goes, first_line}
+use Rattle.plan_text.proofs.LineReaderLemmas.{first_goes, first_line}
 use Rattle.plan_text.proofs.line_reader.split_line.Goals as goal
 
 pub returns-clause-line : goal.returns-clause-line

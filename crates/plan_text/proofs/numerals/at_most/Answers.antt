@@ -1,4 +1,4 @@
-use Rattle.plan_text.proofs.NumberLemmas.{stays_too_great}
+use Rattle.plan_text.proofs.NumeralsLemmas.{stays_too_great}
 use Rattle.plan_text.proofs.numerals.at_most.Goals as goal
 
 pub returns-in-None : goal.returns-in-None

@@ -3,7 +3,7 @@ use Rattle.std.specs.List.{position_or_len}
 use Rattle.plan_text.specs.Gathering.{is_special}
 use Rattle.plan_text.specs.declared.piece_reader.Mode.{Mode}
 use Rattle.plan_text.specs.declared.piece_reader.Mode.TheVariants.{Value}
-use Rattle.plan_text.proofs.RunLemmas.{first_or_len}
+use Rattle.plan_text.proofs.RunReaderLemmas.{first_or_len}
 use Rattle.plan_text.proofs.piece_reader.plain_len.Goals as goal
 
 pub returns-in-Path-clause-len : goal.returns-in-Path-clause-len

@@ -1,6 +1,6 @@
 use Rattle.std.proofs.Common.{◌≡◌, ◌≤◌, ◌+◌, ◌-◌, length, drop, take, ap, sym, ◌∙◌, arith, length-drop}
 use Rattle.std.proofs.lemmas.List.{take_rest}
-use Rattle.plan_text.proofs.RunLemmas.{run_passed, run_more, run_end}
+use Rattle.plan_text.proofs.RunReaderLemmas.{run_passed, run_more, run_end}
 use Rattle.plan_text.proofs.run_reader.run_len.Goals as goal
 
 pub returns-then-unit-eq0-clause-len : goal.returns-then-unit-eq0-clause-len

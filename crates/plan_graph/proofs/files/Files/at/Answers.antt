@@ -2,7 +2,7 @@ use Rattle.std.proofs.Common.{◌≡◌, ◌≤◌, ◌∙◌, List, ap, arith, 
 use Rattle.std.proofs.lemmas.List.{get_or_past}
 use Rattle.plan_graph.specs.declared.files.File.{File}
 use Rattle.plan_graph.specs.Files.{file_at, unknown}
-use Rattle.plan_graph.proofs.FileLemmas.{not_below, table_at}
+use Rattle.plan_graph.proofs.FilesLemmas.{not_below, table_at}
 use Rattle.plan_graph.proofs.files.Files.at.Goals as goal
 
 pub returns-in-Some : goal.returns-in-Some

@@ -1,6 +1,6 @@
 use Rattle.std.proofs.Common.{◌∙◌, ap}
 use Rattle.plan_graph.specs.Files.{file_at, paths_in}
-use Rattle.plan_graph.proofs.FileLemmas.{file_missing, file_numbered, place_given, place_missing}
+use Rattle.plan_graph.proofs.FilesLemmas.{file_missing, file_numbered, place_given, place_missing}
 use Rattle.plan_graph.proofs.files.Files.get.Goals as goal
 
 pub returns-in-Some : goal.returns-in-Some

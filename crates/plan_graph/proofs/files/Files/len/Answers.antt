@@ -1,6 +1,6 @@
 use Rattle.std.proofs.Common.{◌∙◌, ap, length, sym}
 use Rattle.plan_graph.specs.Files.{Table}
-use Rattle.plan_graph.proofs.FileLemmas.{table_length}
+use Rattle.plan_graph.proofs.FilesLemmas.{table_length}
 use Rattle.plan_graph.proofs.files.Files.len.Goals as goal
 
 pub returns : goal.returns

@@ -2,7 +2,7 @@ use Rattle.std.proofs.Common.{◌∙◌, List, None, Some, ap, sym}
 use Rattle.std.specs.Prelude.{if◌then◌else◌}
 use Rattle.plan_scope.specs.Edges.{is_among}
 use Rattle.plan_graph.specs.Files.{Path, Table, number_of, paths_in}
-use Rattle.plan_graph.proofs.FileLemmas.{paths_are, place_is}
+use Rattle.plan_graph.proofs.FilesLemmas.{paths_are, place_is}
 use Rattle.plan_graph.proofs.files.Files.number.Goals as goal
 
 pub returns : goal.returns

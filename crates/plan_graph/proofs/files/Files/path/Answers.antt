@@ -2,7 +2,7 @@ use Rattle.std.proofs.Common.{◌∙◌, ap, option_map, sym}
 use Rattle.std.specs.Prelude.{slice_get}
 use Rattle.std.proofs.lemmas.Option.{slice_get-map}
 use Rattle.plan_graph.specs.Files.{Table, paths_in}
-use Rattle.plan_graph.proofs.FileLemmas.{paths_are}
+use Rattle.plan_graph.proofs.FilesLemmas.{paths_are}
 use Rattle.plan_graph.proofs.files.Files.path.Goals as goal
 
 pub returns-in-Some : goal.returns-in-Some

@@ -1,6 +1,6 @@
 use Rattle.std.proofs.Common.{◌∙◌, ap, arith, length, sym}
 use Rattle.plan_graph.specs.Files.{Table, number_of, paths_in, with_file}
-use Rattle.plan_graph.proofs.FileLemmas.{table_length, table_set}
+use Rattle.plan_graph.proofs.FilesLemmas.{table_length, table_set}
 use Rattle.plan_graph.proofs.files.Files.set.Goals as goal
 
 pub index_mut-requires : goal.index_mut-requires

@@ -2,8 +2,8 @@ use Rattle.std.proofs.Common.{◌≤◌, ◌∙◌, length, arith}
 use Rattle.memchr.specs.Find.{is_byte3}
 use Rattle.plan_text.specs.Bytes.{line_feed, carriage_return, dollar}
 use Rattle.plan_text.specs.Lines.{line_unit}
-use Rattle.plan_text.proofs.RunLemmas.{first_or_len, first_within, run_plain}
-use Rattle.plan_text.proofs.LineLemmas.{line_plain}
+use Rattle.plan_text.proofs.RunReaderLemmas.{first_or_len, first_within, run_plain}
+use Rattle.plan_text.proofs.LineReaderLemmas.{line_plain}
 use Rattle.plan_text.proofs.line_reader.LineUnitUnit.plain_len.Goals as goal
 
 pub returns-clause-run : goal.returns-clause-run

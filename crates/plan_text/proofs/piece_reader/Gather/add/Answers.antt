@@ -1,6 +1,6 @@
 use Rattle.std.proofs.Common.{◌≡◌, ℕ, List, ◌∷◌, [], ◌++◌, ap, ◌∙◌}
 use Rattle.plan_text.specs.declared.piece_reader.Piece.TheVariants.{Reference}
-use Rattle.plan_text.proofs.PieceLemmas.{gathers_byte, gathers_name}
+use Rattle.plan_text.proofs.PieceReaderLemmas.{gathers_byte, gathers_name}
 use Rattle.plan_text.proofs.piece_reader.Gather.add.Goals as goal
 
 pub returns-in_ok-add_plain-in-Byte : goal.returns-in_ok-add_plain-in-Byte

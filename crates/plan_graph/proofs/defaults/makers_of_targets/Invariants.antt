@@ -1,6 +1,0 @@
-use Rattle.std.proofs.Common.{◌≡◌, ◌++◌, None, drop, map}
-use Rattle.plan_graph.specs.Fitting.{makers}
-use Rattle.plan_graph.proofs.defaults.makers_of_targets.Given as goal
-
-abbrev pub invariant-loop-target : goal.invariant-loop-target
-invariant-loop-target l = l.numbers.items ++ makers l.files None (map (λ t. t.path) (drop l.target-index l.targets)) ≡ makers l.files None (map (λ t. t.path) l.targets)

@@ -1,7 +1,0 @@
-use Rattle.std.proofs.Common.{ap}
-use Rattle.plan_graph.specs.declared.files.File.{File}
-use Rattle.plan_graph.proofs.FileLemmas.{file_numbered}
-use Rattle.plan_graph.proofs.laws.makers_numbered.Goals as goal
-
-pub returns : goal.returns
-returns c files path = ap (λ (f : File). f.maker) (file_numbered files path)

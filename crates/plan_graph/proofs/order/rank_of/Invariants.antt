@@ -1,6 +1,0 @@
-use Rattle.std.proofs.Common.{◌≡◌, max, drop}
-use Rattle.plan_graph.specs.Cycles.{rank_over}
-use Rattle.plan_graph.proofs.order.rank_of.Given as goal
-
-abbrev pub invariant-loop-wait : goal.invariant-loop-wait
-invariant-loop-wait l = max l.greatest (rank_over l.ranks (drop l.wait-index l.row)) ≡ rank_over l.ranks l.row

@@ -1,8 +1,0 @@
-use Rattle.std.proofs.Common.{◌≡◌, ◌≢◌, ◌<◌, [], Some, ℕ}
-use Rattle.std.specs.Prelude.{slice_get}
-use Rattle.plan_graph.specs.declared.order.Mark.TheVariants.{New}
-use Rattle.plan_graph.specs.Walking.{Walks}
-use Rattle.plan_graph.proofs.order.ranks.Given as goal
-
-abbrev pub invariant-loop-edge : goal.invariant-loop-edge
-invariant-loop-edge l = Walks l.waits l.walk × (l.walk.path.items ≡ []) × ((e : ℕ) → e < l.edge → slice_get l.walk.marks.items e ≢ Some New)

@@ -1,0 +1,306 @@
+//! What build lines make and use, in the order of reading.
+
+ghost use Rattle.std.specs.Prelude.{◌≡◌, ◌≢◌, ◌≤◌, ◌∷◌, [], ◌++◌, IfOk, Ok, OnOk, length};
+ghost use Rattle.plan_text.specs.Outcome.{Meets};
+ghost use Rattle.plan_graph.specs.Files.{file_of, number_of, numbers_past, paths_in, with_paths};
+ghost use Rattle.plan_graph.specs.Graph.{targets_above, inputs_named, outputs_of};
+ghost use Rattle.plan_graph.specs.Reading as reading;
+ghost use Rattle.plan_graph.specs.Reading.{inputs_past, outputs_past};
+ghost use Rattle.plan_graph.specs.declared.fault.GraphFault.TheVariants.{Memory, TwoProducers, UnknownDefault};
+
+use crate::fault::GraphFault;
+use crate::files::{File, Files};
+use crate::graph_data::MAX_EDGES;
+use crate::row_list::RowList;
+use plan_scope::{DefaultTarget, Edge, Manifest};
+use plan_text::{Items, SmallText};
+use std::alloc::{AllocError, Global};
+
+/// What is known past some build lines.
+#[derive(Drop)]
+pub struct EdgeTable<'a> {
+    /// The paths that they name.
+    pub files: Files<'a>,
+    /// The numbers of the outputs of each edge.
+    pub outputs: RowList,
+    /// The numbers of the inputs of each edge.
+    pub inputs: RowList,
+    /// The row that is being read.
+    row: Vec<usize>,
+}
+
+/// A copy of a path.
+fn copy_of(alloc: Global, path: &[u8]) -> Result<Items<u8>, AllocError>
+    ensures { IfOk result (λ copy. copy ≡ path.now) }
+{
+    Ok(Items::new(Vec::from_slice(alloc, path)?))
+}
+
+/// The fault of a path that has a producer.
+fn two_producers(alloc: Global, path: &[u8]) -> GraphFault
+    ensures { result ≢ Memory → result ≡ TwoProducers path.now }
+{
+    match copy_of(alloc, path) {
+        Ok(path) => GraphFault::TwoProducers(path),
+        Err(_) => GraphFault::Memory,
+    }
+}
+
+/// Takes an output of the edge of this number, and gives the number of its path.
+fn with_output<'a>(
+    alloc: Global,
+    files: &mut Files<'a>,
+    number: usize,
+    path: &'a [u8],
+) -> Result<usize, GraphFault>
+    ensures table { Meets Memory (λ _. files.new) result (reading.with_output files.old number path.now (file_of path.now files.old)) }
+    ensures number { IfOk result (λ n. n ≡ number_of (paths_in files.old) path.now) }
+{
+    let at = files.named(path)?;
+    let file = files.at(at);
+    if file.producer.is_some() {
+        return Err(two_producers(alloc, path));
+    }
+    let made = File {
+        producer: Some(number),
+        is_used: file.is_used,
+    };
+    files.set(at, made);
+    Ok(at)
+}
+
+/// Takes outputs of the edge of this number, and appends the numbers of their paths to a row.
+fn with_outputs<'a>(
+    alloc: Global,
+    files: &mut Files<'a>,
+    number: usize,
+    outputs: &'a [SmallText],
+    row: &mut Vec<usize>,
+) -> Result<(), GraphFault>
+    ensures table { Meets Memory (λ _. files.new) result (reading.with_outputs files.old number outputs.now) }
+    ensures row { OnOk result (row.new.items ≡ row.old.items ++ numbers_past (paths_in files.old) outputs.now) }
+{
+    for output in outputs {
+        let at = with_output(alloc, files, number, output.as_slice())?;
+        row.push(at)?;
+    }
+    Ok(())
+}
+
+/// Whether the producer of a path is the edge itself.
+pub fn is_own(producer: Option<usize>, own: Option<usize>) -> bool
+    ensures { result ≡ reading.is_own producer own }
+{
+    match (producer, own) {
+        (Some(producer), Some(own)) => producer == own,
+        (Some(_), None) => false,
+        (None, _) => false,
+    }
+}
+
+/// The edge whose own outputs are no inputs of it: a phony.
+pub fn own_of(number: usize, edge: &Edge) -> Option<usize>
+    ensures { result ≡ reading.own_of number edge.now }
+{
+    if edge.phony { Some(number) } else { None }
+}
+
+/// Takes an input, and gives the number of its path.
+fn with_input<'a>(
+    files: &mut Files<'a>,
+    own: Option<usize>,
+    path: &'a [u8],
+) -> Result<usize, GraphFault>
+    ensures table { Meets Memory (λ _. files.new) result (Ok (reading.with_input own files.old path.now)) }
+    ensures number { IfOk result (λ n. n ≡ number_of (paths_in files.old) path.now) }
+{
+    let at = files.named(path)?;
+    let file = files.at(at);
+    if file.is_used {
+        return Ok(at);
+    }
+    let used = File {
+        producer: file.producer,
+        is_used: !is_own(file.producer, own),
+    };
+    files.set(at, used);
+    Ok(at)
+}
+
+/// Takes inputs of one sort, and appends the numbers of their paths to a row.
+fn with_inputs<'a>(
+    files: &mut Files<'a>,
+    own: Option<usize>,
+    inputs: &'a [SmallText],
+    row: &mut Vec<usize>,
+) -> Result<(), GraphFault>
+    ensures table { Meets Memory (λ _. files.new) result (Ok (reading.with_inputs own files.old inputs.now)) }
+    ensures row { OnOk result (row.new.items ≡ row.old.items ++ numbers_past (paths_in files.old) inputs.now) }
+{
+    for input in inputs {
+        let at = with_input(files, own, input.as_slice())?;
+        row.push(at)?;
+    }
+    Ok(())
+}
+
+/// Takes the inputs of an edge, and appends the numbers of their paths to a row.
+fn with_all_inputs<'a>(
+    files: &mut Files<'a>,
+    own: Option<usize>,
+    edge: &'a Edge,
+    row: &mut Vec<usize>,
+) -> Result<(), GraphFault>
+    ensures table { Meets Memory (λ _. files.new) result (Ok (reading.with_inputs own files.old (inputs_named edge.now))) }
+    ensures row { OnOk result (row.new.items ≡ row.old.items ++ numbers_past (paths_in files.old) (inputs_named edge.now)) }
+{
+    with_inputs(files, own, edge.inputs.as_slice(), row)?;
+    with_inputs(files, own, edge.implicit_inputs.as_slice(), row)?;
+    with_inputs(files, own, edge.order_only_inputs.as_slice(), row)?;
+    Ok(())
+}
+
+/// Takes the outputs of an edge, and appends the numbers of their paths to a row.
+fn with_all_outputs<'a>(
+    alloc: Global,
+    files: &mut Files<'a>,
+    number: usize,
+    edge: &'a Edge,
+    row: &mut Vec<usize>,
+) -> Result<(), GraphFault>
+    ensures table { Meets Memory (λ _. files.new) result (reading.with_outputs files.old number (outputs_of edge.now)) }
+    ensures row { OnOk result (row.new.items ≡ row.old.items ++ numbers_past (paths_in files.old) (outputs_of edge.now)) }
+{
+    with_outputs(alloc, files, number, edge.outputs.as_slice(), row)?;
+    with_outputs(alloc, files, number, edge.implicit_outputs.as_slice(), row)?;
+    Ok(())
+}
+
+/// Takes the outputs of the edge of this number as a row of their own.
+fn read_outputs<'a>(
+    alloc: Global,
+    read: &mut EdgeTable<'a>,
+    number: usize,
+    edge: &'a Edge,
+) -> Result<(), GraphFault>
+    ensures table { Meets Memory (λ _. read.new.files) result (reading.with_outputs read.old.files number (outputs_of edge.now)) }
+    ensures outputs { OnOk result (read.new.outputs ≡ read.old.outputs ++ numbers_past (paths_in read.old.files) (outputs_of edge.now) ∷ []) }
+    ensures inputs { read.new.inputs ≡ read.old.inputs }
+{
+    read.row.clear();
+    with_all_outputs(alloc, &mut read.files, number, edge, &mut read.row)?;
+    read.outputs.push(&read.row)?;
+    Ok(())
+}
+
+/// Takes the inputs of an edge as a row of their own.
+fn read_inputs<'a>(
+    read: &mut EdgeTable<'a>,
+    own: Option<usize>,
+    edge: &'a Edge,
+) -> Result<(), GraphFault>
+    ensures table { Meets Memory (λ _. read.new.files) result (Ok (reading.with_inputs own read.old.files (inputs_named edge.now))) }
+    ensures inputs { OnOk result (read.new.inputs ≡ read.old.inputs ++ numbers_past (paths_in read.old.files) (inputs_named edge.now) ∷ []) }
+    ensures outputs { read.new.outputs ≡ read.old.outputs }
+{
+    read.row.clear();
+    with_all_inputs(&mut read.files, own, edge, &mut read.row)?;
+    read.inputs.push(&read.row)?;
+    Ok(())
+}
+
+/// Takes the edge of this number.
+fn read_edge<'a>(
+    alloc: Global,
+    read: &mut EdgeTable<'a>,
+    number: usize,
+    edge: &'a Edge,
+) -> Result<(), GraphFault>
+    ensures table { Meets Memory (λ _. read.new.files) result (reading.with_edge read.old.files number edge.now) }
+    ensures outputs { OnOk result (read.new.outputs ≡ read.old.outputs ++ numbers_past (paths_in read.old.files) (outputs_of edge.now) ∷ []) }
+    ensures inputs { OnOk result (read.new.inputs ≡ read.old.inputs ++ numbers_past (with_paths (paths_in read.old.files) (outputs_of edge.now)) (inputs_named edge.now) ∷ []) }
+{
+    read_outputs(alloc, read, number, edge)?;
+    if number >= MAX_EDGES {
+        return Err(GraphFault::TooManyEdges);
+    }
+    read_inputs(read, own_of(number, edge), edge)?;
+    Ok(())
+}
+
+/// The fault of a target that no edge above makes.
+fn unknown_default(alloc: Global, path: &[u8]) -> GraphFault
+    ensures { result ≢ Memory → result ≡ UnknownDefault path.now }
+{
+    match copy_of(alloc, path) {
+        Ok(path) => GraphFault::UnknownDefault(path),
+        Err(_) => GraphFault::Memory,
+    }
+}
+
+/// Whether these targets have producers.
+fn check_targets<'a>(
+    alloc: Global,
+    files: &Files<'a>,
+    targets: &[DefaultTarget],
+) -> Result<(), GraphFault>
+    ensures { Meets Memory (λ _. files.now) result (reading.with_targets files.now targets.now) }
+{
+    for target in targets {
+        let path = target.path.as_slice();
+        if files.producer(path).is_none() {
+            return Err(unknown_default(alloc, path));
+        }
+    }
+    Ok(())
+}
+
+/// How many of these targets stand above the build line of this number.
+fn targets_above(number: usize, defaults: &[DefaultTarget]) -> usize
+    ensures len { result ≡ targets_above number defaults.now }
+    ensures within { result ≤ length defaults.now }
+{
+    defaults
+        .iter()
+        .take_while(|target| target.edges_above <= number)
+        .count()
+}
+
+/// Nothing read, with room for so many edges.
+fn no_edges<'a>(alloc: Global, edges: usize) -> Result<EdgeTable<'a>, AllocError>
+    ensures { IfOk result (λ r. (r.files ≡ []) × (r.outputs ≡ []) × (r.inputs ≡ [])) }
+{
+    let mut files = Files::new(alloc);
+    files.reserve(edges)?;
+    let mut outputs = RowList::new(alloc);
+    outputs.reserve(edges)?;
+    let mut inputs = RowList::new(alloc);
+    inputs.reserve(edges)?;
+    Ok(EdgeTable {
+        files,
+        outputs,
+        inputs,
+        row: Vec::new(alloc),
+    })
+}
+
+/// What the build lines of a manifest make and use.
+pub fn read_edges<'a>(alloc: Global, manifest: &'a Manifest) -> Result<EdgeTable<'a>, GraphFault>
+    ensures table { Meets Memory (λ r. r.files) result (reading.table_of manifest.now) }
+    ensures outputs { IfOk result (λ r. r.outputs ≡ outputs_past [] manifest.now.edges) }
+    ensures inputs { IfOk result (λ r. r.inputs ≡ inputs_past [] manifest.now.edges) }
+{
+    let edges = manifest.edges.as_slice();
+    let mut read = no_edges(alloc, edges.len())?;
+    let mut defaults = manifest.defaults.as_slice();
+    let mut number = 0;
+    for edge in edges {
+        let (due, rest) = defaults.split_at(targets_above(number, defaults));
+        check_targets(alloc, &read.files, due)?;
+        read_edge(alloc, &mut read, number, edge)?;
+        defaults = rest;
+        number += 1;
+    }
+    check_targets(alloc, &read.files, defaults)?;
+    Ok(read)
+}

@@ -1,0 +1,25 @@
+//! What is known of all edges.
+
+use crate::files::Files;
+use crate::row_list::RowList;
+use plan_text::Items;
+
+/// The greatest number of edges of a manifest.
+pub const MAX_EDGES: usize = 1_048_576;
+
+/// What the edges of a manifest wait for. Edges are named by their numbers in the manifest, from 0.
+#[derive(Drop)]
+pub struct Graph<'a> {
+    /// The paths that build lines name, in the order in which they first do, outputs before inputs.
+    pub files: Files<'a>,
+    /// The numbers of the outputs of each edge, explicit before implicit.
+    pub outputs: RowList,
+    /// The numbers of the inputs of each edge: explicit, then implicit, then order-only.
+    pub inputs: RowList,
+    /// The edges that each edge waits for, in ascending order.
+    pub waits: RowList,
+    /// The rank of each edge: 0 where it waits for none, else one more than the greatest rank that it waits for.
+    pub ranks: Items<usize>,
+    /// The edges that are built where no target is asked for, in ascending order.
+    pub defaults: Items<usize>,
+}

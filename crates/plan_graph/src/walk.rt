@@ -1,0 +1,226 @@
+//! A walk along waits, which gives each edge its rank or runs into a cycle.
+
+ghost use Rattle.std.specs.Prelude.{◌≡◌, ◌≢◌, ◌<◌, ◌≤◌, ◌+◌, ◌++◌, ◌∷◌, [], ℕ, List, All, IfErr, IfOk, OnOk, Some, get_or, length, slice_get, slice_index, ◌^◌};
+ghost use Rattle.plan_graph.specs.Graph.{max_edges};
+ghost use Rattle.plan_graph.specs.Cycles.{AreRanks, Chain, rank_over};
+ghost use Rattle.plan_graph.specs.Walking.{AllDone, DoneTo, GoesOn, HasMet, InRange, IsLast, IsNext, IsUntrodden, TellsCycle};
+ghost use Rattle.plan_graph.specs.declared.mark.Mark.TheVariants as mark;
+
+use crate::cycle::cycle_from;
+use crate::fault::GraphFault;
+use crate::mark::{Mark, is_done, is_new};
+use crate::row_list::RowList;
+use plan_text::Items;
+use std::alloc::{AllocError, Global};
+use std::marker::Model;
+
+/// A walk along waits. Contracts see what each edge waits for, the marks and the path.
+#[derive(Drop)]
+struct Walk<'a> {
+    alloc: Global,
+    /// What each edge waits for.
+    waits: &'a RowList,
+    /// How far the walk has come with each edge.
+    marks: Vec<Mark>,
+    /// How many of the waits of each edge it has passed; they are done.
+    passed: Vec<usize>,
+    /// The rank of each edge that is done.
+    ranks: Vec<usize>,
+    /// The edges that are open, each of which waits for the next.
+    path: Vec<usize>,
+}
+
+impl<'a> Model for Walk<'a> {
+    ghost use Rattle.plan_graph.specs.Walking.{IsSound, State};
+
+    ghost Value = { State };
+
+    ghost view = { λ w. record { waits = w.waits.now; marks = w.marks.items; path = w.path.items } };
+
+    ghost invariant = { λ w. IsSound w.waits.now w.marks.items w.passed.items w.ranks.items w.path.items };
+}
+
+/// One more than the greatest rank of a row, 0 of an empty one.
+fn rank_of(row: &[usize], ranks: &[usize]) -> usize
+    requires within { All (λ w. w < length ranks.now) row.now }
+    requires low { All (λ w. slice_index ranks.now w + 1 < 2 ^ 64) row.now }
+    ensures { result ≡ rank_over ranks.now row.now }
+{
+    let mut greatest = 0;
+    for wait in row {
+        greatest = greatest.max(ranks[*wait] + 1);
+    }
+    greatest
+}
+
+/// How many edges at the front of a row are done, where so many are known to be.
+fn done_len(row: &[usize], marks: &[Mark], known: usize) -> usize
+    requires range { All (λ w. w < length marks.now) row.now }
+    requires known { (known ≤ length row.now) × DoneTo marks.now row.now known }
+    ensures within { result ≤ length row.now }
+    ensures done { DoneTo marks.now row.now result }
+    ensures stops { result < length row.now → slice_get marks.now (slice_index row.now result) ≢ Some mark.Done }
+{
+    let mut len = known;
+    while len < row.len() {
+        if !is_done(marks[row[len]]) {
+            return len;
+        }
+        len += 1;
+    }
+    len
+}
+
+impl<'a> Walk<'a> {
+    /// A walk that has met no edge.
+    fn new(alloc: Global, waits: &'a RowList) -> Result<Walk<'a>, AllocError>
+        requires range { InRange waits.now }
+        requires few { length waits.now ≤ max_edges }
+        ensures { IfOk result (λ walk. IsUntrodden waits.now walk) }
+    {
+        let edges = waits.len();
+        Ok(Walk {
+            alloc,
+            waits,
+            marks: vec![in alloc; Mark::New; edges]?,
+            passed: vec![in alloc; 0; edges]?,
+            ranks: vec![in alloc; 0; edges]?,
+            path: Vec::new(alloc),
+        })
+    }
+
+    /// The last of the path.
+    fn last(&self) -> Option<usize>
+        ensures { IsLast self.now.path result }
+    {
+        self.path.last().copied()
+    }
+
+    /// Opens an edge that the last of the path waits for.
+    fn open(&mut self, next: usize) -> Result<(), AllocError>
+        requires fresh { slice_get self.old.marks next ≡ Some mark.New }
+        requires waited { Chain self.old.waits (self.old.path ++ next ∷ []) }
+        ensures goes_on { OnOk result (GoesOn self.old self.new) }
+        ensures met { OnOk result (slice_get self.new.marks next ≢ Some mark.New) }
+    {
+        self.path.push(next)?;
+        self.marks[next] = Mark::Open;
+        Ok(())
+    }
+
+    /// Closes the last of the path, all of whose waits are done.
+    fn close(&mut self, top: usize)
+        requires last { (front : List ℕ) × (self.old.path ≡ front ++ top ∷ []) }
+        requires done { AllDone self.old.marks (get_or self.old.waits top []) }
+        ensures { GoesOn self.old self.new }
+    {
+        self.ranks[top] = rank_of(self.waits.row(top), &self.ranks);
+        self.marks[top] = Mark::Done;
+        let _ = self.path.pop();
+    }
+
+    /// Passes what the last of the path waits for and is done, and answers the first that isn't.
+    fn pass(&mut self, top: usize) -> Option<usize>
+        requires { (front : List ℕ) × (self.old.path ≡ front ++ top ∷ []) }
+        ensures same { self.new ≡ self.old }
+        ensures next { IsNext self.new top result }
+    {
+        let row = self.waits.row(top);
+        let passed = done_len(row, &self.marks, self.passed[top]);
+        self.passed[top] = passed;
+        if passed == row.len() {
+            return None;
+        }
+        Some(row[passed])
+    }
+
+    /// The cycle that the path closes, the last of which waits for an edge that is open.
+    fn cycle(&self, next: usize) -> GraphFault
+        requires opened { slice_get self.now.marks next ≡ Some mark.Open }
+        requires waited { Chain self.now.waits (self.now.path ++ next ∷ []) }
+        ensures { TellsCycle self.now.waits result }
+    {
+        cycle_from(self.alloc, self.waits, &self.path, next)
+    }
+
+    /// Opens an edge that the last of the path waits for; where it is open already, there is a cycle.
+    fn open_or_cycle(&mut self, next: usize) -> Result<(), GraphFault>
+        requires here { next < length self.old.waits }
+        requires undone { slice_get self.old.marks next ≢ Some mark.Done }
+        requires waited { Chain self.old.waits (self.old.path ++ next ∷ []) }
+        ensures goes_on { OnOk result (GoesOn self.old self.new) }
+        ensures cycle { IfErr result (λ fault. TellsCycle self.old.waits fault) }
+    {
+        if !is_new(self.marks[next]) {
+            return Err(self.cycle(next));
+        }
+        self.open(next)?;
+        Ok(())
+    }
+
+    /// Goes on from the last of the path: opens an edge that it waits for, or closes it.
+    fn step(&mut self, top: usize) -> Result<(), GraphFault>
+        requires { (front : List ℕ) × (self.old.path ≡ front ++ top ∷ []) }
+        ensures goes_on { OnOk result (GoesOn self.old self.new) }
+        ensures cycle { IfErr result (λ fault. TellsCycle self.old.waits fault) }
+    {
+        match self.pass(top) {
+            Some(next) => self.open_or_cycle(next)?,
+            None => self.close(top),
+        }
+        Ok(())
+    }
+
+    /// Walks from an edge until it is done, and all that it waits for.
+    fn visit(&mut self, start: usize) -> Result<(), GraphFault>
+        requires empty { self.old.path ≡ [] }
+        requires fresh { slice_get self.old.marks start ≡ Some mark.New }
+        ensures met { OnOk result (HasMet start self.old self.new) }
+        ensures cycle { IfErr result (λ fault. TellsCycle self.old.waits fault) }
+    {
+        self.open(start)?;
+        while let Some(top) = self.last() {
+            self.step(top)?;
+        }
+        Ok(())
+    }
+
+    /// Walks from an edge, unless the walk has met it.
+    fn visit_unless_met(&mut self, edge: usize) -> Result<(), GraphFault>
+        requires empty { self.old.path ≡ [] }
+        requires here { edge < length self.old.waits }
+        ensures met { OnOk result (HasMet edge self.old self.new) }
+        ensures cycle { IfErr result (λ fault. TellsCycle self.old.waits fault) }
+    {
+        if is_new(self.marks[edge]) {
+            self.visit(edge)?;
+        }
+        Ok(())
+    }
+
+    /// The rank of each edge, where the walk has met all.
+    fn into_ranks(self) -> Items<usize>
+        requires empty { self.path ≡ [] }
+        requires met { (e : ℕ) → e < length self.waits → slice_get self.marks e ≢ Some mark.New }
+        ensures ranks { AreRanks self.entry.waits result }
+        ensures low { All (λ rank. rank < length self.entry.waits) result }
+    {
+        let Walk { ranks, .. } = self;
+        Items::new(ranks)
+    }
+}
+
+/// The rank of each edge, by what each waits for, or a cycle.
+pub fn ranks(alloc: Global, waits: &RowList) -> Result<Items<usize>, GraphFault>
+    requires range { InRange waits.now }
+    requires few { length waits.now ≤ max_edges }
+    ensures ranks { IfOk result (λ r. AreRanks waits.now r) }
+    ensures low { IfOk result (λ r. All (λ k. k < length waits.now) r) }
+    ensures cycle { IfErr result (λ fault. TellsCycle waits.now fault) }
+{
+    let mut walk = Walk::new(alloc, waits)?;
+    for edge in 0..waits.len() {
+        walk.visit_unless_met(edge)?;
+    }
+    Ok(walk.into_ranks())
+}

@@ -1,0 +1,79 @@
+//! What a rule or a pool binds.
+
+ghost use Rattle.std.specs.Prelude.{◌≡◌};
+ghost use Rattle.std.specs.List.{list_any};
+ghost use Rattle.std.specs.Str.{bytes_eq};
+ghost use Rattle.plan_parse.specs.Statements as statements;
+
+use crate::fault::ParseFault;
+
+/// A kind of block in which not every name may stand.
+#[derive(Clone, Copy)]
+pub enum BlockKind {
+    /// A rule: it may bind many names, and binds `command` once.
+    Rule,
+    /// A pool: it binds `depth`, once, and nothing else.
+    Pool,
+}
+
+/// Whether a rule may bind this name.
+fn is_rule_variable(name: &[u8]) -> bool
+    ensures { result ≡ list_any (bytes_eq name.now) statements.rule_variables }
+{
+    name == b"command".as_slice()
+        || name == b"depfile".as_slice()
+        || name == b"deps".as_slice()
+        || name == b"msvc_deps_prefix".as_slice()
+        || name == b"description".as_slice()
+        || name == b"dyndep".as_slice()
+        || name == b"generator".as_slice()
+        || name == b"in".as_slice()
+        || name == b"in_newline".as_slice()
+        || name == b"out".as_slice()
+        || name == b"restat".as_slice()
+        || name == b"rspfile".as_slice()
+        || name == b"rspfile_content".as_slice()
+        || name == b"pool".as_slice()
+}
+
+impl BlockKind {
+    /// Whether it may bind this name.
+    pub fn may_bind(self, name: &[u8]) -> bool
+        ensures { result ≡ statements.may_bind self name.now }
+    {
+        match self {
+            BlockKind::Rule => is_rule_variable(name),
+            BlockKind::Pool => name == b"depth".as_slice(),
+        }
+    }
+
+    /// The name that it binds exactly once.
+    pub fn required_name(self) -> &'static [u8]
+        ensures { result.now ≡ statements.required_name self }
+    {
+        match self {
+            BlockKind::Rule => b"command".as_slice(),
+            BlockKind::Pool => b"depth".as_slice(),
+        }
+    }
+
+    /// The fault of a name that it may not bind.
+    pub fn unknown_variable(self, at: u64) -> ParseFault
+        ensures { result ≡ statements.unknown_variable self at }
+    {
+        match self {
+            BlockKind::Rule => ParseFault::UnknownRuleVariable(at),
+            BlockKind::Pool => ParseFault::BadPool(at),
+        }
+    }
+
+    /// The fault of the required name, where it is absent or stands there again.
+    pub fn missing_or_repeated(self, at: u64) -> ParseFault
+        ensures { result ≡ statements.missing_or_repeated self at }
+    {
+        match self {
+            BlockKind::Rule => ParseFault::NoCommand(at),
+            BlockKind::Pool => ParseFault::BadPool(at),
+        }
+    }
+}
