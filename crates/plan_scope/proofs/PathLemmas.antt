@@ -11,7 +11,7 @@ use Rattle.plan_text.specs.Limits.{max_text, max_path}
 use Rattle.plan_scope.specs.declared.fault.Cause.TheVariants.{EmptyPath, PathTooLong}
 use Rattle.plan_scope.specs.declared.manifest.DefaultTarget.{DefaultTarget}
 use Rattle.plan_scope.specs.Edges.{block_of, near, path_of, canonical_or, first_of, or_refused, target_at, targets_by}
-use Rattle.plan_scope.specs.declared.build_texts.Paths.{Paths}
+use Rattle.plan_scope.specs.declared.edge.paths.Paths.{Paths}
 use Rattle.plan_scope.specs.Frames.{kept, Agrees, StandsFor}
 use Rattle.plan_scope.specs.Paths.{IsListOf, all_in, canonical_paths, has_long, kept_in}
 use Rattle.plan_scope.proofs.Kept.{Same, same_from_kept, kept_or}

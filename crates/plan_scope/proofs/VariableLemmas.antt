@@ -7,10 +7,10 @@ use Rattle.std.proofs.lemmas.Slice.Eq.{bytes_eq-Decides}
 use Rattle.plan_text.specs.declared.piece_reader.Piece.{Piece}
 use Rattle.plan_text.specs.declared.piece_reader.Piece.TheVariants.{Literal, Reference}
 use Rattle.plan_parse.specs.declared.statement.Build.{Build}
-use Rattle.plan_scope.specs.declared.build_line.Parts.{Parts}
+use Rattle.plan_scope.specs.declared.edge.build_line.Parts.{Parts}
 use Rattle.plan_scope.specs.declared.fault.Cause.{Cause}
 use Rattle.plan_scope.specs.declared.fault.Cause.TheVariants.{UnknownPool, RuleCycle, EmptyPath, Dyndep, Rspfile, DepsKind, PathTooLong, TextTooLong}
-use Rattle.plan_scope.specs.declared.variables.Variables.{Variables}
+use Rattle.plan_scope.specs.declared.edge.variables.Variables.{Variables}
 use Rattle.plan_scope.specs.Scopes.{Text, Name, Bindings, last_of, is_too_long, is_empty}
 use Rattle.plan_text.specs.Limits.{max_text}
 use Rattle.plan_scope.specs.Expansion.{Use, plain, quoted, listed, Meaning, Known, Late, or_known, or_late, meaning_of, both, text_of_piece, joined, text_of, text_within, variable}

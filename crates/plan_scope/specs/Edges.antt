@@ -18,7 +18,7 @@ use Rattle.plan_scope.specs.declared.manifest.DefaultTarget.{DefaultTarget}
 use Rattle.plan_scope.specs.declared.manifest.Edge.{Edge}
 use Rattle.plan_scope.specs.declared.manifest.Manifest.{Manifest}
 use Rattle.plan_scope.specs.declared.manifest.Pool.{Pool}
-use Rattle.plan_scope.specs.declared.variables.Variables.{Variables}
+use Rattle.plan_scope.specs.declared.edge.variables.Variables.{Variables}
 use Rattle.plan_scope.specs.Trees.{Line}
 use Rattle.plan_scope.specs.Scopes.{Text, Name, Bindings, Scoped, last_of, frame, nearest, look, expand, in_own, bound_by, is_too_long, is_long_path, is_empty}
 use Rattle.plan_scope.specs.Expansion.{Use, plain, quoted, variable}

@@ -1,7 +1,7 @@
 -- What the code keeps of the lines so far.
 use Rattle.std.specs.Prelude.{◌≡◌, ◌≢◌, ℕ, Bool, true, false, List, [], ◌∷◌, length, Option, Some, None, Result, Ok, Err, is_none, unwrap_or}
-use Rattle.plan_scope.specs.declared.evaluator.Evaluation.{Evaluation}
-use Rattle.plan_scope.specs.declared.evaluator.Whole.{Whole}
+use Rattle.plan_scope.specs.declared.manifest.evaluator.Evaluation.{Evaluation}
+use Rattle.plan_scope.specs.declared.manifest.evaluator.Whole.{Whole}
 use Rattle.plan_scope.specs.declared.fault.Cause.{Cause}
 use Rattle.plan_scope.specs.declared.fault.Cause.TheVariants.{DuplicateRule, TextTooLong, BadDepth}
 use Rattle.plan_scope.specs.declared.fault.LineFault.{LineFault}

@@ -1,5 +1,5 @@
 -- What an edge's variables are looked up in, as the code holds it.
-use Rattle.plan_scope.specs.declared.expansion.Use.{Use as Held}
+use Rattle.plan_scope.specs.declared.edge.expansion.Use.{Use as Held}
 use Rattle.plan_scope.specs.Expansion.{Use}
 use Rattle.plan_scope.specs.Uses.{names_in}
 

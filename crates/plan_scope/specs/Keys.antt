@@ -5,7 +5,7 @@ use Rattle.std.specs.Cmp.Lexicographic.{nat_list_eq_equiv}
 use Rattle.std.specs.Hash as fed
 use Rattle.std.specs.Cmp.Rules.{hashing}
 use Rattle.std.proofs.Common.{rules}
-use Rattle.plan_scope.specs.declared.keys.Key.{Key}
+use Rattle.plan_scope.specs.declared.scope.keys.Key.{Key}
 use Rattle.plan_scope.specs.Scopes.{Name, Bindings, Scoped, frame, last_of}
 
 -- the same scope and the same name

@@ -3,12 +3,12 @@ use Rattle.std.specs.Prelude.{◌≡◌, Bool, false, ◌||◌, List, [], ◌∷
 use Rattle.std.specs.List.{list_any}
 use Rattle.plan_text.specs.declared.piece_reader.Piece.{Piece}
 use Rattle.plan_parse.specs.declared.statement.Build.{Build}
-use Rattle.plan_scope.specs.declared.build_line.Parts.{Parts}
-use Rattle.plan_scope.specs.declared.build_texts.Paths.{Paths}
+use Rattle.plan_scope.specs.declared.edge.build_line.Parts.{Parts}
+use Rattle.plan_scope.specs.declared.edge.paths.Paths.{Paths}
 use Rattle.plan_scope.specs.declared.fault.Cause.{Cause}
 use Rattle.plan_scope.specs.declared.fault.Cause.TheVariants.{UnknownPool, RuleCycle, EmptyPath, Dyndep, Rspfile, DepsKind, PathTooLong, TextTooLong}
 use Rattle.plan_scope.specs.declared.manifest.Edge.{Edge}
-use Rattle.plan_scope.specs.declared.variables.Variables.{Variables}
+use Rattle.plan_scope.specs.declared.edge.variables.Variables.{Variables}
 use Rattle.plan_scope.specs.Scopes.{Text, Name, Bindings, is_too_long}
 use Rattle.plan_scope.specs.Expansion.{Use}
 use Rattle.plan_scope.specs.Edges.{block_of, near, all_variables, text_in, is_present, names_no_pool, is_other_deps}

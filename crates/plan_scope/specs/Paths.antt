@@ -2,8 +2,8 @@
 use Rattle.std.specs.Prelude.{◌≡◌, Bool, List, [], ◌∷◌, ◌++◌, map, Option}
 use Rattle.std.specs.List.{list_any}
 use Rattle.plan_parse.specs.declared.statement.Build.{Build}
-use Rattle.plan_scope.specs.declared.build_texts.Paths.{Paths}
-use Rattle.plan_scope.specs.declared.build_texts.PathTexts.{PathTexts}
+use Rattle.plan_scope.specs.declared.edge.paths.Paths.{Paths}
+use Rattle.plan_scope.specs.declared.edge.paths.PathTexts.{PathTexts}
 use Rattle.plan_scope.specs.Scopes.{Text, Name, is_empty, is_long_path}
 use Rattle.plan_scope.specs.Edges.{path_of, paths_of}
 use Rattle.plan_scope.specs.Frames.{kept}

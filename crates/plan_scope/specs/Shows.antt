@@ -1,6 +1,6 @@
 -- How a path is shown, as the code holds it.
-use Rattle.plan_scope.specs.declared.appending.Show.{Show}
-use Rattle.plan_scope.specs.declared.appending.Show.TheVariants.{Plain, Quoted}
+use Rattle.plan_scope.specs.declared.scope.text.Show.{Show}
+use Rattle.plan_scope.specs.declared.scope.text.Show.TheVariants.{Plain, Quoted}
 use Rattle.plan_scope.specs.Scopes.{Text}
 use Rattle.plan_scope.specs.Expansion.{plain, quoted}
 

@@ -2,7 +2,7 @@
 
 ghost use Rattle.plan_scope.specs.Laws.{LoadedManifestsAreSound, ManifestsAreSound, TreesAreWhole};
 
-use crate::source::Source;
+use crate::tree::source::Source;
 use plan_parse::statements_are_whole;
 use plan_text::canonical_stays;
 

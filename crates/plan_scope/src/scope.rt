@@ -7,8 +7,13 @@ ghost use Rattle.plan_text.specs.Limits.{max_text};
 ghost use Rattle.plan_scope.specs.Frames.{AgreesIn, StandsFor, kept};
 ghost use Rattle.plan_scope.specs.Uses.{names_in};
 
-use crate::appending::{append, is_long};
-use crate::scoped::Scoped;
+mod keys;
+pub(crate) mod scoped_map;
+pub(crate) mod small_map;
+pub(crate) mod text;
+
+use crate::scope::scoped_map::Scoped;
+use crate::scope::text::{append, is_long};
 use crate::tree::{Line, Said};
 use plan_parse::{Binding, StatementKind};
 use plan_text::{Items, MAX_TEXT, Piece};

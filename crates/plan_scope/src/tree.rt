@@ -4,6 +4,11 @@ ghost use Rattle.std.specs.Prelude.{◌≡◌, IfOk, option_map};
 ghost use Rattle.plan_scope.specs.Trees.{IsWhole};
 ghost use Rattle.plan_scope.specs.Saying.{kind_said};
 
+mod loaded;
+pub(crate) mod loader;
+mod parsed;
+pub(crate) mod source;
+
 use plan_parse::{Binding, CompactStatement, StatementKind, read_binding};
 use plan_text::Items;
 use std::alloc::{AllocError, Global};

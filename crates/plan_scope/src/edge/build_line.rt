@@ -1,0 +1,181 @@
+//! The edge of a build line.
+
+ghost use Rattle.std.specs.Prelude.{◌≡◌, [], List, IfOk, true, false};
+ghost use Rattle.plan_scope.specs.Scopes.{Name, Text};
+ghost use Rattle.plan_scope.specs.Edges.{edge_with, first_of, names_no_pool, or_refused, phony_variables, use_of, variables_of};
+ghost use Rattle.plan_scope.specs.Frames.{SameNames, StandsFor};
+ghost use Rattle.plan_scope.specs.HeldUses.{use_of as held_use};
+ghost use Rattle.plan_scope.specs.Parts.{IsRead, causes_from, edge_from, use_from};
+ghost use Rattle.plan_scope.specs.Steps.{Gives};
+ghost use Rattle.plan_scope.specs.Uses.{names_in};
+
+use crate::edge::expansion::Use;
+use crate::edge::paths::{BlockTexts, Paths, block, read_paths};
+use crate::edge::rule_variables::RuleVariables;
+use crate::edge::variables::{
+    Variables, has_cycle, has_long_text, into_text, is_other_deps, is_present, text_of,
+    variables_of_phony, variables_of_rule,
+};
+use crate::fault::{Cause, LineFault};
+use crate::manifest::Edge;
+use crate::manifest::pool_names::PoolNames;
+use crate::scope::Scope;
+use crate::scope::text::is_long;
+use plan_parse::Build;
+use std::alloc::{AllocError, Global};
+
+/// What is read of a build line before its variables are looked up.
+#[derive(Drop)]
+pub struct Parts<'a> {
+    /// Its block.
+    pub block: BlockTexts<'a>,
+    /// The canonical forms of its paths.
+    pub paths: Paths,
+    /// Whether a path as expanded has no byte.
+    pub has_empty: bool,
+    /// Whether a path as expanded is too long.
+    pub has_long: bool,
+}
+
+/// What is read of a build line, by what names stand for above it.
+fn read_parts<'a>(alloc: Global, here: Scope<'a>, build: &'a Build) -> Result<Parts<'a>, AllocError>
+    ensures { IfOk result (λ parts. (h : Name → Text) → StandsFor (names_in here.entry) h → IsRead h build.now parts) }
+{
+    let block = block(alloc, here, build.bindings.as_slice())?;
+    let read = read_paths(alloc, &block.values, here, build)?;
+    Ok(Parts {
+        block,
+        paths: read.paths,
+        has_empty: read.has_empty,
+        has_long: read.has_long,
+    })
+}
+
+/// Whether a text asks for a pool that isn't there.
+fn names_no_pool(pools: &PoolNames, text: &[u8]) -> bool
+    ensures { result ≡ names_no_pool pools.now text.now }
+{
+    if text.is_empty() {
+        return false;
+    }
+    if is_long(text) {
+        return true;
+    }
+    !pools.contains(text)
+}
+
+/// Why a build line with these variables is refused.
+fn cause(pools: &PoolNames, parts: &Parts, variables: &Variables) -> Option<Cause>
+    ensures { result ≡ first_of (causes_from pools.now variables.now parts.now) }
+{
+    if names_no_pool(pools, text_of(&variables.pool)) {
+        return Some(Cause::UnknownPool);
+    }
+    if has_cycle(variables) {
+        return Some(Cause::RuleCycle);
+    }
+    if parts.has_empty {
+        return Some(Cause::EmptyPath);
+    }
+    if is_present(&variables.dyndep) {
+        return Some(Cause::Dyndep);
+    }
+    if is_present(&variables.rspfile) {
+        return Some(Cause::Rspfile);
+    }
+    if is_other_deps(text_of(&variables.deps)) {
+        return Some(Cause::DepsKind);
+    }
+    if parts.has_long {
+        return Some(Cause::PathTooLong);
+    }
+    if has_long_text(variables) | parts.block.has_long {
+        return Some(Cause::TextTooLong);
+    }
+    None
+}
+
+/// The edge with these paths and variables.
+fn made(alloc: Global, paths: Paths, variables: Variables, phony: bool) -> Edge
+    ensures { result ≡ edge_from paths variables phony }
+{
+    let restat = is_present(&variables.restat);
+    let generator = is_present(&variables.generator);
+    Edge {
+        outputs: paths.outputs,
+        implicit_outputs: paths.implicit_outputs,
+        inputs: paths.inputs,
+        implicit_inputs: paths.implicit_inputs,
+        order_only_inputs: paths.order_only_inputs,
+        command: into_text(alloc, variables.command),
+        description: into_text(alloc, variables.description),
+        depfile: into_text(alloc, variables.depfile),
+        restat,
+        generator,
+        phony,
+        pool: into_text(alloc, variables.pool),
+    }
+}
+
+/// The edge with these variables, unless it is refused.
+fn checked(
+    alloc: Global,
+    pools: &PoolNames,
+    parts: Parts,
+    variables: Variables,
+    phony: bool,
+) -> Result<Edge, LineFault>
+    ensures { Gives result (or_refused (first_of (causes_from pools.now variables parts.entry)) (edge_from parts.entry.paths variables phony)) }
+{
+    match cause(pools, &parts, &variables) {
+        Some(cause) => Err(LineFault::Refused(cause)),
+        None => Ok(made(alloc, parts.paths, variables, phony)),
+    }
+}
+
+/// What the variables of an edge are looked up in.
+fn use_with<'a>(parts: &'a Parts<'a>, rule: &'a RuleVariables<'a>, file: Scope<'a>) -> Use<'a>
+    ensures { held_use result ≡ use_from parts.now rule.now (names_in file.entry) }
+{
+    Use {
+        inputs: parts.paths.inputs.as_slice(),
+        outputs: parts.paths.outputs.as_slice(),
+        block: &parts.block.values,
+        rule,
+        file,
+    }
+}
+
+/// The edge of a build line with this rule, by the pools of the tree and by what names stand for above the line and, once the whole tree was read, in its file.
+pub fn edge<'a>(
+    alloc: Global,
+    pools: &PoolNames<'a>,
+    here: Scope<'a>,
+    file: Scope<'a>,
+    rule: &'a RuleVariables<'a>,
+    build: &'a Build,
+) -> Result<Edge, LineFault>
+    ensures { (names : List Name) (h f : Name → Text) → SameNames pools.now names → StandsFor (names_in here.entry) h → StandsFor (names_in file.entry) f → Gives result (edge_with names h build.now (variables_of (use_of h f build.now rule.now)) false) }
+{
+    let parts = read_parts(alloc, here, build)?;
+    let used = use_with(&parts, &*rule, file);
+    let variables = variables_of_rule(alloc, &used)?;
+    checked(alloc, pools, parts, variables, false)
+}
+
+/// The edge of a phony build line, by the same.
+pub fn phony_edge<'a>(
+    alloc: Global,
+    pools: &PoolNames<'a>,
+    here: Scope<'a>,
+    file: Scope<'a>,
+    build: &'a Build,
+) -> Result<Edge, LineFault>
+    ensures { (names : List Name) (h f : Name → Text) → SameNames pools.now names → StandsFor (names_in here.entry) h → StandsFor (names_in file.entry) f → Gives result (edge_with names h build.now (phony_variables (use_of h f build.now [])) true) }
+{
+    let parts = read_parts(alloc, here, build)?;
+    let rule = RuleVariables::none(alloc);
+    let used = use_with(&parts, &rule, file);
+    let variables = variables_of_phony(alloc, &used)?;
+    checked(alloc, pools, parts, variables, true)
+}

@@ -1,0 +1,227 @@
+//! The variables of a rule, expanded where the rule is used.
+
+ghost use Rattle.std.specs.Prelude.{◌≡◌, ◌≤◌, ℕ, Some, OnOk, codes, map, option_map, bytes_eq, if◌then◌else◌};
+ghost use Rattle.std.specs.List.{join_with_byte};
+ghost use Rattle.plan_scope.specs.Scopes.{Text};
+ghost use Rattle.plan_scope.specs.Expansion.{Late, listed, meaning_of, text_of_piece, joined, variable};
+ghost use Rattle.plan_scope.specs.Shows.{shown_as};
+ghost use Rattle.plan_scope.specs.Steps.{Appends};
+ghost use Rattle.plan_scope.specs.Settling.{AppendsBy, AreSettled, text_by};
+ghost use Rattle.plan_scope.specs.HeldUses.{use_of};
+
+use crate::edge::memo::{Settled, found, settle};
+use crate::edge::rule_variables::RuleVariables;
+use crate::fault::{Cause, LineFault};
+use crate::scope::small_map::Frame;
+use crate::scope::text::{Show, append, append_paths};
+use crate::scope::{Scope, text_in};
+use plan_text::{Items, Piece, SmallText};
+use std::alloc::Global;
+
+/// What the variables of an edge are looked up in, the nearest first.
+#[derive(Clone, Copy)]
+pub struct Use<'a> {
+    /// The canonical paths of its explicit inputs.
+    pub inputs: &'a [SmallText],
+    /// The canonical paths of its explicit outputs.
+    pub outputs: &'a [SmallText],
+    /// The variables of its build block.
+    pub block: &'a Frame<'a, Items<u8>>,
+    /// The variables of its rule.
+    pub rule: &'a RuleVariables<'a>,
+    /// What names stand for in its file once the whole tree was read.
+    pub file: Scope<'a>,
+}
+
+/// The paths that a name stands for, and the byte between each two.
+fn listed<'a>(edge: &Use<'a>, name: &[u8]) -> Option<(&'a [SmallText], u8)>
+    ensures { (show : Text → Text) → option_map (λ l. join_with_byte l.1 (map show l.0.now)) result ≡ listed show (use_of edge.now) name.now }
+{
+    if name == b"in".as_slice() {
+        return Some((edge.inputs, b' '));
+    }
+    if name == b"out".as_slice() {
+        return Some((edge.outputs, b' '));
+    }
+    if name == b"in_newline".as_slice() {
+        return Some((edge.inputs, b'\n'));
+    }
+    None
+}
+
+/// Appends a text that is known.
+fn append_known(out: &mut Vec<u8>, text: &[u8]) -> Result<usize, LineFault>
+    ensures { AppendsBy out.old.items out.new.items 0 result (λ n. Some text.now) }
+{
+    append(out, text)?;
+    Ok(0)
+}
+
+/// Appends paths as they are shown, this byte between each two.
+fn append_listed(
+    out: &mut Vec<u8>,
+    show: Show,
+    paths: &[SmallText],
+    separator: u8,
+) -> Result<usize, LineFault>
+    ensures { AppendsBy out.old.items out.new.items 0 result (λ n. Some (join_with_byte separator (map (shown_as show) paths.now))) }
+{
+    append_paths(out, show, paths, separator)?;
+    Ok(0)
+}
+
+/// How many pieces a variable may have that is put together anew each time that it is named.
+const FEW: usize = 8;
+
+/// Whether a variable, so many others of the rule one inside another in it, is put together anew each time that it is named.
+fn is_cheap(depth: usize, pieces: &[Piece]) -> bool {
+    (depth == 0) & (pieces.len() <= FEW)
+}
+
+/// The greater of two depths.
+fn greater(depth: usize, other: usize) -> usize
+    ensures first { depth ≤ result }
+    ensures other { other ≤ result }
+    ensures least { (most : ℕ) → depth ≤ most → other ≤ most → result ≤ most }
+{
+    if depth < other { other } else { depth }
+}
+
+/// Appends a variable of an edge, where at most `left` variables of the rule may lie one inside another, and answers how many do.
+#[cycle(expansion)]
+fn append_variable<'a>(
+    alloc: Global,
+    edge: &'a Use<'a>,
+    show: Show,
+    left: usize,
+    settled: &mut Vec<Settled<'a>>,
+    name: &'a [u8],
+    out: &mut Vec<u8>,
+) -> Result<usize, LineFault>
+    requires { AreSettled (meaning_of (shown_as show) (use_of edge.now)) settled.old.items }
+    ensures appended { AppendsBy out.old.items out.new.items left result (λ n. text_by n (meaning_of (shown_as show) (use_of edge.now)) name.now) }
+    ensures settled { OnOk result (AreSettled (meaning_of (shown_as show) (use_of edge.now)) settled.new.items) }
+{
+    match listed(edge, name) {
+        Some((paths, separator)) => return append_listed(out, show, paths, separator),
+        None => {}
+    }
+    match edge.block.get(name) {
+        Some(text) => return append_known(out, text.as_slice()),
+        None => {}
+    }
+    match edge.rule.get(name) {
+        Some(pieces) => append_late(alloc, edge, show, left, settled, name, pieces, out),
+        None => append_known(out, text_in(edge.file, name)),
+    }
+}
+
+/// Appends a variable that the rule binds to these pieces.
+#[cycle(expansion)]
+fn append_late<'a>(
+    alloc: Global,
+    edge: &'a Use<'a>,
+    show: Show,
+    left: usize,
+    settled: &mut Vec<Settled<'a>>,
+    name: &'a [u8],
+    pieces: &'a [Piece],
+    out: &mut Vec<u8>,
+) -> Result<usize, LineFault>
+    requires late { meaning_of (shown_as show) (use_of edge.now) name.now ≡ Late pieces.now }
+    requires settled { AreSettled (meaning_of (shown_as show) (use_of edge.now)) settled.old.items }
+    ensures appended { AppendsBy out.old.items out.new.items left result (λ n. text_by n (meaning_of (shown_as show) (use_of edge.now)) name.now) }
+    ensures settled { OnOk result (AreSettled (meaning_of (shown_as show) (use_of edge.now)) settled.new.items) }
+{
+    if left == 0 {
+        return Err(LineFault::Refused(Cause::RuleCycle));
+    }
+    match found(settled, name, left, out) {
+        Some((depth, text)) => {
+            append(out, text)?;
+            return Ok(depth);
+        }
+        None => {}
+    }
+    let start = out.len();
+    let depth = match append_pieces(alloc, edge, show, left - 1, settled, pieces, out) {
+        Ok(depth) => depth,
+        Err(fault) => return Err(fault),
+    };
+    if is_cheap(depth, pieces) | (left == edge.rule.len()) {
+        return Ok(depth + 1);
+    }
+    settle(alloc, settled, name, depth + 1, out, start)?;
+    Ok(depth + 1)
+}
+
+/// Appends a piece of a variable of a rule.
+#[cycle(expansion)]
+fn append_piece<'a>(
+    alloc: Global,
+    edge: &'a Use<'a>,
+    show: Show,
+    left: usize,
+    settled: &mut Vec<Settled<'a>>,
+    piece: &'a Piece,
+    out: &mut Vec<u8>,
+) -> Result<usize, LineFault>
+    requires { AreSettled (meaning_of (shown_as show) (use_of edge.now)) settled.old.items }
+    ensures appended { AppendsBy out.old.items out.new.items left result (λ n. text_of_piece (text_by n (meaning_of (shown_as show) (use_of edge.now))) piece.now) }
+    ensures settled { OnOk result (AreSettled (meaning_of (shown_as show) (use_of edge.now)) settled.new.items) }
+{
+    match piece {
+        Piece::Literal(bytes) => append_known(out, bytes.as_slice()),
+        Piece::Reference(name) => append_variable(
+            alloc,
+            edge,
+            show,
+            left,
+            settled,
+            name.as_slice(),
+            out,
+        ),
+    }
+}
+
+/// Appends the pieces of a variable of a rule.
+#[cycle(expansion)]
+fn append_pieces<'a>(
+    alloc: Global,
+    edge: &'a Use<'a>,
+    show: Show,
+    left: usize,
+    settled: &mut Vec<Settled<'a>>,
+    pieces: &'a [Piece],
+    out: &mut Vec<u8>,
+) -> Result<usize, LineFault>
+    requires { AreSettled (meaning_of (shown_as show) (use_of edge.now)) settled.old.items }
+    ensures appended { AppendsBy out.old.items out.new.items left result (λ n. joined (text_by n (meaning_of (shown_as show) (use_of edge.now))) pieces.now) }
+    ensures settled { OnOk result (AreSettled (meaning_of (shown_as show) (use_of edge.now)) settled.new.items) }
+{
+    let mut deepest = 0;
+    for piece in pieces {
+        match append_piece(alloc, edge, show, left, settled, piece, out) {
+            Ok(depth) => deepest = greater(deepest, depth),
+            Err(fault) => return Err(fault),
+        }
+    }
+    Ok(deepest)
+}
+
+/// Appends a variable of an edge, expanded for itself.
+pub fn append_whole<'a>(
+    alloc: Global,
+    edge: &'a Use<'a>,
+    show: Show,
+    name: &'a [u8],
+    out: &mut Vec<u8>,
+) -> Result<(), LineFault>
+    ensures { Appends out.old.items out.new.items result (variable (shown_as show) (use_of edge.now) name.now) }
+{
+    let mut settled = Vec::new(alloc);
+    match append_variable(alloc, edge, show, edge.rule.len(), &mut settled, name, out) {
+        Ok(_) => Ok(()),
+        Err(fault) => Err(fault),
+    }
+}

@@ -1,0 +1,69 @@
+//! Pools and their depths.
+
+ghost use Rattle.std.specs.Prelude.{◌≡◌, List};
+ghost use Rattle.plan_scope.specs.Scopes.{Name, Text, expand};
+ghost use Rattle.plan_scope.specs.Edges.{depth_in, pool_by};
+ghost use Rattle.plan_scope.specs.Frames.{SameNames, StandsFor};
+ghost use Rattle.plan_scope.specs.Evaluation.{depth_by};
+ghost use Rattle.plan_scope.specs.Steps.{Gives};
+ghost use Rattle.plan_scope.specs.Uses.{names_in};
+
+use crate::fault::{Cause, LineFault};
+use crate::manifest::Pool;
+use crate::manifest::pool_names::PoolNames;
+use crate::scope::text::is_long;
+use crate::scope::{Scope, expanded};
+use crate::tree::loader::copied;
+use plan_text::number_in;
+use std::alloc::Global;
+
+/// The greatest depth of a pool.
+const MAX_DEPTH: u64 = 1_000_000;
+
+/// The most digits of a depth.
+const MAX_DIGITS: usize = 7;
+
+/// The depth that a text says.
+fn depth_in(text: &[u8]) -> Option<u64>
+    ensures { result ≡ depth_in text.now }
+{
+    if text.len() > MAX_DIGITS {
+        return None;
+    }
+    number_in(text, MAX_DEPTH)
+}
+
+/// The depth that a text says, or why it is refused.
+fn depth(text: &[u8]) -> Result<u64, Cause>
+    ensures { result ≡ depth_by text.now }
+{
+    if is_long(text) {
+        return Err(Cause::TextTooLong);
+    }
+    match depth_in(text) {
+        Some(depth) => Ok(depth),
+        None => Err(Cause::BadDepth),
+    }
+}
+
+/// The pool that a line declares, by the names of those above it.
+pub fn pool<'a>(
+    alloc: Global,
+    above: &PoolNames<'a>,
+    here: Scope<'a>,
+    declared: &'a plan_parse::Pool,
+) -> Result<Pool, LineFault>
+    ensures { (names : List Name) (h : Name → Text) → SameNames above.now names → StandsFor (names_in here.entry) h → Gives result (pool_by names declared.now.name (expand h declared.now.depth)) }
+{
+    if above.contains(declared.name.as_slice()) {
+        return Err(LineFault::Refused(Cause::DuplicatePool));
+    }
+    let text = expanded(alloc, here, declared.depth.as_slice())?;
+    match depth(&text) {
+        Ok(depth) => {
+            let name = copied(alloc, declared.name.as_slice())?;
+            Ok(Pool { name, depth })
+        }
+        Err(cause) => Err(LineFault::Refused(cause)),
+    }
+}
