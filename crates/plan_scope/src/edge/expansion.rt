@@ -1,6 +1,6 @@
 //! The variables of a rule, expanded where the rule is used.
 
-ghost use Rattle.std.specs.Prelude.{◌≡◌, ◌≤◌, ℕ, Some, OnOk, codes, map, option_map, bytes_eq, if◌then◌else◌};
+ghost use Rattle.std.specs.Prelude.{◌≡◌, ◌≤◌, ℕ, Some, codes, map, option_map, bytes_eq, if◌then◌else◌};
 ghost use Rattle.std.specs.List.{join_with_byte};
 ghost use Rattle.plan_scope.specs.Scopes.{Text};
 ghost use Rattle.plan_scope.specs.Expansion.{Late, listed, meaning_of, text_of_piece, joined, variable};
@@ -100,7 +100,7 @@ fn append_variable<'a>(
 ) -> Result<usize, LineFault>
     requires { AreSettled (meaning_of (shown_as show) (use_of edge.now)) settled.old.items }
     ensures appended { AppendsBy out.old.items out.new.items left result (λ n. text_by n (meaning_of (shown_as show) (use_of edge.now)) name.now) }
-    ensures settled { OnOk result (AreSettled (meaning_of (shown_as show) (use_of edge.now)) settled.new.items) }
+    ensures settled { AreSettled (meaning_of (shown_as show) (use_of edge.now)) settled.new.items }
 {
     match listed(edge, name) {
         Some((paths, separator)) => return append_listed(out, show, paths, separator),
@@ -131,7 +131,7 @@ fn append_late<'a>(
     requires late { meaning_of (shown_as show) (use_of edge.now) name.now ≡ Late pieces.now }
     requires settled { AreSettled (meaning_of (shown_as show) (use_of edge.now)) settled.old.items }
     ensures appended { AppendsBy out.old.items out.new.items left result (λ n. text_by n (meaning_of (shown_as show) (use_of edge.now)) name.now) }
-    ensures settled { OnOk result (AreSettled (meaning_of (shown_as show) (use_of edge.now)) settled.new.items) }
+    ensures settled { AreSettled (meaning_of (shown_as show) (use_of edge.now)) settled.new.items }
 {
     if left == 0 {
         return Err(LineFault::Refused(Cause::RuleCycle));
@@ -168,7 +168,7 @@ fn append_piece<'a>(
 ) -> Result<usize, LineFault>
     requires { AreSettled (meaning_of (shown_as show) (use_of edge.now)) settled.old.items }
     ensures appended { AppendsBy out.old.items out.new.items left result (λ n. text_of_piece (text_by n (meaning_of (shown_as show) (use_of edge.now))) piece.now) }
-    ensures settled { OnOk result (AreSettled (meaning_of (shown_as show) (use_of edge.now)) settled.new.items) }
+    ensures settled { AreSettled (meaning_of (shown_as show) (use_of edge.now)) settled.new.items }
 {
     match piece {
         Piece::Literal(bytes) => append_known(out, bytes.as_slice()),
@@ -197,7 +197,7 @@ fn append_pieces<'a>(
 ) -> Result<usize, LineFault>
     requires { AreSettled (meaning_of (shown_as show) (use_of edge.now)) settled.old.items }
     ensures appended { AppendsBy out.old.items out.new.items left result (λ n. joined (text_by n (meaning_of (shown_as show) (use_of edge.now))) pieces.now) }
-    ensures settled { OnOk result (AreSettled (meaning_of (shown_as show) (use_of edge.now)) settled.new.items) }
+    ensures settled { AreSettled (meaning_of (shown_as show) (use_of edge.now)) settled.new.items }
 {
     let mut deepest = 0;
     for piece in pieces {
@@ -209,18 +209,20 @@ fn append_pieces<'a>(
     Ok(deepest)
 }
 
-/// Appends a variable of an edge, expanded for itself.
+/// Appends a variable of an edge, expanded for itself. What is settled on the way serves the edge's other variables that show paths alike.
 pub fn append_whole<'a>(
     alloc: Global,
     edge: &'a Use<'a>,
     show: Show,
+    settled: &mut Vec<Settled<'a>>,
     name: &'a [u8],
     out: &mut Vec<u8>,
 ) -> Result<(), LineFault>
-    ensures { Appends out.old.items out.new.items result (variable (shown_as show) (use_of edge.now) name.now) }
+    requires { AreSettled (meaning_of (shown_as show) (use_of edge.now)) settled.old.items }
+    ensures appended { Appends out.old.items out.new.items result (variable (shown_as show) (use_of edge.now) name.now) }
+    ensures settled { AreSettled (meaning_of (shown_as show) (use_of edge.now)) settled.new.items }
 {
-    let mut settled = Vec::new(alloc);
-    match append_variable(alloc, edge, show, edge.rule.len(), &mut settled, name, out) {
+    match append_variable(alloc, edge, show, edge.rule.len(), settled, name, out) {
         Ok(_) => Ok(()),
         Err(fault) => Err(fault),
     }

@@ -1,6 +1,6 @@
 //! Variables of a rule whose texts were found on the way to another's, so that none is expanded each time that it is named.
 
-ghost use Rattle.std.specs.Prelude.{◌≡◌, ◌++◌, ℕ, Some, IfOk, OnOk, option_map, length};
+ghost use Rattle.std.specs.Prelude.{◌≡◌, ◌++◌, ℕ, Some, IfOk, option_map, length};
 ghost use Rattle.plan_scope.specs.Scopes.{Name, Text};
 ghost use Rattle.plan_scope.specs.Expansion.{Meaning};
 ghost use Rattle.plan_scope.specs.Frames.{kept};
@@ -74,8 +74,8 @@ pub fn settle<'a>(
     out: &[u8],
     start: usize,
 ) -> Result<(), AllocError>
-    ensures { OnOk result ((meaning : Name → Meaning) (before text : Text) → AreSettled meaning settled.old.items → text_by depth meaning name.now ≡ Some text → length before ≡ start → kept out.now ≡ kept (before ++ text)
-        → AreSettled meaning settled.new.items) }
+    ensures { (meaning : Name → Meaning) (before text : Text) → AreSettled meaning settled.old.items → text_by depth meaning name.now ≡ Some text → length before ≡ start → kept out.now ≡ kept (before ++ text)
+        → AreSettled meaning settled.new.items }
 {
     let text = text_behind(alloc, out, start)?;
     settled.push(Settled { name, depth, text })?;

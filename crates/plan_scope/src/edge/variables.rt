@@ -7,9 +7,12 @@ ghost use Rattle.plan_scope.specs.Expansion.{Known, listed, meaning_of, variable
 ghost use Rattle.plan_scope.specs.Edges.{all_variables, is_other_deps, is_present, phony_variables, text_in, variables_of};
 ghost use Rattle.plan_scope.specs.Frames.{kept};
 ghost use Rattle.plan_scope.specs.HeldUses.{use_of};
+ghost use Rattle.plan_scope.specs.Settling.{AreSettled};
 ghost use Rattle.plan_scope.specs.Shows.{shown_as};
+ghost use Rattle.plan_scope.specs.declared.scope.text.Show.TheVariants.{Plain, Quoted};
 
 use crate::edge::expansion::{Use, append_whole};
+use crate::edge::memo::Settled;
 use crate::fault::LineFault;
 use crate::scope::text::{Show, is_long};
 use crate::tree::loader::copied;
@@ -65,21 +68,56 @@ fn variable<'a>(
     alloc: Global,
     edge: &'a Use<'a>,
     show: Show,
+    settled: &mut Vec<Settled<'a>>,
     name: &'a [u8],
     buffer: &mut Vec<u8>,
 ) -> Result<Option<Items<u8>>, AllocError>
-    requires { listed (shown_as show) (use_of edge.now) name.now ≡ None }
-    ensures { IfOk result (λ text. option_map kept text ≡ option_map kept (variable (shown_as show) (use_of edge.now) name.now)) }
+    requires unlisted { listed (shown_as show) (use_of edge.now) name.now ≡ None }
+    requires settled { AreSettled (meaning_of (shown_as show) (use_of edge.now)) settled.old.items }
+    ensures settled { AreSettled (meaning_of (shown_as show) (use_of edge.now)) settled.new.items }
+    ensures text { IfOk result (λ text. option_map kept text ≡ option_map kept (variable (shown_as show) (use_of edge.now) name.now)) }
 {
     if is_unbound(edge, name) {
         return Ok(Some(Items::empty(alloc)));
     }
     buffer.clear();
-    match append_whole(alloc, edge, show, name, buffer) {
+    match append_whole(alloc, edge, show, settled, name, buffer) {
         Ok(()) => Ok(Some(copied(alloc, buffer)?)),
         Err(LineFault::Refused(_)) => Ok(None),
         Err(LineFault::Memory) => Err(AllocError),
     }
+}
+
+/// A variable of an edge that shows paths as they are.
+fn plain_variable<'a>(
+    alloc: Global,
+    edge: &'a Use<'a>,
+    settled: &mut Vec<Settled<'a>>,
+    name: &'a [u8],
+    buffer: &mut Vec<u8>,
+) -> Result<Option<Items<u8>>, AllocError>
+    requires unlisted { listed (shown_as Plain) (use_of edge.now) name.now ≡ None }
+    requires settled { AreSettled (meaning_of (shown_as Plain) (use_of edge.now)) settled.old.items }
+    ensures settled { AreSettled (meaning_of (shown_as Plain) (use_of edge.now)) settled.new.items }
+    ensures text { IfOk result (λ text. option_map kept text ≡ option_map kept (variable (shown_as Plain) (use_of edge.now) name.now)) }
+{
+    variable(alloc, edge, Show::Plain, settled, name, buffer)
+}
+
+/// A variable of an edge that quotes paths for the shell.
+fn quoted_variable<'a>(
+    alloc: Global,
+    edge: &'a Use<'a>,
+    settled: &mut Vec<Settled<'a>>,
+    name: &'a [u8],
+    buffer: &mut Vec<u8>,
+) -> Result<Option<Items<u8>>, AllocError>
+    requires unlisted { listed (shown_as Quoted) (use_of edge.now) name.now ≡ None }
+    requires settled { AreSettled (meaning_of (shown_as Quoted) (use_of edge.now)) settled.old.items }
+    ensures settled { AreSettled (meaning_of (shown_as Quoted) (use_of edge.now)) settled.new.items }
+    ensures text { IfOk result (λ text. option_map kept text ≡ option_map kept (variable (shown_as Quoted) (use_of edge.now) name.now)) }
+{
+    variable(alloc, edge, Show::Quoted, settled, name, buffer)
 }
 
 /// The variables of an edge with a rule. Paths in its command and its description are quoted.
@@ -87,16 +125,18 @@ pub fn variables_of_rule<'a>(alloc: Global, edge: &'a Use<'a>) -> Result<Variabl
     ensures { IfOk result (λ v. map (option_map kept) (all_variables v) ≡ map (option_map kept) (all_variables (variables_of (use_of edge.now)))) }
 {
     let mut buffer = Vec::with_capacity(alloc, BUFFER)?;
+    let mut plain = Vec::new(alloc);
+    let mut quoted = Vec::new(alloc);
     Ok(Variables {
-        command: variable(alloc, edge, Show::Quoted, b"command", &mut buffer)?,
-        depfile: variable(alloc, edge, Show::Plain, b"depfile", &mut buffer)?,
-        deps: variable(alloc, edge, Show::Plain, b"deps", &mut buffer)?,
-        description: variable(alloc, edge, Show::Quoted, b"description", &mut buffer)?,
-        dyndep: variable(alloc, edge, Show::Plain, b"dyndep", &mut buffer)?,
-        generator: variable(alloc, edge, Show::Plain, b"generator", &mut buffer)?,
-        pool: variable(alloc, edge, Show::Plain, b"pool", &mut buffer)?,
-        restat: variable(alloc, edge, Show::Plain, b"restat", &mut buffer)?,
-        rspfile: variable(alloc, edge, Show::Plain, b"rspfile", &mut buffer)?,
+        command: quoted_variable(alloc, edge, &mut quoted, b"command", &mut buffer)?,
+        depfile: plain_variable(alloc, edge, &mut plain, b"depfile", &mut buffer)?,
+        deps: plain_variable(alloc, edge, &mut plain, b"deps", &mut buffer)?,
+        description: quoted_variable(alloc, edge, &mut quoted, b"description", &mut buffer)?,
+        dyndep: plain_variable(alloc, edge, &mut plain, b"dyndep", &mut buffer)?,
+        generator: plain_variable(alloc, edge, &mut plain, b"generator", &mut buffer)?,
+        pool: plain_variable(alloc, edge, &mut plain, b"pool", &mut buffer)?,
+        restat: plain_variable(alloc, edge, &mut plain, b"restat", &mut buffer)?,
+        rspfile: plain_variable(alloc, edge, &mut plain, b"rspfile", &mut buffer)?,
     })
 }
 
@@ -105,7 +145,8 @@ pub fn variables_of_phony<'a>(alloc: Global, edge: &'a Use<'a>) -> Result<Variab
     ensures { IfOk result (λ v. map (option_map kept) (all_variables v) ≡ map (option_map kept) (all_variables (phony_variables (use_of edge.now)))) }
 {
     let mut buffer = Vec::new(alloc);
-    let dyndep = variable(alloc, edge, Show::Plain, b"dyndep", &mut buffer)?;
+    let mut plain = Vec::new(alloc);
+    let dyndep = plain_variable(alloc, edge, &mut plain, b"dyndep", &mut buffer)?;
     Ok(Variables {
         command: Some(Items::empty(alloc)),
         depfile: Some(Items::empty(alloc)),

@@ -25,7 +25,16 @@ append_late-returns-clause-settled t c =
     settled_then meaning c.append_pieces.new.settled.items c.settle.new.settled.items c.args.left (depth + 1) c.len-start.result c.args.name.now c.args.out.now.items c.append_pieces.new.out.items c.deref-3.result.now c.deref-3.ensures.value
     (omega (arith, c.args.out.now.ok.0, c.len-start.ensures)) c.in-Ok.ensures.settled
     (late_appended meaning c.args.left depth c.args.name.now c.args.pieces.now c.args.out.now.items c.append_pieces.new.out.items c.requires.late (omega (arith, c.if-left-eq0.false)) c.in-Ok.ensures.appended)
-    (c.in_ok-settle.ensures meaning)
+    (c.settle.ensures meaning)
+
+pub append_late-returns-in_err-settle-clause-settled : goal.append_late-returns-in_err-settle-clause-settled
+append_late-returns-in_err-settle-clause-settled t c =
+    let meaning : List ℕ → Meaning = meaning_of (shown_as c.args.show) (use_of c.args.edge.now) in
+    let depth = c.in-Ok.depth in
+    settled_then meaning c.append_pieces.new.settled.items c.settle.new.settled.items c.args.left (depth + 1) c.len-start.result c.args.name.now c.args.out.now.items c.append_pieces.new.out.items c.deref-3.result.now c.deref-3.ensures.value
+    (omega (arith, c.args.out.now.ok.0, c.len-start.ensures)) c.in-Ok.ensures.settled
+    (late_appended meaning c.args.left depth c.args.name.now c.args.pieces.now c.args.out.now.items c.append_pieces.new.out.items c.requires.late (omega (arith, c.if-left-eq0.false)) c.in-Ok.ensures.appended)
+    (c.settle.ensures meaning)
 
 pub append_piece-returns-in-Reference-clause-appended :
     goal.append_piece-returns-in-Reference-clause-appended
