@@ -12,11 +12,11 @@ use Rattle.plan_scope.specs.declared.fault.Cause.TheVariants.{EmptyPath, PathToo
 use Rattle.plan_scope.specs.declared.manifest.DefaultTarget.{DefaultTarget}
 use Rattle.plan_scope.specs.Edges.{block_of, near, path_of, canonical_or, first_of, or_refused, target_at, targets_by}
 use Rattle.plan_scope.specs.declared.edge.paths.Paths.{Paths}
-use Rattle.plan_scope.specs.Frames.{kept, Agrees, StandsFor}
+use Rattle.plan_scope.specs.Kept.{kept, KeptEqBindings, KeptEqLookup}
 use Rattle.plan_scope.specs.Paths.{IsListOf, all_in, canonical_paths, has_long, kept_in}
-use Rattle.plan_scope.proofs.Kept.{Same, same_from_kept, kept_or}
+use Rattle.plan_scope.proofs.TextLemmas.{Same, same_from_kept, kept_or}
 
-pub kept_near : (block b : Bindings Text) (here m : Name → Text) → Agrees block b → StandsFor here m → StandsFor (near here block) (near m b)
+pub kept_near : (block b : Bindings Text) (here m : Name → Text) → KeptEqBindings block b → KeptEqLookup here m → KeptEqLookup (near here block) (near m b)
 kept_near block b here m h k n = kept_or (last_of n block) (last_of n b) (here n) (m n) (h n) (k n)
 
 -- one more line of a block

@@ -25,7 +25,7 @@ abbrev pub plain : Text → Text
 plain path = path
 
 -- What the variables of an edge are looked up in, the nearest first: its explicit paths, its build block, its rule, and what names stand for in its file once the whole tree was read.
-pub record Use : Type 0 where
+pub record EdgeEnvironment : Type 0 where
   pub inputs : List Text
   pub outputs : List Text
   pub block : Bindings Text
@@ -33,7 +33,7 @@ pub record Use : Type 0 where
   pub file : Name → Text
 
 -- `in`, `out` and `in_newline`, each path shown in some way
-abbrev pub listed : (Text → Text) → Use → Name → Option Text
+abbrev pub listed : (Text → Text) → EdgeEnvironment → Name → Option Text
 listed show edge name =
     if bytes_eq name (codes "in") then Some (join_with_byte space (map show edge.inputs))
     else if bytes_eq name (codes "out") then Some (join_with_byte space (map show edge.outputs))
@@ -54,7 +54,7 @@ or_late (Some pieces) other = Late pieces
 or_late None other = other
 
 -- the nearest that knows the name
-abbrev pub meaning_of : (Text → Text) → Use → Name → Meaning
+abbrev pub meaning_of : (Text → Text) → EdgeEnvironment → Name → Meaning
 meaning_of show edge name =
     or_known (listed show edge name) (or_known (last_of name edge.block) (or_late (last_of name edge.rule) (Known (edge.file name))))
 
@@ -86,5 +86,5 @@ text_within (suc n) meaning in_use name =
     text_of (meaning name) (list_any (bytes_eq name) in_use) (joined (text_within n meaning (name ∷ in_use)))
 
 -- a variable of an edge, expanded for itself; its paths are shown in this way, also inside other variables
-abbrev pub variable : (Text → Text) → Use → Name → Option Text
+abbrev pub variable : (Text → Text) → EdgeEnvironment → Name → Option Text
 variable show edge name = text_within (length edge.rule) (meaning_of show edge) [] name

@@ -10,9 +10,9 @@ use Rattle.plan_scope.specs.declared.fault.Cause.TheVariants.{UnknownPool, RuleC
 use Rattle.plan_scope.specs.declared.manifest.Edge.{Edge}
 use Rattle.plan_scope.specs.declared.edge.variables.Variables.{Variables}
 use Rattle.plan_scope.specs.Scopes.{Text, Name, Bindings, is_too_long}
-use Rattle.plan_scope.specs.Expansion.{Use}
+use Rattle.plan_scope.specs.Expansion.{EdgeEnvironment}
 use Rattle.plan_scope.specs.Edges.{block_of, near, all_variables, text_in, is_present, names_no_pool, is_other_deps}
-use Rattle.plan_scope.specs.Frames.{Agrees}
+use Rattle.plan_scope.specs.Kept.{KeptEqBindings}
 use Rattle.plan_scope.specs.Paths.{texts_of, canonical_paths, kept_in, has_empty, has_long}
 
 -- the paths of a build line as expanded, by what names stand for above it
@@ -21,7 +21,7 @@ texts_in here b = texts_of (near here (block_of here b.bindings)) b
 
 -- what was read is what the build line means, as far as texts are kept
 pub record IsRead (here : Name → Text) (b : Build) (p : Parts) : Type 0 where
-  pub values : Agrees p.block.values (block_of here b.bindings)
+  pub values : KeptEqBindings p.block.values (block_of here b.bindings)
   pub long_value : p.block.has_long ≡ list_any (λ x. is_too_long x.1) (block_of here b.bindings)
   pub paths : kept_in p.paths ≡ kept_in (canonical_paths (texts_in here b))
   pub exact : p.has_long ≡ false → p.paths ≡ canonical_paths (texts_in here b)
@@ -29,8 +29,8 @@ pub record IsRead (here : Name → Text) (b : Build) (p : Parts) : Type 0 where
   pub long_path : p.has_long ≡ has_long (texts_in here b)
 
 -- what its variables are looked up in, by its rule and what names stand for in its file
-abbrev pub use_from : Parts → Bindings (List Piece) → (Name → Text) → Use
-use_from p rule file = record { inputs = p.paths.inputs; outputs = p.paths.outputs; block = p.block.values; rule = rule; file = file }
+abbrev pub environment_from : Parts → Bindings (List Piece) → (Name → Text) → EdgeEnvironment
+environment_from p rule file = record { inputs = p.paths.inputs; outputs = p.paths.outputs; block = p.block.values; rule = rule; file = file }
 
 -- what a build line with these parts and variables may be refused for
 abbrev pub causes_from : List Name → Variables → Parts → List (Bool × Cause)

@@ -6,7 +6,7 @@ use Rattle.plan_scope.specs.declared.edge.paths.Paths.{Paths}
 use Rattle.plan_scope.specs.declared.edge.paths.PathTexts.{PathTexts}
 use Rattle.plan_scope.specs.Scopes.{Text, Name, is_empty, is_long_path}
 use Rattle.plan_scope.specs.Edges.{path_of, paths_of}
-use Rattle.plan_scope.specs.Frames.{kept}
+use Rattle.plan_scope.specs.Kept.{kept}
 
 -- the paths as expanded
 abbrev pub texts_of : (Name → Text) → Build → Paths

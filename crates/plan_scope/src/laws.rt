@@ -20,7 +20,7 @@ pub fn trees_are_whole<S: Source>()
     statements_are_whole();
 }
 
-/// What the lines of a tree mean that is loaded from a source is sound.
+/// What the statements of a tree mean that is loaded from a source is sound.
 pub fn loaded_manifests_are_sound<S: Source>()
     ensures { (source : S) → LoadedManifestsAreSound (S.gives source) (S.fails source) }
 {

@@ -15,7 +15,7 @@ pub use manifest::evaluator::evaluate;
 pub use manifest::{DefaultTarget, Edge, Manifest, Pool};
 pub use tree::loader::load;
 pub use tree::source::{Source, SourceFault};
-pub use tree::{File, Line, Tree};
+pub use tree::{File, Tree, TreeStatement};
 
 #[cfg(test)]
 mod tests;

@@ -2,21 +2,21 @@
 
 ghost use Rattle.std.specs.Prelude.{◌≡◌, [], List, IfOk, true, false};
 ghost use Rattle.plan_scope.specs.Scopes.{Name, Text};
-ghost use Rattle.plan_scope.specs.Edges.{edge_with, first_of, names_no_pool, or_refused, phony_variables, use_of, variables_of};
-ghost use Rattle.plan_scope.specs.Frames.{SameNames, StandsFor};
-ghost use Rattle.plan_scope.specs.HeldUses.{use_of as held_use};
-ghost use Rattle.plan_scope.specs.Parts.{IsRead, causes_from, edge_from, use_from};
-ghost use Rattle.plan_scope.specs.Steps.{Gives};
-ghost use Rattle.plan_scope.specs.Uses.{names_in};
+ghost use Rattle.plan_scope.specs.Edges.{edge_or_refusal, first_of, names_no_pool, or_refused, phony_variables, environment_of, variables_of};
+ghost use Rattle.plan_scope.specs.Kept.{EqNames, KeptEqLookup};
+ghost use Rattle.plan_scope.specs.HeldEnvironment.{environment_of as held_environment};
+ghost use Rattle.plan_scope.specs.Parts.{IsRead, causes_from, edge_from, environment_from};
+ghost use Rattle.plan_scope.specs.Outcomes.{Gives};
+ghost use Rattle.plan_scope.specs.ScopeNames.{names_in};
 
-use crate::edge::expansion::Use;
+use crate::edge::expansion::EdgeEnvironment;
 use crate::edge::paths::{BlockTexts, Paths, block, read_paths};
 use crate::edge::rule_variables::RuleVariables;
 use crate::edge::variables::{
-    Variables, has_cycle, has_long_text, into_text, is_other_deps, is_present, text_of,
+    Variables, has_cycle, has_long_text, into_text, is_other_deps, is_present, text_or_empty,
     variables_of_phony, variables_of_rule,
 };
-use crate::fault::{Cause, LineFault};
+use crate::fault::{Cause, StatementFault};
 use crate::manifest::Edge;
 use crate::manifest::pool_names::PoolNames;
 use crate::scope::Scope;
@@ -39,7 +39,7 @@ pub struct Parts<'a> {
 
 /// What is read of a build line, by what names stand for above it.
 fn read_parts<'a>(alloc: Global, here: Scope<'a>, build: &'a Build) -> Result<Parts<'a>, AllocError>
-    ensures { IfOk result (λ parts. (h : Name → Text) → StandsFor (names_in here.entry) h → IsRead h build.now parts) }
+    ensures { IfOk result (λ parts. (h : Name → Text) → KeptEqLookup (names_in here.entry) h → IsRead h build.now parts) }
 {
     let block = block(alloc, here, build.bindings.as_slice())?;
     let read = read_paths(alloc, &block.values, here, build)?;
@@ -68,7 +68,7 @@ fn names_no_pool(pools: &PoolNames, text: &[u8]) -> bool
 fn cause(pools: &PoolNames, parts: &Parts, variables: &Variables) -> Option<Cause>
     ensures { result ≡ first_of (causes_from pools.now variables.now parts.now) }
 {
-    if names_no_pool(pools, text_of(&variables.pool)) {
+    if names_no_pool(pools, text_or_empty(&variables.pool)) {
         return Some(Cause::UnknownPool);
     }
     if has_cycle(variables) {
@@ -83,7 +83,7 @@ fn cause(pools: &PoolNames, parts: &Parts, variables: &Variables) -> Option<Caus
     if is_present(&variables.rspfile) {
         return Some(Cause::Rspfile);
     }
-    if is_other_deps(text_of(&variables.deps)) {
+    if is_other_deps(text_or_empty(&variables.deps)) {
         return Some(Cause::DepsKind);
     }
     if parts.has_long {
@@ -96,7 +96,7 @@ fn cause(pools: &PoolNames, parts: &Parts, variables: &Variables) -> Option<Caus
 }
 
 /// The edge with these paths and variables.
-fn made(alloc: Global, paths: Paths, variables: Variables, phony: bool) -> Edge
+fn edge_from(alloc: Global, paths: Paths, variables: Variables, phony: bool) -> Edge
     ensures { result ≡ edge_from paths variables phony }
 {
     let restat = is_present(&variables.restat);
@@ -118,26 +118,30 @@ fn made(alloc: Global, paths: Paths, variables: Variables, phony: bool) -> Edge
 }
 
 /// The edge with these variables, unless it is refused.
-fn checked(
+fn edge_or_refusal(
     alloc: Global,
     pools: &PoolNames,
     parts: Parts,
     variables: Variables,
     phony: bool,
-) -> Result<Edge, LineFault>
+) -> Result<Edge, StatementFault>
     ensures { Gives result (or_refused (first_of (causes_from pools.now variables parts.entry)) (edge_from parts.entry.paths variables phony)) }
 {
     match cause(pools, &parts, &variables) {
-        Some(cause) => Err(LineFault::Refused(cause)),
-        None => Ok(made(alloc, parts.paths, variables, phony)),
+        Some(cause) => Err(StatementFault::Refused(cause)),
+        None => Ok(edge_from(alloc, parts.paths, variables, phony)),
     }
 }
 
 /// What the variables of an edge are looked up in.
-fn use_with<'a>(parts: &'a Parts<'a>, rule: &'a RuleVariables<'a>, file: Scope<'a>) -> Use<'a>
-    ensures { held_use result ≡ use_from parts.now rule.now (names_in file.entry) }
+fn environment_with<'a>(
+    parts: &'a Parts<'a>,
+    rule: &'a RuleVariables<'a>,
+    file: Scope<'a>,
+) -> EdgeEnvironment<'a>
+    ensures { held_environment result ≡ environment_from parts.now rule.now (names_in file.entry) }
 {
-    Use {
+    EdgeEnvironment {
         inputs: parts.paths.inputs.as_slice(),
         outputs: parts.paths.outputs.as_slice(),
         block: &parts.block.values,
@@ -146,7 +150,7 @@ fn use_with<'a>(parts: &'a Parts<'a>, rule: &'a RuleVariables<'a>, file: Scope<'
     }
 }
 
-/// The edge of a build line with this rule, by the pools of the tree and by what names stand for above the line and, once the whole tree was read, in its file.
+/// The edge of a build line with this rule, by the pools of the tree and by what names stand for above the statement and, once the whole tree was read, in its file.
 pub fn edge<'a>(
     alloc: Global,
     pools: &PoolNames<'a>,
@@ -154,13 +158,13 @@ pub fn edge<'a>(
     file: Scope<'a>,
     rule: &'a RuleVariables<'a>,
     build: &'a Build,
-) -> Result<Edge, LineFault>
-    ensures { (names : List Name) (h f : Name → Text) → SameNames pools.now names → StandsFor (names_in here.entry) h → StandsFor (names_in file.entry) f → Gives result (edge_with names h build.now (variables_of (use_of h f build.now rule.now)) false) }
+) -> Result<Edge, StatementFault>
+    ensures { (names : List Name) (h f : Name → Text) → EqNames pools.now names → KeptEqLookup (names_in here.entry) h → KeptEqLookup (names_in file.entry) f → Gives result (edge_or_refusal names h build.now (variables_of (environment_of h f build.now rule.now)) false) }
 {
     let parts = read_parts(alloc, here, build)?;
-    let used = use_with(&parts, &*rule, file);
-    let variables = variables_of_rule(alloc, &used)?;
-    checked(alloc, pools, parts, variables, false)
+    let environment = environment_with(&parts, &*rule, file);
+    let variables = variables_of_rule(alloc, &environment)?;
+    edge_or_refusal(alloc, pools, parts, variables, false)
 }
 
 /// The edge of a phony build line, by the same.
@@ -170,12 +174,12 @@ pub fn phony_edge<'a>(
     here: Scope<'a>,
     file: Scope<'a>,
     build: &'a Build,
-) -> Result<Edge, LineFault>
-    ensures { (names : List Name) (h f : Name → Text) → SameNames pools.now names → StandsFor (names_in here.entry) h → StandsFor (names_in file.entry) f → Gives result (edge_with names h build.now (phony_variables (use_of h f build.now [])) true) }
+) -> Result<Edge, StatementFault>
+    ensures { (names : List Name) (h f : Name → Text) → EqNames pools.now names → KeptEqLookup (names_in here.entry) h → KeptEqLookup (names_in file.entry) f → Gives result (edge_or_refusal names h build.now (phony_variables (environment_of h f build.now [])) true) }
 {
     let parts = read_parts(alloc, here, build)?;
-    let rule = RuleVariables::none(alloc);
-    let used = use_with(&parts, &rule, file);
-    let variables = variables_of_phony(alloc, &used)?;
-    checked(alloc, pools, parts, variables, true)
+    let rule = RuleVariables::empty(alloc);
+    let environment = environment_with(&parts, &rule, file);
+    let variables = variables_of_phony(alloc, &environment)?;
+    edge_or_refusal(alloc, pools, parts, variables, true)
 }

@@ -4,29 +4,29 @@ ghost use Rattle.std.specs.Prelude.{◌≡◌, ◌≤◌, ℕ, Some, codes, map,
 ghost use Rattle.std.specs.List.{join_with_byte};
 ghost use Rattle.plan_scope.specs.Scopes.{Text};
 ghost use Rattle.plan_scope.specs.Expansion.{Late, listed, meaning_of, text_of_piece, joined, variable};
-ghost use Rattle.plan_scope.specs.Shows.{shown_as};
-ghost use Rattle.plan_scope.specs.Steps.{Appends};
-ghost use Rattle.plan_scope.specs.Settling.{AppendsBy, AreSettled, text_by};
-ghost use Rattle.plan_scope.specs.HeldUses.{use_of};
+ghost use Rattle.plan_scope.specs.ShellQuoting.{quoted_as};
+ghost use Rattle.plan_scope.specs.Outcomes.{Appends};
+ghost use Rattle.plan_scope.specs.Memo.{AppendsBy, IsMemo, text_by};
+ghost use Rattle.plan_scope.specs.HeldEnvironment.{environment_of};
 
-use crate::edge::memo::{Settled, found, settle};
+use crate::edge::memo::{MemoEntry, memoize, recall};
 use crate::edge::rule_variables::RuleVariables;
-use crate::fault::{Cause, LineFault};
-use crate::scope::small_map::Frame;
-use crate::scope::text::{Show, append, append_paths};
-use crate::scope::{Scope, text_in};
+use crate::fault::{Cause, StatementFault};
+use crate::scope::small_map::SmallMap;
+use crate::scope::text::{Quoting, append, append_paths};
+use crate::scope::{Scope, name_text};
 use plan_text::{Items, Piece, SmallText};
 use std::alloc::Global;
 
 /// What the variables of an edge are looked up in, the nearest first.
 #[derive(Clone, Copy)]
-pub struct Use<'a> {
+pub struct EdgeEnvironment<'a> {
     /// The canonical paths of its explicit inputs.
     pub inputs: &'a [SmallText],
     /// The canonical paths of its explicit outputs.
     pub outputs: &'a [SmallText],
     /// The variables of its build block.
-    pub block: &'a Frame<'a, Items<u8>>,
+    pub block: &'a SmallMap<'a, Items<u8>>,
     /// The variables of its rule.
     pub rule: &'a RuleVariables<'a>,
     /// What names stand for in its file once the whole tree was read.
@@ -34,8 +34,8 @@ pub struct Use<'a> {
 }
 
 /// The paths that a name stands for, and the byte between each two.
-fn listed<'a>(edge: &Use<'a>, name: &[u8]) -> Option<(&'a [SmallText], u8)>
-    ensures { (show : Text → Text) → option_map (λ l. join_with_byte l.1 (map show l.0.now)) result ≡ listed show (use_of edge.now) name.now }
+fn listed<'a>(edge: &EdgeEnvironment<'a>, name: &[u8]) -> Option<(&'a [SmallText], u8)>
+    ensures { (quoting : Text → Text) → option_map (λ l. join_with_byte l.1 (map quoting l.0.now)) result ≡ listed quoting (environment_of edge.now) name.now }
 {
     if name == b"in".as_slice() {
         return Some((edge.inputs, b' '));
@@ -50,7 +50,7 @@ fn listed<'a>(edge: &Use<'a>, name: &[u8]) -> Option<(&'a [SmallText], u8)>
 }
 
 /// Appends a text that is known.
-fn append_known(out: &mut Vec<u8>, text: &[u8]) -> Result<usize, LineFault>
+fn append_known(out: &mut Vec<u8>, text: &[u8]) -> Result<usize, StatementFault>
     ensures { AppendsBy out.old.items out.new.items 0 result (λ n. Some text.now) }
 {
     append(out, text)?;
@@ -60,13 +60,13 @@ fn append_known(out: &mut Vec<u8>, text: &[u8]) -> Result<usize, LineFault>
 /// Appends paths as they are shown, this byte between each two.
 fn append_listed(
     out: &mut Vec<u8>,
-    show: Show,
+    quoting: Quoting,
     paths: &[SmallText],
     separator: u8,
-) -> Result<usize, LineFault>
-    ensures { AppendsBy out.old.items out.new.items 0 result (λ n. Some (join_with_byte separator (map (shown_as show) paths.now))) }
+) -> Result<usize, StatementFault>
+    ensures { AppendsBy out.old.items out.new.items 0 result (λ n. Some (join_with_byte separator (map (quoted_as quoting) paths.now))) }
 {
-    append_paths(out, show, paths, separator)?;
+    append_paths(out, quoting, paths, separator)?;
     Ok(0)
 }
 
@@ -91,19 +91,19 @@ fn greater(depth: usize, other: usize) -> usize
 #[cycle(expansion)]
 fn append_variable<'a>(
     alloc: Global,
-    edge: &'a Use<'a>,
-    show: Show,
+    edge: &'a EdgeEnvironment<'a>,
+    quoting: Quoting,
     left: usize,
-    settled: &mut Vec<Settled<'a>>,
+    memo: &mut Vec<MemoEntry<'a>>,
     name: &'a [u8],
     out: &mut Vec<u8>,
-) -> Result<usize, LineFault>
-    requires { AreSettled (meaning_of (shown_as show) (use_of edge.now)) settled.old.items }
-    ensures appended { AppendsBy out.old.items out.new.items left result (λ n. text_by n (meaning_of (shown_as show) (use_of edge.now)) name.now) }
-    ensures settled { AreSettled (meaning_of (shown_as show) (use_of edge.now)) settled.new.items }
+) -> Result<usize, StatementFault>
+    requires { IsMemo (meaning_of (quoted_as quoting) (environment_of edge.now)) memo.old.items }
+    ensures appended { AppendsBy out.old.items out.new.items left result (λ n. text_by n (meaning_of (quoted_as quoting) (environment_of edge.now)) name.now) }
+    ensures memo { IsMemo (meaning_of (quoted_as quoting) (environment_of edge.now)) memo.new.items }
 {
     match listed(edge, name) {
-        Some((paths, separator)) => return append_listed(out, show, paths, separator),
+        Some((paths, separator)) => return append_listed(out, quoting, paths, separator),
         None => {}
     }
     match edge.block.get(name) {
@@ -111,8 +111,8 @@ fn append_variable<'a>(
         None => {}
     }
     match edge.rule.get(name) {
-        Some(pieces) => append_late(alloc, edge, show, left, settled, name, pieces, out),
-        None => append_known(out, text_in(edge.file, name)),
+        Some(pieces) => append_late(alloc, edge, quoting, left, memo, name, pieces, out),
+        None => append_known(out, name_text(edge.file, name)),
     }
 }
 
@@ -120,23 +120,23 @@ fn append_variable<'a>(
 #[cycle(expansion)]
 fn append_late<'a>(
     alloc: Global,
-    edge: &'a Use<'a>,
-    show: Show,
+    edge: &'a EdgeEnvironment<'a>,
+    quoting: Quoting,
     left: usize,
-    settled: &mut Vec<Settled<'a>>,
+    memo: &mut Vec<MemoEntry<'a>>,
     name: &'a [u8],
     pieces: &'a [Piece],
     out: &mut Vec<u8>,
-) -> Result<usize, LineFault>
-    requires late { meaning_of (shown_as show) (use_of edge.now) name.now ≡ Late pieces.now }
-    requires settled { AreSettled (meaning_of (shown_as show) (use_of edge.now)) settled.old.items }
-    ensures appended { AppendsBy out.old.items out.new.items left result (λ n. text_by n (meaning_of (shown_as show) (use_of edge.now)) name.now) }
-    ensures settled { AreSettled (meaning_of (shown_as show) (use_of edge.now)) settled.new.items }
+) -> Result<usize, StatementFault>
+    requires late { meaning_of (quoted_as quoting) (environment_of edge.now) name.now ≡ Late pieces.now }
+    requires memo { IsMemo (meaning_of (quoted_as quoting) (environment_of edge.now)) memo.old.items }
+    ensures appended { AppendsBy out.old.items out.new.items left result (λ n. text_by n (meaning_of (quoted_as quoting) (environment_of edge.now)) name.now) }
+    ensures memo { IsMemo (meaning_of (quoted_as quoting) (environment_of edge.now)) memo.new.items }
 {
     if left == 0 {
-        return Err(LineFault::Refused(Cause::RuleCycle));
+        return Err(StatementFault::Refused(Cause::RuleCycle));
     }
-    match found(settled, name, left, out) {
+    match recall(memo, name, left, out) {
         Some((depth, text)) => {
             append(out, text)?;
             return Ok(depth);
@@ -144,14 +144,14 @@ fn append_late<'a>(
         None => {}
     }
     let start = out.len();
-    let depth = match append_pieces(alloc, edge, show, left - 1, settled, pieces, out) {
+    let depth = match append_pieces(alloc, edge, quoting, left - 1, memo, pieces, out) {
         Ok(depth) => depth,
         Err(fault) => return Err(fault),
     };
     if is_cheap(depth, pieces) | (left == edge.rule.len()) {
         return Ok(depth + 1);
     }
-    settle(alloc, settled, name, depth + 1, out, start)?;
+    memoize(alloc, memo, name, depth + 1, out, start)?;
     Ok(depth + 1)
 }
 
@@ -159,25 +159,25 @@ fn append_late<'a>(
 #[cycle(expansion)]
 fn append_piece<'a>(
     alloc: Global,
-    edge: &'a Use<'a>,
-    show: Show,
+    edge: &'a EdgeEnvironment<'a>,
+    quoting: Quoting,
     left: usize,
-    settled: &mut Vec<Settled<'a>>,
+    memo: &mut Vec<MemoEntry<'a>>,
     piece: &'a Piece,
     out: &mut Vec<u8>,
-) -> Result<usize, LineFault>
-    requires { AreSettled (meaning_of (shown_as show) (use_of edge.now)) settled.old.items }
-    ensures appended { AppendsBy out.old.items out.new.items left result (λ n. text_of_piece (text_by n (meaning_of (shown_as show) (use_of edge.now))) piece.now) }
-    ensures settled { AreSettled (meaning_of (shown_as show) (use_of edge.now)) settled.new.items }
+) -> Result<usize, StatementFault>
+    requires { IsMemo (meaning_of (quoted_as quoting) (environment_of edge.now)) memo.old.items }
+    ensures appended { AppendsBy out.old.items out.new.items left result (λ n. text_of_piece (text_by n (meaning_of (quoted_as quoting) (environment_of edge.now))) piece.now) }
+    ensures memo { IsMemo (meaning_of (quoted_as quoting) (environment_of edge.now)) memo.new.items }
 {
     match piece {
         Piece::Literal(bytes) => append_known(out, bytes.as_slice()),
         Piece::Reference(name) => append_variable(
             alloc,
             edge,
-            show,
+            quoting,
             left,
-            settled,
+            memo,
             name.as_slice(),
             out,
         ),
@@ -188,20 +188,20 @@ fn append_piece<'a>(
 #[cycle(expansion)]
 fn append_pieces<'a>(
     alloc: Global,
-    edge: &'a Use<'a>,
-    show: Show,
+    edge: &'a EdgeEnvironment<'a>,
+    quoting: Quoting,
     left: usize,
-    settled: &mut Vec<Settled<'a>>,
+    memo: &mut Vec<MemoEntry<'a>>,
     pieces: &'a [Piece],
     out: &mut Vec<u8>,
-) -> Result<usize, LineFault>
-    requires { AreSettled (meaning_of (shown_as show) (use_of edge.now)) settled.old.items }
-    ensures appended { AppendsBy out.old.items out.new.items left result (λ n. joined (text_by n (meaning_of (shown_as show) (use_of edge.now))) pieces.now) }
-    ensures settled { AreSettled (meaning_of (shown_as show) (use_of edge.now)) settled.new.items }
+) -> Result<usize, StatementFault>
+    requires { IsMemo (meaning_of (quoted_as quoting) (environment_of edge.now)) memo.old.items }
+    ensures appended { AppendsBy out.old.items out.new.items left result (λ n. joined (text_by n (meaning_of (quoted_as quoting) (environment_of edge.now))) pieces.now) }
+    ensures memo { IsMemo (meaning_of (quoted_as quoting) (environment_of edge.now)) memo.new.items }
 {
     let mut deepest = 0;
     for piece in pieces {
-        match append_piece(alloc, edge, show, left, settled, piece, out) {
+        match append_piece(alloc, edge, quoting, left, memo, piece, out) {
             Ok(depth) => deepest = greater(deepest, depth),
             Err(fault) => return Err(fault),
         }
@@ -209,20 +209,20 @@ fn append_pieces<'a>(
     Ok(deepest)
 }
 
-/// Appends a variable of an edge, expanded for itself. What is settled on the way serves the edge's other variables that show paths alike.
+/// Appends a variable of an edge, expanded for itself. What is kept on the way serves the edge's other variables that show paths alike.
 pub fn append_whole<'a>(
     alloc: Global,
-    edge: &'a Use<'a>,
-    show: Show,
-    settled: &mut Vec<Settled<'a>>,
+    edge: &'a EdgeEnvironment<'a>,
+    quoting: Quoting,
+    memo: &mut Vec<MemoEntry<'a>>,
     name: &'a [u8],
     out: &mut Vec<u8>,
-) -> Result<(), LineFault>
-    requires { AreSettled (meaning_of (shown_as show) (use_of edge.now)) settled.old.items }
-    ensures appended { Appends out.old.items out.new.items result (variable (shown_as show) (use_of edge.now) name.now) }
-    ensures settled { AreSettled (meaning_of (shown_as show) (use_of edge.now)) settled.new.items }
+) -> Result<(), StatementFault>
+    requires { IsMemo (meaning_of (quoted_as quoting) (environment_of edge.now)) memo.old.items }
+    ensures appended { Appends out.old.items out.new.items result (variable (quoted_as quoting) (environment_of edge.now) name.now) }
+    ensures memo { IsMemo (meaning_of (quoted_as quoting) (environment_of edge.now)) memo.new.items }
 {
-    match append_variable(alloc, edge, show, edge.rule.len(), settled, name, out) {
+    match append_variable(alloc, edge, quoting, edge.rule.len(), memo, name, out) {
         Ok(_) => Ok(()),
         Err(fault) => Err(fault),
     }

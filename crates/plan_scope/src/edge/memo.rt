@@ -3,17 +3,17 @@
 ghost use Rattle.std.specs.Prelude.{◌≡◌, ◌++◌, ℕ, Some, IfOk, option_map, length};
 ghost use Rattle.plan_scope.specs.Scopes.{Name, Text};
 ghost use Rattle.plan_scope.specs.Expansion.{Meaning};
-ghost use Rattle.plan_scope.specs.Frames.{kept};
-ghost use Rattle.plan_scope.specs.Settling.{AreSettled, IsFound, IsSettled, Says, text_by};
+ghost use Rattle.plan_scope.specs.Kept.{kept};
+ghost use Rattle.plan_scope.specs.Memo.{IsMemo, IsRecalled, IsMemoEntry, Says, text_by};
 
 use crate::scope::text::is_long;
-use crate::tree::loader::copied;
+use crate::tree::loader::copy_of;
 use plan_text::Items;
 use std::alloc::{AllocError, Global};
 
 /// A variable of a rule that has a text.
 #[derive(Drop)]
-pub struct Settled<'a> {
+pub struct MemoEntry<'a> {
     /// Its name.
     pub name: &'a [u8],
     /// How many variables of the rule lie one inside another in it, itself among them.
@@ -23,30 +23,30 @@ pub struct Settled<'a> {
 }
 
 /// What to append of a variable: nothing behind a text that is too long already.
-fn text_for<'b, 'a>(settled: &'b Settled<'a>, out: &[u8]) -> Option<(usize, &'b [u8])>
-    ensures { (meaning : Name → Meaning) → IsSettled meaning settled.now → IsFound meaning settled.now.depth settled.now.name.now out.now (option_map (λ f. (f.0, f.1.now)) result) }
+fn text_of_entry<'b, 'a>(memo: &'b MemoEntry<'a>, out: &[u8]) -> Option<(usize, &'b [u8])>
+    ensures { (meaning : Name → Meaning) → IsMemoEntry meaning memo.now → IsRecalled meaning memo.now.depth memo.now.name.now out.now (option_map (λ f. (f.0, f.1.now)) result) }
 {
     if is_long(out) {
-        return Some((settled.depth, &[]));
+        return Some((memo.depth, &[]));
     }
-    match &settled.text {
-        Some(text) => Some((settled.depth, text.as_slice())),
+    match &memo.text {
+        Some(text) => Some((memo.depth, text.as_slice())),
         None => None,
     }
 }
 
 /// How many steps give a name its text, at most `left`, and what to append of it, where that is known.
-pub fn found<'b, 'a>(
-    settled: &'b [Settled<'a>],
+pub fn recall<'b, 'a>(
+    memo: &'b [MemoEntry<'a>],
     name: &[u8],
     left: usize,
     out: &[u8],
 ) -> Option<(usize, &'b [u8])>
-    ensures { (meaning : Name → Meaning) → AreSettled meaning settled.now → IsFound meaning left name.now out.now (option_map (λ f. (f.0, f.1.now)) result) }
+    ensures { (meaning : Name → Meaning) → IsMemo meaning memo.now → IsRecalled meaning left name.now out.now (option_map (λ f. (f.0, f.1.now)) result) }
 {
-    for variable in settled {
+    for variable in memo {
         if (variable.depth <= left) & (variable.name == name) {
-            return text_for(variable, out);
+            return text_of_entry(variable, out);
         }
     }
     None
@@ -60,24 +60,24 @@ fn text_behind(alloc: Global, out: &[u8], start: usize) -> Result<Option<Items<u
         return Ok(None);
     }
     match out.get(start..) {
-        Some(behind) => Ok(Some(copied(alloc, behind)?)),
+        Some(behind) => Ok(Some(copy_of(alloc, behind)?)),
         None => Ok(None),
     }
 }
 
 /// Keeps the text of a variable that stands in `out` behind so many bytes.
-pub fn settle<'a>(
+pub fn memoize<'a>(
     alloc: Global,
-    settled: &mut Vec<Settled<'a>>,
+    memo: &mut Vec<MemoEntry<'a>>,
     name: &'a [u8],
     depth: usize,
     out: &[u8],
     start: usize,
 ) -> Result<(), AllocError>
-    ensures { (meaning : Name → Meaning) (before text : Text) → AreSettled meaning settled.old.items → text_by depth meaning name.now ≡ Some text → length before ≡ start → kept out.now ≡ kept (before ++ text)
-        → AreSettled meaning settled.new.items }
+    ensures { (meaning : Name → Meaning) (before text : Text) → IsMemo meaning memo.old.items → text_by depth meaning name.now ≡ Some text → length before ≡ start → kept out.now ≡ kept (before ++ text)
+        → IsMemo meaning memo.new.items }
 {
     let text = text_behind(alloc, out, start)?;
-    settled.push(Settled { name, depth, text })?;
+    memo.push(MemoEntry { name, depth, text })?;
     Ok(())
 }

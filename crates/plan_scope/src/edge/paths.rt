@@ -5,13 +5,13 @@ ghost use Rattle.std.specs.List.{list_any};
 ghost use Rattle.plan_scope.specs.Scopes.{Bindings, Name, Text, expand, is_empty, is_long_path, is_too_long, value_of};
 ghost use Rattle.plan_text.specs.Limits.{max_text};
 ghost use Rattle.plan_scope.specs.Edges.{block_of, near, path_of, paths_of};
-ghost use Rattle.plan_scope.specs.Frames.{Agrees, StandsFor, kept};
+ghost use Rattle.plan_scope.specs.Kept.{KeptEqBindings, KeptEqLookup, kept};
 ghost use Rattle.plan_scope.specs.Paths.{AreRead, IsListOf, kept_in, texts_of};
-ghost use Rattle.plan_scope.specs.Uses.{names_in};
+ghost use Rattle.plan_scope.specs.ScopeNames.{names_in};
 
-use crate::scope::small_map::Frame;
+use crate::scope::small_map::SmallMap;
 use crate::scope::text::{append, is_long};
-use crate::scope::{Scope, expanded, text_in};
+use crate::scope::{Scope, expand_pieces, name_text};
 use plan_parse::{Binding, Build};
 use plan_text::{Items, MAX_PATH, Piece, PieceList, SmallText, TextFault, canonical, is_canonical};
 use std::alloc::{AllocError, Global};
@@ -20,7 +20,7 @@ use std::alloc::{AllocError, Global};
 #[derive(Drop)]
 pub struct BlockTexts<'a> {
     /// Their texts.
-    pub values: Frame<'a, Items<u8>>,
+    pub values: SmallMap<'a, Items<u8>>,
     /// Whether a text that the block gives is too long, also one that it replaces.
     pub has_long: bool,
 }
@@ -31,13 +31,13 @@ pub fn block<'a>(
     here: Scope<'a>,
     bindings: &'a [Binding],
 ) -> Result<BlockTexts<'a>, AllocError>
-    ensures values { IfOk result (λ b. (meant : Name → Text) → StandsFor (names_in here.entry) meant → Agrees b.values (block_of meant bindings.now)) }
-    ensures long { IfOk result (λ b. (meant : Name → Text) → StandsFor (names_in here.entry) meant → b.has_long ≡ list_any (λ x. is_too_long x.1) (block_of meant bindings.now)) }
+    ensures values { IfOk result (λ b. (meant : Name → Text) → KeptEqLookup (names_in here.entry) meant → KeptEqBindings b.values (block_of meant bindings.now)) }
+    ensures long { IfOk result (λ b. (meant : Name → Text) → KeptEqLookup (names_in here.entry) meant → b.has_long ≡ list_any (λ x. is_too_long x.1) (block_of meant bindings.now)) }
 {
-    let mut values = Frame::new(alloc);
+    let mut values = SmallMap::new(alloc);
     let mut has_long = false;
     for binding in bindings {
-        let text = expanded(alloc, here, binding.value.as_slice())?;
+        let text = expand_pieces(alloc, here, binding.value.as_slice())?;
         has_long |= is_long(&text);
         values.set(binding.name.as_slice(), Items::new(text))?;
     }
@@ -45,17 +45,21 @@ pub fn block<'a>(
 }
 
 /// The text of a name on a build line: its own block comes first.
-fn text_near<'a>(block: &'a Frame<'a, Items<u8>>, here: Scope<'a>, name: &[u8]) -> &'a [u8]
+fn text_near<'a>(block: &'a SmallMap<'a, Items<u8>>, here: Scope<'a>, name: &[u8]) -> &'a [u8]
     ensures { result.now ≡ near (names_in here.entry) block.now name.now }
 {
     match block.get(name) {
         Some(text) => text.as_slice(),
-        None => text_in(here, name),
+        None => name_text(here, name),
     }
 }
 
 /// The text of a piece of a path.
-fn text_of<'a>(block: &'a Frame<'a, Items<u8>>, here: Scope<'a>, piece: &'a Piece) -> &'a [u8]
+fn path_piece_text<'a>(
+    block: &'a SmallMap<'a, Items<u8>>,
+    here: Scope<'a>,
+    piece: &'a Piece,
+) -> &'a [u8]
     ensures { result.now ≡ value_of (near (names_in here.entry) block.now) piece.now }
 {
     match piece {
@@ -66,17 +70,17 @@ fn text_of<'a>(block: &'a Frame<'a, Items<u8>>, here: Scope<'a>, piece: &'a Piec
 
 /// Puts a path of a build line together in a buffer, in place of what that held.
 fn expand_path<'a>(
-    block: &'a Frame<'a, Items<u8>>,
+    block: &'a SmallMap<'a, Items<u8>>,
     here: Scope<'a>,
     pieces: &'a [Piece],
     buffer: &mut Vec<u8>,
 ) -> Result<(), AllocError>
-    ensures text { OnOk result ((b : Bindings Text) (m : Name → Text) → Agrees block.now b → StandsFor (names_in here.entry) m → kept buffer.new.items ≡ kept (expand (near m b) pieces.now)) }
+    ensures text { OnOk result ((b : Bindings Text) (m : Name → Text) → KeptEqBindings block.now b → KeptEqLookup (names_in here.entry) m → kept buffer.new.items ≡ kept (expand (near m b) pieces.now)) }
     ensures within { OnOk result (length buffer.new.items ≤ max_text + 1) }
 {
     buffer.clear();
     for piece in pieces {
-        append(buffer, text_of(block, here, piece))?;
+        append(buffer, path_piece_text(block, here, piece))?;
     }
     Ok(())
 }
@@ -119,12 +123,12 @@ pub struct PathList {
 /// The paths of a list. They are put together in a buffer, whatever that held, so that a path takes no more memory than it needs.
 fn read_list<'a>(
     alloc: Global,
-    block: &'a Frame<'a, Items<u8>>,
+    block: &'a SmallMap<'a, Items<u8>>,
     here: Scope<'a>,
     paths: &'a [PieceList],
     buffer: &mut Vec<u8>,
 ) -> Result<PathList, AllocError>
-    ensures { IfOk result (λ list. (texts : List Text) × IsListOf texts list.forms list.has_empty list.has_long × ((b : Bindings Text) (m : Name → Text) → Agrees block.now b → StandsFor (names_in here.entry) m → map kept texts ≡ map kept (paths_of (near m b) paths.now))) }
+    ensures { IfOk result (λ list. (texts : List Text) × IsListOf texts list.forms list.has_empty list.has_long × ((b : Bindings Text) (m : Name → Text) → KeptEqBindings block.now b → KeptEqLookup (names_in here.entry) m → map kept texts ≡ map kept (paths_of (near m b) paths.now))) }
 {
     let mut forms = Vec::with_capacity(alloc, paths.len())?;
     let mut has_empty = false;
@@ -169,7 +173,7 @@ pub struct PathTexts {
 }
 
 /// What is read of five lists.
-fn together(
+fn combine(
     outputs: PathList,
     implicit_outputs: PathList,
     inputs: PathList,
@@ -211,11 +215,11 @@ const BUFFER: usize = 500;
 /// The paths of a build line, by its block and what names stand for above it.
 pub fn read_paths<'a>(
     alloc: Global,
-    block: &'a Frame<'a, Items<u8>>,
+    block: &'a SmallMap<'a, Items<u8>>,
     here: Scope<'a>,
     build: &'a Build,
 ) -> Result<PathTexts, AllocError>
-    ensures { IfOk result (λ read. (texts : Paths) × AreRead texts read × ((b : Bindings Text) (m : Name → Text) → Agrees block.now b → StandsFor (names_in here.entry) m → kept_in texts ≡ kept_in (texts_of (near m b) build.now))) }
+    ensures { IfOk result (λ read. (texts : Paths) × AreRead texts read × ((b : Bindings Text) (m : Name → Text) → KeptEqBindings block.now b → KeptEqLookup (names_in here.entry) m → kept_in texts ≡ kept_in (texts_of (near m b) build.now))) }
 {
     let mut buffer = Vec::with_capacity(alloc, BUFFER)?;
     let outputs = read_list(alloc, block, here, build.outputs.as_slice(), &mut buffer)?;
@@ -241,7 +245,7 @@ pub fn read_paths<'a>(
         build.order_only_inputs.as_slice(),
         &mut buffer,
     )?;
-    Ok(together(
+    Ok(combine(
         outputs,
         implicit_outputs,
         inputs,

@@ -5,7 +5,7 @@ ghost use Rattle.plan_scope.specs.Scopes.{last_of};
 ghost use Rattle.plan_scope.specs.Edges.{late};
 
 use crate::scope::scoped_map::{MARKS, mark};
-use crate::scope::small_map::Frame;
+use crate::scope::small_map::SmallMap;
 use plan_parse::Binding;
 use plan_text::Piece;
 use std::alloc::{AllocError, Global};
@@ -15,7 +15,7 @@ use std::marker::Model;
 #[derive(Drop)]
 pub struct RuleVariables<'a> {
     bindings: &'a [Binding],
-    last: Frame<'a, &'a [Piece]>,
+    last: SmallMap<'a, &'a [Piece]>,
     /// Whether a line binds a name of this mark.
     marked: [bool; MARKS],
 }
@@ -39,7 +39,7 @@ impl<'a> RuleVariables<'a> {
     pub fn new(alloc: Global, bindings: &'a [Binding]) -> Result<Self, AllocError>
         ensures { IfOk result (λ r. r ≡ late bindings.now) }
     {
-        let mut last = Frame::new(alloc);
+        let mut last = SmallMap::new(alloc);
         let mut marked = [false; MARKS];
         for binding in bindings {
             last.set(binding.name.as_slice(), binding.value.as_slice())?;
@@ -53,12 +53,12 @@ impl<'a> RuleVariables<'a> {
     }
 
     /// No variable.
-    pub fn none(alloc: Global) -> Self
+    pub fn empty(alloc: Global) -> Self
         ensures { result ≡ [] }
     {
         RuleVariables {
             bindings: &[],
-            last: Frame::new(alloc),
+            last: SmallMap::new(alloc),
             marked: [false; MARKS],
         }
     }

@@ -5,17 +5,17 @@ ghost use Rattle.std.specs.List.{list_any};
 ghost use Rattle.plan_scope.specs.Scopes.{Text, is_too_long};
 ghost use Rattle.plan_scope.specs.Expansion.{Known, listed, meaning_of, variable};
 ghost use Rattle.plan_scope.specs.Edges.{all_variables, is_other_deps, is_present, phony_variables, text_in, variables_of};
-ghost use Rattle.plan_scope.specs.Frames.{kept};
-ghost use Rattle.plan_scope.specs.HeldUses.{use_of};
-ghost use Rattle.plan_scope.specs.Settling.{AreSettled};
-ghost use Rattle.plan_scope.specs.Shows.{shown_as};
-ghost use Rattle.plan_scope.specs.declared.scope.text.Show.TheVariants.{Plain, Quoted};
+ghost use Rattle.plan_scope.specs.Kept.{kept};
+ghost use Rattle.plan_scope.specs.HeldEnvironment.{environment_of};
+ghost use Rattle.plan_scope.specs.Memo.{IsMemo};
+ghost use Rattle.plan_scope.specs.ShellQuoting.{quoted_as};
+ghost use Rattle.plan_scope.specs.declared.scope.text.Quoting.TheVariants.{Plain, Shell};
 
-use crate::edge::expansion::{Use, append_whole};
-use crate::edge::memo::Settled;
-use crate::fault::LineFault;
-use crate::scope::text::{Show, is_long};
-use crate::tree::loader::copied;
+use crate::edge::expansion::{EdgeEnvironment, append_whole};
+use crate::edge::memo::MemoEntry;
+use crate::fault::StatementFault;
+use crate::scope::text::{Quoting, is_long};
+use crate::tree::loader::copy_of;
 use plan_text::Items;
 use std::alloc::{AllocError, Global};
 
@@ -46,8 +46,8 @@ pub struct Variables {
 const BUFFER: usize = 1000;
 
 /// Whether it is told without a look-up in the file that nothing binds a name.
-fn is_unbound<'a>(edge: &Use<'a>, name: &[u8]) -> bool
-    ensures { result ≡ true → (show : Text → Text) → listed show (use_of edge.now) name.now ≡ None → meaning_of show (use_of edge.now) name.now ≡ Known [] }
+fn is_unbound<'a>(edge: &EdgeEnvironment<'a>, name: &[u8]) -> bool
+    ensures { result ≡ true → (quoting : Text → Text) → listed quoting (environment_of edge.now) name.now ≡ None → meaning_of quoting (environment_of edge.now) name.now ≡ Known [] }
 {
     if edge.file.bound.may_have(name) {
         return false;
@@ -66,63 +66,66 @@ fn is_unbound<'a>(edge: &Use<'a>, name: &[u8]) -> bool
 /// It is put together in a buffer, whatever that held, so that the text takes no more memory than it needs.
 fn variable<'a>(
     alloc: Global,
-    edge: &'a Use<'a>,
-    show: Show,
-    settled: &mut Vec<Settled<'a>>,
+    edge: &'a EdgeEnvironment<'a>,
+    quoting: Quoting,
+    memo: &mut Vec<MemoEntry<'a>>,
     name: &'a [u8],
     buffer: &mut Vec<u8>,
 ) -> Result<Option<Items<u8>>, AllocError>
-    requires unlisted { listed (shown_as show) (use_of edge.now) name.now ≡ None }
-    requires settled { AreSettled (meaning_of (shown_as show) (use_of edge.now)) settled.old.items }
-    ensures settled { AreSettled (meaning_of (shown_as show) (use_of edge.now)) settled.new.items }
-    ensures text { IfOk result (λ text. option_map kept text ≡ option_map kept (variable (shown_as show) (use_of edge.now) name.now)) }
+    requires unlisted { listed (quoted_as quoting) (environment_of edge.now) name.now ≡ None }
+    requires memo { IsMemo (meaning_of (quoted_as quoting) (environment_of edge.now)) memo.old.items }
+    ensures memo { IsMemo (meaning_of (quoted_as quoting) (environment_of edge.now)) memo.new.items }
+    ensures text { IfOk result (λ text. option_map kept text ≡ option_map kept (variable (quoted_as quoting) (environment_of edge.now) name.now)) }
 {
     if is_unbound(edge, name) {
         return Ok(Some(Items::empty(alloc)));
     }
     buffer.clear();
-    match append_whole(alloc, edge, show, settled, name, buffer) {
-        Ok(()) => Ok(Some(copied(alloc, buffer)?)),
-        Err(LineFault::Refused(_)) => Ok(None),
-        Err(LineFault::Memory) => Err(AllocError),
+    match append_whole(alloc, edge, quoting, memo, name, buffer) {
+        Ok(()) => Ok(Some(copy_of(alloc, buffer)?)),
+        Err(StatementFault::Refused(_)) => Ok(None),
+        Err(StatementFault::Memory) => Err(AllocError),
     }
 }
 
 /// A variable of an edge that shows paths as they are.
 fn plain_variable<'a>(
     alloc: Global,
-    edge: &'a Use<'a>,
-    settled: &mut Vec<Settled<'a>>,
+    edge: &'a EdgeEnvironment<'a>,
+    memo: &mut Vec<MemoEntry<'a>>,
     name: &'a [u8],
     buffer: &mut Vec<u8>,
 ) -> Result<Option<Items<u8>>, AllocError>
-    requires unlisted { listed (shown_as Plain) (use_of edge.now) name.now ≡ None }
-    requires settled { AreSettled (meaning_of (shown_as Plain) (use_of edge.now)) settled.old.items }
-    ensures settled { AreSettled (meaning_of (shown_as Plain) (use_of edge.now)) settled.new.items }
-    ensures text { IfOk result (λ text. option_map kept text ≡ option_map kept (variable (shown_as Plain) (use_of edge.now) name.now)) }
+    requires unlisted { listed (quoted_as Plain) (environment_of edge.now) name.now ≡ None }
+    requires memo { IsMemo (meaning_of (quoted_as Plain) (environment_of edge.now)) memo.old.items }
+    ensures memo { IsMemo (meaning_of (quoted_as Plain) (environment_of edge.now)) memo.new.items }
+    ensures text { IfOk result (λ text. option_map kept text ≡ option_map kept (variable (quoted_as Plain) (environment_of edge.now) name.now)) }
 {
-    variable(alloc, edge, Show::Plain, settled, name, buffer)
+    variable(alloc, edge, Quoting::Plain, memo, name, buffer)
 }
 
 /// A variable of an edge that quotes paths for the shell.
 fn quoted_variable<'a>(
     alloc: Global,
-    edge: &'a Use<'a>,
-    settled: &mut Vec<Settled<'a>>,
+    edge: &'a EdgeEnvironment<'a>,
+    memo: &mut Vec<MemoEntry<'a>>,
     name: &'a [u8],
     buffer: &mut Vec<u8>,
 ) -> Result<Option<Items<u8>>, AllocError>
-    requires unlisted { listed (shown_as Quoted) (use_of edge.now) name.now ≡ None }
-    requires settled { AreSettled (meaning_of (shown_as Quoted) (use_of edge.now)) settled.old.items }
-    ensures settled { AreSettled (meaning_of (shown_as Quoted) (use_of edge.now)) settled.new.items }
-    ensures text { IfOk result (λ text. option_map kept text ≡ option_map kept (variable (shown_as Quoted) (use_of edge.now) name.now)) }
+    requires unlisted { listed (quoted_as Shell) (environment_of edge.now) name.now ≡ None }
+    requires memo { IsMemo (meaning_of (quoted_as Shell) (environment_of edge.now)) memo.old.items }
+    ensures memo { IsMemo (meaning_of (quoted_as Shell) (environment_of edge.now)) memo.new.items }
+    ensures text { IfOk result (λ text. option_map kept text ≡ option_map kept (variable (quoted_as Shell) (environment_of edge.now) name.now)) }
 {
-    variable(alloc, edge, Show::Quoted, settled, name, buffer)
+    variable(alloc, edge, Quoting::Shell, memo, name, buffer)
 }
 
 /// The variables of an edge with a rule. Paths in its command and its description are quoted.
-pub fn variables_of_rule<'a>(alloc: Global, edge: &'a Use<'a>) -> Result<Variables, AllocError>
-    ensures { IfOk result (λ v. map (option_map kept) (all_variables v) ≡ map (option_map kept) (all_variables (variables_of (use_of edge.now)))) }
+pub fn variables_of_rule<'a>(
+    alloc: Global,
+    edge: &'a EdgeEnvironment<'a>,
+) -> Result<Variables, AllocError>
+    ensures { IfOk result (λ v. map (option_map kept) (all_variables v) ≡ map (option_map kept) (all_variables (variables_of (environment_of edge.now)))) }
 {
     let mut buffer = Vec::with_capacity(alloc, BUFFER)?;
     let mut plain = Vec::new(alloc);
@@ -141,8 +144,11 @@ pub fn variables_of_rule<'a>(alloc: Global, edge: &'a Use<'a>) -> Result<Variabl
 }
 
 /// The variables of a phony edge: it looks up `dyndep` alone.
-pub fn variables_of_phony<'a>(alloc: Global, edge: &'a Use<'a>) -> Result<Variables, AllocError>
-    ensures { IfOk result (λ v. map (option_map kept) (all_variables v) ≡ map (option_map kept) (all_variables (phony_variables (use_of edge.now)))) }
+pub fn variables_of_phony<'a>(
+    alloc: Global,
+    edge: &'a EdgeEnvironment<'a>,
+) -> Result<Variables, AllocError>
+    ensures { IfOk result (λ v. map (option_map kept) (all_variables v) ≡ map (option_map kept) (all_variables (phony_variables (environment_of edge.now)))) }
 {
     let mut buffer = Vec::new(alloc);
     let mut plain = Vec::new(alloc);
@@ -161,7 +167,7 @@ pub fn variables_of_phony<'a>(alloc: Global, edge: &'a Use<'a>) -> Result<Variab
 }
 
 /// The text of a variable, lent.
-pub fn text_of(variable: &Option<Items<u8>>) -> &[u8]
+pub fn text_or_empty(variable: &Option<Items<u8>>) -> &[u8]
     ensures { result.now ≡ text_in variable.now }
 {
     match variable {
@@ -184,7 +190,7 @@ pub fn into_text(alloc: Global, variable: Option<Items<u8>>) -> Items<u8>
 pub fn is_present(variable: &Option<Items<u8>>) -> bool
     ensures { result ≡ is_present variable.now }
 {
-    !text_of(variable).is_empty()
+    !text_or_empty(variable).is_empty()
 }
 
 /// Whether a `deps` asks for what isn't known.
@@ -198,7 +204,7 @@ pub fn is_other_deps(text: &[u8]) -> bool
 fn is_long_text(variable: &Option<Items<u8>>) -> bool
     ensures { result ≡ is_too_long (text_in variable.now) }
 {
-    is_long(text_of(variable))
+    is_long(text_or_empty(variable))
 }
 
 /// Whether a variable has no text.

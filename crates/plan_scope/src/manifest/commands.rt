@@ -26,11 +26,11 @@ pub fn command_text(edge: &Edge) -> &[u8]
 }
 
 /// Writes some bytes and a newline.
-fn write_line<W: Sink>(line: &[u8], out: &mut W) -> Result<(), WriteFault>
-    ensures { Writes (is_ok result) (W.failures out.old, W.taken out.old) (W.failures out.new, W.taken out.new) (line.now ++ line_feed ∷ []) }
+fn write_line<W: Sink>(statement: &[u8], out: &mut W) -> Result<(), WriteFault>
+    ensures { Writes (is_ok result) (W.failures out.old, W.taken out.old) (W.failures out.new, W.taken out.new) (statement.now ++ line_feed ∷ []) }
 {
     writes_join();
-    write_all(out, line)?;
+    write_all(out, statement)?;
     write_all(out, b"\n")?;
     Ok(())
 }

@@ -3,14 +3,14 @@
 ghost use Rattle.std.specs.Prelude.{◌≡◌, ℕ, List, [], ◌∷◌, ◌++◌, OnOk};
 ghost use Rattle.plan_scope.specs.Edges.{is_among};
 
-use crate::scope::small_map::Frame;
+use crate::scope::small_map::SmallMap;
 use std::alloc::{AllocError, Global};
 use std::marker::Model;
 
 /// Names of pools.
 #[derive(Drop)]
 pub struct PoolNames<'a> {
-    names: Frame<'a, ()>,
+    names: SmallMap<'a, ()>,
 }
 
 impl<'a> Model for PoolNames<'a> {
@@ -28,7 +28,7 @@ impl<'a> PoolNames<'a> {
         ensures { result ≡ [] }
     {
         PoolNames {
-            names: Frame::new(alloc),
+            names: SmallMap::new(alloc),
         }
     }
 

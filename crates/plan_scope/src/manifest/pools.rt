@@ -3,17 +3,17 @@
 ghost use Rattle.std.specs.Prelude.{◌≡◌, List};
 ghost use Rattle.plan_scope.specs.Scopes.{Name, Text, expand};
 ghost use Rattle.plan_scope.specs.Edges.{depth_in, pool_by};
-ghost use Rattle.plan_scope.specs.Frames.{SameNames, StandsFor};
+ghost use Rattle.plan_scope.specs.Kept.{EqNames, KeptEqLookup};
 ghost use Rattle.plan_scope.specs.Evaluation.{depth_by};
-ghost use Rattle.plan_scope.specs.Steps.{Gives};
-ghost use Rattle.plan_scope.specs.Uses.{names_in};
+ghost use Rattle.plan_scope.specs.Outcomes.{Gives};
+ghost use Rattle.plan_scope.specs.ScopeNames.{names_in};
 
-use crate::fault::{Cause, LineFault};
+use crate::fault::{Cause, StatementFault};
 use crate::manifest::Pool;
 use crate::manifest::pool_names::PoolNames;
 use crate::scope::text::is_long;
-use crate::scope::{Scope, expanded};
-use crate::tree::loader::copied;
+use crate::scope::{Scope, expand_pieces};
+use crate::tree::loader::copy_of;
 use plan_text::number_in;
 use std::alloc::Global;
 
@@ -46,24 +46,24 @@ fn depth(text: &[u8]) -> Result<u64, Cause>
     }
 }
 
-/// The pool that a line declares, by the names of those above it.
+/// The pool that a statement declares, by the names of those above it.
 pub fn pool<'a>(
     alloc: Global,
     above: &PoolNames<'a>,
     here: Scope<'a>,
     declared: &'a plan_parse::Pool,
-) -> Result<Pool, LineFault>
-    ensures { (names : List Name) (h : Name → Text) → SameNames above.now names → StandsFor (names_in here.entry) h → Gives result (pool_by names declared.now.name (expand h declared.now.depth)) }
+) -> Result<Pool, StatementFault>
+    ensures { (names : List Name) (h : Name → Text) → EqNames above.now names → KeptEqLookup (names_in here.entry) h → Gives result (pool_by names declared.now.name (expand h declared.now.depth)) }
 {
     if above.contains(declared.name.as_slice()) {
-        return Err(LineFault::Refused(Cause::DuplicatePool));
+        return Err(StatementFault::Refused(Cause::DuplicatePool));
     }
-    let text = expanded(alloc, here, declared.depth.as_slice())?;
+    let text = expand_pieces(alloc, here, declared.depth.as_slice())?;
     match depth(&text) {
         Ok(depth) => {
-            let name = copied(alloc, declared.name.as_slice())?;
+            let name = copy_of(alloc, declared.name.as_slice())?;
             Ok(Pool { name, depth })
         }
-        Err(cause) => Err(LineFault::Refused(cause)),
+        Err(cause) => Err(StatementFault::Refused(cause)),
     }
 }

@@ -25,29 +25,29 @@ pub fn mark(name: &[u8]) -> usize
 
 /// Values by scope and name, the last for each.
 #[derive(Drop)]
-pub struct Scoped<V> {
+pub struct ScopedMap<V> {
     values: IndexMap<Key, V>,
     /// Whether a name of this mark was set. Most names that are looked up in vain are told by that, without a hash for each scope.
     marked: [bool; MARKS],
 }
 
-impl<V> Model for Scoped<V> {
+impl<V> Model for ScopedMap<V> {
     ghost use Rattle.plan_scope.specs.Scopes as scopes;
     ghost use Rattle.plan_scope.specs.Keys.{IsMarked, scoped_by};
 
-    ghost Value = { scopes.Scoped V };
+    ghost Value = { scopes.ScopedBindings V };
 
     ghost view = { λ s. scoped_by s.values.entries };
 
     ghost invariant = { λ s. IsMarked s.marked s.values.entries };
 }
 
-impl<V> Scoped<V> {
+impl<V> ScopedMap<V> {
     /// No value.
     pub fn new(alloc: Global) -> Self
         ensures { result ≡ [] }
     {
-        Scoped {
+        ScopedMap {
             values: IndexMap::new(alloc),
             marked: [false; MARKS],
         }
@@ -87,7 +87,7 @@ impl<V> Scoped<V> {
     }
 }
 
-impl<V: Drop> Scoped<V> {
+impl<V: Drop> ScopedMap<V> {
     /// Gives a name a value in a scope, behind those that it may have.
     pub fn set(
         &mut self,

@@ -2,7 +2,7 @@
 
 ghost use Rattle.std.specs.Prelude.{◌≡◌, ◌<◌, ℕ, List, [], ◌∷◌, ◌++◌, OnOk, OnErr, option_map, length};
 ghost use Rattle.plan_scope.specs.Scopes.{last_of};
-ghost use Rattle.plan_scope.specs.Frames.{listed, shown};
+ghost use Rattle.plan_scope.specs.Kept.{few_bindings, map_bindings};
 
 use indexmap::IndexMap;
 use std::alloc::{AllocError, Global};
@@ -10,21 +10,21 @@ use std::marker::Model;
 
 /// Values by name, the last for each. Most frames have few, which are found sooner one by one than by their hashes.
 #[derive(Drop)]
-pub struct Frame<'a, V> {
+pub struct SmallMap<'a, V> {
     /// The first values, in the order in which they were set.
     few: Vec<(&'a [u8], V)>,
     /// Those that were set once there were few already.
     more: IndexMap<&'a [u8], V>,
 }
 
-impl<'a, V> Model for Frame<'a, V> {
+impl<'a, V> Model for SmallMap<'a, V> {
     ghost use Rattle.std.specs.Prelude.{◌≡◌, ◌<◌, [], ◌++◌, length};
     ghost use Rattle.plan_scope.specs.Scopes.{Bindings};
-    ghost use Rattle.plan_scope.specs.Frames.{listed, most_few, shown};
+    ghost use Rattle.plan_scope.specs.Kept.{few_bindings, most_few, map_bindings};
 
     ghost Value = { Bindings V };
 
-    ghost view = { λ f. listed f.few.items ++ shown f.more.entries };
+    ghost view = { λ f. few_bindings f.few.items ++ map_bindings f.more.entries };
 
     ghost invariant = { λ f. length f.few.items < most_few → f.more.entries ≡ [] };
 }
@@ -34,7 +34,7 @@ const FEW: usize = 8;
 
 /// The last value of a name.
 fn last_among<'b, 'a, V>(few: &'b [(&'a [u8], V)], name: &[u8]) -> Option<&'b V>
-    ensures { option_map (λ v. v.now) result ≡ last_of name.now (listed few.now) }
+    ensures { option_map (λ v. v.now) result ≡ last_of name.now (few_bindings few.now) }
 {
     let mut last = None;
     for entry in few {
@@ -45,12 +45,12 @@ fn last_among<'b, 'a, V>(few: &'b [(&'a [u8], V)], name: &[u8]) -> Option<&'b V>
     last
 }
 
-impl<'a, V> Frame<'a, V> {
-    /// The frame without a value.
+impl<'a, V> SmallMap<'a, V> {
+    /// The map without a value.
     pub fn new(alloc: Global) -> Self
         ensures { result ≡ [] }
     {
-        Frame {
+        SmallMap {
             few: Vec::new(alloc),
             more: IndexMap::new(alloc),
         }
@@ -81,7 +81,7 @@ impl<'a, V> Frame<'a, V> {
     }
 }
 
-impl<'a, V: Drop> Frame<'a, V> {
+impl<'a, V: Drop> SmallMap<'a, V> {
     /// Gives a name a value, behind those that it may have.
     pub fn set(&mut self, name: &'a [u8], value: V) -> Result<(), AllocError>
         ensures bound { OnOk result ((n : List ℕ) → last_of n self.new ≡ last_of n (self.old ++ (name.now, value) ∷ [])) }

@@ -5,8 +5,8 @@ ghost use Rattle.std.specs.List.{join_with_byte, list_all};
 ghost use Rattle.plan_scope.specs.Expansion.{escaped, is_plain, quoted};
 ghost use Rattle.plan_scope.specs.Scopes.{is_too_long};
 ghost use Rattle.plan_text.specs.Limits.{max_text};
-ghost use Rattle.plan_scope.specs.Frames.{kept};
-ghost use Rattle.plan_scope.specs.Shows.{shown_as};
+ghost use Rattle.plan_scope.specs.Kept.{kept};
+ghost use Rattle.plan_scope.specs.ShellQuoting.{quoted_as};
 ghost use Rattle.std.specs.Prelude.{map, flat_map, [], ◌∷◌, if◌then◌else◌};
 
 use plan_text::{MAX_TEXT, SmallText};
@@ -14,11 +14,11 @@ use std::alloc::AllocError;
 
 /// How a path is shown.
 #[derive(Clone, Copy)]
-pub enum Show {
+pub enum Quoting {
     /// As it is.
     Plain,
     /// For a shell.
-    Quoted,
+    Shell,
 }
 
 /// Whether a text is too long.
@@ -117,12 +117,12 @@ fn append_quoted(out: &mut Vec<u8>, path: &[u8]) -> Result<(), AllocError>
 }
 
 /// Appends a path as it is shown.
-fn append_shown(out: &mut Vec<u8>, show: Show, path: &[u8]) -> Result<(), AllocError>
-    ensures { OnOk result (kept out.new.items ≡ kept (out.old.items ++ shown_as show path.now)) }
+fn append_path(out: &mut Vec<u8>, quoting: Quoting, path: &[u8]) -> Result<(), AllocError>
+    ensures { OnOk result (kept out.new.items ≡ kept (out.old.items ++ quoted_as quoting path.now)) }
 {
-    match show {
-        Show::Plain => append(out, path),
-        Show::Quoted => append_quoted(out, path),
+    match quoting {
+        Quoting::Plain => append(out, path),
+        Quoting::Shell => append_quoted(out, path),
     }
 }
 
@@ -139,11 +139,11 @@ fn append_separator(out: &mut Vec<u8>, is_first: bool, separator: u8) -> Result<
 /// Appends paths as they are shown, this byte between each two. Behind a text that is too long nothing is kept, and no path is looked at.
 pub fn append_paths(
     out: &mut Vec<u8>,
-    show: Show,
+    quoting: Quoting,
     paths: &[SmallText],
     separator: u8,
 ) -> Result<(), AllocError>
-    ensures { OnOk result (kept out.new.items ≡ kept (out.old.items ++ join_with_byte separator (map (shown_as show) paths.now))) }
+    ensures { OnOk result (kept out.new.items ≡ kept (out.old.items ++ join_with_byte separator (map (quoted_as quoting) paths.now))) }
 {
     if is_long(out) {
         return Ok(());
@@ -151,7 +151,7 @@ pub fn append_paths(
     let mut is_first = true;
     for path in paths {
         append_separator(out, is_first, separator)?;
-        append_shown(out, show, path.as_slice())?;
+        append_path(out, quoting, path.as_slice())?;
         is_first = false;
     }
     Ok(())

@@ -1,24 +1,24 @@
-//! The lines of a tree that are loaded so far.
+//! The statements of a tree that are loaded so far.
 
 ghost use Rattle.std.specs.Prelude.{◌≡◌, [], IfOk};
 ghost use Rattle.std.specs.List.{list_any};
-ghost use Rattle.plan_scope.specs.Scopes.{bound_by, bound_in, is_too_long, look};
-ghost use Rattle.plan_scope.specs.Frames.{AgreesIn};
+ghost use Rattle.plan_scope.specs.Scopes.{bound_by, bound_in, is_too_long, lookup};
+ghost use Rattle.plan_scope.specs.Kept.{KeptEqScoped};
 ghost use Rattle.plan_scope.specs.Loading.{fresh_scope, greatest_scope, own_scope};
 
-use crate::scope::scoped_map::Scoped;
-use crate::tree::Line;
+use crate::scope::scoped_map::ScopedMap;
+use crate::tree::TreeStatement;
 use plan_text::Items;
 use std::alloc::{AllocError, Global};
 use std::marker::Model;
 
-/// The lines that are loaded so far, and what they bind.
+/// The statements that are loaded so far, and what they bind.
 #[derive(Drop)]
 pub struct Loaded {
-    /// The lines.
-    pub lines: Vec<Line>,
+    /// The statements.
+    pub statements: Vec<TreeStatement>,
     /// What they bind.
-    pub bound: Scoped<Items<u8>>,
+    pub bound: ScopedMap<Items<u8>>,
     /// The greatest of their own scopes.
     pub greatest: usize,
 }
@@ -28,17 +28,17 @@ impl Model for Loaded {
     ghost use Rattle.plan_scope.specs.Trees as trees;
     ghost use Rattle.plan_scope.specs.Scopes.{bound_by};
     ghost use Rattle.std.specs.Prelude.{◌≡◌};
-    ghost use Rattle.plan_scope.specs.Frames.{AgreesIn};
+    ghost use Rattle.plan_scope.specs.Kept.{KeptEqScoped};
     ghost use Rattle.plan_scope.specs.Loading.{greatest_scope};
 
-    ghost Value = { List trees.Line };
+    ghost Value = { List trees.TreeStatement };
 
-    ghost view = { λ l. l.lines.items };
+    ghost view = { λ l. l.statements.items };
 
-    ghost invariant = { λ l. AgreesIn l.bound (bound_by l.lines.items) × (l.greatest ≡ greatest_scope l.lines.items) };
+    ghost invariant = { λ l. KeptEqScoped l.bound (bound_by l.statements.items) × (l.greatest ≡ greatest_scope l.statements.items) };
 }
 
-/// The own scope of a line that sees these.
+/// The own scope of a statement that sees these.
 pub fn own_scope(scopes: &[usize]) -> usize
     ensures { result ≡ own_scope scopes.now }
 {
@@ -49,35 +49,35 @@ pub fn own_scope(scopes: &[usize]) -> usize
 }
 
 impl Loaded {
-    /// No line.
+    /// No statement.
     pub fn new(alloc: Global) -> Self
         ensures { result ≡ [] }
     {
         Loaded {
-            lines: Vec::new(alloc),
-            bound: Scoped::new(alloc),
+            statements: Vec::new(alloc),
+            bound: ScopedMap::new(alloc),
             greatest: 0,
         }
     }
 
-    /// The same lines, with room for so many more.
+    /// The same statements, with room for so many more.
     pub fn with_room(self, more: usize) -> Result<Loaded, AllocError>
         ensures { IfOk result (λ loaded. loaded ≡ self) }
     {
         let Loaded {
-            mut lines,
+            mut statements,
             bound,
             greatest,
         } = self;
-        lines.reserve(more)?;
+        statements.reserve(more)?;
         Ok(Loaded {
-            lines,
+            statements,
             bound,
             greatest,
         })
     }
 
-    /// The scope that a line opens which sees these scopes; none where there is no greater number.
+    /// The scope that a statement opens which sees these scopes; none where there is no greater number.
     pub fn fresh_scope(&self, scopes: &[usize]) -> Result<usize, AllocError>
         ensures { IfOk result (λ scope. scope ≡ fresh_scope self.now scopes.now) }
     {
@@ -87,15 +87,15 @@ impl Loaded {
         }
     }
 
-    /// The lines.
-    pub fn into_lines(self) -> Items<Line>
+    /// The statements.
+    pub fn into_lines(self) -> Items<TreeStatement>
         ensures { result ≡ self }
     {
         let Loaded {
-            lines,
+            statements,
             bound: _,
             greatest: _,
         } = self;
-        Items::new(lines)
+        Items::new(statements)
     }
 }

@@ -2,20 +2,20 @@
 
 ghost use Rattle.std.specs.Prelude.{◌≡◌, ◌<◌, ◌≤◌, ◌+◌, ◌-◌, [], ◌∷◌, ◌++◌, ℕ, List, Option, Some, IfOk, IfErr, length, map};
 ghost use Rattle.std.specs.List.{list_any};
-ghost use Rattle.plan_scope.specs.Scopes.{Name, Text, bound_by, bound_in, expand, is_too_long, look};
-ghost use Rattle.plan_scope.specs.Frames.{StandsFor};
-ghost use Rattle.plan_scope.specs.Loading.{Loads, LoadsAll, LoadsWithin, cause_of_path, cause_to_load, opens_scope, scopes_in, taken_by};
+ghost use Rattle.plan_scope.specs.Scopes.{Name, Text, bound_by, bound_in, expand, is_too_long, lookup};
+ghost use Rattle.plan_scope.specs.Kept.{KeptEqLookup};
+ghost use Rattle.plan_scope.specs.Loading.{Loads, LoadsStatements, LoadsWithin, cause_of_path, cause_to_load, opens_scope, scopes_in, included_by};
 ghost use Rattle.plan_parse.specs.Compact.{said_in};
 ghost use Rattle.plan_scope.specs.Sources.{SameFiles};
-ghost use Rattle.plan_scope.specs.Taking.{Answers, IsBound, IsRead, IsRefusal, IsTaken, LoadsOne, takes_in};
-ghost use Rattle.plan_scope.specs.Uses.{names_in};
+ghost use Rattle.plan_scope.specs.LoaderAnswers.{Answers, IsBound, IsRead, IsRefusal, IsIncluded, LoadsOne, includes};
+ghost use Rattle.plan_scope.specs.ScopeNames.{names_in};
 
-use crate::fault::{Cause, LineFault, ReadFault, ScopeFault};
-use crate::scope::{Scope, bind_line, expanded};
+use crate::fault::{Cause, ReadFault, ScopeFault, StatementFault};
+use crate::scope::{Scope, bind_statement, expand_pieces};
 use crate::tree::loaded::{Loaded, own_scope};
 use crate::tree::parsed::Parsed;
 use crate::tree::source::{Source, SourceFault};
-use crate::tree::{File, Line, Tree};
+use crate::tree::{File, Tree, TreeStatement};
 use plan_parse::{CompactStatement, ParseFault, StatementKind, parse};
 use plan_text::{Items, MAX_PATH, Piece};
 use std::alloc::{AllocError, Global};
@@ -28,18 +28,18 @@ const MORE_FILES: usize = 63;
 const FIRST_SCOPE: usize = 0;
 
 /// A copy of a text.
-pub fn copied(alloc: Global, text: &[u8]) -> Result<Items<u8>, AllocError>
+pub fn copy_of(alloc: Global, text: &[u8]) -> Result<Items<u8>, AllocError>
     ensures { IfOk result (λ copy. copy ≡ text.now) }
 {
     Ok(Items::new(Vec::from_slice(alloc, text)?))
 }
 
-/// The fault of a line.
-fn refused(alloc: Global, line: &Line, cause: Cause) -> ScopeFault
-    ensures { IsRefusal line.now cause result }
+/// The fault of a statement.
+fn refused(alloc: Global, statement: &TreeStatement, cause: Cause) -> ScopeFault
+    ensures { IsRefusal statement.now cause result }
 {
-    match copied(alloc, line.path()) {
-        Ok(path) => ScopeFault::Refused(path, line.offset(), cause),
+    match copy_of(alloc, statement.path()) {
+        Ok(path) => ScopeFault::Refused(path, statement.offset(), cause),
         Err(_) => ScopeFault::LoadMemory,
     }
 }
@@ -69,46 +69,46 @@ fn read_statements<S: Source>(
     }
 }
 
-/// The path of a file to take in, where so many more may be open.
-fn taken_path<'a>(
+/// The path of a file to include, where so many more may be open.
+fn expand_included_path<'a>(
     alloc: Global,
     scope: Scope<'a>,
     pieces: &'a [Piece],
     left: usize,
-) -> Result<Option<Items<u8>>, LineFault>
-    ensures { (meant : Name → Text) → StandsFor (names_in scope.entry) meant → IsTaken (cause_of_path left (expand meant pieces.now)) (Some (expand meant pieces.now)) result }
+) -> Result<Option<Items<u8>>, StatementFault>
+    ensures { (meant : Name → Text) → KeptEqLookup (names_in scope.entry) meant → IsIncluded (cause_of_path left (expand meant pieces.now)) (Some (expand meant pieces.now)) result }
 {
     if left == 0 {
-        return Err(LineFault::Refused(Cause::IncludeDepth));
+        return Err(StatementFault::Refused(Cause::IncludeDepth));
     }
-    let path = expanded(alloc, scope, pieces)?;
+    let path = expand_pieces(alloc, scope, pieces)?;
     if path.is_empty() {
-        return Err(LineFault::Refused(Cause::EmptyPath));
+        return Err(StatementFault::Refused(Cause::EmptyPath));
     }
     if path.len() > MAX_PATH {
-        return Err(LineFault::Refused(Cause::PathTooLong));
+        return Err(StatementFault::Refused(Cause::PathTooLong));
     }
     Ok(Some(Items::new(path)))
 }
 
-/// The path of the file that a line takes in, if it takes in any, by all that it says.
-fn taken_whole(
+/// The path of the file that a statement includes, if it includes any, by all that it says.
+fn included_path_of_kind(
     alloc: Global,
     loaded: &Loaded,
-    line: &Line,
+    statement: &TreeStatement,
     kind: &StatementKind,
     left: usize,
-) -> Result<Option<Items<u8>>, LineFault>
-    requires { line.now.kind ≡ kind.now }
-    ensures { IsTaken (cause_to_load left (look (bound_by loaded.now) line.now.scopes) line.now.kind) (taken_by (look (bound_by loaded.now) line.now.scopes) line.now.kind) result }
+) -> Result<Option<Items<u8>>, StatementFault>
+    requires { statement.now.kind ≡ kind.now }
+    ensures { IsIncluded (cause_to_load left (lookup (bound_by loaded.now) statement.now.scopes) statement.now.kind) (included_by (lookup (bound_by loaded.now) statement.now.scopes) statement.now.kind) result }
 {
     let scope = Scope {
         bound: &loaded.bound,
-        scopes: line.scopes(),
+        scopes: statement.scopes(),
     };
     match kind {
-        StatementKind::Include(path) => taken_path(alloc, scope, path.as_slice(), left),
-        StatementKind::Subninja(path) => taken_path(alloc, scope, path.as_slice(), left),
+        StatementKind::Include(path) => expand_included_path(alloc, scope, path.as_slice(), left),
+        StatementKind::Subninja(path) => expand_included_path(alloc, scope, path.as_slice(), left),
         StatementKind::Rule(_) => Ok(None),
         StatementKind::Build(_) => Ok(None),
         StatementKind::Pool(_) => Ok(None),
@@ -117,61 +117,69 @@ fn taken_whole(
     }
 }
 
-/// The path of the file that a line takes in, if it takes in any.
-fn taken(
+/// The path of the file that a statement includes, if it includes any.
+fn included_path(
     alloc: Global,
     loaded: &Loaded,
-    line: &Line,
+    statement: &TreeStatement,
     left: usize,
-) -> Result<Option<Items<u8>>, LineFault>
-    ensures { IsTaken (cause_to_load left (look (bound_by loaded.now) line.now.scopes) line.now.kind) (taken_by (look (bound_by loaded.now) line.now.scopes) line.now.kind) result }
+) -> Result<Option<Items<u8>>, StatementFault>
+    ensures { IsIncluded (cause_to_load left (lookup (bound_by loaded.now) statement.now.scopes) statement.now.kind) (included_by (lookup (bound_by loaded.now) statement.now.scopes) statement.now.kind) result }
 {
-    match line.whole() {
-        Some(kind) => taken_whole(alloc, loaded, line, kind, left),
+    match statement.kept_kind() {
+        Some(kind) => included_path_of_kind(alloc, loaded, statement, kind, left),
         None => Ok(None),
     }
 }
 
-/// Whether a line opens a scope for the lines that it takes in.
-fn opens_scope(line: &Line) -> bool
-    ensures { result ≡ opens_scope line.now.kind }
+/// Whether a statement opens a scope for the statements that it includes.
+fn opens_scope(statement: &TreeStatement) -> bool
+    ensures { result ≡ opens_scope statement.now.kind }
 {
-    match line.whole() {
+    match statement.kept_kind() {
         Some(kind) => matches!(kind, StatementKind::Subninja(_)),
         None => false,
     }
 }
 
-/// The scopes of the lines that a line takes in.
-fn scopes_taken(alloc: Global, loaded: &Loaded, line: &Line) -> Result<Items<usize>, AllocError>
-    ensures { IfOk result (λ inner. inner ≡ scopes_in loaded.now line.now.scopes line.now.kind) }
+/// The scopes of the statements that a statement includes.
+fn scopes_of_included(
+    alloc: Global,
+    loaded: &Loaded,
+    statement: &TreeStatement,
+) -> Result<Items<usize>, AllocError>
+    ensures { IfOk result (λ inner. inner ≡ scopes_in loaded.now statement.now.scopes statement.now.kind) }
 {
     let mut inner = Vec::new(alloc);
-    if opens_scope(line) {
-        inner.push(loaded.fresh_scope(line.scopes())?)?;
+    if opens_scope(statement) {
+        inner.push(loaded.fresh_scope(statement.scopes())?)?;
     }
-    inner.extend_from_slice(line.scopes())?;
+    inner.extend_from_slice(statement.scopes())?;
     Ok(Items::new(inner))
 }
 
-/// One more line, with what it binds, unless its text is too long.
-fn with_line(alloc: Global, loaded: Loaded, line: Line) -> Result<Loaded, ScopeFault>
-    ensures { IsBound loaded line (list_any (λ b. is_too_long b.1.1) (bound_in (bound_by loaded) line.scopes line.kind)) result }
+/// One more statement, with what it binds, unless its text is too long.
+fn with_statement(
+    alloc: Global,
+    loaded: Loaded,
+    statement: TreeStatement,
+) -> Result<Loaded, ScopeFault>
+    ensures { IsBound loaded statement (list_any (λ b. is_too_long b.1.1) (bound_in (bound_by loaded) statement.scopes statement.kind)) result }
 {
     let Loaded {
-        mut lines,
+        mut statements,
         mut bound,
         greatest,
     } = loaded;
-    match bind_line(alloc, &mut bound, &line) {
-        Ok(true) => return Err(refused(alloc, &line, Cause::TextTooLong)),
+    match bind_statement(alloc, &mut bound, &statement) {
+        Ok(true) => return Err(refused(alloc, &statement, Cause::TextTooLong)),
         Ok(false) => {}
         Err(_) => return Err(ScopeFault::LoadMemory),
     }
-    let greatest = greatest.max(own_scope(line.scopes()));
-    match lines.push(line) {
+    let greatest = greatest.max(own_scope(statement.scopes()));
+    match statements.push(statement) {
         Ok(()) => Ok(Loaded {
-            lines,
+            statements,
             bound,
             greatest,
         }),
@@ -179,9 +187,9 @@ fn with_line(alloc: Global, loaded: Loaded, line: Line) -> Result<Loaded, ScopeF
     }
 }
 
-/// Takes in the file at a path, for the lines behind these. So many files more may be open beside it.
+/// Loads the file at a path, for the statements behind these. So many files more may be open beside it.
 #[cycle(loading)]
-fn take_file<S: Source>(
+fn load_file<S: Source>(
     alloc: Global,
     source: &mut S,
     loaded: Loaded,
@@ -204,14 +212,14 @@ fn take_file<S: Source>(
         return Err(ScopeFault::LoadMemory);
     };
     match Rc::new(alloc, File { path, scopes, text }) {
-        Ok(file) => take_all(alloc, source, loaded, file, statements, left),
+        Ok(file) => load_statements(alloc, source, loaded, file, statements, left),
         Err(_) => Err(ScopeFault::LoadMemory),
     }
 }
 
-/// Takes in the statements of a file.
+/// Loads the statements of a file.
 #[cycle(loading)]
-fn take_all<S: Source>(
+fn load_statements<S: Source>(
     alloc: Global,
     source: &mut S,
     loaded: Loaded,
@@ -220,77 +228,83 @@ fn take_all<S: Source>(
     left: usize,
 ) -> Result<Loaded, ScopeFault>
     requires { 0 < length file.value.scopes }
-    ensures loaded { Answers (S.gives source.old) (S.fails source.old) (S.failures source.old) (S.failures source.new) (λ missing out. LoadsAll (takes_in (S.gives source.old) missing left) left file.value.path file.value.scopes loaded (map (said_in file.value.text) statements) out) result }
+    ensures loaded { Answers (S.gives source.old) (S.fails source.old) (S.failures source.old) (S.failures source.new) (λ missing out. LoadsStatements (includes (S.gives source.old) missing left) left file.value.path file.value.scopes loaded (map (said_in file.value.text) statements) out) result }
     ensures same { SameFiles (S.gives source.new) (S.fails source.new) (S.gives source.old) (S.fails source.old) }
 {
-    let mut lines = loaded;
+    let mut so_far = loaded;
     for statement in statements.into_vec() {
         let Ok(file) = file.clone() else {
             return Err(ScopeFault::LoadMemory);
         };
-        lines = match take_line(alloc, source, lines, Line { file, statement }, left) {
-            Ok(lines) => lines,
+        so_far = match load_statement(
+            alloc,
+            source,
+            so_far,
+            TreeStatement { file, statement },
+            left,
+        ) {
+            Ok(so_far) => so_far,
             Err(fault) => return Err(fault),
         };
     }
-    Ok(lines)
+    Ok(so_far)
 }
 
-/// Takes in a line, and the lines of the file that it takes in.
+/// Loads a statement, and the statements of the file that it includes.
 #[cycle(loading)]
-fn take_line<S: Source>(
+fn load_statement<S: Source>(
     alloc: Global,
     source: &mut S,
     loaded: Loaded,
-    line: Line,
+    statement: TreeStatement,
     left: usize,
 ) -> Result<Loaded, ScopeFault>
-    requires { 0 < length line.scopes }
-    ensures loaded { Answers (S.gives source.old) (S.fails source.old) (S.failures source.old) (S.failures source.new) (λ missing out. LoadsOne (takes_in (S.gives source.old) missing left) left loaded line out) result }
+    requires { 0 < length statement.scopes }
+    ensures loaded { Answers (S.gives source.old) (S.fails source.old) (S.failures source.old) (S.failures source.new) (λ missing out. LoadsOne (includes (S.gives source.old) missing left) left loaded statement out) result }
     ensures same { SameFiles (S.gives source.new) (S.fails source.new) (S.gives source.old) (S.fails source.old) }
 {
-    match taken(alloc, &loaded, &line, left) {
-        Ok(None) => with_line(alloc, loaded, line),
-        Ok(Some(path)) => take_path(alloc, source, loaded, line, path, left),
-        Err(LineFault::Refused(cause)) => Err(refused(alloc, &line, cause)),
-        Err(LineFault::Memory) => Err(ScopeFault::LoadMemory),
+    match included_path(alloc, &loaded, &statement, left) {
+        Ok(None) => with_statement(alloc, loaded, statement),
+        Ok(Some(path)) => load_included(alloc, source, loaded, statement, path, left),
+        Err(StatementFault::Refused(cause)) => Err(refused(alloc, &statement, cause)),
+        Err(StatementFault::Memory) => Err(ScopeFault::LoadMemory),
     }
 }
 
-/// Takes in the file at this path, for the line that takes it in.
+/// Loads the file at this path, for the statement that includes it.
 #[cycle(loading)]
-fn take_path<S: Source>(
+fn load_included<S: Source>(
     alloc: Global,
     source: &mut S,
     loaded: Loaded,
-    line: Line,
+    statement: TreeStatement,
     path: Items<u8>,
     left: usize,
 ) -> Result<Loaded, ScopeFault>
-    requires scopes { 0 < length line.scopes }
+    requires scopes { 0 < length statement.scopes }
     requires left { 0 < left }
-    ensures loaded { Answers (S.gives source.old) (S.fails source.old) (S.failures source.old) (S.failures source.new) (λ missing out. LoadsWithin (S.gives source.old) missing (left - 1) path (scopes_in loaded line.scopes line.kind) loaded out) result }
+    ensures loaded { Answers (S.gives source.old) (S.fails source.old) (S.failures source.old) (S.failures source.new) (λ missing out. LoadsWithin (S.gives source.old) missing (left - 1) path (scopes_in loaded statement.scopes statement.kind) loaded out) result }
     ensures same { SameFiles (S.gives source.new) (S.fails source.new) (S.gives source.old) (S.fails source.old) }
 {
-    let Ok(scopes) = scopes_taken(alloc, &loaded, &line) else {
+    let Ok(scopes) = scopes_of_included(alloc, &loaded, &statement) else {
         return Err(ScopeFault::LoadMemory);
     };
-    take_file(alloc, source, loaded, path, scopes, left - 1)
+    load_file(alloc, source, loaded, path, scopes, left - 1)
 }
 
-/// Reads the file at this path and all files that it takes in: the lines of a file stand in place of the `include` or `subninja` line that takes it in.
+/// Reads the file at this path and all files that it includes: the statements of a file stand in place of the `include` or `subninja` statement that includes it.
 /// Want of memory, also the source's and the reader's, is `LoadMemory`.
 ///
 /// # Errors
 ///
-/// The first in the order of the lines: `SourceMissing` where the source has no such file or its read fails, `Parse` where a file's
-/// bytes are no list of statements, and `Refused` where a line binds a name to a text that is too long, takes in a file from an
+/// The first in the order of the statements: `SourceMissing` where the source has no such file or its read fails, `Parse` where a file's
+/// bytes are no list of statements, and `Refused` where a statement binds a name to a text that is too long, includes a file from an
 /// empty path or one of more than 4,096 bytes, or stands in a file with 63 others open above it.
 pub fn load<S: Source>(alloc: Global, source: &mut S, path: &[u8]) -> Result<Tree, ScopeFault>
     ensures loaded { Loads (S.gives source.old) (S.fails source.old) (S.failures source.old) (S.failures source.new) path.now result }
     ensures same { SameFiles (S.gives source.new) (S.fails source.new) (S.gives source.old) (S.fails source.old) }
 {
-    let Ok(name) = copied(alloc, path) else {
+    let Ok(name) = copy_of(alloc, path) else {
         return Err(ScopeFault::LoadMemory);
     };
     let mut scopes = Vec::new(alloc);
@@ -298,9 +312,9 @@ pub fn load<S: Source>(alloc: Global, source: &mut S, path: &[u8]) -> Result<Tre
         return Err(ScopeFault::LoadMemory);
     };
     let none = Loaded::new(alloc);
-    match take_file(alloc, source, none, name, Items::new(scopes), MORE_FILES) {
+    match load_file(alloc, source, none, name, Items::new(scopes), MORE_FILES) {
         Ok(loaded) => Ok(Tree {
-            lines: loaded.into_lines(),
+            statements: loaded.into_lines(),
         }),
         Err(fault) => Err(fault),
     }

@@ -2,7 +2,7 @@ use Rattle.std.proofs.Common.{◌∙◌, ap, subst, sym}
 use Rattle.std.specs.List.{list_any}
 use Rattle.plan_scope.specs.Scopes.{is_empty, is_long_path, is_too_long}
 use Rattle.plan_scope.specs.Edges.{block_of}
-use Rattle.plan_scope.specs.Frames.{Agrees}
+use Rattle.plan_scope.specs.Kept.{KeptEqBindings}
 use Rattle.plan_scope.specs.Parts.{texts_in}
 use Rattle.plan_scope.specs.Paths.{canonical_paths, kept_in}
 use Rattle.plan_scope.proofs.PathLemmas.{any_in, empty_kept, far_kept, kept_forms, exact_forms}
@@ -14,7 +14,7 @@ returns c = λ h s.
     let block = c.in_ok-block.block in
     let texts = c.in_ok-read.ensures.0 in
     let seen = c.in_ok-read.ensures.1 in
-    let values = subst (λ x. Agrees block.values (block_of h x)) c.as_slice.ensures (c.in_ok-block.ensures.values h s) in
+    let values = subst (λ x. KeptEqBindings block.values (block_of h x)) c.as_slice.ensures (c.in_ok-block.ensures.values h s) in
     let same = c.in_ok-read.ensures.2 (block_of h b.bindings) h values s in
     record {
       values = values;

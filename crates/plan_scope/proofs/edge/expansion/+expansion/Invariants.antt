@@ -1,9 +1,9 @@
 use Rattle.std.proofs.Common.{◌≡◌, ℕ, ◌+◌, ◌*◌, ◌≤◌, ◌++◌, List, Some, take, option_map}
 use Rattle.plan_scope.specs.Expansion.{Meaning, meaning_of, joined}
-use Rattle.plan_scope.specs.Frames.{kept}
-use Rattle.plan_scope.specs.HeldUses.{use_of}
-use Rattle.plan_scope.specs.Settling.{AreSettled, text_by}
-use Rattle.plan_scope.specs.Shows.{shown_as}
+use Rattle.plan_scope.specs.Kept.{kept}
+use Rattle.plan_scope.specs.HeldEnvironment.{environment_of}
+use Rattle.plan_scope.specs.Memo.{IsMemo, text_by}
+use Rattle.plan_scope.specs.ShellQuoting.{quoted_as}
 use Rattle.plan_scope.proofs.edge.expansion.+expansion.Given as goal
 
 abbrev pub decreases-append_late : goal.decreases-append_late
@@ -21,7 +21,7 @@ decreases-append_pieces l = 4 * l.left + 3
 -- the pieces so far are appended
 abbrev pub invariant-append_pieces-loop-piece : goal.invariant-append_pieces-loop-piece
 invariant-append_pieces-loop-piece l =
-    let meaning : List ℕ → Meaning = meaning_of (shown_as l.show) (use_of l.edge) in
+    let meaning : List ℕ → Meaning = meaning_of (quoted_as l.quoting) (environment_of l.edge) in
     (l.deepest ≤ l.left)
     × (option_map (λ text. kept (l.fn.out.items ++ text)) (joined (text_by l.deepest meaning) (take l.piece-index l.pieces)) ≡ Some (kept l.out.items))
-    × AreSettled meaning l.settled.items
+    × IsMemo meaning l.memo.items

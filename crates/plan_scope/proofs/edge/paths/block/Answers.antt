@@ -4,10 +4,10 @@ use Rattle.std.proofs.lemmas.List.{take_all}
 use Rattle.plan_parse.specs.declared.statement.Binding.{Binding}
 use Rattle.plan_scope.specs.Scopes.{Text, Bindings, expand, last_of, is_too_long}
 use Rattle.plan_scope.specs.Edges.{block_of}
-use Rattle.plan_scope.specs.Frames.{kept}
-use Rattle.plan_scope.proofs.Kept.{long_kept}
+use Rattle.plan_scope.specs.Kept.{kept}
+use Rattle.plan_scope.proofs.TextLemmas.{long_kept}
 use Rattle.plan_scope.proofs.PathLemmas.{block_taken, long_push}
-use Rattle.plan_scope.proofs.Seen.{pushed_both}
+use Rattle.plan_scope.proofs.SmallMapLemmas.{pushed_both}
 use Rattle.plan_scope.proofs.edge.paths.block.Goals as goal
 
 pub loop-binding-preserved : goal.loop-binding-preserved

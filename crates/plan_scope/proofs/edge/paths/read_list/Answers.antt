@@ -4,8 +4,8 @@ use Rattle.std.proofs.lemmas.List.{take_all}
 use Rattle.plan_text.specs.declared.piece_reader.Piece.{Piece}
 use Rattle.plan_scope.specs.Scopes.{Text, expand, is_empty, is_long_path}
 use Rattle.plan_scope.specs.Edges.{near, path_of, paths_of}
-use Rattle.plan_scope.specs.Frames.{kept}
-use Rattle.plan_scope.proofs.Kept.{paths_taken}
+use Rattle.plan_scope.specs.Kept.{kept}
+use Rattle.plan_scope.proofs.TextLemmas.{paths_taken}
 use Rattle.plan_scope.proofs.PathLemmas.{list_more}
 use Rattle.plan_scope.proofs.edge.paths.read_list.Goals as goal
 

@@ -2,7 +2,7 @@ use Rattle.std.proofs.Common.{◌∙◌, ◌∷◌, [], List, Option, ap, map}
 use Rattle.plan_text.specs.declared.piece_reader.Piece.{Piece}
 use Rattle.plan_scope.specs.Scopes.{Text}
 use Rattle.plan_scope.specs.Edges.{near, paths_of}
-use Rattle.plan_scope.specs.Frames.{kept}
+use Rattle.plan_scope.specs.Kept.{kept}
 use Rattle.plan_scope.specs.declared.edge.paths.Paths.{Paths}
 use Rattle.plan_scope.proofs.PathLemmas.{five}
 use Rattle.plan_scope.proofs.edge.paths.read_paths.Goals as goal
@@ -16,7 +16,7 @@ returns c =
     let oo = c.in_ok-order_only_inputs.ensures in
     let texts : Paths = record { outputs = o.0; implicit_outputs = io.0; inputs = i.0; implicit_inputs = ii.0; order_only_inputs = oo.0 } in (
       texts,
-      c.together.ensures texts o.1 io.1 i.1 ii.1 oo.1,
+      c.combine.ensures texts o.1 io.1 i.1 ii.1 oo.1,
       λ b m h k.
           let by = λ (ps : List (List Piece)). map kept (paths_of (near m b) ps) in
           five (λ (a b c d e : List (Option Text)). a ∷ b ∷ c ∷ d ∷ e ∷ []) _ _ _ _ _ _ _ _ _ _

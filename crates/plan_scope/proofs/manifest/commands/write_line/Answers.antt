@@ -9,4 +9,4 @@ returns-in_err-write_all-2 g c =
     (g.W.Sink.failures c.args.out.now, g.W.Sink.taken c.args.out.now)
     (g.W.Sink.failures c.write_all.new.sink, g.W.Sink.taken c.write_all.new.sink)
     (g.W.Sink.failures c.write_all-2.new.sink, g.W.Sink.taken c.write_all-2.new.sink)
-    c.args.line.now (10 ∷ []) c.in_ok-write_all.ensures c.in_err-write_all-2.ensures)
+    c.args.statement.now (10 ∷ []) c.in_ok-write_all.ensures c.in_err-write_all-2.ensures)

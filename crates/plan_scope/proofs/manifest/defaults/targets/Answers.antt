@@ -18,7 +18,7 @@ returns-then-list_has_long c = λ h s.
 
 pub returns : goal.returns
 returns c = λ h s.
-    targets_made c.args.edges_above c.in_ok-paths.paths (paths_of h c.args.targets.now) c.in_ok-made.field-0.items (c.in_ok-paths.ensures h s)
+    targets_made c.args.edges_above c.in_ok-paths.paths (paths_of h c.args.targets.now) c.in_ok-targets_at.field-0.items (c.in_ok-paths.ensures h s)
     (sym (c.list_has_empty.ensures ∙ ap (list_any is_empty) c.as_slice.ensures) ∙ c.if-list_has_empty.false)
     (sym (c.list_has_long.ensures ∙ ap (list_any is_long_path) c.as_slice-2.ensures) ∙ c.if-list_has_long.false)
-    (c.in_ok-made.ensures ∙ ap (map (target_at c.args.edges_above)) c.as_slice-3.ensures)
+    (c.in_ok-targets_at.ensures ∙ ap (map (target_at c.args.edges_above)) c.as_slice-3.ensures)

@@ -3,8 +3,8 @@ use Rattle.plan_text.specs.declared.piece_reader.Piece.{Piece}
 use Rattle.plan_scope.specs.Scopes.{Name, expand}
 use Rattle.plan_scope.specs.Edges.{is_among}
 use Rattle.plan_scope.specs.Evaluation.{depth_by}
-use Rattle.plan_scope.specs.Frames.{kept}
-use Rattle.plan_scope.proofs.DepthLemmas.{pool_from, pool_held, pool_is}
+use Rattle.plan_scope.specs.Kept.{kept}
+use Rattle.plan_scope.proofs.PoolLemmas.{pool_from, pool_held, pool_is}
 use Rattle.plan_scope.proofs.manifest.pools.pool.Goals as goal
 
 pub returns-then-contains : goal.returns-then-contains

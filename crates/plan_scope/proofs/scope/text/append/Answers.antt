@@ -1,7 +1,7 @@
 use Rattle.std.proofs.Common.{◌++◌, ◌<◌, length, arith, length-append}
 use Rattle.std.proofs.lemmas.Grind.{common_steps}
 use Rattle.plan_text.specs.Limits.{max_text}
-use Rattle.plan_scope.proofs.Kept.{both_long}
+use Rattle.plan_scope.proofs.TextLemmas.{both_long}
 use Rattle.plan_scope.proofs.scope.text.append.Goals as goal
 
 pub returns-in_ok-extend_from_slice-2-clause-appended : goal.returns-in_ok-extend_from_slice-2-clause-appended

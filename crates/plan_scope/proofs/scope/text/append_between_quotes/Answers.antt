@@ -1,8 +1,8 @@
 use Rattle.std.proofs.Common.{◌≡◌, ℕ, ◌++◌, List, flat_map, [], ◌∷◌, take, ap, sym, ◌∙◌, get_or, take_all}
 use Rattle.std.proofs.lemmas.Result.{on_ok_weaker}
 use Rattle.plan_scope.specs.Expansion.{escaped}
-use Rattle.plan_scope.specs.Frames.{kept}
-use Rattle.plan_scope.proofs.Kept.{kept_then, flat_map_taken}
+use Rattle.plan_scope.specs.Kept.{kept}
+use Rattle.plan_scope.proofs.TextLemmas.{kept_then, flat_map_taken}
 use Rattle.plan_scope.proofs.scope.text.append_between_quotes.Goals as goal
 
 pub loop-byte-preserved : goal.loop-byte-preserved

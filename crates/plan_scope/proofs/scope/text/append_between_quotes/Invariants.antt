@@ -1,6 +1,6 @@
 use Rattle.std.proofs.Common.{◌≡◌, ◌++◌, flat_map, ◌∷◌, take}
 use Rattle.plan_scope.specs.Expansion.{escaped}
-use Rattle.plan_scope.specs.Frames.{kept}
+use Rattle.plan_scope.specs.Kept.{kept}
 use Rattle.plan_scope.proofs.scope.text.append_between_quotes.Given as goal
 
 abbrev pub invariant-loop-byte : goal.invariant-loop-byte

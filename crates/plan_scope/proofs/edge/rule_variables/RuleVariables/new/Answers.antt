@@ -5,8 +5,8 @@ use Rattle.plan_parse.specs.declared.statement.Binding.{Binding}
 use Rattle.plan_scope.specs.Scopes.{Bindings, last_of}
 use Rattle.plan_scope.specs.Edges.{late}
 use Rattle.plan_scope.specs.Keys.{AreMarked, mark_of}
-use Rattle.plan_scope.proofs.ScopedSeen.{marked_more}
-use Rattle.plan_scope.proofs.Seen.{pushed}
+use Rattle.plan_scope.proofs.ScopedMapLemmas.{marked_more}
+use Rattle.plan_scope.proofs.SmallMapLemmas.{pushed}
 use Rattle.plan_scope.proofs.edge.rule_variables.RuleVariables.new.Goals as goal
 
 pub loop-binding-preserved : goal.loop-binding-preserved

@@ -2,7 +2,7 @@ use Rattle.std.proofs.Common.{◌≡◌, List, sym, ap, subst, ◌∙◌}
 use Rattle.std.specs.Prelude.{is_some}
 use Rattle.plan_scope.specs.Scopes.{Name, last_of}
 use Rattle.plan_scope.specs.Edges.{is_among}
-use Rattle.plan_scope.proofs.NameLemmas.{names_known, some_mapped}
+use Rattle.plan_scope.proofs.PoolNameLemmas.{names_known, some_mapped}
 use Rattle.plan_scope.proofs.manifest.pool_names.PoolNames.contains.Goals as goal
 
 pub returns : goal.returns

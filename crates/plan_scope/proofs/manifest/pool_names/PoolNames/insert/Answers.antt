@@ -2,7 +2,7 @@ use Rattle.std.proofs.Common.{◌≡◌, ℕ, List, map, [], ◌∷◌, ◌++◌
 use Rattle.std.proofs.lemmas.Result.{on_ok_weaker}
 use Rattle.plan_scope.specs.Scopes.{Name}
 use Rattle.plan_scope.specs.Edges.{is_among}
-use Rattle.plan_scope.proofs.NameLemmas.{names_more}
+use Rattle.plan_scope.proofs.PoolNameLemmas.{names_more}
 use Rattle.plan_scope.proofs.manifest.pool_names.PoolNames.insert.Goals as goal
 
 pub returns : goal.returns
