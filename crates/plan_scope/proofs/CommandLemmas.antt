@@ -1,4 +1,4 @@
--- The commands of edges, written in turn.
+-- The commands of edges, written in turn. Serves src/manifest/commands.rt.
 use Rattle.std.proofs.Common.{◌≡◌, ◌++◌, ◌∷◌, ℕ, ◌+◌, ◌<◌, List, length, drop, ap, sym, ◌∙◌, append_assoc, get_or}
 use Rattle.std.proofs.lemmas.List.{drop_more}
 use Rattle.std.specs.List.{flat_map}

@@ -1,4 +1,4 @@
--- One more statement evaluated.
+-- One more statement evaluated. Serves src/manifest/evaluator.rt.
 use Rattle.std.proofs.Common.{◌≡◌, ◌≢◌, ℕ, ◌+◌, ◌<◌, Bool, true, false, ◌||◌, cond, eqb, List, [], ◌∷◌, ◌++◌, length, Option, Some, None, Result, Ok, Err, refl, ap, sym, ◌∙◌, take, drop, get_or, bytes_eq, option_map, append-nil, append_assoc, arith, length-append}
 use Rattle.std.specs.Prelude.{codes, OnOk, flat_map}
 use Rattle.std.proofs.lemmas.List.{take_more}

@@ -1,4 +1,4 @@
--- A text that is found in steps is the one that is found by names in use.
+-- A text that is found in steps is the one that is found by names in use. Serves src/edge/expansion.rt.
 use Rattle.std.proofs.Common.{◌≡◌, ℕ, zero, suc, ◌≤◌, Bool, true, false, ◌||◌, List, [], ◌∷◌, Option, Some, None, refl, ap, sym, subst, ◌∙◌, bytes_eq, arith}
 use Rattle.std.specs.List.{list_any}
 use Rattle.std.proofs.lemmas.Slice.Eq.{bytes_eq-Decides}

@@ -1,4 +1,4 @@
--- A list, item by item.
+-- A list, item by item. Serves src/manifest.
 use Rattle.std.proofs.Common.{◌≡◌, ℕ, suc, ◌+◌, ◌<◌, drop, add-one, drop-cons, List, ◌∷◌, length, ap, sym, ◌∙◌, get_or}
 
 -- what is left from one item on

@@ -1,4 +1,4 @@
--- What is loaded, piece by piece.
+-- What is loaded, piece by piece. Serves src/tree/loader.rt.
 use Rattle.std.proofs.Common.{◌≡◌, ℕ, zero, suc, ◌+◌, ◌-◌, ◌<◌, ◌≤◌, inl, inr, Bool, true, false, ◌==◌, List, [], ◌∷◌, ◌++◌, length, max, Option, Some, None, Result, Ok, Err, refl, ap, sym, subst, ◌∙◌, append-nil, arith}
 use Rattle.std.proofs.lemmas.Bool.{lt-ltb, le-ltb, ne_eqb}
 use Rattle.plan_text.specs.declared.piece_reader.Piece.{Piece}
@@ -12,7 +12,6 @@ use Rattle.plan_scope.specs.declared.fault.Cause.TheVariants.{IncludeDepth, Empt
 use Rattle.plan_scope.specs.declared.fault.StatementFault.{StatementFault}
 use Rattle.plan_scope.specs.declared.fault.ScopeFault.{ScopeFault}
 use Rattle.plan_scope.specs.declared.fault.ScopeFault.TheVariants.{SourceMissing, Parse, Refused, LoadMemory, Memory}
-use Rattle.plan_scope.specs.declared.tree.Tree.{Tree}
 use Rattle.plan_scope.specs.Trees.{TreeStatement}
 use Rattle.plan_scope.specs.Scopes.{Text, Name, ScopedBindings, lookup, expand, bound_by, bound_in, is_long_path, is_empty}
 use Rattle.plan_text.specs.Limits.{max_path}
@@ -313,7 +312,7 @@ first g m n name path scopes above out mn e f h r =
     (subst (λ (x : List TreeStatement). LoadsWithin g m 63 name scopes x out) h r)))
 
 -- a tree that is loaded
-pub tree_loaded : (g : Gives) (f : Missing) (b n : ℕ) (name path : Text) (scopes : List ℕ) (above statements : List TreeStatement) (tree : Tree) → name ≡ path → scopes ≡ 0 ∷ [] → above ≡ [] → tree.statements ≡ statements
+pub tree_loaded : (g : Gives) (f : Missing) (b n : ℕ) (name path : Text) (scopes : List ℕ) (above statements tree : List TreeStatement) → name ≡ path → scopes ≡ 0 ∷ [] → above ≡ [] → tree ≡ statements
     → Answers g f b n (λ missing out. LoadsWithin g missing 63 name scopes above out) (Ok statements) → Loads g f b n path (Ok tree)
 tree_loaded g f b n name path scopes above statements tree e i h k r =
     (r.0, subst (λ (x : List TreeStatement). LoadsFirst g (IsMissing g f b n) path (Ok x)) (sym k) (first g never (IsMissing g f b n) name path scopes above (Ok statements) (λ p x. absurd x) e i h r.1))

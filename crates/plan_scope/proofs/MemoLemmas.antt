@@ -1,4 +1,4 @@
--- Texts that are kept on the way to others.
+-- Texts that are kept on the way to others. Serves src/edge/memo.rt and src/edge/expansion.rt.
 use Rattle.std.proofs.Common.{◌≡◌, ℕ, zero, suc, Bool, true, false, ◌&&◌, bytes_eq, leb, ◌+◌, ◌-◌, ◌<◌, ◌≤◌, List, [], ◌∷◌, ◌++◌, length, take, get_or, Option, Some, None, Ok, Err, refl, ap, sym, subst, ◌∙◌, option_map, append-nil, append_assoc, length-append, arith, slice_range}
 use Rattle.std.proofs.Math.Seq.{drop-append_seam}
 use Rattle.std.proofs.lemmas.Bool.{leb-true}

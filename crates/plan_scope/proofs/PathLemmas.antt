@@ -1,4 +1,4 @@
--- Blocks and paths of which as much is kept.
+-- Blocks and paths of which as much is kept. Serves src/edge/paths.rt.
 use Rattle.std.proofs.Common.{◌≡◌, ℕ, ◌+◌, ◌<◌, ◌≤◌, Bool, true, false, ◌||◌, List, [], ◌∷◌, ◌++◌, length, map, Option, Ok, Err, refl, ap, sym, ◌∙◌, cond, inl, inr, arith, take, get_or}
 use Rattle.std.specs.List.{list_any}
 use Rattle.std.proofs.lemmas.Bool.{lt-ltb, ltb-false, ne_eqb}

@@ -1,4 +1,4 @@
--- The table of the bytes that a shell takes as they are.
+-- The table of the bytes that a shell takes as they are. Serves src/scope/text.rt, `is_plain`.
 use Rattle.std.proofs.Common.{◌≡◌, ℕ, zero, suc, ◌+◌, ◌<◌, Bool, true, false, ◌&&◌, not, List, [], ◌∷◌, length, get_or, refl, ap, sym, ◌∙◌, arith}
 use Rattle.plan_scope.specs.declared.scope.text.TheConstants.{PLAIN}
 use Rattle.plan_scope.specs.Expansion.{is_plain}

@@ -1,4 +1,4 @@
--- Numbers that grow with their digits.
+-- Numbers that grow with their digits. Serves src/manifest/pools.rt.
 use Rattle.std.proofs.Common.{◌≡◌, ◌<◌, ℕ, Bool, true, false, List, [], ◌∷◌, refl, ap, sym, ◌∙◌}
 use Rattle.std.proofs.Common.{inl, inr, Result, Err, length}
 use Rattle.std.proofs.lemmas.Bool.{lt-ltb}

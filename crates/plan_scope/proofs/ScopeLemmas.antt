@@ -1,4 +1,4 @@
--- What names stand for, as far as texts are kept.
+-- What names stand for, as far as texts are kept. Serves src/scope.rt.
 use Rattle.std.proofs.Common.{◌≡◌, ℕ, ◌+◌, ◌<◌, true, false, List, [], ◌∷◌, ◌++◌, length, Option, Some, None, refl, ap, sym, ◌∙◌, cond, option_map, take, get_or, append-nil}
 use Rattle.std.proofs.lemmas.List.{take_more}
 use Rattle.plan_parse.specs.declared.statement.StatementKind.{StatementKind}

@@ -1,4 +1,4 @@
--- What values by scope and name show of their map.
+-- What values by scope and name show of their map. Serves src/scope/scoped_map.rt.
 use Rattle.std.proofs.Common.{◌≡◌, ◌<◌, ℕ, zero, suc, Bool, true, false, ◌&&◌, List, [], ◌∷◌, ◌++◌, ◌==◌, Option, Some, None, refl, ap, sym, ◌∙◌, bytes_eq, cond, nat_eq, slice_index_or, slice_set, subst}
 use Rattle.std.proofs.lemmas.List.{get_or-set_same, length-set}
 use Rattle.std.proofs.lemmas.Slice.Eq.{bytes_eq-Decides}

@@ -1,4 +1,4 @@
--- What a small map shows of its map.
+-- What a small map shows of its map. Serves src/scope/small_map.rt.
 use Rattle.std.proofs.Common.{◌≡◌, ◌+◌, ◌<◌, ℕ, true, false, List, [], ◌∷◌, ◌++◌, length, take, get_or, Option, Some, None, refl, ap, sym, ◌∙◌, bytes_eq, cond, if◌then◌else◌, option_map, Bor}
 use Rattle.std.specs.Map.{lookup}
 use Rattle.std.proofs.lemmas.Slice.Eq.{bytes_eq-Decides}

@@ -1,4 +1,4 @@
--- Each manifest is sound.
+-- Each manifest is sound. Serves src/laws.rt, `manifests_are_sound`.
 use Rattle.std.proofs.Common.{◌≡◌, ℕ, suc, ◌≤◌, ◌⊎◌, inl, inr, Bool, true, false, not, ◌||◌, ◌&&◌, List, [], ◌∷◌, ◌++◌, length, map, Option, Some, None, Result, Ok, Err, refl, ap, sym, subst, ◌∙◌, bytes_eq, cond, leb, lit≤, arith, append-nil, append_assoc, flat_map, unwrap_or}
 use Rattle.std.specs.Prelude.{codes, is_none}
 use Rattle.std.specs.List.{All, list_any}

@@ -1,4 +1,4 @@
--- Texts of which as much is kept.
+-- Texts of which as much is kept. Serves src/scope/text.rt, and whatever keeps texts.
 use Rattle.std.proofs.Common.{◌≡◌, ℕ, ◌+◌, ◌<◌, ◌≤◌, Bool, true, false, List, [], ◌∷◌, ◌++◌, length, map, Option, Some, None, refl, ap, sym, ◌∙◌, cond, eqb, option_map, unwrap_or, flat_map, ◌⊎◌, inl, inr, arith, length-append, append_assoc, append-nil, take, get_or}
 use Rattle.std.proofs.lemmas.List.{take_more, map_more, map-append}
 use Rattle.std.proofs.lemmas.List.Concat.{flat_map-append}

@@ -1,4 +1,4 @@
--- Variables of which as much is kept, and the edges that they give.
+-- Variables of which as much is kept, and the edges that they give. Serves src/edge/variables.rt and src/edge/build_line.rt.
 use Rattle.std.proofs.Common.{◌≡◌, ℕ, zero, suc, Bool, true, false, not, ◌||◌, ◌&&◌, ◌<◌, List, [], ◌∷◌, length, map, Option, Some, None, Result, Ok, Err, refl, ap, sym, ◌∙◌, bytes_eq, option_map, cond, inl, inr, arith, subst}
 use Rattle.std.specs.Prelude.{codes, is_none}
 use Rattle.std.specs.List.{list_any, join_with_byte}

@@ -39,12 +39,7 @@ late bindings = map (λ b. (b.name, b.value)) bindings
 -- the rule that a statement declares, in its own scope
 abbrev pub rules_in : List ℕ → StatementKind → ScopedBindings (Bindings (List Piece))
 rules_in scopes (kind.Rule r) = in_own scopes r.name (late r.bindings)
-rules_in scopes (kind.Build b) = []
-rules_in scopes (kind.Pool p) = []
-rules_in scopes (kind.Default targets) = []
-rules_in scopes (kind.Include path) = []
-rules_in scopes (kind.Subninja path) = []
-rules_in scopes (kind.Binding b) = []
+rules_in scopes other = []
 
 abbrev pub rules_of : List TreeStatement → ScopedBindings (Bindings (List Piece))
 rules_of statements = flat_map (λ l. rules_in l.scopes l.kind) statements
@@ -61,12 +56,7 @@ is_taken rules scopes name = bytes_eq name (codes "phony") || has_own rules scop
 -- the name of the pool that a statement declares
 abbrev pub pools_in : StatementKind → List Name
 pools_in (kind.Pool p) = p.name ∷ []
-pools_in (kind.Rule r) = []
-pools_in (kind.Build b) = []
-pools_in (kind.Default targets) = []
-pools_in (kind.Include path) = []
-pools_in (kind.Subninja path) = []
-pools_in (kind.Binding b) = []
+pools_in other = []
 
 -- pools are shared by all files; `console` is always there
 abbrev pub pools_of : List TreeStatement → List Name
@@ -229,12 +219,7 @@ targets_by edges_above paths =
 
 abbrev pub builds_in : StatementKind → List Build
 builds_in (kind.Build b) = b ∷ []
-builds_in (kind.Rule r) = []
-builds_in (kind.Pool p) = []
-builds_in (kind.Default targets) = []
-builds_in (kind.Include path) = []
-builds_in (kind.Subninja path) = []
-builds_in (kind.Binding b) = []
+builds_in other = []
 
 abbrev pub builds_of : List TreeStatement → List Build
 builds_of statements = flat_map (λ l. builds_in l.kind) statements
@@ -265,9 +250,7 @@ manifest_of_kind all above scopes (kind.Rule r) = if is_taken (rules_of above) s
 manifest_of_kind all above scopes (kind.Build b) = map_ok edge_alone (edge_of_build (pools_of all) (rules_of above) scopes (lookup (bound_by above) scopes) (lookup (bound_by all) scopes) b)
 manifest_of_kind all above scopes (kind.Pool p) = map_ok pool_alone (pool_by (pools_of above) p.name (expand (lookup (bound_by above) scopes) p.depth))
 manifest_of_kind all above scopes (kind.Default targets) = map_ok defaults_alone (targets_by (length (builds_of above)) (paths_of (lookup (bound_by above) scopes) targets))
-manifest_of_kind all above scopes (kind.Include path) = Ok empty_manifest
-manifest_of_kind all above scopes (kind.Subninja path) = Ok empty_manifest
-manifest_of_kind all above scopes (kind.Binding b) = Ok empty_manifest
+manifest_of_kind all above scopes other = Ok empty_manifest
 
 abbrev pub in_front : TreeStatement → Result Manifest Cause → Result Manifest ScopeFault → Result Manifest ScopeFault
 in_front l (Err cause) more = Err (Refused l.path l.offset cause)

@@ -27,7 +27,7 @@ pub record Fits (e : Evaluation) (above : List TreeStatement) : Type 0 where
 
 -- what is bound and the pools of all statements
 pub record Knows (facts : TreeFacts) (all : List TreeStatement) : Type 0 where
-  pub bound : KeptEqScoped facts.bound (bound_by all)
+  pub bound : KeptEqScoped facts.bound.now (bound_by all)
   pub names : EqNames facts.pool_names (pools_of all)
 
 -- what was answered where this was to be put behind the manifest before

@@ -9,7 +9,6 @@ use Rattle.plan_scope.specs.declared.fault.Cause.{Cause}
 use Rattle.plan_scope.specs.declared.fault.Cause.TheVariants.{IncludeDepth, EmptyPath, PathTooLong, TextTooLong}
 use Rattle.plan_scope.specs.declared.fault.ScopeFault.{ScopeFault}
 use Rattle.plan_scope.specs.declared.fault.ScopeFault.TheVariants.{SourceMissing, Parse, Refused, LoadMemory}
-use Rattle.plan_scope.specs.declared.tree.Tree.{Tree}
 use Rattle.plan_scope.specs.Trees.{TreeStatement}
 use Rattle.plan_scope.specs.Scopes.{Text, Name, lookup, expand, bound_by, is_too_long, is_long_path, is_empty}
 use Rattle.plan_scope.specs.Edges.{first_of}
@@ -18,21 +17,12 @@ use Rattle.plan_scope.specs.Edges.{first_of}
 abbrev pub included_by : (Name → Text) → StatementKind → Option Text
 included_by here (kind.Include path) = Some (expand here path)
 included_by here (kind.Subninja path) = Some (expand here path)
-included_by here (kind.Rule r) = None
-included_by here (kind.Build b) = None
-included_by here (kind.Pool p) = None
-included_by here (kind.Default targets) = None
-included_by here (kind.Binding b) = None
+included_by here other = None
 
 -- a subninja file opens a scope of its own
 abbrev pub opens_scope : StatementKind → Bool
 opens_scope (kind.Subninja path) = true
-opens_scope (kind.Include path) = false
-opens_scope (kind.Rule r) = false
-opens_scope (kind.Build b) = false
-opens_scope (kind.Pool p) = false
-opens_scope (kind.Default targets) = false
-opens_scope (kind.Binding b) = false
+opens_scope other = false
 
 -- the own scope of a statement, the first that it sees
 abbrev pub own_scope : List ℕ → ℕ
@@ -60,10 +50,7 @@ abbrev pub cause_to_load : ℕ → (Name → Text) → StatementKind → Option 
 cause_to_load left here (kind.Binding b) = if is_too_long (expand here b.value) then Some TextTooLong else None
 cause_to_load left here (kind.Include path) = cause_of_path left (expand here path)
 cause_to_load left here (kind.Subninja path) = cause_of_path left (expand here path)
-cause_to_load left here (kind.Rule r) = None
-cause_to_load left here (kind.Build b) = None
-cause_to_load left here (kind.Pool p) = None
-cause_to_load left here (kind.Default targets) = None
+cause_to_load left here other = None
 
 -- what may be answered for a file: its path, its scopes, the statements above it, and the answer, all statements so far or a fault
 abbrev pub FileAnswers : Type 1
@@ -108,21 +95,21 @@ unfoldable pub LoadsWithin : (gives : Text → Option (List ℕ) → Type 0) →
 LoadsWithin gives missing zero = LoadsFile gives missing (λ path scopes above out. ⊥) 0
 LoadsWithin gives missing (suc left) = LoadsFile gives missing (LoadsWithin gives missing left) (suc left)
 
--- at most 64 files are open at once
-abbrev pub max_files : ℕ
-max_files = 64
+-- at most 64 files are open at once: so many beside the first
+abbrev pub more_files : ℕ
+more_files = 63
 
 -- the first file has scope 0
 abbrev pub LoadsFirst : (gives : Text → Option (List ℕ) → Type 0) → (missing : Text → Type 0) → Text → Result (List TreeStatement) ScopeFault → Type 0
-LoadsFirst gives missing path out = LoadsWithin gives missing 63 path (0 ∷ []) [] out
+LoadsFirst gives missing path out = LoadsWithin gives missing more_files path (0 ∷ []) [] out
 
 -- its read failed, and raised the count, or found no file, and didn't
 abbrev pub IsMissing : (gives : Text → Option (List ℕ) → Type 0) → (fails : Text → Type 0) → (before now : ℕ) → Text → Type 0
 IsMissing gives fails before now path = (gives path None × (now ≡ before)) ⊎ (fails path × (now ≡ before + 1))
 
 -- What is answered for the manifest at a path, by what the source may give and which reads may fail. Want of memory tells nothing; the count of failed reads rises where a read failed, and then alone.
-abbrev pub Loads : (gives : Text → Option (List ℕ) → Type 0) → (fails : Text → Type 0) → (before now : ℕ) → Text → Result Tree ScopeFault → Type 0
-Loads gives fails before now path (Ok tree) = (now ≡ before) × LoadsFirst gives (IsMissing gives fails before now) path (Ok tree.statements)
+abbrev pub Loads : (gives : Text → Option (List ℕ) → Type 0) → (fails : Text → Type 0) → (before now : ℕ) → Text → Result (List TreeStatement) ScopeFault → Type 0
+Loads gives fails before now path (Ok statements) = (now ≡ before) × LoadsFirst gives (IsMissing gives fails before now) path (Ok statements)
 Loads gives fails before now path (Err LoadMemory) = now ≡ before
 Loads gives fails before now path (Err (SourceMissing file)) = LoadsFirst gives (IsMissing gives fails before now) path (Err (SourceMissing file))
 Loads gives fails before now path (Err fault) = (now ≡ before) × LoadsFirst gives (IsMissing gives fails before now) path (Err fault)

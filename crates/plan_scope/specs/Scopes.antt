@@ -60,12 +60,7 @@ in_own (own ∷ outer) name value = (own, (name, value)) ∷ []
 -- what a statement binds, its right side expanded at once by the bindings above it
 abbrev pub bound_in : ScopedBindings Text → List ℕ → StatementKind → ScopedBindings Text
 bound_in above scopes (kind.Binding b) = in_own scopes b.name (expand (lookup above scopes) b.value)
-bound_in above scopes (kind.Rule r) = []
-bound_in above scopes (kind.Build b) = []
-bound_in above scopes (kind.Pool p) = []
-bound_in above scopes (kind.Default targets) = []
-bound_in above scopes (kind.Include path) = []
-bound_in above scopes (kind.Subninja path) = []
+bound_in above scopes other = []
 
 -- these bindings, and those of the statements behind them
 abbrev pub bound_past : ScopedBindings Text → List TreeStatement → ScopedBindings Text

@@ -2,7 +2,7 @@
 
 ghost use Rattle.std.specs.Prelude.{◌≡◌, ◌≤◌, ◌+◌, [], ◌∷◌, ◌++◌, List, length, IfOk, OnOk};
 ghost use Rattle.std.specs.List.{list_any};
-ghost use Rattle.plan_scope.specs.Scopes.{Name, ScopedBindings as Bound, Text, bound_by, bound_in, expand, in_own, is_too_long, lookup, value_of};
+ghost use Rattle.plan_scope.specs.Scopes.{Name, ScopedBindings as Bound, Text, bound_in, expand, in_own, is_too_long, lookup, value_of};
 ghost use Rattle.plan_text.specs.Limits.{max_text};
 ghost use Rattle.plan_scope.specs.Kept.{KeptEqScoped, KeptEqLookup, kept};
 ghost use Rattle.plan_scope.specs.ScopeNames.{names_in};
@@ -151,18 +151,4 @@ pub fn bind_statement(
         Said::Kept(kind) => bind(alloc, bound, statement.scopes(), kind),
         Said::Read(binding) => bind_own(alloc, bound, statement.scopes(), &binding),
     }
-}
-
-/// What statements bind.
-pub fn bound_by_statements(
-    alloc: Global,
-    statements: &[TreeStatement],
-) -> Result<ScopedMap<Items<u8>>, AllocError>
-    ensures { IfOk result (λ bound. KeptEqScoped bound (bound_by statements.now)) }
-{
-    let mut bound = ScopedMap::new(alloc);
-    for statement in statements {
-        bind_statement(alloc, &mut bound, statement)?;
-    }
-    Ok(bound)
 }

@@ -72,7 +72,7 @@ impl Source for Files {
 /// Whether the tree of a file has so many statements.
 fn has_lines(alloc: Global, path: &[u8], count: usize) -> bool {
     match load(alloc, &mut Files, path) {
-        Ok(tree) => tree.statements.as_slice().len() == count,
+        Ok(tree) => tree.statements().len() == count,
         Err(_) => false,
     }
 }
@@ -89,7 +89,7 @@ fn is_at(
     let Ok(tree) = load(alloc, &mut Files, tree) else {
         return false;
     };
-    match tree.statements.as_slice().get(index) {
+    match tree.statements().get(index) {
         Some(statement) => statement.path() == path
             && statement.offset() == offset
             && statement.scopes() == scopes,

@@ -2,13 +2,19 @@
 
 ghost use Rattle.std.specs.Prelude.{◌≡◌, IfOk, option_map};
 ghost use Rattle.plan_scope.specs.Trees.{IsKeptKind};
+ghost use Rattle.plan_scope.specs.Scopes.{bound_by};
+ghost use Rattle.plan_scope.specs.Kept.{KeptEqScoped};
 ghost use Rattle.plan_scope.specs.KindSaid.{kind_said};
+ghost use Rattle.plan_scope.specs.declared.fault.ScopeFault.TheVariants as scope_fault;
 
 mod loaded;
 pub(crate) mod loader;
 mod parsed;
 pub(crate) mod source;
 
+use crate::fault::{Cause, ScopeFault};
+use crate::scope::scoped_map::ScopedMap;
+use crate::scope::text::copy_of;
 use plan_parse::{Binding, CompactStatement, StatementKind, read_binding};
 use plan_text::Items;
 use std::alloc::{AllocError, Global};
@@ -66,6 +72,13 @@ impl TreeStatement {
         self.statement.offset()
     }
 
+    /// The fault that it is refused for a cause.
+    pub(crate) fn refusal(&self, alloc: Global, cause: Cause) -> Result<ScopeFault, AllocError>
+        ensures { IfOk result (λ fault. fault ≡ scope_fault.Refused self.now.path self.now.offset cause) }
+    {
+        Ok(ScopeFault::Refused(copy_of(alloc, self.path())?, self.offset(), cause))
+    }
+
     /// What it says, unless it is a binding whose place alone is kept.
     pub fn kept_kind(&self) -> Option<&StatementKind>
         ensures { IsKeptKind self.now.kind (option_map (λ k. k.now) result) }
@@ -104,5 +117,36 @@ impl TreeStatement {
 #[derive(Drop)]
 pub struct Tree {
     /// The statements in their order.
-    pub statements: Items<TreeStatement>,
+    statements: Items<TreeStatement>,
+    /// What they bind.
+    bound: ScopedMap<Items<u8>>,
+}
+
+impl Model for Tree {
+    ghost use Rattle.std.specs.Prelude.{List};
+    ghost use Rattle.plan_scope.specs.Trees as trees;
+    ghost use Rattle.plan_scope.specs.Scopes.{bound_by};
+    ghost use Rattle.plan_scope.specs.Kept.{KeptEqScoped};
+
+    ghost Value = { List trees.TreeStatement };
+
+    ghost view = { λ t. t.statements };
+
+    ghost invariant = { λ t. KeptEqScoped t.bound (bound_by t.statements) };
+}
+
+impl Tree {
+    /// The statements in their order.
+    pub fn statements(&self) -> &[TreeStatement]
+        ensures { result.now ≡ self.now }
+    {
+        self.statements.as_slice()
+    }
+
+    /// What they bind.
+    pub(crate) fn bound(&self) -> &ScopedMap<Items<u8>>
+        ensures { KeptEqScoped result.now (bound_by self.now) }
+    {
+        &self.bound
+    }
 }

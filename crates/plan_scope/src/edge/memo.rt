@@ -6,8 +6,7 @@ ghost use Rattle.plan_scope.specs.Expansion.{Meaning};
 ghost use Rattle.plan_scope.specs.Kept.{kept};
 ghost use Rattle.plan_scope.specs.Memo.{IsMemo, IsRecalled, IsMemoEntry, Says, text_by};
 
-use crate::scope::text::is_long;
-use crate::tree::loader::copy_of;
+use crate::scope::text::{copy_of, is_long};
 use plan_text::Items;
 use std::alloc::{AllocError, Global};
 

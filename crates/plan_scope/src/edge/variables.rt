@@ -14,8 +14,7 @@ ghost use Rattle.plan_scope.specs.declared.scope.text.Quoting.TheVariants.{Plain
 use crate::edge::expansion::{EdgeEnvironment, append_whole};
 use crate::edge::memo::MemoEntry;
 use crate::fault::StatementFault;
-use crate::scope::text::{Quoting, is_long};
-use crate::tree::loader::copy_of;
+use crate::scope::text::{Quoting, copy_of, is_long};
 use plan_text::Items;
 use std::alloc::{AllocError, Global};
 

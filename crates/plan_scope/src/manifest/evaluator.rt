@@ -6,7 +6,7 @@ ghost use Rattle.plan_parse.specs.declared.statement.Binding.{Binding};
 ghost use Rattle.plan_parse.specs.declared.statement.StatementKind.TheVariants as kinds;
 ghost use Rattle.plan_scope.specs.Trees.{TreeStatement as StatementMeant};
 ghost use Rattle.plan_scope.specs.Scopes.{Name, Text, expand, in_own, lookup};
-ghost use Rattle.plan_scope.specs.Edges.{edge_of_build, builds_in, builds_of, console, defaults_alone, edge_alone, edge_of_rule, manifest_of_kind, manifest_past, has_own, is_among, is_taken, late, manifest_of, map_ok, paths_of, pool_alone, pool_by, pools_in, pools_of, targets_by, with_front};
+ghost use Rattle.plan_scope.specs.Edges.{edge_of_build, builds_in, builds_of, console, defaults_alone, edge_alone, edge_of_rule, manifest_of_kind, manifest_past, has_own, is_among, is_taken, late, manifest_of, map_ok, paths_of, pool_alone, pool_by, targets_by, with_front};
 ghost use Rattle.plan_scope.specs.Kept.{EqScoped, EqNames, KeptEqLookup};
 ghost use Rattle.plan_scope.specs.ScopeNames.{names_in};
 ghost use Rattle.plan_scope.specs.Outcomes.{Gives};
@@ -16,12 +16,12 @@ use crate::edge::build_line::{edge, phony_edge};
 use crate::edge::rule_variables::RuleVariables;
 use crate::fault::{Cause, ScopeFault, StatementFault};
 use crate::manifest::defaults::targets;
-use crate::manifest::pool_names::PoolNames;
+use crate::manifest::pool_names::{CONSOLE, PoolNames};
 use crate::manifest::pools::pool;
 use crate::manifest::{DefaultTarget, Edge, Manifest, Pool};
 use crate::scope::scoped_map::ScopedMap;
-use crate::scope::{Scope, bind_statement, bound_by_statements};
-use crate::tree::loader::copy_of;
+use crate::scope::text::copy_of;
+use crate::scope::{Scope, bind_statement};
 use crate::tree::{Tree, TreeStatement};
 use plan_parse::{Build, Rule, StatementKind};
 use plan_text::{Items, PieceList};
@@ -31,7 +31,7 @@ use std::alloc::{AllocError, Global};
 #[derive(Drop)]
 pub struct TreeFacts<'a> {
     /// What is bound in all scopes.
-    pub bound: ScopedMap<Items<u8>>,
+    pub bound: &'a ScopedMap<Items<u8>>,
     /// The names of the pools.
     pub pool_names: PoolNames<'a>,
 }
@@ -53,57 +53,13 @@ pub struct Evaluation<'a> {
     pub defaults: Vec<DefaultTarget>,
 }
 
-/// The name of the pool that is there without a statement.
-const CONSOLE: &[u8] = b"console";
-
-/// Inserts the name of a pool that a statement declares.
-fn insert_declared<'a>(names: &mut PoolNames<'a>, kind: &'a StatementKind) -> Result<(), AllocError>
-    ensures { OnOk result ((n : List ℕ) → is_among names.new n ≡ is_among (names.old ++ pools_in kind.now) n) }
-{
-    match kind {
-        StatementKind::Pool(declared) => names.insert(declared.name.as_slice()),
-        _ => Ok(()),
-    }
-}
-
-/// Inserts the name of a pool that a statement declares.
-fn insert_from_statement<'a>(
-    names: &mut PoolNames<'a>,
-    statement: &'a TreeStatement,
-) -> Result<(), AllocError>
-    ensures { OnOk result ((n : List ℕ) → is_among names.new n ≡ is_among (names.old ++ pools_in statement.now.kind) n) }
-{
-    match statement.kept_kind() {
-        Some(kind) => insert_declared(names, kind),
-        None => Ok(()),
-    }
-}
-
-/// The names of the pools of a tree.
-fn pool_names<'a>(
-    alloc: Global,
-    statements: &'a [TreeStatement],
-) -> Result<PoolNames<'a>, AllocError>
-    ensures { IfOk result (λ names. EqNames names (pools_of statements.now)) }
-{
-    let mut names = PoolNames::new(alloc);
-    names.insert(CONSOLE)?;
-    for statement in statements {
-        insert_from_statement(&mut names, statement)?;
-    }
-    Ok(names)
-}
-
 /// What all statements give.
-fn facts_of_tree<'a>(
-    alloc: Global,
-    statements: &'a [TreeStatement],
-) -> Result<TreeFacts<'a>, AllocError>
-    ensures { IfOk result (λ w. Knows w statements.now) }
+fn facts_of_tree<'a>(alloc: Global, tree: &'a Tree) -> Result<TreeFacts<'a>, AllocError>
+    ensures { IfOk result (λ facts. Knows facts tree.now) }
 {
     Ok(TreeFacts {
-        bound: bound_by_statements(alloc, statements)?,
-        pool_names: pool_names(alloc, statements)?,
+        bound: tree.bound(),
+        pool_names: PoolNames::of_tree(alloc, tree.statements())?,
     })
 }
 
@@ -272,7 +228,7 @@ fn add_build<'a>(
     scopes: &'a [usize],
     build: &'a Build,
 ) -> Result<(), StatementFault>
-    ensures given { (names : List Name) (h f : Name → Text) → EqNames facts.now.pool_names names → KeptEqLookup (lookup so_far.old.bound scopes.now) h → KeptEqLookup (lookup facts.now.bound scopes.now) f
+    ensures given { (names : List Name) (h f : Name → Text) → EqNames facts.now.pool_names names → KeptEqLookup (lookup so_far.old.bound scopes.now) h → KeptEqLookup (lookup facts.now.bound.now scopes.now) f
         → GivesMore (manifest_in so_far.old) (manifest_in so_far.new) result (map_ok edge_alone (edge_of_build names so_far.old.rules scopes.now h f build.now)) }
     ensures count { OnOk result (length so_far.new.edges.items ≡ length so_far.old.edges.items + 1) }
     ensures bound { so_far.new.bound ≡ so_far.old.bound }
@@ -284,7 +240,7 @@ fn add_build<'a>(
         scopes,
     };
     let file = Scope {
-        bound: &facts.bound,
+        bound: facts.bound,
         scopes,
     };
     let edge = edge_of_build(alloc, &facts.pool_names, &so_far.rules, here, file, build)?;
@@ -402,8 +358,8 @@ fn fault_at(alloc: Global, statement: &TreeStatement, fault: StatementFault) -> 
     ensures { IsLocated fault statement.now result }
 {
     match fault {
-        StatementFault::Refused(cause) => match copy_of(alloc, statement.path()) {
-            Ok(path) => ScopeFault::Refused(path, statement.offset(), cause),
+        StatementFault::Refused(cause) => match statement.refusal(alloc, cause) {
+            Ok(fault) => fault,
             Err(_) => ScopeFault::Memory,
         },
         StatementFault::Memory => ScopeFault::Memory,
@@ -430,13 +386,11 @@ fn evaluate_statements<'a>(
 }
 
 /// What the statements of a tree give, `console` among the pools.
-fn evaluate_tree<'a>(
-    alloc: Global,
-    statements: &'a [TreeStatement],
-) -> Result<Evaluation<'a>, ScopeFault>
-    ensures { Meets ScopeFault.Memory manifest_in result (manifest_of statements.now) }
+fn evaluate_tree<'a>(alloc: Global, tree: &'a Tree) -> Result<Evaluation<'a>, ScopeFault>
+    ensures { Meets ScopeFault.Memory manifest_in result (manifest_of tree.now) }
 {
-    let facts = facts_of_tree(alloc, statements)?;
+    let statements = tree.statements();
+    let facts = facts_of_tree(alloc, tree)?;
     let so_far = initial_evaluation(alloc, edge_count(statements))?;
     evaluate_statements(alloc, &facts, so_far, statements)
 }
@@ -447,14 +401,14 @@ fn evaluate_tree<'a>(
 ///
 /// `Refused` with the first statement that is at fault, and the cause of the least number that it has; `Memory`.
 pub fn evaluate(alloc: Global, tree: &Tree) -> Result<Manifest, ScopeFault>
-    ensures { Meets ScopeFault.Memory (λ m. m) result (manifest_of tree.now.statements) }
+    ensures { Meets ScopeFault.Memory (λ m. m) result (manifest_of tree.now) }
 {
     let Evaluation {
         edges,
         pools,
         defaults,
         ..
-    } = evaluate_tree(alloc, tree.statements.as_slice())?;
+    } = evaluate_tree(alloc, tree)?;
     Ok(Manifest {
         edges: Items::new(edges),
         pools: Items::new(pools),

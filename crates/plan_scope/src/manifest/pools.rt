@@ -11,9 +11,8 @@ ghost use Rattle.plan_scope.specs.ScopeNames.{names_in};
 use crate::fault::{Cause, StatementFault};
 use crate::manifest::Pool;
 use crate::manifest::pool_names::PoolNames;
-use crate::scope::text::is_long;
+use crate::scope::text::{copy_of, is_long};
 use crate::scope::{Scope, expand_pieces};
-use crate::tree::loader::copy_of;
 use plan_text::number_in;
 use std::alloc::Global;
 

@@ -1,6 +1,6 @@
 //! Texts that are put together, as far as they are kept.
 
-ghost use Rattle.std.specs.Prelude.{◌≡◌, ◌≤◌, ◌+◌, ◌++◌, length, OnOk};
+ghost use Rattle.std.specs.Prelude.{◌≡◌, ◌≤◌, ◌+◌, ◌++◌, length, IfOk, OnOk};
 ghost use Rattle.std.specs.List.{join_with_byte, list_all};
 ghost use Rattle.plan_scope.specs.Expansion.{escaped, is_plain, quoted};
 ghost use Rattle.plan_scope.specs.Scopes.{is_too_long};
@@ -9,8 +9,8 @@ ghost use Rattle.plan_scope.specs.Kept.{kept};
 ghost use Rattle.plan_scope.specs.ShellQuoting.{quoted_as};
 ghost use Rattle.std.specs.Prelude.{map, flat_map, [], ◌∷◌, if◌then◌else◌};
 
-use plan_text::{MAX_TEXT, SmallText};
-use std::alloc::AllocError;
+use plan_text::{Items, MAX_TEXT, SmallText};
+use std::alloc::{AllocError, Global};
 
 /// How a path is shown.
 #[derive(Clone, Copy)]
@@ -19,6 +19,13 @@ pub enum Quoting {
     Plain,
     /// For a shell.
     Shell,
+}
+
+/// A copy of a text.
+pub fn copy_of(alloc: Global, text: &[u8]) -> Result<Items<u8>, AllocError>
+    ensures { IfOk result (λ copy. copy ≡ text.now) }
+{
+    Ok(Items::new(Vec::from_slice(alloc, text)?))
 }
 
 /// Whether a text is too long.

@@ -7,7 +7,7 @@ ghost use Rattle.plan_scope.specs.Kept.{KeptEqScoped};
 ghost use Rattle.plan_scope.specs.Loading.{fresh_scope, greatest_scope, own_scope};
 
 use crate::scope::scoped_map::ScopedMap;
-use crate::tree::TreeStatement;
+use crate::tree::{Tree, TreeStatement};
 use plan_text::Items;
 use std::alloc::{AllocError, Global};
 use std::marker::Model;
@@ -87,15 +87,18 @@ impl Loaded {
         }
     }
 
-    /// The statements.
-    pub fn into_lines(self) -> Items<TreeStatement>
+    /// The tree of these statements.
+    pub fn into_tree(self) -> Tree
         ensures { result ≡ self }
     {
         let Loaded {
             statements,
-            bound: _,
+            bound,
             greatest: _,
         } = self;
-        Items::new(statements)
+        Tree {
+            statements: Items::new(statements),
+            bound,
+        }
     }
 }

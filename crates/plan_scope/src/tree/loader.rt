@@ -11,6 +11,7 @@ ghost use Rattle.plan_scope.specs.LoaderAnswers.{Answers, IsBound, IsRead, IsRef
 ghost use Rattle.plan_scope.specs.ScopeNames.{names_in};
 
 use crate::fault::{Cause, ReadFault, ScopeFault, StatementFault};
+use crate::scope::text::copy_of;
 use crate::scope::{Scope, bind_statement, expand_pieces};
 use crate::tree::loaded::{Loaded, own_scope};
 use crate::tree::parsed::Parsed;
@@ -27,19 +28,12 @@ const MORE_FILES: usize = 63;
 /// The first file's scope.
 const FIRST_SCOPE: usize = 0;
 
-/// A copy of a text.
-pub fn copy_of(alloc: Global, text: &[u8]) -> Result<Items<u8>, AllocError>
-    ensures { IfOk result (λ copy. copy ≡ text.now) }
-{
-    Ok(Items::new(Vec::from_slice(alloc, text)?))
-}
-
 /// The fault of a statement.
 fn refused(alloc: Global, statement: &TreeStatement, cause: Cause) -> ScopeFault
     ensures { IsRefusal statement.now cause result }
 {
-    match copy_of(alloc, statement.path()) {
-        Ok(path) => ScopeFault::Refused(path, statement.offset(), cause),
+    match statement.refusal(alloc, cause) {
+        Ok(fault) => fault,
         Err(_) => ScopeFault::LoadMemory,
     }
 }
@@ -313,9 +307,7 @@ pub fn load<S: Source>(alloc: Global, source: &mut S, path: &[u8]) -> Result<Tre
     };
     let none = Loaded::new(alloc);
     match load_file(alloc, source, none, name, Items::new(scopes), MORE_FILES) {
-        Ok(loaded) => Ok(Tree {
-            statements: loaded.into_lines(),
-        }),
+        Ok(loaded) => Ok(loaded.into_tree()),
         Err(fault) => Err(fault),
     }
 }

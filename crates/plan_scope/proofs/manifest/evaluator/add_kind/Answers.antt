@@ -31,7 +31,7 @@ returns-in-Build-clause-given c = λ all above fits facts.
     let now = manifest_in c.add_build.new.so_far in
     let scopes = c.scopes-scopes.result.now in
     let b = c.in-Build.build in
-    let held = c.add_build.ensures.given (pools_of all) (lookup (bound_by above) scopes) (lookup (bound_by all) scopes) facts.names (stands e.bound (bound_by above) fits.bound scopes) (stands c.args.facts.now.bound (bound_by all) facts.bound scopes) in
+    let held = c.add_build.ensures.given (pools_of all) (lookup (bound_by above) scopes) (lookup (bound_by all) scopes) facts.names (stands e.bound (bound_by above) fits.bound scopes) (stands c.args.facts.now.bound.now (bound_by all) facts.bound scopes) in
     let ruled = subst (λ r. GivesMore before now c.add_build.result (map_ok edge_alone r)) (built_same (pools_of all) e.rules (rules_of above) scopes (lookup (bound_by above) scopes) (lookup (bound_by all) scopes) b fits.rules) held in
     let seen = subst (λ (x : List ℕ). GivesMore before now c.add_build.result (map_ok edge_alone (edge_of_build (pools_of all) (rules_of above) x (lookup (bound_by above) x) (lookup (bound_by all) x) b))) c.scopes-scopes.ensures ruled in
     subst (λ (k : StatementKind). GivesMore before now c.add_build.result (manifest_of_kind all above c.args.statement.now.scopes k)) (sym (c.requires ∙ c.in-Build.is)) seen

@@ -1,5 +1,5 @@
 use Rattle.plan_scope.proofs.EvaluatorLemmas.{pools_taken}
-use Rattle.plan_scope.proofs.manifest.evaluator.pool_names.Goals as goal
+use Rattle.plan_scope.proofs.manifest.pool_names.PoolNames.of_tree.Goals as goal
 
 pub loop-statement-preserved : goal.loop-statement-preserved
 loop-statement-preserved c =
