@@ -31,10 +31,11 @@ pools_more above l =
     ap (λ (names : List Name). codes "console" ∷ names) (flat_map-append (λ (l : TreeStatement). pools_in l.kind) above (l ∷ []) ∙ ap (λ (names : List Name). flat_map (λ (l : TreeStatement). pools_in l.kind) above ++ names) (append-nil (pools_in l.kind)))
 
 -- the same names, with the same behind them
-pub names_behind : (held meant more : List Name) → EqNames held meant → EqNames (held ++ more) (meant ++ more)
+names_behind : (held meant more : List Name) → EqNames held meant → EqNames (held ++ more) (meant ++ more)
 names_behind held meant more same n =
     list_any-append (bytes_eq n) held more ∙ (ap (λ (t : Bool). t || is_among more n) (same n) ∙ sym (list_any-append (bytes_eq n) meant more))
 
+-- the names of the pools of one more statement
 pub pools_taken : (all : List TreeStatement) (i : ℕ) (l : TreeStatement) (held now : List Name) → i < length all → l ≡ get_or all i l → EqNames held (pools_of (take i all))
     → ((n : Name) → is_among now n ≡ is_among (held ++ pools_in l.kind) n) → EqNames now (pools_of (take (i + 1) all))
 pools_taken all i l held now lt e same h n =
@@ -47,7 +48,7 @@ pub own_bound : {V : Type 0} (scopes : List ℕ) (own : ℕ) (word name : Name) 
 own_bound [] own word name v w e f g = cc
 own_bound (o ∷ outer) own word name v w e f g = cc
 
-pub none_bound : {V : Type 0} (scopes : List ℕ) (name : Name) (v : V) → own_of scopes ≡ None → in_own scopes name v ≡ []
+none_bound : {V : Type 0} (scopes : List ℕ) (name : Name) (v : V) → own_of scopes ≡ None → in_own scopes name v ≡ []
 none_bound [] name v e = refl
 none_bound (o ∷ outer) name v e = cc
 
@@ -59,6 +60,7 @@ edge_behind edges now pools defaults edge e =
     ∙ (ap (λ (l : List Pool). record { edges = edges ++ edge ∷ []; pools = l; defaults = defaults }) (sym (append-nil pools))
     ∙ ap (λ (l : List DefaultTarget). record { edges = edges ++ edge ∷ []; pools = pools ++ []; defaults = l }) (sym (append-nil defaults)))
 
+-- one more pool
 pub pool_behind : (edges : List Edge) (pools now : List Pool) (defaults : List DefaultTarget) (pool : Pool) → now ≡ pools ++ pool ∷ []
     → record { edges = edges; pools = now; defaults = defaults } ≡ with_more (record { edges = edges; pools = pools; defaults = defaults }) (pool_alone pool)
 pool_behind edges pools now defaults pool e =
@@ -66,6 +68,7 @@ pool_behind edges pools now defaults pool e =
     ∙ (ap (λ (l : List Edge). record { edges = l; pools = pools ++ pool ∷ []; defaults = defaults }) (sym (append-nil edges))
     ∙ ap (λ (l : List DefaultTarget). record { edges = edges ++ []; pools = pools ++ pool ∷ []; defaults = l }) (sym (append-nil defaults)))
 
+-- some more targets
 pub targets_behind : (edges : List Edge) (pools : List Pool) (defaults now targets : List DefaultTarget) → now ≡ defaults ++ targets
     → record { edges = edges; pools = pools; defaults = now } ≡ with_more (record { edges = edges; pools = pools; defaults = defaults }) (defaults_alone targets)
 targets_behind edges pools defaults now targets e =
@@ -73,6 +76,7 @@ targets_behind edges pools defaults now targets e =
     ∙ (ap (λ (l : List Edge). record { edges = l; pools = pools; defaults = defaults ++ targets }) (sym (append-nil edges))
     ∙ ap (λ (l : List Pool). record { edges = edges ++ []; pools = l; defaults = defaults ++ targets }) (sym (append-nil pools)))
 
+-- a statement that gives nothing changes nothing
 pub nothing_behind : (m : Manifest) → m ≡ with_more m empty_manifest
 nothing_behind m =
     ap (λ (l : List Edge). record { edges = l; pools = m.pools; defaults = m.defaults }) (sym (append-nil m.edges))
@@ -94,6 +98,7 @@ fits_none bound rules names edges e f g h = (
   ap (λ (l : List Edge). length l) h,
 )
 
+-- the manifest of no statement has the pool `console` alone
 pub manifest_alone : (edges : List Edge) (before pools : List Pool) (defaults : List DefaultTarget) (name : Name) → edges ≡ [] → before ≡ [] → pools ≡ before ++ record { name = name; depth = 1 } ∷ [] → name ≡ codes "console" → defaults ≡ []
     → record { edges = edges; pools = pools; defaults = defaults } ≡ pool_alone console
 manifest_alone edges before pools defaults name e f g h k =
@@ -123,13 +128,13 @@ frame_append {V} s (x ∷ a) b =
     ∙ elim (eqb x.0 s) as (λ t. cond t (x.1 ∷ (frame s a ++ frame s b)) (frame s a ++ frame s b) ≡ cond t (x.1 ∷ frame s a) (frame s a) ++ frame s b) [ true ↦ refl | false ↦ refl ]
 
 -- the same values, with the same behind them
-pub same_behind : {V : Type 0} (held meant more : ScopedBindings V) → EqScoped held meant → EqScoped (held ++ more) (meant ++ more)
+same_behind : {V : Type 0} (held meant more : ScopedBindings V) → EqScoped held meant → EqScoped (held ++ more) (meant ++ more)
 same_behind {V} held meant more same s n =
     ap (last_of n) (frame_append s held more) ∙ (last_of_append n (frame s held) (frame s more)
     ∙ (ap (or_else (last_of n (frame s more))) (same s n)
     ∙ (sym (last_of_append n (frame s meant) (frame s more)) ∙ ap (last_of n) (sym (frame_append s meant more)))))
 
-pub same_nearest : {V : Type 0} (held meant : ScopedBindings V) → EqScoped held meant → (scopes : List ℕ) (n : Name) → nearest held scopes n ≡ nearest meant scopes n
+same_nearest : {V : Type 0} (held meant : ScopedBindings V) → EqScoped held meant → (scopes : List ℕ) (n : Name) → nearest held scopes n ≡ nearest meant scopes n
 same_nearest held meant same [] n = refl
 same_nearest held meant same (s ∷ outer) n =
     ap (λ o. or_else o (nearest held outer n)) (same s n) ∙ ap (or_else (last_of n (frame s meant))) (same_nearest held meant same outer n)
@@ -138,6 +143,7 @@ rules_more : (above : List TreeStatement) (l : TreeStatement) → rules_of (abov
 rules_more above l =
     flat_map-append (λ (l : TreeStatement). rules_in l.scopes l.kind) above (l ∷ []) ∙ ap (λ (x : ScopedBindings (Bindings (List Piece))). rules_of above ++ x) (append-nil (rules_in l.scopes l.kind))
 
+-- the build lines of one more statement
 pub builds_more : (above : List TreeStatement) (l : TreeStatement) → length (builds_of (above ++ l ∷ [])) ≡ length (builds_of above) + length (builds_in l.kind)
 builds_more above l =
     ap (λ (x : List Build). length x) (flat_map-append (λ (l : TreeStatement). builds_in l.kind) above (l ∷ []) ∙ ap (λ (x : List Build). builds_of above ++ x) (append-nil (builds_in l.kind)))
@@ -167,9 +173,11 @@ known_more bound rules held names names_held count count_held above l k e f g h 
   n ∙ (ap (λ (c : ℕ). c + length (builds_in k)) m ∙ (ap (λ (y : StatementKind). length (builds_of above) + length (builds_in y)) (sym e) ∙ sym (builds_more above l))),
 )
 
+-- nothing behind values changes none
 pub same_end : {V : Type 0} (held : ScopedBindings V) → EqScoped held (held ++ [])
 same_end {V} held s n = ap (λ (bs : ScopedBindings V). last_of n (frame s bs)) (sym (append-nil held))
 
+-- nothing behind names changes none
 pub names_end : (names : List Name) (n : Name) → is_among names n ≡ is_among (names ++ []) n
 names_end names n = ap (λ (ns : List Name). is_among ns n) (sym (append-nil names))
 
@@ -190,10 +198,12 @@ pub built_same : (names : List Name) (held rules : ScopedBindings (Bindings (Lis
 built_same names held rules scopes h f b same =
     ap (λ (o : Option (Bindings (List Piece))). cond (bytes_eq b.rule (codes "phony")) (edge_or_refusal names h b (phony_variables (environment_of h f b [])) true) (edge_of_rule names h f b o)) (same_nearest held rules same scopes b.rule)
 
+-- what holds anyway holds of an Ok
 pub on_ok_always : {T E P : Type 0} (r : Result T E) → P → OnOk r P
 on_ok_always (Ok x) p = p
 on_ok_always (Err e) p = tt
 
+-- the statements up to the next one
 pub taken_more : (all : List TreeStatement) (i : ℕ) (l : TreeStatement) → i < length all → l ≡ get_or all i l → take (i + 1) all ≡ take i all ++ l ∷ []
 taken_more all i l lt e = take_more all i l lt ∙ ap (λ x. take i all ++ x ∷ []) (sym e)
 

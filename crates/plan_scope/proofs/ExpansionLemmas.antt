@@ -14,7 +14,7 @@ within_known meaning zero in_use name t e = ap (λ m. text_of m true (λ pieces.
 within_known meaning (suc n) in_use name t e = ap (λ m. text_of m (list_any (bytes_eq name) in_use) (joined (text_within n meaning (name ∷ in_use)))) e
 
 -- each text that the first gives, the second gives
-abbrev pub Less : {X : Type 0} → (X → Option Text) → (X → Option Text) → Type 0
+abbrev Less : {X : Type 0} → (X → Option Text) → (X → Option Text) → Type 0
 Less {X} f g = (x : X) (t : Text) → f x ≡ Some t → g x ≡ Some t
 
 both_more : (a b c d : Option Text) → ((t : Text) → a ≡ Some t → c ≡ Some t) → ((t : Text) → b ≡ Some t → d ≡ Some t) → (t : Text) → both a b ≡ Some t → both c d ≡ Some t
@@ -121,8 +121,10 @@ equal_by (Some x) b h k = sym (h x refl)
 pub within_is_by : (m : Name → Meaning) (n : ℕ) (x : Name) → text_within n m [] x ≡ text_by n m x
 within_is_by m n x = equal_by (text_within n m [] x) (text_by n m x) (within_by m n [] x) (by_within m n n (omega arith) [] (tt {0}) x)
 
+-- more steps give a piece the same text
 pub piece_by : (m : Name → Meaning) (n k : ℕ) → n ≤ k → (p : Piece) (t : Text) → text_of_piece (text_by n m) p ≡ Some t → text_of_piece (text_by k m) p ≡ Some t
 piece_by m n k le = piece_more (text_by n m) (text_by k m) (by_more m n k le)
 
+-- more steps give pieces the same text
 pub joined_by : (m : Name → Meaning) (n k : ℕ) → n ≤ k → (ps : List Piece) (t : Text) → joined (text_by n m) ps ≡ Some t → joined (text_by k m) ps ≡ Some t
 joined_by m n k le = joined_more (text_by n m) (text_by k m) (by_more m n k le)

@@ -23,12 +23,15 @@ use Rattle.plan_scope.specs.LoaderAnswers.{Answers, LoadsOne, IsIncluded, never,
 use Rattle.plan_scope.proofs.ScopeLemmas.{agrees_more}
 use Rattle.plan_scope.proofs.TextLemmas.{Same, same_from_kept}
 
+-- what a source may give under a path
 abbrev pub Gives : Type 1
 Gives = Text → Option (List ℕ) → Type 0
 
+-- which paths may be missing
 abbrev pub Missing : Type 1
 Missing = Text → Type 0
 
+-- all statements so far, or a fault
 abbrev pub Outcome : Type 0
 Outcome = Result (List TreeStatement) ScopeFault
 
@@ -45,7 +48,7 @@ line_wider answers wide next more t n above l None (Some file) out r =
     (r.0, t file (scopes_in above l.scopes l.kind) above r.0 r.1, goes_wider next more r.0 out n r.2)
 
 -- what includes more files loads as much
-pub all_wider : (answers wide : FileAnswers) → ((path : Text) (scopes : List ℕ) (above : List TreeStatement) (out : Outcome) → answers path scopes above out → wide path scopes above out)
+all_wider : (answers wide : FileAnswers) → ((path : Text) (scopes : List ℕ) (above : List TreeStatement) (out : Outcome) → answers path scopes above out → wide path scopes above out)
     → (left : ℕ) (path : Text) (scopes : List ℕ) (statements : List Statement) (above : List TreeStatement) (out : Outcome)
     → LoadsStatements answers left path scopes above statements out → LoadsStatements wide left path scopes above statements out
 all_wider answers wide t left path scopes [] above out r = r
@@ -68,7 +71,7 @@ file_wider g h m n answers wide left gh mn t path scopes above out (inr r) =
     inr (r.0, gh path (Some r.0) r.1, parsed_wider answers wide t left path scopes above (statements_of r.0) out r.2)
 
 -- what gives more, or misses more, loads as much
-pub within_wider : (g h : Gives) (m n : Missing) → ((p : Text) (bytes : Option (List ℕ)) → g p bytes → h p bytes) → ((p : Text) → m p → n p)
+within_wider : (g h : Gives) (m n : Missing) → ((p : Text) (bytes : Option (List ℕ)) → g p bytes → h p bytes) → ((p : Text) → m p → n p)
     → (left : ℕ) (path : Text) (scopes : List ℕ) (above : List TreeStatement) (out : Outcome) → LoadsWithin g m left path scopes above out → LoadsWithin h n left path scopes above out
 unfolding LoadsWithin
 within_wider g h m n gh mn zero path scopes above out r =
@@ -76,7 +79,7 @@ within_wider g h m n gh mn zero path scopes above out r =
 within_wider g h m n gh mn (suc left) path scopes above out r =
     file_wider g h m n (LoadsWithin g m left) (LoadsWithin h n left) (suc left) gh mn (within_wider g h m n gh mn left) path scopes above out r
 
-pub takes_wider : (g h : Gives) (m n : Missing) → ((p : Text) (bytes : Option (List ℕ)) → g p bytes → h p bytes) → ((p : Text) → m p → n p)
+takes_wider : (g h : Gives) (m n : Missing) → ((p : Text) (bytes : Option (List ℕ)) → g p bytes → h p bytes) → ((p : Text) → m p → n p)
     → (left : ℕ) (path : Text) (scopes : List ℕ) (above : List TreeStatement) (out : Outcome) → includes g m left path scopes above out → includes h n left path scopes above out
 takes_wider g h m n gh mn zero path scopes above out r = r
 takes_wider g h m n gh mn (suc left) path scopes above out r = within_wider g h m n gh mn left path scopes above out r
@@ -98,7 +101,7 @@ same_files g h i e f k a b = (
 )
 
 -- an answer by what is loaded, where the same count of failed reads stood before
-pub answers_wider : (g h : Gives) (f k : Missing) (b c n : ℕ) (R S : Missing → Outcome → Type 0) (result : Outcome) → ((p : Text) (bytes : Option (List ℕ)) → g p bytes → h p bytes) → ((p : Text) → f p → k p) → b ≡ c
+answers_wider : (g h : Gives) (f k : Missing) (b c n : ℕ) (R S : Missing → Outcome → Type 0) (result : Outcome) → ((p : Text) (bytes : Option (List ℕ)) → g p bytes → h p bytes) → ((p : Text) → f p → k p) → b ≡ c
     → ((m o : Missing) → ((p : Text) → m p → o p) → R m result → S o result) → Answers g f b n R result → Answers h k c n S result
 answers_wider g h f k b c n R S (Ok statements) gh fk e w r = (r.0 ∙ e, w never never (λ p x. x) r.1)
 answers_wider g h f k b c n R S (Err LoadMemory) gh fk e w r = r ∙ e
@@ -145,7 +148,7 @@ line_then answers next more above l statements out h None None r = h (above ++ l
 line_then answers next more above l statements out h None (Some file) r = (r.0, r.1, goes_then next more r.0 statements out h r.2)
 
 -- statements, and those behind them
-pub all_then : (answers : FileAnswers) (left : ℕ) (path : Text) (scopes : List ℕ) (front back : List Statement) (above statements : List TreeStatement) (out : Outcome)
+all_then : (answers : FileAnswers) (left : ℕ) (path : Text) (scopes : List ℕ) (front back : List Statement) (above statements : List TreeStatement) (out : Outcome)
     → LoadsStatements answers left path scopes above front (Ok statements) → LoadsStatements answers left path scopes statements back out → LoadsStatements answers left path scopes above (front ++ back) out
 all_then answers left path scopes [] back above statements out r q =
     let e : statements ≡ above = cc in
@@ -160,7 +163,7 @@ goes_stop more (Ok statements) fault r = cc
 goes_stop more (Err other) fault r = r
 
 -- the fault of a statement is that of all
-pub one_stops : (answers : FileAnswers) (more : RestAnswers) (above : List TreeStatement) (l : TreeStatement) (fault : ScopeFault) (cause : Option Cause) (file : Option Text)
+one_stops : (answers : FileAnswers) (more : RestAnswers) (above : List TreeStatement) (l : TreeStatement) (fault : ScopeFault) (cause : Option Cause) (file : Option Text)
     → LoadsStatement answers (λ statements out. out ≡ Ok statements) above l cause file (Err fault) → LoadsStatement answers more above l cause file (Err fault)
 one_stops answers more above l fault (Some cause) file r = r
 one_stops answers more above l fault None None r = cc
@@ -326,6 +329,7 @@ tree_failed g f b n name path scopes above (Parse file fault) e i h r = (r.0, fi
 tree_failed g f b n name path scopes above (Refused file offset cause) e i h r = (r.0, first g never (IsMissing g f b n) name path scopes above (Err (Refused file offset cause)) (λ p x. absurd x) e i h r.1)
 tree_failed g f b n name path scopes above Memory e i h r = (r.0, first g never (IsMissing g f b n) name path scopes above (Err Memory) (λ p x. absurd x) e i h r.1)
 
+-- a list whose end is empty is its front
 pub none_left : {A : Type 0} (front back all : List A) → length back ≡ 0 → front ++ back ≡ all → front ≡ all
 none_left front [] all e f = sym (append-nil front) ∙ f
 none_left front (x ∷ back) all e f = let g : ⊥ = omega (arith, e) in absurd g

@@ -32,7 +32,7 @@ found_long m s out lt h =
     (omega arith, ap (option_map (λ t. kept (out ++ t))) h.1 ∙ ap (λ (o : Option Text). Some o) (both_long (out ++ h.0) (out ++ []) (omega (arith, length-append out h.0)) (omega (arith, length-append {A = ℕ} out []))))
 
 -- a variable whose text is kept
-pub found_text : (m : Name → Meaning) (s : MemoEntry) (out text : Text) → s.text ≡ Some text → IsMemoEntry m s → IsRecalled m s.depth s.name.now out (Some (s.depth, text))
+found_text : (m : Name → Meaning) (s : MemoEntry) (out text : Text) → s.text ≡ Some text → IsMemoEntry m s → IsRecalled m s.depth s.name.now out (Some (s.depth, text))
 found_text m s out text e h =
     let said : text ≡ h.0 = subst (λ (o : Option Text). Says o h.0) e h.2 in
     (omega arith, ap (option_map (λ t. kept (out ++ t))) h.1 ∙ ap (λ (t : Text). Some (kept (out ++ t))) (sym said))
@@ -157,6 +157,7 @@ whole_appended m left depth name before now done h =
     ap (option_map (λ t. kept (before ++ t))) (within_is_by m left name)
     ∙ as_much (λ t. kept (before ++ t)) (text_by depth m name) (text_by left m name) (kept now) (by_more m depth left h.0 name) h.1
 
+-- a refusal within some steps is one by names in use
 pub whole_refused : (m : Meant) (left : ℕ) (name : Name) (before now : Text) (fault : StatementFault) → AppendsBy before now left (Err fault) (λ n. text_by n m name) → Appends before now (Err fault) (text_within left m [] name)
 whole_refused m left name before now (Refused cause) h = (within_is_by m left name ∙ h.0, h.1)
 whole_refused m left name before now Memory h = tt {0}

@@ -28,5 +28,6 @@ told n (t ∷ ts) h zero k lt e =
     same_is t (is_plain n) (both_true (same t (is_plain n)) (tells (suc n) ts) h).0 ∙ ap is_plain (sym here)
 told n (t ∷ ts) h (suc i) k lt e = told (suc n) ts (both_true (same t (is_plain n)) (tells (suc n) ts) h).1 i k (omega arith) (omega (arith, e))
 
+-- the table tells of each byte whether it is plain
 pub plain_told : (b : ℕ) → b < 256 → get_or PLAIN b false ≡ is_plain b
 plain_told b lt = told 0 PLAIN refl b b lt (omega arith)

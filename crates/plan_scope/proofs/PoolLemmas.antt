@@ -22,7 +22,7 @@ same_depth a b (inl e) = ap depth_by e
 same_depth a b (inr h) = long_depth a h.0 ∙ sym (long_depth b h.1)
 
 -- the depth in a text of which as much is kept
-pub kept_depth : (a b : Text) → kept a ≡ kept b → depth_by a ≡ depth_by b
+kept_depth : (a b : Text) → kept a ≡ kept b → depth_by a ≡ depth_by b
 kept_depth a b e = same_depth a b (same_from_kept a b e)
 
 -- the pool of a name and the depth in a text
@@ -38,6 +38,7 @@ pool_at name false true none depth = refl
 pool_at name false false true depth = refl
 pool_at name false false false depth = refl
 
+-- a pool by whether its name is among those above and by its depth
 pub pool_is : (above : List Name) (name : Name) (text : Text) → pool_by above name text ≡ pool_from name (is_among above name) (depth_by text)
 pool_is above name text = pool_at name (is_among above name) (is_too_long text) (is_none (depth_in text)) (unwrap_or (depth_in text) 0)
 

@@ -12,6 +12,7 @@ known_by true (Some w) v x e = refl
 known_by false None v x e = e
 known_by false (Some w) v x e = e
 
+-- an option is there as its image is
 pub some_mapped : {A B : Type 0} (f : A → B) (o : Option A) → is_some (option_map f o) ≡ is_some o
 some_mapped f None = refl
 some_mapped f (Some x) = refl

@@ -86,7 +86,8 @@ in_of_file : commands (codes "in = f" ++ lf ++ codes "x = $in" ++ lf ++ codes "r
     ≡ Ok (codes "f a" ++ lf)
 in_of_file = refl
 
--- paths are quoted in a command and a description, also inside the variables that these refer to, and not in other variables
+-- paths are quoted in a command and a description, also inside the variables that these refer to, and not in other
+-- variables
 quoting : manifest (codes "rule r" ++ lf ++ codes "  command = c $rspfile_content" ++ lf ++ codes "  description = d $in" ++ lf ++ codes "  depfile = $in.d" ++ lf ++ codes "  rspfile_content = $out" ++ lf ++ codes "build a$ b/./c | d: r e$ f | .//g || h")
     ≡ Ok (record {
       edges = record {

@@ -16,7 +16,7 @@ kept_else None (Some y) a b e f = cc
 kept_else (Some x) None a b e f = cc
 kept_else (Some x) (Some y) a b e f = e
 
-pub kept_nearest : (stored meant : ScopedBindings Text) → KeptEqScoped stored meant → (scopes : List ℕ) (n : Name) → option_map kept (nearest stored scopes n) ≡ option_map kept (nearest meant scopes n)
+kept_nearest : (stored meant : ScopedBindings Text) → KeptEqScoped stored meant → (scopes : List ℕ) (n : Name) → option_map kept (nearest stored scopes n) ≡ option_map kept (nearest meant scopes n)
 kept_nearest stored meant h [] n = refl
 kept_nearest stored meant h (s ∷ outer) n =
     kept_else (last_of n (frame s stored)) (last_of n (frame s meant)) (nearest stored outer n) (nearest meant outer n) (h s n) (kept_nearest stored meant h outer n)
@@ -45,7 +45,7 @@ bound_push above [] l = refl
 bound_push above (x ∷ xs) l = bound_push (above ++ bound_in above x.scopes x.kind) xs l
 
 -- one more statement
-pub bound_more : (above : List TreeStatement) (l : TreeStatement) → bound_by (above ++ l ∷ []) ≡ bound_by above ++ bound_in (bound_by above) l.scopes l.kind
+bound_more : (above : List TreeStatement) (l : TreeStatement) → bound_by (above ++ l ∷ []) ≡ bound_by above ++ bound_in (bound_by above) l.scopes l.kind
 bound_more above l = bound_push [] above l
 
 -- what is bound after one more statement
@@ -58,7 +58,7 @@ agrees_more now above l scopes kind e f h s n =
     ∙ (ap (λ (x : StatementKind). bound_by above ++ bound_in (bound_by above) l.scopes x) f
     ∙ sym (bound_more above l)))
 
-pub agrees_taken : (now : ScopedBindings Text) (all : List TreeStatement) (i : ℕ) (l : TreeStatement) (scopes : List ℕ) (kind : StatementKind) → i < length all → l ≡ get_or all i l → scopes ≡ l.scopes → kind ≡ l.kind
+agrees_taken : (now : ScopedBindings Text) (all : List TreeStatement) (i : ℕ) (l : TreeStatement) (scopes : List ℕ) (kind : StatementKind) → i < length all → l ≡ get_or all i l → scopes ≡ l.scopes → kind ≡ l.kind
     → KeptEqScoped now (bound_by (take i all) ++ bound_in (bound_by (take i all)) scopes kind) → KeptEqScoped now (bound_by (take (i + 1) all))
 agrees_taken now all i l scopes kind lt g e f h s n =
     agrees_more now (take i all) l scopes kind e f h s n

@@ -10,7 +10,7 @@ use Rattle.plan_scope.specs.Keys.{AreMarked, IsMarked, mark_of, marks, same_key,
 use Rattle.plan_scope.proofs.SmallMapLemmas.{last_of_push}
 
 -- one more binding, and what is then bound in a scope
-pub frame_push : {V : Type 0} (s : ℕ) (bs : ScopedBindings V) (b : ℕ × (Name × V)) → frame s (bs ++ b ∷ []) ≡ frame s bs ++ cond (b.0 == s) (b.1 ∷ []) []
+frame_push : {V : Type 0} (s : ℕ) (bs : ScopedBindings V) (b : ℕ × (Name × V)) → frame s (bs ++ b ∷ []) ≡ frame s bs ++ cond (b.0 == s) (b.1 ∷ []) []
 frame_push {V} s [] b = elim (b.0 == s) as (λ t. ◌≡◌ {A = Bindings V} (cond t (b.1 ∷ []) []) (cond t (b.1 ∷ []) [])) [ true ↦ refl | false ↦ refl ]
 frame_push {V} s (x ∷ xs) b =
     elim (x.0 == s) as (λ t. ◌≡◌ {A = Bindings V} (cond t (x.1 ∷ frame s (xs ++ b ∷ [])) (frame s (xs ++ b ∷ []))) (cond t (x.1 ∷ frame s xs) (frame s xs) ++ cond (b.0 == s) (b.1 ∷ []) []))
@@ -20,6 +20,7 @@ none_more : {V : Type 0} (n : Name) (bs : Bindings V) → last_of n (bs ++ []) �
 none_more n [] = refl
 none_more {V} n (x ∷ xs) = ap (λ (o : Option V). or_else o (cond (bytes_eq x.0 n) (Some x.1) None)) (none_more n xs)
 
+-- the last value of a name in a scope, behind one more binding
 pub last_in_push : {V : Type 0} (s : ℕ) (n : Name) (bs : ScopedBindings V) (b : ℕ × (Name × V))
     → last_of n (frame s (bs ++ b ∷ [])) ≡ cond (same_key (b.0, b.1.0) (s, n)) (Some b.1.1) (last_of n (frame s bs))
 last_in_push {V} s n bs b =
@@ -27,6 +28,7 @@ last_in_push {V} s n bs b =
     ∙ elim (b.0 == s) as (λ t. last_of n (frame s bs ++ cond t (b.1 ∷ []) []) ≡ cond (t && bytes_eq b.1.0 n) (Some b.1.1) (last_of n (frame s bs)))
     [ true ↦ last_of_push n (frame s bs) b.1 | false ↦ none_more n (frame s bs) ]
 
+-- a look-up in the map gives the last value of a name in a scope
 pub last_in_scoped : {V : Type 0} (s : ℕ) (n : Name) (es : List (Key × V)) → last_of n (frame s (scoped_by es)) ≡ lookup (λ k. same_key (s, n) (key_of k)) es
 last_in_scoped s n [] = refl
 last_in_scoped {V} s n (e ∷ es) =
@@ -56,7 +58,7 @@ inserted_at {V} q es e k v more false h =
     ∙ both_same q (key_of k) (key_of e.0) v e.1 (lookup (λ x. same_key q (key_of x)) es) h (same_key q (key_of e.0)) (same_key (key_of k) q) refl refl
 
 -- what is bound after an insertion
-pub lookup_inserted : {V : Type 0} (q : ℕ × Name) (es : List (Key × V)) (k : Key) (v : V)
+lookup_inserted : {V : Type 0} (q : ℕ × Name) (es : List (Key × V)) (k : Key) (v : V)
     → lookup (λ x. same_key q (key_of x)) (insert_entry (λ x y. same_key (key_of x) (key_of y)) es k v) ≡ cond (same_key (key_of k) q) (Some v) (lookup (λ x. same_key q (key_of x)) es)
 lookup_inserted {V} q [] k v = ap (λ (t : Bool). cond {A = Option V} t (Some v) None) (same_key_equiv.symm q (key_of k))
 lookup_inserted {V} q (e ∷ es) k v = inserted_at q es e k v (lookup_inserted q es k v) (same_key (key_of k) (key_of e.0)) refl

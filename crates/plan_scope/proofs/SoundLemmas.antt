@@ -24,7 +24,7 @@ use Rattle.plan_scope.specs.Trees.{TreeStatement}
 use Rattle.plan_scope.specs.Scopes.{Text, Name, Bindings, ScopedBindings, nearest, lookup, expand, bound_by, is_too_long, is_long_path, is_empty}
 use Rattle.plan_text.specs.Limits.{max_path, max_text}
 use Rattle.plan_text.specs.Numerals.{is_numeral, number_past}
-use Rattle.plan_scope.specs.Edges.{all_paths, all_variables, block_of, builds_in, builds_of, edge_of_build, canonical_or, causes_of, console, defaults_alone, depth_in, edge_alone, edge_of_rule, edge_of, edge_or_refusal, first_of, manifest_of_kind, manifest_past, in_front, is_among, is_taken, manifest_of, map_ok, max_depth, names_no_pool, near, empty_manifest, or_refused, path_of, paths_of, phony_variables, pool_alone, pool_by, pools_in, pools_of, rules_of, target_at, targets_by, text_in, environment_of, variables_of, with_front, with_more}
+use Rattle.plan_scope.specs.Edges.{all_variables, canonical_paths, has_empty, has_long, texts_of, block_of, builds_in, builds_of, edge_of_build, canonical_or, causes_of, console, defaults_alone, depth_in, edge_alone, edge_of_rule, edge_of, edge_or_refusal, first_of, manifest_of_kind, manifest_past, in_front, is_among, is_taken, manifest_of, map_ok, max_depth, names_no_pool, near, empty_manifest, or_refused, path_of, paths_of, phony_variables, pool_alone, pool_by, pools_in, pools_of, rules_of, target_at, targets_by, text_in, environment_of, variables_of, with_front, with_more}
 use Rattle.plan_scope.specs.Sound.{AreApart, IsPath, IsSound, IsSoundEdge, MakesSome, names_of}
 use Rattle.plan_scope.proofs.PathLemmas.{or_parts}
 
@@ -103,8 +103,10 @@ edge_sound s pools here b v is_phony e some texts h =
     let i = paths_of at b.inputs in
     let ii = paths_of at b.implicit_inputs in
     let oo = paths_of at b.order_only_inputs in
-    let r = not_refused (first_of (causes_of pools v (all_paths at b) block)) (edge_of at b v is_phony) e h in
-    let c = none_stands (causes_of pools v (all_paths at b) block) r.0 in
+    let paths = texts_of at b in
+    let causes = causes_of pools v (has_empty paths) (has_long paths) (list_any (λ (x : Name × Text). is_too_long x.1) block) in
+    let r = not_refused (first_of causes) (edge_of (canonical_paths paths) v is_phony) e h in
+    let c = none_stands causes r.0 in
     let e4 = any_append is_empty (o ++ io ++ i ++ ii) oo c.1.1.0 in
     let e3 = any_append is_empty (o ++ io ++ i) ii e4.0 in
     let e2 = any_append is_empty (o ++ io) i e3.0 in

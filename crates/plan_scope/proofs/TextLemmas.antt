@@ -13,17 +13,19 @@ use Rattle.plan_text.specs.Limits.{max_text}
 use Rattle.plan_scope.specs.Expansion.{is_plain, escaped, quoted}
 use Rattle.plan_scope.specs.Kept.{kept}
 
-pub kept_long : (a : Text) → max_text < length a → kept a ≡ None
+kept_long : (a : Text) → max_text < length a → kept a ≡ None
 unfolding kept
 kept_long a h = ap (λ (t : Bool). cond {A = Option Text} t None (Some a)) (lt-ltb max_text (length a) h)
 
-pub kept_short : (a : Text) → length a ≤ max_text → kept a ≡ Some a
+kept_short : (a : Text) → length a ≤ max_text → kept a ≡ Some a
 unfolding kept
 kept_short a h = ap (λ (t : Bool). cond {A = Option Text} t None (Some a)) (le-ltb max_text (length a) h)
 
+-- of two texts that are too long nothing is kept
 pub both_long : (a b : Text) → max_text < length a → max_text < length b → kept a ≡ kept b
 both_long a b h i = kept_long a h ∙ sym (kept_long b i)
 
+-- equal texts, or two that are too long
 abbrev pub Same : Text → Text → Type 0
 Same a b = (a ≡ b) ⊎ ((max_text < length a) × (max_text < length b))
 
@@ -42,6 +44,7 @@ appended_by a b c d (inl e) (inl f) = cc
 appended_by a b c d (inr h) s = both_long (a ++ c) (b ++ d) (omega (arith, length-append a c)) (omega (arith, length-append b d))
 appended_by a b c d (inl e) (inr h) = both_long (a ++ c) (b ++ d) (omega (arith, length-append a c)) (omega (arith, length-append b d))
 
+-- as much is kept of texts joined
 pub kept_append : (a b c d : Text) → kept a ≡ kept b → kept c ≡ kept d → kept (a ++ c) ≡ kept (b ++ d)
 kept_append a b c d e f = appended_by a b c d (same_from_kept a b e) (same_from_kept c d f)
 
@@ -52,7 +55,7 @@ length_escaped : (p : Text) → length p ≤ length (flat_map escaped p)
 length_escaped [] = omega arith
 length_escaped (b ∷ p) = omega (arith, length_escaped p, length_escaped_one b, length-append (escaped b) (flat_map escaped p))
 
-pub length_quoted : (p : Text) → length p ≤ length (quoted p)
+length_quoted : (p : Text) → length p ≤ length (quoted p)
 length_quoted p =
     let longer : length p ≤ length (39 ∷ flat_map escaped p ++ 39 ∷ []) = omega (arith, length_escaped p, length-append (flat_map escaped p) (39 ∷ [])) in
     elim (list_all is_plain p) as (λ t. length p ≤ length (cond t p (39 ∷ flat_map escaped p ++ 39 ∷ []))) [ true ↦ omega arith | false ↦ longer ]
@@ -61,9 +64,11 @@ quoted_by : (a b : Text) → Same a b → kept (quoted a) ≡ kept (quoted b)
 quoted_by a b (inl e) = cc
 quoted_by a b (inr h) = both_long (quoted a) (quoted b) (omega (arith, length_quoted a)) (omega (arith, length_quoted b))
 
+-- as much is kept of texts quoted
 pub kept_quoted : (a b : Text) → kept a ≡ kept b → kept (quoted a) ≡ kept (quoted b)
 kept_quoted a b e = quoted_by a b (same_from_kept a b e)
 
+-- as much is kept of paths joined
 pub kept_paths : (f : Text → Text) → ((a b : Text) → kept a ≡ kept b → kept (f a) ≡ kept (f b))
     → (s : ℕ) (ps qs : List Text) → map kept ps ≡ map kept qs → kept (join_with_byte s (map f ps)) ≡ kept (join_with_byte s (map f qs))
 kept_paths f h s [] [] e = refl
@@ -82,10 +87,12 @@ kept_value : (f g : Name → Text) → ((n : Name) → kept (f n) ≡ kept (g n)
 kept_value f g h (Literal t) = refl
 kept_value f g h (Reference n) = h n
 
+-- as much is kept of pieces expanded by names that stand for as much
 pub kept_expand : (f g : Name → Text) → ((n : Name) → kept (f n) ≡ kept (g n)) → (ps : List Piece) → kept (expand f ps) ≡ kept (expand g ps)
 kept_expand f g h [] = refl
 kept_expand f g h (p ∷ ps) = kept_append (value_of f p) (value_of g p) (expand f ps) (expand g ps) (kept_value f g h p) (kept_expand f g h ps)
 
+-- as much is kept of a text or what stands in its place
 pub kept_or : (o p : Option Text) (a b : Text) → option_map kept o ≡ option_map kept p → kept a ≡ kept b → kept (unwrap_or o a) ≡ kept (unwrap_or p b)
 kept_or None None a b e f = f
 kept_or None (Some y) a b e f = cc
@@ -97,7 +104,7 @@ pub kept_then : (before middle now x y : Text) → kept middle ≡ kept (before 
 kept_then before middle now x y e f =
     f ∙ (kept_append middle (before ++ x) y y e refl ∙ ap kept (append_assoc before x y))
 
-abbrev pub begins : List Text → Bool
+abbrev begins : List Text → Bool
 begins [] = true
 begins (p ∷ ps) = false
 
@@ -153,5 +160,6 @@ long_same : (a b : Text) → Same a b → is_too_long a ≡ is_too_long b
 long_same a b (inl e) = ap is_too_long e
 long_same a b (inr h) = lt-ltb max_text (length a) h.0 ∙ sym (lt-ltb max_text (length b) h.1)
 
+-- texts of which as much is kept are both too long, or neither is
 pub long_kept : (a b : Text) → kept a ≡ kept b → is_too_long a ≡ is_too_long b
 long_kept a b e = long_same a b (same_from_kept a b e)

@@ -1,4 +1,5 @@
--- The statements of a tree that is loaded are whole, as the statements of each of its files are. Serves src/laws.rt, `trees_are_whole`.
+-- The statements of a tree that is loaded are whole, as the statements of each of its files are. Serves src/laws.rt,
+-- `trees_are_whole`.
 use Rattle.std.proofs.Common.{◌≡◌, ℕ, zero, suc, inl, inr, List, [], ◌∷◌, ◌++◌, Option, Some, None, Result, Ok, Err, refl, sym, subst}
 use Rattle.std.specs.List.{All, AllByRecursion}
 use Rattle.std.proofs.lemmas.List.Elements.{All-nil, All-cons, All-append}

@@ -1,4 +1,5 @@
--- Variables of which as much is kept, and the edges that they give. Serves src/edge/variables.rt and src/edge/build_line.rt.
+-- Variables of which as much is kept, and the edges that they give. Serves src/edge/variables.rt and
+-- src/edge/build_line.rt.
 use Rattle.std.proofs.Common.{◌≡◌, ℕ, zero, suc, Bool, true, false, not, ◌||◌, ◌&&◌, ◌<◌, List, [], ◌∷◌, length, map, Option, Some, None, Result, Ok, Err, refl, ap, sym, ◌∙◌, bytes_eq, option_map, cond, inl, inr, arith, subst}
 use Rattle.std.specs.Prelude.{codes, is_none}
 use Rattle.std.specs.List.{list_any, join_with_byte}
@@ -14,13 +15,13 @@ use Rattle.plan_scope.specs.declared.edge.variables.Variables.{Variables}
 use Rattle.plan_scope.specs.Scopes.{Text, Name, Bindings, last_of, is_too_long, is_empty}
 use Rattle.plan_text.specs.Limits.{max_text}
 use Rattle.plan_scope.specs.Expansion.{EdgeEnvironment, plain, quoted, listed, Meaning, Known, Late, or_known, or_late, meaning_of, both, text_of_piece, joined, text_of, text_within, variable}
-use Rattle.plan_scope.specs.Edges.{all_variables, edge_or_refusal, first_of, is_among, is_other_deps, is_present, names_no_pool, or_refused, phony_variables, text_in, environment_of, variables_of}
+use Rattle.plan_scope.specs.Edges.{all_variables, canonical_paths, causes_of, edge_of, edge_or_refusal, first_of, is_among, is_other_deps, is_present, names_no_pool, or_refused, phony_variables, text_in, environment_of, variables_of}
 use Rattle.plan_scope.specs.Kept.{kept, KeptEqBindings, EqNames, KeptEqLookup}
-use Rattle.plan_scope.specs.Parts.{IsRead, causes_from, edge_from, texts_in, environment_from}
-use Rattle.plan_scope.specs.Paths.{canonical_paths}
+use Rattle.plan_scope.specs.Parts.{IsRead, texts_in, environment_from}
 use Rattle.plan_scope.proofs.TextLemmas.{Same, same_from_kept, kept_append, kept_or, kept_paths, kept_quoted, long_kept}
 use Rattle.plan_scope.proofs.PathLemmas.{empty_kept, exact_kept, kept_lists, or_parts}
 
+-- equal items give equal lists, of nine
 pub nine : {X : Type 0} (a b c d e f g h i k l m n o p q r s : X)
     → a ≡ k → b ≡ l → c ≡ m → d ≡ n → e ≡ o → f ≡ p → g ≡ q → h ≡ r → i ≡ s
     → a ∷ b ∷ c ∷ d ∷ e ∷ f ∷ g ∷ h ∷ i ∷ [] ≡ k ∷ l ∷ m ∷ n ∷ o ∷ p ∷ q ∷ r ∷ s ∷ []
@@ -130,6 +131,7 @@ variables_alike u v h =
     nine _ _ _ _ _ _ _ _ _ _ _ _ _ _ _ _ _ _
     (q (codes "command")) (p (codes "depfile")) (p (codes "deps")) (q (codes "description")) (p (codes "dyndep")) (p (codes "generator")) (p (codes "pool")) (p (codes "restat")) (p (codes "rspfile"))
 
+-- the variables of two such phony edges
 pub phony_alike : (u v : EdgeEnvironment) → Alike u v → KeptAlike (phony_variables u) (phony_variables v)
 phony_alike u v h =
     nine _ _ _ _ _ _ _ _ _ _ _ _ _ _ _ _ _ _
@@ -139,7 +141,7 @@ phony_alike u v h =
 pub alike_read : (h f : Name → Text) (b : Build) (p : Parts) (rule other : Bindings (List Piece)) (file : Name → Text) (held : EdgeEnvironment)
     → IsRead h b p → rule ≡ other → KeptEqLookup file f → held ≡ environment_from p rule file → Alike held (environment_of h f b other)
 alike_read h f b p rule other file held r e s u =
-    let lists = kept_lists p.paths (canonical_paths (texts_in h b)) r.paths in
+    let lists = kept_lists p.read.paths (canonical_paths (texts_in h b)) r.paths in
     subst (λ x. Alike x (environment_of h f b other)) (sym u) (record { inputs = lists.inputs; outputs = lists.outputs; block = r.values; rule = e; file = s })
 
 any_alike : (test : Option Text → Bool) → ((a b : Option Text) → option_map kept a ≡ option_map kept b → test a ≡ test b) → (us vs : List (Option Text)) → map (option_map kept) us ≡ map (option_map kept) vs
@@ -254,8 +256,8 @@ kept_each : (u v : Variables) → KeptAlike u v → KeptEach u v
 kept_each u v e = record { command = cc; depfile = cc; deps = cc; description = cc; dyndep = cc; generator = cc; pool = cc; restat = cc; rspfile = cc }
 
 -- the edge, where no path and no text is too long
-edge_same : (h : Name → Text) (b : Build) (p : Parts) (u v : Variables) (t : Bool) → IsRead h b p → KeptAlike u v → p.has_long ≡ false → list_any is_long_in (all_variables u) ≡ false
-    → edge_from p.paths u t ≡ edge_from (canonical_paths (texts_in h b)) v t
+edge_same : (h : Name → Text) (b : Build) (p : Parts) (u v : Variables) (t : Bool) → IsRead h b p → KeptAlike u v → p.read.has_long ≡ false → list_any is_long_in (all_variables u) ≡ false
+    → edge_of p.read.paths u t ≡ edge_of (canonical_paths (texts_in h b)) v t
 edge_same h b p u v t r e far long =
     let q = canonical_paths (texts_in h b) in
     let each = kept_each u v e in
@@ -264,7 +266,7 @@ edge_same h b p u v t r e far long =
     let description : text_in u.description ≡ text_in v.description = cc in
     let depfile : text_in u.depfile ≡ text_in v.depfile = cc in
     let pool : text_in u.pool ≡ text_in v.pool = cc in
-    ap (λ x. edge_from x u t) (r.exact far)
+    ap (λ x. edge_of x u t) (r.exact far)
     ∙ congruent_six
     (λ (a b c : Text) (d e : Bool) (f : Text).
     record { outputs = q.outputs; implicit_outputs = q.implicit_outputs; inputs = q.inputs; implicit_inputs = q.implicit_inputs; order_only_inputs = q.order_only_inputs; command = a; description = b; depfile = c; restat = d; generator = e; phony = t; pool = f })
@@ -273,15 +275,15 @@ edge_same h b p u v t r e far long =
 
 -- what the code holds gives the edge that is meant
 pub edge_held : (pools names : List Name) (h : Name → Text) (b : Build) (p : Parts) (u v : Variables) (t : Bool) → EqNames pools names → IsRead h b p → KeptAlike u v
-    → or_refused (first_of (causes_from pools u p)) (edge_from p.paths u t) ≡ edge_or_refusal names h b v t
+    → or_refused (first_of (causes_of pools u p.read.has_empty p.read.has_long p.block.has_long)) (edge_of p.read.paths u t) ≡ edge_or_refusal names h b v t
 edge_held pools names h b p u v t s r e =
     let each = kept_each u v e in
     let long = any_alike is_long_in long_alike (all_variables u) (all_variables v) e in
-    or_refused_same (first_of (causes_from pools u p)) (edge_from p.paths u t) (edge_from (canonical_paths (texts_in h b)) v t)
+    or_refused_same (first_of (causes_of pools u p.read.has_empty p.read.has_long p.block.has_long)) (edge_of p.read.paths u t) (edge_of (canonical_paths (texts_in h b)) v t)
     (λ none.
-    let parts = no_cause _ _ _ _ _ _ p.has_long (list_any is_long_in (all_variables u) || p.block.has_long) none in
+    let parts = no_cause _ _ _ _ _ _ p.read.has_long (list_any is_long_in (all_variables u) || p.block.has_long) none in
     edge_same h b p u v t r e parts.0 (or_parts (list_any is_long_in (all_variables u)) p.block.has_long parts.1).0)
-    ∙ congruent_eight (λ (x1 x2 x3 x4 x5 x6 x7 x8 : Bool). or_refused (first_of (eight x1 x2 x3 x4 x5 x6 x7 x8)) (edge_from (canonical_paths (texts_in h b)) v t))
+    ∙ congruent_eight (λ (x1 x2 x3 x4 x5 x6 x7 x8 : Bool). or_refused (first_of (eight x1 x2 x3 x4 x5 x6 x7 x8)) (edge_of (canonical_paths (texts_in h b)) v t))
     _ _ _ _ _ _ _ _ _ _ _ _ _ _ _ _
     (pool_kept pools names s (text_in u.pool) (text_in v.pool) (text_in_kept u.pool v.pool each.pool))
     (any_alike is_none cycle_kept (all_variables u) (all_variables v) e)

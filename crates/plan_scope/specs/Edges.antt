@@ -18,6 +18,7 @@ use Rattle.plan_scope.specs.declared.manifest.DefaultTarget.{DefaultTarget}
 use Rattle.plan_scope.specs.declared.manifest.Edge.{Edge}
 use Rattle.plan_scope.specs.declared.manifest.Manifest.{Manifest}
 use Rattle.plan_scope.specs.declared.manifest.Pool.{Pool}
+use Rattle.plan_scope.specs.declared.edge.paths.Paths.{Paths}
 use Rattle.plan_scope.specs.declared.edge.variables.Variables.{Variables}
 use Rattle.plan_scope.specs.Trees.{TreeStatement}
 use Rattle.plan_scope.specs.Scopes.{Text, Name, Bindings, ScopedBindings, last_of, frame, nearest, lookup, expand, in_own, bound_by, is_too_long, is_long_path, is_empty}
@@ -92,22 +93,45 @@ near here block name = unwrap_or (last_of name block) (here name)
 abbrev pub paths_of : (Name → Text) → List (List Piece) → List Text
 paths_of here paths = map (expand here) paths
 
--- all paths of a build line as expanded
-abbrev pub all_paths : (Name → Text) → Build → List Text
-all_paths here b =
-    paths_of here b.outputs ++ paths_of here b.implicit_outputs ++ paths_of here b.inputs ++ paths_of here b.implicit_inputs ++ paths_of here b.order_only_inputs
+-- the paths of a build line as expanded
+abbrev pub texts_of : (Name → Text) → Build → Paths
+texts_of here b = record {
+  outputs = paths_of here b.outputs;
+  implicit_outputs = paths_of here b.implicit_outputs;
+  inputs = paths_of here b.inputs;
+  implicit_inputs = paths_of here b.implicit_inputs;
+  order_only_inputs = paths_of here b.order_only_inputs;
+}
 
--- What the variables of an edge are looked up in: what names stand for above its statement and, once the whole tree was read, in its file; the statement itself; its rule.
+-- the canonical forms of paths
+abbrev pub canonical_paths : Paths → Paths
+canonical_paths p = record {
+  outputs = map path_of p.outputs;
+  implicit_outputs = map path_of p.implicit_outputs;
+  inputs = map path_of p.inputs;
+  implicit_inputs = map path_of p.implicit_inputs;
+  order_only_inputs = map path_of p.order_only_inputs;
+}
+
+-- all of them
+abbrev pub all_in : Paths → List Text
+all_in p = p.outputs ++ p.implicit_outputs ++ p.inputs ++ p.implicit_inputs ++ p.order_only_inputs
+
+-- whether one has no byte
+abbrev pub has_empty : Paths → Bool
+has_empty p = list_any is_empty (all_in p)
+
+-- whether one is too long
+abbrev pub has_long : Paths → Bool
+has_long p = list_any is_long_path (all_in p)
+
+-- What the variables of an edge are looked up in: what names stand for above its statement and, once the whole tree
+-- was read, in its file; the statement itself; its rule.
 abbrev pub environment_of : (here file : Name → Text) → Build → Bindings (List Piece) → EdgeEnvironment
 environment_of here file b rule =
     let block = block_of here b.bindings in
-    record {
-      inputs = map path_of (paths_of (near here block) b.inputs);
-      outputs = map path_of (paths_of (near here block) b.outputs);
-      block = block;
-      rule = rule;
-      file = file;
-    }
+    let paths = canonical_paths (texts_of (near here block) b) in
+    record { inputs = paths.inputs; outputs = paths.outputs; block = block; rule = rule; file = file }
 
 -- the variables of an edge; paths in its command and its description are quoted
 abbrev pub variables_of : EdgeEnvironment → Variables
@@ -154,27 +178,28 @@ names_no_pool pools text = not (is_empty text) && (is_too_long text || not (is_a
 abbrev pub is_other_deps : Text → Bool
 is_other_deps text = not (is_empty text) && not (bytes_eq text (codes "gcc"))
 
--- what a build line with a rule may be refused for, the least number first: by the pools of the tree, its variables, its paths as expanded, and its block
-abbrev pub causes_of : List Name → Variables → List Text → Bindings Text → List (Bool × Cause)
-causes_of pools v paths block =
+-- What a build line may be refused for, the least number first: by the pools of the tree, its variables, and whether
+-- a path has no byte, a path is too long, or a text of its block is.
+abbrev pub causes_of : List Name → Variables → (empty_path long_path long_value : Bool) → List (Bool × Cause)
+causes_of pools v empty_path long_path long_value =
     (names_no_pool pools (text_in v.pool), UnknownPool)
     ∷ (list_any is_none (all_variables v), RuleCycle)
-    ∷ (list_any is_empty paths, EmptyPath)
+    ∷ (empty_path, EmptyPath)
     ∷ (is_present v.dyndep, Dyndep)
     ∷ (is_present v.rspfile, Rspfile)
     ∷ (is_other_deps (text_in v.deps), DepsKind)
-    ∷ (list_any is_long_path paths, PathTooLong)
-    ∷ (list_any (λ text. is_too_long (text_in text)) (all_variables v) || list_any (λ b. is_too_long b.1) block, TextTooLong)
+    ∷ (long_path, PathTooLong)
+    ∷ (list_any (λ text. is_too_long (text_in text)) (all_variables v) || long_value, TextTooLong)
     ∷ []
 
--- the edge of a build line
-abbrev pub edge_of : (Name → Text) → Build → Variables → Bool → Edge
-edge_of here b v is_phony = record {
-  outputs = map path_of (paths_of here b.outputs);
-  implicit_outputs = map path_of (paths_of here b.implicit_outputs);
-  inputs = map path_of (paths_of here b.inputs);
-  implicit_inputs = map path_of (paths_of here b.implicit_inputs);
-  order_only_inputs = map path_of (paths_of here b.order_only_inputs);
+-- the edge with these canonical paths and these variables
+abbrev pub edge_of : Paths → Variables → Bool → Edge
+edge_of p v is_phony = record {
+  outputs = p.outputs;
+  implicit_outputs = p.implicit_outputs;
+  inputs = p.inputs;
+  implicit_inputs = p.implicit_inputs;
+  order_only_inputs = p.order_only_inputs;
   command = text_in v.command;
   description = text_in v.description;
   depfile = text_in v.depfile;
@@ -184,11 +209,13 @@ edge_of here b v is_phony = record {
   pool = text_in v.pool;
 }
 
--- The edge of a build line, or why it is refused, by the pools of the tree, what names stand for above the statement, and its variables.
+-- The edge of a build line, or why it is refused, by the pools of the tree, what names stand for above the line, and
+-- its variables.
 abbrev pub edge_or_refusal : List Name → (Name → Text) → Build → Variables → Bool → Result Edge Cause
 edge_or_refusal pools here b v is_phony =
     let block = block_of here b.bindings in
-    or_refused (first_of (causes_of pools v (all_paths (near here block) b) block)) (edge_of (near here block) b v is_phony)
+    let texts = texts_of (near here block) b in
+    or_refused (first_of (causes_of pools v (has_empty texts) (has_long texts) (list_any (λ b. is_too_long b.1) block))) (edge_of (canonical_paths texts) v is_phony)
 
 -- the same by its rule; a statement without a known rule has no other cause
 abbrev pub edge_of_rule : List Name → (here file : Name → Text) → Build → Option (Bindings (List Piece)) → Result Edge Cause

@@ -18,7 +18,8 @@ use Rattle.plan_scope.specs.Loading.{FileAnswers, LoadsStatement, LoadsWithin, I
 abbrev pub never : Text → Type 0
 never path = ⊥
 
--- What is answered for statements, by what may be missing and what may then be answered. A fault of memory tells nothing; the count of failed reads rises where a read failed, and then alone.
+-- What is answered for statements, by what may be missing and what may then be answered. A fault of memory tells
+-- nothing; the count of failed reads rises where a read failed, and then alone.
 abbrev pub Answers : (gives : Text → Option (List ℕ) → Type 0) → (fails : Text → Type 0) → (before now : ℕ) → ((missing : Text → Type 0) → Result (List TreeStatement) ScopeFault → Type 0) → Result (List TreeStatement) ScopeFault → Type 0
 Answers gives fails before now may (Ok statements) = (now ≡ before) × may never (Ok statements)
 Answers gives fails before now may (Err LoadMemory) = now ≡ before

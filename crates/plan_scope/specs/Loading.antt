@@ -52,7 +52,8 @@ cause_to_load left here (kind.Include path) = cause_of_path left (expand here pa
 cause_to_load left here (kind.Subninja path) = cause_of_path left (expand here path)
 cause_to_load left here other = None
 
--- what may be answered for a file: its path, its scopes, the statements above it, and the answer, all statements so far or a fault
+-- what may be answered for a file: its path, its scopes, the statements above it, and the answer, all statements so
+-- far or a fault
 abbrev pub FileAnswers : Type 1
 FileAnswers = Text → List ℕ → List TreeStatement → Result (List TreeStatement) ScopeFault → Type 0
 
@@ -107,7 +108,8 @@ LoadsFirst gives missing path out = LoadsWithin gives missing more_files path (0
 abbrev pub IsMissing : (gives : Text → Option (List ℕ) → Type 0) → (fails : Text → Type 0) → (before now : ℕ) → Text → Type 0
 IsMissing gives fails before now path = (gives path None × (now ≡ before)) ⊎ (fails path × (now ≡ before + 1))
 
--- What is answered for the manifest at a path, by what the source may give and which reads may fail. Want of memory tells nothing; the count of failed reads rises where a read failed, and then alone.
+-- What is answered for the manifest at a path, by what the source may give and which reads may fail. Want of memory
+-- tells nothing; the count of failed reads rises where a read failed, and then alone.
 abbrev pub Loads : (gives : Text → Option (List ℕ) → Type 0) → (fails : Text → Type 0) → (before now : ℕ) → Text → Result (List TreeStatement) ScopeFault → Type 0
 Loads gives fails before now path (Ok statements) = (now ≡ before) × LoadsFirst gives (IsMissing gives fails before now) path (Ok statements)
 Loads gives fails before now path (Err LoadMemory) = now ≡ before

@@ -8,7 +8,8 @@ use Rattle.plan_scope.specs.Scopes.{Text, Name}
 use Rattle.plan_scope.specs.Expansion.{Meaning, joined, text_of}
 use Rattle.plan_scope.specs.Kept.{kept}
 
--- A name's text, where at most so many of the rule's variables lie one inside another; or none. A cycle has none, however many may.
+-- A name's text, where at most so many of the rule's variables lie one inside another; or none. A cycle has none,
+-- however many may.
 abbrev pub text_by : ℕ → (Name → Meaning) → Name → Option Text
 text_by zero meaning name = text_of (meaning name) true (λ pieces. None)
 text_by (suc n) meaning name = text_of (meaning name) false (joined (text_by n meaning))

@@ -4,7 +4,8 @@ use Rattle.plan_parse.specs.declared.statement.Binding.{Binding}
 use Rattle.plan_parse.specs.declared.statement.StatementKind.{StatementKind}
 use Rattle.plan_parse.specs.declared.statement.StatementKind.TheVariants as kind
 
--- A statement, the path and the offset where it stands, and the scopes that it sees, its own first. The statements of a file stand in place of the statement that includes it.
+-- A statement, the path and the offset where it stands, and the scopes that it sees, its own first. The statements of
+-- a file stand in place of the statement that includes it.
 pub record TreeStatement : Type 0 where
   pub path : List ℕ
   pub scopes : List ℕ

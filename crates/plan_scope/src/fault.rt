@@ -79,7 +79,8 @@ pub enum ScopeFault {
 }
 
 impl ScopeFault {
-    /// The number under which the fault is printed: 20 for a missing file, 22 and 41 for memory, else that of the statements' fault or of the cause.
+    /// The number under which the fault is printed: 20 for a missing file, 22 and 41 for memory, else that of the
+    /// statements' fault or of the cause.
     pub fn number(&self) -> u8
         ensures { result ≡ number_of self.now }
     {

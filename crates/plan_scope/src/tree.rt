@@ -113,7 +113,8 @@ impl TreeStatement {
     }
 }
 
-/// The statements of a manifest and of all files that it includes: those of a file stand in place of the `include` or `subninja` statement that includes it.
+/// The statements of a manifest and of all files that it includes: those of a file stand in place of the `include` or
+/// `subninja` statement that includes it.
 #[derive(Drop)]
 pub struct Tree {
     /// The statements in their order.

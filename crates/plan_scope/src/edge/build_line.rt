@@ -2,15 +2,15 @@
 
 ghost use Rattle.std.specs.Prelude.{◌≡◌, [], List, IfOk, true, false};
 ghost use Rattle.plan_scope.specs.Scopes.{Name, Text};
-ghost use Rattle.plan_scope.specs.Edges.{edge_or_refusal, first_of, names_no_pool, or_refused, phony_variables, environment_of, variables_of};
+ghost use Rattle.plan_scope.specs.Edges.{causes_of, edge_of, edge_or_refusal, first_of, names_no_pool, or_refused, phony_variables, environment_of, variables_of};
 ghost use Rattle.plan_scope.specs.Kept.{EqNames, KeptEqLookup};
 ghost use Rattle.plan_scope.specs.HeldEnvironment.{environment_of as held_environment};
-ghost use Rattle.plan_scope.specs.Parts.{IsRead, causes_from, edge_from, environment_from};
+ghost use Rattle.plan_scope.specs.Parts.{IsRead, environment_from};
 ghost use Rattle.plan_scope.specs.Outcomes.{Gives};
 ghost use Rattle.plan_scope.specs.ScopeNames.{names_in};
 
 use crate::edge::expansion::EdgeEnvironment;
-use crate::edge::paths::{BlockTexts, Paths, block, read_paths};
+use crate::edge::paths::{BlockTexts, PathTexts, Paths, block, read_paths};
 use crate::edge::rule_variables::RuleVariables;
 use crate::edge::variables::{
     Variables, has_cycle, has_long_text, into_text, is_other_deps, is_present, text_or_empty,
@@ -29,12 +29,8 @@ use std::alloc::{AllocError, Global};
 pub struct Parts<'a> {
     /// Its block.
     pub block: BlockTexts<'a>,
-    /// The canonical forms of its paths.
-    pub paths: Paths,
-    /// Whether a path as expanded has no byte.
-    pub has_empty: bool,
-    /// Whether a path as expanded is too long.
-    pub has_long: bool,
+    /// What is read of its paths.
+    pub read: PathTexts,
 }
 
 /// What is read of a build line, by what names stand for above it.
@@ -43,12 +39,7 @@ fn read_parts<'a>(alloc: Global, here: Scope<'a>, build: &'a Build) -> Result<Pa
 {
     let block = block(alloc, here, build.bindings.as_slice())?;
     let read = read_paths(alloc, &block.values, here, build)?;
-    Ok(Parts {
-        block,
-        paths: read.paths,
-        has_empty: read.has_empty,
-        has_long: read.has_long,
-    })
+    Ok(Parts { block, read })
 }
 
 /// Whether a text asks for a pool that isn't there.
@@ -66,7 +57,7 @@ fn names_no_pool(pools: &PoolNames, text: &[u8]) -> bool
 
 /// Why a build line with these variables is refused.
 fn cause(pools: &PoolNames, parts: &Parts, variables: &Variables) -> Option<Cause>
-    ensures { result ≡ first_of (causes_from pools.now variables.now parts.now) }
+    ensures { result ≡ first_of (causes_of pools.now variables.now parts.now.read.has_empty parts.now.read.has_long parts.now.block.has_long) }
 {
     if names_no_pool(pools, text_or_empty(&variables.pool)) {
         return Some(Cause::UnknownPool);
@@ -74,7 +65,7 @@ fn cause(pools: &PoolNames, parts: &Parts, variables: &Variables) -> Option<Caus
     if has_cycle(variables) {
         return Some(Cause::RuleCycle);
     }
-    if parts.has_empty {
+    if parts.read.has_empty {
         return Some(Cause::EmptyPath);
     }
     if is_present(&variables.dyndep) {
@@ -86,7 +77,7 @@ fn cause(pools: &PoolNames, parts: &Parts, variables: &Variables) -> Option<Caus
     if is_other_deps(text_or_empty(&variables.deps)) {
         return Some(Cause::DepsKind);
     }
-    if parts.has_long {
+    if parts.read.has_long {
         return Some(Cause::PathTooLong);
     }
     if has_long_text(variables) | parts.block.has_long {
@@ -97,7 +88,7 @@ fn cause(pools: &PoolNames, parts: &Parts, variables: &Variables) -> Option<Caus
 
 /// The edge with these paths and variables.
 fn edge_from(alloc: Global, paths: Paths, variables: Variables, phony: bool) -> Edge
-    ensures { result ≡ edge_from paths variables phony }
+    ensures { result ≡ edge_of paths variables phony }
 {
     let restat = is_present(&variables.restat);
     let generator = is_present(&variables.generator);
@@ -125,11 +116,11 @@ fn edge_or_refusal(
     variables: Variables,
     phony: bool,
 ) -> Result<Edge, StatementFault>
-    ensures { Gives result (or_refused (first_of (causes_from pools.now variables parts.entry)) (edge_from parts.entry.paths variables phony)) }
+    ensures { Gives result (or_refused (first_of (causes_of pools.now variables parts.entry.read.has_empty parts.entry.read.has_long parts.entry.block.has_long)) (edge_of parts.entry.read.paths variables phony)) }
 {
     match cause(pools, &parts, &variables) {
         Some(cause) => Err(StatementFault::Refused(cause)),
-        None => Ok(edge_from(alloc, parts.paths, variables, phony)),
+        None => Ok(edge_from(alloc, parts.read.paths, variables, phony)),
     }
 }
 
@@ -142,15 +133,16 @@ fn environment_with<'a>(
     ensures { held_environment result ≡ environment_from parts.now rule.now (names_in file.entry) }
 {
     EdgeEnvironment {
-        inputs: parts.paths.inputs.as_slice(),
-        outputs: parts.paths.outputs.as_slice(),
+        inputs: parts.read.paths.inputs.as_slice(),
+        outputs: parts.read.paths.outputs.as_slice(),
         block: &parts.block.values,
         rule,
         file,
     }
 }
 
-/// The edge of a build line with this rule, by the pools of the tree and by what names stand for above the statement and, once the whole tree was read, in its file.
+/// The edge of a build line with this rule, by the pools of the tree and by what names stand for above the statement
+/// and, once the whole tree was read, in its file.
 pub fn edge<'a>(
     alloc: Global,
     pools: &PoolNames<'a>,

@@ -73,7 +73,8 @@ fn append_listed(
 /// How many pieces a variable may have that is put together anew each time that it is named.
 const FEW: usize = 8;
 
-/// Whether a variable, so many others of the rule one inside another in it, is put together anew each time that it is named.
+/// Whether a variable, so many others of the rule one inside another in it, is put together anew each time that it is
+/// named.
 fn is_cheap(depth: usize, pieces: &[Piece]) -> bool {
     (depth == 0) & (pieces.len() <= FEW)
 }
@@ -87,7 +88,8 @@ fn greater(depth: usize, other: usize) -> usize
     if depth < other { other } else { depth }
 }
 
-/// Appends a variable of an edge, where at most `left` variables of the rule may lie one inside another, and answers how many do.
+/// Appends a variable of an edge, where at most `left` variables of the rule may lie one inside another, and answers
+/// how many do.
 #[cycle(expansion)]
 fn append_variable<'a>(
     alloc: Global,
@@ -209,7 +211,8 @@ fn append_pieces<'a>(
     Ok(deepest)
 }
 
-/// Appends a variable of an edge, expanded for itself. What is kept on the way serves the edge's other variables that show paths alike.
+/// Appends a variable of an edge, expanded for itself. What is kept on the way serves the edge's other variables that
+/// show paths alike.
 pub fn append_whole<'a>(
     alloc: Global,
     edge: &'a EdgeEnvironment<'a>,

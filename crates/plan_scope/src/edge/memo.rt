@@ -1,4 +1,5 @@
-//! Variables of a rule whose texts were found on the way to another's, so that none is expanded each time that it is named.
+//! Variables of a rule whose texts were found on the way to another's, so that none is expanded each time that it is
+//! named.
 
 ghost use Rattle.std.specs.Prelude.{◌≡◌, ◌++◌, ℕ, Some, IfOk, option_map, length};
 ghost use Rattle.plan_scope.specs.Scopes.{Name, Text};

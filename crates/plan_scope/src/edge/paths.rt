@@ -4,9 +4,9 @@ ghost use Rattle.std.specs.Prelude.{◌≡◌, ◌≤◌, ◌+◌, List, length,
 ghost use Rattle.std.specs.List.{list_any};
 ghost use Rattle.plan_scope.specs.Scopes.{Bindings, Name, Text, expand, is_empty, is_long_path, is_too_long, value_of};
 ghost use Rattle.plan_text.specs.Limits.{max_text};
-ghost use Rattle.plan_scope.specs.Edges.{block_of, near, path_of, paths_of};
+ghost use Rattle.plan_scope.specs.Edges.{block_of, near, path_of, paths_of, texts_of};
 ghost use Rattle.plan_scope.specs.Kept.{KeptEqBindings, KeptEqLookup, kept};
-ghost use Rattle.plan_scope.specs.Paths.{AreRead, IsListOf, kept_in, texts_of};
+ghost use Rattle.plan_scope.specs.Paths.{AreRead, IsListOf, kept_in};
 ghost use Rattle.plan_scope.specs.ScopeNames.{names_in};
 
 use crate::scope::small_map::SmallMap;
@@ -120,7 +120,8 @@ pub struct PathList {
     pub has_long: bool,
 }
 
-/// The paths of a list. They are put together in a buffer, whatever that held, so that a path takes no more memory than it needs.
+/// The paths of a list. They are put together in a buffer, whatever that held, so that a path takes no more memory
+/// than it needs.
 fn read_list<'a>(
     alloc: Global,
     block: &'a SmallMap<'a, Items<u8>>,

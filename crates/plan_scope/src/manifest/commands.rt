@@ -45,7 +45,8 @@ fn write_command<W: Sink>(edge: &Edge, out: &mut W) -> Result<(), WriteFault>
     write_line(command_text(edge), out)
 }
 
-/// Writes the command of each edge that isn't a phony, in order, a newline after each, and nothing else. At the first failed write it stops, and the sink took the bytes in front of it.
+/// Writes the command of each edge that isn't a phony, in order, a newline after each, and nothing else. At the first
+/// failed write it stops, and the sink took the bytes in front of it.
 pub fn write_commands<W: Sink>(manifest: &Manifest, out: &mut W) -> Result<(), WriteFault>
     ensures { Writes (is_ok result) (W.failures out.old, W.taken out.old) (W.failures out.new, W.taken out.new) (commands_of manifest.now) }
 {

@@ -27,7 +27,8 @@ pub fn mark(name: &[u8]) -> usize
 #[derive(Drop)]
 pub struct ScopedMap<V> {
     values: IndexMap<Key, V>,
-    /// Whether a name of this mark was set. Most names that are looked up in vain are told by that, without a hash for each scope.
+    /// Whether a name of this mark was set. Most names that are looked up in vain are told by that, without a hash
+    /// for each scope.
     marked: [bool; MARKS],
 }
 

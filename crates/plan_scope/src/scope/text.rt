@@ -2,7 +2,7 @@
 
 ghost use Rattle.std.specs.Prelude.{◌≡◌, ◌≤◌, ◌+◌, ◌++◌, length, IfOk, OnOk};
 ghost use Rattle.std.specs.List.{join_with_byte, list_all};
-ghost use Rattle.plan_scope.specs.Expansion.{escaped, is_plain, quoted};
+ghost use Rattle.plan_scope.specs.Expansion.{escaped, is_plain, quoted, single_quote};
 ghost use Rattle.plan_scope.specs.Scopes.{is_too_long};
 ghost use Rattle.plan_text.specs.Limits.{max_text};
 ghost use Rattle.plan_scope.specs.Kept.{kept};
@@ -96,7 +96,7 @@ fn append_escaped(out: &mut Vec<u8>, byte: u8) -> Result<(), AllocError>
 
 /// Appends a path between quotes.
 fn append_between_quotes(out: &mut Vec<u8>, path: &[u8]) -> Result<(), AllocError>
-    ensures { OnOk result (kept out.new.items ≡ kept (out.old.items ++ (39 ∷ (flat_map escaped path.now ++ 39 ∷ [])))) }
+    ensures { OnOk result (kept out.new.items ≡ kept (out.old.items ++ (single_quote ∷ (flat_map escaped path.now ++ single_quote ∷ [])))) }
 {
     append(out, b"'")?;
     for byte in path {
@@ -143,7 +143,8 @@ fn append_separator(out: &mut Vec<u8>, is_first: bool, separator: u8) -> Result<
     append(out, &[separator])
 }
 
-/// Appends paths as they are shown, this byte between each two. Behind a text that is too long nothing is kept, and no path is looked at.
+/// Appends paths as they are shown, this byte between each two. Behind a text that is too long nothing is kept, and
+/// no path is looked at.
 pub fn append_paths(
     out: &mut Vec<u8>,
     quoting: Quoting,

@@ -286,13 +286,16 @@ fn load_included<S: Source>(
     load_file(alloc, source, loaded, path, scopes, left - 1)
 }
 
-/// Reads the file at this path and all files that it includes: the statements of a file stand in place of the `include` or `subninja` statement that includes it.
+/// Reads the file at this path and all files that it includes: the statements of a file stand in place of the
+/// `include` or `subninja` statement that includes it.
 /// Want of memory, also the source's and the reader's, is `LoadMemory`.
 ///
 /// # Errors
 ///
-/// The first in the order of the statements: `SourceMissing` where the source has no such file or its read fails, `Parse` where a file's
-/// bytes are no list of statements, and `Refused` where a statement binds a name to a text that is too long, includes a file from an
+/// The first in the order of the statements: `SourceMissing` where the source has no such file or its read fails,
+/// `Parse` where a file's
+/// bytes are no list of statements, and `Refused` where a statement binds a name to a text that is too long, includes
+/// a file from an
 /// empty path or one of more than 4,096 bytes, or stands in a file with 63 others open above it.
 pub fn load<S: Source>(alloc: Global, source: &mut S, path: &[u8]) -> Result<Tree, ScopeFault>
     ensures loaded { Loads (S.gives source.old) (S.fails source.old) (S.failures source.old) (S.failures source.new) path.now result }

@@ -1,10 +1,10 @@
 use Rattle.std.proofs.Common.{◌∙◌, ap, subst, sym}
 use Rattle.std.specs.List.{list_any}
 use Rattle.plan_scope.specs.Scopes.{is_empty, is_long_path, is_too_long}
-use Rattle.plan_scope.specs.Edges.{block_of}
+use Rattle.plan_scope.specs.Edges.{block_of, canonical_paths}
 use Rattle.plan_scope.specs.Kept.{KeptEqBindings}
 use Rattle.plan_scope.specs.Parts.{texts_in}
-use Rattle.plan_scope.specs.Paths.{canonical_paths, kept_in}
+use Rattle.plan_scope.specs.Paths.{kept_in}
 use Rattle.plan_scope.proofs.PathLemmas.{any_in, empty_kept, far_kept, kept_forms, exact_forms}
 use Rattle.plan_scope.proofs.edge.build_line.read_parts.Goals as goal
 
