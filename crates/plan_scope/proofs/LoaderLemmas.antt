@@ -16,24 +16,12 @@ use Rattle.plan_scope.specs.Trees.{TreeStatement}
 use Rattle.plan_scope.specs.Scopes.{Text, Name, ScopedBindings, lookup, expand, bound_by, bound_in, is_long_path, is_empty}
 use Rattle.plan_text.specs.Limits.{max_path}
 use Rattle.plan_scope.specs.Kept.{kept, KeptEqScoped}
-use Rattle.plan_scope.specs.Loading.{FileAnswers, RestAnswers, GoesOn, LoadsStatement, LoadsStatements, LoadsParsed, LoadsFile, LoadsWithin, LoadsFirst, Loads, IsMissing, cause_of_path, cause_to_load, greatest_scope, own_scope, scopes_in, included_by}
+use Rattle.plan_scope.specs.Loading.{FileContents, Outcome, PathSet, FileAnswers, RestAnswers, GoesOn, LoadsStatement, LoadsStatements, LoadsParsed, LoadsFile, LoadsWithin, LoadsFirst, Loads, IsMissing, cause_of_path, cause_to_load, greatest_scope, own_scope, scopes_in, included_by}
 use Rattle.plan_scope.specs.Edges.{first_of}
 use Rattle.plan_scope.specs.Sources.{SameFiles}
 use Rattle.plan_scope.specs.LoaderAnswers.{Answers, LoadsOne, IsIncluded, never, includes}
 use Rattle.plan_scope.proofs.ScopeLemmas.{agrees_more}
 use Rattle.plan_scope.proofs.TextLemmas.{Same, same_from_kept}
-
--- what a source may give under a path
-abbrev pub Gives : Type 1
-Gives = Text → Option (List ℕ) → Type 0
-
--- which paths may be missing
-abbrev pub Missing : Type 1
-Missing = Text → Type 0
-
--- all statements so far, or a fault
-abbrev pub Outcome : Type 0
-Outcome = Result (List TreeStatement) ScopeFault
 
 goes_wider : (next more : RestAnswers) (inner out : Outcome) → ((statements : List TreeStatement) (o : Outcome) → next statements o → more statements o) → GoesOn next inner out → GoesOn more inner out
 goes_wider next more (Ok statements) out h r = h statements out r
@@ -63,7 +51,7 @@ parsed_wider : (answers wide : FileAnswers) → ((path : Text) (scopes : List �
 parsed_wider answers wide t left path scopes above (Ok statements) out r = all_wider answers wide t left path scopes statements above out r
 parsed_wider answers wide t left path scopes above (Err fault) out r = r
 
-file_wider : (g h : Gives) (m n : Missing) (answers wide : FileAnswers) (left : ℕ) → ((p : Text) (bytes : Option (List ℕ)) → g p bytes → h p bytes) → ((p : Text) → m p → n p)
+file_wider : (g h : FileContents) (m n : PathSet) (answers wide : FileAnswers) (left : ℕ) → ((p : Text) (bytes : Option (List ℕ)) → g p bytes → h p bytes) → ((p : Text) → m p → n p)
     → ((path : Text) (scopes : List ℕ) (above : List TreeStatement) (out : Outcome) → answers path scopes above out → wide path scopes above out)
     → (path : Text) (scopes : List ℕ) (above : List TreeStatement) (out : Outcome) → LoadsFile g m answers left path scopes above out → LoadsFile h n wide left path scopes above out
 file_wider g h m n answers wide left gh mn t path scopes above out (inl r) = inl (r.0, mn path r.1)
@@ -71,7 +59,7 @@ file_wider g h m n answers wide left gh mn t path scopes above out (inr r) =
     inr (r.0, gh path (Some r.0) r.1, parsed_wider answers wide t left path scopes above (statements_of r.0) out r.2)
 
 -- what gives more, or misses more, loads as much
-within_wider : (g h : Gives) (m n : Missing) → ((p : Text) (bytes : Option (List ℕ)) → g p bytes → h p bytes) → ((p : Text) → m p → n p)
+within_wider : (g h : FileContents) (m n : PathSet) → ((p : Text) (bytes : Option (List ℕ)) → g p bytes → h p bytes) → ((p : Text) → m p → n p)
     → (left : ℕ) (path : Text) (scopes : List ℕ) (above : List TreeStatement) (out : Outcome) → LoadsWithin g m left path scopes above out → LoadsWithin h n left path scopes above out
 unfolding LoadsWithin
 within_wider g h m n gh mn zero path scopes above out r =
@@ -79,30 +67,30 @@ within_wider g h m n gh mn zero path scopes above out r =
 within_wider g h m n gh mn (suc left) path scopes above out r =
     file_wider g h m n (LoadsWithin g m left) (LoadsWithin h n left) (suc left) gh mn (within_wider g h m n gh mn left) path scopes above out r
 
-takes_wider : (g h : Gives) (m n : Missing) → ((p : Text) (bytes : Option (List ℕ)) → g p bytes → h p bytes) → ((p : Text) → m p → n p)
+takes_wider : (g h : FileContents) (m n : PathSet) → ((p : Text) (bytes : Option (List ℕ)) → g p bytes → h p bytes) → ((p : Text) → m p → n p)
     → (left : ℕ) (path : Text) (scopes : List ℕ) (above : List TreeStatement) (out : Outcome) → includes g m left path scopes above out → includes h n left path scopes above out
 takes_wider g h m n gh mn zero path scopes above out r = r
 takes_wider g h m n gh mn (suc left) path scopes above out r = within_wider g h m n gh mn left path scopes above out r
 
-file_is : (g : Gives) (m : Missing) (left : ℕ) (path : Text) (scopes : List ℕ) (above : List TreeStatement) (out : Outcome) → LoadsFile g m (includes g m left) left path scopes above out → LoadsWithin g m left path scopes above out
+file_is : (g : FileContents) (m : PathSet) (left : ℕ) (path : Text) (scopes : List ℕ) (above : List TreeStatement) (out : Outcome) → LoadsFile g m (includes g m left) left path scopes above out → LoadsWithin g m left path scopes above out
 unfolding LoadsWithin
 file_is g m zero path scopes above out r = r
 file_is g m (suc left) path scopes above out r = r
 
-missing_wider : (g h : Gives) (f k : Missing) (b c n : ℕ) → ((p : Text) (bytes : Option (List ℕ)) → g p bytes → h p bytes) → ((p : Text) → f p → k p) → b ≡ c → (p : Text) → IsMissing g f b n p → IsMissing h k c n p
+missing_wider : (g h : FileContents) (f k : PathSet) (b c n : ℕ) → ((p : Text) (bytes : Option (List ℕ)) → g p bytes → h p bytes) → ((p : Text) → f p → k p) → b ≡ c → (p : Text) → IsMissing g f b n p → IsMissing h k c n p
 missing_wider g h f k b c n gh fk e p (inl r) = inl (gh p None r.0, r.1 ∙ e)
 missing_wider g h f k b c n gh fk e p (inr r) = inr (fk p r.0, r.1 ∙ ap (λ (x : ℕ). x + 1) e)
 
 -- such sources, one after the other
-pub same_files : (g h i : Gives) (e f k : Missing) → SameFiles g e h f → SameFiles h f i k → SameFiles g e i k
+pub same_files : (g h i : FileContents) (e f k : PathSet) → SameFiles g e h f → SameFiles h f i k → SameFiles g e i k
 same_files g h i e f k a b = (
   λ p bytes. (λ x. (b.0 p bytes).0 ((a.0 p bytes).0 x), λ x. (a.0 p bytes).1 ((b.0 p bytes).1 x)),
   λ p. (λ x. (b.1 p).0 ((a.1 p).0 x), λ x. (a.1 p).1 ((b.1 p).1 x)),
 )
 
 -- an answer by what is loaded, where the same count of failed reads stood before
-answers_wider : (g h : Gives) (f k : Missing) (b c n : ℕ) (R S : Missing → Outcome → Type 0) (result : Outcome) → ((p : Text) (bytes : Option (List ℕ)) → g p bytes → h p bytes) → ((p : Text) → f p → k p) → b ≡ c
-    → ((m o : Missing) → ((p : Text) → m p → o p) → R m result → S o result) → Answers g f b n R result → Answers h k c n S result
+answers_wider : (g h : FileContents) (f k : PathSet) (b c n : ℕ) (R S : PathSet → Outcome → Type 0) (result : Outcome) → ((p : Text) (bytes : Option (List ℕ)) → g p bytes → h p bytes) → ((p : Text) → f p → k p) → b ≡ c
+    → ((m o : PathSet) → ((p : Text) → m p → o p) → R m result → S o result) → Answers g f b n R result → Answers h k c n S result
 answers_wider g h f k b c n R S (Ok statements) gh fk e w r = (r.0 ∙ e, w never never (λ p x. x) r.1)
 answers_wider g h f k b c n R S (Err LoadMemory) gh fk e w r = r ∙ e
 answers_wider g h f k b c n R S (Err (SourceMissing path)) gh fk e w r = w (IsMissing g f b n) (IsMissing h k c n) (missing_wider g h f k b c n gh fk e) r
@@ -111,18 +99,18 @@ answers_wider g h f k b c n R S (Err (Refused path offset cause)) gh fk e w r = 
 answers_wider g h f k b c n R S (Err Memory) gh fk e w r = (r.0 ∙ e, w never never (λ p x. x) r.1)
 
 -- a file that is missing
-pub missing_file : (g : Gives) (f : Missing) (b n left : ℕ) (asked path : Text) (scopes : List ℕ) (above : List TreeStatement) → asked ≡ path → IsMissing g f b n asked → LoadsWithin g (IsMissing g f b n) left path scopes above (Err (SourceMissing path))
+pub missing_file : (g : FileContents) (f : PathSet) (b n left : ℕ) (asked path : Text) (scopes : List ℕ) (above : List TreeStatement) → asked ≡ path → IsMissing g f b n asked → LoadsWithin g (IsMissing g f b n) left path scopes above (Err (SourceMissing path))
 missing_file g f b n left asked path scopes above e r = file_is g (IsMissing g f b n) left path scopes above (Err (SourceMissing path)) (inl (refl, subst (IsMissing g f b n) e r))
 
 -- a file that is no list of statements
-pub unparsed_file : (g : Gives) (left : ℕ) (asked path : Text) (scopes : List ℕ) (above : List TreeStatement) (fault : ParseFault) → asked ≡ path
+pub unparsed_file : (g : FileContents) (left : ℕ) (asked path : Text) (scopes : List ℕ) (above : List TreeStatement) (fault : ParseFault) → asked ≡ path
     → ((bytes : List ℕ) × g asked (Some bytes) × (statements_of bytes ≡ Err fault)) → LoadsWithin g never left path scopes above (Err (Parse path fault))
 unparsed_file g left asked path scopes above fault e r =
     file_is g never left path scopes above (Err (Parse path fault))
     (inr (r.0, subst (λ (p : Text). g p (Some r.0)) e r.1, subst (λ (x : Result (List Statement) ParseFault). LoadsParsed (includes g never left) left path scopes above x (Err (Parse path fault))) (sym r.2) refl))
 
 -- a file with these statements
-pub parsed_file : (g h : Gives) (f k : Missing) (b c n left : ℕ) (asked path : Text) (scopes : List ℕ) (above : List TreeStatement) (statements : List Statement) (result : Outcome) → asked ≡ path
+pub parsed_file : (g h : FileContents) (f k : PathSet) (b c n left : ℕ) (asked path : Text) (scopes : List ℕ) (above : List TreeStatement) (statements : List Statement) (result : Outcome) → asked ≡ path
     → ((p : Text) (bytes : Option (List ℕ)) → g p bytes → h p bytes) → ((p : Text) → f p → k p) → b ≡ c
     → ((bytes : List ℕ) × h asked (Some bytes) × (statements_of bytes ≡ Ok statements))
     → Answers g f b n (λ missing out. LoadsStatements (includes g missing left) left path scopes above statements out) result
@@ -169,14 +157,14 @@ one_stops answers more above l fault (Some cause) file r = r
 one_stops answers more above l fault None None r = cc
 one_stops answers more above l fault None (Some file) r = (r.0, r.1, goes_stop more r.0 fault r.2)
 
-one_wider : (g h : Gives) (m n : Missing) → ((p : Text) (bytes : Option (List ℕ)) → g p bytes → h p bytes) → ((p : Text) → m p → n p)
+one_wider : (g h : FileContents) (m n : PathSet) → ((p : Text) (bytes : Option (List ℕ)) → g p bytes → h p bytes) → ((p : Text) → m p → n p)
     → (left : ℕ) (above : List TreeStatement) (l : TreeStatement) (out : Outcome) → LoadsOne (includes g m left) left above l out → LoadsOne (includes h n left) left above l out
 one_wider g h m n gh mn left above l out r =
     line_wider (includes g m left) (includes h n left) (λ statements o. o ≡ Ok statements) (λ statements o. o ≡ Ok statements) (takes_wider g h m n gh mn left) (λ statements o x. x) above l
     (cause_to_load left (lookup (bound_by above) l.scopes) l.kind) (included_by (lookup (bound_by above) l.scopes) l.kind) out r
 
 -- one more statement is loaded
-pub goes_on : (g h : Gives) (left : ℕ) (path : Text) (scopes : List ℕ) (front : List Statement) (s : Statement) (above mid statements : List TreeStatement)
+pub goes_on : (g h : FileContents) (left : ℕ) (path : Text) (scopes : List ℕ) (front : List Statement) (s : Statement) (above mid statements : List TreeStatement)
     → ((p : Text) (bytes : Option (List ℕ)) → g p bytes → h p bytes)
     → LoadsStatements (includes h never left) left path scopes above front (Ok mid)
     → LoadsOne (includes g never left) left mid (record { path = path; scopes = scopes; offset = s.offset; kind = s.kind }) (Ok statements)
@@ -186,7 +174,7 @@ goes_on g h left path scopes front s above mid statements gh r q =
     (one_wider g h never never gh (λ p x. x) left mid (record { path = path; scopes = scopes; offset = s.offset; kind = s.kind }) (Ok statements) q)
 
 -- a statement is not loaded
-pub stops : (g h : Gives) (f k : Missing) (b c n left : ℕ) (path : Text) (scopes : List ℕ) (front : List Statement) (s : Statement) (back all : List Statement) (above mid : List TreeStatement) (fault : ScopeFault)
+pub stops : (g h : FileContents) (f k : PathSet) (b c n left : ℕ) (path : Text) (scopes : List ℕ) (front : List Statement) (s : Statement) (back all : List Statement) (above mid : List TreeStatement) (fault : ScopeFault)
     → ((p : Text) (bytes : Option (List ℕ)) → g p bytes → h p bytes) → ((p : Text) → f p → k p) → b ≡ c → front ++ s ∷ back ≡ all
     → LoadsStatements (includes h never left) left path scopes above front (Ok mid)
     → Answers g f b n (λ missing out. LoadsOne (includes g missing left) left mid (record { path = path; scopes = scopes; offset = s.offset; kind = s.kind }) out) (Err fault)
@@ -202,7 +190,7 @@ stops g h f k b c n left path scopes front s back all above mid fault gh fk e w 
     (one_wider g h m wide gh mw left mid l (Err fault) x)))) a
 
 -- a statement that includes a file
-pub takes_file : (g : Gives) (f : Missing) (b n left : ℕ) (above : List TreeStatement) (l : TreeStatement) (path : Text) (result : Outcome)
+pub takes_file : (g : FileContents) (f : PathSet) (b n left : ℕ) (above : List TreeStatement) (l : TreeStatement) (path : Text) (result : Outcome)
     → cause_to_load left (lookup (bound_by above) l.scopes) l.kind ≡ None → included_by (lookup (bound_by above) l.scopes) l.kind ≡ Some path → 0 < left
     → Answers g f b n (λ missing out. LoadsWithin g missing (left - 1) path (scopes_in above l.scopes l.kind) above out) result
     → Answers g f b n (λ missing out. LoadsOne (includes g missing left) left above l out) result
@@ -306,7 +294,7 @@ some_scope above scopes inner k lt e = subst (λ (s : List ℕ). 0 < length s) (
     seen (kind.Default targets) = lt
     seen (kind.Binding b) = lt
 
-first : (g : Gives) (m n : Missing) (name path : Text) (scopes : List ℕ) (above : List TreeStatement) (out : Outcome) → ((p : Text) → m p → n p) → name ≡ path → scopes ≡ 0 ∷ [] → above ≡ []
+first : (g : FileContents) (m n : PathSet) (name path : Text) (scopes : List ℕ) (above : List TreeStatement) (out : Outcome) → ((p : Text) → m p → n p) → name ≡ path → scopes ≡ 0 ∷ [] → above ≡ []
     → LoadsWithin g m 63 name scopes above out → LoadsFirst g n path out
 first g m n name path scopes above out mn e f h r =
     within_wider g g m n (λ p bytes x. x) mn 63 path (0 ∷ []) [] out
@@ -315,13 +303,13 @@ first g m n name path scopes above out mn e f h r =
     (subst (λ (x : List TreeStatement). LoadsWithin g m 63 name scopes x out) h r)))
 
 -- a tree that is loaded
-pub tree_loaded : (g : Gives) (f : Missing) (b n : ℕ) (name path : Text) (scopes : List ℕ) (above statements tree : List TreeStatement) → name ≡ path → scopes ≡ 0 ∷ [] → above ≡ [] → tree ≡ statements
+pub tree_loaded : (g : FileContents) (f : PathSet) (b n : ℕ) (name path : Text) (scopes : List ℕ) (above statements tree : List TreeStatement) → name ≡ path → scopes ≡ 0 ∷ [] → above ≡ [] → tree ≡ statements
     → Answers g f b n (λ missing out. LoadsWithin g missing 63 name scopes above out) (Ok statements) → Loads g f b n path (Ok tree)
 tree_loaded g f b n name path scopes above statements tree e i h k r =
     (r.0, subst (λ (x : List TreeStatement). LoadsFirst g (IsMissing g f b n) path (Ok x)) (sym k) (first g never (IsMissing g f b n) name path scopes above (Ok statements) (λ p x. absurd x) e i h r.1))
 
 -- a tree that isn't
-pub tree_failed : (g : Gives) (f : Missing) (b n : ℕ) (name path : Text) (scopes : List ℕ) (above : List TreeStatement) (fault : ScopeFault) → name ≡ path → scopes ≡ 0 ∷ [] → above ≡ []
+pub tree_failed : (g : FileContents) (f : PathSet) (b n : ℕ) (name path : Text) (scopes : List ℕ) (above : List TreeStatement) (fault : ScopeFault) → name ≡ path → scopes ≡ 0 ∷ [] → above ≡ []
     → Answers g f b n (λ missing out. LoadsWithin g missing 63 name scopes above out) (Err fault) → Loads g f b n path (Err fault)
 tree_failed g f b n name path scopes above LoadMemory e i h r = r
 tree_failed g f b n name path scopes above (SourceMissing file) e i h r = first g (IsMissing g f b n) (IsMissing g f b n) name path scopes above (Err (SourceMissing file)) (λ p x. x) e i h r

@@ -14,9 +14,8 @@ use Rattle.plan_scope.specs.declared.fault.ScopeFault.{ScopeFault}
 use Rattle.plan_scope.specs.Trees.{TreeStatement}
 use Rattle.plan_scope.specs.Scopes.{Text, lookup, bound_by}
 use Rattle.plan_scope.specs.Edges.{builds_in, builds_of}
-use Rattle.plan_scope.specs.Loading.{FileAnswers, RestAnswers, GoesOn, LoadsStatement, LoadsStatements, LoadsParsed, LoadsFile, LoadsWithin, LoadsFirst, cause_to_load, scopes_in, included_by}
+use Rattle.plan_scope.specs.Loading.{FileContents, Outcome, PathSet, FileAnswers, RestAnswers, GoesOn, LoadsStatement, LoadsStatements, LoadsParsed, LoadsFile, LoadsWithin, LoadsFirst, cause_to_load, scopes_in, included_by}
 use Rattle.plan_scope.specs.Sound.{MakesSome}
-use Rattle.plan_scope.proofs.LoaderLemmas.{Gives, Missing, Outcome}
 
 -- each statement says what is whole
 abbrev AreWhole : List TreeStatement → Type 0
@@ -63,11 +62,11 @@ parsed_whole : (answers : FileAnswers) → TakesWhole answers → (left : ℕ) (
 parsed_whole answers t left path scopes above (Ok statements) out w a r = all_whole answers t left path scopes statements above out (w statements refl) a r
 parsed_whole answers t left path scopes above (Err fault) out w a r = subst IsAnsweredWhole (sym r) (tt {0})
 
-file_whole : StatementsAreWhole → (g : Gives) (m : Missing) (answers : FileAnswers) → TakesWhole answers → (left : ℕ) → TakesWhole (LoadsFile g m answers left)
+file_whole : StatementsAreWhole → (g : FileContents) (m : PathSet) (answers : FileAnswers) → TakesWhole answers → (left : ℕ) → TakesWhole (LoadsFile g m answers left)
 file_whole s g m answers t left path scopes above out a (inl r) = subst IsAnsweredWhole (sym r.0) (tt {0})
 file_whole s g m answers t left path scopes above out a (inr r) = parsed_whole answers t left path scopes above (statements_of r.0) out (s r.0) a r.2
 
-within_whole : StatementsAreWhole → (g : Gives) (m : Missing) (left : ℕ) → TakesWhole (LoadsWithin g m left)
+within_whole : StatementsAreWhole → (g : FileContents) (m : PathSet) (left : ℕ) → TakesWhole (LoadsWithin g m left)
 unfolding LoadsWithin
 within_whole s g m zero path scopes above out a r = file_whole s g m (λ path scopes above out. ⊥) (λ path scopes above out a x. absurd x) 0 path scopes above out a r
 within_whole s g m (suc left) path scopes above out a r = file_whole s g m (LoadsWithin g m left) (within_whole s g m left) (suc left) path scopes above out a r
@@ -86,5 +85,5 @@ lines_make [] w = All-nil MakesSome
 lines_make (l ∷ more) w = All-append MakesSome (builds_in l.kind) (builds_of more) (line_makes l.kind w.0) (lines_make more w.1)
 
 -- each build line of a tree that is loaded has an output
-pub loaded_makes : StatementsAreWhole → (g : Gives) (m : Missing) (path : Text) (statements : List TreeStatement) → LoadsFirst g m path (Ok statements) → All MakesSome (builds_of statements)
+pub loaded_makes : StatementsAreWhole → (g : FileContents) (m : PathSet) (path : Text) (statements : List TreeStatement) → LoadsFirst g m path (Ok statements) → All MakesSome (builds_of statements)
 loaded_makes s g m path statements r = lines_make statements (within_whole s g m 63 path (0 ∷ []) [] (Ok statements) (tt {0}) r)

@@ -13,6 +13,18 @@ use Rattle.plan_scope.specs.Trees.{TreeStatement}
 use Rattle.plan_scope.specs.Scopes.{Text, Name, lookup, expand, bound_by, is_too_long, is_long_path, is_empty}
 use Rattle.plan_scope.specs.Edges.{first_of}
 
+-- what a source may give for each path, nothing where there may be no such file
+abbrev pub FileContents : Type 1
+FileContents = Text → Option (List ℕ) → Type 0
+
+-- paths of which something holds
+abbrev pub PathSet : Type 1
+PathSet = Text → Type 0
+
+-- all statements so far, or a fault
+abbrev pub Outcome : Type 0
+Outcome = Result (List TreeStatement) ScopeFault
+
 -- the path of the file that a statement includes
 abbrev pub included_by : (Name → Text) → StatementKind → Option Text
 included_by here (kind.Include path) = Some (expand here path)
@@ -55,44 +67,44 @@ cause_to_load left here other = None
 -- what may be answered for a file: its path, its scopes, the statements above it, and the answer, all statements so
 -- far or a fault
 abbrev pub FileAnswers : Type 1
-FileAnswers = Text → List ℕ → List TreeStatement → Result (List TreeStatement) ScopeFault → Type 0
+FileAnswers = Text → List ℕ → List TreeStatement → Outcome → Type 0
 
 -- what may be answered for what follows these statements
 abbrev pub RestAnswers : Type 1
-RestAnswers = List TreeStatement → Result (List TreeStatement) ScopeFault → Type 0
+RestAnswers = List TreeStatement → Outcome → Type 0
 
 -- the first fault counts
-abbrev pub GoesOn : RestAnswers → Result (List TreeStatement) ScopeFault → Result (List TreeStatement) ScopeFault → Type 0
+abbrev pub GoesOn : RestAnswers → Outcome → Outcome → Type 0
 GoesOn next (Ok statements) out = next statements out
 GoesOn next (Err fault) out = out ≡ Err fault
 
 -- a statement that is refused, one that includes no file, and one in whose place the statements of this file stand
-abbrev pub LoadsStatement : FileAnswers → RestAnswers → List TreeStatement → TreeStatement → Option Cause → Option Text → Result (List TreeStatement) ScopeFault → Type 0
+abbrev pub LoadsStatement : FileAnswers → RestAnswers → List TreeStatement → TreeStatement → Option Cause → Option Text → Outcome → Type 0
 LoadsStatement answers next above l (Some cause) file out = out ≡ Err (Refused l.path l.offset cause)
 LoadsStatement answers next above l None None out = next (above ++ l ∷ []) out
 LoadsStatement answers next above l None (Some file) out =
-    (inner : Result (List TreeStatement) ScopeFault) × answers file (scopes_in above l.scopes l.kind) above inner × GoesOn next inner out
+    (inner : Outcome) × answers file (scopes_in above l.scopes l.kind) above inner × GoesOn next inner out
 
 -- the statements of a file in order, behind the statements above
-abbrev pub LoadsStatements : FileAnswers → ℕ → Text → List ℕ → List TreeStatement → List Statement → Result (List TreeStatement) ScopeFault → Type 0
+abbrev pub LoadsStatements : FileAnswers → ℕ → Text → List ℕ → List TreeStatement → List Statement → Outcome → Type 0
 LoadsStatements answers left path scopes above [] out = out ≡ Ok above
 LoadsStatements answers left path scopes above (s ∷ more) out =
     let here = lookup (bound_by above) scopes in
     LoadsStatement answers (λ statements out. LoadsStatements answers left path scopes statements more out) above (record { path = path; scopes = scopes; offset = s.offset; kind = s.kind })
     (cause_to_load left here s.kind) (included_by here s.kind) out
 
-abbrev pub LoadsParsed : FileAnswers → ℕ → Text → List ℕ → List TreeStatement → Result (List Statement) ParseFault → Result (List TreeStatement) ScopeFault → Type 0
+abbrev pub LoadsParsed : FileAnswers → ℕ → Text → List ℕ → List TreeStatement → Result (List Statement) ParseFault → Outcome → Type 0
 LoadsParsed answers left path scopes above (Ok statements) out = LoadsStatements answers left path scopes above statements out
 LoadsParsed answers left path scopes above (Err fault) out = out ≡ Err (Parse path fault)
 
 -- A file: it is missing, where the source may say so or its read failed; or it has bytes that the source may give.
-abbrev pub LoadsFile : (gives : Text → Option (List ℕ) → Type 0) → (missing : Text → Type 0) → FileAnswers → ℕ → FileAnswers
+abbrev pub LoadsFile : (gives : FileContents) → (missing : PathSet) → FileAnswers → ℕ → FileAnswers
 LoadsFile gives missing answers left path scopes above out =
     ((out ≡ Err (SourceMissing path)) × missing path)
     ⊎ ((bytes : List ℕ) × gives path (Some bytes) × LoadsParsed answers left path scopes above (statements_of bytes) out)
 
 -- a file, where so many files more may be open
-unfoldable pub LoadsWithin : (gives : Text → Option (List ℕ) → Type 0) → (missing : Text → Type 0) → ℕ → FileAnswers
+unfoldable pub LoadsWithin : (gives : FileContents) → (missing : PathSet) → ℕ → FileAnswers
 LoadsWithin gives missing zero = LoadsFile gives missing (λ path scopes above out. ⊥) 0
 LoadsWithin gives missing (suc left) = LoadsFile gives missing (LoadsWithin gives missing left) (suc left)
 
@@ -101,16 +113,16 @@ abbrev pub more_files : ℕ
 more_files = 63
 
 -- the first file has scope 0
-abbrev pub LoadsFirst : (gives : Text → Option (List ℕ) → Type 0) → (missing : Text → Type 0) → Text → Result (List TreeStatement) ScopeFault → Type 0
+abbrev pub LoadsFirst : (gives : FileContents) → (missing : PathSet) → Text → Outcome → Type 0
 LoadsFirst gives missing path out = LoadsWithin gives missing more_files path (0 ∷ []) [] out
 
 -- its read failed, and raised the count, or found no file, and didn't
-abbrev pub IsMissing : (gives : Text → Option (List ℕ) → Type 0) → (fails : Text → Type 0) → (before now : ℕ) → Text → Type 0
+abbrev pub IsMissing : (gives : FileContents) → (fails : PathSet) → (before now : ℕ) → Text → Type 0
 IsMissing gives fails before now path = (gives path None × (now ≡ before)) ⊎ (fails path × (now ≡ before + 1))
 
 -- What is answered for the manifest at a path, by what the source may give and which reads may fail. Want of memory
 -- tells nothing; the count of failed reads rises where a read failed, and then alone.
-abbrev pub Loads : (gives : Text → Option (List ℕ) → Type 0) → (fails : Text → Type 0) → (before now : ℕ) → Text → Result (List TreeStatement) ScopeFault → Type 0
+abbrev pub Loads : (gives : FileContents) → (fails : PathSet) → (before now : ℕ) → Text → Outcome → Type 0
 Loads gives fails before now path (Ok statements) = (now ≡ before) × LoadsFirst gives (IsMissing gives fails before now) path (Ok statements)
 Loads gives fails before now path (Err LoadMemory) = now ≡ before
 Loads gives fails before now path (Err (SourceMissing file)) = LoadsFirst gives (IsMissing gives fails before now) path (Err (SourceMissing file))

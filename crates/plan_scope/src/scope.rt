@@ -1,6 +1,6 @@
 //! What names stand for at a place of a tree.
 
-ghost use Rattle.std.specs.Prelude.{◌≡◌, ◌≤◌, ◌+◌, [], ◌∷◌, ◌++◌, List, length, IfOk, OnOk};
+ghost use Rattle.std.specs.Prelude.{◌≡◌, ◌≤◌, ◌+◌, [], ◌∷◌, ◌++◌, length, IfOk, OnOk};
 ghost use Rattle.std.specs.List.{list_any};
 ghost use Rattle.plan_scope.specs.Scopes.{Name, ScopedBindings as Bound, Text, bound_in, expand, in_own, is_too_long, lookup, value_of};
 ghost use Rattle.plan_text.specs.Limits.{max_text};

@@ -1,7 +1,7 @@
 //! Variables of a rule whose texts were found on the way to another's, so that none is expanded each time that it is
 //! named.
 
-ghost use Rattle.std.specs.Prelude.{◌≡◌, ◌++◌, ℕ, Some, IfOk, option_map, length};
+ghost use Rattle.std.specs.Prelude.{◌≡◌, ◌++◌, Some, IfOk, option_map, length};
 ghost use Rattle.plan_scope.specs.Scopes.{Name, Text};
 ghost use Rattle.plan_scope.specs.Expansion.{Meaning};
 ghost use Rattle.plan_scope.specs.Kept.{kept};

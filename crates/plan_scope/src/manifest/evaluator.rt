@@ -266,10 +266,8 @@ fn add_pool<'a>(
         bound: &so_far.bound,
         scopes,
     };
-    match pool(alloc, &so_far.pool_names, here, declared) {
-        Ok(pool) => so_far.pools.push(pool)?,
-        Err(fault) => return Err(fault),
-    }
+    let pool = pool(alloc, &so_far.pool_names, here, declared)?;
+    so_far.pools.push(pool)?;
     so_far.pool_names.insert(declared.name.as_slice())?;
     Ok(())
 }
@@ -292,10 +290,8 @@ fn add_default<'a>(
         bound: &so_far.bound,
         scopes,
     };
-    match targets(alloc, so_far.edges.as_slice().len(), here, paths) {
-        Ok(mut found) => so_far.defaults.append(&mut found)?,
-        Err(fault) => return Err(fault),
-    }
+    let mut found = targets(alloc, so_far.edges.as_slice().len(), here, paths)?;
+    so_far.defaults.append(&mut found)?;
     Ok(())
 }
 

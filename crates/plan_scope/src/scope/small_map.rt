@@ -1,6 +1,6 @@
 //! Values by name.
 
-ghost use Rattle.std.specs.Prelude.{◌≡◌, ◌<◌, ℕ, List, [], ◌∷◌, ◌++◌, OnOk, OnErr, option_map, length};
+ghost use Rattle.std.specs.Prelude.{◌≡◌, ◌<◌, ℕ, List, [], ◌∷◌, ◌++◌, OnOk, option_map, length};
 ghost use Rattle.plan_scope.specs.Scopes.{last_of};
 ghost use Rattle.plan_scope.specs.Kept.{few_bindings, map_bindings};
 

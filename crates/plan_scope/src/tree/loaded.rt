@@ -1,8 +1,7 @@
 //! The statements of a tree that are loaded so far.
 
 ghost use Rattle.std.specs.Prelude.{◌≡◌, [], IfOk};
-ghost use Rattle.std.specs.List.{list_any};
-ghost use Rattle.plan_scope.specs.Scopes.{bound_by, bound_in, is_too_long, lookup};
+ghost use Rattle.plan_scope.specs.Scopes.{bound_by};
 ghost use Rattle.plan_scope.specs.Kept.{KeptEqScoped};
 ghost use Rattle.plan_scope.specs.Loading.{fresh_scope, greatest_scope, own_scope};
 

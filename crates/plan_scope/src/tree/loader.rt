@@ -1,6 +1,6 @@
 //! Trees from a source.
 
-ghost use Rattle.std.specs.Prelude.{◌≡◌, ◌<◌, ◌≤◌, ◌+◌, ◌-◌, [], ◌∷◌, ◌++◌, ℕ, List, Option, Some, IfOk, IfErr, length, map};
+ghost use Rattle.std.specs.Prelude.{◌≡◌, ◌<◌, ◌≤◌, ◌+◌, ◌-◌, [], ◌∷◌, ◌++◌, Option, Some, IfOk, length, map};
 ghost use Rattle.std.specs.List.{list_any};
 ghost use Rattle.plan_scope.specs.Scopes.{Name, Text, bound_by, bound_in, expand, is_too_long, lookup};
 ghost use Rattle.plan_scope.specs.Kept.{KeptEqLookup};
