@@ -1,7 +1,7 @@
 -- What `commands FILE` does.
 use Rattle.std.specs.Prelude.{◌≡◌, ◌+◌, ◌⊎◌, ℕ, List, Option, None, Result, Ok, Err, Bool, true, false}
 use Rattle.plan_text.specs.Sinks.{Writes}
-use Rattle.plan_scope.specs.Trees.{Line}
+use Rattle.plan_scope.specs.Trees.{TreeStatement}
 use Rattle.plan_scope.specs.Scopes.{Text}
 use Rattle.plan_scope.specs.Loading.{IsMissing, LoadsFirst}
 use Rattle.plan_scope.specs.Edges.{manifest_of, commands_of}
@@ -20,11 +20,11 @@ HasGraph m = (first_fault m ≡ None) × (ranks : List ℕ) × AreRanks (all_wai
 
 -- what may be loaded from a path: all lines, or a fault
 abbrev pub MayLoad : Type 1
-MayLoad = Text → Result (List Line) ScopeFault → Type 0
+MayLoad = Text → Result (List TreeStatement) ScopeFault → Type 0
 
 -- no write failed, and the sink took the commands of the manifest that some lines mean which may be loaded from the path, the text of each and a newline, in order; and the manifest has a graph
 pub record WritesAll (loads : MayLoad) (path : Text) (old new : ℕ × Option (List ℕ)) : Type 0 where
-  pub lines : List Line
+  pub lines : List TreeStatement
   pub manifest : Manifest
   pub loaded : loads path (Ok lines)
   pub means : manifest_of lines ≡ Ok manifest
@@ -33,7 +33,7 @@ pub record WritesAll (loads : MayLoad) (path : Text) (old new : ℕ × Option (L
 
 -- some lines that may be loaded from the path are refused, for this cause
 pub record RefusesLines (loads : MayLoad) (path : Text) (fault : PlanFault) : Type 0 where
-  pub lines : List Line
+  pub lines : List TreeStatement
   pub cause : ScopeFault
   pub loaded : loads path (Ok lines)
   pub means : manifest_of lines ≡ Err cause
@@ -47,7 +47,7 @@ pub record RefusesToLoad (loads : MayLoad) (path : Text) (fault : PlanFault) : T
 
 -- the manifest that some lines mean which may be loaded from the path has no graph, for this cause
 pub record RefusesGraph (loads : MayLoad) (path : Text) (fault : PlanFault) : Type 0 where
-  pub lines : List Line
+  pub lines : List TreeStatement
   pub manifest : Manifest
   pub cause : GraphFault
   pub loaded : loads path (Ok lines)
@@ -69,11 +69,11 @@ IsRefused loads path fault = RefusesLines loads path fault ⊎ (RefusesToLoad lo
 
 -- the manifest is the meaning of some lines that may be loaded from the path
 abbrev pub IsMeant : MayLoad → Text → Manifest → Type 0
-IsMeant loads path manifest = (lines : List Line) × loads path (Ok lines) × (manifest_of lines ≡ Ok manifest)
+IsMeant loads path manifest = (lines : List TreeStatement) × loads path (Ok lines) × (manifest_of lines ≡ Ok manifest)
 
 -- a write failed, behind a front of the commands of the manifest that some lines mean which may be loaded from the path; and the manifest has a graph
 pub record FailsToWrite (loads : MayLoad) (path : Text) (old new : ℕ × Option (List ℕ)) (fault : PlanFault) : Type 0 where
-  pub lines : List Line
+  pub lines : List TreeStatement
   pub manifest : Manifest
   pub loaded : loads path (Ok lines)
   pub means : manifest_of lines ≡ Ok manifest

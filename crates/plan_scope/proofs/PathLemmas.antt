@@ -1,4 +1,4 @@
--- Blocks and paths of which as much is kept.
+-- Blocks and paths of which as much is kept. Serves src/edge/paths.rt.
 use Rattle.std.proofs.Common.{◌≡◌, ℕ, ◌+◌, ◌<◌, ◌≤◌, Bool, true, false, ◌||◌, List, [], ◌∷◌, ◌++◌, length, map, Option, Ok, Err, refl, ap, sym, ◌∙◌, cond, inl, inr, arith, take, get_or}
 use Rattle.std.specs.List.{list_any}
 use Rattle.std.proofs.lemmas.Bool.{lt-ltb, ltb-false, ne_eqb}
@@ -10,13 +10,14 @@ use Rattle.plan_scope.specs.Scopes.{Text, Name, Bindings, last_of, expand, is_to
 use Rattle.plan_text.specs.Limits.{max_text, max_path}
 use Rattle.plan_scope.specs.declared.fault.Cause.TheVariants.{EmptyPath, PathTooLong}
 use Rattle.plan_scope.specs.declared.manifest.DefaultTarget.{DefaultTarget}
-use Rattle.plan_scope.specs.Edges.{block_of, near, path_of, canonical_or, first_of, or_refused, target_at, targets_by}
-use Rattle.plan_scope.specs.declared.build_texts.Paths.{Paths}
-use Rattle.plan_scope.specs.Frames.{kept, Agrees, StandsFor}
-use Rattle.plan_scope.specs.Paths.{IsListOf, all_in, canonical_paths, has_long, kept_in}
-use Rattle.plan_scope.proofs.Kept.{Same, same_from_kept, kept_or}
+use Rattle.plan_scope.specs.Edges.{all_in, canonical_paths, has_long, block_of, near, path_of, canonical_or, first_of, or_refused, target_at, targets_by}
+use Rattle.plan_scope.specs.declared.edge.paths.Paths.{Paths}
+use Rattle.plan_scope.specs.Kept.{kept, KeptEqBindings, KeptEqLookup}
+use Rattle.plan_scope.specs.Paths.{IsListOf, kept_in}
+use Rattle.plan_scope.proofs.TextLemmas.{Same, same_from_kept, kept_or}
 
-pub kept_near : (block b : Bindings Text) (here m : Name → Text) → Agrees block b → StandsFor here m → StandsFor (near here block) (near m b)
+-- names that stand for as much in a block and above it do so on its build line
+pub kept_near : (block b : Bindings Text) (here m : Name → Text) → KeptEqBindings block b → KeptEqLookup here m → KeptEqLookup (near here block) (near m b)
 kept_near block b here m h k n = kept_or (last_of n block) (last_of n b) (here n) (m n) (h n) (k n)
 
 -- one more line of a block
@@ -35,7 +36,7 @@ long_push xs x =
     list_any-append (λ b. is_too_long b.1) xs (x ∷ [])
     ∙ ap (λ (t : Bool). list_any (λ b. is_too_long b.1) xs || t) (or_false (is_too_long x.1))
 
-pub any_kept : (test : Text → Bool) → ((a b : Text) → kept a ≡ kept b → test a ≡ test b) → (ps qs : List Text) → map kept ps ≡ map kept qs → list_any test ps ≡ list_any test qs
+any_kept : (test : Text → Bool) → ((a b : Text) → kept a ≡ kept b → test a ≡ test b) → (ps qs : List Text) → map kept ps ≡ map kept qs → list_any test ps ≡ list_any test qs
 any_kept test h [] [] e = refl
 any_kept test h [] (q ∷ qs) e = cc
 any_kept test h (p ∷ ps) [] e = cc
@@ -48,6 +49,7 @@ empty_same : (a b : Text) → Same a b → is_empty a ≡ is_empty b
 empty_same a b (inl e) = ap is_empty e
 empty_same a b (inr h) = ne_eqb (length a) 0 (λ e. omega arith) ∙ sym (ne_eqb (length b) 0 (λ e. omega arith))
 
+-- texts of which as much is kept are both empty, or neither is
 pub empty_kept : (a b : Text) → kept a ≡ kept b → is_empty a ≡ is_empty b
 empty_kept a b e = empty_same a b (same_from_kept a b e)
 
@@ -55,6 +57,7 @@ far_same : (a b : Text) → Same a b → is_long_path a ≡ is_long_path b
 far_same a b (inl e) = ap is_long_path e
 far_same a b (inr h) = lt-ltb max_path (length a) (omega arith) ∙ sym (lt-ltb max_path (length b) (omega arith))
 
+-- texts of which as much is kept are both too long for a path, or neither is
 pub far_kept : (a b : Text) → kept a ≡ kept b → is_long_path a ≡ is_long_path b
 far_kept a b e = far_same a b (same_from_kept a b e)
 
@@ -66,12 +69,13 @@ exact_same a b (inr h) l = absurd (omega arith)
 pub exact_kept : (a b : Text) → kept a ≡ kept b → length a ≤ max_text → a ≡ b
 exact_kept a b e l = exact_same a b (same_from_kept a b e) l
 
+-- neither of two tests stands
 pub or_parts : (x y : Bool) → (x || y) ≡ false → (x ≡ false) × (y ≡ false)
 or_parts true y e = cc
 or_parts false y e = (refl, e)
 
 -- paths are kept whole where none is too long
-pub exact_paths : (ps qs : List Text) → map kept ps ≡ map kept qs → list_any is_long_path ps ≡ false → ps ≡ qs
+exact_paths : (ps qs : List Text) → map kept ps ≡ map kept qs → list_any is_long_path ps ≡ false → ps ≡ qs
 exact_paths [] [] e f = refl
 exact_paths [] (q ∷ qs) e f = cc
 exact_paths (p ∷ ps) [] e f = cc
@@ -92,10 +96,10 @@ path_same : (a b : Text) → kept a ≡ kept b → Same a b → kept (path_of a)
 path_same a b e (inl s) = ap (λ t. kept (path_of t)) s
 path_same a b e (inr h) = ap kept (far_stays a h.0) ∙ (e ∙ ap kept (sym (far_stays b h.1)))
 
-pub kept_path : (a b : Text) → kept a ≡ kept b → kept (path_of a) ≡ kept (path_of b)
+kept_path : (a b : Text) → kept a ≡ kept b → kept (path_of a) ≡ kept (path_of b)
 kept_path a b e = path_same a b e (same_from_kept a b e)
 
-pub kept_canonical : (ps qs : List Text) → map kept ps ≡ map kept qs → map kept (map path_of ps) ≡ map kept (map path_of qs)
+kept_canonical : (ps qs : List Text) → map kept ps ≡ map kept qs → map kept (map path_of ps) ≡ map kept (map path_of qs)
 kept_canonical [] [] e = refl
 kept_canonical [] (q ∷ qs) e = cc
 kept_canonical (p ∷ ps) [] e = cc
@@ -112,12 +116,15 @@ pub record KeptLists (p q : Paths) : Type 0 where
   pub implicit_inputs : map kept p.implicit_inputs ≡ map kept q.implicit_inputs
   pub order_only_inputs : map kept p.order_only_inputs ≡ map kept q.order_only_inputs
 
+-- what is kept of each list
 pub kept_lists : (p q : Paths) → kept_in p ≡ kept_in q → KeptLists p q
 kept_lists p q e = record { outputs = cc; implicit_outputs = cc; inputs = cc; implicit_inputs = cc; order_only_inputs = cc }
 
+-- equal arguments give equal results, at five
 pub five : {X Y : Type 0} (f : X → X → X → X → X → Y) (a b c d e k l m n o : X) → a ≡ k → b ≡ l → c ≡ m → d ≡ n → e ≡ o → f a b c d e ≡ f k l m n o
 five f a b c d e k l m n o p q r s t = cc
 
+-- as much is kept of the canonical forms of paths
 pub kept_forms : (p q : Paths) → kept_in p ≡ kept_in q → kept_in (canonical_paths p) ≡ kept_in (canonical_paths q)
 kept_forms p q e =
     let s = kept_lists p q e in
@@ -128,6 +135,7 @@ kept_forms p q e =
 append_kept : (a b c d : List Text) → map kept a ≡ map kept b → map kept c ≡ map kept d → map kept (a ++ c) ≡ map kept (b ++ d)
 append_kept a b c d e f = map-append kept a c ∙ (ap (λ l. l ++ map kept c) e ∙ (ap (λ l. map kept b ++ l) f ∙ sym (map-append kept b d)))
 
+-- a test that sees only what is kept tells paths alike
 pub any_in : (test : Text → Bool) → ((a b : Text) → kept a ≡ kept b → test a ≡ test b) → (p q : Paths) → kept_in p ≡ kept_in q → list_any test (all_in p) ≡ list_any test (all_in q)
 any_in test h p q e =
     let s = kept_lists p q e in
@@ -160,16 +168,19 @@ targets_at n held meant e =
     sym (ap (λ t. or_refused (first_of ((t, EmptyPath) ∷ (list_any is_long_path held, PathTooLong) ∷ [])) (map (target_at n) meant)) (any_kept is_empty empty_kept held meant e)
     ∙ ap (λ t. or_refused (first_of ((list_any is_empty meant, EmptyPath) ∷ (t, PathTooLong) ∷ [])) (map (target_at n) meant)) (any_kept is_long_path far_kept held meant e))
 
+-- targets with an empty path
 pub targets_empty : (n : ℕ) (held meant : List Text) → map kept held ≡ map kept meant → list_any is_empty held ≡ true → targets_by n meant ≡ Err EmptyPath
 targets_empty n held meant e f =
     targets_at n held meant e ∙ ap (λ t. or_refused (first_of ((t, EmptyPath) ∷ (list_any is_long_path held, PathTooLong) ∷ [])) (map (target_at n) meant)) f
 
+-- targets with a path that is too long
 pub targets_long : (n : ℕ) (held meant : List Text) → map kept held ≡ map kept meant → list_any is_empty held ≡ false → list_any is_long_path held ≡ true → targets_by n meant ≡ Err PathTooLong
 targets_long n held meant e f g =
     targets_at n held meant e
     ∙ (ap (λ t. or_refused (first_of ((t, EmptyPath) ∷ (list_any is_long_path held, PathTooLong) ∷ [])) (map (target_at n) meant)) f
     ∙ ap (λ t. or_refused (first_of ((false, EmptyPath) ∷ (t, PathTooLong) ∷ [])) (map (target_at n) meant)) g)
 
+-- targets whose paths are well
 pub targets_made : (n : ℕ) (held meant : List Text) (made : List DefaultTarget) → map kept held ≡ map kept meant → list_any is_empty held ≡ false → list_any is_long_path held ≡ false → made ≡ map (target_at n) held → targets_by n meant ≡ Ok made
 targets_made n held meant made e f g h =
     targets_at n held meant e

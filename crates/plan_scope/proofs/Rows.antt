@@ -8,7 +8,7 @@ use Rattle.plan_scope.specs.declared.fault.Cause.TheVariants.{IncludeDepth, Dupl
 use Rattle.plan_scope.specs.declared.fault.ScopeFault.{ScopeFault}
 use Rattle.plan_scope.specs.declared.fault.ScopeFault.TheVariants.{Refused, SourceMissing}
 use Rattle.plan_scope.specs.declared.manifest.Manifest.{Manifest}
-use Rattle.plan_scope.specs.Trees.{Line}
+use Rattle.plan_scope.specs.Trees.{TreeStatement}
 use Rattle.plan_scope.specs.Edges.{manifest_of, commands_of}
 use Rattle.plan_scope.specs.Loading.{LoadsFirst, LoadsWithin, fresh_scope}
 
@@ -22,13 +22,13 @@ abbrev shown : Result Manifest ScopeFault → Result (List ℕ) ScopeFault
 shown (Ok m) = Ok (commands_of m)
 shown (Err e) = Err e
 
--- the statements of a file as lines
-abbrev lines : List ℕ → List ℕ → Result (List Statement) ParseFault → List Line
-lines path scopes (Ok statements) = map (λ s. record { path = path; scopes = scopes; offset = s.offset; kind = s.kind }) statements
-lines path scopes (Err e) = []
+-- the statements of a file as those of a tree
+abbrev tree_statements : List ℕ → List ℕ → Result (List Statement) ParseFault → List TreeStatement
+tree_statements path scopes (Ok statements) = map (λ s. record { path = path; scopes = scopes; offset = s.offset; kind = s.kind }) statements
+tree_statements path scopes (Err e) = []
 
 abbrev manifest : List ℕ → Result Manifest ScopeFault
-manifest bytes = manifest_of (lines name (0 ∷ []) (statements_of bytes))
+manifest bytes = manifest_of (tree_statements name (0 ∷ []) (statements_of bytes))
 
 abbrev commands : List ℕ → Result (List ℕ) ScopeFault
 commands bytes = shown (manifest bytes)
@@ -36,8 +36,8 @@ commands bytes = shown (manifest bytes)
 abbrev rule_r : List ℕ
 rule_r = codes "rule r" ++ lf ++ codes "  command = true" ++ lf
 
-empty_manifest : commands [] ≡ Ok []
-empty_manifest = refl
+empty_file : commands [] ≡ Ok []
+empty_file = refl
 
 demo : commands (codes "rule demo" ++ lf ++ codes "  command = echo \"this is a demo of $foo\"" ++ lf ++ codes "build out: demo" ++ lf ++ codes "  foo = bar" ++ lf)
     ≡ Ok (codes "echo \"this is a demo of bar\"" ++ lf)
@@ -86,7 +86,8 @@ in_of_file : commands (codes "in = f" ++ lf ++ codes "x = $in" ++ lf ++ codes "r
     ≡ Ok (codes "f a" ++ lf)
 in_of_file = refl
 
--- paths are quoted in a command and a description, also inside the variables that these refer to, and not in other variables
+-- paths are quoted in a command and a description, also inside the variables that these refer to, and not in other
+-- variables
 quoting : manifest (codes "rule r" ++ lf ++ codes "  command = c $rspfile_content" ++ lf ++ codes "  description = d $in" ++ lf ++ codes "  depfile = $in.d" ++ lf ++ codes "  rspfile_content = $out" ++ lf ++ codes "build a$ b/./c | d: r e$ f | .//g || h")
     ≡ Ok (record {
       edges = record {
@@ -190,30 +191,30 @@ defaults = refl
 empty_default : commands (codes "default $none") ≡ Err (Refused name 0 EmptyPath)
 empty_default = refl
 
--- a file taken in by another
+-- a file included by another
 abbrev front : List ℕ
 front = codes "rule e" ++ lf ++ codes "  command = echo $x" ++ lf ++ codes "x = 1" ++ lf
 
 abbrev child : List ℕ
 child = codes "x = 2" ++ lf ++ codes "build c: e"
 
-abbrev taken_in : List ℕ → List ℕ → Result (List ℕ) ScopeFault
-taken_in word scopes =
-    shown (manifest_of (lines name (0 ∷ []) (statements_of (front ++ word ++ codes " c.ninja")) ++ lines (codes "c.ninja") scopes (statements_of child) ++ lines name (0 ∷ []) (statements_of (codes "build p: e"))))
+abbrev included : List ℕ → List ℕ → Result (List ℕ) ScopeFault
+included word scopes =
+    shown (manifest_of (tree_statements name (0 ∷ []) (statements_of (front ++ word ++ codes " c.ninja")) ++ tree_statements (codes "c.ninja") scopes (statements_of child) ++ tree_statements name (0 ∷ []) (statements_of (codes "build p: e"))))
 
--- a subninja file opens a scope, an included one goes on in that of its line
-by_subninja : taken_in (codes "subninja") (3 ∷ 0 ∷ []) ≡ Ok (codes "echo 2" ++ lf ++ codes "echo 1" ++ lf)
+-- a subninja file opens a scope, an included one goes on in that of its statement
+by_subninja : included (codes "subninja") (3 ∷ 0 ∷ []) ≡ Ok (codes "echo 2" ++ lf ++ codes "echo 1" ++ lf)
 by_subninja = refl
 
-by_include : taken_in (codes "include") (0 ∷ []) ≡ Ok (codes "echo 2" ++ lf ++ codes "echo 2" ++ lf)
+by_include : included (codes "include") (0 ∷ []) ≡ Ok (codes "echo 2" ++ lf ++ codes "echo 2" ++ lf)
 by_include = refl
 
 -- a subninja file may declare a rule of its parent anew, an included one may not
-rule_anew : shown (manifest_of (lines name (0 ∷ []) (statements_of rule_r) ++ lines (codes "c") (1 ∷ 0 ∷ []) (statements_of (codes "rule r" ++ lf ++ codes "  command = false" ++ lf ++ codes "build c: r")) ++ lines name (0 ∷ []) (statements_of (codes "build p: r"))))
+rule_anew : shown (manifest_of (tree_statements name (0 ∷ []) (statements_of rule_r) ++ tree_statements (codes "c") (1 ∷ 0 ∷ []) (statements_of (codes "rule r" ++ lf ++ codes "  command = false" ++ lf ++ codes "build c: r")) ++ tree_statements name (0 ∷ []) (statements_of (codes "build p: r"))))
     ≡ Ok (codes "false" ++ lf ++ codes "true" ++ lf)
 rule_anew = refl
 
-rule_again : shown (manifest_of (lines name (0 ∷ []) (statements_of rule_r) ++ lines (codes "c") (0 ∷ []) (statements_of (codes "x = 1" ++ lf ++ rule_r)))) ≡ Err (Refused (codes "c") 6 DuplicateRule)
+rule_again : shown (manifest_of (tree_statements name (0 ∷ []) (statements_of rule_r) ++ tree_statements (codes "c") (0 ∷ []) (statements_of (codes "x = 1" ++ lf ++ rule_r)))) ≡ Err (Refused (codes "c") 6 DuplicateRule)
 rule_again = refl
 
 -- a source with two files
@@ -221,20 +222,20 @@ abbrev gives : List ℕ → Option (List ℕ) → Type 0
 gives path bytes = ((path ≡ name) × (bytes ≡ Some (codes "subninja c"))) ⊎ ((path ≡ codes "c") × (bytes ≡ Some (codes "x = 1")))
 
 -- its tree
-two_files : LoadsFirst gives (λ path. ⊥) name (Ok (lines (codes "c") (1 ∷ 0 ∷ []) (statements_of (codes "x = 1"))))
+two_files : LoadsFirst gives (λ path. ⊥) name (Ok (tree_statements (codes "c") (1 ∷ 0 ∷ []) (statements_of (codes "x = 1"))))
 unfolding LoadsWithin
 two_files =
-    let back = lines (codes "c") (1 ∷ 0 ∷ []) (statements_of (codes "x = 1")) in
+    let back = tree_statements (codes "c") (1 ∷ 0 ∷ []) (statements_of (codes "x = 1")) in
     inr (codes "subninja c", inl (refl, refl), (Ok back, inr (codes "x = 1", inr (refl, refl), refl), refl))
 
--- a file opens a scope that neither lines above have nor the line that takes it in
-fresh_scopes : fresh_scope (lines name (0 ∷ []) (statements_of child) ++ lines (codes "c") (1 ∷ 0 ∷ []) (statements_of child)) (0 ∷ []) ≡ 2
+-- a file opens a scope that neither statements above have nor the statement that includes it
+fresh_scopes : fresh_scope (tree_statements name (0 ∷ []) (statements_of child) ++ tree_statements (codes "c") (1 ∷ 0 ∷ []) (statements_of child)) (0 ∷ []) ≡ 2
 fresh_scopes = refl
 
 fresh_inside : fresh_scope [] (2 ∷ 0 ∷ []) ≡ 3
 fresh_inside = refl
 
--- at depth 64 nothing is taken in, whatever the path
+-- at depth 64 nothing is included, whatever the path
 too_deep : LoadsWithin gives (λ path. ⊥) 0 name (0 ∷ []) [] (Err (Refused name 0 IncludeDepth))
 unfolding LoadsWithin
 too_deep = inr (codes "subninja c", inl (refl, refl), refl)

@@ -1,4 +1,4 @@
--- Each manifest is sound.
+-- Each manifest is sound. Serves src/laws.rt, `manifests_are_sound`.
 use Rattle.std.proofs.Common.{◌≡◌, ℕ, suc, ◌≤◌, ◌⊎◌, inl, inr, Bool, true, false, not, ◌||◌, ◌&&◌, List, [], ◌∷◌, ◌++◌, length, map, Option, Some, None, Result, Ok, Err, refl, ap, sym, subst, ◌∙◌, bytes_eq, cond, leb, lit≤, arith, append-nil, append_assoc, flat_map, unwrap_or}
 use Rattle.std.specs.Prelude.{codes, is_none}
 use Rattle.std.specs.List.{All, list_any}
@@ -19,12 +19,12 @@ use Rattle.plan_scope.specs.declared.manifest.DefaultTarget.{DefaultTarget}
 use Rattle.plan_scope.specs.declared.manifest.Edge.{Edge}
 use Rattle.plan_scope.specs.declared.manifest.Manifest.{Manifest}
 use Rattle.plan_scope.specs.declared.manifest.Pool.{Pool}
-use Rattle.plan_scope.specs.declared.variables.Variables.{Variables}
-use Rattle.plan_scope.specs.Trees.{Line}
-use Rattle.plan_scope.specs.Scopes.{Text, Name, Bindings, Scoped, nearest, look, expand, bound_by, is_too_long, is_long_path, is_empty}
+use Rattle.plan_scope.specs.declared.edge.variables.Variables.{Variables}
+use Rattle.plan_scope.specs.Trees.{TreeStatement}
+use Rattle.plan_scope.specs.Scopes.{Text, Name, Bindings, ScopedBindings, nearest, lookup, expand, bound_by, is_too_long, is_long_path, is_empty}
 use Rattle.plan_text.specs.Limits.{max_path, max_text}
 use Rattle.plan_text.specs.Numerals.{is_numeral, number_past}
-use Rattle.plan_scope.specs.Edges.{all_paths, all_variables, block_of, builds_in, builds_of, built_by, canonical_or, causes_of, console, defaults_alone, depth_in, edge_alone, edge_by, edge_of, edge_with, first_of, given_by, given_past, in_front, is_among, is_taken, manifest_of, mapped, max_depth, names_no_pool, near, nothing, or_refused, path_of, paths_of, phony_variables, pool_alone, pool_by, pools_in, pools_of, rules_of, target_at, targets_by, text_in, use_of, variables_of, with_front, with_more}
+use Rattle.plan_scope.specs.Edges.{all_variables, canonical_paths, has_empty, has_long, texts_of, block_of, builds_in, builds_of, edge_of_build, canonical_or, causes_of, console, defaults_alone, depth_in, edge_alone, edge_of_rule, edge_of, edge_or_refusal, first_of, manifest_of_kind, manifest_past, in_front, is_among, is_taken, manifest_of, map_ok, max_depth, names_no_pool, near, empty_manifest, or_refused, path_of, paths_of, phony_variables, pool_alone, pool_by, pools_in, pools_of, rules_of, target_at, targets_by, text_in, environment_of, variables_of, with_front, with_more}
 use Rattle.plan_scope.specs.Sound.{AreApart, IsPath, IsSound, IsSoundEdge, MakesSome, names_of}
 use Rattle.plan_scope.proofs.PathLemmas.{or_parts}
 
@@ -94,7 +94,7 @@ record NoTexts (v : Variables) : Type 0 where
   pool : text_in v.pool ≡ []
 
 edge_sound : CanonicalStays → (pools : List Name) (here : Name → Text) (b : Build) (v : Variables) (is_phony : Bool) (e : Edge) → MakesSome b → (is_phony ≡ true → NoTexts v)
-    → edge_with pools here b v is_phony ≡ Ok e → IsSoundEdge pools e
+    → edge_or_refusal pools here b v is_phony ≡ Ok e → IsSoundEdge pools e
 edge_sound s pools here b v is_phony e some texts h =
     let block : Bindings Text = block_of here b.bindings in
     let at : Name → Text = near here block in
@@ -103,8 +103,10 @@ edge_sound s pools here b v is_phony e some texts h =
     let i = paths_of at b.inputs in
     let ii = paths_of at b.implicit_inputs in
     let oo = paths_of at b.order_only_inputs in
-    let r = not_refused (first_of (causes_of pools v (all_paths at b) block)) (edge_of at b v is_phony) e h in
-    let c = none_stands (causes_of pools v (all_paths at b) block) r.0 in
+    let paths = texts_of at b in
+    let causes = causes_of pools v (has_empty paths) (has_long paths) (list_any (λ (x : Name × Text). is_too_long x.1) block) in
+    let r = not_refused (first_of causes) (edge_of (canonical_paths paths) v is_phony) e h in
+    let c = none_stands causes r.0 in
     let e4 = any_append is_empty (o ++ io ++ i ++ ii) oo c.1.1.0 in
     let e3 = any_append is_empty (o ++ io ++ i) ii e4.0 in
     let e2 = any_append is_empty (o ++ io) i e3.0 in
@@ -136,19 +138,19 @@ edge_sound s pools here b v is_phony e some texts h =
 not_phony : (v : Variables) → false ≡ true → NoTexts v
 not_phony v e = cc
 
-by_sound : CanonicalStays → (pools : List Name) (here file : Name → Text) (b : Build) (rule : Option (Bindings (List Piece))) (e : Edge) → MakesSome b → edge_by pools here file b rule ≡ Ok e → IsSoundEdge pools e
+by_sound : CanonicalStays → (pools : List Name) (here file : Name → Text) (b : Build) (rule : Option (Bindings (List Piece))) (e : Edge) → MakesSome b → edge_of_rule pools here file b rule ≡ Ok e → IsSoundEdge pools e
 by_sound s pools here file b None e some h = cc
-by_sound s pools here file b (Some rule) e some h = edge_sound s pools here b (variables_of (use_of here file b rule)) false e some (not_phony (variables_of (use_of here file b rule))) h
+by_sound s pools here file b (Some rule) e some h = edge_sound s pools here b (variables_of (environment_of here file b rule)) false e some (not_phony (variables_of (environment_of here file b rule))) h
 
-built_sound : CanonicalStays → (pools : List Name) (rules : Scoped (Bindings (List Piece))) (scopes : List ℕ) (here file : Name → Text) (b : Build) (e : Edge) → MakesSome b
-    → built_by pools rules scopes here file b ≡ Ok e → IsSoundEdge pools e
+built_sound : CanonicalStays → (pools : List Name) (rules : ScopedBindings (Bindings (List Piece))) (scopes : List ℕ) (here file : Name → Text) (b : Build) (e : Edge) → MakesSome b
+    → edge_of_build pools rules scopes here file b ≡ Ok e → IsSoundEdge pools e
 built_sound s pools rules scopes here file b e some h = either (bytes_eq b.rule (codes "phony")) h
   where
-    either : (t : Bool) → cond t (edge_with pools here b (phony_variables (use_of here file b [])) true) (edge_by pools here file b (nearest rules scopes b.rule)) ≡ Ok e → IsSoundEdge pools e
-    either true h = edge_sound s pools here b (phony_variables (use_of here file b [])) true e some (λ p. record { command = refl; description = refl; depfile = refl; pool = refl }) h
+    either : (t : Bool) → cond t (edge_or_refusal pools here b (phony_variables (environment_of here file b [])) true) (edge_of_rule pools here file b (nearest rules scopes b.rule)) ≡ Ok e → IsSoundEdge pools e
+    either true h = edge_sound s pools here b (phony_variables (environment_of here file b [])) true e some (λ p. record { command = refl; description = refl; depfile = refl; pool = refl }) h
     either false h = by_sound s pools here file b (nearest rules scopes b.rule) e some h
 
--- what lines add, by the names of all pools and of those above, and the names of their own
+-- what statements add, by the names of all pools and of those above, and the names of their own
 record Adds (pools before names : List Name) (m : Manifest) : Type 0 where
   edges : All (IsSoundEdge pools) m.edges
   apart : AreApart before (names_of m.pools)
@@ -171,14 +173,14 @@ adds_more pools before ns ks x y a b =
       defaults = All-append (λ d. IsPath d.path) x.defaults y.defaults a.defaults b.defaults;
     }
 
-adds_nothing : (pools before : List Name) → Adds pools before [] nothing
+adds_nothing : (pools before : List Name) → Adds pools before [] empty_manifest
 adds_nothing pools before = record { edges = All-nil (IsSoundEdge pools); apart = tt {0}; named = refl; depths = All-nil (λ p. p.depth ≤ max_depth); defaults = All-nil (λ d. IsPath d.path) }
 
-nothing_given : (pools before : List Name) (t : Bool) (cause : Cause) (m : Manifest) → cond t (Err cause) (Ok nothing) ≡ Ok m → Adds pools before [] m
+nothing_given : (pools before : List Name) (t : Bool) (cause : Cause) (m : Manifest) → cond t (Err cause) (Ok empty_manifest) ≡ Ok m → Adds pools before [] m
 nothing_given pools before true cause m e = cc
-nothing_given pools before false cause m e = let k : nothing ≡ m = cc in subst (Adds pools before []) k (adds_nothing pools before)
+nothing_given pools before false cause m e = let k : empty_manifest ≡ m = cc in subst (Adds pools before []) k (adds_nothing pools before)
 
-mapped_parts : {A B : Type 0} (f : A → B) (r : Result A Cause) (y : B) → mapped f r ≡ Ok y → (x : A) × (r ≡ Ok x) × (f x ≡ y)
+mapped_parts : {A B : Type 0} (f : A → B) (r : Result A Cause) (y : B) → map_ok f r ≡ Ok y → (x : A) × (r ≡ Ok x) × (f x ≡ y)
 mapped_parts f (Ok x) y e = let k : f x ≡ y = cc in (x, refl, k)
 mapped_parts f (Err cause) y e = cc
 
@@ -236,12 +238,12 @@ every_parts : {X : Type 0} (P : X → Type 0) (xs ys : List X) → Every P (xs +
 every_parts P [] ys a = (tt {0}, a)
 every_parts P (x ∷ xs) ys a = let more = every_parts P xs ys a.1 in ((a.0, more.0), more.1)
 
--- what a line gives
-given_sound : CanonicalStays → (all above : List Line) (scopes : List ℕ) (k : StatementKind) (m : Manifest) → Every MakesSome (builds_in k) → given_by all above scopes k ≡ Ok m → Adds (pools_of all) (pools_of above) (pools_in k) m
+-- what a statement gives
+given_sound : CanonicalStays → (all above : List TreeStatement) (scopes : List ℕ) (k : StatementKind) (m : Manifest) → Every MakesSome (builds_in k) → manifest_of_kind all above scopes k ≡ Ok m → Adds (pools_of all) (pools_of above) (pools_in k) m
 given_sound s all above scopes (kind.Rule r) m some h = nothing_given (pools_of all) (pools_of above) (is_taken (rules_of above) scopes r.name) DuplicateRule m h
 given_sound s all above scopes (kind.Build b) m some h =
-    let r = mapped_parts edge_alone (built_by (pools_of all) (rules_of above) scopes (look (bound_by above) scopes) (look (bound_by all) scopes) b) m h in
-    let e = built_sound s (pools_of all) (rules_of above) scopes (look (bound_by above) scopes) (look (bound_by all) scopes) b r.0 some.0 r.1 in
+    let r = mapped_parts edge_alone (edge_of_build (pools_of all) (rules_of above) scopes (lookup (bound_by above) scopes) (lookup (bound_by all) scopes) b) m h in
+    let e = built_sound s (pools_of all) (rules_of above) scopes (lookup (bound_by above) scopes) (lookup (bound_by all) scopes) b r.0 some.0 r.1 in
     subst (Adds (pools_of all) (pools_of above) []) r.2 (record {
       edges = All-cons (IsSoundEdge (pools_of all)) r.0 [] e (All-nil (IsSoundEdge (pools_of all)));
       apart = tt {0};
@@ -250,36 +252,36 @@ given_sound s all above scopes (kind.Build b) m some h =
       defaults = All-nil (λ d. IsPath d.path);
     })
 given_sound s all above scopes (kind.Pool p) m some h =
-    let text = expand (look (bound_by above) scopes) p.depth in
+    let text = expand (lookup (bound_by above) scopes) p.depth in
     let r = mapped_parts pool_alone (pool_by (pools_of above) p.name text) m h in
     subst (Adds (pools_of all) (pools_of above) (p.name ∷ [])) r.2 (pool_given (pools_of all) (pools_of above) p.name text r.0 r.1)
 given_sound s all above scopes (kind.Default targets) m some h =
-    let paths = paths_of (look (bound_by above) scopes) targets in
+    let paths = paths_of (lookup (bound_by above) scopes) targets in
     let r = mapped_parts defaults_alone (targets_by (length (builds_of above)) paths) m h in
     subst (Adds (pools_of all) (pools_of above) []) r.2 (defaults_given s (pools_of all) (pools_of above) (length (builds_of above)) paths r.0 r.1)
 given_sound s all above scopes (kind.Include path) m some h = nothing_given (pools_of all) (pools_of above) false DuplicateRule m h
 given_sound s all above scopes (kind.Subninja path) m some h = nothing_given (pools_of all) (pools_of above) false DuplicateRule m h
 given_sound s all above scopes (kind.Binding b) m some h = nothing_given (pools_of all) (pools_of above) false DuplicateRule m h
 
-front_parts : (l : Line) (g : Result Manifest Cause) (r : Result Manifest ScopeFault) (m : Manifest) → in_front l g r ≡ Ok m → (x : Manifest) × (g ≡ Ok x) × (y : Manifest) × (r ≡ Ok y) × (with_more x y ≡ m)
+front_parts : (l : TreeStatement) (g : Result Manifest Cause) (r : Result Manifest ScopeFault) (m : Manifest) → in_front l g r ≡ Ok m → (x : Manifest) × (g ≡ Ok x) × (y : Manifest) × (r ≡ Ok y) × (with_more x y ≡ m)
 front_parts l (Ok x) (Ok y) m e = let k : with_more x y ≡ m = cc in (x, refl, y, refl, k)
 front_parts l (Ok x) (Err fault) m e = cc
 front_parts l (Err cause) r m e = cc
 
-abbrev declared_in : Line → List Name
+abbrev declared_in : TreeStatement → List Name
 declared_in l = pools_in l.kind
 
-pools_more : (above : List Line) (l : Line) → pools_of (above ++ l ∷ []) ≡ pools_of above ++ pools_in l.kind
+pools_more : (above : List TreeStatement) (l : TreeStatement) → pools_of (above ++ l ∷ []) ≡ pools_of above ++ pools_in l.kind
 pools_more above l =
     ap (λ (ns : List Name). codes "console" ∷ ns) (flat_map-append declared_in above (l ∷ []) ∙ ap (λ (ns : List Name). flat_map declared_in above ++ ns) (append-nil (pools_in l.kind)))
 
--- what lines give
-past_sound : CanonicalStays → (all above lines : List Line) (m : Manifest) → Every MakesSome (builds_of lines) → given_past all above lines ≡ Ok m
-    → Adds (pools_of all) (pools_of above) (flat_map declared_in lines) m
-past_sound s all above [] m some h = let k : nothing ≡ m = cc in subst (Adds (pools_of all) (pools_of above) []) k (adds_nothing (pools_of all) (pools_of above))
+-- what statements give
+past_sound : CanonicalStays → (all above statements : List TreeStatement) (m : Manifest) → Every MakesSome (builds_of statements) → manifest_past all above statements ≡ Ok m
+    → Adds (pools_of all) (pools_of above) (flat_map declared_in statements) m
+past_sound s all above [] m some h = let k : empty_manifest ≡ m = cc in subst (Adds (pools_of all) (pools_of above) []) k (adds_nothing (pools_of all) (pools_of above))
 past_sound s all above (l ∷ more) m some h =
     let parts = every_parts MakesSome (builds_in l.kind) (builds_of more) some in
-    let r = front_parts l (given_by all above l.scopes l.kind) (given_past all (above ++ l ∷ []) more) m h in
+    let r = front_parts l (manifest_of_kind all above l.scopes l.kind) (manifest_past all (above ++ l ∷ []) more) m h in
     let one = given_sound s all above l.scopes l.kind r.0 parts.0 r.1 in
     let others = past_sound s all (above ++ l ∷ []) more r.2 parts.1 r.3 in
     subst (Adds (pools_of all) (pools_of above) (flat_map declared_in (l ∷ more))) r.4
@@ -300,9 +302,9 @@ whole_parts front (Ok y) m e = let k : with_more front y ≡ m = cc in (y, refl,
 whole_parts front (Err fault) m e = cc
 
 -- each manifest
-pub manifest_sound : CanonicalStays → (lines : List Line) (m : Manifest) → All MakesSome (builds_of lines) → manifest_of lines ≡ Ok m → IsSound m
-manifest_sound s lines m some h =
-    let r = whole_parts (pool_alone console) (given_past lines [] lines) m h in
-    let rest = past_sound s lines [] lines r.0 (every_of MakesSome (builds_of lines) some) r.1 in
-    let all = subst (Adds (pools_of lines) [] (pools_of lines)) r.2 (adds_more (pools_of lines) [] (codes "console" ∷ []) (flat_map declared_in lines) (pool_alone console) r.0 (begun (pools_of lines)) rest) in
+pub manifest_sound : CanonicalStays → (statements : List TreeStatement) (m : Manifest) → All MakesSome (builds_of statements) → manifest_of statements ≡ Ok m → IsSound m
+manifest_sound s statements m some h =
+    let r = whole_parts (pool_alone console) (manifest_past statements [] statements) m h in
+    let rest = past_sound s statements [] statements r.0 (every_of MakesSome (builds_of statements) some) r.1 in
+    let all = subst (Adds (pools_of statements) [] (pools_of statements)) r.2 (adds_more (pools_of statements) [] (codes "console" ∷ []) (flat_map declared_in statements) (pool_alone console) r.0 (begun (pools_of statements)) rest) in
     record { edges = subst (λ (ns : List Name). All (IsSoundEdge ns) m.edges) (sym all.named) all.edges; pools = all.apart; depths = all.depths; defaults = all.defaults }

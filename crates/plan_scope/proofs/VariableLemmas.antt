@@ -1,4 +1,5 @@
--- Variables of which as much is kept, and the edges that they give.
+-- Variables of which as much is kept, and the edges that they give. Serves src/edge/variables.rt and
+-- src/edge/build_line.rt.
 use Rattle.std.proofs.Common.{◌≡◌, ℕ, zero, suc, Bool, true, false, not, ◌||◌, ◌&&◌, ◌<◌, List, [], ◌∷◌, length, map, Option, Some, None, Result, Ok, Err, refl, ap, sym, ◌∙◌, bytes_eq, option_map, cond, inl, inr, arith, subst}
 use Rattle.std.specs.Prelude.{codes, is_none}
 use Rattle.std.specs.List.{list_any, join_with_byte}
@@ -7,20 +8,20 @@ use Rattle.std.proofs.lemmas.Slice.Eq.{bytes_eq-Decides}
 use Rattle.plan_text.specs.declared.piece_reader.Piece.{Piece}
 use Rattle.plan_text.specs.declared.piece_reader.Piece.TheVariants.{Literal, Reference}
 use Rattle.plan_parse.specs.declared.statement.Build.{Build}
-use Rattle.plan_scope.specs.declared.build_line.Parts.{Parts}
+use Rattle.plan_scope.specs.declared.edge.build_line.Parts.{Parts}
 use Rattle.plan_scope.specs.declared.fault.Cause.{Cause}
 use Rattle.plan_scope.specs.declared.fault.Cause.TheVariants.{UnknownPool, RuleCycle, EmptyPath, Dyndep, Rspfile, DepsKind, PathTooLong, TextTooLong}
-use Rattle.plan_scope.specs.declared.variables.Variables.{Variables}
+use Rattle.plan_scope.specs.declared.edge.variables.Variables.{Variables}
 use Rattle.plan_scope.specs.Scopes.{Text, Name, Bindings, last_of, is_too_long, is_empty}
 use Rattle.plan_text.specs.Limits.{max_text}
-use Rattle.plan_scope.specs.Expansion.{Use, plain, quoted, listed, Meaning, Known, Late, or_known, or_late, meaning_of, both, text_of_piece, joined, text_of, text_within, variable}
-use Rattle.plan_scope.specs.Edges.{all_variables, edge_with, first_of, is_among, is_other_deps, is_present, names_no_pool, or_refused, phony_variables, text_in, use_of, variables_of}
-use Rattle.plan_scope.specs.Frames.{kept, Agrees, SameNames, StandsFor}
-use Rattle.plan_scope.specs.Parts.{IsRead, causes_from, edge_from, texts_in, use_from}
-use Rattle.plan_scope.specs.Paths.{canonical_paths}
-use Rattle.plan_scope.proofs.Kept.{Same, same_from_kept, kept_append, kept_or, kept_paths, kept_quoted, long_kept}
+use Rattle.plan_scope.specs.Expansion.{EdgeEnvironment, plain, quoted, listed, Meaning, Known, Late, or_known, or_late, meaning_of, both, text_of_piece, joined, text_of, text_within, variable}
+use Rattle.plan_scope.specs.Edges.{all_variables, canonical_paths, causes_of, edge_of, edge_or_refusal, first_of, is_among, is_other_deps, is_present, names_no_pool, or_refused, phony_variables, text_in, environment_of, variables_of}
+use Rattle.plan_scope.specs.Kept.{kept, KeptEqBindings, EqNames, KeptEqLookup}
+use Rattle.plan_scope.specs.Parts.{IsRead, texts_in, environment_from}
+use Rattle.plan_scope.proofs.TextLemmas.{Same, same_from_kept, kept_append, kept_or, kept_paths, kept_quoted, long_kept}
 use Rattle.plan_scope.proofs.PathLemmas.{empty_kept, exact_kept, kept_lists, or_parts}
 
+-- equal items give equal lists, of nine
 pub nine : {X : Type 0} (a b c d e f g h i k l m n o p q r s : X)
     → a ≡ k → b ≡ l → c ≡ m → d ≡ n → e ≡ o → f ≡ p → g ≡ q → h ≡ r → i ≡ s
     → a ∷ b ∷ c ∷ d ∷ e ∷ f ∷ g ∷ h ∷ i ∷ [] ≡ k ∷ l ∷ m ∷ n ∷ o ∷ p ∷ q ∷ r ∷ s ∷ []
@@ -52,28 +53,28 @@ seen_late None m n f = f
 seen_late (Some ps) m n f = refl
 
 -- two edges that are looked up alike
-pub record Alike (u v : Use) : Type 0 where
+pub record Alike (u v : EdgeEnvironment) : Type 0 where
   pub inputs : map kept u.inputs ≡ map kept v.inputs
   pub outputs : map kept u.outputs ≡ map kept v.outputs
-  pub block : Agrees u.block v.block
+  pub block : KeptEqBindings u.block v.block
   pub rule : u.rule ≡ v.rule
-  pub file : StandsFor u.file v.file
+  pub file : KeptEqLookup u.file v.file
 
 cond_kept : (t : Bool) (a b : Text) (o p : Option Text) → kept a ≡ kept b → option_map kept o ≡ option_map kept p → option_map kept (cond t (Some a) o) ≡ option_map kept (cond t (Some b) p)
 cond_kept true a b o p e f = ap (λ (o : Option Text). Some o) e
 cond_kept false a b o p e f = f
 
-listed_alike : (show : Text → Text) → Shows show → (u v : Use) → Alike u v → (name : Name) → option_map kept (listed show u name) ≡ option_map kept (listed show v name)
+listed_alike : (show : Text → Text) → Shows show → (u v : EdgeEnvironment) → Alike u v → (name : Name) → option_map kept (listed show u name) ≡ option_map kept (listed show v name)
 listed_alike show t u v h name =
-    let ins = λ (s : ℕ) (e : Use). join_with_byte s (map show e.inputs) in
-    let outs = λ (s : ℕ) (e : Use). join_with_byte s (map show e.outputs) in
-    let newline = λ (e : Use). cond (bytes_eq name (codes "in_newline")) (Some (ins 10 e)) None in
-    let out = λ (e : Use). cond (bytes_eq name (codes "out")) (Some (outs 32 e)) (newline e) in
+    let ins = λ (s : ℕ) (e : EdgeEnvironment). join_with_byte s (map show e.inputs) in
+    let outs = λ (s : ℕ) (e : EdgeEnvironment). join_with_byte s (map show e.outputs) in
+    let newline = λ (e : EdgeEnvironment). cond (bytes_eq name (codes "in_newline")) (Some (ins 10 e)) None in
+    let out = λ (e : EdgeEnvironment). cond (bytes_eq name (codes "out")) (Some (outs 32 e)) (newline e) in
     cond_kept (bytes_eq name (codes "in")) (ins 32 u) (ins 32 v) (out u) (out v) (kept_paths show t 32 u.inputs v.inputs h.inputs)
     (cond_kept (bytes_eq name (codes "out")) (outs 32 u) (outs 32 v) (newline u) (newline v) (kept_paths show t 32 u.outputs v.outputs h.outputs)
     (cond_kept (bytes_eq name (codes "in_newline")) (ins 10 u) (ins 10 v) None None (kept_paths show t 10 u.inputs v.inputs h.inputs) refl))
 
-meaning_alike : (show : Text → Text) → Shows show → (u v : Use) → Alike u v → (name : Name) → seen (meaning_of show u name) ≡ seen (meaning_of show v name)
+meaning_alike : (show : Text → Text) → Shows show → (u v : EdgeEnvironment) → Alike u v → (name : Name) → seen (meaning_of show u name) ≡ seen (meaning_of show v name)
 meaning_alike show t u v h name =
     seen_listed (listed show u name) (listed show v name) _ _ (listed_alike show t u v h name)
     (seen_listed (last_of name u.block) (last_of name v.block) _ _ (h.block name)
@@ -114,7 +115,7 @@ within_kept (suc n) m k h used name =
     text_kept (m name) (k name) (list_any (bytes_eq name) used) (joined (text_within n m (name ∷ used))) (joined (text_within n k (name ∷ used))) (h name)
     (joined_kept (text_within n m (name ∷ used)) (text_within n k (name ∷ used)) (within_kept n m k h (name ∷ used)))
 
-variable_alike : (show : Text → Text) → Shows show → (u v : Use) → Alike u v → (name : Name) → option_map kept (variable show u name) ≡ option_map kept (variable show v name)
+variable_alike : (show : Text → Text) → Shows show → (u v : EdgeEnvironment) → Alike u v → (name : Name) → option_map kept (variable show u name) ≡ option_map kept (variable show v name)
 variable_alike show t u v h name =
     within_kept (length u.rule) (meaning_of show u) (meaning_of show v) (meaning_alike show t u v h) [] name
     ∙ ap (λ (r : Bindings (List Piece)). option_map kept (text_within (length r) (meaning_of show v) [] name)) h.rule
@@ -123,24 +124,25 @@ abbrev pub KeptAlike : Variables → Variables → Type 0
 KeptAlike u v = map (option_map kept) (all_variables u) ≡ map (option_map kept) (all_variables v)
 
 -- the variables of two such edges
-pub variables_alike : (u v : Use) → Alike u v → KeptAlike (variables_of u) (variables_of v)
+pub variables_alike : (u v : EdgeEnvironment) → Alike u v → KeptAlike (variables_of u) (variables_of v)
 variables_alike u v h =
     let p = variable_alike plain shows_plain u v h in
     let q = variable_alike quoted shows_quoted u v h in
     nine _ _ _ _ _ _ _ _ _ _ _ _ _ _ _ _ _ _
     (q (codes "command")) (p (codes "depfile")) (p (codes "deps")) (q (codes "description")) (p (codes "dyndep")) (p (codes "generator")) (p (codes "pool")) (p (codes "restat")) (p (codes "rspfile"))
 
-pub phony_alike : (u v : Use) → Alike u v → KeptAlike (phony_variables u) (phony_variables v)
+-- the variables of two such phony edges
+pub phony_alike : (u v : EdgeEnvironment) → Alike u v → KeptAlike (phony_variables u) (phony_variables v)
 phony_alike u v h =
     nine _ _ _ _ _ _ _ _ _ _ _ _ _ _ _ _ _ _
     refl refl refl refl (variable_alike plain shows_plain u v h (codes "dyndep")) refl refl refl refl
 
 -- what the code holds of a build line is looked up alike
-pub alike_read : (h f : Name → Text) (b : Build) (p : Parts) (rule other : Bindings (List Piece)) (file : Name → Text) (held : Use)
-    → IsRead h b p → rule ≡ other → StandsFor file f → held ≡ use_from p rule file → Alike held (use_of h f b other)
+pub alike_read : (h f : Name → Text) (b : Build) (p : Parts) (rule other : Bindings (List Piece)) (file : Name → Text) (held : EdgeEnvironment)
+    → IsRead h b p → rule ≡ other → KeptEqLookup file f → held ≡ environment_from p rule file → Alike held (environment_of h f b other)
 alike_read h f b p rule other file held r e s u =
-    let lists = kept_lists p.paths (canonical_paths (texts_in h b)) r.paths in
-    subst (λ x. Alike x (use_of h f b other)) (sym u) (record { inputs = lists.inputs; outputs = lists.outputs; block = r.values; rule = e; file = s })
+    let lists = kept_lists p.read.paths (canonical_paths (texts_in h b)) r.paths in
+    subst (λ x. Alike x (environment_of h f b other)) (sym u) (record { inputs = lists.inputs; outputs = lists.outputs; block = r.values; rule = e; file = s })
 
 any_alike : (test : Option Text → Bool) → ((a b : Option Text) → option_map kept a ≡ option_map kept b → test a ≡ test b) → (us vs : List (Option Text)) → map (option_map kept) us ≡ map (option_map kept) vs
     → list_any test us ≡ list_any test vs
@@ -184,7 +186,7 @@ deps_same a b k (inr h) =
 deps_kept : (a b : Text) → kept a ≡ kept b → is_other_deps a ≡ is_other_deps b
 deps_kept a b e = deps_same a b e (same_from_kept a b e)
 
-pool_same : (pools names : List Name) → SameNames pools names → (a b : Text) → kept a ≡ kept b → Same a b → names_no_pool pools a ≡ names_no_pool names b
+pool_same : (pools names : List Name) → EqNames pools names → (a b : Text) → kept a ≡ kept b → Same a b → names_no_pool pools a ≡ names_no_pool names b
 pool_same pools names s a b k (inl e) =
     ap (λ t. not (is_empty a) && (is_too_long a || not t)) (s a) ∙ ap (names_no_pool names) e
 pool_same pools names s a b k (inr h) =
@@ -192,7 +194,7 @@ pool_same pools names s a b k (inr h) =
     ∙ (ap (λ t. not t && true) (empty_kept a b k)
     ∙ ap (λ t. not (is_empty b) && (t || not (is_among names b))) (sym (lt-ltb max_text (length b) h.1)))
 
-pool_kept : (pools names : List Name) → SameNames pools names → (a b : Text) → kept a ≡ kept b → names_no_pool pools a ≡ names_no_pool names b
+pool_kept : (pools names : List Name) → EqNames pools names → (a b : Text) → kept a ≡ kept b → names_no_pool pools a ≡ names_no_pool names b
 pool_kept pools names s a b e = pool_same pools names s a b e (same_from_kept a b e)
 
 abbrev is_long_in : Option Text → Bool
@@ -254,8 +256,8 @@ kept_each : (u v : Variables) → KeptAlike u v → KeptEach u v
 kept_each u v e = record { command = cc; depfile = cc; deps = cc; description = cc; dyndep = cc; generator = cc; pool = cc; restat = cc; rspfile = cc }
 
 -- the edge, where no path and no text is too long
-edge_same : (h : Name → Text) (b : Build) (p : Parts) (u v : Variables) (t : Bool) → IsRead h b p → KeptAlike u v → p.has_long ≡ false → list_any is_long_in (all_variables u) ≡ false
-    → edge_from p.paths u t ≡ edge_from (canonical_paths (texts_in h b)) v t
+edge_same : (h : Name → Text) (b : Build) (p : Parts) (u v : Variables) (t : Bool) → IsRead h b p → KeptAlike u v → p.read.has_long ≡ false → list_any is_long_in (all_variables u) ≡ false
+    → edge_of p.read.paths u t ≡ edge_of (canonical_paths (texts_in h b)) v t
 edge_same h b p u v t r e far long =
     let q = canonical_paths (texts_in h b) in
     let each = kept_each u v e in
@@ -264,7 +266,7 @@ edge_same h b p u v t r e far long =
     let description : text_in u.description ≡ text_in v.description = cc in
     let depfile : text_in u.depfile ≡ text_in v.depfile = cc in
     let pool : text_in u.pool ≡ text_in v.pool = cc in
-    ap (λ x. edge_from x u t) (r.exact far)
+    ap (λ x. edge_of x u t) (r.exact far)
     ∙ congruent_six
     (λ (a b c : Text) (d e : Bool) (f : Text).
     record { outputs = q.outputs; implicit_outputs = q.implicit_outputs; inputs = q.inputs; implicit_inputs = q.implicit_inputs; order_only_inputs = q.order_only_inputs; command = a; description = b; depfile = c; restat = d; generator = e; phony = t; pool = f })
@@ -272,16 +274,16 @@ edge_same h b p u v t r e far long =
     command description depfile (present_alike u.restat v.restat each.restat) (present_alike u.generator v.generator each.generator) pool
 
 -- what the code holds gives the edge that is meant
-pub edge_held : (pools names : List Name) (h : Name → Text) (b : Build) (p : Parts) (u v : Variables) (t : Bool) → SameNames pools names → IsRead h b p → KeptAlike u v
-    → or_refused (first_of (causes_from pools u p)) (edge_from p.paths u t) ≡ edge_with names h b v t
+pub edge_held : (pools names : List Name) (h : Name → Text) (b : Build) (p : Parts) (u v : Variables) (t : Bool) → EqNames pools names → IsRead h b p → KeptAlike u v
+    → or_refused (first_of (causes_of pools u p.read.has_empty p.read.has_long p.block.has_long)) (edge_of p.read.paths u t) ≡ edge_or_refusal names h b v t
 edge_held pools names h b p u v t s r e =
     let each = kept_each u v e in
     let long = any_alike is_long_in long_alike (all_variables u) (all_variables v) e in
-    or_refused_same (first_of (causes_from pools u p)) (edge_from p.paths u t) (edge_from (canonical_paths (texts_in h b)) v t)
+    or_refused_same (first_of (causes_of pools u p.read.has_empty p.read.has_long p.block.has_long)) (edge_of p.read.paths u t) (edge_of (canonical_paths (texts_in h b)) v t)
     (λ none.
-    let parts = no_cause _ _ _ _ _ _ p.has_long (list_any is_long_in (all_variables u) || p.block.has_long) none in
+    let parts = no_cause _ _ _ _ _ _ p.read.has_long (list_any is_long_in (all_variables u) || p.block.has_long) none in
     edge_same h b p u v t r e parts.0 (or_parts (list_any is_long_in (all_variables u)) p.block.has_long parts.1).0)
-    ∙ congruent_eight (λ (x1 x2 x3 x4 x5 x6 x7 x8 : Bool). or_refused (first_of (eight x1 x2 x3 x4 x5 x6 x7 x8)) (edge_from (canonical_paths (texts_in h b)) v t))
+    ∙ congruent_eight (λ (x1 x2 x3 x4 x5 x6 x7 x8 : Bool). or_refused (first_of (eight x1 x2 x3 x4 x5 x6 x7 x8)) (edge_of (canonical_paths (texts_in h b)) v t))
     _ _ _ _ _ _ _ _ _ _ _ _ _ _ _ _
     (pool_kept pools names s (text_in u.pool) (text_in v.pool) (text_in_kept u.pool v.pool each.pool))
     (any_alike is_none cycle_kept (all_variables u) (all_variables v) e)

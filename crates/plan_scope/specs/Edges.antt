@@ -1,4 +1,4 @@
--- What the lines of a tree mean, each by the lines above it and by all of them.
+-- What the statements of a tree mean, each by the statements above it and by all of them.
 use Rattle.std.specs.Prelude.{ℕ, Bool, true, false, not, ◌||◌, ◌&&◌, List, [], ◌∷◌, ◌++◌, length, map, Option, Some, None, Result, Ok, Err, bytes_eq, nat_le, if◌then◌else◌, unwrap_or, flat_map, codes, is_none, is_some}
 use Rattle.std.specs.List.{list_any}
 use Rattle.plan_text.specs.Bytes.{line_feed}
@@ -18,10 +18,11 @@ use Rattle.plan_scope.specs.declared.manifest.DefaultTarget.{DefaultTarget}
 use Rattle.plan_scope.specs.declared.manifest.Edge.{Edge}
 use Rattle.plan_scope.specs.declared.manifest.Manifest.{Manifest}
 use Rattle.plan_scope.specs.declared.manifest.Pool.{Pool}
-use Rattle.plan_scope.specs.declared.variables.Variables.{Variables}
-use Rattle.plan_scope.specs.Trees.{Line}
-use Rattle.plan_scope.specs.Scopes.{Text, Name, Bindings, Scoped, last_of, frame, nearest, look, expand, in_own, bound_by, is_too_long, is_long_path, is_empty}
-use Rattle.plan_scope.specs.Expansion.{Use, plain, quoted, variable}
+use Rattle.plan_scope.specs.declared.edge.paths.Paths.{Paths}
+use Rattle.plan_scope.specs.declared.edge.variables.Variables.{Variables}
+use Rattle.plan_scope.specs.Trees.{TreeStatement}
+use Rattle.plan_scope.specs.Scopes.{Text, Name, Bindings, ScopedBindings, last_of, frame, nearest, lookup, expand, in_own, bound_by, is_too_long, is_long_path, is_empty}
+use Rattle.plan_scope.specs.Expansion.{EdgeEnvironment, plain, quoted, variable}
 
 -- the first of these causes that stands
 abbrev pub first_of : List (Bool × Cause) → Option Cause
@@ -36,41 +37,31 @@ or_refused None x = Ok x
 abbrev pub late : List Binding → Bindings (List Piece)
 late bindings = map (λ b. (b.name, b.value)) bindings
 
--- the rule that a line declares, in its own scope
-abbrev pub rules_in : List ℕ → StatementKind → Scoped (Bindings (List Piece))
+-- the rule that a statement declares, in its own scope
+abbrev pub rules_in : List ℕ → StatementKind → ScopedBindings (Bindings (List Piece))
 rules_in scopes (kind.Rule r) = in_own scopes r.name (late r.bindings)
-rules_in scopes (kind.Build b) = []
-rules_in scopes (kind.Pool p) = []
-rules_in scopes (kind.Default targets) = []
-rules_in scopes (kind.Include path) = []
-rules_in scopes (kind.Subninja path) = []
-rules_in scopes (kind.Binding b) = []
+rules_in scopes other = []
 
-abbrev pub rules_of : List Line → Scoped (Bindings (List Piece))
-rules_of lines = flat_map (λ l. rules_in l.scopes l.kind) lines
+abbrev pub rules_of : List TreeStatement → ScopedBindings (Bindings (List Piece))
+rules_of statements = flat_map (λ l. rules_in l.scopes l.kind) statements
 
--- whether a line's own scope has a rule of this name
-abbrev pub has_own : {V : Type 0} → Scoped V → List ℕ → Name → Bool
+-- whether a statement's own scope has a rule of this name
+abbrev pub has_own : {V : Type 0} → ScopedBindings V → List ℕ → Name → Bool
 has_own bound [] name = false
 has_own bound (own ∷ outer) name = is_some (last_of name (frame own bound))
 
 -- a rule is declared once in a scope, and `phony` nowhere
-abbrev pub is_taken : Scoped (Bindings (List Piece)) → List ℕ → Name → Bool
+abbrev pub is_taken : ScopedBindings (Bindings (List Piece)) → List ℕ → Name → Bool
 is_taken rules scopes name = bytes_eq name (codes "phony") || has_own rules scopes name
 
--- the name of the pool that a line declares
+-- the name of the pool that a statement declares
 abbrev pub pools_in : StatementKind → List Name
 pools_in (kind.Pool p) = p.name ∷ []
-pools_in (kind.Rule r) = []
-pools_in (kind.Build b) = []
-pools_in (kind.Default targets) = []
-pools_in (kind.Include path) = []
-pools_in (kind.Subninja path) = []
-pools_in (kind.Binding b) = []
+pools_in other = []
 
 -- pools are shared by all files; `console` is always there
-abbrev pub pools_of : List Line → List Name
-pools_of lines = codes "console" ∷ flat_map (λ l. pools_in l.kind) lines
+abbrev pub pools_of : List TreeStatement → List Name
+pools_of statements = codes "console" ∷ flat_map (λ l. pools_in l.kind) statements
 
 abbrev pub is_among : List Name → Name → Bool
 is_among names name = list_any (bytes_eq name) names
@@ -102,25 +93,48 @@ near here block name = unwrap_or (last_of name block) (here name)
 abbrev pub paths_of : (Name → Text) → List (List Piece) → List Text
 paths_of here paths = map (expand here) paths
 
--- all paths of a build line as expanded
-abbrev pub all_paths : (Name → Text) → Build → List Text
-all_paths here b =
-    paths_of here b.outputs ++ paths_of here b.implicit_outputs ++ paths_of here b.inputs ++ paths_of here b.implicit_inputs ++ paths_of here b.order_only_inputs
+-- the paths of a build line as expanded
+abbrev pub texts_of : (Name → Text) → Build → Paths
+texts_of here b = record {
+  outputs = paths_of here b.outputs;
+  implicit_outputs = paths_of here b.implicit_outputs;
+  inputs = paths_of here b.inputs;
+  implicit_inputs = paths_of here b.implicit_inputs;
+  order_only_inputs = paths_of here b.order_only_inputs;
+}
 
--- What the variables of an edge are looked up in: what names stand for above its line and, once the whole tree was read, in its file; the line itself; its rule.
-abbrev pub use_of : (here file : Name → Text) → Build → Bindings (List Piece) → Use
-use_of here file b rule =
+-- the canonical forms of paths
+abbrev pub canonical_paths : Paths → Paths
+canonical_paths p = record {
+  outputs = map path_of p.outputs;
+  implicit_outputs = map path_of p.implicit_outputs;
+  inputs = map path_of p.inputs;
+  implicit_inputs = map path_of p.implicit_inputs;
+  order_only_inputs = map path_of p.order_only_inputs;
+}
+
+-- all of them
+abbrev pub all_in : Paths → List Text
+all_in p = p.outputs ++ p.implicit_outputs ++ p.inputs ++ p.implicit_inputs ++ p.order_only_inputs
+
+-- whether one has no byte
+abbrev pub has_empty : Paths → Bool
+has_empty p = list_any is_empty (all_in p)
+
+-- whether one is too long
+abbrev pub has_long : Paths → Bool
+has_long p = list_any is_long_path (all_in p)
+
+-- What the variables of an edge are looked up in: what names stand for above its statement and, once the whole tree
+-- was read, in its file; the statement itself; its rule.
+abbrev pub environment_of : (here file : Name → Text) → Build → Bindings (List Piece) → EdgeEnvironment
+environment_of here file b rule =
     let block = block_of here b.bindings in
-    record {
-      inputs = map path_of (paths_of (near here block) b.inputs);
-      outputs = map path_of (paths_of (near here block) b.outputs);
-      block = block;
-      rule = rule;
-      file = file;
-    }
+    let paths = canonical_paths (texts_of (near here block) b) in
+    record { inputs = paths.inputs; outputs = paths.outputs; block = block; rule = rule; file = file }
 
 -- the variables of an edge; paths in its command and its description are quoted
-abbrev pub variables_of : Use → Variables
+abbrev pub variables_of : EdgeEnvironment → Variables
 variables_of edge = record {
   command = variable quoted edge (codes "command");
   depfile = variable plain edge (codes "depfile");
@@ -134,7 +148,7 @@ variables_of edge = record {
 }
 
 -- a phony has no rule, and looks up `dyndep` alone
-abbrev pub phony_variables : Use → Variables
+abbrev pub phony_variables : EdgeEnvironment → Variables
 phony_variables edge = record {
   command = Some [];
   depfile = Some [];
@@ -164,27 +178,28 @@ names_no_pool pools text = not (is_empty text) && (is_too_long text || not (is_a
 abbrev pub is_other_deps : Text → Bool
 is_other_deps text = not (is_empty text) && not (bytes_eq text (codes "gcc"))
 
--- what a build line with a rule may be refused for, the least number first: by the pools of the tree, its variables, its paths as expanded, and its block
-abbrev pub causes_of : List Name → Variables → List Text → Bindings Text → List (Bool × Cause)
-causes_of pools v paths block =
+-- What a build line may be refused for, the least number first: by the pools of the tree, its variables, and whether
+-- a path has no byte, a path is too long, or a text of its block is.
+abbrev pub causes_of : List Name → Variables → (empty_path long_path long_value : Bool) → List (Bool × Cause)
+causes_of pools v empty_path long_path long_value =
     (names_no_pool pools (text_in v.pool), UnknownPool)
     ∷ (list_any is_none (all_variables v), RuleCycle)
-    ∷ (list_any is_empty paths, EmptyPath)
+    ∷ (empty_path, EmptyPath)
     ∷ (is_present v.dyndep, Dyndep)
     ∷ (is_present v.rspfile, Rspfile)
     ∷ (is_other_deps (text_in v.deps), DepsKind)
-    ∷ (list_any is_long_path paths, PathTooLong)
-    ∷ (list_any (λ text. is_too_long (text_in text)) (all_variables v) || list_any (λ b. is_too_long b.1) block, TextTooLong)
+    ∷ (long_path, PathTooLong)
+    ∷ (list_any (λ text. is_too_long (text_in text)) (all_variables v) || long_value, TextTooLong)
     ∷ []
 
--- the edge of a build line
-abbrev pub edge_of : (Name → Text) → Build → Variables → Bool → Edge
-edge_of here b v is_phony = record {
-  outputs = map path_of (paths_of here b.outputs);
-  implicit_outputs = map path_of (paths_of here b.implicit_outputs);
-  inputs = map path_of (paths_of here b.inputs);
-  implicit_inputs = map path_of (paths_of here b.implicit_inputs);
-  order_only_inputs = map path_of (paths_of here b.order_only_inputs);
+-- the edge with these canonical paths and these variables
+abbrev pub edge_of : Paths → Variables → Bool → Edge
+edge_of p v is_phony = record {
+  outputs = p.outputs;
+  implicit_outputs = p.implicit_outputs;
+  inputs = p.inputs;
+  implicit_inputs = p.implicit_inputs;
+  order_only_inputs = p.order_only_inputs;
   command = text_in v.command;
   description = text_in v.description;
   depfile = text_in v.depfile;
@@ -194,22 +209,24 @@ edge_of here b v is_phony = record {
   pool = text_in v.pool;
 }
 
--- The edge of a build line, or why it is refused, by the pools of the tree, what names stand for above the line, and its variables.
-abbrev pub edge_with : List Name → (Name → Text) → Build → Variables → Bool → Result Edge Cause
-edge_with pools here b v is_phony =
+-- The edge of a build line, or why it is refused, by the pools of the tree, what names stand for above the line, and
+-- its variables.
+abbrev pub edge_or_refusal : List Name → (Name → Text) → Build → Variables → Bool → Result Edge Cause
+edge_or_refusal pools here b v is_phony =
     let block = block_of here b.bindings in
-    or_refused (first_of (causes_of pools v (all_paths (near here block) b) block)) (edge_of (near here block) b v is_phony)
+    let texts = texts_of (near here block) b in
+    or_refused (first_of (causes_of pools v (has_empty texts) (has_long texts) (list_any (λ b. is_too_long b.1) block))) (edge_of (canonical_paths texts) v is_phony)
 
--- the same by its rule; a line without a known rule has no other cause
-abbrev pub edge_by : List Name → (here file : Name → Text) → Build → Option (Bindings (List Piece)) → Result Edge Cause
-edge_by pools here file b None = Err UnknownRule
-edge_by pools here file b (Some rule) = edge_with pools here b (variables_of (use_of here file b rule)) false
+-- the same by its rule; a statement without a known rule has no other cause
+abbrev pub edge_of_rule : List Name → (here file : Name → Text) → Build → Option (Bindings (List Piece)) → Result Edge Cause
+edge_of_rule pools here file b None = Err UnknownRule
+edge_of_rule pools here file b (Some rule) = edge_or_refusal pools here b (variables_of (environment_of here file b rule)) false
 
 -- what a build line gives, by the pools of the tree and the rules above it
-abbrev pub built_by : List Name → Scoped (Bindings (List Piece)) → List ℕ → (here file : Name → Text) → Build → Result Edge Cause
-built_by pools rules scopes here file b =
-    if bytes_eq b.rule (codes "phony") then edge_with pools here b (phony_variables (use_of here file b [])) true
-    else edge_by pools here file b (nearest rules scopes b.rule)
+abbrev pub edge_of_build : List Name → ScopedBindings (Bindings (List Piece)) → List ℕ → (here file : Name → Text) → Build → Result Edge Cause
+edge_of_build pools rules scopes here file b =
+    if bytes_eq b.rule (codes "phony") then edge_or_refusal pools here b (phony_variables (environment_of here file b [])) true
+    else edge_of_rule pools here file b (nearest rules scopes b.rule)
 
 -- a pool, by the names of those above it and the text of its depth
 abbrev pub pool_by : List Name → Name → Text → Result Pool Cause
@@ -221,7 +238,7 @@ pool_by above name text =
 abbrev pub target_at : ℕ → Text → DefaultTarget
 target_at edges_above path = record { path = path_of path; edges_above = edges_above }
 
--- the targets of a line
+-- the targets of a statement
 abbrev pub targets_by : ℕ → List Text → Result (List DefaultTarget) Cause
 targets_by edges_above paths =
     or_refused (first_of ((list_any is_empty paths, EmptyPath) ∷ (list_any is_long_path paths, PathTooLong) ∷ []))
@@ -229,19 +246,14 @@ targets_by edges_above paths =
 
 abbrev pub builds_in : StatementKind → List Build
 builds_in (kind.Build b) = b ∷ []
-builds_in (kind.Rule r) = []
-builds_in (kind.Pool p) = []
-builds_in (kind.Default targets) = []
-builds_in (kind.Include path) = []
-builds_in (kind.Subninja path) = []
-builds_in (kind.Binding b) = []
+builds_in other = []
 
-abbrev pub builds_of : List Line → List Build
-builds_of lines = flat_map (λ l. builds_in l.kind) lines
+abbrev pub builds_of : List TreeStatement → List Build
+builds_of statements = flat_map (λ l. builds_in l.kind) statements
 
--- what one line adds to a manifest
-abbrev pub nothing : Manifest
-nothing = record { edges = []; pools = []; defaults = [] }
+-- what one statement adds to a manifest
+abbrev pub empty_manifest : Manifest
+empty_manifest = record { edges = []; pools = []; defaults = [] }
 
 abbrev pub edge_alone : Edge → Manifest
 edge_alone edge = record { edges = edge ∷ []; pools = []; defaults = [] }
@@ -255,31 +267,29 @@ defaults_alone targets = record { edges = []; pools = []; defaults = targets }
 abbrev pub with_more : Manifest → Manifest → Manifest
 with_more m n = record { edges = m.edges ++ n.edges; pools = m.pools ++ n.pools; defaults = m.defaults ++ n.defaults }
 
-abbrev pub mapped : {A B : Type 0} → (A → B) → Result A Cause → Result B Cause
-mapped f (Ok x) = Ok (f x)
-mapped f (Err cause) = Err cause
+abbrev pub map_ok : {A B : Type 0} → (A → B) → Result A Cause → Result B Cause
+map_ok f (Ok x) = Ok (f x)
+map_ok f (Err cause) = Err cause
 
--- what a line gives, by all lines of the tree and those above it
-abbrev pub given_by : List Line → List Line → List ℕ → StatementKind → Result Manifest Cause
-given_by all above scopes (kind.Rule r) = if is_taken (rules_of above) scopes r.name then Err DuplicateRule else Ok nothing
-given_by all above scopes (kind.Build b) = mapped edge_alone (built_by (pools_of all) (rules_of above) scopes (look (bound_by above) scopes) (look (bound_by all) scopes) b)
-given_by all above scopes (kind.Pool p) = mapped pool_alone (pool_by (pools_of above) p.name (expand (look (bound_by above) scopes) p.depth))
-given_by all above scopes (kind.Default targets) = mapped defaults_alone (targets_by (length (builds_of above)) (paths_of (look (bound_by above) scopes) targets))
-given_by all above scopes (kind.Include path) = Ok nothing
-given_by all above scopes (kind.Subninja path) = Ok nothing
-given_by all above scopes (kind.Binding b) = Ok nothing
+-- what a statement gives, by all statements of the tree and those above it
+abbrev pub manifest_of_kind : List TreeStatement → List TreeStatement → List ℕ → StatementKind → Result Manifest Cause
+manifest_of_kind all above scopes (kind.Rule r) = if is_taken (rules_of above) scopes r.name then Err DuplicateRule else Ok empty_manifest
+manifest_of_kind all above scopes (kind.Build b) = map_ok edge_alone (edge_of_build (pools_of all) (rules_of above) scopes (lookup (bound_by above) scopes) (lookup (bound_by all) scopes) b)
+manifest_of_kind all above scopes (kind.Pool p) = map_ok pool_alone (pool_by (pools_of above) p.name (expand (lookup (bound_by above) scopes) p.depth))
+manifest_of_kind all above scopes (kind.Default targets) = map_ok defaults_alone (targets_by (length (builds_of above)) (paths_of (lookup (bound_by above) scopes) targets))
+manifest_of_kind all above scopes other = Ok empty_manifest
 
-abbrev pub in_front : Line → Result Manifest Cause → Result Manifest ScopeFault → Result Manifest ScopeFault
+abbrev pub in_front : TreeStatement → Result Manifest Cause → Result Manifest ScopeFault → Result Manifest ScopeFault
 in_front l (Err cause) more = Err (Refused l.path l.offset cause)
 in_front l (Ok given) (Ok more) = Ok (with_more given more)
 in_front l (Ok given) (Err fault) = Err fault
 
--- what the lines behind those above give, or the fault of the first line with one
-abbrev pub given_past : List Line → List Line → List Line → Result Manifest ScopeFault
-given_past all above [] = Ok nothing
-given_past all above (l ∷ more) = in_front l (given_by all above l.scopes l.kind) (given_past all (above ++ l ∷ []) more)
+-- what the statements behind those above give, or the fault of the first statement with one
+abbrev pub manifest_past : List TreeStatement → List TreeStatement → List TreeStatement → Result Manifest ScopeFault
+manifest_past all above [] = Ok empty_manifest
+manifest_past all above (l ∷ more) = in_front l (manifest_of_kind all above l.scopes l.kind) (manifest_past all (above ++ l ∷ []) more)
 
--- the pool that is there without a line
+-- the pool that is there without a statement
 abbrev pub console : Pool
 console = record { name = codes "console"; depth = 1 }
 
@@ -288,9 +298,9 @@ abbrev pub with_front : Manifest → Result Manifest ScopeFault → Result Manif
 with_front front (Ok more) = Ok (with_more front more)
 with_front front (Err fault) = Err fault
 
--- what the lines of a tree mean
-abbrev pub manifest_of : List Line → Result Manifest ScopeFault
-manifest_of lines = with_front (pool_alone console) (given_past lines [] lines)
+-- what the statements of a tree mean
+abbrev pub manifest_of : List TreeStatement → Result Manifest ScopeFault
+manifest_of statements = with_front (pool_alone console) (manifest_past statements [] statements)
 
 -- an edge's command and a newline; nothing of a phony
 abbrev pub command_line : Edge → List ℕ

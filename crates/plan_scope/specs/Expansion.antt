@@ -1,4 +1,5 @@
--- The variables of a rule, expanded where the rule is used. (Ninja manual, "Rule variables" and "Variable expansion".)
+-- The variables of a rule, expanded where the rule is used. (Ninja manual, "Rule variables" and "Variable
+-- expansion".)
 use Rattle.std.specs.Prelude.{ℕ, zero, suc, Bool, true, false, ◌||◌, ◌&&◌, ◌==◌, nat_le, List, [], ◌∷◌, ◌++◌, length, map, Option, Some, None, bytes_eq, if◌then◌else◌, flat_map, codes}
 use Rattle.std.specs.List.{list_any, list_all, join_with_byte}
 use Rattle.plan_text.specs.Bytes.{space, line_feed}
@@ -12,20 +13,25 @@ is_plain b =
     (nat_le 65 b && nat_le b 90) || (nat_le 97 b && nat_le b 122) || (nat_le 48 b && nat_le b 57)
     || b == 95 || b == 43 || b == 45 || b == 46 || b == 47
 
--- a quote as it stands between quotes
+-- '
+abbrev pub single_quote : ℕ
+single_quote = 39
+
+-- a byte as it stands between quotes
 abbrev pub escaped : ℕ → Text
-escaped b = if b == 39 then codes "'\\''" else b ∷ []
+escaped b = if b == single_quote then codes "'\\''" else b ∷ []
 
 -- a path for a shell: as it is where each byte is plain, else between single quotes
 abbrev pub quoted : Text → Text
-quoted path = if list_all is_plain path then path else 39 ∷ flat_map escaped path ++ 39 ∷ []
+quoted path = if list_all is_plain path then path else single_quote ∷ flat_map escaped path ++ single_quote ∷ []
 
 -- a path as it is
 abbrev pub plain : Text → Text
 plain path = path
 
--- What the variables of an edge are looked up in, the nearest first: its explicit paths, its build block, its rule, and what names stand for in its file once the whole tree was read.
-pub record Use : Type 0 where
+-- What the variables of an edge are looked up in, the nearest first: its explicit paths, its build block, its rule,
+-- and what names stand for in its file once the whole tree was read.
+pub record EdgeEnvironment : Type 0 where
   pub inputs : List Text
   pub outputs : List Text
   pub block : Bindings Text
@@ -33,7 +39,7 @@ pub record Use : Type 0 where
   pub file : Name → Text
 
 -- `in`, `out` and `in_newline`, each path shown in some way
-abbrev pub listed : (Text → Text) → Use → Name → Option Text
+abbrev pub listed : (Text → Text) → EdgeEnvironment → Name → Option Text
 listed show edge name =
     if bytes_eq name (codes "in") then Some (join_with_byte space (map show edge.inputs))
     else if bytes_eq name (codes "out") then Some (join_with_byte space (map show edge.outputs))
@@ -54,7 +60,7 @@ or_late (Some pieces) other = Late pieces
 or_late None other = other
 
 -- the nearest that knows the name
-abbrev pub meaning_of : (Text → Text) → Use → Name → Meaning
+abbrev pub meaning_of : (Text → Text) → EdgeEnvironment → Name → Meaning
 meaning_of show edge name =
     or_known (listed show edge name) (or_known (last_of name edge.block) (or_late (last_of name edge.rule) (Known (edge.file name))))
 
@@ -79,12 +85,13 @@ text_of (Known text) in_use inner = Some text
 text_of (Late pieces) true inner = None
 text_of (Late pieces) false inner = inner pieces
 
--- A name's text, or none where the rule's variables refer to one another in a cycle. At most n names of the rule are not in use yet; with none left each is.
+-- A name's text, or none where the rule's variables refer to one another in a cycle. At most n names of the rule are
+-- not in use yet; with none left each is.
 abbrev pub text_within : ℕ → (Name → Meaning) → List Name → Name → Option Text
 text_within zero meaning in_use name = text_of (meaning name) true (λ pieces. None)
 text_within (suc n) meaning in_use name =
     text_of (meaning name) (list_any (bytes_eq name) in_use) (joined (text_within n meaning (name ∷ in_use)))
 
 -- a variable of an edge, expanded for itself; its paths are shown in this way, also inside other variables
-abbrev pub variable : (Text → Text) → Use → Name → Option Text
+abbrev pub variable : (Text → Text) → EdgeEnvironment → Name → Option Text
 variable show edge name = text_within (length edge.rule) (meaning_of show edge) [] name

@@ -5,8 +5,8 @@ use Rattle.std.specs.Cmp.Lexicographic.{nat_list_eq_equiv}
 use Rattle.std.specs.Hash as fed
 use Rattle.std.specs.Cmp.Rules.{hashing}
 use Rattle.std.proofs.Common.{rules}
-use Rattle.plan_scope.specs.declared.keys.Key.{Key}
-use Rattle.plan_scope.specs.Scopes.{Name, Bindings, Scoped, frame, last_of}
+use Rattle.plan_scope.specs.declared.scope.keys.Key.{Key}
+use Rattle.plan_scope.specs.Scopes.{Name, Bindings, ScopedBindings, frame, last_of}
 
 -- the same scope and the same name
 abbrev pub same_key : ℕ × Name → ℕ × Name → Bool
@@ -27,7 +27,7 @@ abbrev pub key_of : Key → ℕ × Name
 key_of k = (k.scope, k.name.items)
 
 -- the entries of a map as bindings in their scopes
-abbrev pub scoped_by : {V : Type 0} → List (Key × V) → Scoped V
+abbrev pub scoped_by : {V : Type 0} → List (Key × V) → ScopedBindings V
 scoped_by [] = []
 scoped_by (e ∷ es) = scoped_by es ++ (e.0.scope, (e.0.name.items, e.1)) ∷ []
 

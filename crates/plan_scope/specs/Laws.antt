@@ -2,21 +2,21 @@
 use Rattle.std.specs.Prelude.{◌≡◌, ℕ, List, Option, Ok}
 use Rattle.std.specs.List.{All}
 use Rattle.plan_scope.specs.declared.manifest.Manifest.{Manifest}
-use Rattle.plan_scope.specs.Trees.{Line}
+use Rattle.plan_scope.specs.Trees.{TreeStatement}
 use Rattle.plan_scope.specs.Scopes.{Text}
 use Rattle.plan_scope.specs.Edges.{builds_of, manifest_of}
-use Rattle.plan_scope.specs.Loading.{IsMissing, LoadsFirst}
+use Rattle.plan_scope.specs.Loading.{FileContents, IsMissing, LoadsFirst, PathSet}
 use Rattle.plan_scope.specs.Sound.{IsSound, MakesSome}
 
--- what lines mean, each build line of which has an output, is sound
+-- what statements mean, each build line of which has an output, is sound
 abbrev pub ManifestsAreSound : Type 0
-ManifestsAreSound = (lines : List Line) (m : Manifest) → All MakesSome (builds_of lines) → manifest_of lines ≡ Ok m → IsSound m
+ManifestsAreSound = (statements : List TreeStatement) (m : Manifest) → All MakesSome (builds_of statements) → manifest_of statements ≡ Ok m → IsSound m
 
 -- each build line of a tree that is loaded has an output, by what the source may give and which reads may fail
-abbrev pub TreesAreWhole : (gives : Text → Option (List ℕ) → Type 0) → (fails : Text → Type 0) → Type 0
-TreesAreWhole gives fails = (before now : ℕ) (path : Text) (lines : List Line) → LoadsFirst gives (IsMissing gives fails before now) path (Ok lines) → All MakesSome (builds_of lines)
+abbrev pub TreesAreWhole : (gives : FileContents) → (fails : PathSet) → Type 0
+TreesAreWhole gives fails = (before now : ℕ) (path : Text) (statements : List TreeStatement) → LoadsFirst gives (IsMissing gives fails before now) path (Ok statements) → All MakesSome (builds_of statements)
 
--- so what the lines of a tree that is loaded mean is sound
-abbrev pub LoadedManifestsAreSound : (gives : Text → Option (List ℕ) → Type 0) → (fails : Text → Type 0) → Type 0
+-- so what the statements of a tree that is loaded mean is sound
+abbrev pub LoadedManifestsAreSound : (gives : FileContents) → (fails : PathSet) → Type 0
 LoadedManifestsAreSound gives fails =
-    (before now : ℕ) (path : Text) (lines : List Line) (m : Manifest) → LoadsFirst gives (IsMissing gives fails before now) path (Ok lines) → manifest_of lines ≡ Ok m → IsSound m
+    (before now : ℕ) (path : Text) (statements : List TreeStatement) (m : Manifest) → LoadsFirst gives (IsMissing gives fails before now) path (Ok statements) → manifest_of statements ≡ Ok m → IsSound m

@@ -4,7 +4,7 @@ use Rattle.plan_text.specs.declared.piece_reader.Piece.{Piece}
 use Rattle.plan_text.specs.declared.piece_reader.Piece.TheVariants.{Literal, Reference}
 use Rattle.plan_parse.specs.declared.statement.StatementKind.{StatementKind}
 use Rattle.plan_parse.specs.declared.statement.StatementKind.TheVariants as kind
-use Rattle.plan_scope.specs.Trees.{Line}
+use Rattle.plan_scope.specs.Trees.{TreeStatement}
 use Rattle.plan_text.specs.Limits.{max_path, max_text}
 
 abbrev pub Text : Type 0
@@ -27,22 +27,22 @@ last_of name [] = None
 last_of name (b ∷ bs) = or_else (last_of name bs) (if bytes_eq b.0 name then Some b.1 else None)
 
 -- names with what they are bound to, each in a scope, in the order of the tree
-abbrev pub Scoped : Type 0 → Type 0
-Scoped V = List (ℕ × (Name × V))
+abbrev pub ScopedBindings : Type 0 → Type 0
+ScopedBindings V = List (ℕ × (Name × V))
 
 -- the bindings of one scope
-abbrev pub frame : {V : Type 0} → ℕ → Scoped V → Bindings V
+abbrev pub frame : {V : Type 0} → ℕ → ScopedBindings V → Bindings V
 frame scope [] = []
 frame scope (b ∷ bs) = if b.0 == scope then b.1 ∷ frame scope bs else frame scope bs
 
 -- what the last binding in the nearest scope that has one gives
-abbrev pub nearest : {V : Type 0} → Scoped V → List ℕ → Name → Option V
+abbrev pub nearest : {V : Type 0} → ScopedBindings V → List ℕ → Name → Option V
 nearest bound [] name = None
 nearest bound (scope ∷ outer) name = or_else (last_of name (frame scope bound)) (nearest bound outer name)
 
 -- the text of a name, empty where no scope binds it
-abbrev pub look : Scoped Text → List ℕ → Name → Text
-look bound scopes name = unwrap_or (nearest bound scopes name) []
+abbrev pub lookup : ScopedBindings Text → List ℕ → Name → Text
+lookup bound scopes name = unwrap_or (nearest bound scopes name) []
 
 abbrev pub value_of : (Name → Text) → Piece → Text
 value_of value (Literal text) = text
@@ -52,29 +52,24 @@ value_of value (Reference name) = value name
 abbrev pub expand : (Name → Text) → List Piece → Text
 expand value pieces = flat_map (value_of value) pieces
 
--- a binding in the own scope of a line, the first that it sees
-abbrev pub in_own : {V : Type 0} → List ℕ → Name → V → Scoped V
+-- a binding in the own scope of a statement, the first that it sees
+abbrev pub in_own : {V : Type 0} → List ℕ → Name → V → ScopedBindings V
 in_own [] name value = []
 in_own (own ∷ outer) name value = (own, (name, value)) ∷ []
 
 -- what a statement binds, its right side expanded at once by the bindings above it
-abbrev pub bound_in : Scoped Text → List ℕ → StatementKind → Scoped Text
-bound_in above scopes (kind.Binding b) = in_own scopes b.name (expand (look above scopes) b.value)
-bound_in above scopes (kind.Rule r) = []
-bound_in above scopes (kind.Build b) = []
-bound_in above scopes (kind.Pool p) = []
-bound_in above scopes (kind.Default targets) = []
-bound_in above scopes (kind.Include path) = []
-bound_in above scopes (kind.Subninja path) = []
+abbrev pub bound_in : ScopedBindings Text → List ℕ → StatementKind → ScopedBindings Text
+bound_in above scopes (kind.Binding b) = in_own scopes b.name (expand (lookup above scopes) b.value)
+bound_in above scopes other = []
 
--- these bindings, and those of the lines behind them
-abbrev pub bound_past : Scoped Text → List Line → Scoped Text
+-- these bindings, and those of the statements behind them
+abbrev pub bound_past : ScopedBindings Text → List TreeStatement → ScopedBindings Text
 bound_past above [] = above
 bound_past above (l ∷ more) = bound_past (above ++ bound_in above l.scopes l.kind) more
 
--- what lines bind
-abbrev pub bound_by : List Line → Scoped Text
-bound_by lines = bound_past [] lines
+-- what statements bind
+abbrev pub bound_by : List TreeStatement → ScopedBindings Text
+bound_by statements = bound_past [] statements
 
 abbrev pub is_too_long : Text → Bool
 is_too_long text = nat_lt max_text (length text)

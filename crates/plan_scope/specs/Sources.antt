@@ -1,10 +1,11 @@
 -- What a source answers.
 use Rattle.std.specs.Prelude.{ℕ, ◌↔◌, Bool, true, false, List, Option, Some, None, Result, Ok, Err, Vec}
 use Rattle.std.specs.declared.alloc.Global.{Global}
-use Rattle.plan_scope.specs.declared.source.SourceFault.{SourceFault}
-use Rattle.plan_scope.specs.declared.source.SourceFault.TheVariants.{Missing, Failed, Memory}
+use Rattle.plan_scope.specs.declared.tree.source.SourceFault.{SourceFault}
+use Rattle.plan_scope.specs.declared.tree.source.SourceFault.TheVariants.{Missing, Failed, Memory}
 
--- What a read answers, where the source may give this for the path and a read of it may fail. Want of memory tells nothing of the file.
+-- What a read answers, where the source may give this for the path and a read of it may fail. Want of memory tells
+-- nothing of the file.
 abbrev pub IsAnswer : (gives : Option (List ℕ) → Type 0) → (fails : Type 0) → Result (Vec ℕ Global) SourceFault → Type 0
 IsAnswer gives fails (Ok bytes) = gives (Some bytes.items)
 IsAnswer gives fails (Err Missing) = gives None

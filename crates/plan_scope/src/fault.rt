@@ -2,7 +2,7 @@
 
 ghost use Rattle.std.specs.Prelude.{◌≡◌};
 ghost use Rattle.plan_scope.specs.Faults.{cause_number, number_of};
-ghost use Rattle.plan_scope.specs.declared.fault.LineFault.TheVariants as line;
+ghost use Rattle.plan_scope.specs.declared.fault.StatementFault.TheVariants as statement;
 ghost use Rattle.plan_scope.specs.declared.fault.ScopeFault.TheVariants as scope;
 
 use plan_parse::ParseFault;
@@ -79,7 +79,8 @@ pub enum ScopeFault {
 }
 
 impl ScopeFault {
-    /// The number under which the fault is printed: 20 for a missing file, 22 and 41 for memory, else that of the statements' fault or of the cause.
+    /// The number under which the fault is printed: 20 for a missing file, 22 and 41 for memory, else that of the
+    /// statements' fault or of the cause.
     pub fn number(&self) -> u8
         ensures { result ≡ number_of self.now }
     {
@@ -95,26 +96,26 @@ impl ScopeFault {
 
 /// Why a statement tells nothing.
 #[derive(Clone, Copy)]
-pub enum LineFault {
+pub enum StatementFault {
     /// The statement is refused.
     Refused(Cause),
     /// Memory ran out.
     Memory,
 }
 
-impl From<AllocError> for LineFault {
-    ghost from_gives = { λ _ e. e ≡ line.Memory };
+impl From<AllocError> for StatementFault {
+    ghost from_gives = { λ _ e. e ≡ statement.Memory };
 
-    fn from(_e: AllocError) -> LineFault {
-        LineFault::Memory
+    fn from(_e: AllocError) -> StatementFault {
+        StatementFault::Memory
     }
 }
 
-impl<T: Drop> From<AllocFailed<T>> for LineFault {
-    ghost from_gives = { λ _ e. e ≡ line.Memory };
+impl<T: Drop> From<AllocFailed<T>> for StatementFault {
+    ghost from_gives = { λ _ e. e ≡ statement.Memory };
 
-    fn from(_e: AllocFailed<T>) -> LineFault {
-        LineFault::Memory
+    fn from(_e: AllocFailed<T>) -> StatementFault {
+        StatementFault::Memory
     }
 }
 

@@ -2,11 +2,13 @@
 
 ghost use Rattle.plan_scope.specs.Laws.{LoadedManifestsAreSound, ManifestsAreSound, TreesAreWhole};
 
-use crate::source::Source;
+use crate::tree::source::Source;
 use plan_parse::statements_are_whole;
 use plan_text::canonical_stays;
 
-/// A manifest is sound where each build line has an output: so is each edge, its paths are canonical and within their limit, its texts within theirs, its pool is declared, and a phony runs nothing; pools differ in their names, and their depths are within their limit.
+/// A manifest is sound where each build line has an output: so is each edge, its paths are canonical and within their
+/// limit, its texts within theirs, its pool is declared, and a phony runs nothing; pools differ in their names, and
+/// their depths are within their limit.
 pub fn manifests_are_sound()
     ensures { ManifestsAreSound }
 {
@@ -20,7 +22,7 @@ pub fn trees_are_whole<S: Source>()
     statements_are_whole();
 }
 
-/// What the lines of a tree mean that is loaded from a source is sound.
+/// What the statements of a tree mean that is loaded from a source is sound.
 pub fn loaded_manifests_are_sound<S: Source>()
     ensures { (source : S) → LoadedManifestsAreSound (S.gives source) (S.fails source) }
 {

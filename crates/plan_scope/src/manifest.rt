@@ -1,5 +1,11 @@
 //! What a tree means.
 
+pub(crate) mod commands;
+mod defaults;
+pub(crate) mod evaluator;
+pub(crate) mod pool_names;
+mod pools;
+
 use plan_text::{Items, SmallText};
 
 /// What a build line makes, from what, and how. Its paths are canonical.

@@ -1,15 +1,20 @@
 //! What names stand for at a place of a tree.
 
-ghost use Rattle.std.specs.Prelude.{◌≡◌, ◌≤◌, ◌+◌, [], ◌∷◌, ◌++◌, List, length, IfOk, OnOk};
+ghost use Rattle.std.specs.Prelude.{◌≡◌, ◌≤◌, ◌+◌, [], ◌∷◌, ◌++◌, length, IfOk, OnOk};
 ghost use Rattle.std.specs.List.{list_any};
-ghost use Rattle.plan_scope.specs.Scopes.{Name, Scoped as Bound, Text, bound_by, bound_in, expand, in_own, is_too_long, look, value_of};
+ghost use Rattle.plan_scope.specs.Scopes.{Name, ScopedBindings as Bound, Text, bound_in, expand, in_own, is_too_long, lookup, value_of};
 ghost use Rattle.plan_text.specs.Limits.{max_text};
-ghost use Rattle.plan_scope.specs.Frames.{AgreesIn, StandsFor, kept};
-ghost use Rattle.plan_scope.specs.Uses.{names_in};
+ghost use Rattle.plan_scope.specs.Kept.{KeptEqScoped, KeptEqLookup, kept};
+ghost use Rattle.plan_scope.specs.ScopeNames.{names_in};
 
-use crate::appending::{append, is_long};
-use crate::scoped::Scoped;
-use crate::tree::{Line, Said};
+mod keys;
+pub(crate) mod scoped_map;
+pub(crate) mod small_map;
+pub(crate) mod text;
+
+use crate::scope::scoped_map::ScopedMap;
+use crate::scope::text::{append, is_long};
+use crate::tree::{Said, TreeStatement};
 use plan_parse::{Binding, StatementKind};
 use plan_text::{Items, MAX_TEXT, Piece};
 use std::alloc::{AllocError, Global};
@@ -18,13 +23,13 @@ use std::alloc::{AllocError, Global};
 #[derive(Clone, Copy)]
 pub struct Scope<'a> {
     /// What is bound in all scopes.
-    pub bound: &'a Scoped<Items<u8>>,
+    pub bound: &'a ScopedMap<Items<u8>>,
     /// The scopes that are seen there, the nearest first.
     pub scopes: &'a [usize],
 }
 
 /// The text of a name, empty where no scope binds it.
-pub fn text_in<'a>(scope: Scope<'a>, name: &[u8]) -> &'a [u8]
+pub fn name_text<'a>(scope: Scope<'a>, name: &[u8]) -> &'a [u8]
     ensures { result.now ≡ names_in scope.entry name.now }
 {
     match scope.bound.nearest(scope.scopes, name) {
@@ -34,12 +39,12 @@ pub fn text_in<'a>(scope: Scope<'a>, name: &[u8]) -> &'a [u8]
 }
 
 /// The text of a piece of a right side.
-fn text_of<'a>(scope: Scope<'a>, piece: &'a Piece) -> &'a [u8]
+fn piece_text<'a>(scope: Scope<'a>, piece: &'a Piece) -> &'a [u8]
     ensures { result.now ≡ value_of (names_in scope.entry) piece.now }
 {
     match piece {
         Piece::Literal(bytes) => bytes.as_slice(),
-        Piece::Reference(name) => text_in(scope, name.as_slice()),
+        Piece::Reference(name) => name_text(scope, name.as_slice()),
     }
 }
 
@@ -57,17 +62,17 @@ fn literal_len(pieces: &[Piece]) -> usize
 }
 
 /// The text of a right side.
-pub fn expanded<'a>(
+pub fn expand_pieces<'a>(
     alloc: Global,
     scope: Scope<'a>,
     pieces: &'a [Piece],
 ) -> Result<Vec<u8>, AllocError>
-    ensures text { IfOk result (λ text. (meant : Name → Text) → StandsFor (names_in scope.entry) meant → kept text.items ≡ kept (expand meant pieces.now)) }
+    ensures text { IfOk result (λ text. (meant : Name → Text) → KeptEqLookup (names_in scope.entry) meant → kept text.items ≡ kept (expand meant pieces.now)) }
     ensures within { IfOk result (λ text. length text.items ≤ max_text + 1) }
 {
     let mut text = Vec::with_capacity(alloc, literal_len(pieces))?;
     for piece in pieces {
-        append(&mut text, text_of(scope, piece))?;
+        append(&mut text, piece_text(scope, piece))?;
     }
     Ok(text)
 }
@@ -75,15 +80,15 @@ pub fn expanded<'a>(
 /// Binds a name in a scope, by what is bound above. Answers whether its text is too long.
 fn bind_in(
     alloc: Global,
-    bound: &mut Scoped<Items<u8>>,
+    bound: &mut ScopedMap<Items<u8>>,
     own: usize,
     scopes: &[usize],
     binding: &Binding,
 ) -> Result<bool, AllocError>
-    ensures bound { OnOk result ((meant : Bound Text) → AgreesIn bound.old meant → AgreesIn bound.new (meant ++ (own, (binding.now.name, expand (look meant scopes.now) binding.now.value)) ∷ [])) }
-    ensures long { IfOk result (λ long. (meant : Bound Text) → AgreesIn bound.old meant → long ≡ is_too_long (expand (look meant scopes.now) binding.now.value)) }
+    ensures bound { OnOk result ((meant : Bound Text) → KeptEqScoped bound.old meant → KeptEqScoped bound.new (meant ++ (own, (binding.now.name, expand (lookup meant scopes.now) binding.now.value)) ∷ [])) }
+    ensures long { IfOk result (λ long. (meant : Bound Text) → KeptEqScoped bound.old meant → long ≡ is_too_long (expand (lookup meant scopes.now) binding.now.value)) }
 {
-    let text = expanded(
+    let text = expand_pieces(
         alloc,
         Scope {
             bound: &*bound,
@@ -96,15 +101,15 @@ fn bind_in(
     Ok(long)
 }
 
-/// Binds a name in the own scope of a line, by what is bound above. Answers whether its text is too long.
+/// Binds a name in the own scope of a statement, by what is bound above. Answers whether its text is too long.
 fn bind_own(
     alloc: Global,
-    bound: &mut Scoped<Items<u8>>,
+    bound: &mut ScopedMap<Items<u8>>,
     scopes: &[usize],
     binding: &Binding,
 ) -> Result<bool, AllocError>
-    ensures bound { OnOk result ((meant : Bound Text) → AgreesIn bound.old meant → AgreesIn bound.new (meant ++ in_own scopes.now binding.now.name (expand (look meant scopes.now) binding.now.value))) }
-    ensures long { IfOk result (λ long. (meant : Bound Text) → AgreesIn bound.old meant → long ≡ list_any (λ b. is_too_long b.1.1) (in_own scopes.now binding.now.name (expand (look meant scopes.now) binding.now.value))) }
+    ensures bound { OnOk result ((meant : Bound Text) → KeptEqScoped bound.old meant → KeptEqScoped bound.new (meant ++ in_own scopes.now binding.now.name (expand (lookup meant scopes.now) binding.now.value))) }
+    ensures long { IfOk result (λ long. (meant : Bound Text) → KeptEqScoped bound.old meant → long ≡ list_any (λ b. is_too_long b.1.1) (in_own scopes.now binding.now.name (expand (lookup meant scopes.now) binding.now.value))) }
 {
     match scopes {
         [] => Ok(false),
@@ -115,12 +120,12 @@ fn bind_own(
 /// Binds what a statement of a file binds, by what is bound above it. Answers whether a text is too long.
 fn bind(
     alloc: Global,
-    bound: &mut Scoped<Items<u8>>,
+    bound: &mut ScopedMap<Items<u8>>,
     scopes: &[usize],
     kind: &StatementKind,
 ) -> Result<bool, AllocError>
-    ensures bound { OnOk result ((meant : Bound Text) → AgreesIn bound.old meant → AgreesIn bound.new (meant ++ bound_in meant scopes.now kind.now)) }
-    ensures long { IfOk result (λ long. (meant : Bound Text) → AgreesIn bound.old meant → long ≡ list_any (λ b. is_too_long b.1.1) (bound_in meant scopes.now kind.now)) }
+    ensures bound { OnOk result ((meant : Bound Text) → KeptEqScoped bound.old meant → KeptEqScoped bound.new (meant ++ bound_in meant scopes.now kind.now)) }
+    ensures long { IfOk result (λ long. (meant : Bound Text) → KeptEqScoped bound.old meant → long ≡ list_any (λ b. is_too_long b.1.1) (bound_in meant scopes.now kind.now)) }
 {
     match kind {
         StatementKind::Binding(binding) => bind_own(alloc, bound, scopes, binding),
@@ -133,28 +138,17 @@ fn bind(
     }
 }
 
-/// Binds what a line binds, by what is bound above it. Answers whether a text is too long.
-pub fn bind_line(
+/// Binds what a statement binds, by what is bound above it. Answers whether a text is too long.
+pub fn bind_statement(
     alloc: Global,
-    bound: &mut Scoped<Items<u8>>,
-    line: &Line,
+    bound: &mut ScopedMap<Items<u8>>,
+    statement: &TreeStatement,
 ) -> Result<bool, AllocError>
-    ensures bound { OnOk result ((meant : Bound Text) → AgreesIn bound.old meant → AgreesIn bound.new (meant ++ bound_in meant line.now.scopes line.now.kind)) }
-    ensures long { IfOk result (λ long. (meant : Bound Text) → AgreesIn bound.old meant → long ≡ list_any (λ b. is_too_long b.1.1) (bound_in meant line.now.scopes line.now.kind)) }
+    ensures bound { OnOk result ((meant : Bound Text) → KeptEqScoped bound.old meant → KeptEqScoped bound.new (meant ++ bound_in meant statement.now.scopes statement.now.kind)) }
+    ensures long { IfOk result (λ long. (meant : Bound Text) → KeptEqScoped bound.old meant → long ≡ list_any (λ b. is_too_long b.1.1) (bound_in meant statement.now.scopes statement.now.kind)) }
 {
-    match line.said(alloc)? {
-        Said::Kept(kind) => bind(alloc, bound, line.scopes(), kind),
-        Said::Read(binding) => bind_own(alloc, bound, line.scopes(), &binding),
+    match statement.said(alloc)? {
+        Said::Kept(kind) => bind(alloc, bound, statement.scopes(), kind),
+        Said::Read(binding) => bind_own(alloc, bound, statement.scopes(), &binding),
     }
-}
-
-/// What lines bind.
-pub fn bound_by_lines(alloc: Global, lines: &[Line]) -> Result<Scoped<Items<u8>>, AllocError>
-    ensures { IfOk result (λ bound. AgreesIn bound (bound_by lines.now)) }
-{
-    let mut bound = Scoped::new(alloc);
-    for line in lines {
-        bind_line(alloc, &mut bound, line)?;
-    }
-    Ok(bound)
 }

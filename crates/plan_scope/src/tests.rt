@@ -69,15 +69,15 @@ impl Source for Files {
     }
 }
 
-/// Whether the tree of a file has so many lines.
+/// Whether the tree of a file has so many statements.
 fn has_lines(alloc: Global, path: &[u8], count: usize) -> bool {
     match load(alloc, &mut Files, path) {
-        Ok(tree) => tree.lines.as_slice().len() == count,
+        Ok(tree) => tree.statements().len() == count,
         Err(_) => false,
     }
 }
 
-/// Whether a line of the tree of a file stands at this place, and sees these scopes.
+/// Whether a statement of the tree of a file stands at this place, and sees these scopes.
 fn is_at(
     alloc: Global,
     tree: &[u8],
@@ -89,8 +89,10 @@ fn is_at(
     let Ok(tree) = load(alloc, &mut Files, tree) else {
         return false;
     };
-    match tree.lines.as_slice().get(index) {
-        Some(line) => line.path() == path && line.offset() == offset && line.scopes() == scopes,
+    match tree.statements().get(index) {
+        Some(statement) => statement.path() == path
+            && statement.offset() == offset
+            && statement.scopes() == scopes,
         None => false,
     }
 }
@@ -117,7 +119,7 @@ fn included_line(rt: HostRuntime) -> Result<(), Fail> {
     Ok(())
 }
 
-/// Each file opens a scope of its own, though the first has no line but one that takes in another.
+/// Each file opens a scope of its own, though the first has no statement but one that includes another.
 #[test]
 fn scopes_of_two_subninja_files(rt: HostRuntime) -> Result<(), Fail> {
     assert!(rt; has_lines(rt.alloc(), b"two.ninja", 2));

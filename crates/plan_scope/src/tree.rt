@@ -1,9 +1,20 @@
 //! Trees of statements.
 
 ghost use Rattle.std.specs.Prelude.{◌≡◌, IfOk, option_map};
-ghost use Rattle.plan_scope.specs.Trees.{IsWhole};
-ghost use Rattle.plan_scope.specs.Saying.{kind_said};
+ghost use Rattle.plan_scope.specs.Trees.{IsKeptKind};
+ghost use Rattle.plan_scope.specs.Scopes.{bound_by};
+ghost use Rattle.plan_scope.specs.Kept.{KeptEqScoped};
+ghost use Rattle.plan_scope.specs.KindSaid.{kind_said};
+ghost use Rattle.plan_scope.specs.declared.fault.ScopeFault.TheVariants as scope_fault;
 
+mod loaded;
+pub(crate) mod loader;
+mod parsed;
+pub(crate) mod source;
+
+use crate::fault::{Cause, ScopeFault};
+use crate::scope::scoped_map::ScopedMap;
+use crate::scope::text::copy_of;
 use plan_parse::{Binding, CompactStatement, StatementKind, read_binding};
 use plan_text::Items;
 use std::alloc::{AllocError, Global};
@@ -15,7 +26,7 @@ use std::rc::Rc;
 pub struct File {
     /// The path of the file, as it was asked for.
     pub path: Items<u8>,
-    /// The scopes that its lines see, their own first.
+    /// The scopes that its statements see, their own first.
     pub scopes: Items<usize>,
     /// Its bytes: bindings are read again from there.
     pub text: Items<u8>,
@@ -23,23 +34,23 @@ pub struct File {
 
 /// A statement of a tree, and the file that it was read from.
 #[derive(Drop)]
-pub struct Line {
+pub struct TreeStatement {
     /// The file.
     pub file: Rc<File>,
     /// The statement, kept beside the file's bytes.
     pub statement: CompactStatement,
 }
 
-impl Model for Line {
+impl Model for TreeStatement {
     ghost use Rattle.plan_parse.specs.Compact.{said_in};
     ghost use Rattle.plan_scope.specs.Trees as trees;
 
-    ghost Value = { trees.Line };
+    ghost Value = { trees.TreeStatement };
 
     ghost view = { λ l. record { path = l.file.value.path; scopes = l.file.value.scopes; offset = (said_in l.file.value.text l.statement).offset; kind = (said_in l.file.value.text l.statement).kind } };
 }
 
-impl Line {
+impl TreeStatement {
     /// The path of its file.
     pub fn path(&self) -> &[u8]
         ensures { result.now ≡ self.now.path }
@@ -61,9 +72,16 @@ impl Line {
         self.statement.offset()
     }
 
+    /// The fault that it is refused for a cause.
+    pub(crate) fn refusal(&self, alloc: Global, cause: Cause) -> Result<ScopeFault, AllocError>
+        ensures { IfOk result (λ fault. fault ≡ scope_fault.Refused self.now.path self.now.offset cause) }
+    {
+        Ok(ScopeFault::Refused(copy_of(alloc, self.path())?, self.offset(), cause))
+    }
+
     /// What it says, unless it is a binding whose place alone is kept.
-    pub fn whole(&self) -> Option<&StatementKind>
-        ensures { IsWhole self.now.kind (option_map (λ k. k.now) result) }
+    pub fn kept_kind(&self) -> Option<&StatementKind>
+        ensures { IsKeptKind self.now.kind (option_map (λ k. k.now) result) }
     {
         match &self.statement {
             CompactStatement::Binding(_) => None,
@@ -72,7 +90,7 @@ impl Line {
     }
 }
 
-/// What a line says.
+/// What a statement says.
 pub enum Said<'a> {
     /// A statement that is kept.
     Kept(&'a StatementKind),
@@ -80,7 +98,7 @@ pub enum Said<'a> {
     Read(Binding),
 }
 
-impl Line {
+impl TreeStatement {
     /// What it says.
     pub fn said(&self, alloc: Global) -> Result<Said<'_>, AllocError>
         ensures { IfOk result (λ said. kind_said said ≡ self.now.kind) }
@@ -95,9 +113,41 @@ impl Line {
     }
 }
 
-/// The statements of a manifest and of all files that it takes in: those of a file stand in place of the `include` or `subninja` line that takes it in.
+/// The statements of a manifest and of all files that it includes: those of a file stand in place of the `include` or
+/// `subninja` statement that includes it.
 #[derive(Drop)]
 pub struct Tree {
-    /// The lines in their order.
-    pub lines: Items<Line>,
+    /// The statements in their order.
+    statements: Items<TreeStatement>,
+    /// What they bind.
+    bound: ScopedMap<Items<u8>>,
+}
+
+impl Model for Tree {
+    ghost use Rattle.std.specs.Prelude.{List};
+    ghost use Rattle.plan_scope.specs.Trees as trees;
+    ghost use Rattle.plan_scope.specs.Scopes.{bound_by};
+    ghost use Rattle.plan_scope.specs.Kept.{KeptEqScoped};
+
+    ghost Value = { List trees.TreeStatement };
+
+    ghost view = { λ t. t.statements };
+
+    ghost invariant = { λ t. KeptEqScoped t.bound (bound_by t.statements) };
+}
+
+impl Tree {
+    /// The statements in their order.
+    pub fn statements(&self) -> &[TreeStatement]
+        ensures { result.now ≡ self.now }
+    {
+        self.statements.as_slice()
+    }
+
+    /// What they bind.
+    pub(crate) fn bound(&self) -> &ScopedMap<Items<u8>>
+        ensures { KeptEqScoped result.now (bound_by self.now) }
+    {
+        &self.bound
+    }
 }

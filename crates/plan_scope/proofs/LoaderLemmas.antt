@@ -1,0 +1,323 @@
+-- What is loaded, piece by piece. Serves src/tree/loader.rt.
+use Rattle.std.proofs.Common.{◌≡◌, ℕ, zero, suc, ◌+◌, ◌-◌, ◌<◌, ◌≤◌, inl, inr, Bool, true, false, ◌==◌, List, [], ◌∷◌, ◌++◌, length, max, Option, Some, None, Result, Ok, Err, refl, ap, sym, subst, ◌∙◌, append-nil, arith}
+use Rattle.std.proofs.lemmas.Bool.{lt-ltb, le-ltb, ne_eqb}
+use Rattle.plan_text.specs.declared.piece_reader.Piece.{Piece}
+use Rattle.plan_parse.specs.declared.fault.ParseFault.{ParseFault}
+use Rattle.plan_parse.specs.declared.statement.Statement.{Statement}
+use Rattle.plan_parse.specs.declared.statement.StatementKind.{StatementKind}
+use Rattle.plan_parse.specs.declared.statement.StatementKind.TheVariants as kind
+use Rattle.plan_parse.specs.Statements.{statements_of}
+use Rattle.plan_scope.specs.declared.fault.Cause.{Cause}
+use Rattle.plan_scope.specs.declared.fault.Cause.TheVariants.{IncludeDepth, EmptyPath, PathTooLong}
+use Rattle.plan_scope.specs.declared.fault.StatementFault.{StatementFault}
+use Rattle.plan_scope.specs.declared.fault.ScopeFault.{ScopeFault}
+use Rattle.plan_scope.specs.declared.fault.ScopeFault.TheVariants.{SourceMissing, Parse, Refused, LoadMemory, Memory}
+use Rattle.plan_scope.specs.Trees.{TreeStatement}
+use Rattle.plan_scope.specs.Scopes.{Text, Name, ScopedBindings, lookup, expand, bound_by, bound_in, is_long_path, is_empty}
+use Rattle.plan_text.specs.Limits.{max_path}
+use Rattle.plan_scope.specs.Kept.{kept, KeptEqScoped}
+use Rattle.plan_scope.specs.Loading.{FileContents, Outcome, PathSet, FileAnswers, RestAnswers, GoesOn, LoadsStatement, LoadsStatements, LoadsParsed, LoadsFile, LoadsWithin, LoadsFirst, Loads, IsMissing, cause_of_path, cause_to_load, greatest_scope, own_scope, scopes_in, included_by}
+use Rattle.plan_scope.specs.Edges.{first_of}
+use Rattle.plan_scope.specs.Sources.{SameFiles}
+use Rattle.plan_scope.specs.LoaderAnswers.{Answers, LoadsOne, IsIncluded, never, includes}
+use Rattle.plan_scope.proofs.ScopeLemmas.{agrees_more}
+use Rattle.plan_scope.proofs.TextLemmas.{Same, same_from_kept}
+
+goes_wider : (next more : RestAnswers) (inner out : Outcome) → ((statements : List TreeStatement) (o : Outcome) → next statements o → more statements o) → GoesOn next inner out → GoesOn more inner out
+goes_wider next more (Ok statements) out h r = h statements out r
+goes_wider next more (Err fault) out h r = r
+
+line_wider : (answers wide : FileAnswers) (next more : RestAnswers) → ((path : Text) (scopes : List ℕ) (above : List TreeStatement) (out : Outcome) → answers path scopes above out → wide path scopes above out)
+    → ((statements : List TreeStatement) (o : Outcome) → next statements o → more statements o)
+    → (above : List TreeStatement) (l : TreeStatement) (cause : Option Cause) (file : Option Text) (out : Outcome) → LoadsStatement answers next above l cause file out → LoadsStatement wide more above l cause file out
+line_wider answers wide next more t n above l (Some cause) file out r = r
+line_wider answers wide next more t n above l None None out r = n (above ++ l ∷ []) out r
+line_wider answers wide next more t n above l None (Some file) out r =
+    (r.0, t file (scopes_in above l.scopes l.kind) above r.0 r.1, goes_wider next more r.0 out n r.2)
+
+-- what includes more files loads as much
+all_wider : (answers wide : FileAnswers) → ((path : Text) (scopes : List ℕ) (above : List TreeStatement) (out : Outcome) → answers path scopes above out → wide path scopes above out)
+    → (left : ℕ) (path : Text) (scopes : List ℕ) (statements : List Statement) (above : List TreeStatement) (out : Outcome)
+    → LoadsStatements answers left path scopes above statements out → LoadsStatements wide left path scopes above statements out
+all_wider answers wide t left path scopes [] above out r = r
+all_wider answers wide t left path scopes (s ∷ more) above out r =
+    line_wider answers wide (λ statements o. LoadsStatements answers left path scopes statements more o) (λ statements o. LoadsStatements wide left path scopes statements more o) t
+    (λ statements o. all_wider answers wide t left path scopes more statements o) above (record { path = path; scopes = scopes; offset = s.offset; kind = s.kind })
+    (cause_to_load left (lookup (bound_by above) scopes) s.kind) (included_by (lookup (bound_by above) scopes) s.kind) out r
+
+parsed_wider : (answers wide : FileAnswers) → ((path : Text) (scopes : List ℕ) (above : List TreeStatement) (out : Outcome) → answers path scopes above out → wide path scopes above out)
+    → (left : ℕ) (path : Text) (scopes : List ℕ) (above : List TreeStatement) (parsed : Result (List Statement) ParseFault) (out : Outcome)
+    → LoadsParsed answers left path scopes above parsed out → LoadsParsed wide left path scopes above parsed out
+parsed_wider answers wide t left path scopes above (Ok statements) out r = all_wider answers wide t left path scopes statements above out r
+parsed_wider answers wide t left path scopes above (Err fault) out r = r
+
+file_wider : (g h : FileContents) (m n : PathSet) (answers wide : FileAnswers) (left : ℕ) → ((p : Text) (bytes : Option (List ℕ)) → g p bytes → h p bytes) → ((p : Text) → m p → n p)
+    → ((path : Text) (scopes : List ℕ) (above : List TreeStatement) (out : Outcome) → answers path scopes above out → wide path scopes above out)
+    → (path : Text) (scopes : List ℕ) (above : List TreeStatement) (out : Outcome) → LoadsFile g m answers left path scopes above out → LoadsFile h n wide left path scopes above out
+file_wider g h m n answers wide left gh mn t path scopes above out (inl r) = inl (r.0, mn path r.1)
+file_wider g h m n answers wide left gh mn t path scopes above out (inr r) =
+    inr (r.0, gh path (Some r.0) r.1, parsed_wider answers wide t left path scopes above (statements_of r.0) out r.2)
+
+-- what gives more, or misses more, loads as much
+within_wider : (g h : FileContents) (m n : PathSet) → ((p : Text) (bytes : Option (List ℕ)) → g p bytes → h p bytes) → ((p : Text) → m p → n p)
+    → (left : ℕ) (path : Text) (scopes : List ℕ) (above : List TreeStatement) (out : Outcome) → LoadsWithin g m left path scopes above out → LoadsWithin h n left path scopes above out
+unfolding LoadsWithin
+within_wider g h m n gh mn zero path scopes above out r =
+    file_wider g h m n (λ path scopes above out. ⊥) (λ path scopes above out. ⊥) 0 gh mn (λ path scopes above out x. x) path scopes above out r
+within_wider g h m n gh mn (suc left) path scopes above out r =
+    file_wider g h m n (LoadsWithin g m left) (LoadsWithin h n left) (suc left) gh mn (within_wider g h m n gh mn left) path scopes above out r
+
+takes_wider : (g h : FileContents) (m n : PathSet) → ((p : Text) (bytes : Option (List ℕ)) → g p bytes → h p bytes) → ((p : Text) → m p → n p)
+    → (left : ℕ) (path : Text) (scopes : List ℕ) (above : List TreeStatement) (out : Outcome) → includes g m left path scopes above out → includes h n left path scopes above out
+takes_wider g h m n gh mn zero path scopes above out r = r
+takes_wider g h m n gh mn (suc left) path scopes above out r = within_wider g h m n gh mn left path scopes above out r
+
+file_is : (g : FileContents) (m : PathSet) (left : ℕ) (path : Text) (scopes : List ℕ) (above : List TreeStatement) (out : Outcome) → LoadsFile g m (includes g m left) left path scopes above out → LoadsWithin g m left path scopes above out
+unfolding LoadsWithin
+file_is g m zero path scopes above out r = r
+file_is g m (suc left) path scopes above out r = r
+
+missing_wider : (g h : FileContents) (f k : PathSet) (b c n : ℕ) → ((p : Text) (bytes : Option (List ℕ)) → g p bytes → h p bytes) → ((p : Text) → f p → k p) → b ≡ c → (p : Text) → IsMissing g f b n p → IsMissing h k c n p
+missing_wider g h f k b c n gh fk e p (inl r) = inl (gh p None r.0, r.1 ∙ e)
+missing_wider g h f k b c n gh fk e p (inr r) = inr (fk p r.0, r.1 ∙ ap (λ (x : ℕ). x + 1) e)
+
+-- such sources, one after the other
+pub same_files : (g h i : FileContents) (e f k : PathSet) → SameFiles g e h f → SameFiles h f i k → SameFiles g e i k
+same_files g h i e f k a b = (
+  λ p bytes. (λ x. (b.0 p bytes).0 ((a.0 p bytes).0 x), λ x. (a.0 p bytes).1 ((b.0 p bytes).1 x)),
+  λ p. (λ x. (b.1 p).0 ((a.1 p).0 x), λ x. (a.1 p).1 ((b.1 p).1 x)),
+)
+
+-- an answer by what is loaded, where the same count of failed reads stood before
+answers_wider : (g h : FileContents) (f k : PathSet) (b c n : ℕ) (R S : PathSet → Outcome → Type 0) (result : Outcome) → ((p : Text) (bytes : Option (List ℕ)) → g p bytes → h p bytes) → ((p : Text) → f p → k p) → b ≡ c
+    → ((m o : PathSet) → ((p : Text) → m p → o p) → R m result → S o result) → Answers g f b n R result → Answers h k c n S result
+answers_wider g h f k b c n R S (Ok statements) gh fk e w r = (r.0 ∙ e, w never never (λ p x. x) r.1)
+answers_wider g h f k b c n R S (Err LoadMemory) gh fk e w r = r ∙ e
+answers_wider g h f k b c n R S (Err (SourceMissing path)) gh fk e w r = w (IsMissing g f b n) (IsMissing h k c n) (missing_wider g h f k b c n gh fk e) r
+answers_wider g h f k b c n R S (Err (Parse path fault)) gh fk e w r = (r.0 ∙ e, w never never (λ p x. x) r.1)
+answers_wider g h f k b c n R S (Err (Refused path offset cause)) gh fk e w r = (r.0 ∙ e, w never never (λ p x. x) r.1)
+answers_wider g h f k b c n R S (Err Memory) gh fk e w r = (r.0 ∙ e, w never never (λ p x. x) r.1)
+
+-- a file that is missing
+pub missing_file : (g : FileContents) (f : PathSet) (b n left : ℕ) (asked path : Text) (scopes : List ℕ) (above : List TreeStatement) → asked ≡ path → IsMissing g f b n asked → LoadsWithin g (IsMissing g f b n) left path scopes above (Err (SourceMissing path))
+missing_file g f b n left asked path scopes above e r = file_is g (IsMissing g f b n) left path scopes above (Err (SourceMissing path)) (inl (refl, subst (IsMissing g f b n) e r))
+
+-- a file that is no list of statements
+pub unparsed_file : (g : FileContents) (left : ℕ) (asked path : Text) (scopes : List ℕ) (above : List TreeStatement) (fault : ParseFault) → asked ≡ path
+    → ((bytes : List ℕ) × g asked (Some bytes) × (statements_of bytes ≡ Err fault)) → LoadsWithin g never left path scopes above (Err (Parse path fault))
+unparsed_file g left asked path scopes above fault e r =
+    file_is g never left path scopes above (Err (Parse path fault))
+    (inr (r.0, subst (λ (p : Text). g p (Some r.0)) e r.1, subst (λ (x : Result (List Statement) ParseFault). LoadsParsed (includes g never left) left path scopes above x (Err (Parse path fault))) (sym r.2) refl))
+
+-- a file with these statements
+pub parsed_file : (g h : FileContents) (f k : PathSet) (b c n left : ℕ) (asked path : Text) (scopes : List ℕ) (above : List TreeStatement) (statements : List Statement) (result : Outcome) → asked ≡ path
+    → ((p : Text) (bytes : Option (List ℕ)) → g p bytes → h p bytes) → ((p : Text) → f p → k p) → b ≡ c
+    → ((bytes : List ℕ) × h asked (Some bytes) × (statements_of bytes ≡ Ok statements))
+    → Answers g f b n (λ missing out. LoadsStatements (includes g missing left) left path scopes above statements out) result
+    → Answers h k c n (λ missing out. LoadsWithin h missing left path scopes above out) result
+parsed_file g h f k b c n left asked path scopes above statements result e gh fk s r a =
+    answers_wider g h f k b c n (λ missing out. LoadsStatements (includes g missing left) left path scopes above statements out) (λ missing out. LoadsWithin h missing left path scopes above out) result gh fk s
+    (λ m o mo x. file_is h o left path scopes above result
+    (inr (
+      r.0,
+      subst (λ (p : Text). h p (Some r.0)) e r.1,
+      subst (λ (y : Result (List Statement) ParseFault). LoadsParsed (includes h o left) left path scopes above y result) (sym r.2)
+          (all_wider (includes g m left) (includes h o left) (takes_wider g h m o gh mo left) left path scopes statements above result x),
+    ))) a
+
+goes_then : (next more : RestAnswers) (inner : Outcome) (statements : List TreeStatement) (out : Outcome) → ((mid : List TreeStatement) → next mid (Ok statements) → more mid out) → GoesOn next inner (Ok statements) → GoesOn more inner out
+goes_then next more (Ok mid) statements out h r = h mid r
+goes_then next more (Err fault) statements out h r = cc
+
+line_then : (answers : FileAnswers) (next more : RestAnswers) (above : List TreeStatement) (l : TreeStatement) (statements : List TreeStatement) (out : Outcome) → ((mid : List TreeStatement) → next mid (Ok statements) → more mid out)
+    → (cause : Option Cause) (file : Option Text) → LoadsStatement answers next above l cause file (Ok statements) → LoadsStatement answers more above l cause file out
+line_then answers next more above l statements out h (Some cause) file r = cc
+line_then answers next more above l statements out h None None r = h (above ++ l ∷ []) r
+line_then answers next more above l statements out h None (Some file) r = (r.0, r.1, goes_then next more r.0 statements out h r.2)
+
+-- statements, and those behind them
+all_then : (answers : FileAnswers) (left : ℕ) (path : Text) (scopes : List ℕ) (front back : List Statement) (above statements : List TreeStatement) (out : Outcome)
+    → LoadsStatements answers left path scopes above front (Ok statements) → LoadsStatements answers left path scopes statements back out → LoadsStatements answers left path scopes above (front ++ back) out
+all_then answers left path scopes [] back above statements out r q =
+    let e : statements ≡ above = cc in
+    subst (λ (x : List TreeStatement). LoadsStatements answers left path scopes x back out) e q
+all_then answers left path scopes (s ∷ more) back above statements out r q =
+    line_then answers (λ mid o. LoadsStatements answers left path scopes mid more o) (λ mid o. LoadsStatements answers left path scopes mid (more ++ back) o) above (record { path = path; scopes = scopes; offset = s.offset; kind = s.kind }) statements out
+    (λ mid x. all_then answers left path scopes more back mid statements out x q)
+    (cause_to_load left (lookup (bound_by above) scopes) s.kind) (included_by (lookup (bound_by above) scopes) s.kind) r
+
+goes_stop : (more : RestAnswers) (inner : Outcome) (fault : ScopeFault) → GoesOn (λ statements out. out ≡ Ok statements) inner (Err fault) → GoesOn more inner (Err fault)
+goes_stop more (Ok statements) fault r = cc
+goes_stop more (Err other) fault r = r
+
+-- the fault of a statement is that of all
+one_stops : (answers : FileAnswers) (more : RestAnswers) (above : List TreeStatement) (l : TreeStatement) (fault : ScopeFault) (cause : Option Cause) (file : Option Text)
+    → LoadsStatement answers (λ statements out. out ≡ Ok statements) above l cause file (Err fault) → LoadsStatement answers more above l cause file (Err fault)
+one_stops answers more above l fault (Some cause) file r = r
+one_stops answers more above l fault None None r = cc
+one_stops answers more above l fault None (Some file) r = (r.0, r.1, goes_stop more r.0 fault r.2)
+
+one_wider : (g h : FileContents) (m n : PathSet) → ((p : Text) (bytes : Option (List ℕ)) → g p bytes → h p bytes) → ((p : Text) → m p → n p)
+    → (left : ℕ) (above : List TreeStatement) (l : TreeStatement) (out : Outcome) → LoadsOne (includes g m left) left above l out → LoadsOne (includes h n left) left above l out
+one_wider g h m n gh mn left above l out r =
+    line_wider (includes g m left) (includes h n left) (λ statements o. o ≡ Ok statements) (λ statements o. o ≡ Ok statements) (takes_wider g h m n gh mn left) (λ statements o x. x) above l
+    (cause_to_load left (lookup (bound_by above) l.scopes) l.kind) (included_by (lookup (bound_by above) l.scopes) l.kind) out r
+
+-- one more statement is loaded
+pub goes_on : (g h : FileContents) (left : ℕ) (path : Text) (scopes : List ℕ) (front : List Statement) (s : Statement) (above mid statements : List TreeStatement)
+    → ((p : Text) (bytes : Option (List ℕ)) → g p bytes → h p bytes)
+    → LoadsStatements (includes h never left) left path scopes above front (Ok mid)
+    → LoadsOne (includes g never left) left mid (record { path = path; scopes = scopes; offset = s.offset; kind = s.kind }) (Ok statements)
+    → LoadsStatements (includes h never left) left path scopes above (front ++ s ∷ []) (Ok statements)
+goes_on g h left path scopes front s above mid statements gh r q =
+    all_then (includes h never left) left path scopes front (s ∷ []) above mid (Ok statements) r
+    (one_wider g h never never gh (λ p x. x) left mid (record { path = path; scopes = scopes; offset = s.offset; kind = s.kind }) (Ok statements) q)
+
+-- a statement is not loaded
+pub stops : (g h : FileContents) (f k : PathSet) (b c n left : ℕ) (path : Text) (scopes : List ℕ) (front : List Statement) (s : Statement) (back all : List Statement) (above mid : List TreeStatement) (fault : ScopeFault)
+    → ((p : Text) (bytes : Option (List ℕ)) → g p bytes → h p bytes) → ((p : Text) → f p → k p) → b ≡ c → front ++ s ∷ back ≡ all
+    → LoadsStatements (includes h never left) left path scopes above front (Ok mid)
+    → Answers g f b n (λ missing out. LoadsOne (includes g missing left) left mid (record { path = path; scopes = scopes; offset = s.offset; kind = s.kind }) out) (Err fault)
+    → Answers h k c n (λ missing out. LoadsStatements (includes h missing left) left path scopes above all out) (Err fault)
+stops g h f k b c n left path scopes front s back all above mid fault gh fk e w r a =
+    let l : TreeStatement = record { path = path; scopes = scopes; offset = s.offset; kind = s.kind } in
+    answers_wider g h f k b c n (λ missing out. LoadsOne (includes g missing left) left mid l out) (λ missing out. LoadsStatements (includes h missing left) left path scopes above all out) (Err fault) gh fk e
+    (λ m wide mw x. subst (λ (x : List Statement). LoadsStatements (includes h wide left) left path scopes above x (Err fault)) w
+    (all_then (includes h wide left) left path scopes front (s ∷ back) above mid (Err fault)
+    (all_wider (includes h never left) (includes h wide left) (takes_wider h h never wide (λ p bytes x. x) (λ p x. absurd x) left) left path scopes front above (Ok mid) r)
+    (one_stops (includes h wide left) (λ statements o. LoadsStatements (includes h wide left) left path scopes statements back o) mid l fault
+    (cause_to_load left (lookup (bound_by mid) scopes) s.kind) (included_by (lookup (bound_by mid) scopes) s.kind)
+    (one_wider g h m wide gh mw left mid l (Err fault) x)))) a
+
+-- a statement that includes a file
+pub takes_file : (g : FileContents) (f : PathSet) (b n left : ℕ) (above : List TreeStatement) (l : TreeStatement) (path : Text) (result : Outcome)
+    → cause_to_load left (lookup (bound_by above) l.scopes) l.kind ≡ None → included_by (lookup (bound_by above) l.scopes) l.kind ≡ Some path → 0 < left
+    → Answers g f b n (λ missing out. LoadsWithin g missing (left - 1) path (scopes_in above l.scopes l.kind) above out) result
+    → Answers g f b n (λ missing out. LoadsOne (includes g missing left) left above l out) result
+takes_file g f b n left above l path result none some lt a =
+    let one : suc (left - 1) ≡ left = omega (arith, lt) in
+    answers_wider g g f f b b n (λ missing out. LoadsWithin g missing (left - 1) path (scopes_in above l.scopes l.kind) above out)
+    (λ missing out. LoadsOne (includes g missing left) left above l out) result (λ p bytes x. x) (λ p x. x) refl
+    (λ m k mk x. subst (λ (c : Option Cause). LoadsStatement (includes g k left) (λ statements out. out ≡ Ok statements) above l c (included_by (lookup (bound_by above) l.scopes) l.kind) result) (sym none)
+    (subst (λ (f : Option Text). LoadsStatement (includes g k left) (λ statements out. out ≡ Ok statements) above l None f result) (sym some) (
+      result,
+      subst (λ (i : ℕ). includes g k i path (scopes_in above l.scopes l.kind) above result) one
+          (within_wider g g m k (λ p bytes x. x) mk (left - 1) path (scopes_in above l.scopes l.kind) above result x),
+      ends result,
+    ))) a
+  where
+    ends : (out : Outcome) → GoesOn (λ statements o. o ≡ Ok statements) out out
+    ends (Ok statements) = refl
+    ends (Err fault) = refl
+
+abbrev three : Bool → Bool → Bool → Option Cause
+three deep empty long = first_of ((deep, IncludeDepth) ∷ (empty, EmptyPath) ∷ (long, PathTooLong) ∷ [])
+
+same_cause : (left : ℕ) (a b : Text) → Same a b → cause_of_path left a ≡ cause_of_path left b
+same_cause left a b (inl e) = ap (cause_of_path left) e
+same_cause left a b (inr h) =
+    let p : is_empty a ≡ false = ne_eqb (length a) 0 (λ e. omega (arith, e, h.0)) in
+    let q : is_empty b ≡ false = ne_eqb (length b) 0 (λ e. omega (arith, e, h.1)) in
+    let r : is_long_path a ≡ true = lt-ltb max_path (length a) (omega (arith, h.0)) in
+    let s : is_long_path b ≡ true = lt-ltb max_path (length b) (omega (arith, h.1)) in
+    ap (λ (t : Bool). three (left == 0) t (is_long_path a)) (p ∙ sym q) ∙ ap (λ (t : Bool). three (left == 0) (is_empty b) t) (r ∙ sym s)
+
+-- a path without a byte
+pub empty_refused : (left : ℕ) (a b : Text) → kept a ≡ kept b → ((left ≡ 0) → ⊥) → is_empty a ≡ true → cause_of_path left b ≡ Some EmptyPath
+empty_refused left a b k n e =
+    sym (same_cause left a b (same_from_kept a b k))
+    ∙ (ap (λ (t : Bool). three t (is_empty a) (is_long_path a)) (ne_eqb left 0 n)
+    ∙ ap (λ (t : Bool). three false t (is_long_path a)) e)
+
+-- a path that is too long
+pub long_refused : (left : ℕ) (a b : Text) → kept a ≡ kept b → ((left ≡ 0) → ⊥) → is_empty a ≡ false → max_path < length a → cause_of_path left b ≡ Some PathTooLong
+long_refused left a b k n e lt =
+    sym (same_cause left a b (same_from_kept a b k))
+    ∙ (ap (λ (t : Bool). three t (is_empty a) (is_long_path a)) (ne_eqb left 0 n)
+    ∙ (ap (λ (t : Bool). three false t (is_long_path a)) e
+    ∙ ap (λ (t : Bool). three false false t) (lt-ltb max_path (length a) lt)))
+
+same_short : (a b : Text) → length a ≤ max_path → Same a b → a ≡ b
+same_short a b le (inl e) = e
+same_short a b le (inr h) = let f : ⊥ = omega (arith, le, h.0) in absurd f
+
+-- a path that is taken
+pub path_taken : (left : ℕ) (a b x : Text) → kept a ≡ kept b → ((left ≡ 0) → ⊥) → is_empty a ≡ false → length a ≤ max_path → x ≡ a → (cause_of_path left b ≡ None) × (Some b ≡ Some x)
+path_taken left a b x k n e le f = (
+  sym (same_cause left a b (same_from_kept a b k))
+      ∙ (ap (λ (t : Bool). three t (is_empty a) (is_long_path a)) (ne_eqb left 0 n)
+      ∙ (ap (λ (t : Bool). three false t (is_long_path a)) e
+      ∙ ap (λ (t : Bool). three false false t) (le-ltb max_path (length a) le))),
+  ap (λ (y : Text). Some y) (sym (f ∙ same_short a b le (same_from_kept a b k))),
+)
+
+-- the file of a statement that includes it
+pub taken_of : (left : ℕ) (here : Name → Text) (pieces given : List Piece) (kind : StatementKind) (cause : Option Cause) (file : Option Text) (result : Result (Option Text) StatementFault) → given ≡ pieces
+    → cause ≡ cause_of_path left (expand here pieces) → file ≡ Some (expand here pieces)
+    → IsIncluded (cause_of_path left (expand here given)) (Some (expand here given)) result → IsIncluded cause file result
+taken_of left here pieces given kind cause file result e f g r =
+    subst (λ (x : Option Cause). IsIncluded x file result) (sym f)
+    (subst (λ (x : Option Text). IsIncluded (cause_of_path left (expand here pieces)) x result) (sym g)
+    (subst (λ (p : List Piece). IsIncluded (cause_of_path left (expand here p)) (Some (expand here p)) result) e r))
+
+-- a statement that is pushed
+pub pushed_bound : (now : ScopedBindings Text) (above statements : List TreeStatement) (l : TreeStatement) (scopes : List ℕ) (kind : StatementKind) → scopes ≡ l.scopes → kind ≡ l.kind → statements ≡ above ++ l ∷ []
+    → KeptEqScoped now (bound_by above ++ bound_in (bound_by above) scopes kind) → KeptEqScoped now (bound_by statements)
+pushed_bound now above statements l scopes kind e f g h = subst (λ (x : List TreeStatement). KeptEqScoped now (bound_by x)) (sym g) (agrees_more now above l scopes kind e f h)
+
+-- the greatest scope of statements and one more
+pub greatest_more : (above : List TreeStatement) (l : TreeStatement) → greatest_scope (above ++ l ∷ []) ≡ max (greatest_scope above) (own_scope l.scopes)
+greatest_more [] l = omega arith
+greatest_more (x ∷ more) l = let rest = greatest_more more l in omega (arith, rest)
+
+-- where a file may be included, one more may be open
+pub one_more : (left : ℕ) (here : Name → Text) (k : StatementKind) (path : Text) → cause_to_load left here k ≡ None → included_by here k ≡ Some path → 0 < left
+one_more zero here (kind.Include p) path c f = cc
+one_more zero here (kind.Subninja p) path c f = cc
+one_more (suc left) here k path c f = omega arith
+one_more left here (kind.Rule r) path c f = cc
+one_more left here (kind.Build b) path c f = cc
+one_more left here (kind.Pool p) path c f = cc
+one_more left here (kind.Default targets) path c f = cc
+one_more left here (kind.Binding b) path c f = cc
+
+-- the statements included see a scope
+pub some_scope : (above : List TreeStatement) (scopes inner : List ℕ) (k : StatementKind) → 0 < length scopes → inner ≡ scopes_in above scopes k → 0 < length inner
+some_scope above scopes inner k lt e = subst (λ (s : List ℕ). 0 < length s) (sym e) (seen k)
+  where
+    seen : (k : StatementKind) → 0 < length (scopes_in above scopes k)
+    seen (kind.Subninja path) = omega arith
+    seen (kind.Include path) = lt
+    seen (kind.Rule r) = lt
+    seen (kind.Build b) = lt
+    seen (kind.Pool p) = lt
+    seen (kind.Default targets) = lt
+    seen (kind.Binding b) = lt
+
+first : (g : FileContents) (m n : PathSet) (name path : Text) (scopes : List ℕ) (above : List TreeStatement) (out : Outcome) → ((p : Text) → m p → n p) → name ≡ path → scopes ≡ 0 ∷ [] → above ≡ []
+    → LoadsWithin g m 63 name scopes above out → LoadsFirst g n path out
+first g m n name path scopes above out mn e f h r =
+    within_wider g g m n (λ p bytes x. x) mn 63 path (0 ∷ []) [] out
+    (subst (λ (x : Text). LoadsWithin g m 63 x (0 ∷ []) [] out) e
+    (subst (λ (x : List ℕ). LoadsWithin g m 63 name x [] out) f
+    (subst (λ (x : List TreeStatement). LoadsWithin g m 63 name scopes x out) h r)))
+
+-- a tree that is loaded
+pub tree_loaded : (g : FileContents) (f : PathSet) (b n : ℕ) (name path : Text) (scopes : List ℕ) (above statements tree : List TreeStatement) → name ≡ path → scopes ≡ 0 ∷ [] → above ≡ [] → tree ≡ statements
+    → Answers g f b n (λ missing out. LoadsWithin g missing 63 name scopes above out) (Ok statements) → Loads g f b n path (Ok tree)
+tree_loaded g f b n name path scopes above statements tree e i h k r =
+    (r.0, subst (λ (x : List TreeStatement). LoadsFirst g (IsMissing g f b n) path (Ok x)) (sym k) (first g never (IsMissing g f b n) name path scopes above (Ok statements) (λ p x. absurd x) e i h r.1))
+
+-- a tree that isn't
+pub tree_failed : (g : FileContents) (f : PathSet) (b n : ℕ) (name path : Text) (scopes : List ℕ) (above : List TreeStatement) (fault : ScopeFault) → name ≡ path → scopes ≡ 0 ∷ [] → above ≡ []
+    → Answers g f b n (λ missing out. LoadsWithin g missing 63 name scopes above out) (Err fault) → Loads g f b n path (Err fault)
+tree_failed g f b n name path scopes above LoadMemory e i h r = r
+tree_failed g f b n name path scopes above (SourceMissing file) e i h r = first g (IsMissing g f b n) (IsMissing g f b n) name path scopes above (Err (SourceMissing file)) (λ p x. x) e i h r
+tree_failed g f b n name path scopes above (Parse file fault) e i h r = (r.0, first g never (IsMissing g f b n) name path scopes above (Err (Parse file fault)) (λ p x. absurd x) e i h r.1)
+tree_failed g f b n name path scopes above (Refused file offset cause) e i h r = (r.0, first g never (IsMissing g f b n) name path scopes above (Err (Refused file offset cause)) (λ p x. absurd x) e i h r.1)
+tree_failed g f b n name path scopes above Memory e i h r = (r.0, first g never (IsMissing g f b n) name path scopes above (Err Memory) (λ p x. absurd x) e i h r.1)
+
+-- a list whose end is empty is its front
+pub none_left : {A : Type 0} (front back all : List A) → length back ≡ 0 → front ++ back ≡ all → front ≡ all
+none_left front [] all e f = sym (append-nil front) ∙ f
+none_left front (x ∷ back) all e f = let g : ⊥ = omega (arith, e) in absurd g

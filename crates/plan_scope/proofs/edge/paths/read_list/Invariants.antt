@@ -1,0 +1,14 @@
+use Rattle.std.proofs.Common.{◌≡◌, List, take, map}
+use Rattle.plan_scope.specs.Scopes.{Text, Name, Bindings}
+use Rattle.plan_scope.specs.Edges.{paths_of, near}
+use Rattle.plan_scope.specs.Kept.{kept, KeptEqBindings, KeptEqLookup}
+use Rattle.plan_scope.specs.Paths.{IsListOf}
+use Rattle.plan_scope.specs.ScopeNames.{names_in}
+use Rattle.plan_scope.proofs.edge.paths.read_list.Given as goal
+
+-- the paths so far as expanded
+abbrev pub invariant-loop-path : goal.invariant-loop-path
+invariant-loop-path l =
+    (texts : List Text)
+    × IsListOf texts l.forms.items l.has_empty l.has_long
+    × ((b : Bindings Text) (m : Name → Text) → KeptEqBindings l.block b → KeptEqLookup (names_in l.here) m → map kept texts ≡ map kept (paths_of (near m b) (take l.path-index l.paths)))

@@ -1,7 +1,0 @@
-use Rattle.std.proofs.Common.{option_map, sym, subst}
-use Rattle.plan_scope.specs.Edges.{edge_by}
-use Rattle.plan_scope.specs.Steps.{Gives}
-use Rattle.plan_scope.proofs.evaluator.ruled.Goals as goal
-
-pub returns-in-Some : goal.returns-in-Some
-returns-in-Some c = λ names h f s a b. subst (λ o. Gives c.edge.result (edge_by names h f c.args.build.now (option_map (λ r. r.now) o))) (sym c.in-Some.is) (c.edge.ensures names h f s a b)

@@ -1,7 +1,0 @@
-use Rattle.std.proofs.Common.{◌≡◌, take, option_map}
-use Rattle.plan_scope.specs.Scopes.{last_of}
-use Rattle.plan_scope.specs.Frames.{listed}
-use Rattle.plan_scope.proofs.frame.last_among.Given as goal
-
-abbrev pub invariant-loop-entry : goal.invariant-loop-entry
-invariant-loop-entry g l = option_map (λ v. v.now) l.last ≡ last_of l.name (listed (take l.entry-index l.few))

@@ -1,0 +1,7 @@
+-- What an edge's variables are looked up in, as the code holds it.
+use Rattle.plan_scope.specs.declared.edge.expansion.EdgeEnvironment.{EdgeEnvironment as Held}
+use Rattle.plan_scope.specs.Expansion.{EdgeEnvironment}
+use Rattle.plan_scope.specs.ScopeNames.{names_in}
+
+abbrev pub environment_of : Held → EdgeEnvironment
+environment_of edge = record { inputs = edge.inputs.now; outputs = edge.outputs.now; block = edge.block.now; rule = edge.rule.now; file = names_in edge.file }

@@ -1,0 +1,62 @@
+-- What the functions of the loader answer.
+use Rattle.std.specs.Prelude.{◌≡◌, ℕ, zero, suc, Bool, false, List, [], ◌∷◌, ◌++◌, Option, Some, None, Result, Ok, Err}
+use Rattle.plan_parse.specs.declared.statement.Statement.{Statement}
+use Rattle.plan_parse.specs.Statements.{statements_of}
+use Rattle.plan_scope.specs.declared.fault.Cause.{Cause}
+use Rattle.plan_scope.specs.declared.fault.Cause.TheVariants.{TextTooLong}
+use Rattle.plan_scope.specs.declared.fault.StatementFault.{StatementFault}
+use Rattle.plan_scope.specs.declared.fault.StatementFault.TheVariants as statement
+use Rattle.plan_scope.specs.declared.fault.ReadFault.{ReadFault}
+use Rattle.plan_scope.specs.declared.fault.ReadFault.TheVariants as read
+use Rattle.plan_scope.specs.declared.fault.ScopeFault.{ScopeFault}
+use Rattle.plan_scope.specs.declared.fault.ScopeFault.TheVariants.{SourceMissing, Refused, LoadMemory}
+use Rattle.plan_scope.specs.Trees.{TreeStatement}
+use Rattle.plan_scope.specs.Scopes.{Text, lookup, bound_by}
+use Rattle.plan_scope.specs.Loading.{FileAnswers, FileContents, Outcome, PathSet, LoadsStatement, LoadsWithin, IsMissing, cause_to_load, included_by}
+
+-- no file is missing
+abbrev pub never : PathSet
+never path = ⊥
+
+-- What is answered for statements, by what may be missing and what may then be answered. A fault of memory tells
+-- nothing; the count of failed reads rises where a read failed, and then alone.
+abbrev pub Answers : (gives : FileContents) → (fails : PathSet) → (before now : ℕ) → ((missing : PathSet) → Outcome → Type 0) → Outcome → Type 0
+Answers gives fails before now may (Ok statements) = (now ≡ before) × may never (Ok statements)
+Answers gives fails before now may (Err LoadMemory) = now ≡ before
+Answers gives fails before now may (Err (SourceMissing path)) = may (IsMissing gives fails before now) (Err (SourceMissing path))
+Answers gives fails before now may (Err fault) = (now ≡ before) × may never (Err fault)
+
+-- the files that a file includes, where so many more may be open
+abbrev pub includes : (gives : FileContents) → (missing : PathSet) → ℕ → FileAnswers
+includes gives missing zero = λ path scopes above out. ⊥
+includes gives missing (suc left) = LoadsWithin gives missing left
+
+-- one statement, with the statements of the file that it includes
+abbrev pub LoadsOne : FileAnswers → ℕ → List TreeStatement → TreeStatement → Outcome → Type 0
+LoadsOne answers left above l out =
+    let here = lookup (bound_by above) l.scopes in
+    LoadsStatement answers (λ statements out. out ≡ Ok statements) above l (cause_to_load left here l.kind) (included_by here l.kind) out
+
+-- the statements of a file
+abbrev pub IsRead : (gives : FileContents) → (fails : PathSet) → (before now : ℕ) → Text → Result (List Statement) ReadFault → Type 0
+IsRead gives fails before now path (Ok statements) = (now ≡ before) × (bytes : List ℕ) × gives path (Some bytes) × (statements_of bytes ≡ Ok statements)
+IsRead gives fails before now path (Err read.Missing) = IsMissing gives fails before now path
+IsRead gives fails before now path (Err (read.Parse fault)) = (now ≡ before) × (bytes : List ℕ) × gives path (Some bytes) × (statements_of bytes ≡ Err fault)
+IsRead gives fails before now path (Err read.Memory) = now ≡ before
+
+-- the path of the file that a statement includes, if it includes any, or why it may not
+abbrev pub IsIncluded : Option Cause → Option Text → Result (Option Text) StatementFault → Type 0
+IsIncluded cause file (Ok None) = file ≡ None
+IsIncluded cause file (Ok (Some path)) = (cause ≡ None) × (file ≡ Some path)
+IsIncluded cause file (Err (statement.Refused c)) = cause ≡ Some c
+IsIncluded cause file (Err statement.Memory) = Unit {0}
+
+-- a statement that is refused
+abbrev pub IsRefusal : TreeStatement → Cause → ScopeFault → Type 0
+IsRefusal l cause LoadMemory = Unit {0}
+IsRefusal l cause fault = fault ≡ Refused l.path l.offset cause
+
+-- One more statement, or, where the text that it binds is too long, its fault. Any other fault is want of memory.
+abbrev pub IsBound : List TreeStatement → TreeStatement → Bool → Outcome → Type 0
+IsBound above l long (Ok statements) = (long ≡ false) × (statements ≡ above ++ l ∷ [])
+IsBound above l long (Err fault) = (long ≡ false → fault ≡ LoadMemory) × IsRefusal l TextTooLong fault

@@ -1,7 +1,0 @@
--- What names stand for, as the code holds it.
-use Rattle.plan_scope.specs.declared.scope.Scope.{Scope}
-use Rattle.plan_scope.specs.Scopes.{Text, Name, look}
-
--- what names stand for in a scope
-abbrev pub names_in : Scope → Name → Text
-names_in scope = look scope.bound.now scope.scopes.now

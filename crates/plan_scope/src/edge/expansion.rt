@@ -1,0 +1,232 @@
+//! The variables of a rule, expanded where the rule is used.
+
+ghost use Rattle.std.specs.Prelude.{◌≡◌, ◌≤◌, ℕ, Some, map, option_map, if◌then◌else◌};
+ghost use Rattle.std.specs.List.{join_with_byte};
+ghost use Rattle.plan_scope.specs.Scopes.{Text};
+ghost use Rattle.plan_scope.specs.Expansion.{Late, listed, meaning_of, text_of_piece, joined, variable};
+ghost use Rattle.plan_scope.specs.ShellQuoting.{quoted_as};
+ghost use Rattle.plan_scope.specs.Outcomes.{Appends};
+ghost use Rattle.plan_scope.specs.Memo.{AppendsBy, IsMemo, text_by};
+ghost use Rattle.plan_scope.specs.HeldEnvironment.{environment_of};
+
+use crate::edge::memo::{MemoEntry, memoize, recall};
+use crate::edge::rule_variables::RuleVariables;
+use crate::fault::{Cause, StatementFault};
+use crate::scope::small_map::SmallMap;
+use crate::scope::text::{Quoting, append, append_paths};
+use crate::scope::{Scope, name_text};
+use plan_text::{Items, Piece, SmallText};
+use std::alloc::Global;
+
+/// What the variables of an edge are looked up in, the nearest first.
+#[derive(Clone, Copy)]
+pub struct EdgeEnvironment<'a> {
+    /// The canonical paths of its explicit inputs.
+    pub inputs: &'a [SmallText],
+    /// The canonical paths of its explicit outputs.
+    pub outputs: &'a [SmallText],
+    /// The variables of its build block.
+    pub block: &'a SmallMap<'a, Items<u8>>,
+    /// The variables of its rule.
+    pub rule: &'a RuleVariables<'a>,
+    /// What names stand for in its file once the whole tree was read.
+    pub file: Scope<'a>,
+}
+
+/// The paths that a name stands for, and the byte between each two.
+fn listed<'a>(edge: &EdgeEnvironment<'a>, name: &[u8]) -> Option<(&'a [SmallText], u8)>
+    ensures { (quoting : Text → Text) → option_map (λ l. join_with_byte l.1 (map quoting l.0.now)) result ≡ listed quoting (environment_of edge.now) name.now }
+{
+    if name == b"in".as_slice() {
+        return Some((edge.inputs, b' '));
+    }
+    if name == b"out".as_slice() {
+        return Some((edge.outputs, b' '));
+    }
+    if name == b"in_newline".as_slice() {
+        return Some((edge.inputs, b'\n'));
+    }
+    None
+}
+
+/// Appends a text that is known.
+fn append_known(out: &mut Vec<u8>, text: &[u8]) -> Result<usize, StatementFault>
+    ensures { AppendsBy out.old.items out.new.items 0 result (λ n. Some text.now) }
+{
+    append(out, text)?;
+    Ok(0)
+}
+
+/// Appends paths as they are shown, this byte between each two.
+fn append_listed(
+    out: &mut Vec<u8>,
+    quoting: Quoting,
+    paths: &[SmallText],
+    separator: u8,
+) -> Result<usize, StatementFault>
+    ensures { AppendsBy out.old.items out.new.items 0 result (λ n. Some (join_with_byte separator (map (quoted_as quoting) paths.now))) }
+{
+    append_paths(out, quoting, paths, separator)?;
+    Ok(0)
+}
+
+/// How many pieces a variable may have that is put together anew each time that it is named.
+const FEW: usize = 8;
+
+/// Whether a variable, so many others of the rule one inside another in it, is put together anew each time that it is
+/// named.
+fn is_cheap(depth: usize, pieces: &[Piece]) -> bool {
+    (depth == 0) & (pieces.len() <= FEW)
+}
+
+/// The greater of two depths.
+fn greater(depth: usize, other: usize) -> usize
+    ensures first { depth ≤ result }
+    ensures other { other ≤ result }
+    ensures least { (most : ℕ) → depth ≤ most → other ≤ most → result ≤ most }
+{
+    if depth < other { other } else { depth }
+}
+
+/// Appends a variable of an edge, where at most `left` variables of the rule may lie one inside another, and answers
+/// how many do.
+#[cycle(expansion)]
+fn append_variable<'a>(
+    alloc: Global,
+    edge: &'a EdgeEnvironment<'a>,
+    quoting: Quoting,
+    left: usize,
+    memo: &mut Vec<MemoEntry<'a>>,
+    name: &'a [u8],
+    out: &mut Vec<u8>,
+) -> Result<usize, StatementFault>
+    requires { IsMemo (meaning_of (quoted_as quoting) (environment_of edge.now)) memo.old.items }
+    ensures appended { AppendsBy out.old.items out.new.items left result (λ n. text_by n (meaning_of (quoted_as quoting) (environment_of edge.now)) name.now) }
+    ensures memo { IsMemo (meaning_of (quoted_as quoting) (environment_of edge.now)) memo.new.items }
+{
+    match listed(edge, name) {
+        Some((paths, separator)) => return append_listed(out, quoting, paths, separator),
+        None => {}
+    }
+    match edge.block.get(name) {
+        Some(text) => return append_known(out, text.as_slice()),
+        None => {}
+    }
+    match edge.rule.get(name) {
+        Some(pieces) => append_late(alloc, edge, quoting, left, memo, name, pieces, out),
+        None => append_known(out, name_text(edge.file, name)),
+    }
+}
+
+/// Appends a variable that the rule binds to these pieces.
+#[cycle(expansion)]
+fn append_late<'a>(
+    alloc: Global,
+    edge: &'a EdgeEnvironment<'a>,
+    quoting: Quoting,
+    left: usize,
+    memo: &mut Vec<MemoEntry<'a>>,
+    name: &'a [u8],
+    pieces: &'a [Piece],
+    out: &mut Vec<u8>,
+) -> Result<usize, StatementFault>
+    requires late { meaning_of (quoted_as quoting) (environment_of edge.now) name.now ≡ Late pieces.now }
+    requires memo { IsMemo (meaning_of (quoted_as quoting) (environment_of edge.now)) memo.old.items }
+    ensures appended { AppendsBy out.old.items out.new.items left result (λ n. text_by n (meaning_of (quoted_as quoting) (environment_of edge.now)) name.now) }
+    ensures memo { IsMemo (meaning_of (quoted_as quoting) (environment_of edge.now)) memo.new.items }
+{
+    if left == 0 {
+        return Err(StatementFault::Refused(Cause::RuleCycle));
+    }
+    match recall(memo, name, left, out) {
+        Some((depth, text)) => {
+            append(out, text)?;
+            return Ok(depth);
+        }
+        None => {}
+    }
+    let start = out.len();
+    let depth = match append_pieces(alloc, edge, quoting, left - 1, memo, pieces, out) {
+        Ok(depth) => depth,
+        Err(fault) => return Err(fault),
+    };
+    if is_cheap(depth, pieces) | (left == edge.rule.len()) {
+        return Ok(depth + 1);
+    }
+    memoize(alloc, memo, name, depth + 1, out, start)?;
+    Ok(depth + 1)
+}
+
+/// Appends a piece of a variable of a rule.
+#[cycle(expansion)]
+fn append_piece<'a>(
+    alloc: Global,
+    edge: &'a EdgeEnvironment<'a>,
+    quoting: Quoting,
+    left: usize,
+    memo: &mut Vec<MemoEntry<'a>>,
+    piece: &'a Piece,
+    out: &mut Vec<u8>,
+) -> Result<usize, StatementFault>
+    requires { IsMemo (meaning_of (quoted_as quoting) (environment_of edge.now)) memo.old.items }
+    ensures appended { AppendsBy out.old.items out.new.items left result (λ n. text_of_piece (text_by n (meaning_of (quoted_as quoting) (environment_of edge.now))) piece.now) }
+    ensures memo { IsMemo (meaning_of (quoted_as quoting) (environment_of edge.now)) memo.new.items }
+{
+    match piece {
+        Piece::Literal(bytes) => append_known(out, bytes.as_slice()),
+        Piece::Reference(name) => append_variable(
+            alloc,
+            edge,
+            quoting,
+            left,
+            memo,
+            name.as_slice(),
+            out,
+        ),
+    }
+}
+
+/// Appends the pieces of a variable of a rule.
+#[cycle(expansion)]
+fn append_pieces<'a>(
+    alloc: Global,
+    edge: &'a EdgeEnvironment<'a>,
+    quoting: Quoting,
+    left: usize,
+    memo: &mut Vec<MemoEntry<'a>>,
+    pieces: &'a [Piece],
+    out: &mut Vec<u8>,
+) -> Result<usize, StatementFault>
+    requires { IsMemo (meaning_of (quoted_as quoting) (environment_of edge.now)) memo.old.items }
+    ensures appended { AppendsBy out.old.items out.new.items left result (λ n. joined (text_by n (meaning_of (quoted_as quoting) (environment_of edge.now))) pieces.now) }
+    ensures memo { IsMemo (meaning_of (quoted_as quoting) (environment_of edge.now)) memo.new.items }
+{
+    let mut deepest = 0;
+    for piece in pieces {
+        match append_piece(alloc, edge, quoting, left, memo, piece, out) {
+            Ok(depth) => deepest = greater(deepest, depth),
+            Err(fault) => return Err(fault),
+        }
+    }
+    Ok(deepest)
+}
+
+/// Appends a variable of an edge, expanded for itself. What is kept on the way serves the edge's other variables that
+/// show paths alike.
+pub fn append_whole<'a>(
+    alloc: Global,
+    edge: &'a EdgeEnvironment<'a>,
+    quoting: Quoting,
+    memo: &mut Vec<MemoEntry<'a>>,
+    name: &'a [u8],
+    out: &mut Vec<u8>,
+) -> Result<(), StatementFault>
+    requires { IsMemo (meaning_of (quoted_as quoting) (environment_of edge.now)) memo.old.items }
+    ensures appended { Appends out.old.items out.new.items result (variable (quoted_as quoting) (environment_of edge.now) name.now) }
+    ensures memo { IsMemo (meaning_of (quoted_as quoting) (environment_of edge.now)) memo.new.items }
+{
+    match append_variable(alloc, edge, quoting, edge.rule.len(), memo, name, out) {
+        Ok(_) => Ok(()),
+        Err(fault) => Err(fault),
+    }
+}

@@ -1,0 +1,83 @@
+//! Variables of a rule whose texts were found on the way to another's, so that none is expanded each time that it is
+//! named.
+
+ghost use Rattle.std.specs.Prelude.{◌≡◌, ◌++◌, Some, IfOk, option_map, length};
+ghost use Rattle.plan_scope.specs.Scopes.{Name, Text};
+ghost use Rattle.plan_scope.specs.Expansion.{Meaning};
+ghost use Rattle.plan_scope.specs.Kept.{kept};
+ghost use Rattle.plan_scope.specs.Memo.{IsMemo, IsRecalled, IsMemoEntry, Says, text_by};
+
+use crate::scope::text::{copy_of, is_long};
+use plan_text::Items;
+use std::alloc::{AllocError, Global};
+
+/// A variable of a rule that has a text.
+#[derive(Drop)]
+pub struct MemoEntry<'a> {
+    /// Its name.
+    pub name: &'a [u8],
+    /// How many variables of the rule lie one inside another in it, itself among them.
+    pub depth: usize,
+    /// Its text; none where it was the end of a text that is too long.
+    pub text: Option<Items<u8>>,
+}
+
+/// What to append of a variable: nothing behind a text that is too long already.
+fn text_of_entry<'b, 'a>(memo: &'b MemoEntry<'a>, out: &[u8]) -> Option<(usize, &'b [u8])>
+    ensures { (meaning : Name → Meaning) → IsMemoEntry meaning memo.now → IsRecalled meaning memo.now.depth memo.now.name.now out.now (option_map (λ f. (f.0, f.1.now)) result) }
+{
+    if is_long(out) {
+        return Some((memo.depth, &[]));
+    }
+    match &memo.text {
+        Some(text) => Some((memo.depth, text.as_slice())),
+        None => None,
+    }
+}
+
+/// How many steps give a name its text, at most `left`, and what to append of it, where that is known.
+pub fn recall<'b, 'a>(
+    memo: &'b [MemoEntry<'a>],
+    name: &[u8],
+    left: usize,
+    out: &[u8],
+) -> Option<(usize, &'b [u8])>
+    ensures { (meaning : Name → Meaning) → IsMemo meaning memo.now → IsRecalled meaning left name.now out.now (option_map (λ f. (f.0, f.1.now)) result) }
+{
+    for variable in memo {
+        if (variable.depth <= left) & (variable.name == name) {
+            return text_of_entry(variable, out);
+        }
+    }
+    None
+}
+
+/// A text behind so many bytes, unless all together is too long.
+fn text_behind(alloc: Global, out: &[u8], start: usize) -> Result<Option<Items<u8>>, AllocError>
+    ensures { IfOk result (λ text. (before behind : Text) → length before ≡ start → kept out.now ≡ kept (before ++ behind) → Says text behind) }
+{
+    if is_long(out) {
+        return Ok(None);
+    }
+    match out.get(start..) {
+        Some(behind) => Ok(Some(copy_of(alloc, behind)?)),
+        None => Ok(None),
+    }
+}
+
+/// Keeps the text of a variable that stands in `out` behind so many bytes.
+pub fn memoize<'a>(
+    alloc: Global,
+    memo: &mut Vec<MemoEntry<'a>>,
+    name: &'a [u8],
+    depth: usize,
+    out: &[u8],
+    start: usize,
+) -> Result<(), AllocError>
+    ensures { (meaning : Name → Meaning) (before text : Text) → IsMemo meaning memo.old.items → text_by depth meaning name.now ≡ Some text → length before ≡ start → kept out.now ≡ kept (before ++ text)
+        → IsMemo meaning memo.new.items }
+{
+    let text = text_behind(alloc, out, start)?;
+    memo.push(MemoEntry { name, depth, text })?;
+    Ok(())
+}

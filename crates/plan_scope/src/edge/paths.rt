@@ -1,0 +1,270 @@
+//! The texts of a build line: its block and its paths.
+
+ghost use Rattle.std.specs.Prelude.{◌≡◌, ◌≤◌, ◌+◌, List, length, IfOk, OnOk, map};
+ghost use Rattle.std.specs.List.{list_any};
+ghost use Rattle.plan_scope.specs.Scopes.{Bindings, Name, Text, expand, is_empty, is_long_path, is_too_long, value_of};
+ghost use Rattle.plan_text.specs.Limits.{max_text};
+ghost use Rattle.plan_scope.specs.Edges.{block_of, near, path_of, paths_of, texts_of};
+ghost use Rattle.plan_scope.specs.Kept.{KeptEqBindings, KeptEqLookup, kept};
+ghost use Rattle.plan_scope.specs.Paths.{AreRead, IsListOf, kept_in};
+ghost use Rattle.plan_scope.specs.ScopeNames.{names_in};
+
+use crate::scope::small_map::SmallMap;
+use crate::scope::text::{append, is_long};
+use crate::scope::{Scope, expand_pieces, name_text};
+use plan_parse::{Binding, Build};
+use plan_text::{Items, MAX_PATH, Piece, PieceList, SmallText, TextFault, canonical, is_canonical};
+use std::alloc::{AllocError, Global};
+
+/// The variables of a build block.
+#[derive(Drop)]
+pub struct BlockTexts<'a> {
+    /// Their texts.
+    pub values: SmallMap<'a, Items<u8>>,
+    /// Whether a text that the block gives is too long, also one that it replaces.
+    pub has_long: bool,
+}
+
+/// The variables of a build block, by what names stand for above it.
+pub fn block<'a>(
+    alloc: Global,
+    here: Scope<'a>,
+    bindings: &'a [Binding],
+) -> Result<BlockTexts<'a>, AllocError>
+    ensures values { IfOk result (λ b. (meant : Name → Text) → KeptEqLookup (names_in here.entry) meant → KeptEqBindings b.values (block_of meant bindings.now)) }
+    ensures long { IfOk result (λ b. (meant : Name → Text) → KeptEqLookup (names_in here.entry) meant → b.has_long ≡ list_any (λ x. is_too_long x.1) (block_of meant bindings.now)) }
+{
+    let mut values = SmallMap::new(alloc);
+    let mut has_long = false;
+    for binding in bindings {
+        let text = expand_pieces(alloc, here, binding.value.as_slice())?;
+        has_long |= is_long(&text);
+        values.set(binding.name.as_slice(), Items::new(text))?;
+    }
+    Ok(BlockTexts { values, has_long })
+}
+
+/// The text of a name on a build line: its own block comes first.
+fn text_near<'a>(block: &'a SmallMap<'a, Items<u8>>, here: Scope<'a>, name: &[u8]) -> &'a [u8]
+    ensures { result.now ≡ near (names_in here.entry) block.now name.now }
+{
+    match block.get(name) {
+        Some(text) => text.as_slice(),
+        None => name_text(here, name),
+    }
+}
+
+/// The text of a piece of a path.
+fn path_piece_text<'a>(
+    block: &'a SmallMap<'a, Items<u8>>,
+    here: Scope<'a>,
+    piece: &'a Piece,
+) -> &'a [u8]
+    ensures { result.now ≡ value_of (near (names_in here.entry) block.now) piece.now }
+{
+    match piece {
+        Piece::Literal(bytes) => bytes.as_slice(),
+        Piece::Reference(name) => text_near(block, here, name.as_slice()),
+    }
+}
+
+/// Puts a path of a build line together in a buffer, in place of what that held.
+fn expand_path<'a>(
+    block: &'a SmallMap<'a, Items<u8>>,
+    here: Scope<'a>,
+    pieces: &'a [Piece],
+    buffer: &mut Vec<u8>,
+) -> Result<(), AllocError>
+    ensures text { OnOk result ((b : Bindings Text) (m : Name → Text) → KeptEqBindings block.now b → KeptEqLookup (names_in here.entry) m → kept buffer.new.items ≡ kept (expand (near m b) pieces.now)) }
+    ensures within { OnOk result (length buffer.new.items ≤ max_text + 1) }
+{
+    buffer.clear();
+    for piece in pieces {
+        append(buffer, path_piece_text(block, here, piece))?;
+    }
+    Ok(())
+}
+
+/// Whether a path is too long.
+fn is_long_path(path: &[u8]) -> bool
+    ensures { result ≡ is_long_path path.now }
+{
+    path.len() > MAX_PATH
+}
+
+/// The canonical form of a path. A path that has no byte, or is too long, stays as it is.
+pub fn canonical_path(alloc: Global, path: &[u8]) -> Result<SmallText, AllocError>
+    ensures { IfOk result (λ form. form ≡ path_of path.now) }
+{
+    if is_long_path(path) {
+        return SmallText::new(alloc, path);
+    }
+    if is_canonical(path) {
+        return SmallText::new(alloc, path);
+    }
+    match canonical(alloc, path) {
+        Ok(form) => SmallText::new(alloc, &form),
+        Err(TextFault::Memory) => Err(AllocError),
+        Err(_) => SmallText::new(alloc, path),
+    }
+}
+
+/// What is read of a list of paths.
+#[derive(Drop)]
+pub struct PathList {
+    /// Their canonical forms.
+    pub forms: Items<SmallText>,
+    /// Whether a path as expanded has no byte.
+    pub has_empty: bool,
+    /// Whether a path as expanded is too long.
+    pub has_long: bool,
+}
+
+/// The paths of a list. They are put together in a buffer, whatever that held, so that a path takes no more memory
+/// than it needs.
+fn read_list<'a>(
+    alloc: Global,
+    block: &'a SmallMap<'a, Items<u8>>,
+    here: Scope<'a>,
+    paths: &'a [PieceList],
+    buffer: &mut Vec<u8>,
+) -> Result<PathList, AllocError>
+    ensures { IfOk result (λ list. (texts : List Text) × IsListOf texts list.forms list.has_empty list.has_long × ((b : Bindings Text) (m : Name → Text) → KeptEqBindings block.now b → KeptEqLookup (names_in here.entry) m → map kept texts ≡ map kept (paths_of (near m b) paths.now))) }
+{
+    let mut forms = Vec::with_capacity(alloc, paths.len())?;
+    let mut has_empty = false;
+    let mut has_long = false;
+    for path in paths {
+        expand_path(block, here, path.as_slice(), buffer)?;
+        has_empty |= buffer.is_empty();
+        has_long |= is_long_path(buffer);
+        forms.push(canonical_path(alloc, buffer)?)?;
+    }
+    Ok(PathList {
+        forms: Items::new(forms),
+        has_empty,
+        has_long,
+    })
+}
+
+/// The paths of a build line.
+#[derive(Drop)]
+pub struct Paths {
+    /// The explicit outputs.
+    pub outputs: Items<SmallText>,
+    /// The implicit outputs.
+    pub implicit_outputs: Items<SmallText>,
+    /// The explicit inputs.
+    pub inputs: Items<SmallText>,
+    /// The implicit inputs.
+    pub implicit_inputs: Items<SmallText>,
+    /// The order-only inputs.
+    pub order_only_inputs: Items<SmallText>,
+}
+
+/// What is read of the paths of a build line.
+#[derive(Drop)]
+pub struct PathTexts {
+    /// Their canonical forms.
+    pub paths: Paths,
+    /// Whether a path as expanded has no byte.
+    pub has_empty: bool,
+    /// Whether a path as expanded is too long.
+    pub has_long: bool,
+}
+
+/// What is read of five lists.
+fn combine(
+    outputs: PathList,
+    implicit_outputs: PathList,
+    inputs: PathList,
+    implicit_inputs: PathList,
+    order_only_inputs: PathList,
+) -> PathTexts
+    ensures { (texts : Paths)
+        → IsListOf texts.outputs outputs.forms outputs.has_empty outputs.has_long
+        → IsListOf texts.implicit_outputs implicit_outputs.forms implicit_outputs.has_empty implicit_outputs.has_long
+        → IsListOf texts.inputs inputs.forms inputs.has_empty inputs.has_long
+        → IsListOf texts.implicit_inputs implicit_inputs.forms implicit_inputs.has_empty implicit_inputs.has_long
+        → IsListOf texts.order_only_inputs order_only_inputs.forms order_only_inputs.has_empty order_only_inputs.has_long
+        → AreRead texts result }
+{
+    PathTexts {
+        has_empty: outputs.has_empty
+            | implicit_outputs.has_empty
+            | inputs.has_empty
+            | implicit_inputs.has_empty
+            | order_only_inputs.has_empty,
+        has_long: outputs.has_long
+            | implicit_outputs.has_long
+            | inputs.has_long
+            | implicit_inputs.has_long
+            | order_only_inputs.has_long,
+        paths: Paths {
+            outputs: outputs.forms,
+            implicit_outputs: implicit_outputs.forms,
+            inputs: inputs.forms,
+            implicit_inputs: implicit_inputs.forms,
+            order_only_inputs: order_only_inputs.forms,
+        },
+    }
+}
+
+/// How many bytes a buffer of paths has room for at first, enough for most.
+const BUFFER: usize = 500;
+
+/// The paths of a build line, by its block and what names stand for above it.
+pub fn read_paths<'a>(
+    alloc: Global,
+    block: &'a SmallMap<'a, Items<u8>>,
+    here: Scope<'a>,
+    build: &'a Build,
+) -> Result<PathTexts, AllocError>
+    ensures { IfOk result (λ read. (texts : Paths) × AreRead texts read × ((b : Bindings Text) (m : Name → Text) → KeptEqBindings block.now b → KeptEqLookup (names_in here.entry) m → kept_in texts ≡ kept_in (texts_of (near m b) build.now))) }
+{
+    let mut buffer = Vec::with_capacity(alloc, BUFFER)?;
+    let outputs = read_list(alloc, block, here, build.outputs.as_slice(), &mut buffer)?;
+    let implicit_outputs = read_list(
+        alloc,
+        block,
+        here,
+        build.implicit_outputs.as_slice(),
+        &mut buffer,
+    )?;
+    let inputs = read_list(alloc, block, here, build.inputs.as_slice(), &mut buffer)?;
+    let implicit_inputs = read_list(
+        alloc,
+        block,
+        here,
+        build.implicit_inputs.as_slice(),
+        &mut buffer,
+    )?;
+    let order_only_inputs = read_list(
+        alloc,
+        block,
+        here,
+        build.order_only_inputs.as_slice(),
+        &mut buffer,
+    )?;
+    Ok(combine(
+        outputs,
+        implicit_outputs,
+        inputs,
+        implicit_inputs,
+        order_only_inputs,
+    ))
+}
+
+/// Whether a path of a list has no byte.
+pub fn list_has_empty(paths: &[Items<u8>]) -> bool
+    ensures { result ≡ list_any is_empty paths.now }
+{
+    paths.iter().any(|path| path.as_slice().is_empty())
+}
+
+/// Whether a path of a list is too long.
+pub fn list_has_long(paths: &[Items<u8>]) -> bool
+    ensures { result ≡ list_any is_long_path paths.now }
+{
+    paths.iter().any(|path| is_long_path(path.as_slice()))
+}

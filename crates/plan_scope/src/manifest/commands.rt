@@ -1,0 +1,59 @@
+//! The commands of a manifest, written.
+
+ghost use Rattle.std.specs.Prelude.{◌≡◌, [], ◌∷◌, ◌++◌, is_ok};
+ghost use Rattle.plan_text.specs.Bytes.{line_feed};
+ghost use Rattle.plan_text.specs.Sinks.{Writes};
+ghost use Rattle.plan_scope.specs.Edges.{command_line, commands_of};
+
+use crate::manifest::{Edge, Manifest};
+use plan_text::{Sink, SinkFault, write_all, writes_join};
+
+/// A write failed.
+#[derive(Clone, Copy, Debug, PartialEq, Eq)]
+pub struct WriteFault;
+
+impl From<SinkFault> for WriteFault {
+    fn from(_fault: SinkFault) -> WriteFault {
+        WriteFault
+    }
+}
+
+/// The text of an edge's command.
+pub fn command_text(edge: &Edge) -> &[u8]
+    ensures { result.now ≡ edge.now.command }
+{
+    edge.command.as_slice()
+}
+
+/// Writes some bytes and a newline.
+fn write_line<W: Sink>(statement: &[u8], out: &mut W) -> Result<(), WriteFault>
+    ensures { Writes (is_ok result) (W.failures out.old, W.taken out.old) (W.failures out.new, W.taken out.new) (statement.now ++ line_feed ∷ []) }
+{
+    writes_join();
+    write_all(out, statement)?;
+    write_all(out, b"\n")?;
+    Ok(())
+}
+
+/// Writes the command of an edge and a newline; nothing of a phony.
+fn write_command<W: Sink>(edge: &Edge, out: &mut W) -> Result<(), WriteFault>
+    ensures { Writes (is_ok result) (W.failures out.old, W.taken out.old) (W.failures out.new, W.taken out.new) (command_line edge.now) }
+{
+    if edge.phony {
+        return Ok(());
+    }
+    write_line(command_text(edge), out)
+}
+
+/// Writes the command of each edge that isn't a phony, in order, a newline after each, and nothing else. At the first
+/// failed write it stops, and the sink took the bytes in front of it.
+pub fn write_commands<W: Sink>(manifest: &Manifest, out: &mut W) -> Result<(), WriteFault>
+    ensures { Writes (is_ok result) (W.failures out.old, W.taken out.old) (W.failures out.new, W.taken out.new) (commands_of manifest.now) }
+{
+    writes_join();
+    let edges = manifest.edges.as_slice();
+    for edge in edges {
+        write_command(edge, out)?;
+    }
+    Ok(())
+}

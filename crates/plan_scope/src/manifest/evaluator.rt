@@ -1,0 +1,413 @@
+//! What the statements of a tree mean.
+
+ghost use Rattle.std.specs.Prelude.{◌≡◌, ◌≢◌, ◌≤◌, ◌+◌, ◌||◌, ℕ, List, [], ◌∷◌, ◌++◌, length, OnOk, IfOk, bytes_eq, codes, option_map};
+ghost use Rattle.plan_text.specs.Outcome.{Meets};
+ghost use Rattle.plan_parse.specs.declared.statement.Binding.{Binding};
+ghost use Rattle.plan_parse.specs.declared.statement.StatementKind.TheVariants as kinds;
+ghost use Rattle.plan_scope.specs.Trees.{TreeStatement as StatementMeant};
+ghost use Rattle.plan_scope.specs.Scopes.{Name, Text, expand, in_own, lookup};
+ghost use Rattle.plan_scope.specs.Edges.{edge_of_build, builds_in, builds_of, console, defaults_alone, edge_alone, edge_of_rule, manifest_of_kind, manifest_past, has_own, is_among, is_taken, late, manifest_of, map_ok, paths_of, pool_alone, pool_by, targets_by, with_front};
+ghost use Rattle.plan_scope.specs.Kept.{EqScoped, EqNames, KeptEqLookup};
+ghost use Rattle.plan_scope.specs.ScopeNames.{names_in};
+ghost use Rattle.plan_scope.specs.Outcomes.{Gives};
+ghost use Rattle.plan_scope.specs.Evaluation.{Declares, Fits, GivesMore, IsLocated, Knows, manifest_in, own_of};
+
+use crate::edge::build_line::{edge, phony_edge};
+use crate::edge::rule_variables::RuleVariables;
+use crate::fault::{Cause, ScopeFault, StatementFault};
+use crate::manifest::defaults::targets;
+use crate::manifest::pool_names::{CONSOLE, PoolNames};
+use crate::manifest::pools::pool;
+use crate::manifest::{DefaultTarget, Edge, Manifest, Pool};
+use crate::scope::scoped_map::ScopedMap;
+use crate::scope::text::copy_of;
+use crate::scope::{Scope, bind_statement};
+use crate::tree::{Tree, TreeStatement};
+use plan_parse::{Build, Rule, StatementKind};
+use plan_text::{Items, PieceList};
+use std::alloc::{AllocError, Global};
+
+/// What all statements of the tree give.
+#[derive(Drop)]
+pub struct TreeFacts<'a> {
+    /// What is bound in all scopes.
+    pub bound: &'a ScopedMap<Items<u8>>,
+    /// The names of the pools.
+    pub pool_names: PoolNames<'a>,
+}
+
+/// What the statements so far give.
+#[derive(Drop)]
+pub struct Evaluation<'a> {
+    /// What is bound in all scopes.
+    pub bound: ScopedMap<Items<u8>>,
+    /// The rules in all scopes.
+    pub rules: ScopedMap<RuleVariables<'a>>,
+    /// The names of the pools.
+    pub pool_names: PoolNames<'a>,
+    /// The edges.
+    pub edges: Vec<Edge>,
+    /// The pools.
+    pub pools: Vec<Pool>,
+    /// The targets of `default` statements.
+    pub defaults: Vec<DefaultTarget>,
+}
+
+/// What all statements give.
+fn facts_of_tree<'a>(alloc: Global, tree: &'a Tree) -> Result<TreeFacts<'a>, AllocError>
+    ensures { IfOk result (λ facts. Knows facts tree.now) }
+{
+    Ok(TreeFacts {
+        bound: tree.bound(),
+        pool_names: PoolNames::of_tree(alloc, tree.statements())?,
+    })
+}
+
+/// How many edges a statement may give.
+fn edge_count_of_kind(kind: &StatementKind) -> usize
+    ensures edges { result ≡ length (builds_in kind.now) }
+    ensures within { result ≤ 1 }
+{
+    match kind {
+        StatementKind::Build(_) => 1,
+        _ => 0,
+    }
+}
+
+/// How many edges a statement may give.
+fn edge_count_of_statement(statement: &TreeStatement) -> usize
+    ensures edges { result ≡ length (builds_in statement.now.kind) }
+    ensures within { result ≤ 1 }
+{
+    match statement.kept_kind() {
+        Some(kind) => edge_count_of_kind(kind),
+        None => 0,
+    }
+}
+
+/// How many edges statements may give.
+fn edge_count(statements: &[TreeStatement]) -> usize
+    ensures { result ≡ length (builds_of statements.now) }
+{
+    let mut edges = 0;
+    for statement in statements {
+        edges += edge_count_of_statement(statement);
+    }
+    edges
+}
+
+/// What no statement gives, the pool `console`, with room for so many edges.
+fn initial_evaluation<'a>(alloc: Global, edges: usize) -> Result<Evaluation<'a>, AllocError>
+    ensures { IfOk result (λ e. Fits e [] × (manifest_in e ≡ pool_alone console)) }
+{
+    let edges = Vec::with_capacity(alloc, edges)?;
+    let mut pool_names = PoolNames::new(alloc);
+    pool_names.insert(CONSOLE)?;
+    let mut pools = Vec::new(alloc);
+    pools.push(Pool {
+        name: copy_of(alloc, CONSOLE)?,
+        depth: 1,
+    })?;
+    Ok(Evaluation {
+        bound: ScopedMap::new(alloc),
+        rules: ScopedMap::new(alloc),
+        pool_names,
+        edges,
+        pools,
+        defaults: Vec::new(alloc),
+    })
+}
+
+/// The own scope of a statement.
+fn own_scope(scopes: &[usize]) -> Option<usize>
+    ensures { result ≡ own_of scopes.now }
+{
+    match scopes {
+        [] => None,
+        [own, ..] => Some(*own),
+    }
+}
+
+/// Whether the own scope of a statement has a rule of this name.
+fn has_own<'a>(rules: &ScopedMap<RuleVariables<'a>>, scopes: &[usize], name: &[u8]) -> bool
+    ensures { result ≡ has_own rules.now scopes.now name.now }
+{
+    match own_scope(scopes) {
+        Some(own) => rules.own(own, name).is_some(),
+        None => false,
+    }
+}
+
+/// Whether a rule's name is that of edges without a command.
+fn is_phony(name: &[u8]) -> bool
+    ensures { result ≡ bytes_eq name.now (codes "phony") }
+{
+    name == b"phony".as_slice()
+}
+
+/// Whether no rule may be declared under this name.
+fn is_taken<'a>(rules: &ScopedMap<RuleVariables<'a>>, scopes: &[usize], name: &[u8]) -> bool
+    ensures { result ≡ is_taken rules.now scopes.now name.now }
+{
+    is_phony(name) || has_own(rules, scopes, name)
+}
+
+/// Gives a rule its name in the own scope of a statement.
+fn insert_rule<'a>(
+    alloc: Global,
+    rules: &mut ScopedMap<RuleVariables<'a>>,
+    scopes: &[usize],
+    rule: &'a Rule,
+) -> Result<(), AllocError>
+    ensures { OnOk result (EqScoped rules.new (rules.old ++ in_own scopes.now rule.now.name (late rule.now.bindings))) }
+{
+    let Some(own) = own_scope(scopes) else {
+        return Ok(());
+    };
+    let variables = RuleVariables::new(alloc, rule.bindings.as_slice())?;
+    rules.set(alloc, own, rule.name.as_slice(), variables)
+}
+
+/// Declares a rule for the build lines below it.
+fn declare<'a>(
+    alloc: Global,
+    rules: &mut ScopedMap<RuleVariables<'a>>,
+    scopes: &[usize],
+    rule: &'a Rule,
+) -> Result<(), StatementFault>
+    ensures taken { Declares result (is_taken rules.old scopes.now rule.now.name) }
+    ensures known { OnOk result (EqScoped rules.new (rules.old ++ in_own scopes.now rule.now.name (late rule.now.bindings))) }
+{
+    if is_taken(rules, scopes, rule.name.as_slice()) {
+        return Err(StatementFault::Refused(Cause::DuplicateRule));
+    }
+    insert_rule(alloc, rules, scopes, rule)?;
+    Ok(())
+}
+
+/// The edge of a build line whose rule was looked up.
+fn edge_of_rule<'a>(
+    alloc: Global,
+    pools: &PoolNames<'a>,
+    here: Scope<'a>,
+    file: Scope<'a>,
+    rule: Option<&'a RuleVariables<'a>>,
+    build: &'a Build,
+) -> Result<Edge, StatementFault>
+    ensures { (names : List Name) (h f : Name → Text) → EqNames pools.now names → KeptEqLookup (names_in here.entry) h → KeptEqLookup (names_in file.entry) f → Gives result (edge_of_rule names h f build.now (option_map (λ r. r.now) rule.entry)) }
+{
+    match rule {
+        Some(rule) => edge(alloc, pools, here, file, rule, build),
+        None => Err(StatementFault::Refused(Cause::UnknownRule)),
+    }
+}
+
+/// The edge of a build line.
+fn edge_of_build<'a>(
+    alloc: Global,
+    pools: &PoolNames<'a>,
+    rules: &'a ScopedMap<RuleVariables<'a>>,
+    here: Scope<'a>,
+    file: Scope<'a>,
+    build: &'a Build,
+) -> Result<Edge, StatementFault>
+    ensures { (names : List Name) (h f : Name → Text) → EqNames pools.now names → KeptEqLookup (names_in here.entry) h → KeptEqLookup (names_in file.entry) f → Gives result (edge_of_build names rules.now here.entry.scopes.now h f build.now) }
+{
+    if is_phony(build.rule.as_slice()) {
+        return phony_edge(alloc, pools, here, file, build);
+    }
+    let rule = rules.nearest(here.scopes, build.rule.as_slice());
+    edge_of_rule(alloc, pools, here, file, rule, build)
+}
+
+/// Adds what a build line gives.
+fn add_build<'a>(
+    alloc: Global,
+    facts: &TreeFacts<'a>,
+    so_far: &mut Evaluation<'a>,
+    scopes: &'a [usize],
+    build: &'a Build,
+) -> Result<(), StatementFault>
+    ensures given { (names : List Name) (h f : Name → Text) → EqNames facts.now.pool_names names → KeptEqLookup (lookup so_far.old.bound scopes.now) h → KeptEqLookup (lookup facts.now.bound.now scopes.now) f
+        → GivesMore (manifest_in so_far.old) (manifest_in so_far.new) result (map_ok edge_alone (edge_of_build names so_far.old.rules scopes.now h f build.now)) }
+    ensures count { OnOk result (length so_far.new.edges.items ≡ length so_far.old.edges.items + 1) }
+    ensures bound { so_far.new.bound ≡ so_far.old.bound }
+    ensures rules { so_far.new.rules ≡ so_far.old.rules }
+    ensures names { so_far.new.pool_names ≡ so_far.old.pool_names }
+{
+    let here = Scope {
+        bound: &so_far.bound,
+        scopes,
+    };
+    let file = Scope {
+        bound: facts.bound,
+        scopes,
+    };
+    let edge = edge_of_build(alloc, &facts.pool_names, &so_far.rules, here, file, build)?;
+    so_far.edges.push(edge)?;
+    Ok(())
+}
+
+/// Adds what a pool gives.
+fn add_pool<'a>(
+    alloc: Global,
+    so_far: &mut Evaluation<'a>,
+    scopes: &'a [usize],
+    declared: &'a plan_parse::Pool,
+) -> Result<(), StatementFault>
+    ensures given { (names : List Name) (h : Name → Text) → EqNames so_far.old.pool_names names → KeptEqLookup (lookup so_far.old.bound scopes.now) h
+        → GivesMore (manifest_in so_far.old) (manifest_in so_far.new) result (map_ok pool_alone (pool_by names declared.now.name (expand h declared.now.depth))) }
+    ensures count { so_far.new.edges ≡ so_far.old.edges }
+    ensures bound { so_far.new.bound ≡ so_far.old.bound }
+    ensures rules { so_far.new.rules ≡ so_far.old.rules }
+    ensures names { OnOk result ((n : List ℕ) → is_among so_far.new.pool_names n ≡ is_among (so_far.old.pool_names ++ declared.now.name ∷ []) n) }
+{
+    let here = Scope {
+        bound: &so_far.bound,
+        scopes,
+    };
+    let pool = pool(alloc, &so_far.pool_names, here, declared)?;
+    so_far.pools.push(pool)?;
+    so_far.pool_names.insert(declared.name.as_slice())?;
+    Ok(())
+}
+
+/// Adds what a `default` statement gives.
+fn add_default<'a>(
+    alloc: Global,
+    so_far: &mut Evaluation<'a>,
+    scopes: &'a [usize],
+    paths: &'a [PieceList],
+) -> Result<(), StatementFault>
+    ensures given { (h : Name → Text) → KeptEqLookup (lookup so_far.old.bound scopes.now) h
+        → GivesMore (manifest_in so_far.old) (manifest_in so_far.new) result (map_ok defaults_alone (targets_by (length so_far.old.edges.items) (paths_of h paths.now))) }
+    ensures count { so_far.new.edges ≡ so_far.old.edges }
+    ensures bound { so_far.new.bound ≡ so_far.old.bound }
+    ensures rules { so_far.new.rules ≡ so_far.old.rules }
+    ensures names { so_far.new.pool_names ≡ so_far.old.pool_names }
+{
+    let here = Scope {
+        bound: &so_far.bound,
+        scopes,
+    };
+    let mut found = targets(alloc, so_far.edges.as_slice().len(), here, paths)?;
+    so_far.defaults.append(&mut found)?;
+    Ok(())
+}
+
+/// Adds what a statement gives that is a binding.
+fn add_binding<'a>(
+    alloc: Global,
+    so_far: &mut Evaluation<'a>,
+    statement: &'a TreeStatement,
+) -> Result<(), StatementFault>
+    requires { (b : Binding) × (statement.now.kind ≡ kinds.Binding b) }
+    ensures given { (all above : List StatementMeant) → GivesMore (manifest_in so_far.old) (manifest_in so_far.new) result (manifest_of_kind all above statement.now.scopes statement.now.kind) }
+    ensures fits { OnOk result ((above : List StatementMeant) → Fits so_far.old above → Fits so_far.new (above ++ statement.now ∷ [])) }
+{
+    bind_statement(alloc, &mut so_far.bound, statement)?;
+    Ok(())
+}
+
+/// Adds what a statement gives, by all that it says.
+fn add_kind<'a>(
+    alloc: Global,
+    facts: &TreeFacts<'a>,
+    so_far: &mut Evaluation<'a>,
+    statement: &'a TreeStatement,
+    kind: &'a StatementKind,
+) -> Result<(), StatementFault>
+    requires { statement.now.kind ≡ kind.now }
+    ensures given { (all above : List StatementMeant) → Fits so_far.old above → Knows facts.now all → GivesMore (manifest_in so_far.old) (manifest_in so_far.new) result (manifest_of_kind all above statement.now.scopes statement.now.kind) }
+    ensures fits { OnOk result ((above : List StatementMeant) → Fits so_far.old above → Fits so_far.new (above ++ statement.now ∷ [])) }
+{
+    let scopes = statement.scopes();
+    match kind {
+        StatementKind::Rule(rule) => declare(alloc, &mut so_far.rules, scopes, rule),
+        StatementKind::Build(build) => add_build(alloc, facts, so_far, scopes, build),
+        StatementKind::Pool(declared) => add_pool(alloc, so_far, scopes, declared),
+        StatementKind::Default(paths) => add_default(alloc, so_far, scopes, paths.as_slice()),
+        StatementKind::Include(_) => Ok(()),
+        StatementKind::Subninja(_) => Ok(()),
+        StatementKind::Binding(_) => add_binding(alloc, so_far, statement),
+    }
+}
+
+/// Adds what a statement gives.
+fn add_statement<'a>(
+    alloc: Global,
+    facts: &TreeFacts<'a>,
+    so_far: &mut Evaluation<'a>,
+    statement: &'a TreeStatement,
+) -> Result<(), StatementFault>
+    ensures given { (all above : List StatementMeant) → Fits so_far.old above → Knows facts.now all → GivesMore (manifest_in so_far.old) (manifest_in so_far.new) result (manifest_of_kind all above statement.now.scopes statement.now.kind) }
+    ensures fits { OnOk result ((above : List StatementMeant) → Fits so_far.old above → Fits so_far.new (above ++ statement.now ∷ [])) }
+{
+    match statement.kept_kind() {
+        Some(kind) => add_kind(alloc, facts, so_far, statement, kind),
+        None => add_binding(alloc, so_far, statement),
+    }
+}
+
+/// The fault of a statement, with its place.
+fn fault_at(alloc: Global, statement: &TreeStatement, fault: StatementFault) -> ScopeFault
+    ensures { IsLocated fault statement.now result }
+{
+    match fault {
+        StatementFault::Refused(cause) => match statement.refusal(alloc, cause) {
+            Ok(fault) => fault,
+            Err(_) => ScopeFault::Memory,
+        },
+        StatementFault::Memory => ScopeFault::Memory,
+    }
+}
+
+/// What all statements of a tree give.
+fn evaluate_statements<'a>(
+    alloc: Global,
+    facts: &TreeFacts<'a>,
+    mut so_far: Evaluation<'a>,
+    statements: &'a [TreeStatement],
+) -> Result<Evaluation<'a>, ScopeFault>
+    requires { Fits so_far [] × Knows facts.now statements.now }
+    ensures { Meets ScopeFault.Memory manifest_in result (with_front (manifest_in so_far.entry) (manifest_past statements.now [] statements.now)) }
+{
+    for statement in statements {
+        match add_statement(alloc, facts, &mut so_far, statement) {
+            Ok(()) => {}
+            Err(fault) => return Err(fault_at(alloc, statement, fault)),
+        }
+    }
+    Ok(so_far)
+}
+
+/// What the statements of a tree give, `console` among the pools.
+fn evaluate_tree<'a>(alloc: Global, tree: &'a Tree) -> Result<Evaluation<'a>, ScopeFault>
+    ensures { Meets ScopeFault.Memory manifest_in result (manifest_of tree.now) }
+{
+    let statements = tree.statements();
+    let facts = facts_of_tree(alloc, tree)?;
+    let so_far = initial_evaluation(alloc, edge_count(statements))?;
+    evaluate_statements(alloc, &facts, so_far, statements)
+}
+
+/// What the statements of a tree mean.
+///
+/// # Errors
+///
+/// `Refused` with the first statement that is at fault, and the cause of the least number that it has; `Memory`.
+pub fn evaluate(alloc: Global, tree: &Tree) -> Result<Manifest, ScopeFault>
+    ensures { Meets ScopeFault.Memory (λ m. m) result (manifest_of tree.now) }
+{
+    let Evaluation {
+        edges,
+        pools,
+        defaults,
+        ..
+    } = evaluate_tree(alloc, tree)?;
+    Ok(Manifest {
+        edges: Items::new(edges),
+        pools: Items::new(pools),
+        defaults: Items::new(defaults),
+    })
+}

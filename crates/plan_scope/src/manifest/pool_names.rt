@@ -1,0 +1,89 @@
+//! The names of pools.
+
+ghost use Rattle.std.specs.Prelude.{◌≡◌, ℕ, List, [], ◌∷◌, ◌++◌, IfOk, OnOk};
+ghost use Rattle.plan_scope.specs.Edges.{is_among, pools_in, pools_of};
+ghost use Rattle.plan_scope.specs.Kept.{EqNames};
+
+use crate::scope::small_map::SmallMap;
+use crate::tree::TreeStatement;
+use plan_parse::StatementKind;
+use std::alloc::{AllocError, Global};
+use std::marker::Model;
+
+/// The name of the pool that is there without a statement.
+pub const CONSOLE: &[u8] = b"console";
+
+/// Names of pools.
+#[derive(Drop)]
+pub struct PoolNames<'a> {
+    names: SmallMap<'a, ()>,
+}
+
+impl<'a> Model for PoolNames<'a> {
+    ghost use Rattle.std.specs.Prelude.{List, map};
+    ghost use Rattle.plan_scope.specs.Scopes.{Name};
+
+    ghost Value = { List Name };
+
+    ghost view = { λ p. map (λ b. b.0) p.names };
+}
+
+impl<'a> PoolNames<'a> {
+    /// No name.
+    pub fn new(alloc: Global) -> Self
+        ensures { result ≡ [] }
+    {
+        PoolNames {
+            names: SmallMap::new(alloc),
+        }
+    }
+
+    /// Whether a name is among them.
+    pub fn contains(&self, name: &[u8]) -> bool
+        ensures { result ≡ is_among self.now name.now }
+    {
+        self.names.get(name).is_some()
+    }
+
+    /// One name more.
+    pub fn insert(&mut self, name: &'a [u8]) -> Result<(), AllocError>
+        ensures names { OnOk result ((n : List ℕ) → is_among self.new n ≡ is_among (self.old ++ name.now ∷ []) n) }
+    {
+        self.names.set(name, ())
+    }
+
+    /// The names of the pools of a tree.
+    pub fn of_tree(alloc: Global, statements: &'a [TreeStatement]) -> Result<Self, AllocError>
+        ensures { IfOk result (λ names. EqNames names (pools_of statements.now)) }
+    {
+        let mut names = PoolNames::new(alloc);
+        names.insert(CONSOLE)?;
+        for statement in statements {
+            insert_from_statement(&mut names, statement)?;
+        }
+        Ok(names)
+    }
+}
+
+/// Inserts the name of a pool that a statement declares.
+fn insert_declared<'a>(names: &mut PoolNames<'a>, kind: &'a StatementKind) -> Result<(), AllocError>
+    ensures { OnOk result ((n : List ℕ) → is_among names.new n ≡ is_among (names.old ++ pools_in kind.now) n) }
+{
+    match kind {
+        StatementKind::Pool(declared) => names.insert(declared.name.as_slice()),
+        _ => Ok(()),
+    }
+}
+
+/// Inserts the name of a pool that a statement declares.
+fn insert_from_statement<'a>(
+    names: &mut PoolNames<'a>,
+    statement: &'a TreeStatement,
+) -> Result<(), AllocError>
+    ensures { OnOk result ((n : List ℕ) → is_among names.new n ≡ is_among (names.old ++ pools_in statement.now.kind) n) }
+{
+    match statement.kept_kind() {
+        Some(kind) => insert_declared(names, kind),
+        None => Ok(()),
+    }
+}

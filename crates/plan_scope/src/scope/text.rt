@@ -1,0 +1,166 @@
+//! Texts that are put together, as far as they are kept.
+
+ghost use Rattle.std.specs.Prelude.{◌≡◌, ◌≤◌, ◌+◌, ◌++◌, length, IfOk, OnOk};
+ghost use Rattle.std.specs.List.{join_with_byte, list_all};
+ghost use Rattle.plan_scope.specs.Expansion.{escaped, is_plain, quoted, single_quote};
+ghost use Rattle.plan_scope.specs.Scopes.{is_too_long};
+ghost use Rattle.plan_text.specs.Limits.{max_text};
+ghost use Rattle.plan_scope.specs.Kept.{kept};
+ghost use Rattle.plan_scope.specs.ShellQuoting.{quoted_as};
+ghost use Rattle.std.specs.Prelude.{map, flat_map, [], ◌∷◌, if◌then◌else◌};
+
+use plan_text::{Items, MAX_TEXT, SmallText};
+use std::alloc::{AllocError, Global};
+
+/// How a path is shown.
+#[derive(Clone, Copy)]
+pub enum Quoting {
+    /// As it is.
+    Plain,
+    /// For a shell.
+    Shell,
+}
+
+/// A copy of a text.
+pub fn copy_of(alloc: Global, text: &[u8]) -> Result<Items<u8>, AllocError>
+    ensures { IfOk result (λ copy. copy ≡ text.now) }
+{
+    Ok(Items::new(Vec::from_slice(alloc, text)?))
+}
+
+/// Whether a text is too long.
+pub fn is_long(text: &[u8]) -> bool
+    ensures { result ≡ is_too_long text.now }
+{
+    text.len() > MAX_TEXT
+}
+
+/// Appends a text. Of a text that is too long no more is kept than shows it: one byte more than is allowed.
+#[inline(always)]
+pub fn append(out: &mut Vec<u8>, text: &[u8]) -> Result<(), AllocError>
+    ensures appended { OnOk result (kept out.new.items ≡ kept (out.old.items ++ text.now)) }
+    ensures within { OnOk result (length out.old.items ≤ max_text + 1 → length out.new.items ≤ max_text + 1) }
+{
+    if text.is_empty() {
+        return Ok(());
+    }
+    let room = (MAX_TEXT + 1).saturating_sub(out.len());
+    if text.len() <= room {
+        out.extend_from_slice(text)?;
+    } else {
+        out.extend_from_slice(&text[..room])?;
+    }
+    Ok(())
+}
+
+/// The bytes that a shell takes as they are: letters, digits and `_`, `+`, `-`, `.`, `/`.
+const PLAIN: [bool; 256] = [
+    false, false, false, false, false, false, false, false, false, false, false, false, false,
+    false, false, false, false, false, false, false, false, false, false, false, false, false,
+    false, false, false, false, false, false, false, false, false, false, false, false, false,
+    false, false, false, false, true, false, true, true, true, true, true, true, true, true, true,
+    true, true, true, true, false, false, false, false, false, false, false, true, true, true,
+    true, true, true, true, true, true, true, true, true, true, true, true, true, true, true, true,
+    true, true, true, true, true, true, true, false, false, false, false, true, false, true, true,
+    true, true, true, true, true, true, true, true, true, true, true, true, true, true, true, true,
+    true, true, true, true, true, true, true, true, false, false, false, false, false, false,
+    false, false, false, false, false, false, false, false, false, false, false, false, false,
+    false, false, false, false, false, false, false, false, false, false, false, false, false,
+    false, false, false, false, false, false, false, false, false, false, false, false, false,
+    false, false, false, false, false, false, false, false, false, false, false, false, false,
+    false, false, false, false, false, false, false, false, false, false, false, false, false,
+    false, false, false, false, false, false, false, false, false, false, false, false, false,
+    false, false, false, false, false, false, false, false, false, false, false, false, false,
+    false, false, false, false, false, false, false, false, false, false, false, false, false,
+    false, false, false, false, false, false, false, false, false, false, false, false, false,
+    false, false, false, false, false, false, false, false, false, false,
+];
+
+/// Whether a shell takes the byte as it is.
+fn is_plain(byte: u8) -> bool
+    ensures { result ≡ is_plain byte }
+{
+    PLAIN[usize::from(byte)]
+}
+
+/// Appends a byte that stands between quotes.
+fn append_escaped(out: &mut Vec<u8>, byte: u8) -> Result<(), AllocError>
+    ensures { OnOk result (kept out.new.items ≡ kept (out.old.items ++ escaped byte)) }
+{
+    if byte == b'\'' {
+        append(out, b"'\\''")
+    } else {
+        append(out, &[byte])
+    }
+}
+
+/// Appends a path between quotes.
+fn append_between_quotes(out: &mut Vec<u8>, path: &[u8]) -> Result<(), AllocError>
+    ensures { OnOk result (kept out.new.items ≡ kept (out.old.items ++ (single_quote ∷ (flat_map escaped path.now ++ single_quote ∷ [])))) }
+{
+    append(out, b"'")?;
+    for byte in path {
+        append_escaped(out, *byte)?;
+    }
+    append(out, b"'")
+}
+
+/// Whether a shell takes the path as it is.
+fn is_all_plain(path: &[u8]) -> bool
+    ensures { result ≡ list_all is_plain path.now }
+{
+    path.iter().all(|byte| is_plain(*byte))
+}
+
+/// Appends a path for a shell.
+fn append_quoted(out: &mut Vec<u8>, path: &[u8]) -> Result<(), AllocError>
+    ensures { OnOk result (kept out.new.items ≡ kept (out.old.items ++ quoted path.now)) }
+{
+    if is_all_plain(path) {
+        append(out, path)
+    } else {
+        append_between_quotes(out, path)
+    }
+}
+
+/// Appends a path as it is shown.
+fn append_path(out: &mut Vec<u8>, quoting: Quoting, path: &[u8]) -> Result<(), AllocError>
+    ensures { OnOk result (kept out.new.items ≡ kept (out.old.items ++ quoted_as quoting path.now)) }
+{
+    match quoting {
+        Quoting::Plain => append(out, path),
+        Quoting::Shell => append_quoted(out, path),
+    }
+}
+
+/// Appends what stands in front of a path of a list.
+fn append_separator(out: &mut Vec<u8>, is_first: bool, separator: u8) -> Result<(), AllocError>
+    ensures { OnOk result (kept out.new.items ≡ kept (out.old.items ++ (if is_first then [] else separator ∷ []))) }
+{
+    if is_first {
+        return Ok(());
+    }
+    append(out, &[separator])
+}
+
+/// Appends paths as they are shown, this byte between each two. Behind a text that is too long nothing is kept, and
+/// no path is looked at.
+pub fn append_paths(
+    out: &mut Vec<u8>,
+    quoting: Quoting,
+    paths: &[SmallText],
+    separator: u8,
+) -> Result<(), AllocError>
+    ensures { OnOk result (kept out.new.items ≡ kept (out.old.items ++ join_with_byte separator (map (quoted_as quoting) paths.now))) }
+{
+    if is_long(out) {
+        return Ok(());
+    }
+    let mut is_first = true;
+    for path in paths {
+        append_separator(out, is_first, separator)?;
+        append_path(out, quoting, path.as_slice())?;
+        is_first = false;
+    }
+    Ok(())
+}
