@@ -20,7 +20,7 @@ def fan_out() -> dict[str, str]:
 
 
 def again() -> dict[str, str]:
-    """A file of 200,000 bindings that is taken in twenty times."""
+    """A file of 200,000 bindings that is included twenty times."""
     return {"build.ninja": "include big\n" * 20, "big": "".join(f"v{number} = {number}\n" for number in range(200_000))}
 
 

@@ -1,4 +1,4 @@
-"""Writes a project as Makefiles with the same commands: a file that a manifest takes in is included.
+"""Writes a project as Makefiles with the same commands: a file that a manifest includes is included.
 
 A Makefile has one scope, so a variable of a file below the first has the file's name in front. Pools have no
 counterpart, and are left out.

@@ -16,7 +16,7 @@ class Edge(NamedTuple):
 
 
 class File(NamedTuple):
-    """A file's own variables and edges, and the files that it takes in, each with a scope of its own."""
+    """A file's own variables and edges, and the files that it includes, each with a scope of its own."""
 
     variables: Variables
     edges: list[Edge]
@@ -94,7 +94,7 @@ def module_file(module: int, sources: Iterable[int]) -> File:
 
 
 def tree(count: int) -> Project:
-    """About this many edges: a module of 48 sources in each file that is taken in."""
+    """About this many edges: a module of 48 sources in each file that is included."""
     numbers = range(max(1, count // 50))
     modules = {f"m{module}": module_file(module, range(module * 48, module * 48 + 48)) for module in numbers}
     made = [

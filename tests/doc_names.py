@@ -29,7 +29,7 @@ WIDE = {
 # Names that are of no file here, by document: of the toolchain, of other tools, or of forms that were given up.
 FOREIGN: dict[str, set[str]] = {
     "MANIFEST.md": {"ninja_required_version"},  # ninja's own variable
-    "DECISIONS.md": {"ninja_required_version", "expanded_path"},  # ninja's own variable; a function that is gone
+    "DECISIONS.md": {"ninja_required_version"},
     "PROOF_NOTES.md": {  # of the toolchain, or in forms that it refuses
         "at_exit", "insert_key", "into_iter_items", "on_err", "ord_max", "serde_json", "slice_get_cases", "with_item",
         "with_x"},

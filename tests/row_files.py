@@ -6,7 +6,7 @@ LINES = 500_000  # of one file, so that none has more than 16 MiB
 
 
 def chain(word: str, files: int, last: str) -> None:
-    """So many files of which each takes in the next by this word, build.ninja, f1 and so on; last one of this text."""
+    """So many files of which each includes the next by this word, build.ninja, f1 and so on; last one of this text."""
     for number in range(files):
         name = f"f{number}" if number else "build.ninja"
         pathlib.Path(name).write_text(f"x{number} = 1\n{word} f{number + 1}\n")
