@@ -7,7 +7,8 @@ use Rattle.plan_graph.specs.Files.{Path, Table, is_used, producer_at, producer_i
 use Rattle.plan_graph.specs.Graph.{files_of, inputs_of, producer_of, max_edges, outputs_of}
 use Rattle.plan_graph.specs.Reading.{is_own}
 
--- A table that fits these edges: it has their paths, with the edge that makes each and whether one uses it. Each path has one producer, and the edges are not too many.
+-- A table that fits these edges: it has their paths, with the edge that makes each and whether one uses it.
+-- Each path has one producer, and the edges are not too many.
 pub record Fits (files : Table) (edges : List Edge) : Type 0 where
   pub paths : paths_in files ≡ files_of edges
   pub producers : (path : Path) → producer_in files path ≡ producer_of edges path

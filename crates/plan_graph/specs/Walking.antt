@@ -38,7 +38,8 @@ is_pending Done = 0
 abbrev pub pending : List Mark → ℕ
 pending marks = sum_by is_pending marks
 
--- What holds of a walk: of what each edge waits for, the marks, how many waits of each edge were passed, the ranks and the path.
+-- What holds of a walk: of what each edge waits for, the marks, how many waits of each edge were passed, the ranks
+-- and the path.
 pub record IsWalk (waits : List (List ℕ)) (marks : List Mark) (passed ranks path : List ℕ) : Type 0 where
   -- each edge has a mark, a rank and a number of waits that were passed
   pub marked : length marks ≡ length waits

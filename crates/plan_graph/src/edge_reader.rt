@@ -56,7 +56,7 @@ fn with_output<'a>(
     ensures table { Meets Memory (λ _. files.new) result (reading.with_output files.old number path.now (file_of path.now files.old)) }
     ensures number { IfOk result (λ n. n ≡ number_of (paths_in files.old) path.now) }
 {
-    let at = files.named(path)?;
+    let at = files.intern(path)?;
     let file = files.at(at);
     if file.producer.is_some() {
         return Err(two_producers(alloc, path));
@@ -114,7 +114,7 @@ fn with_input<'a>(
     ensures table { Meets Memory (λ _. files.new) result (Ok (reading.with_input own files.old path.now)) }
     ensures number { IfOk result (λ n. n ≡ number_of (paths_in files.old) path.now) }
 {
-    let at = files.named(path)?;
+    let at = files.intern(path)?;
     let file = files.at(at);
     if file.is_used {
         return Ok(at);

@@ -64,7 +64,7 @@ impl<'a> Files<'a> {
     }
 
     /// The number of a path, which gets one unless it has one.
-    pub(crate) fn named(&mut self, path: &'a [u8]) -> Result<usize, AllocError>
+    pub(crate) fn intern(&mut self, path: &'a [u8]) -> Result<usize, AllocError>
         ensures table { OnOk result (self.new ≡ with_file self.old path.now (file_of path.now self.old)) }
         ensures number { IfOk result (λ n. n ≡ number_of (paths_in self.old) path.now) }
         ensures within { IfOk result (λ n. n < length self.new) }

@@ -190,7 +190,7 @@ fn numbers_of_paths(rt: HostRuntime) -> Result<(), Fail> {
 }
 
 #[test]
-fn makers_by_number(rt: HostRuntime) -> Result<(), Fail> {
+fn producers_by_number(rt: HostRuntime) -> Result<(), Fail> {
     assert!(rt; producer_at(rt.alloc(), 1) == Some(0));
     assert!(rt; producer_at(rt.alloc(), 2).is_none());
     assert!(rt; producer_at(rt.alloc(), 3) == Some(1));

@@ -6,7 +6,7 @@ use Rattle.plan_scope.specs.declared.manifest.Manifest.{Manifest}
 use Rattle.plan_graph.specs.declared.fault.GraphFault.{GraphFault}
 use Rattle.plan_graph.specs.declared.fault.GraphFault.TheVariants.{TwoProducers, Cycle, UnknownDefault, TooManyEdges, Memory}
 use Rattle.plan_ninja.specs.declared.fault.PlanFault.{PlanFault}
-use Rattle.plan_ninja.specs.Faults.{graph_memory, name_of, shown_graph}
+use Rattle.plan_ninja.specs.Faults.{graph_memory, name_of, printed_graph_fault}
 
 abbrev edge : List (List ℕ) → List (List ℕ) → Edge
 edge outputs implicit_outputs = record {
@@ -34,7 +34,7 @@ three = record {
 
 -- a fault of these edges, as it is printed
 abbrev said : GraphFault → PlanFault
-said fault = shown_graph three fault
+said fault = printed_graph_fault three fault
 
 abbrev printed : ℕ → List ℕ → PlanFault
 printed number rest = record { number = number; rest = rest }

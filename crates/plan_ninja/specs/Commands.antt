@@ -12,7 +12,7 @@ use Rattle.plan_graph.specs.Cycles.{AreRanks}
 use Rattle.plan_graph.specs.Graph.{Refuses, all_waits, first_fault}
 use Rattle.plan_graph.specs.declared.fault.GraphFault.{GraphFault}
 use Rattle.plan_ninja.specs.declared.fault.PlanFault.{PlanFault}
-use Rattle.plan_ninja.specs.Faults.{shown, shown_graph, graph_memory, no_memory, output_failed}
+use Rattle.plan_ninja.specs.Faults.{printed_fault, printed_graph_fault, graph_memory, no_memory, output_fault}
 
 -- the manifest has a graph: nothing is at fault, and no edge waits for itself, through others too
 abbrev pub HasGraph : Manifest → Type 0
@@ -37,13 +37,13 @@ pub record RefusesLines (loads : MayLoad) (path : Text) (fault : PlanFault) : Ty
   pub cause : ScopeFault
   pub loaded : loads path (Ok lines)
   pub means : manifest_of lines ≡ Err cause
-  pub says : fault ≡ shown cause
+  pub says : fault ≡ printed_fault cause
 
 -- loading from the path may be refused, for this cause
 pub record RefusesToLoad (loads : MayLoad) (path : Text) (fault : PlanFault) : Type 0 where
   pub cause : ScopeFault
   pub loaded : loads path (Err cause)
-  pub says : fault ≡ shown cause
+  pub says : fault ≡ printed_fault cause
 
 -- the manifest that some lines mean which may be loaded from the path has no graph, for this cause
 pub record RefusesGraph (loads : MayLoad) (path : Text) (fault : PlanFault) : Type 0 where
@@ -53,15 +53,15 @@ pub record RefusesGraph (loads : MayLoad) (path : Text) (fault : PlanFault) : Ty
   pub loaded : loads path (Ok lines)
   pub means : manifest_of lines ≡ Ok manifest
   pub refused : Refuses manifest cause
-  pub says : fault ≡ shown_graph manifest cause
+  pub says : fault ≡ printed_graph_fault manifest cause
 
 -- want of memory, of the loader, the evaluator, the graph or the program
 abbrev pub LacksMemory : PlanFault → Type 0
-LacksMemory fault = (fault ≡ shown LoadMemory) ⊎ ((fault ≡ shown Memory) ⊎ ((fault ≡ graph_memory) ⊎ (fault ≡ no_memory)))
+LacksMemory fault = (fault ≡ printed_fault LoadMemory) ⊎ ((fault ≡ printed_fault Memory) ⊎ ((fault ≡ graph_memory) ⊎ (fault ≡ no_memory)))
 
 -- the manifest has no graph, for the cause that is printed; or memory ran out
 abbrev pub LacksGraph : Manifest → PlanFault → Type 0
-LacksGraph manifest fault = ((cause : GraphFault) × Refuses manifest cause × (fault ≡ shown_graph manifest cause)) ⊎ (fault ≡ no_memory)
+LacksGraph manifest fault = ((cause : GraphFault) × Refuses manifest cause × (fault ≡ printed_graph_fault manifest cause)) ⊎ (fault ≡ no_memory)
 
 -- why there is nothing to print
 abbrev pub IsRefused : MayLoad → Text → PlanFault → Type 0
@@ -79,7 +79,7 @@ pub record FailsToWrite (loads : MayLoad) (path : Text) (old new : ℕ × Option
   pub means : manifest_of lines ≡ Ok manifest
   pub graph : HasGraph manifest
   pub failed : Writes false old new (commands_of manifest)
-  pub says : fault ≡ output_failed
+  pub says : fault ≡ output_fault
 
 -- what may be loaded by what a source may give and which of its reads may fail, where its count of failed reads was this before and is that now
 abbrev pub loading_by : (gives : Text → Option (List ℕ) → Type 0) → (fails : Text → Type 0) → (before now : ℕ) → MayLoad

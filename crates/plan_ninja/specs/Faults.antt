@@ -32,8 +32,8 @@ rest_of LoadMemory = []
 rest_of Memory = []
 
 -- a fault of a manifest, as the program prints it
-abbrev pub shown : ScopeFault → PlanFault
-shown fault = record { number = scopes.number_of fault; rest = rest_of fault }
+abbrev pub printed_fault : ScopeFault → PlanFault
+printed_fault fault = record { number = scopes.number_of fault; rest = rest_of fault }
 
 abbrev pub first_path : List (List ℕ) → List ℕ
 first_path [] = []
@@ -43,25 +43,25 @@ first_path (path ∷ more) = path
 abbrev pub name_of_edge : Edge → List ℕ
 name_of_edge e = first_path (outputs_of e)
 
-abbrev pub name_in : Option Edge → List ℕ
-name_in None = []
-name_in (Some e) = name_of_edge e
+abbrev pub edge_name_if_any : Option Edge → List ℕ
+edge_name_if_any None = []
+edge_name_if_any (Some e) = name_of_edge e
 
 -- the name of the edge of a number
-abbrev pub name_at : List Edge → ℕ → List ℕ
-name_at edges n = name_in (slice_get edges n)
+abbrev pub edge_name_at : List Edge → ℕ → List ℕ
+edge_name_at edges n = edge_name_if_any (slice_get edges n)
 
 -- what is printed behind the name of a fault of a graph: a space, and a path or the names of a cycle's edges
 abbrev pub rest_of_graph : List Edge → GraphFault → List ℕ
 rest_of_graph edges (graph.TwoProducers path) = space ∷ path
-rest_of_graph edges (graph.Cycle es) = space ∷ join_by (name_at edges) (codes " -> ") es
+rest_of_graph edges (graph.Cycle es) = space ∷ join_by (edge_name_at edges) (codes " -> ") es
 rest_of_graph edges (graph.UnknownDefault path) = space ∷ path
 rest_of_graph edges graph.TooManyEdges = []
 rest_of_graph edges graph.Memory = []
 
 -- why a manifest has no graph, as the program prints it
-abbrev pub shown_graph : Manifest → GraphFault → PlanFault
-shown_graph manifest fault = record { number = graphs.number_of fault; rest = rest_of_graph manifest.edges fault }
+abbrev pub printed_graph_fault : Manifest → GraphFault → PlanFault
+printed_graph_fault manifest fault = record { number = graphs.number_of fault; rest = rest_of_graph manifest.edges fault }
 
 -- want of memory while a graph was built
 abbrev pub graph_memory : PlanFault
@@ -72,8 +72,8 @@ abbrev pub no_memory : PlanFault
 no_memory = record { number = 131; rest = [] }
 
 -- a write to the standard output failed
-abbrev pub output_failed : PlanFault
-output_failed = record { number = 133; rest = codes " -" }
+abbrev pub output_fault : PlanFault
+output_fault = record { number = 133; rest = codes " -" }
 
 -- the name of each fault by its number; every other number is want of memory
 abbrev pub names : List (ℕ × List ℕ)

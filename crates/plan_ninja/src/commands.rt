@@ -3,8 +3,8 @@
 ghost use Rattle.std.specs.Prelude.{◌≡◌, ◌⊎◌, IfOk, IfErr, OnOk};
 ghost use Rattle.plan_ninja.specs.Commands.{WritesAll, HasGraph, IsRefused, IsMeant, LacksGraph, FailsToWrite, loading_by};
 
-use crate::fault::{PlanFault, no_memory, output_failed, shown};
-use crate::graph_fault::shown_graph;
+use crate::fault::{PlanFault, no_memory, output_fault, printed_fault};
+use crate::graph_fault::printed_graph_fault;
 use plan_graph::graph;
 use plan_scope::{Manifest, Source, evaluate, load, write_commands};
 use plan_text::Sink;
@@ -21,11 +21,11 @@ fn manifest_at<S: Source>(alloc: Global, source: &mut S, path: &[u8]) -> Result<
 {
     let tree = match load(alloc, source, path) {
         Ok(tree) => tree,
-        Err(fault) => return Err(shown(alloc, &fault)),
+        Err(fault) => return Err(printed_fault(alloc, &fault)),
     };
     match evaluate(alloc, &tree) {
         Ok(manifest) => Ok(manifest),
-        Err(fault) => Err(shown(alloc, &fault)),
+        Err(fault) => Err(printed_fault(alloc, &fault)),
     }
 }
 
@@ -36,7 +36,7 @@ fn check_graph(alloc: Global, manifest: &Manifest) -> Result<(), PlanFault>
 {
     match graph(alloc, manifest) {
         Ok(_) => Ok(()),
-        Err(fault) => Err(shown_graph(alloc, manifest, &fault)),
+        Err(fault) => Err(printed_graph_fault(alloc, manifest, &fault)),
     }
 }
 
@@ -58,7 +58,7 @@ pub fn do_commands<S: Source, W: Sink>(
 {
     let manifest = manifest_at(alloc, source, path)?;
     check_graph(alloc, &manifest)?;
-    let Ok(failed) = output_failed(alloc) else {
+    let Ok(failed) = output_fault(alloc) else {
         return Err(no_memory(alloc));
     };
     let written = write_commands(&manifest, out);

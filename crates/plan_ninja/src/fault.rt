@@ -98,8 +98,8 @@ fn place(alloc: Global, path: &[u8], offset: u64) -> Result<Vec<u8>, AllocError>
 }
 
 /// A write to the standard output failed.
-pub fn output_failed(alloc: Global) -> Result<PlanFault, AllocError>
-    ensures { IfOk result (λ fault. fault ≡ defined.output_failed) }
+pub fn output_fault(alloc: Global) -> Result<PlanFault, AllocError>
+    ensures { IfOk result (λ fault. fault ≡ defined.output_fault) }
 {
     Ok(PlanFault {
         number: 133,
@@ -123,8 +123,8 @@ fn rest_of(alloc: Global, fault: &ScopeFault) -> Result<Vec<u8>, AllocError>
 }
 
 /// A fault of a manifest as it is printed, or want of memory where that finds none.
-pub fn shown(alloc: Global, fault: &ScopeFault) -> PlanFault
-    ensures { (result ≡ defined.shown fault.now) ⊎ (result ≡ defined.no_memory) }
+pub fn printed_fault(alloc: Global, fault: &ScopeFault) -> PlanFault
+    ensures { (result ≡ defined.printed_fault fault.now) ⊎ (result ≡ defined.no_memory) }
 {
     match rest_of(alloc, fault) {
         Ok(rest) => PlanFault {

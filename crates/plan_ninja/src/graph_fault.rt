@@ -25,8 +25,8 @@ fn name_of_edge(edge: &Edge) -> &[u8]
 }
 
 /// The name of the edge of this number.
-fn name_at(edges: &[Edge], number: usize) -> &[u8]
-    ensures { result.now ≡ defined.name_at edges.now number }
+fn edge_name_at(edges: &[Edge], number: usize) -> &[u8]
+    ensures { result.now ≡ defined.edge_name_at edges.now number }
 {
     match edges.get(number) {
         Some(edge) => name_of_edge(edge),
@@ -36,24 +36,24 @@ fn name_at(edges: &[Edge], number: usize) -> &[u8]
 
 /// Appends an arrow and the name of the edge for each of these numbers.
 fn append_names(edges: &[Edge], numbers: &[usize], text: &mut Vec<u8>) -> Result<(), AllocError>
-    ensures { OnOk result (text.new.items ≡ text.old.items ++ flat_map (λ n. codes " -> " ++ defined.name_at edges.now n) numbers.now) }
+    ensures { OnOk result (text.new.items ≡ text.old.items ++ flat_map (λ n. codes " -> " ++ defined.edge_name_at edges.now n) numbers.now) }
 {
     for number in numbers {
         text.extend_from_slice(b" -> ")?;
-        text.extend_from_slice(name_at(edges, *number))?;
+        text.extend_from_slice(edge_name_at(edges, *number))?;
     }
     Ok(())
 }
 
 /// A space, and the names of the edges of these numbers, an arrow between each two.
 fn cycle_text(alloc: Global, edges: &[Edge], numbers: &[usize]) -> Result<Vec<u8>, AllocError>
-    ensures { IfOk result (λ text. text.items ≡ space ∷ join_by (defined.name_at edges.now) (codes " -> ") numbers.now) }
+    ensures { IfOk result (λ text. text.items ≡ space ∷ join_by (defined.edge_name_at edges.now) (codes " -> ") numbers.now) }
 {
     let mut text = Vec::from_slice(alloc, b" ")?;
     match numbers {
         [] => Ok(text),
         [first, more @ ..] => {
-            text.extend_from_slice(name_at(edges, *first))?;
+            text.extend_from_slice(edge_name_at(edges, *first))?;
             append_names(edges, more, &mut text)?;
             Ok(text)
         }
@@ -82,8 +82,8 @@ fn rest_of_graph(alloc: Global, edges: &[Edge], fault: &GraphFault) -> Result<Ve
 }
 
 /// Why a manifest has no graph, as it is printed, or want of memory where that finds none.
-pub fn shown_graph(alloc: Global, manifest: &Manifest, fault: &GraphFault) -> PlanFault
-    ensures { (result ≡ defined.shown_graph manifest.now fault.now) ⊎ (result ≡ defined.no_memory) }
+pub fn printed_graph_fault(alloc: Global, manifest: &Manifest, fault: &GraphFault) -> PlanFault
+    ensures { (result ≡ defined.printed_graph_fault manifest.now fault.now) ⊎ (result ≡ defined.no_memory) }
 {
     match rest_of_graph(alloc, manifest.edges.as_slice(), fault) {
         Ok(rest) => PlanFault {

@@ -14,7 +14,7 @@ mod tests;
 
 use crate::command_line::{Request, request_in, words_in};
 use crate::commands::do_commands;
-use crate::fault::{PlanFault, no_memory, output_failed};
+use crate::fault::{PlanFault, no_memory, output_fault};
 use crate::files::FileSource;
 use clap::Error;
 use clap::error::ErrorKind;
@@ -48,9 +48,9 @@ fn print_commands<R: Files + Print + AllocGlobal>(rt: &R, path: &str) -> Result<
 
 /// The fault of the standard output.
 fn output_failure(alloc: Global) -> PlanFault
-    ensures { (result ≡ defined.output_failed) ⊎ (result ≡ defined.no_memory) }
+    ensures { (result ≡ defined.output_fault) ⊎ (result ≡ defined.no_memory) }
 {
-    match output_failed(alloc) {
+    match output_fault(alloc) {
         Ok(fault) => fault,
         Err(_) => no_memory(alloc),
     }

@@ -1,6 +1,6 @@
 use crate::commands::do_commands;
-use crate::fault::{PlanFault, no_memory, output_failed, shown};
-use crate::graph_fault::shown_graph;
+use crate::fault::{PlanFault, no_memory, output_fault, printed_fault};
+use crate::graph_fault::printed_graph_fault;
 use plan_graph::GraphFault;
 use plan_scope::{Manifest, ScopeFault, Source, SourceFault};
 use plan_text::{Counted, Items, Sink, SinkFault, Tally};
@@ -159,9 +159,9 @@ fn shows_faults_of_graphs(rt: HostRuntime) {
         pools: Items::empty(alloc),
         defaults: Items::empty(alloc),
     };
-    let too_many = shown_graph(alloc, &manifest, &GraphFault::TooManyEdges);
+    let too_many = printed_graph_fault(alloc, &manifest, &GraphFault::TooManyEdges);
     assert_refused(&rt, alloc, &too_many, b"plan: 53 TooManyEdges\n");
-    let memory = shown_graph(alloc, &manifest, &GraphFault::Memory);
+    let memory = printed_graph_fault(alloc, &manifest, &GraphFault::Memory);
     assert_refused(&rt, alloc, &memory, b"plan: 54 Memory\n");
 }
 
@@ -198,19 +198,19 @@ fn says_that_the_output_failed(rt: HostRuntime) {
 fn shows_faults(rt: HostRuntime) -> Result<(), Fail> {
     let alloc = rt.alloc();
     let path = Items::new(Vec::from_slice(alloc, b"d/e f")?);
-    let missing = shown(alloc, &ScopeFault::SourceMissing(path));
+    let missing = printed_fault(alloc, &ScopeFault::SourceMissing(path));
     assert_refused(&rt, alloc, &missing, b"plan: 20 SourceMissing d/e f:0\n");
     assert_refused(
         &rt,
         alloc,
-        &shown(alloc, &ScopeFault::LoadMemory),
+        &printed_fault(alloc, &ScopeFault::LoadMemory),
         b"plan: 22 Memory\n",
     );
     assert_refused(&rt, alloc, &no_memory(alloc), b"plan: 131 Memory\n");
     assert_refused(
         &rt,
         alloc,
-        &output_failed(alloc)?,
+        &output_fault(alloc)?,
         b"plan: 133 FileFault -\n",
     );
     Ok(())

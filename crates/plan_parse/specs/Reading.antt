@@ -88,7 +88,8 @@ path_at p len = lift_fault (pieces_from mode.Path p.at (take len p.bytes))
 abbrev pub path_onto : List Piece → Result (List (List Piece) × Place) ParseFault → Result (List (List Piece) × Place) ParseFault
 path_onto path more = more >>= λ x. Ok (path ∷ x.0, x.1)
 
--- The paths of a list and the place of the first byte that belongs to none, past the bytes to skip (plan_text, Runs). Gaps stand between paths.
+-- The paths of a list and the place of the first byte that belongs to none, past the bytes to skip (plan_text, Runs).
+-- Gaps stand between paths.
 abbrev pub paths_past : ℕ → List ℕ → ℕ → Result (List (List Piece) × Place) ParseFault
 paths_past at [] skip = Ok ([], record { at = at; bytes = [] })
 paths_past at (b ∷ rest) (suc skip) = paths_past (at + 1) rest skip

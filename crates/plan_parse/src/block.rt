@@ -138,7 +138,8 @@ fn binds(line: BlockLine<'_>, name: &[u8]) -> bool
     }
 }
 
-/// What the text of a line of a rule or a pool binds, where `is_bound` says whether a line above it binds the required name.
+/// What the text of a line of a rule or a pool binds, where `is_bound` says whether a line above it binds the required
+/// name.
 fn variable_at(
     alloc: Global,
     block: BlockKind,

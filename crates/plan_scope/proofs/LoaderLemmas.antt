@@ -27,12 +27,12 @@ goes_wider : (next more : RestAnswers) (inner out : Outcome) → ((statements : 
 goes_wider next more (Ok statements) out h r = h statements out r
 goes_wider next more (Err fault) out h r = r
 
-line_wider : (answers wide : FileAnswers) (next more : RestAnswers) → ((path : Text) (scopes : List ℕ) (above : List TreeStatement) (out : Outcome) → answers path scopes above out → wide path scopes above out)
+statement_wider : (answers wide : FileAnswers) (next more : RestAnswers) → ((path : Text) (scopes : List ℕ) (above : List TreeStatement) (out : Outcome) → answers path scopes above out → wide path scopes above out)
     → ((statements : List TreeStatement) (o : Outcome) → next statements o → more statements o)
     → (above : List TreeStatement) (l : TreeStatement) (cause : Option Cause) (file : Option Text) (out : Outcome) → LoadsStatement answers next above l cause file out → LoadsStatement wide more above l cause file out
-line_wider answers wide next more t n above l (Some cause) file out r = r
-line_wider answers wide next more t n above l None None out r = n (above ++ l ∷ []) out r
-line_wider answers wide next more t n above l None (Some file) out r =
+statement_wider answers wide next more t n above l (Some cause) file out r = r
+statement_wider answers wide next more t n above l None None out r = n (above ++ l ∷ []) out r
+statement_wider answers wide next more t n above l None (Some file) out r =
     (r.0, t file (scopes_in above l.scopes l.kind) above r.0 r.1, goes_wider next more r.0 out n r.2)
 
 -- what includes more files loads as much
@@ -41,7 +41,7 @@ all_wider : (answers wide : FileAnswers) → ((path : Text) (scopes : List ℕ) 
     → LoadsStatements answers left path scopes above statements out → LoadsStatements wide left path scopes above statements out
 all_wider answers wide t left path scopes [] above out r = r
 all_wider answers wide t left path scopes (s ∷ more) above out r =
-    line_wider answers wide (λ statements o. LoadsStatements answers left path scopes statements more o) (λ statements o. LoadsStatements wide left path scopes statements more o) t
+    statement_wider answers wide (λ statements o. LoadsStatements answers left path scopes statements more o) (λ statements o. LoadsStatements wide left path scopes statements more o) t
     (λ statements o. all_wider answers wide t left path scopes more statements o) above (record { path = path; scopes = scopes; offset = s.offset; kind = s.kind })
     (cause_to_load left (lookup (bound_by above) scopes) s.kind) (included_by (lookup (bound_by above) scopes) s.kind) out r
 
@@ -67,10 +67,10 @@ within_wider g h m n gh mn zero path scopes above out r =
 within_wider g h m n gh mn (suc left) path scopes above out r =
     file_wider g h m n (LoadsWithin g m left) (LoadsWithin h n left) (suc left) gh mn (within_wider g h m n gh mn left) path scopes above out r
 
-takes_wider : (g h : FileContents) (m n : PathSet) → ((p : Text) (bytes : Option (List ℕ)) → g p bytes → h p bytes) → ((p : Text) → m p → n p)
+includes_wider : (g h : FileContents) (m n : PathSet) → ((p : Text) (bytes : Option (List ℕ)) → g p bytes → h p bytes) → ((p : Text) → m p → n p)
     → (left : ℕ) (path : Text) (scopes : List ℕ) (above : List TreeStatement) (out : Outcome) → includes g m left path scopes above out → includes h n left path scopes above out
-takes_wider g h m n gh mn zero path scopes above out r = r
-takes_wider g h m n gh mn (suc left) path scopes above out r = within_wider g h m n gh mn left path scopes above out r
+includes_wider g h m n gh mn zero path scopes above out r = r
+includes_wider g h m n gh mn (suc left) path scopes above out r = within_wider g h m n gh mn left path scopes above out r
 
 file_is : (g : FileContents) (m : PathSet) (left : ℕ) (path : Text) (scopes : List ℕ) (above : List TreeStatement) (out : Outcome) → LoadsFile g m (includes g m left) left path scopes above out → LoadsWithin g m left path scopes above out
 unfolding LoadsWithin
@@ -122,18 +122,18 @@ parsed_file g h f k b c n left asked path scopes above statements result e gh fk
       r.0,
       subst (λ (p : Text). h p (Some r.0)) e r.1,
       subst (λ (y : Result (List Statement) ParseFault). LoadsParsed (includes h o left) left path scopes above y result) (sym r.2)
-          (all_wider (includes g m left) (includes h o left) (takes_wider g h m o gh mo left) left path scopes statements above result x),
+          (all_wider (includes g m left) (includes h o left) (includes_wider g h m o gh mo left) left path scopes statements above result x),
     ))) a
 
 goes_then : (next more : RestAnswers) (inner : Outcome) (statements : List TreeStatement) (out : Outcome) → ((mid : List TreeStatement) → next mid (Ok statements) → more mid out) → GoesOn next inner (Ok statements) → GoesOn more inner out
 goes_then next more (Ok mid) statements out h r = h mid r
 goes_then next more (Err fault) statements out h r = cc
 
-line_then : (answers : FileAnswers) (next more : RestAnswers) (above : List TreeStatement) (l : TreeStatement) (statements : List TreeStatement) (out : Outcome) → ((mid : List TreeStatement) → next mid (Ok statements) → more mid out)
+statement_then : (answers : FileAnswers) (next more : RestAnswers) (above : List TreeStatement) (l : TreeStatement) (statements : List TreeStatement) (out : Outcome) → ((mid : List TreeStatement) → next mid (Ok statements) → more mid out)
     → (cause : Option Cause) (file : Option Text) → LoadsStatement answers next above l cause file (Ok statements) → LoadsStatement answers more above l cause file out
-line_then answers next more above l statements out h (Some cause) file r = cc
-line_then answers next more above l statements out h None None r = h (above ++ l ∷ []) r
-line_then answers next more above l statements out h None (Some file) r = (r.0, r.1, goes_then next more r.0 statements out h r.2)
+statement_then answers next more above l statements out h (Some cause) file r = cc
+statement_then answers next more above l statements out h None None r = h (above ++ l ∷ []) r
+statement_then answers next more above l statements out h None (Some file) r = (r.0, r.1, goes_then next more r.0 statements out h r.2)
 
 -- statements, and those behind them
 all_then : (answers : FileAnswers) (left : ℕ) (path : Text) (scopes : List ℕ) (front back : List Statement) (above statements : List TreeStatement) (out : Outcome)
@@ -142,7 +142,7 @@ all_then answers left path scopes [] back above statements out r q =
     let e : statements ≡ above = cc in
     subst (λ (x : List TreeStatement). LoadsStatements answers left path scopes x back out) e q
 all_then answers left path scopes (s ∷ more) back above statements out r q =
-    line_then answers (λ mid o. LoadsStatements answers left path scopes mid more o) (λ mid o. LoadsStatements answers left path scopes mid (more ++ back) o) above (record { path = path; scopes = scopes; offset = s.offset; kind = s.kind }) statements out
+    statement_then answers (λ mid o. LoadsStatements answers left path scopes mid more o) (λ mid o. LoadsStatements answers left path scopes mid (more ++ back) o) above (record { path = path; scopes = scopes; offset = s.offset; kind = s.kind }) statements out
     (λ mid x. all_then answers left path scopes more back mid statements out x q)
     (cause_to_load left (lookup (bound_by above) scopes) s.kind) (included_by (lookup (bound_by above) scopes) s.kind) r
 
@@ -160,7 +160,7 @@ one_stops answers more above l fault None (Some file) r = (r.0, r.1, goes_stop m
 one_wider : (g h : FileContents) (m n : PathSet) → ((p : Text) (bytes : Option (List ℕ)) → g p bytes → h p bytes) → ((p : Text) → m p → n p)
     → (left : ℕ) (above : List TreeStatement) (l : TreeStatement) (out : Outcome) → LoadsOne (includes g m left) left above l out → LoadsOne (includes h n left) left above l out
 one_wider g h m n gh mn left above l out r =
-    line_wider (includes g m left) (includes h n left) (λ statements o. o ≡ Ok statements) (λ statements o. o ≡ Ok statements) (takes_wider g h m n gh mn left) (λ statements o x. x) above l
+    statement_wider (includes g m left) (includes h n left) (λ statements o. o ≡ Ok statements) (λ statements o. o ≡ Ok statements) (includes_wider g h m n gh mn left) (λ statements o x. x) above l
     (cause_to_load left (lookup (bound_by above) l.scopes) l.kind) (included_by (lookup (bound_by above) l.scopes) l.kind) out r
 
 -- one more statement is loaded
@@ -184,17 +184,17 @@ stops g h f k b c n left path scopes front s back all above mid fault gh fk e w 
     answers_wider g h f k b c n (λ missing out. LoadsOne (includes g missing left) left mid l out) (λ missing out. LoadsStatements (includes h missing left) left path scopes above all out) (Err fault) gh fk e
     (λ m wide mw x. subst (λ (x : List Statement). LoadsStatements (includes h wide left) left path scopes above x (Err fault)) w
     (all_then (includes h wide left) left path scopes front (s ∷ back) above mid (Err fault)
-    (all_wider (includes h never left) (includes h wide left) (takes_wider h h never wide (λ p bytes x. x) (λ p x. absurd x) left) left path scopes front above (Ok mid) r)
+    (all_wider (includes h never left) (includes h wide left) (includes_wider h h never wide (λ p bytes x. x) (λ p x. absurd x) left) left path scopes front above (Ok mid) r)
     (one_stops (includes h wide left) (λ statements o. LoadsStatements (includes h wide left) left path scopes statements back o) mid l fault
     (cause_to_load left (lookup (bound_by mid) scopes) s.kind) (included_by (lookup (bound_by mid) scopes) s.kind)
     (one_wider g h m wide gh mw left mid l (Err fault) x)))) a
 
 -- a statement that includes a file
-pub takes_file : (g : FileContents) (f : PathSet) (b n left : ℕ) (above : List TreeStatement) (l : TreeStatement) (path : Text) (result : Outcome)
+pub includes_file : (g : FileContents) (f : PathSet) (b n left : ℕ) (above : List TreeStatement) (l : TreeStatement) (path : Text) (result : Outcome)
     → cause_to_load left (lookup (bound_by above) l.scopes) l.kind ≡ None → included_by (lookup (bound_by above) l.scopes) l.kind ≡ Some path → 0 < left
     → Answers g f b n (λ missing out. LoadsWithin g missing (left - 1) path (scopes_in above l.scopes l.kind) above out) result
     → Answers g f b n (λ missing out. LoadsOne (includes g missing left) left above l out) result
-takes_file g f b n left above l path result none some lt a =
+includes_file g f b n left above l path result none some lt a =
     let one : suc (left - 1) ≡ left = omega (arith, lt) in
     answers_wider g g f f b b n (λ missing out. LoadsWithin g missing (left - 1) path (scopes_in above l.scopes l.kind) above out)
     (λ missing out. LoadsOne (includes g missing left) left above l out) result (λ p bytes x. x) (λ p x. x) refl
@@ -242,8 +242,8 @@ same_short a b le (inl e) = e
 same_short a b le (inr h) = let f : ⊥ = omega (arith, le, h.0) in absurd f
 
 -- a path that is taken
-pub path_taken : (left : ℕ) (a b x : Text) → kept a ≡ kept b → ((left ≡ 0) → ⊥) → is_empty a ≡ false → length a ≤ max_path → x ≡ a → (cause_of_path left b ≡ None) × (Some b ≡ Some x)
-path_taken left a b x k n e le f = (
+pub path_included : (left : ℕ) (a b x : Text) → kept a ≡ kept b → ((left ≡ 0) → ⊥) → is_empty a ≡ false → length a ≤ max_path → x ≡ a → (cause_of_path left b ≡ None) × (Some b ≡ Some x)
+path_included left a b x k n e le f = (
   sym (same_cause left a b (same_from_kept a b k))
       ∙ (ap (λ (t : Bool). three t (is_empty a) (is_long_path a)) (ne_eqb left 0 n)
       ∙ (ap (λ (t : Bool). three false t (is_long_path a)) e

@@ -30,8 +30,8 @@ IsAnsweredWhole (Err fault) = Unit {0}
 abbrev KeepsWhole : RestAnswers → Type 0
 KeepsWhole next = (statements : List TreeStatement) (out : Outcome) → AreWhole statements → next statements out → IsAnsweredWhole out
 
-abbrev TakesWhole : FileAnswers → Type 0
-TakesWhole answers = (path : Text) (scopes : List ℕ) → KeepsWhole (answers path scopes)
+abbrev FileKeepsWhole : FileAnswers → Type 0
+FileKeepsWhole answers = (path : Text) (scopes : List ℕ) → KeepsWhole (answers path scopes)
 
 one_more : (above : List TreeStatement) (l : TreeStatement) → AreWhole above → IsWholeKind l.kind → AreWhole (above ++ l ∷ [])
 one_more [] l a w = (w, tt {0})
@@ -44,46 +44,46 @@ goes_whole : (next : RestAnswers) → KeepsWhole next → (inner out : Outcome) 
 goes_whole next n (Ok statements) out a r = n statements out a r
 goes_whole next n (Err fault) out a r = fault_whole fault out r
 
-line_whole : (answers : FileAnswers) (next : RestAnswers) → TakesWhole answers → KeepsWhole next → (above : List TreeStatement) (l : TreeStatement) (cause : Option Cause) (file : Option Text) (out : Outcome)
+statement_whole : (answers : FileAnswers) (next : RestAnswers) → FileKeepsWhole answers → KeepsWhole next → (above : List TreeStatement) (l : TreeStatement) (cause : Option Cause) (file : Option Text) (out : Outcome)
     → AreWhole above → IsWholeKind l.kind → LoadsStatement answers next above l cause file out → IsAnsweredWhole out
-line_whole answers next t n above l (Some cause) file out a w r = subst IsAnsweredWhole (sym r) (tt {0})
-line_whole answers next t n above l None None out a w r = n (above ++ l ∷ []) out (one_more above l a w) r
-line_whole answers next t n above l None (Some file) out a w r = goes_whole next n r.0 out (t file (scopes_in above l.scopes l.kind) above r.0 a r.1) r.2
+statement_whole answers next t n above l (Some cause) file out a w r = subst IsAnsweredWhole (sym r) (tt {0})
+statement_whole answers next t n above l None None out a w r = n (above ++ l ∷ []) out (one_more above l a w) r
+statement_whole answers next t n above l None (Some file) out a w r = goes_whole next n r.0 out (t file (scopes_in above l.scopes l.kind) above r.0 a r.1) r.2
 
-all_whole : (answers : FileAnswers) → TakesWhole answers → (left : ℕ) (path : Text) (scopes : List ℕ) (statements : List Statement) (above : List TreeStatement) (out : Outcome)
+all_whole : (answers : FileAnswers) → FileKeepsWhole answers → (left : ℕ) (path : Text) (scopes : List ℕ) (statements : List Statement) (above : List TreeStatement) (out : Outcome)
     → AllByRecursion IsWhole statements → AreWhole above → LoadsStatements answers left path scopes above statements out → IsAnsweredWhole out
 all_whole answers t left path scopes [] above out w a r = subst IsAnsweredWhole (sym r) a
 all_whole answers t left path scopes (s ∷ more) above out w a r =
-    line_whole answers (λ statements o. LoadsStatements answers left path scopes statements more o) t (λ statements o b x. all_whole answers t left path scopes more statements o w.1 b x) above
+    statement_whole answers (λ statements o. LoadsStatements answers left path scopes statements more o) t (λ statements o b x. all_whole answers t left path scopes more statements o w.1 b x) above
     (record { path = path; scopes = scopes; offset = s.offset; kind = s.kind }) (cause_to_load left (lookup (bound_by above) scopes) s.kind) (included_by (lookup (bound_by above) scopes) s.kind) out a w.0 r
 
-parsed_whole : (answers : FileAnswers) → TakesWhole answers → (left : ℕ) (path : Text) (scopes : List ℕ) (above : List TreeStatement) (parsed : Result (List Statement) ParseFault) (out : Outcome)
+parsed_whole : (answers : FileAnswers) → FileKeepsWhole answers → (left : ℕ) (path : Text) (scopes : List ℕ) (above : List TreeStatement) (parsed : Result (List Statement) ParseFault) (out : Outcome)
     → ((statements : List Statement) → parsed ≡ Ok statements → AllByRecursion IsWhole statements) → AreWhole above → LoadsParsed answers left path scopes above parsed out → IsAnsweredWhole out
 parsed_whole answers t left path scopes above (Ok statements) out w a r = all_whole answers t left path scopes statements above out (w statements refl) a r
 parsed_whole answers t left path scopes above (Err fault) out w a r = subst IsAnsweredWhole (sym r) (tt {0})
 
-file_whole : StatementsAreWhole → (g : FileContents) (m : PathSet) (answers : FileAnswers) → TakesWhole answers → (left : ℕ) → TakesWhole (LoadsFile g m answers left)
+file_whole : StatementsAreWhole → (g : FileContents) (m : PathSet) (answers : FileAnswers) → FileKeepsWhole answers → (left : ℕ) → FileKeepsWhole (LoadsFile g m answers left)
 file_whole s g m answers t left path scopes above out a (inl r) = subst IsAnsweredWhole (sym r.0) (tt {0})
 file_whole s g m answers t left path scopes above out a (inr r) = parsed_whole answers t left path scopes above (statements_of r.0) out (s r.0) a r.2
 
-within_whole : StatementsAreWhole → (g : FileContents) (m : PathSet) (left : ℕ) → TakesWhole (LoadsWithin g m left)
+within_whole : StatementsAreWhole → (g : FileContents) (m : PathSet) (left : ℕ) → FileKeepsWhole (LoadsWithin g m left)
 unfolding LoadsWithin
 within_whole s g m zero path scopes above out a r = file_whole s g m (λ path scopes above out. ⊥) (λ path scopes above out a x. absurd x) 0 path scopes above out a r
 within_whole s g m (suc left) path scopes above out a r = file_whole s g m (LoadsWithin g m left) (within_whole s g m left) (suc left) path scopes above out a r
 
-line_makes : (k : StatementKind) → IsWholeKind k → All MakesSome (builds_in k)
-line_makes (kind.Build b) w = All-cons MakesSome b [] w (All-nil MakesSome)
-line_makes (kind.Rule r) w = All-nil MakesSome
-line_makes (kind.Pool p) w = All-nil MakesSome
-line_makes (kind.Default targets) w = All-nil MakesSome
-line_makes (kind.Include path) w = All-nil MakesSome
-line_makes (kind.Subninja path) w = All-nil MakesSome
-line_makes (kind.Binding b) w = All-nil MakesSome
+kind_makes : (k : StatementKind) → IsWholeKind k → All MakesSome (builds_in k)
+kind_makes (kind.Build b) w = All-cons MakesSome b [] w (All-nil MakesSome)
+kind_makes (kind.Rule r) w = All-nil MakesSome
+kind_makes (kind.Pool p) w = All-nil MakesSome
+kind_makes (kind.Default targets) w = All-nil MakesSome
+kind_makes (kind.Include path) w = All-nil MakesSome
+kind_makes (kind.Subninja path) w = All-nil MakesSome
+kind_makes (kind.Binding b) w = All-nil MakesSome
 
-lines_make : (statements : List TreeStatement) → AreWhole statements → All MakesSome (builds_of statements)
-lines_make [] w = All-nil MakesSome
-lines_make (l ∷ more) w = All-append MakesSome (builds_in l.kind) (builds_of more) (line_makes l.kind w.0) (lines_make more w.1)
+statements_make : (statements : List TreeStatement) → AreWhole statements → All MakesSome (builds_of statements)
+statements_make [] w = All-nil MakesSome
+statements_make (l ∷ more) w = All-append MakesSome (builds_in l.kind) (builds_of more) (kind_makes l.kind w.0) (statements_make more w.1)
 
 -- each build line of a tree that is loaded has an output
 pub loaded_makes : StatementsAreWhole → (g : FileContents) (m : PathSet) (path : Text) (statements : List TreeStatement) → LoadsFirst g m path (Ok statements) → All MakesSome (builds_of statements)
-loaded_makes s g m path statements r = lines_make statements (within_whole s g m 63 path (0 ∷ []) [] (Ok statements) (tt {0}) r)
+loaded_makes s g m path statements r = statements_make statements (within_whole s g m 63 path (0 ∷ []) [] (Ok statements) (tt {0}) r)

@@ -1,5 +1,5 @@
 -- The paths of a build line, as the code holds them.
-use Rattle.std.specs.Prelude.{◌≡◌, Bool, List, [], ◌∷◌, ◌++◌, map, Option}
+use Rattle.std.specs.Prelude.{◌≡◌, Bool, List, [], ◌∷◌, map, Option}
 use Rattle.std.specs.List.{list_any}
 use Rattle.plan_scope.specs.declared.edge.paths.Paths.{Paths}
 use Rattle.plan_scope.specs.declared.edge.paths.PathTexts.{PathTexts}

@@ -5,6 +5,7 @@ mod defaults;
 pub(crate) mod evaluator;
 pub(crate) mod pool_names;
 mod pools;
+mod rules;
 
 use plan_text::{Items, SmallText};
 

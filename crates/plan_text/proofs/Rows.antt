@@ -10,169 +10,169 @@ use Rattle.plan_text.specs.Path.{canonical_of, is_normal}
 use Rattle.plan_text.specs.Lines.{lines_of, raw_lines}
 use Rattle.plan_text.specs.declared.line_reader.Line.{Line}
 
-path_1 : canonical_of (codes "a/../../b//./c/") ≡ Ok (codes "../b/c")
-path_1 = refl
+parents_past_the_front : canonical_of (codes "a/../../b//./c/") ≡ Ok (codes "../b/c")
+parents_past_the_front = refl
 
-path_2 : canonical_of (codes "/../x") ≡ Ok (codes "/x")
-path_2 = refl
+parent_behind_the_root : canonical_of (codes "/../x") ≡ Ok (codes "/x")
+parent_behind_the_root = refl
 
-path_3 : canonical_of (codes "a/..") ≡ Ok (codes ".")
-path_3 = refl
+nothing_left_is_a_dot : canonical_of (codes "a/..") ≡ Ok (codes ".")
+nothing_left_is_a_dot = refl
 
-path_4 : canonical_of [] ≡ Err EmptyPath
-path_4 = refl
+empty_path : canonical_of [] ≡ Err EmptyPath
+empty_path = refl
 
-path_5 : canonical_of (codes "/..") ≡ Ok (codes "/")
-path_5 = refl
+root_is_its_parent : canonical_of (codes "/..") ≡ Ok (codes "/")
+root_is_its_parent = refl
 
 -- `a$!`, and the right sides and paths of the worked examples
-piece_1 : pieces_of Value (codes "a$!") ≡ Err (BadEscape 1)
-piece_1 = refl
+no_such_escape : pieces_of Value (codes "a$!") ≡ Err (BadEscape 1)
+no_such_escape = refl
 
-piece_2 : pieces_of Path (codes "other$ file") ≡ Ok (Literal (codes "other file") ∷ [])
-piece_2 = refl
+escaped_space : pieces_of Path (codes "other$ file") ≡ Ok (Literal (codes "other file") ∷ [])
+escaped_space = refl
 
-piece_3 : pieces_of Path (codes "$spaced/baz") ≡ Ok (Reference (codes "spaced") ∷ Literal (codes "/baz") ∷ [])
-piece_3 = refl
+name_behind_a_dollar : pieces_of Path (codes "$spaced/baz") ≡ Ok (Reference (codes "spaced") ∷ Literal (codes "/baz") ∷ [])
+name_behind_a_dollar = refl
 
-piece_4 : pieces_of Value (codes "a${x.y}$$b$x.c") ≡ Ok (Literal (codes "a") ∷ Reference (codes "x.y") ∷ Literal (codes "$b") ∷ Reference (codes "x") ∷ Literal (codes ".c") ∷ [])
-piece_4 = refl
+dots_in_braces_alone : pieces_of Value (codes "a${x.y}$$b$x.c") ≡ Ok (Literal (codes "a") ∷ Reference (codes "x.y") ∷ Literal (codes "$b") ∷ Reference (codes "x") ∷ Literal (codes ".c") ∷ [])
+dots_in_braces_alone = refl
 
-piece_5 : pieces_of Value (97 ∷ 36 ∷ 13 ∷ 10 ∷ 32 ∷ 32 ∷ 98 ∷ []) ≡ Ok (Literal (codes "ab") ∷ [])
-piece_5 = refl
+continued_behind_cr_lf : pieces_of Value (97 ∷ 36 ∷ 13 ∷ 10 ∷ 32 ∷ 32 ∷ 98 ∷ []) ≡ Ok (Literal (codes "ab") ∷ [])
+continued_behind_cr_lf = refl
 
-piece_6 : pieces_of Path (97 ∷ 9 ∷ []) ≡ Err (TabBlank 1)
-piece_6 = refl
+tab_in_a_path : pieces_of Path (97 ∷ 9 ∷ []) ≡ Err (TabBlank 1)
+tab_in_a_path = refl
 
-piece_7 : pieces_of Value (codes "ab${x") ≡ Err (BadEscape 2)
-piece_7 = refl
+brace_not_closed : pieces_of Value (codes "ab${x") ≡ Err (BadEscape 2)
+brace_not_closed = refl
 
 line : ℕ → ℕ → ℕ → Line
 line indent start stop = record { indent = indent; start = start; «end» = stop }
 
 -- `x = 1`, newline, blank line, a comment that ends in `$`, `  y`
-line_1 : lines_of (codes "x = 1" ++ 10 ∷ 32 ∷ 10 ∷ codes "# c$" ++ 10 ∷ codes "  y") ≡ Ok (line 0 0 5 ∷ line 2 15 16 ∷ [])
+blank_line_and_comment : lines_of (codes "x = 1" ++ 10 ∷ 32 ∷ 10 ∷ codes "# c$" ++ 10 ∷ codes "  y") ≡ Ok (line 0 0 5 ∷ line 2 15 16 ∷ [])
 unfolding line
-line_1 = refl
+blank_line_and_comment = refl
 
 -- a line that is continued, ended by CR LF
-line_2 : lines_of (codes "a$" ++ 10 ∷ codes "# b" ++ 13 ∷ 10 ∷ codes "c$$" ++ 10 ∷ codes "d") ≡ Ok (line 0 0 6 ∷ line 0 8 11 ∷ line 0 12 13 ∷ [])
+hash_behind_a_continuation : lines_of (codes "a$" ++ 10 ∷ codes "# b" ++ 13 ∷ 10 ∷ codes "c$$" ++ 10 ∷ codes "d") ≡ Ok (line 0 0 6 ∷ line 0 8 11 ∷ line 0 12 13 ∷ [])
 unfolding line
-line_2 = refl
+hash_behind_a_continuation = refl
 
-line_3 : lines_of (codes "a" ++ 10 ∷ 32 ∷ 9 ∷ codes "b") ≡ Err (TabBlank 3)
-line_3 = refl
+tab_behind_an_indent : lines_of (codes "a" ++ 10 ∷ 32 ∷ 9 ∷ codes "b") ≡ Err (TabBlank 3)
+tab_behind_an_indent = refl
 
-line_4 : lines_of (codes "a" ++ 10 ∷ codes "# x" ++ 0 ∷ codes "b") ≡ Err (NulByte 5)
-line_4 = refl
+nul_in_a_comment : lines_of (codes "a" ++ 10 ∷ codes "# x" ++ 0 ∷ codes "b") ≡ Err (NulByte 5)
+nul_in_a_comment = refl
 
 -- a line of a continuation alone; an indent is of spaces alone
-line_5 : lines_of (36 ∷ 10 ∷ []) ≡ Ok (line 0 0 2 ∷ [])
+dollar_and_newline_alone : lines_of (36 ∷ 10 ∷ []) ≡ Ok (line 0 0 2 ∷ [])
 unfolding line
-line_5 = refl
+dollar_and_newline_alone = refl
 
-line_6 : lines_of (32 ∷ 36 ∷ 10 ∷ []) ≡ Ok (line 1 1 3 ∷ [])
+dollar_behind_an_indent : lines_of (32 ∷ 36 ∷ 10 ∷ []) ≡ Ok (line 1 1 3 ∷ [])
 unfolding line
-line_6 = refl
+dollar_behind_an_indent = refl
 
-line_7 : lines_of (codes "x = $" ++ 10 ∷ codes "  1") ≡ Ok (line 0 0 9 ∷ [])
+continued_line : lines_of (codes "x = $" ++ 10 ∷ codes "  1") ≡ Ok (line 0 0 9 ∷ [])
 unfolding line
-line_7 = refl
+continued_line = refl
 
 -- behind a continuation `#` begins no comment
-line_8 : lines_of (36 ∷ 10 ∷ codes "# c") ≡ Ok (line 0 0 5 ∷ [])
+dollar_before_a_comment : lines_of (36 ∷ 10 ∷ codes "# c") ≡ Ok (line 0 0 5 ∷ [])
 unfolding line
-line_8 = refl
+dollar_before_a_comment = refl
 
-path_6 : canonical_of (codes ".") ≡ Ok (codes ".")
-path_6 = refl
+dot_path : canonical_of (codes ".") ≡ Ok (codes ".")
+dot_path = refl
 
-path_7 : canonical_of (codes "./") ≡ Ok (codes ".")
-path_7 = refl
+dot_and_slash : canonical_of (codes "./") ≡ Ok (codes ".")
+dot_and_slash = refl
 
-path_8 : canonical_of (codes "/") ≡ Ok (codes "/")
-path_8 = refl
+root_path : canonical_of (codes "/") ≡ Ok (codes "/")
+root_path = refl
 
-path_9 : canonical_of (codes "//a") ≡ Ok (codes "/a")
-path_9 = refl
+two_slashes : canonical_of (codes "//a") ≡ Ok (codes "/a")
+two_slashes = refl
 
-path_10 : canonical_of (codes "a/./b") ≡ Ok (codes "a/b")
-path_10 = refl
+dot_between : canonical_of (codes "a/./b") ≡ Ok (codes "a/b")
+dot_between = refl
 
-path_11 : canonical_of (codes "../..") ≡ Ok (codes "../..")
-path_11 = refl
+parents_alone : canonical_of (codes "../..") ≡ Ok (codes "../..")
+parents_alone = refl
 
-path_12 : canonical_of (codes "..a") ≡ Ok (codes "..a")
-path_12 = refl
+two_dots_and_a_name : canonical_of (codes "..a") ≡ Ok (codes "..a")
+two_dots_and_a_name = refl
 
-path_13 : canonical_of (codes "a/b/../../..") ≡ Ok (codes "..")
-path_13 = refl
+more_parents_than_names : canonical_of (codes "a/b/../../..") ≡ Ok (codes "..")
+more_parents_than_names = refl
 
 -- a `$` at the end, and `${}`, begin no escape
-piece_8 : pieces_of Value (codes "ab$") ≡ Err (BadEscape 2)
-piece_8 = refl
+dollar_at_the_end : pieces_of Value (codes "ab$") ≡ Err (BadEscape 2)
+dollar_at_the_end = refl
 
-piece_9 : pieces_of Value (codes "a${}") ≡ Err (BadEscape 1)
-piece_9 = refl
+no_name_in_braces : pieces_of Value (codes "a${}") ≡ Err (BadEscape 1)
+no_name_in_braces = refl
 
 -- a CR alone is a byte like others
-piece_10 : pieces_of Path (97 ∷ 13 ∷ 98 ∷ []) ≡ Ok (Literal (97 ∷ 13 ∷ 98 ∷ []) ∷ [])
-piece_10 = refl
+cr_is_a_byte : pieces_of Path (97 ∷ 13 ∷ 98 ∷ []) ≡ Ok (Literal (97 ∷ 13 ∷ 98 ∷ []) ∷ [])
+cr_is_a_byte = refl
 
-piece_11 : pieces_of Value (97 ∷ 36 ∷ 13 ∷ 98 ∷ []) ≡ Err (BadEscape 1)
-piece_11 = refl
+dollar_before_a_cr : pieces_of Value (97 ∷ 36 ∷ 13 ∷ 98 ∷ []) ≡ Err (BadEscape 1)
+dollar_before_a_cr = refl
 
 -- a newline behind `$`, and the spaces behind that, give no bytes
-piece_12 : pieces_of Value (36 ∷ 13 ∷ 10 ∷ 32 ∷ 32 ∷ []) ≡ Ok []
-piece_12 = refl
+continuation_alone : pieces_of Value (36 ∷ 13 ∷ 10 ∷ 32 ∷ 32 ∷ []) ≡ Ok []
+continuation_alone = refl
 
-piece_13 : pieces_of Value (36 ∷ 10 ∷ 32 ∷ 9 ∷ []) ≡ Ok (Literal (9 ∷ []) ∷ [])
-piece_13 = refl
+tab_behind_a_continuation : pieces_of Value (36 ∷ 10 ∷ 32 ∷ 9 ∷ []) ≡ Ok (Literal (9 ∷ []) ∷ [])
+tab_behind_a_continuation = refl
 
-piece_14 : pieces_of Value (97 ∷ 0 ∷ 98 ∷ []) ≡ Err (NulByte 1)
-piece_14 = refl
+nul_in_a_value : pieces_of Value (97 ∷ 0 ∷ 98 ∷ []) ≡ Err (NulByte 1)
+nul_in_a_value = refl
 
-piece_15 : pieces_of Value (97 ∷ 9 ∷ 98 ∷ []) ≡ Ok (Literal (97 ∷ 9 ∷ 98 ∷ []) ∷ [])
-piece_15 = refl
+tab_in_a_value : pieces_of Value (97 ∷ 9 ∷ 98 ∷ []) ≡ Ok (Literal (97 ∷ 9 ∷ 98 ∷ []) ∷ [])
+tab_in_a_value = refl
 
-piece_16 : pieces_of Value (codes "$a.b") ≡ Ok (Reference (codes "a") ∷ Literal (codes ".b") ∷ [])
-piece_16 = refl
+dot_ends_a_bare_name : pieces_of Value (codes "$a.b") ≡ Ok (Reference (codes "a") ∷ Literal (codes ".b") ∷ [])
+dot_ends_a_bare_name = refl
 
 -- a CR alone ends no line
-line_9 : lines_of (97 ∷ 13 ∷ 98 ∷ 10 ∷ 99 ∷ []) ≡ Ok (line 0 0 3 ∷ line 0 4 5 ∷ [])
+cr_in_a_line : lines_of (97 ∷ 13 ∷ 98 ∷ 10 ∷ 99 ∷ []) ≡ Ok (line 0 0 3 ∷ line 0 4 5 ∷ [])
 unfolding line
-line_9 = refl
+cr_in_a_line = refl
 
 -- bytes that are escaped, and what they are then
-escape_1 : escape_bytes (codes "a b$c:d") ≡ codes "a$ b$$c$:d"
-escape_1 = refl
+bytes_with_escapes : escape_bytes (codes "a b$c:d") ≡ codes "a$ b$$c$:d"
+bytes_with_escapes = refl
 
-escape_2 : pieces_of Path (codes "a$ b$$c$:d") ≡ Ok (literal_of (codes "a b$c:d"))
-escape_2 = refl
+escapes_read : pieces_of Path (codes "a$ b$$c$:d") ≡ Ok (literal_of (codes "a b$c:d"))
+escapes_read = refl
 
 -- numbers in digits: a bound, zeros in front, and what is none
-number_1 : number_in 1000000 (codes "1000000") ≡ Some 1000000
-number_1 = refl
+greatest_number : number_in 1000000 (codes "1000000") ≡ Some 1000000
+greatest_number = refl
 
-number_2 : number_in 1000000 (codes "1000001") ≡ None
-number_2 = refl
+number_one_too_great : number_in 1000000 (codes "1000001") ≡ None
+number_one_too_great = refl
 
-number_3 : number_in 9 (codes "007") ≡ Some 7
-number_3 = refl
+zeros_in_front : number_in 9 (codes "007") ≡ Some 7
+zeros_in_front = refl
 
-number_4 : number_in 9 [] ≡ None
-number_4 = refl
+no_digit : number_in 9 [] ≡ None
+no_digit = refl
 
-number_5 : number_in 9 (codes "1x") ≡ None
-number_5 = refl
+digits_and_a_letter : number_in 9 (codes "1x") ≡ None
+digits_and_a_letter = refl
 
 -- ordinary parts
-part_1 : is_normal (codes "..a") ≡ true
-part_1 = refl
+name_with_dots : is_normal (codes "..a") ≡ true
+name_with_dots = refl
 
-part_2 : is_normal (codes "..") ≡ false
-part_2 = refl
+parent_is_not_normal : is_normal (codes "..") ≡ false
+parent_is_not_normal = refl
 
 -- the first line of a text, continued and ended by CR LF
-first_1 : raw_lines (codes "a$" ++ 10 ∷ codes "b" ++ 13 ∷ 10 ∷ codes "c") ≡ record { at = 0; bytes = codes "a$" ++ 10 ∷ codes "b" } ∷ record { at = 6; bytes = codes "c" } ∷ []
-first_1 = refl
+lines_with_their_newlines : raw_lines (codes "a$" ++ 10 ∷ codes "b" ++ 13 ∷ 10 ∷ codes "c") ≡ record { at = 0; bytes = codes "a$" ++ 10 ∷ codes "b" } ∷ record { at = 6; bytes = codes "c" } ∷ []
+lines_with_their_newlines = refl

@@ -16,12 +16,13 @@ pub struct Front {
 
 impl Model for Front {
     ghost use Rattle.std.specs.Prelude.{◌≤◌, List, ℕ, take};
+    ghost use Rattle.plan_text.specs.declared.front.TheConstants.{ROOM};
 
     ghost Value = { List ℕ };
 
     ghost view = { λ s. take s.len s.array };
 
-    ghost invariant = { λ s. s.len ≤ 30 };
+    ghost invariant = { λ s. s.len ≤ ROOM };
 }
 
 impl Front {

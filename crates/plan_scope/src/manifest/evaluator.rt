@@ -1,16 +1,16 @@
 //! What the statements of a tree mean.
 
-ghost use Rattle.std.specs.Prelude.{◌≡◌, ◌≢◌, ◌≤◌, ◌+◌, ◌||◌, ℕ, List, [], ◌∷◌, ◌++◌, length, OnOk, IfOk, bytes_eq, codes, option_map};
+ghost use Rattle.std.specs.Prelude.{◌≡◌, ◌≢◌, ◌≤◌, ◌+◌, ℕ, List, [], ◌∷◌, ◌++◌, length, OnOk, IfOk, option_map};
 ghost use Rattle.plan_text.specs.Outcome.{Meets};
 ghost use Rattle.plan_parse.specs.declared.statement.Binding.{Binding};
 ghost use Rattle.plan_parse.specs.declared.statement.StatementKind.TheVariants as kinds;
 ghost use Rattle.plan_scope.specs.Trees.{TreeStatement as StatementMeant};
-ghost use Rattle.plan_scope.specs.Scopes.{Name, Text, expand, in_own, lookup};
-ghost use Rattle.plan_scope.specs.Edges.{edge_of_build, builds_in, builds_of, console, defaults_alone, edge_alone, edge_of_rule, manifest_of_kind, manifest_past, has_own, is_among, is_taken, late, manifest_of, map_ok, paths_of, pool_alone, pool_by, targets_by, with_front};
-ghost use Rattle.plan_scope.specs.Kept.{EqScoped, EqNames, KeptEqLookup};
+ghost use Rattle.plan_scope.specs.Scopes.{Name, Text, expand, lookup};
+ghost use Rattle.plan_scope.specs.Edges.{edge_of_build, builds_in, builds_of, console, defaults_alone, edge_alone, edge_of_rule, manifest_of_kind, manifest_past, is_among, manifest_of, map_ok, paths_of, pool_alone, pool_by, targets_by, with_front};
+ghost use Rattle.plan_scope.specs.Kept.{EqNames, KeptEqLookup};
 ghost use Rattle.plan_scope.specs.ScopeNames.{names_in};
 ghost use Rattle.plan_scope.specs.Outcomes.{Gives};
-ghost use Rattle.plan_scope.specs.Evaluation.{Declares, Fits, GivesMore, IsLocated, Knows, manifest_in, own_of};
+ghost use Rattle.plan_scope.specs.Evaluation.{Fits, GivesMore, IsLocated, Knows, manifest_in};
 
 use crate::edge::build_line::{edge, phony_edge};
 use crate::edge::rule_variables::RuleVariables;
@@ -18,12 +18,13 @@ use crate::fault::{Cause, ScopeFault, StatementFault};
 use crate::manifest::defaults::targets;
 use crate::manifest::pool_names::{CONSOLE, PoolNames};
 use crate::manifest::pools::pool;
+use crate::manifest::rules::{declare, is_phony};
 use crate::manifest::{DefaultTarget, Edge, Manifest, Pool};
 use crate::scope::scoped_map::ScopedMap;
 use crate::scope::text::copy_of;
 use crate::scope::{Scope, bind_statement};
 use crate::tree::{Tree, TreeStatement};
-use plan_parse::{Build, Rule, StatementKind};
+use plan_parse::{Build, StatementKind};
 use plan_text::{Items, PieceList};
 use std::alloc::{AllocError, Global};
 
@@ -116,73 +117,6 @@ fn initial_evaluation<'a>(alloc: Global, edges: usize) -> Result<Evaluation<'a>,
         pools,
         defaults: Vec::new(alloc),
     })
-}
-
-/// The own scope of a statement.
-fn own_scope(scopes: &[usize]) -> Option<usize>
-    ensures { result ≡ own_of scopes.now }
-{
-    match scopes {
-        [] => None,
-        [own, ..] => Some(*own),
-    }
-}
-
-/// Whether the own scope of a statement has a rule of this name.
-fn has_own<'a>(rules: &ScopedMap<RuleVariables<'a>>, scopes: &[usize], name: &[u8]) -> bool
-    ensures { result ≡ has_own rules.now scopes.now name.now }
-{
-    match own_scope(scopes) {
-        Some(own) => rules.own(own, name).is_some(),
-        None => false,
-    }
-}
-
-/// Whether a rule's name is that of edges without a command.
-fn is_phony(name: &[u8]) -> bool
-    ensures { result ≡ bytes_eq name.now (codes "phony") }
-{
-    name == b"phony".as_slice()
-}
-
-/// Whether no rule may be declared under this name.
-fn is_taken<'a>(rules: &ScopedMap<RuleVariables<'a>>, scopes: &[usize], name: &[u8]) -> bool
-    ensures { result ≡ is_taken rules.now scopes.now name.now }
-{
-    is_phony(name) || has_own(rules, scopes, name)
-}
-
-/// Gives a rule its name in the own scope of a statement.
-fn insert_rule<'a>(
-    alloc: Global,
-    rules: &mut ScopedMap<RuleVariables<'a>>,
-    scopes: &[usize],
-    rule: &'a Rule,
-) -> Result<(), AllocError>
-    ensures { OnOk result (EqScoped rules.new (rules.old ++ in_own scopes.now rule.now.name (late rule.now.bindings))) }
-{
-    let Some(own) = own_scope(scopes) else {
-        return Ok(());
-    };
-    let variables = RuleVariables::new(alloc, rule.bindings.as_slice())?;
-    rules.set(alloc, own, rule.name.as_slice(), variables)
-}
-
-/// Declares a rule for the build lines below it.
-fn declare<'a>(
-    alloc: Global,
-    rules: &mut ScopedMap<RuleVariables<'a>>,
-    scopes: &[usize],
-    rule: &'a Rule,
-) -> Result<(), StatementFault>
-    ensures taken { Declares result (is_taken rules.old scopes.now rule.now.name) }
-    ensures known { OnOk result (EqScoped rules.new (rules.old ++ in_own scopes.now rule.now.name (late rule.now.bindings))) }
-{
-    if is_taken(rules, scopes, rule.name.as_slice()) {
-        return Err(StatementFault::Refused(Cause::DuplicateRule));
-    }
-    insert_rule(alloc, rules, scopes, rule)?;
-    Ok(())
 }
 
 /// The edge of a build line whose rule was looked up.

@@ -11,7 +11,7 @@ pub returns-then-file-clause-table : goal.returns-then-file-clause-table
 returns-then-file-clause-table c =
     let files = c.args.files.now in
     let path = c.args.path.now in
-    let there = c.at-file.ensures ∙ file_there files c.named.new.self path c.in_ok-at.at c.in_ok-at.ensures.table c.in_ok-at.ensures.number in
+    let there = c.at-file.ensures ∙ file_there files c.intern.new.self path c.in_ok-at.at c.in_ok-at.ensures.table c.in_ok-at.ensures.number in
     ap okay (ap (with_file files path) (used_stays c.args.own (file_of path files) (ap (λ (f : File). f.is_used) (sym there) ∙ c.if-file.true)) ∙ sym c.in_ok-at.ensures.table)
 
 pub returns-clause-table : goal.returns-clause-table
@@ -20,9 +20,9 @@ returns-clause-table c =
     let path = c.args.path.now in
     let own = c.args.own in
     let file = c.at-file.result in
-    let there = c.at-file.ensures ∙ file_there files c.named.new.self path c.in_ok-at.at c.in_ok-at.ensures.table c.in_ok-at.ensures.number in
+    let there = c.at-file.ensures ∙ file_there files c.intern.new.self path c.in_ok-at.at c.in_ok-at.ensures.table c.in_ok-at.ensures.number in
     let new : File = record { producer = file.producer; is_used = not c.is_own.result } in
     let written : with_use own (file_of path files) ≡ new
     = ap (with_use own) (sym there)
     ∙ (ap (λ (b : Bool). record { producer = file.producer; is_used = b || not (is_own file.producer own) }) c.if-file.false ∙ ap (λ (b : Bool). record { producer = file.producer; is_used = not b }) (sym c.is_own.ensures)) in
-    ap okay (ap (with_file files path) written ∙ sym (known_there files c.named.new.self c.set.new.self path c.in_ok-at.at new c.in_ok-at.ensures.table c.in_ok-at.ensures.number c.set.ensures))
+    ap okay (ap (with_file files path) written ∙ sym (known_there files c.intern.new.self c.set.new.self path c.in_ok-at.at new c.in_ok-at.ensures.table c.in_ok-at.ensures.number c.set.ensures))

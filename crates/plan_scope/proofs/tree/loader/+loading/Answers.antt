@@ -11,7 +11,7 @@ use Rattle.plan_scope.specs.Trees.{TreeStatement}
 use Rattle.plan_scope.specs.Scopes.{Name, Text, bound_by, lookup}
 use Rattle.plan_scope.specs.Loading.{LoadsStatements, LoadsWithin, cause_to_load, included_by}
 use Rattle.plan_scope.specs.LoaderAnswers.{Answers, IsRead, IsIncluded, LoadsOne, never, includes}
-use Rattle.plan_scope.proofs.LoaderLemmas.{same_files, missing_file, unparsed_file, parsed_file, goes_on, stops, takes_file, one_more, some_scope, none_left}
+use Rattle.plan_scope.proofs.LoaderLemmas.{same_files, missing_file, unparsed_file, parsed_file, goes_on, stops, includes_file, one_more, some_scope, none_left}
 use Rattle.plan_scope.proofs.tree.loader.+loading.Goals as goal
 
 pub load_statements-loop-statement-init : goal.load_statements-loop-statement-init
@@ -124,7 +124,7 @@ load_statement-returns-in-Ok-Some-clause-loaded g t c =
     let kind = c.args.statement.kind in
     let path = c.in-Ok-Some.path in
     let taken = subst (λ (o : Option Text). IsIncluded (cause_to_load c.args.left here kind) (included_by here kind) (Ok o)) c.in-Ok-Some.field-0-is c.in-Ok-Some.ensures in
-    takes_file (g.S.Source.gives c.args.source.now) (g.S.Source.fails c.args.source.now) (g.S.Source.failures c.args.source.now) (g.S.Source.failures c.load_included.new.source) c.args.left c.args.loaded c.args.statement path c.load_included.result
+    includes_file (g.S.Source.gives c.args.source.now) (g.S.Source.fails c.args.source.now) (g.S.Source.failures c.args.source.now) (g.S.Source.failures c.load_included.new.source) c.args.left c.args.loaded c.args.statement path c.load_included.result
     taken.0 taken.1 (one_more c.args.left here kind path taken.0 taken.1) c.load_included.ensures.loaded
 
 pub load_included-load_file-requires : goal.load_included-load_file-requires

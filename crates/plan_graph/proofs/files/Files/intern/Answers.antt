@@ -4,7 +4,7 @@ use Rattle.plan_graph.specs.declared.files.File.{File}
 use Rattle.plan_graph.specs.declared.key.Key.{Key}
 use Rattle.plan_graph.specs.Files.{Path, Table, file_of, number_of, paths_in, unknown, with_file}
 use Rattle.plan_graph.proofs.FilesLemmas.{among_is, keys_new, keys_old, named_within, number_is, paths_are, table_new, table_old, was_new, was_old}
-use Rattle.plan_graph.proofs.files.Files.named.Goals as goal
+use Rattle.plan_graph.proofs.files.Files.intern.Goals as goal
 
 pub returns-in_ok-push-clause-table : goal.returns-in_ok-push-clause-table
 returns-in_ok-push-clause-table c =

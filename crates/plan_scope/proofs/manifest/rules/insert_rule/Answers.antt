@@ -4,7 +4,7 @@ use Rattle.plan_text.specs.declared.piece_reader.Piece.{Piece}
 use Rattle.plan_scope.specs.Scopes.{Bindings, ScopedBindings, frame, in_own, last_of}
 use Rattle.plan_scope.specs.Edges.{late}
 use Rattle.plan_scope.proofs.EvaluatorLemmas.{own_bound}
-use Rattle.plan_scope.proofs.manifest.evaluator.insert_rule.Goals as goal
+use Rattle.plan_scope.proofs.manifest.rules.insert_rule.Goals as goal
 
 pub returns : goal.returns
 returns c =

@@ -1,0 +1,80 @@
+//! Rules, declared in scopes.
+
+ghost use Rattle.std.specs.Prelude.{◌≡◌, ◌||◌, ◌++◌, OnOk, bytes_eq, codes};
+ghost use Rattle.plan_scope.specs.Scopes.{in_own};
+ghost use Rattle.plan_scope.specs.Edges.{has_own, is_taken, late};
+ghost use Rattle.plan_scope.specs.Kept.{EqScoped};
+ghost use Rattle.plan_scope.specs.Evaluation.{Declares, own_of};
+
+use crate::edge::rule_variables::RuleVariables;
+use crate::fault::{Cause, StatementFault};
+use crate::scope::scoped_map::ScopedMap;
+use plan_parse::Rule;
+use std::alloc::{AllocError, Global};
+
+/// The own scope of a statement.
+fn own_scope(scopes: &[usize]) -> Option<usize>
+    ensures { result ≡ own_of scopes.now }
+{
+    match scopes {
+        [] => None,
+        [own, ..] => Some(*own),
+    }
+}
+
+/// Whether the own scope of a statement has a rule of this name.
+fn has_own<'a>(rules: &ScopedMap<RuleVariables<'a>>, scopes: &[usize], name: &[u8]) -> bool
+    ensures { result ≡ has_own rules.now scopes.now name.now }
+{
+    match own_scope(scopes) {
+        Some(own) => rules.own(own, name).is_some(),
+        None => false,
+    }
+}
+
+/// Whether a rule's name is that of edges without a command.
+pub fn is_phony(name: &[u8]) -> bool
+    ensures { result ≡ bytes_eq name.now (codes "phony") }
+{
+    name == b"phony".as_slice()
+}
+
+/// Whether no rule may be declared under this name.
+fn is_taken<'a>(rules: &ScopedMap<RuleVariables<'a>>, scopes: &[usize], name: &[u8]) -> bool
+    ensures { result ≡ is_taken rules.now scopes.now name.now }
+{
+    is_phony(name) || has_own(rules, scopes, name)
+}
+
+/// Gives a rule its name in the own scope of a statement.
+fn insert_rule<'a>(
+    alloc: Global,
+    rules: &mut ScopedMap<RuleVariables<'a>>,
+    scopes: &[usize],
+    rule: &'a Rule,
+) -> Result<(), AllocError>
+    ensures { OnOk result (EqScoped rules.new (rules.old ++ in_own scopes.now rule.now.name (late rule.now.bindings))) }
+{
+    let Some(own) = own_scope(scopes) else {
+        return Ok(());
+    };
+    let variables = RuleVariables::new(alloc, rule.bindings.as_slice())?;
+    rules.set(alloc, own, rule.name.as_slice(), variables)
+}
+
+/// Declares a rule for the build lines below it.
+pub fn declare<'a>(
+    alloc: Global,
+    rules: &mut ScopedMap<RuleVariables<'a>>,
+    scopes: &[usize],
+    rule: &'a Rule,
+) -> Result<(), StatementFault>
+    ensures taken { Declares result (is_taken rules.old scopes.now rule.now.name) }
+    ensures known { OnOk result (EqScoped rules.new (rules.old ++ in_own scopes.now rule.now.name (late rule.now.bindings))) }
+{
+    if is_taken(rules, scopes, rule.name.as_slice()) {
+        return Err(StatementFault::Refused(Cause::DuplicateRule));
+    }
+    insert_rule(alloc, rules, scopes, rule)?;
+    Ok(())
+}
