@@ -1,8 +1,9 @@
 -- What is loaded, piece by piece. Serves src/tree/loader.rt.
-use Rattle.std.proofs.Common.{◌≡◌, ℕ, zero, suc, ◌+◌, ◌-◌, ◌<◌, ◌≤◌, inl, inr, Bool, true, false, ◌==◌, List, [], ◌∷◌, ◌++◌, length, max, Option, Some, None, Result, Ok, Err, refl, ap, sym, subst, ◌∙◌, append-nil, arith}
+use Rattle.std.proofs.Common.{◌≡◌, ℕ, zero, suc, ◌+◌, ◌-◌, ◌<◌, ◌≤◌, inl, inr, Bool, true, false, ◌==◌, List, [], ◌∷◌, ◌++◌, length, map, max, Option, Some, None, Result, Ok, Err, refl, ap, sym, subst, ◌∙◌, append-nil, arith}
 use Rattle.std.proofs.lemmas.Bool.{lt-ltb, le-ltb, ne_eqb}
 use Rattle.plan_text.specs.declared.piece_reader.Piece.{Piece}
 use Rattle.plan_parse.specs.declared.fault.ParseFault.{ParseFault}
+use Rattle.plan_parse.specs.declared.compact.CompactStatement.{CompactStatement}
 use Rattle.plan_parse.specs.declared.statement.Statement.{Statement}
 use Rattle.plan_parse.specs.declared.statement.StatementKind.{StatementKind}
 use Rattle.plan_parse.specs.declared.statement.StatementKind.TheVariants as kind
@@ -22,6 +23,15 @@ use Rattle.plan_scope.specs.Sources.{SameFiles}
 use Rattle.plan_scope.specs.LoaderAnswers.{Answers, LoadsOne, IsIncluded, never, includes}
 use Rattle.plan_scope.proofs.ScopeLemmas.{agrees_more}
 use Rattle.plan_scope.proofs.TextLemmas.{Same, same_from_kept}
+
+-- What holds between two statements of a file: no read failed, the source answers as before, the statements behind are
+-- left, and those so far are loaded.
+pub record LoadsSoFar (gives gives_now : FileContents) (fails fails_now : PathSet) (before now left : ℕ) (path : Text) (scopes : List ℕ) (said : CompactStatement → Statement)
+    (above so_far : List TreeStatement) (done behind all : List CompactStatement) : Type 0 where
+  pub unfailed : now ≡ before
+  pub same : SameFiles gives_now fails_now gives fails
+  pub is_left : done ++ behind ≡ all
+  pub is_loaded : LoadsStatements (includes gives never left) left path scopes above (map said done) (Ok so_far)
 
 goes_wider : (next more : RestAnswers) (inner out : Outcome) → ((statements : List TreeStatement) (o : Outcome) → next statements o → more statements o) → GoesOn next inner out → GoesOn more inner out
 goes_wider next more (Ok statements) out h r = h statements out r

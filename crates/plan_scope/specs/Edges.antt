@@ -274,9 +274,16 @@ map_ok f (Err cause) = Err cause
 -- what a statement gives, by all statements of the tree and those above it
 abbrev pub manifest_of_kind : List TreeStatement → List TreeStatement → List ℕ → StatementKind → Result Manifest Cause
 manifest_of_kind all above scopes (kind.Rule r) = if is_taken (rules_of above) scopes r.name then Err DuplicateRule else Ok empty_manifest
-manifest_of_kind all above scopes (kind.Build b) = map_ok edge_alone (edge_of_build (pools_of all) (rules_of above) scopes (lookup (bound_by above) scopes) (lookup (bound_by all) scopes) b)
-manifest_of_kind all above scopes (kind.Pool p) = map_ok pool_alone (pool_by (pools_of above) p.name (expand (lookup (bound_by above) scopes) p.depth))
-manifest_of_kind all above scopes (kind.Default targets) = map_ok defaults_alone (targets_by (length (builds_of above)) (paths_of (lookup (bound_by above) scopes) targets))
+manifest_of_kind all above scopes (kind.Build b) =
+    let here = lookup (bound_by above) scopes in
+    let file = lookup (bound_by all) scopes in
+    map_ok edge_alone (edge_of_build (pools_of all) (rules_of above) scopes here file b)
+manifest_of_kind all above scopes (kind.Pool p) =
+    let here = lookup (bound_by above) scopes in
+    map_ok pool_alone (pool_by (pools_of above) p.name (expand here p.depth))
+manifest_of_kind all above scopes (kind.Default targets) =
+    let here = lookup (bound_by above) scopes in
+    map_ok defaults_alone (targets_by (length (builds_of above)) (paths_of here targets))
 manifest_of_kind all above scopes other = Ok empty_manifest
 
 abbrev pub in_front : TreeStatement → Result Manifest Cause → Result Manifest ScopeFault → Result Manifest ScopeFault

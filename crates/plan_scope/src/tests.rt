@@ -70,7 +70,7 @@ impl Source for Files {
 }
 
 /// Whether the tree of a file has so many statements.
-fn has_lines(alloc: Global, path: &[u8], count: usize) -> bool {
+fn has_statements(alloc: Global, path: &[u8], count: usize) -> bool {
     match load(alloc, &mut Files, path) {
         Ok(tree) => tree.statements().len() == count,
         Err(_) => false,
@@ -108,13 +108,13 @@ fn is_refused(alloc: Global, path: &[u8], at: &[u8], offset: u64, cause: Cause) 
 }
 
 #[test]
-fn all_lines(rt: HostRuntime) -> Result<(), Fail> {
-    assert!(rt; has_lines(rt.alloc(), b"build.ninja", 5));
+fn all_statements(rt: HostRuntime) -> Result<(), Fail> {
+    assert!(rt; has_statements(rt.alloc(), b"build.ninja", 5));
     Ok(())
 }
 
 #[test]
-fn included_line(rt: HostRuntime) -> Result<(), Fail> {
+fn included_statement(rt: HostRuntime) -> Result<(), Fail> {
     assert!(rt; is_at(rt.alloc(), b"build.ninja", 1, b"a.ninja", 0, &[0]));
     Ok(())
 }
@@ -122,26 +122,26 @@ fn included_line(rt: HostRuntime) -> Result<(), Fail> {
 /// Each file opens a scope of its own, though the first has no statement but one that includes another.
 #[test]
 fn scopes_of_two_subninja_files(rt: HostRuntime) -> Result<(), Fail> {
-    assert!(rt; has_lines(rt.alloc(), b"two.ninja", 2));
+    assert!(rt; has_statements(rt.alloc(), b"two.ninja", 2));
     assert!(rt; is_at(rt.alloc(), b"two.ninja", 0, b"a.ninja", 0, &[2, 1, 0]));
     assert!(rt; is_at(rt.alloc(), b"two.ninja", 1, b"a.ninja", 0, &[3, 0]));
     Ok(())
 }
 
 #[test]
-fn line_of_subninja(rt: HostRuntime) -> Result<(), Fail> {
+fn statement_of_subninja(rt: HostRuntime) -> Result<(), Fail> {
     assert!(rt; is_at(rt.alloc(), b"build.ninja", 2, b"b.ninja", 0, &[1, 0]));
     Ok(())
 }
 
 #[test]
-fn line_included_by_subninja(rt: HostRuntime) -> Result<(), Fail> {
+fn statement_included_by_subninja(rt: HostRuntime) -> Result<(), Fail> {
     assert!(rt; is_at(rt.alloc(), b"build.ninja", 3, b"a.ninja", 0, &[1, 0]));
     Ok(())
 }
 
 #[test]
-fn line_behind_subninja(rt: HostRuntime) -> Result<(), Fail> {
+fn statement_behind_subninja(rt: HostRuntime) -> Result<(), Fail> {
     assert!(rt; is_at(rt.alloc(), b"build.ninja", 4, b"build.ninja", 39, &[0]));
     Ok(())
 }

@@ -15,13 +15,18 @@ use Rattle.plan_scope.proofs.LoaderLemmas.{same_files, missing_file, unparsed_fi
 use Rattle.plan_scope.proofs.tree.loader.+loading.Goals as goal
 
 pub load_statements-loop-statement-init : goal.load_statements-loop-statement-init
-load_statements-loop-statement-init g t c = (refl, (λ p bytes. (λ x. x, λ x. x), λ p. (λ x. x, λ x. x)), c.into_iter-statement-iterator.ensures.into_iter_gives.0 ∙ c.into_vec-statement-items.ensures, refl)
+load_statements-loop-statement-init g t c = record {
+  unfailed = refl;
+  same = (λ p bytes. (λ x. x, λ x. x), λ p. (λ x. x, λ x. x));
+  is_left = c.into_iter-statement-iterator.ensures.into_iter_gives.0 ∙ c.into_vec-statement-items.ensures;
+  is_loaded = refl;
+}
 
 pub load_statements-returns-in_default-clause-loaded : goal.load_statements-returns-in_default-clause-loaded
-load_statements-returns-in_default-clause-loaded g t c = c.loop-statement.invariant.0
+load_statements-returns-in_default-clause-loaded g t c = c.loop-statement.invariant.unfailed
 
 pub load_statements-returns-in_default-clause-same : goal.load_statements-returns-in_default-clause-same
-load_statements-returns-in_default-clause-same g t c = c.loop-statement.invariant.1
+load_statements-returns-in_default-clause-same g t c = c.loop-statement.invariant.same
 
 pub load_statements-load_statement-requires : goal.load_statements-load_statement-requires
 load_statements-load_statement-requires g t c κs within = (omega arith, (within, subst (λ (f : File). 0 < length f.scopes) (sym c.in-Ok.ensures.cases) c.requires))
@@ -37,14 +42,14 @@ load_statements-returns-in-Err-clause-loaded g t c =
     let before = g.S.Source.failures c.loop-statement.source in
     let now = g.S.Source.failures c.load_statement.new.source in
     stops here (g.S.Source.gives c.args.source.now) fails (g.S.Source.fails c.args.source.now) before (g.S.Source.failures c.args.source.now) now c.args.left c.args.file.value.path c.args.file.value.scopes (map said c.loop-statement.yielded) (said s) (map said c.next.new.self.rest.items) (map said c.args.statements) c.args.loaded mid c.in-Err.fault
-    (λ p bytes. (inv.1.0 p bytes).0) (λ p. (inv.1.1 p).0) inv.0
-    (sym (map-append said c.loop-statement.yielded (s ∷ c.next.new.self.rest.items)) ∙ ap (map said) (ap (λ (x : List CompactStatement). c.loop-statement.yielded ++ x) (sym c.in-Some.ensures.steps.0) ∙ inv.2))
-    inv.3
+    (λ p bytes. (inv.same.0 p bytes).0) (λ p. (inv.same.1 p).0) inv.unfailed
+    (sym (map-append said c.loop-statement.yielded (s ∷ c.next.new.self.rest.items)) ∙ ap (map said) (ap (λ (x : List CompactStatement). c.loop-statement.yielded ++ x) (sym c.in-Some.ensures.steps.0) ∙ inv.is_left))
+    inv.is_loaded
     (subst (λ (f : File). Answers here fails before now (λ missing out. LoadsOne (includes here missing c.args.left) c.args.left mid (record { path = f.path; scopes = f.scopes; offset = (said_in f.text s).offset; kind = (said_in f.text s).kind }) out) (Err c.in-Err.fault))
     c.in-Ok.ensures.cases c.in-Err.ensures.loaded)
 
 pub load_statements-returns-in-Err-clause-same : goal.load_statements-returns-in-Err-clause-same
-load_statements-returns-in-Err-clause-same g t c = same_files _ _ _ _ _ _ c.in-Err.ensures.same c.loop-statement.invariant.1
+load_statements-returns-in-Err-clause-same g t c = same_files _ _ _ _ _ _ c.in-Err.ensures.same c.loop-statement.invariant.same
 
 pub load_statements-loop-statement-preserved : goal.load_statements-loop-statement-preserved
 load_statements-loop-statement-preserved g t c =
@@ -55,27 +60,29 @@ load_statements-loop-statement-preserved g t c =
     let here = g.S.Source.gives c.loop-statement.source in
     let fails = g.S.Source.fails c.loop-statement.source in
     let back = c.next.new.self.rest.items in
-    let one = c.in-Ok-load_statement.ensures.loaded in (
-      one.0 ∙ inv.0,
-      same_files _ _ _ _ _ _ c.in-Ok-load_statement.ensures.same inv.1,
-      append_assoc c.loop-statement.yielded (s ∷ []) back ∙ (ap (λ (x : List CompactStatement). c.loop-statement.yielded ++ x) (sym c.in-Some.ensures.steps.0) ∙ inv.2),
-      subst (λ (x : List Statement). LoadsStatements (includes (g.S.Source.gives c.args.source.now) never c.args.left) c.args.left c.args.file.value.path c.args.file.value.scopes c.args.loaded x (Ok c.in-Ok-load_statement.so_far)) (sym (map_push said c.loop-statement.yielded s))
+    let one = c.in-Ok-load_statement.ensures.loaded in
+    record {
+      unfailed = one.0 ∙ inv.unfailed;
+      same = same_files _ _ _ _ _ _ c.in-Ok-load_statement.ensures.same inv.same;
+      is_left = append_assoc c.loop-statement.yielded (s ∷ []) back ∙ (ap (λ (x : List CompactStatement). c.loop-statement.yielded ++ x) (sym c.in-Some.ensures.steps.0) ∙ inv.is_left);
+      is_loaded =
+          subst (λ (x : List Statement). LoadsStatements (includes (g.S.Source.gives c.args.source.now) never c.args.left) c.args.left c.args.file.value.path c.args.file.value.scopes c.args.loaded x (Ok c.in-Ok-load_statement.so_far)) (sym (map_push said c.loop-statement.yielded s))
           (goes_on here (g.S.Source.gives c.args.source.now) c.args.left c.args.file.value.path c.args.file.value.scopes (map said c.loop-statement.yielded) (said s) c.args.loaded mid c.in-Ok-load_statement.so_far
-          (λ p bytes. (inv.1.0 p bytes).0) inv.3
-          (subst (λ (f : File). LoadsOne (includes here never c.args.left) c.args.left mid (record { path = f.path; scopes = f.scopes; offset = (said_in f.text s).offset; kind = (said_in f.text s).kind }) (Ok c.in-Ok-load_statement.so_far)) c.in-Ok.ensures.cases one.1)),
-    )
+          (λ p bytes. (inv.same.0 p bytes).0) inv.is_loaded
+          (subst (λ (f : File). LoadsOne (includes here never c.args.left) c.args.left mid (record { path = f.path; scopes = f.scopes; offset = (said_in f.text s).offset; kind = (said_in f.text s).kind }) (Ok c.in-Ok-load_statement.so_far)) c.in-Ok.ensures.cases one.1));
+    }
 
 pub load_statements-returns-clause-loaded : goal.load_statements-returns-clause-loaded
 load_statements-returns-clause-loaded g t c =
     let inv = c.loop-statement.invariant in
     let rest = c.loop-statement.statement-iterator.rest in (
-      inv.0,
+      inv.unfailed,
       subst (λ (x : List Statement). LoadsStatements (includes (g.S.Source.gives c.args.source.now) never c.args.left) c.args.left c.args.file.value.path c.args.file.value.scopes c.args.loaded x (Ok c.loop-statement.so_far))
-          (ap (map (said_in c.args.file.value.text)) (none_left c.loop-statement.yielded rest.items c.args.statements (sym rest.ok.0 ∙ c.in-None.ensures.steps.0) inv.2)) inv.3,
+          (ap (map (said_in c.args.file.value.text)) (none_left c.loop-statement.yielded rest.items c.args.statements (sym rest.ok.0 ∙ c.in-None.ensures.steps.0) inv.is_left)) inv.is_loaded,
     )
 
 pub load_statements-returns-clause-same : goal.load_statements-returns-clause-same
-load_statements-returns-clause-same g t c = c.loop-statement.invariant.1
+load_statements-returns-clause-same g t c = c.loop-statement.invariant.same
 
 pub load_file-returns-in-Err-Missing-clause-loaded :
     goal.load_file-returns-in-Err-Missing-clause-loaded
