@@ -1,4 +1,4 @@
--- What edges wait for, by the producers of their inputs. Serves src/waits.rt and src/defaults.rt.
+-- What edges wait for, by the producers of their inputs. Serves src/waits.rt and src/build_graph.rt.
 use Rattle.std.proofs.Common.{◌≡◌, ◌<◌, ◌+◌, ℕ, zero, suc, List, [], ◌∷◌, ◌++◌, inl, inr, Bool, true, false, Option, Some, None, length, refl, ap, sym, subst, arith, ◌∙◌}
 use Rattle.std.specs.List.{list_any}
 use Rattle.std.specs.Prelude.{◌||◌, ◌==◌, flat_map, drop, filter, get_or, if◌then◌else◌, map, not, slice_get}

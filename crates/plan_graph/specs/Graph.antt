@@ -96,7 +96,8 @@ edge_limit above = if nat_le max_edges (length above) then Some TooManyEdges els
 abbrev pub targets_above : ℕ → List DefaultTarget → ℕ
 targets_above number defaults = prefix_len (λ d. nat_le d.edges_above number) defaults
 
--- the first fault in the order of reading, past these edges: of the targets that are left, and of the edges that are left
+-- the first fault in the order of reading, past these edges: of the targets that are left, and of the edges that are
+-- left
 abbrev pub fault_past : List Edge → List DefaultTarget → List Edge → Option GraphFault
 fault_past above defaults [] = unknown_target above defaults
 fault_past above defaults (e ∷ es) =

@@ -1,25 +1,103 @@
-//! What edges wait for.
+//! What edges wait for, and which are built where no target is asked for.
 
-ghost use Rattle.plan_graph.specs.Graph.{GraphIs};
+ghost use Rattle.std.specs.Prelude.{◌≡◌, None, Ok, map, not};
+ghost use Rattle.std.specs.List.{list_any};
+ghost use Rattle.plan_text.specs.Outcome.{Meets};
+ghost use Rattle.plan_graph.specs.declared.fault.GraphFault.TheVariants.{Memory};
+ghost use Rattle.plan_graph.specs.Files.{file_at, paths_in};
+ghost use Rattle.plan_graph.specs.Fitting.{Fits, producers};
+ghost use Rattle.plan_graph.specs.Graph.{GraphIs, default_edges, is_last, numbers_from, outputs_of, rows_of};
 
-use crate::defaults::default_edges;
 use crate::edge_reader::read_edges;
 use crate::fault::GraphFault;
+use crate::files::Files;
 use crate::graph_data::Graph;
-use crate::waits::all_waits;
+use crate::row_list::RowList;
+use crate::waits::{add_producer, all_waits, ascend};
 use crate::walk::ranks;
-use plan_scope::Manifest;
+use plan_scope::{DefaultTarget, Edge, Manifest};
+use plan_text::Items;
 use std::alloc::Global;
+
+/// Whether the path of one of these numbers is no input of any edge.
+fn has_unused<'a>(files: &Files<'a>, numbers: &[usize]) -> bool
+    ensures { result ≡ list_any (λ n. not (file_at n files.now).is_used) numbers.now }
+{
+    for number in numbers {
+        if !files.at(*number).is_used {
+            return true;
+        }
+    }
+    false
+}
+
+/// The edges with an output that is no input of any edge, by the numbers of their outputs.
+fn last_edges<'a>(
+    alloc: Global,
+    files: &Files<'a>,
+    outputs: &RowList,
+    edges: &[Edge],
+) -> Result<Items<usize>, GraphFault>
+    requires fits { Fits files.now edges.now }
+    requires outputs { outputs.now ≡ rows_of outputs_of (paths_in files.now) edges.now }
+    ensures { Meets Memory (λ v. v) result (Ok (numbers_from 0 (is_last edges.now) edges.now)) }
+{
+    let mut numbers = Vec::new(alloc);
+    for number in 0..edges.len() {
+        if has_unused(files, outputs.row(number)) {
+            numbers.push(number)?;
+        }
+    }
+    Ok(Items::new(numbers))
+}
+
+/// The producers of the targets of `default` statements, in their order.
+fn producers_of_targets<'a>(
+    alloc: Global,
+    files: &Files<'a>,
+    targets: &[DefaultTarget],
+) -> Result<Vec<usize>, GraphFault>
+    ensures { Meets Memory (λ v. v.items) result (Ok (producers files.now None (map (λ t. t.path) targets.now))) }
+{
+    let mut numbers = Vec::new(alloc);
+    for target in targets {
+        add_producer(&mut numbers, None, files.producer(target.path.as_slice()))?;
+    }
+    Ok(numbers)
+}
+
+/// The edges that are built where no target is asked for.
+fn default_edges<'a>(
+    alloc: Global,
+    files: &Files<'a>,
+    outputs: &RowList,
+    edges: &[Edge],
+    defaults: &[DefaultTarget],
+) -> Result<Items<usize>, GraphFault>
+    requires fits { Fits files.now edges.now }
+    requires outputs { outputs.now ≡ rows_of outputs_of (paths_in files.now) edges.now }
+    ensures { Meets Memory (λ v. v) result (Ok (default_edges edges.now defaults.now)) }
+{
+    if defaults.is_empty() {
+        return last_edges(alloc, files, outputs, edges);
+    }
+    let mut numbers = producers_of_targets(alloc, files, defaults)?;
+    ascend(&mut numbers);
+    Ok(Items::new(numbers))
+}
 
 /// The graph of a manifest.
 ///
-/// An edge waits for each edge that makes one of its inputs, of any sort; a phony loses its own outputs from its inputs. Where the manifest has `default` statements, the
-/// edges that make their targets are built by default, else each edge with an output that is no input of another (Ninja manual, "Build statements" and "Default target statements").
+/// An edge waits for each edge that makes one of its inputs, of any sort; a phony loses its own outputs from its
+/// inputs. Where the manifest has `default` statements, the edges that make their targets are built by default, else
+/// each edge with an output that is no input of another (Ninja manual, "Build statements" and "Default target
+/// statements").
 ///
 /// # Errors
 ///
-/// The first of these in the order of reading: `TwoProducers`, `TooManyEdges`, and `UnknownDefault`, where no build line above a `default` statement makes its
-/// target. Where none of them stands, `Cycle`, with the edges of one cycle. `Memory` may come in place of any answer.
+/// The first of these in the order of reading: `TwoProducers`, `TooManyEdges`, and `UnknownDefault`, where no build
+/// line above a `default` statement makes its target. Where none of them stands, `Cycle`, with the edges of one cycle.
+/// `Memory` may come in place of any answer.
 pub fn graph<'a>(alloc: Global, manifest: &'a Manifest) -> Result<Graph<'a>, GraphFault>
     ensures { GraphIs manifest.now result }
 {

@@ -3,7 +3,6 @@
 
 mod build_graph;
 mod cycle;
-mod defaults;
 mod edge_reader;
 mod fault;
 mod files;

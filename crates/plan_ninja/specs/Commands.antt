@@ -22,7 +22,8 @@ HasGraph m = (first_fault m ≡ None) × (ranks : List ℕ) × AreRanks (all_wai
 abbrev pub MayLoad : Type 1
 MayLoad = Text → Result (List TreeStatement) ScopeFault → Type 0
 
--- no write failed, and the sink took the commands of the manifest that some lines mean which may be loaded from the path, the text of each and a newline, in order; and the manifest has a graph
+-- no write failed, and the sink took the commands of the manifest that some lines mean which may be loaded from the
+-- path, the text of each and a newline, in order; and the manifest has a graph
 pub record WritesAll (loads : MayLoad) (path : Text) (old new : ℕ × Option (List ℕ)) : Type 0 where
   pub lines : List TreeStatement
   pub manifest : Manifest
@@ -71,7 +72,8 @@ IsRefused loads path fault = RefusesLines loads path fault ⊎ (RefusesToLoad lo
 abbrev pub IsMeant : MayLoad → Text → Manifest → Type 0
 IsMeant loads path manifest = (lines : List TreeStatement) × loads path (Ok lines) × (manifest_of lines ≡ Ok manifest)
 
--- a write failed, behind a front of the commands of the manifest that some lines mean which may be loaded from the path; and the manifest has a graph
+-- a write failed, behind a front of the commands of the manifest that some lines mean which may be loaded from the
+-- path; and the manifest has a graph
 pub record FailsToWrite (loads : MayLoad) (path : Text) (old new : ℕ × Option (List ℕ)) (fault : PlanFault) : Type 0 where
   pub lines : List TreeStatement
   pub manifest : Manifest
@@ -81,6 +83,7 @@ pub record FailsToWrite (loads : MayLoad) (path : Text) (old new : ℕ × Option
   pub failed : Writes false old new (commands_of manifest)
   pub says : fault ≡ output_fault
 
--- what may be loaded by what a source may give and which of its reads may fail, where its count of failed reads was this before and is that now
+-- what may be loaded by what a source may give and which of its reads may fail, where its count of failed reads was
+-- this before and is that now
 abbrev pub loading_by : (gives : Text → Option (List ℕ) → Type 0) → (fails : Text → Type 0) → (before now : ℕ) → MayLoad
 loading_by gives fails before now = LoadsFirst gives (IsMissing gives fails before now)

@@ -40,9 +40,11 @@ fn check_graph(alloc: Global, manifest: &Manifest) -> Result<(), PlanFault>
     }
 }
 
-/// Writes the command of each edge of the manifest at the path that isn't a phony, in order, a newline after each, and answers the status 0: then no read and no write failed.
+/// Writes the command of each edge of the manifest at the path that isn't a phony, in order, a newline after each, and
+/// answers the status 0: then no read and no write failed.
 ///
-/// Where the manifest, or a file that it takes in, is missing or refused, or the manifest has no graph, nothing is written, and the fault says why and where. Where a write fails, the fault is that of the output.
+/// Where the manifest, or a file that it includes, is missing or refused, or the manifest has no graph, nothing is
+/// written, and the fault says why and where. Where a write fails, the fault is that of the output.
 pub fn do_commands<S: Source, W: Sink>(
     alloc: Global,
     source: &mut S,

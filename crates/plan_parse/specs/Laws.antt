@@ -43,7 +43,8 @@ leads (Below line ∷ more) = false
 abbrev pub begins_block : List ℕ → Bool
 begins_block text = leads (roles_of_lines (raw_lines text))
 
--- behind a text whose lines are ended, the statements of one that begins a block follow as they are, further on by the first text's length
+-- behind a text whose lines are ended, the statements of one that begins a block follow as they are, further on by the
+-- first text's length
 abbrev pub StatementsJoin : Type 0
 StatementsJoin =
     (front back : List ℕ) (xs ys : List Statement) → has_ended_lines front ≡ true → begins_block back ≡ true → length front + length back ≤ max_source

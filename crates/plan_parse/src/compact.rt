@@ -14,7 +14,8 @@ use crate::statement::{Binding, Statement, StatementKind};
 use plan_text::{PieceList, SmallText};
 use std::alloc::{AllocError, Global};
 
-/// A statement as it is kept beside its text: of a binding the place of its line, which is read again where it is needed.
+/// A statement as it is kept beside its text: of a binding the place of its line, which is read again where it is
+/// needed.
 #[derive(Debug, Drop)]
 pub enum CompactStatement {
     /// The binding in this line.

@@ -7,7 +7,8 @@ ghost use Rattle.plan_parse.specs.Faults.{number_of, offset_of};
 use plan_text::TextFault;
 use std::alloc::{AllocError, AllocFailed};
 
-/// Why a text is no list of statements. An offset is that of the byte where the thing was expected or stands, counted from 0.
+/// Why a text is no list of statements. An offset is that of the byte where the thing was expected or stands, counted
+/// from 0.
 #[derive(Clone, Copy, Debug, PartialEq, Eq)]
 pub enum ParseFault {
     /// A statement, a rule, a pool or a variable without its name.

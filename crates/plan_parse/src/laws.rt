@@ -9,8 +9,8 @@ pub fn statements_are_whole()
     ensures { StatementsAreWhole }
 {}
 
-/// The statements of two texts make those of both, one behind the other, where each line of the first is ended by a newline and the second begins
-/// a block: no statement depends on what stands in front of its block.
+/// The statements of two texts make those of both, one behind the other, where each line of the first is ended by a
+/// newline and the second begins a block: no statement depends on what stands in front of its block.
 pub fn statements_join()
     ensures { StatementsJoin }
 {

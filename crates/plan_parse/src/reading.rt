@@ -243,7 +243,8 @@ fn add_path(paths: &mut Paths, path: PieceList) -> Result<(), AllocError>
     Ok(())
 }
 
-/// The paths of a list, without spare room where memory allows it, and the place of the first byte that belongs to none.
+/// The paths of a list, without spare room where memory allows it, and the place of the first byte that belongs to
+/// none.
 fn paths_at(alloc: Global, p: Cursor<'_>) -> Result<(Paths, Cursor<'_>), ParseFault>
     ensures { Meets ParseFault.Memory (λ x. (x.0.items, place_of x.1)) result (syntax.paths_at (place_of p.entry)) }
 {

@@ -20,7 +20,8 @@ WritesJoin = (well : Bool) (a b c : ℕ × Option (List ℕ)) (xs ys : List ℕ)
 abbrev pub FailedWriteStays : Type 0
 FailedWriteStays = (a b : ℕ × Option (List ℕ)) (xs ys : List ℕ) → Writes false a b xs → Writes false a b (xs ++ ys)
 
--- the logical lines of a text and the newlines that end them, joined, are the text: no byte is passed over, and none is read twice
+-- the logical lines of a text and the newlines that end them, joined, are the text: no byte is passed over, and none is
+-- read twice
 abbrev pub LinesCover : Type 0
 LinesCover = (text : List ℕ) → AreLinesOf 0 (raw_lines text) text
 

@@ -1,4 +1,5 @@
--- The logical lines of a text. (Ninja manual, "Lexical syntax": newlines are significant, `$` and a newline continue a line, a comment runs to the end of its line.)
+-- The logical lines of a text. (Ninja manual, "Lexical syntax": newlines are significant, `$` and a newline continue a
+-- line, a comment runs to the end of its line.)
 use Rattle.std.specs.Prelude.{◌≡◌, ◌⊎◌, ◌++◌, ℕ, zero, suc, ◌+◌, ◌-◌, ◌==◌, nat_lt, Bool, true, ◌||◌, ◌&&◌, List, [], ◌∷◌, length, take, drop, if◌then◌else◌, Result, Ok, Err, Option, Some, None, map}
 use Rattle.std.specs.List.{prefix_len, position_or_len}
 use Rattle.plan_text.specs.Bytes.{nul, tab, line_feed, carriage_return, hash, dollar, is_space, begins_with}
@@ -66,11 +67,13 @@ raw_past at (b ∷ rest) zero =
 abbrev pub raw_lines : List ℕ → List Raw
 raw_lines text = raw_past 0 text 0
 
--- this is the first logical line of a text, wherever the text stands, and with its newline it has so many bytes: the lines behind these follow
+-- this is the first logical line of a text, wherever the text stands, and with its newline it has so many bytes: the
+-- lines behind these follow
 abbrev pub IsFirstLine : List ℕ → List ℕ → ℕ → Type 0
 IsFirstLine text line size = (at : ℕ) → raw_past at text 0 ≡ record { at = at; bytes = line } ∷ raw_past (at + size) (drop size text) 0
 
--- What a logical line is: a tab may not stand in front of it, nor a NUL anywhere; spaces alone and a comment are no line.
+-- What a logical line is: a tab may not stand in front of it, nor a NUL anywhere; spaces alone and a comment are no
+-- line.
 abbrev pub line_of : Raw → Result (Option Line) TextFault
 line_of raw =
     let indent = indent_len raw.bytes in
@@ -99,7 +102,8 @@ lines_of text = if nat_lt max_source (length text) then Err (SourceTooLong max_s
 abbrev pub EndsLine : List ℕ → List ℕ → Type 0
 EndsLine newline rest = (newline ≡ line_feed ∷ []) ⊎ ((newline ≡ carriage_return ∷ line_feed ∷ []) ⊎ ((newline ≡ []) × (rest ≡ [])))
 
--- one line, the newline that ends it, the next line, and so on: nothing else stands in a text that stands at this offset
+-- one line, the newline that ends it, the next line, and so on: nothing else stands in a text that stands at this
+-- offset
 abbrev pub AreLinesOf : ℕ → List Raw → List ℕ → Type 0
 AreLinesOf at [] text = text ≡ []
 AreLinesOf at (raw ∷ more) text =

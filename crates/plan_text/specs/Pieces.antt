@@ -1,4 +1,5 @@
--- The pieces of a path or a value: bytes that stand for themselves, and references to variables. (Ninja manual, "Lexical syntax": the escapes of `$`.)
+-- The pieces of a path or a value: bytes that stand for themselves, and references to variables. (Ninja manual,
+-- "Lexical syntax": the escapes of `$`.)
 use Rattle.std.specs.Prelude.{ℕ, zero, suc, ◌+◌, ◌==◌, Bool, true, false, not, ◌||◌, ◌&&◌, List, [], ◌∷◌, length, drop, if◌then◌else◌, Result, Ok, Err, Option, Some, None}
 use Rattle.std.specs.List.{prefix_len, take_while}
 use Rattle.plan_text.specs.Bytes.{nul, tab, line_feed, carriage_return, space, dollar, colon, left_brace, right_brace, is_bare_name_byte, is_name_byte, is_space, begins_with}
@@ -25,7 +26,8 @@ abbrev pub braced_name : List ℕ → List ℕ → Option (Sign × ℕ)
 braced_name [] rest = None
 braced_name (b ∷ name) rest = if begins_with right_brace rest then Some (Name (b ∷ name), length (b ∷ name) + 2) else None
 
--- What `$` and the text behind it stand for, and how many bytes of that text; a newline takes along the spaces behind it.
+-- What `$` and the text behind it stand for, and how many bytes of that text; a newline takes along the spaces behind
+-- it.
 abbrev pub escape : List ℕ → Option (Sign × ℕ)
 escape [] = None
 escape (b ∷ rest) =
@@ -51,7 +53,8 @@ abbrev pub or_bad : ℕ → Option (Sign × ℕ) → Result (Sign × ℕ) TextFa
 or_bad at None = Err (BadEscape at)
 or_bad at (Some x) = Ok x
 
--- What stands at offset `at`, where the text goes on with this byte and the rest, and how many bytes of the rest belong to it; or the fault at that place.
+-- What stands at offset `at`, where the text goes on with this byte and the rest, and how many bytes of the rest belong
+-- to it; or the fault at that place.
 abbrev pub sign_at : Mode → ℕ → ℕ → List ℕ → Result (Sign × ℕ) TextFault
 sign_at mode at b rest =
     if b == dollar then or_bad at (escape rest)

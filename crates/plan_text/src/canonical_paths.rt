@@ -24,7 +24,8 @@ fn are_normal(path: &[u8]) -> bool
         .all(|component| is_normal(component))
 }
 
-/// Whether a path shows that it is canonical, so that nobody has to make its canonical form. A path that begins with `..` doesn't.
+/// Whether a path shows that it is canonical, so that nobody has to make its canonical form. A path that begins with
+/// `..` doesn't.
 pub fn is_canonical(path: &[u8]) -> bool
     ensures components { result ≡ has_normal_components path.now }
     ensures canonical { result ≡ true → canonical_of path.now ≡ Ok path.now }

@@ -10,7 +10,8 @@ use std::alloc::{AllocError, AllocFailed};
 /// Which bytes are refused, beside escapes that the Ninja manual doesn't list, is this project's own choice.
 #[derive(Clone, Copy, Debug, PartialEq, Eq)]
 pub enum TextFault {
-    /// A tab where only spaces part words: in front of a line, or in a path. In a comment or a value it is a byte like others. Its offset.
+    /// A tab where only spaces part words: in front of a line, or in a path. In a comment or a value it is a byte like
+    /// others. Its offset.
     TabBlank(u64),
     /// A NUL byte, wherever it stands. Its offset.
     NulByte(u64),
@@ -25,7 +26,8 @@ pub enum TextFault {
 }
 
 impl TextFault {
-    /// The number under which a program prints the fault, 1 to 6 in the order of the variants. This project's own choice.
+    /// The number under which a program prints the fault, 1 to 6 in the order of the variants. This project's own
+    /// choice.
     pub fn number(&self) -> u8
         ensures { result ≡ number_of self.now }
     {

@@ -7,8 +7,8 @@ pub fn canonical_stays()
     ensures { CanonicalStays }
 {}
 
-/// Two writes make one: behind a write that took all of its bytes, what the next one does is done to the bytes of both; and a write that failed is
-/// one of more bytes that failed.
+/// Two writes make one: behind a write that took all of its bytes, what the next one does is done to the bytes of both;
+/// and a write that failed is one of more bytes that failed.
 pub fn writes_join()
     ensures join { WritesJoin }
     ensures failed { FailedWriteStays }
@@ -19,12 +19,14 @@ pub fn lines_cover()
     ensures { LinesCover }
 {}
 
-/// Bytes without NUL, and in a path without a tab, that are escaped by a `$` before each `$`, space and colon, are read as those bytes.
+/// Bytes without NUL, and in a path without a tab, that are escaped by a `$` before each `$`, space and colon, are read
+/// as those bytes.
 pub fn escaped_is_read()
     ensures { EscapedIsRead }
 {}
 
-/// Behind a text each of whose logical lines is ended by a newline, the logical lines of another text stay what they are.
+/// Behind a text each of whose logical lines is ended by a newline, the logical lines of another text stay what they
+/// are.
 pub fn lines_join()
     ensures { LinesJoin }
 {}

@@ -12,7 +12,8 @@ use crate::run_reader::{Unit, run_len};
 use memchr::{memchr, memchr3};
 use std::alloc::Global;
 
-/// A logical line that is neither blank nor a comment. Offsets and counts are of bytes, from 0 at the front of the text.
+/// A logical line that is neither blank nor a comment. Offsets and counts are of bytes, from 0 at the front of the
+/// text.
 #[derive(Clone, Copy, Debug, PartialEq, Eq)]
 pub struct Line {
     /// How many spaces it begins with.
@@ -115,7 +116,8 @@ fn comment_len(text: &[u8]) -> usize
     }
 }
 
-/// How many spaces a text begins with. A `$` with a newline is none: an indent is of spaces alone, which is this project's own choice.
+/// How many spaces a text begins with. A `$` with a newline is none: an indent is of spaces alone, which is this
+/// project's own choice.
 pub fn indent_len(text: &[u8]) -> usize
     ensures len { result ≡ syntax.indent_len text.now }
     ensures within { result ≤ length text.now }
@@ -123,8 +125,9 @@ pub fn indent_len(text: &[u8]) -> usize
     text.iter().take_while(|b| **b == b' ').count()
 }
 
-/// How many bytes the logical line has that a text begins with, without the newline that ends it. A `$` continues it past a newline, but
-/// for a comment, which is a line whose first byte past its spaces is `#`. (Ninja manual, "Lexical syntax".)
+/// How many bytes the logical line has that a text begins with, without the newline that ends it. A `$` continues it
+/// past a newline, but for a comment, which is a line whose first byte past its spaces is `#`. (Ninja manual, "Lexical
+/// syntax".)
 pub fn logical_len(text: &[u8]) -> usize
     ensures len { result ≡ syntax.logical_len text.now }
     ensures within { result ≤ length text.now }
@@ -138,7 +141,8 @@ pub fn logical_len(text: &[u8]) -> usize
     }
 }
 
-/// The logical line that a text begins with, without the newline that ends it, and how many bytes it has with its newline. A text with a byte has a line.
+/// The logical line that a text begins with, without the newline that ends it, and how many bytes it has with its
+/// newline. A text with a byte has a line.
 pub fn split_line(text: &[u8]) -> (&[u8], usize)
     requires { 0 < length text.now }
     ensures line { syntax.IsFirstLine text.now result.0.now result.1 }
@@ -178,8 +182,9 @@ fn line_of(at: usize, bytes: &[u8]) -> Result<Option<Line>, TextFault>
 ///
 /// Newlines part lines, `$` and a newline continue one, and `#` begins a comment (Ninja manual, "Lexical syntax").
 ///
-/// Refused are a text of more than 16 MiB (`SourceTooLong`), and then at the first line that has one a tab behind its indent (`TabBlank`), else a NUL byte (`NulByte`),
-/// in a comment too; these are this project's own choice. Other faults of a line are found by `pieces`. `Memory` may come in place of any answer.
+/// Refused are a text of more than 16 MiB (`SourceTooLong`), and then at the first line that has one a tab behind its
+/// indent (`TabBlank`), else a NUL byte (`NulByte`), in a comment too; these are this project's own choice. Other
+/// faults of a line are found by `pieces`. `Memory` may come in place of any answer.
 pub fn lines(alloc: Global, text: &[u8]) -> Result<Vec<Line>, TextFault>
     ensures { Meets TextFault.Memory (λ v. v.items) result (syntax.lines_of text.now) }
 {

@@ -44,7 +44,8 @@ fn at_most(digits: &[u8], most: u64) -> Option<u64>
     Some(number)
 }
 
-/// The number that a text says in decimal digits, at least one and nothing else, where it is at most `most`. Zeros in front change nothing.
+/// The number that a text says in decimal digits, at least one and nothing else, where it is at most `most`. Zeros in
+/// front change nothing.
 pub fn number_in(text: &[u8], most: u64) -> Option<u64>
     ensures { result ≡ numerals.number_in most text.now }
 {

@@ -72,7 +72,8 @@ fn bare_name_len(text: &[u8]) -> usize
     text.iter().take_while(|b| is_bare_name_byte(**b)).count()
 }
 
-/// How many bytes of a name a text begins with: letters and digits of ASCII, `_`, `-` and `.`. (Ninja manual, "Lexical syntax"; a name right behind `$` has no `.`.)
+/// How many bytes of a name a text begins with: letters and digits of ASCII, `_`, `-` and `.`. (Ninja manual, "Lexical
+/// syntax"; a name right behind `$` has no `.`.)
 pub fn name_len(text: &[u8]) -> usize
     ensures len { result ≡ prefix_len bytes.is_name_byte text.now }
     ensures within { result ≤ length text.now }
@@ -121,9 +122,11 @@ fn escape(text: &[u8]) -> Option<(Found<'_>, usize)>
     }
 }
 
-/// How many bytes behind a `$` belong to its escape, where the text that follows the `$` makes it one; None where it is none.
+/// How many bytes behind a `$` belong to its escape, where the text that follows the `$` makes it one; None where it is
+/// none.
 ///
-/// Escapes are `$$`, `$ `, `$:`, `$name`, `${name}`, and `$` with a newline and the spaces behind that (Ninja manual, "Lexical syntax").
+/// Escapes are `$$`, `$ `, `$:`, `$name`, `${name}`, and `$` with a newline and the spaces behind that (Ninja manual,
+/// "Lexical syntax").
 pub fn escape_len(text: &[u8]) -> Option<usize>
     ensures len { result ≡ syntax.escape_size text.now }
     ensures within { IfSome result (λ n. n ≤ length text.now) }
@@ -178,7 +181,8 @@ fn is_plain(byte: u8) -> bool
     PLAIN[usize::from(byte)]
 }
 
-/// How many bytes a path begins with that stand for themselves. Paths are short: a look at each byte is sooner done than a search.
+/// How many bytes a path begins with that stand for themselves. Paths are short: a look at each byte is sooner done
+/// than a search.
 fn plain_path_len(text: &[u8]) -> usize
     ensures len { result ≡ position_or_len (is_special mode.Path) text.now }
     ensures within { result ≤ length text.now }
@@ -211,7 +215,8 @@ impl Gather {
         Ok(())
     }
 
-    /// Ends the literal, where another piece follows: the first two take no more room than they need, since most texts have no others.
+    /// Ends the literal, where another piece follows: the first two take no more room than they need, since most texts
+    /// have no others.
     fn finish_literal(&mut self) -> Result<(), AllocError>
         ensures literal { OnOk result (self.new.literal ≡ []) }
         ensures done { OnOk result (self.new.done.items ≡ self.old.done.items ++ literal_of self.old.literal) }
@@ -313,9 +318,10 @@ pub fn pieces_at(
 
 /// The pieces of a path or a value, in their order, or the first place where no rule goes on.
 ///
-/// A `$` is read as the Ninja manual's section "Lexical syntax" has it; `$` with a newline, and the spaces behind that, give no bytes. Every other byte stands for itself, a
-/// space, `:` or `|` too, so hand it one path at a time. Refused are a `$` that begins no escape (`BadEscape`), a NUL (`NulByte`), and in a
-/// path a tab (`TabBlank`). `Memory` may come in place of any answer.
+/// A `$` is read as the Ninja manual's section "Lexical syntax" has it; `$` with a newline, and the spaces behind that,
+/// give no bytes. Every other byte stands for itself, a space, `:` or `|` too, so hand it one path at a time. Refused
+/// are a `$` that begins no escape (`BadEscape`), a NUL (`NulByte`), and in a path a tab (`TabBlank`). `Memory` may
+/// come in place of any answer.
 pub fn pieces(alloc: Global, text: &[u8], mode: Mode) -> Result<PieceList, TextFault>
     ensures { Meets TextFault.Memory (λ v. v) result (pieces_of mode text.now) }
 {

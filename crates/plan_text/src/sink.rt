@@ -19,7 +19,8 @@ pub trait Sink {
     /// The bytes that it took, where these are known, as in memory; of a file or a terminal nothing is known.
     ghost taken: { Self → Option (List ℕ) };
 
-    /// Takes some of the bytes from the front, at least one where there is one, and answers how many; or it takes none, and counts a failure.
+    /// Takes some of the bytes from the front, at least one where there is one, and answers how many; or it takes none,
+    /// and counts a failure.
     fn write(&mut self, bytes: &[u8]) -> Result<usize, SinkFault>
         ensures bound { IfOk result (λ n. n ≤ length bytes.now) }
         ensures some { IfOk result (λ n. 0 < length bytes.now → 0 < n) }

@@ -5,7 +5,8 @@ ghost use Rattle.std.specs.Borrow.{ftrue};
 
 use std::marker::Model;
 
-/// A number that only clauses read, as `count`. It takes no memory, has no greatest value, and costs nothing at run time.
+/// A number that only clauses read, as `count`. It takes no memory, has no greatest value, and costs nothing at run
+/// time.
 ///
 /// It counts what a trait's ghost member says, as the `failures` of a `Sink`; by itself it says nothing of a program.
 #[derive(Drop)]

@@ -2,7 +2,7 @@ use Rattle.std.proofs.Common.{◌∙◌, None, List, ℕ, ap, map, subst, sym}
 use Rattle.plan_graph.specs.Fitting.{IsAscending, producers}
 use Rattle.plan_graph.proofs.EdgeReaderLemmas.{row_is, row_okay}
 use Rattle.plan_graph.proofs.WaitsLemmas.{named_defaults}
-use Rattle.plan_graph.proofs.defaults.default_edges.Goals as goal
+use Rattle.plan_graph.proofs.build_graph.default_edges.Goals as goal
 
 pub returns : goal.returns
 returns c =

@@ -4,8 +4,8 @@ use Rattle.std.specs.List.{list_any}
 use Rattle.plan_graph.specs.Files.{file_at}
 use Rattle.plan_graph.specs.Graph.{is_last, numbers_from}
 use Rattle.plan_graph.proofs.WaitsLemmas.{last_step}
-use Rattle.plan_graph.proofs.defaults.last_edges.Goals as goal
-use Rattle.plan_graph.proofs.defaults.last_edges.Goals.{then-has_unused+in_ok-push, else-has_unused}
+use Rattle.plan_graph.proofs.build_graph.last_edges.Goals as goal
+use Rattle.plan_graph.proofs.build_graph.last_edges.Goals.{then-has_unused+in_ok-push, else-has_unused}
 
 pub loop-number-preserved : goal.loop-number-preserved
 loop-number-preserved c =
