@@ -1,4 +1,4 @@
-use Rattle.std.proofs.Common.{◌≡◌, ◌+◌, ◌*◌, ◌++◌, Ok, map}
+use Rattle.std.proofs.Common.{◌+◌, ◌*◌}
 use Rattle.plan_parse.specs.Compact.{said_in}
 use Rattle.plan_scope.proofs.LoaderLemmas.{LoadsSoFar}
 use Rattle.plan_scope.proofs.tree.loader.+loading.Given as goal
