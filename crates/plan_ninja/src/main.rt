@@ -42,12 +42,12 @@ fn print_commands<R: Files + Print + AllocGlobal>(rt: &R, path: &str) -> Result<
     let status = do_commands(alloc, &mut source, path.as_bytes(), &mut out)?;
     match out.into_writer().flush() {
         Ok(()) => Ok(status),
-        Err(_) => Err(output_failure(alloc)),
+        Err(_) => Err(output_fault_or_memory(alloc)),
     }
 }
 
 /// The fault of the standard output.
-fn output_failure(alloc: Global) -> PlanFault
+fn output_fault_or_memory(alloc: Global) -> PlanFault
     ensures { (result ≡ defined.output_fault) ⊎ (result ≡ defined.no_memory) }
 {
     match output_fault(alloc) {
@@ -79,7 +79,7 @@ fn show<R: Print + Eprint + AllocGlobal, E: Print>(rt: &R, errors: &E, error: &E
     }
     match printed {
         Ok(()) => 0,
-        Err(_) => report(rt.alloc(), errors, &output_failure(rt.alloc())),
+        Err(_) => report(rt.alloc(), errors, &output_fault_or_memory(rt.alloc())),
     }
 }
 

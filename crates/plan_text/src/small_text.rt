@@ -31,7 +31,7 @@ impl Model for SmallText {
 }
 
 /// The bytes of both texts, in an allocation with the room that they need.
-fn joined(alloc: Global, text: &[u8], more: &[u8]) -> Result<Vec<u8>, AllocError>
+fn concatenate(alloc: Global, text: &[u8], more: &[u8]) -> Result<Vec<u8>, AllocError>
     ensures { IfOk result (λ v. v.items ≡ text.now ++ more.now) }
 {
     let mut heap = Vec::with_capacity(alloc, text.len().saturating_add(more.len()))?;
@@ -63,7 +63,7 @@ impl SmallText {
     {
         let held = match self.held {
             Held::Inline(front) if front.has_room(more.len()) => Held::Inline(front.with(more)),
-            Held::Inline(front) => Held::Heap(joined(alloc, front.as_slice(), more)?),
+            Held::Inline(front) => Held::Heap(concatenate(alloc, front.as_slice(), more)?),
             Held::Heap(mut heap) => {
                 heap.extend_from_slice(more)?;
                 Held::Heap(heap)
