@@ -31,7 +31,7 @@ Where the manifest is refused nothing is printed but the reason, on standard err
 const FILE_HELP: &str = "The manifest to read, as build.ninja";
 
 /// The commands and arguments that the program knows.
-fn known<'a>(alloc: Global) -> Result<Command<'a>, AllocError> {
+fn program_command<'a>(alloc: Global) -> Result<Command<'a>, AllocError> {
     let file = Arg::new(alloc, "FILE")
         .required(true)
         .action(ArgAction::Set)
@@ -49,8 +49,8 @@ fn known<'a>(alloc: Global) -> Result<Command<'a>, AllocError> {
 }
 
 /// The error of words that can't be read: one that is no text, or want of memory.
-fn unreadable(alloc: Global, error: &io::Error) -> Result<Error, AllocError> {
-    let mut command = known(alloc)?;
+fn words_error(alloc: Global, error: &io::Error) -> Result<Error, AllocError> {
+    let mut command = program_command(alloc)?;
     match error.kind() {
         io::ErrorKind::InvalidData => {
             command.error(ErrorKind::InvalidValue, "an argument is not valid UTF-8")
@@ -63,13 +63,13 @@ fn unreadable(alloc: Global, error: &io::Error) -> Result<Error, AllocError> {
 pub fn words_in<R: Env + AllocGlobal>(rt: &R) -> Result<Vec<String>, Error> {
     match env::args(rt) {
         Ok(words) => Ok(words.collect(rt.alloc())?),
-        Err(error) => Err(unreadable(rt.alloc(), &error)?),
+        Err(error) => Err(words_error(rt.alloc(), &error)?),
     }
 }
 
 /// What the words of the command line ask for, or the text that is shown in its place: an error, or help.
 pub fn request_in<'a>(alloc: Global, words: &'a [String]) -> Result<Request<'a>, Error> {
-    let mut command = known(alloc)?;
+    let mut command = program_command(alloc)?;
     let matches = command.try_get_matches_from_mut(words)?;
     match matches.subcommand() {
         Some(("commands", found)) => match found.get_str("FILE") {

@@ -29,7 +29,7 @@ const MORE_FILES: usize = 63;
 const FIRST_SCOPE: usize = 0;
 
 /// The fault of a statement.
-fn refused(alloc: Global, statement: &TreeStatement, cause: Cause) -> ScopeFault
+fn refusal_of(alloc: Global, statement: &TreeStatement, cause: Cause) -> ScopeFault
     ensures { IsRefusal statement.now cause result }
 {
     match statement.refusal(alloc, cause) {
@@ -166,7 +166,7 @@ fn with_statement(
         greatest,
     } = loaded;
     match bind_statement(alloc, &mut bound, &statement) {
-        Ok(true) => return Err(refused(alloc, &statement, Cause::TextTooLong)),
+        Ok(true) => return Err(refusal_of(alloc, &statement, Cause::TextTooLong)),
         Ok(false) => {}
         Err(_) => return Err(ScopeFault::LoadMemory),
     }
@@ -260,7 +260,7 @@ fn load_statement<S: Source>(
     match included_path(alloc, &loaded, &statement, left) {
         Ok(None) => with_statement(alloc, loaded, statement),
         Ok(Some(path)) => load_included(alloc, source, loaded, statement, path, left),
-        Err(StatementFault::Refused(cause)) => Err(refused(alloc, &statement, cause)),
+        Err(StatementFault::Refused(cause)) => Err(refusal_of(alloc, &statement, cause)),
         Err(StatementFault::Memory) => Err(ScopeFault::LoadMemory),
     }
 }
