@@ -1,9 +1,10 @@
 #!/usr/bin/env python3
 """Checks that the documents lead where they say.
 
-Of docs/MANIFEST.md, both ways: each definition, function, row and must-fail edit that a rule names is in its crate,
-what stands under "done" is reached from the program's `main` (call_graph.py), and every row and every edit stands under
-a rule. Of the other documents, what doc_names.py says. Each fault is a line; the last line is how many there are.
+Of docs/MANIFEST.md and docs/DEPFILE.md, both ways: each definition, function, row and must-fail edit that a rule names
+is in its crate, what stands under "done" is reached from the program's `main` (call_graph.py), and every row and every
+edit stands under a rule. Of the other documents, what doc_names.py says. Each fault is a line; the last line is how
+many there are.
 """
 import argparse
 import fnmatch
@@ -17,8 +18,8 @@ import call_graph
 import doc_names
 
 ROOT = pathlib.Path(__file__).resolve().parent.parent
-MANIFEST = ROOT / "docs" / "MANIFEST.md"
-KEYS = {"manual", "defined", "done", "offered", "rows", "tests", "examples", "edits"}
+PAGES = ("MANIFEST.md", "DEPFILE.md")
+KEYS = {"manual", "defined", "done", "offered", "rows", "tests", "examples", "texts", "edits"}
 
 
 class Rule(NamedTuple):
@@ -132,21 +133,22 @@ def edits_of(rule: Rule) -> set[tuple[str, str]]:
     return {(crate, name) for crate, text in rule.groups("edits") for name in re.findall(r"\w+", text)}
 
 
-def manifest_faults() -> Iterator[str]:
-    found, functions = list(rules(MANIFEST.read_text())), Functions()
-    for rule in found:
-        yield from (f"{rule.title}: {fault}" for fault in faults_of(rule, functions))
-    shown = set[str]().union(*(names for rule in found for _, names in fitting(rule.parts.get("rows", ""), rows())))
-    guarding = set[tuple[str, str]]().union(*map(edits_of, found))
-    yield from (f"the row {name} stands under no rule" for name in rows() if name not in shown)
-    yield from (f"the edit {name} of {crate} stands under no rule" for crate, name in sorted(edits() - guarding))
-    if not found:
-        yield "no rules"
+def page_faults() -> Iterator[str]:
+    found, functions = {page: list(rules((ROOT / "docs" / page).read_text())) for page in PAGES}, Functions()
+    for page, on_it in found.items():
+        yield from (f"{page}: {rule.title}: {fault}" for rule in on_it for fault in faults_of(rule, functions))
+        if not on_it:
+            yield f"{page}: no rules"
+    every = [rule for on_it in found.values() for rule in on_it]
+    shown = set[str]().union(*(names for rule in every for _, names in fitting(rule.parts.get("rows", ""), rows())))
+    guarding = set[tuple[str, str]]().union(*map(edits_of, every))
+    yield from (f": the row {name} stands under no rule" for name in rows() if name not in shown)
+    yield from (f": the edit {name} of {crate} stands under no rule" for crate, name in sorted(edits() - guarding))
 
 
 def main() -> None:
     argparse.ArgumentParser(description=__doc__, formatter_class=argparse.RawDescriptionHelpFormatter).parse_args()
-    found = [f"docs/MANIFEST.md: {fault}" for fault in manifest_faults()] + list(doc_names.faults())
+    found = [f"docs/{fault}" for fault in page_faults()] + list(doc_names.faults())
     for fault in found:
         print(fault)
     print(f"documents: {len(found)} faults")
