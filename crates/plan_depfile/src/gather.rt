@@ -10,7 +10,8 @@ use plan_text::Memory;
 use std::alloc::Global;
 use std::marker::Model;
 
-/// Gathers a depfile's bytes, and reads them as they come. Contracts see the bytes. Behind a fault of the grammar it goes on to gather.
+/// Gathers a depfile's bytes, and reads them as they come. Contracts see the bytes. Behind a fault of the grammar it
+/// goes on to gather.
 #[derive(Drop)]
 pub struct Gather {
     reader: Reader,
