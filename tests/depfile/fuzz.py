@@ -2,7 +2,7 @@
 """Compares what plan_depfile says of depfiles with the plain reading of reading.py: random texts cut at random places,
 and what gcc and clang write for sources and headers with blanks, `#`, `$` and colons in their names.
 
-The program dep_read beside this file is proved and built in a copy of the two crates (some minutes from nothing).
+The program of dep_read.rt.txt beside this file is proved and built in a copy of the two crates (some minutes from nothing).
 The last line is `N passed, M failed`.
 """
 import argparse
@@ -33,7 +33,9 @@ def built(home):
     shutil.copy(ROOT / "HANDLES", home / "HANDLES")
     for crate in ["plan_text", "plan_depfile"]:
         shutil.copytree(ROOT / "crates" / crate, home / "crates" / crate)
-    shutil.copytree(HERE / "dep_read", home / "crates" / "dep_read")
+    source = home / "crates" / "dep_read" / "src"
+    source.mkdir(parents=True)
+    shutil.copy(HERE / "dep_read.rt.txt", source / "main.rt")
     (home / "crates" / "dep_read" / "cases").write_bytes(b"")
     subprocess.run(["rt", "run"], cwd=home / "crates" / "dep_read", check=True, stdout=subprocess.DEVNULL)
     return home / "crates" / "dep_read" / "out" / "dep_read"
