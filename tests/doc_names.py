@@ -93,6 +93,16 @@ def name_faults() -> Iterator[str]:
         yield from (f"doc_names.py: {path.name} needs no exception for {word}" for word in sorted(unneeded))
 
 
+def file_faults() -> Iterator[str]:
+    """Files of the crates that a page names and that are gone: sources by `name.rt`, others as specs/Name, proofs/Name."""
+    files = {path.name for path in (ROOT / "crates").rglob("*.rt")}
+    for folder in ("specs", "proofs"):
+        files |= {f"{folder}/{path.stem}" for path in ROOT.glob(f"crates/*/{folder}/*.antt")}
+    for path in [*sorted((ROOT / "docs").glob("*.md")), ROOT / "README.md", ROOT / "CONTRIBUTING.md"]:
+        named = re.findall(r"\b[a-z][a-z_]*\.rt\b(?!\.)|\b(?:specs|proofs)/[A-Z]\w+", path.read_text())
+        yield from (f"{path.relative_to(ROOT)}: no file {name}" for name in sorted(set(named) - files))
+
+
 def width_faults() -> Iterator[str]:
     for path in (path for pattern in NARROW for path in sorted(ROOT.glob(pattern))):
         name = str(path.relative_to(ROOT))
@@ -107,4 +117,5 @@ def faults() -> Iterator[str]:
     text = (ROOT / "docs" / "FAULTS.md").read_text()
     yield from (f"docs/FAULTS.md: {fault}" for fault in fault_faults(text))
     yield from name_faults()
+    yield from file_faults()
     yield from width_faults()
