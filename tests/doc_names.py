@@ -94,12 +94,12 @@ def name_faults() -> Iterator[str]:
 
 
 def file_faults() -> Iterator[str]:
-    """Files of the crates that a page names and that are gone: sources by `name.rt`, others as specs/Name, proofs/Name."""
+    """Files of the crates that a page names and that are gone: sources by `name.rt`, others as specs/Name."""
     files = {path.name for path in (ROOT / "crates").rglob("*.rt")}
     for folder in ("specs", "proofs"):
         files |= {f"{folder}/{path.stem}" for path in ROOT.glob(f"crates/*/{folder}/*.antt")}
     for path in [*sorted((ROOT / "docs").glob("*.md")), ROOT / "README.md", ROOT / "CONTRIBUTING.md"]:
-        named = re.findall(r"\b[a-z][a-z_]*\.rt\b(?!\.)|\b(?:specs|proofs)/[A-Z]\w+", path.read_text())
+        named = re.findall(r"\b[a-z]\w*\.rt\b(?!\.)|\b(?:specs|proofs)/[A-Z][a-z]\w*", path.read_text())
         yield from (f"{path.relative_to(ROOT)}: no file {name}" for name in sorted(set(named) - files))
 
 
