@@ -1,0 +1,5 @@
+use Rattle.plan_image.proofs.BodyLaws.{split_is}
+use Rattle.plan_image.proofs.body.split_law.Goals as goal
+
+pub returns : goal.returns
+returns c = split_is

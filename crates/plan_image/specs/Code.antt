@@ -1,0 +1,43 @@
+-- What the crates above read of an image: its tables, and the code of each edge.
+use Rattle.std.specs.Prelude.{◌≡◌, ◌<◌, ℕ, List, [], length, Option, Some, None, slice_get}
+use Rattle.plan_image.specs.declared.instr.Instr.{Instr}
+use Rattle.plan_image.specs.declared.instr.BodyInstr.{BodyInstr}
+use Rattle.plan_image.specs.declared.image.EdgeCode.{EdgeCode}
+use Rattle.plan_image.specs.declared.image.EdgeCode.TheVariants as code_form
+use Rattle.plan_image.specs.declared.image.Edge.{Edge}
+use Rattle.plan_image.specs.declared.image.Parts.{Parts}
+use Rattle.plan_image.specs.Bodies.{filled, opens}
+
+abbrev or_empty : Option (List BodyInstr) → List BodyInstr
+or_empty (Some is) = is
+or_empty None = []
+
+-- the body of that number, none where it is outside
+abbrev pub body : Option (List (List BodyInstr)) → ℕ → List BodyInstr
+body None n = []
+body (Some bs) n = or_empty (slice_get bs n)
+
+-- the instructions that an edge's code stands for
+abbrev pub meant : Option (List (List BodyInstr)) → EdgeCode → List Instr
+meant bodies (code_form.Own is) = is
+meant bodies (code_form.Shared n ns) = filled (body bodies n) ns
+
+abbrev pub edge_code : Option (List (List BodyInstr)) → Option Edge → List Instr
+edge_code bodies (Some edge) = meant bodies edge.code
+edge_code bodies None = []
+
+-- the instructions of an edge, none where the number is outside
+abbrev pub code : Parts → ℕ → List Instr
+code parts e = edge_code parts.bodies (slice_get parts.edges e)
+
+-- the code has the form of the version, and as many numbers as its body has open instructions
+abbrev pub HasBody : Option (List (List BodyInstr)) → EdgeCode → Type 0
+HasBody None (code_form.Own is) = Unit {0}
+HasBody None (code_form.Shared n ns) = ⊥
+HasBody (Some bs) (code_form.Own is) = ⊥
+HasBody (Some bs) (code_form.Shared n ns) = (n < length bs) × (length ns ≡ opens (body (Some bs) n))
+
+-- numbers for the body of that number
+abbrev pub IsShared : ℕ → EdgeCode → Type 0
+IsShared n (code_form.Own is) = ⊥
+IsShared n (code_form.Shared m ns) = m ≡ n

@@ -1,0 +1,8 @@
+pub mod Bodies
+pub mod Code
+pub mod Spelling
+pub mod Reading
+pub mod Outcome
+pub mod Refusal
+pub mod Makers
+pub mod Listing

@@ -1,0 +1,202 @@
+//! Bodies that edges share.
+
+ghost use Rattle.std.specs.Prelude.{◌≡◌, ◌+◌, ◌<◌, ◌≤◌, ◌^◌, ◌∷◌, ◌++◌, [], length, List, IfOk, OnOk, slice_get, get_or};
+ghost use Rattle.plan_image.specs.declared.instr.BodyInstr.{BodyInstr};
+ghost use Rattle.plan_image.specs.Bodies.{opens, ranks_from, filled, put, IsSplit, body_of, operands_of, left_open};
+
+use std::alloc::{AllocError, Global};
+use std::marker::Model;
+
+use plan_text::Items;
+use crate::instr::{BodyInstr, Instr, Opening};
+
+/// Instructions, some of whose numbers stand in the edges.
+#[derive(Debug, Drop)]
+pub struct Body {
+    instrs: Vec<BodyInstr>,
+    ranks: Vec<usize>,
+    open_count: usize,
+}
+
+impl Model for Body {
+    ghost use Rattle.std.specs.Prelude.{◌≡◌, List};
+    ghost use Rattle.plan_image.specs.declared.instr.BodyInstr.{BodyInstr};
+    ghost use Rattle.plan_image.specs.Bodies.{opens, ranks_from};
+
+    ghost Value = { List BodyInstr };
+
+    ghost view = { λ b. b.instrs.items };
+
+    ghost invariant = { λ b. (b.ranks.items ≡ ranks_from 0 b.instrs.items) × (b.open_count ≡ opens b.instrs.items) };
+}
+
+/// One more where the instruction is open.
+fn next_rank(rank: usize, instr: BodyInstr) -> usize
+    requires { rank < 2 ^ 63 }
+    ensures ranks { (is : List BodyInstr) → ranks_from rank (instr ∷ is) ≡ rank ∷ ranks_from result is }
+    ensures opens { (is : List BodyInstr) → rank + opens (instr ∷ is) ≡ result + opens is }
+    ensures most { result ≤ rank + 1 }
+{
+    match instr {
+        BodyInstr::Fixed(_instr) => rank,
+        BodyInstr::Open(_opening) => rank + 1,
+    }
+}
+
+/// An open instruction with its number.
+const fn with_number(opening: Opening, number: u32) -> Instr
+    ensures { result ≡ put opening number }
+{
+    match opening {
+        Opening::Stat => Instr::Stat(number),
+        Opening::Need => Instr::Need(number),
+        Opening::Load => Instr::Load(number),
+        Opening::Store => Instr::Store(number),
+        Opening::Text => Instr::Text(number),
+    }
+}
+
+impl Body {
+    ghost use Rattle.std.specs.Prelude.{◌≡◌, length, IfOk, slice_get};
+    ghost use Rattle.plan_image.specs.Bodies.{opens, filled};
+
+    /// The body of these instructions.
+    pub fn from_vec(alloc: Global, instrs: Vec<BodyInstr>) -> Result<Body, AllocError>
+        ensures { IfOk result (λ b. b ≡ instrs.items) }
+    {
+        let mut ranks = Vec::with_capacity(alloc, instrs.len())?;
+        let mut open_count = 0usize;
+        for &instr in instrs.as_slice() {
+            ranks.push(open_count)?;
+            open_count = next_rank(open_count, instr);
+        }
+        Ok(Body { instrs, ranks, open_count })
+    }
+
+    pub fn len(&self) -> usize
+        ensures { result ≡ length self.now }
+    {
+        self.instrs.len()
+    }
+
+    pub fn as_slice(&self) -> &[BodyInstr]
+        ensures { result.now ≡ self.now }
+    {
+        self.instrs.as_slice()
+    }
+
+    /// How many instructions are open.
+    pub fn open_count(&self) -> usize
+        ensures { result ≡ opens self.now }
+    {
+        self.open_count
+    }
+
+    /// How many instructions there are, with the numbers of an edge put in.
+    pub fn filled_len(&self, _numbers: &[u32]) -> usize
+        ensures { result ≡ length (filled self.now _numbers.now) }
+    {
+        self.len()
+    }
+
+    /// The instruction at a place, with the numbers of an edge put in.
+    pub fn instr(&self, numbers: &[u32], place: usize) -> Option<Instr>
+        ensures { result ≡ slice_get (filled self.now numbers.now) place }
+    {
+        let instr = instr_at(self.instrs.as_slice(), place);
+        let rank = rank_at(self.ranks.as_slice(), place);
+        seen(numbers, instr, rank)
+    }
+}
+
+/// An instruction of a body, with the number of that rank.
+fn seen(numbers: &[u32], instr: Option<BodyInstr>, rank: usize) -> Option<Instr>
+    ensures { result ≡ Rattle.plan_image.specs.Bodies.seen numbers.now instr rank }
+{
+    match instr {
+        None => None,
+        Some(BodyInstr::Fixed(instr)) => Some(instr),
+        Some(BodyInstr::Open(opening)) => Some(with_number(opening, number_at(numbers, rank))),
+    }
+}
+
+fn instr_at(instrs: &[BodyInstr], place: usize) -> Option<BodyInstr>
+    ensures { result ≡ slice_get instrs.now place }
+{
+    instrs.get(place).copied()
+}
+
+fn rank_at(ranks: &[usize], place: usize) -> usize
+    ensures { result ≡ get_or ranks.now place 0 }
+{
+    match ranks.get(place) {
+        Some(rank) => *rank,
+        None => 0,
+    }
+}
+
+/// The number of that rank, 0 where there are too few.
+fn number_at(numbers: &[u32], rank: usize) -> u32
+    ensures { result ≡ get_or numbers.now rank 0 }
+{
+    match numbers.get(rank) {
+        Some(number) => *number,
+        None => 0,
+    }
+}
+
+/// An instruction whose number is left open, where it can be.
+const fn opened(instr: Instr) -> BodyInstr
+    ensures { result ≡ Rattle.plan_image.specs.Bodies.opened instr }
+{
+    match instr {
+        Instr::Stat(_number) => BodyInstr::Open(Opening::Stat),
+        Instr::Need(_number) => BodyInstr::Open(Opening::Need),
+        Instr::Load(_number) => BodyInstr::Open(Opening::Load),
+        Instr::Store(_number) => BodyInstr::Open(Opening::Store),
+        Instr::Text(_number) => BodyInstr::Open(Opening::Text),
+        fixed => BodyInstr::Fixed(fixed),
+    }
+}
+
+fn push_number(numbers: &mut Vec<u32>, number: u32) -> Result<(), AllocError>
+    ensures { OnOk result (numbers.new.items ≡ numbers.old.items ++ number ∷ []) }
+{
+    numbers.push(number)?;
+    Ok(())
+}
+
+/// The number that is left open behind the others.
+fn push_open(numbers: &mut Vec<u32>, instr: Instr) -> Result<(), AllocError>
+    ensures { OnOk result (numbers.new.items ≡ numbers.old.items ++ left_open instr) }
+{
+    match instr {
+        Instr::Stat(number) => push_number(numbers, number),
+        Instr::Need(number) => push_number(numbers, number),
+        Instr::Load(number) => push_number(numbers, number),
+        Instr::Store(number) => push_number(numbers, number),
+        Instr::Text(number) => push_number(numbers, number),
+        _fixed => Ok(()),
+    }
+}
+
+/// The body of a code, and the numbers for its open instructions.
+pub fn split(alloc: Global, code: &[Instr]) -> Result<(Body, Items<u32>), AllocError>
+    ensures body { IfOk result (λ x. x.0 ≡ body_of code.now) }
+    ensures numbers { IfOk result (λ x. x.1 ≡ operands_of code.now) }
+{
+    let mut instrs = Vec::with_capacity(alloc, code.len())?;
+    let mut numbers = Vec::new(alloc);
+    for &instr in code {
+        instrs.push(opened(instr))?;
+        push_open(&mut numbers, instr)?;
+    }
+    let body = Body::from_vec(alloc, instrs)?;
+    Ok((body, Items::new(numbers)))
+}
+
+/// Each code is its body with its numbers put in.
+pub fn split_law()
+    ensures { IsSplit }
+{
+}

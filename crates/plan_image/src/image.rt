@@ -1,0 +1,221 @@
+//! The tables of an image.
+
+ghost use Rattle.std.specs.Prelude.{◌≡◌, ◌↔◌, IsTrue, IsOk, IfOk, IfErr, length, slice_get};
+ghost use Rattle.plan_image.specs.Bodies.{filled};
+ghost use Rattle.plan_image.specs.Code.{meant, body};
+ghost use Rattle.plan_image.specs.Spelling.{HasSpelling, IsPrefixFree};
+
+use std::marker::Model;
+
+use plan_text::Items;
+use crate::body::Body;
+use crate::fault::{Cause, ImageFault};
+use crate::instr::{Instr, Kind};
+use crate::limits::{is_filled, is_in_order, is_within_limits};
+
+#[derive(Clone, Copy, Debug, PartialEq, Eq)]
+pub enum Sort {
+    Command,
+    Phony,
+}
+
+#[derive(Debug, Drop)]
+pub struct Pool {
+    pub name: Items<u8>,
+    pub depth: u32,
+}
+
+#[derive(Clone, Copy, Debug, PartialEq, Eq)]
+pub struct Slot {
+    pub owner: u32,
+    pub kind: Kind,
+}
+
+#[derive(Debug, Drop)]
+pub struct Edge {
+    pub sort: Sort,
+    pub pool: Option<u32>,
+    pub rank: u32,
+    pub label: u32,
+    pub outputs: Items<u32>,
+    pub waits: Items<u32>,
+    pub code: EdgeCode,
+}
+
+/// The instructions of an edge.
+#[derive(Debug, Drop)]
+pub enum EdgeCode {
+    /// Its own.
+    Own(Items<Instr>),
+    /// A body by its number, and a number for each open instruction of it.
+    Shared(u32, Items<u32>),
+}
+
+#[derive(Clone, Copy, Debug, PartialEq, Eq)]
+pub enum Version {
+    One,
+    Two,
+}
+
+#[derive(Debug, Drop)]
+pub struct Parts {
+    pub texts: Items<Items<u8>>,
+    pub files: Items<Items<u8>>,
+    pub pools: Items<Pool>,
+    pub slots: Items<Slot>,
+    /// The bodies that edges share, where the version is two.
+    pub bodies: Option<Items<Body>>,
+    pub edges: Items<Edge>,
+    pub defaults: Items<u32>,
+}
+
+impl Parts {
+    ghost use Rattle.std.specs.Prelude.{◌≡◌};
+    ghost use Rattle.plan_image.specs.Spelling.{version_of};
+
+    /// Version two has a table of bodies.
+    pub fn version(&self) -> Version
+        ensures { result ≡ version_of self.now.bodies }
+    {
+        match &self.bodies {
+            None => Version::One,
+            Some(_bodies) => Version::Two,
+        }
+    }
+}
+
+/// The number of instructions that an edge's code stands for.
+pub(crate) fn meant_len(bodies: &Option<Items<Body>>, code: &EdgeCode) -> usize
+    ensures { result ≡ length (meant bodies.now code.now) }
+{
+    match code {
+        EdgeCode::Own(instrs) => instrs.len(),
+        EdgeCode::Shared(number, numbers) => filled_len(bodies, *number, numbers.as_slice()),
+    }
+}
+
+fn filled_len(bodies: &Option<Items<Body>>, number: u32, numbers: &[u32]) -> usize
+    ensures { result ≡ length (filled (body bodies.now number) numbers.now) }
+{
+    match bodies {
+        None => 0,
+        Some(bodies) => match bodies.as_slice().get(number as usize) {
+            None => 0,
+            Some(body) => body.filled_len(numbers),
+        },
+    }
+}
+
+/// The instruction at a place of an edge's code.
+fn meant_instr(bodies: &Option<Items<Body>>, code: &EdgeCode, place: usize) -> Option<Instr>
+    ensures { result ≡ slice_get (meant bodies.now code.now) place }
+{
+    match code {
+        EdgeCode::Own(instrs) => instrs.as_slice().get(place).copied(),
+        EdgeCode::Shared(number, numbers) => filled_instr(bodies, *number, numbers.as_slice(), place),
+    }
+}
+
+fn filled_instr(bodies: &Option<Items<Body>>, number: u32, numbers: &[u32], place: usize) -> Option<Instr>
+    ensures { result ≡ slice_get (filled (body bodies.now number) numbers.now) place }
+{
+    match bodies {
+        None => None,
+        Some(bodies) => match bodies.as_slice().get(number as usize) {
+            None => None,
+            Some(body) => body.instr(numbers, place),
+        },
+    }
+}
+
+/// Tables that have a spelling.
+#[derive(Debug, Drop)]
+pub struct Image {
+    parts: Parts,
+}
+
+impl Model for Image {
+    ghost use Rattle.plan_image.specs.declared.image.Parts.{Parts};
+
+    ghost Value = { Parts };
+
+    ghost use Rattle.plan_image.specs.Spelling.{HasSpelling};
+
+    ghost view = { λ i. i.parts };
+
+    ghost invariant = { λ i. HasSpelling i.parts };
+}
+
+impl Image {
+    ghost use Rattle.std.specs.Prelude.{◌≡◌, IsTrue, ◌↔◌, IfOk, IfErr, length, slice_get};
+    ghost use Rattle.plan_image.specs.Refusal.{IsPartsFault};
+    ghost use Rattle.plan_image.specs.Spelling.{HasSpelling};
+    ghost use Rattle.plan_image.specs.Code.{code};
+
+    /// The image of these tables; else the tables back, and why.
+    pub fn new(parts: Parts) -> Result<Image, (Parts, ImageFault)>
+        ensures made { IfOk result (λ i. i ≡ parts) }
+        ensures back { IfErr result (λ e. e.0 ≡ parts) }
+        ensures fault { IfErr result (λ e. IsPartsFault parts e.1) }
+    {
+        if !is_within_limits(&parts) {
+            return Err((parts, ImageFault::Bytes(Cause::Limit, 0)));
+        }
+        if !is_in_order(&parts) {
+            return Err((parts, ImageFault::Bytes(Cause::BadOrder, 0)));
+        }
+        if !is_filled(&parts) {
+            return Err((parts, ImageFault::Bytes(Cause::BadBody, 0)));
+        }
+        Ok(Image::sealed(parts))
+    }
+
+    /// The tables.
+    pub fn parts(&self) -> &Parts
+        ensures tables { result.now ≡ self.now }
+        ensures spelled { HasSpelling self.now }
+    {
+        &self.parts
+    }
+
+    /// The tables, given back.
+    pub fn into_parts(self) -> Parts
+        ensures tables { result ≡ self }
+        ensures spelled { HasSpelling self }
+    {
+        self.parts
+    }
+
+    /// The number of instructions of an edge, 0 where the edge is outside.
+    pub fn code_len(&self, edge: u32) -> usize
+        ensures { result ≡ length (code self.now edge) }
+    {
+        match self.parts.edges.as_slice().get(edge as usize) {
+            Some(edge) => meant_len(&self.parts.bodies, &edge.code),
+            None => 0,
+        }
+    }
+
+    /// The instruction at a place of an edge's code, where there is one.
+    pub fn instr(&self, edge: u32, place: u32) -> Option<Instr>
+        ensures { result ≡ slice_get (code self.now edge) place }
+    {
+        match self.parts.edges.as_slice().get(edge as usize) {
+            Some(edge) => meant_instr(&self.parts.bodies, &edge.code, place as usize),
+            None => None,
+        }
+    }
+
+    pub(crate) fn sealed(parts: Parts) -> Image
+        requires { HasSpelling parts }
+        ensures { result ≡ parts }
+    {
+        Image { parts }
+    }
+}
+
+/// No spelling of an image begins another.
+pub fn image_law()
+    ensures { IsPrefixFree }
+{
+}

@@ -1,0 +1,21 @@
+//! Images: the tables of a build plan and the code of its edges.
+#![tactic(auto)]
+
+mod body;
+mod fault;
+mod image;
+mod instr;
+mod limits;
+mod makers;
+mod reading;
+mod sizes;
+mod writing;
+
+pub use body::{Body, split, split_law};
+pub use fault::{Cause, ImageFault};
+pub use image::{Edge, EdgeCode, Image, Parts, Pool, Slot, Sort, Version, image_law};
+pub use makers::edge_of;
+pub use reading::read_image;
+pub use instr::{BodyInstr, Instr, Kind, Opening};
+
+pub use writing::write_image;

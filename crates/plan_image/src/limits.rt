@@ -1,0 +1,389 @@
+ghost use Rattle.std.specs.Prelude.{◌≡◌, ◌<◌, ◌≤◌, ◌^◌, ◌+◌, ◌↔◌, IsTrue, length};
+ghost use Rattle.std.specs.Prelude.{Option, Some, None, IfSome};
+ghost use Rattle.std.specs.List.{AllByRecursion};
+ghost use Rattle.plan_image.specs.Bodies.{opening_of, opens};
+ghost use Rattle.plan_image.specs.Code.{HasBody, body};
+ghost use Rattle.plan_image.specs.Spelling.{IsWord, AreWords, CodeFits, IsWithinLimits, CountsFit, ItemsFit, IsInOrder, RoomAfter, spelling, IsText, IsFileName, SlotFits, EdgeFits, PoolFits, instructions, pool_number, AscendsFrom, body_instructions, BodiesFit, IsFilled};
+
+use plan_text::Items;
+use crate::body::Body;
+use crate::image::{Edge, EdgeCode, Parts, Pool, Slot, meant_len};
+use crate::instr::{BodyInstr, Instr};
+use crate::sizes::parts_room;
+
+/// What must hold of each item of a list.
+trait Test {
+    ghost use Rattle.std.specs.Prelude.{IsTrue, ◌↔◌};
+
+    type Item;
+
+    ghost holds: { Self.Item → Type 0 };
+
+    fn test(item: &Self::Item) -> bool
+        ensures { IsTrue result ↔ holds item.now };
+}
+
+fn all<T: Test>(items: &[T::Item]) -> bool
+    ensures { IsTrue result ↔ AllByRecursion T.holds items.now }
+{
+    for item in items {
+        if !T::test(item) {
+            return false;
+        }
+    }
+    true
+}
+
+struct WordTest;
+
+impl Test for WordTest {
+    ghost use Rattle.plan_image.specs.Spelling.{IsWord};
+
+    type Item = u32;
+
+    ghost holds = { IsWord };
+
+    fn test(item: &u32) -> bool {
+        let _number = *item;
+        true
+    }
+}
+
+struct TextTest;
+
+impl Test for TextTest {
+    ghost use Rattle.plan_image.specs.Spelling.{IsText};
+
+    type Item = Items<u8>;
+
+    ghost holds = { IsText };
+
+    fn test(item: &Items<u8>) -> bool {
+        item.len() <= 1_048_576
+    }
+}
+
+struct FileTest;
+
+impl Test for FileTest {
+    ghost use Rattle.plan_image.specs.Spelling.{IsFileName};
+
+    type Item = Items<u8>;
+
+    ghost holds = { IsFileName };
+
+    fn test(item: &Items<u8>) -> bool {
+        !item.is_empty() && item.len() <= 4096
+    }
+}
+
+struct PoolTest;
+
+impl Test for PoolTest {
+    ghost use Rattle.plan_image.specs.Spelling.{PoolFits};
+
+    type Item = Pool;
+
+    ghost holds = { PoolFits };
+
+    fn test(item: &Pool) -> bool {
+        item.name.len() < 65_536 && item.depth <= 1_000_000
+    }
+}
+
+struct SlotTest;
+
+impl Test for SlotTest {
+    ghost use Rattle.plan_image.specs.Spelling.{SlotFits};
+
+    type Item = Slot;
+
+    ghost holds = { SlotFits };
+
+    fn test(item: &Slot) -> bool {
+        let _owner = item.owner;
+        true
+    }
+}
+
+struct InstrTest;
+
+impl Test for InstrTest {
+    ghost use Rattle.plan_image.specs.Spelling.{InstrFits};
+
+    type Item = Instr;
+
+    ghost holds = { InstrFits };
+
+    fn test(item: &Instr) -> bool {
+        match *item {
+            Instr::Stat(_n)
+            | Instr::Need(_n)
+            | Instr::Load(_n)
+            | Instr::Store(_n)
+            | Instr::Text(_n)
+            | Instr::Jump(_n)
+            | Instr::JumpIf(_n) => true,
+            _ => true,
+        }
+    }
+}
+
+fn are_words(items: &Items<u32>) -> bool
+    ensures { IsTrue result ↔ AreWords items.now }
+{
+    items.len() < 4_294_967_296 && all::<WordTest>(items.as_slice())
+}
+
+fn code_fits(code: &EdgeCode) -> bool
+    ensures { IsTrue result ↔ CodeFits code.now }
+{
+    match code {
+        EdgeCode::Own(instrs) => instrs.len() < 4_294_967_296 && all::<InstrTest>(instrs.as_slice()),
+        EdgeCode::Shared(number, numbers) => shared_fits(*number, numbers.as_slice()),
+    }
+}
+
+fn shared_fits(_number: u32, numbers: &[u32]) -> bool
+    ensures { IsTrue result ↔ IsWord _number × AllByRecursion IsWord numbers.now }
+{
+    all::<WordTest>(numbers)
+}
+
+/// Whether the number of an instruction can't be left open.
+fn is_closed(instr: Instr) -> bool
+    ensures { IsTrue result ↔ (opening_of instr ≡ None) }
+{
+    match instr {
+        Instr::Stat(_) | Instr::Need(_) | Instr::Load(_) | Instr::Store(_) | Instr::Text(_) => false,
+        _ => true,
+    }
+}
+
+struct BodyInstrTest;
+
+impl Test for BodyInstrTest {
+    ghost use Rattle.plan_image.specs.Spelling.{BodyInstrFits};
+
+    type Item = BodyInstr;
+
+    ghost holds = { BodyInstrFits };
+
+    fn test(item: &BodyInstr) -> bool {
+        match item {
+            BodyInstr::Fixed(instr) => is_closed(*instr) && InstrTest::test(instr),
+            BodyInstr::Open(_opening) => true,
+        }
+    }
+}
+
+struct BodyTest;
+
+impl Test for BodyTest {
+    ghost use Rattle.plan_image.specs.Spelling.{BodyFits};
+
+    type Item = Body;
+
+    ghost holds = { BodyFits };
+
+    fn test(item: &Body) -> bool {
+        item.len() <= 65_536 && all::<BodyInstrTest>(item.as_slice())
+    }
+}
+
+/// Whether the bodies have at most so many instructions.
+fn bodies_within(bodies: &[Body], most: u64) -> bool
+    ensures { IsTrue result ↔ (body_instructions bodies.now ≤ most) }
+{
+    let mut left = most;
+    for body in bodies {
+        match left.checked_sub(body.len() as u64) {
+            Some(rest) => left = rest,
+            None => return false,
+        }
+    }
+    true
+}
+
+fn table_fits(bodies: &Items<Body>) -> bool
+    ensures { IsTrue result ↔ BodiesFit bodies.now }
+{
+    bodies.len() <= 1_048_576 && all::<BodyTest>(bodies.as_slice()) && bodies_within(bodies.as_slice(), 16_777_216)
+}
+
+fn bodies_fit(bodies: &Option<Items<Body>>) -> bool
+    ensures { IsTrue result ↔ IfSome bodies.now BodiesFit }
+{
+    match bodies {
+        None => true,
+        Some(bodies) => table_fits(bodies),
+    }
+}
+
+/// How many instructions the edges may have.
+pub(crate) fn most_code(bodies: &Option<Items<Body>>) -> u64
+    ensures { result ≡ Rattle.plan_image.specs.Spelling.most_code bodies.now }
+{
+    match bodies {
+        None => 16_777_216,
+        Some(_bodies) => 67_108_864,
+    }
+}
+
+/// Whether the code has the form of the version, and a number for each open instruction.
+fn has_body(bodies: &Option<Items<Body>>, code: &EdgeCode) -> bool
+    ensures { IsTrue result ↔ HasBody bodies.now code.now }
+{
+    match bodies {
+        None => match code {
+            EdgeCode::Own(_instrs) => true,
+            EdgeCode::Shared(_number, _numbers) => false,
+        },
+        Some(bodies) => match code {
+            EdgeCode::Own(_instrs) => false,
+            EdgeCode::Shared(number, numbers) => fills(bodies.as_slice(), *number, numbers.len()),
+        },
+    }
+}
+
+fn fills(bodies: &[Body], number: u32, count: usize) -> bool
+    ensures { IsTrue result ↔ (number < length bodies.now) × (count ≡ opens (body (Some bodies.now) number)) }
+{
+    match bodies.get(number as usize) {
+        None => false,
+        Some(body) => count == body.open_count(),
+    }
+}
+
+pub(crate) fn is_filled(parts: &Parts) -> bool
+    ensures { IsTrue result ↔ IsFilled parts.now }
+{
+    all_filled(&parts.bodies, parts.edges.as_slice())
+}
+
+fn all_filled(bodies: &Option<Items<Body>>, edges: &[Edge]) -> bool
+    ensures { IsTrue result ↔ AllByRecursion (λ x. HasBody bodies.now x.code) edges.now }
+{
+    for edge in edges {
+        if !has_body(bodies, &edge.code) {
+            return false;
+        }
+    }
+    true
+}
+
+fn pool_fits(pool: Option<u32>) -> bool
+    ensures { IsTrue result ↔ IsWord (pool_number pool) }
+{
+    match pool {
+        None => true,
+        Some(pool) => pool < 4_294_967_295,
+    }
+}
+
+struct EdgeTest;
+
+impl Test for EdgeTest {
+    ghost use Rattle.plan_image.specs.Spelling.{EdgeFits};
+
+    type Item = Edge;
+
+    ghost holds = { EdgeFits };
+
+    fn test(item: &Edge) -> bool {
+        let _rank = item.rank;
+        let _label = item.label;
+        pool_fits(item.pool) && are_words(&item.outputs) && are_words(&item.waits) && code_fits(&item.code)
+    }
+}
+
+/// Whether so many numbers stand each above the one before.
+fn ascends(items: &[u32]) -> bool
+    ensures { IsTrue result ↔ AscendsFrom 0 items.now }
+{
+    let mut least = 0u64;
+    for &item in items {
+        if u64::from(item) < least {
+            return false;
+        }
+        least = u64::from(item) + 1;
+    }
+    true
+}
+
+struct OrderTest;
+
+impl Test for OrderTest {
+    ghost use Rattle.plan_image.specs.Spelling.{AscendsFrom};
+
+    type Item = Edge;
+
+    ghost holds = { λ x. AscendsFrom 0 x.waits };
+
+    fn test(item: &Edge) -> bool {
+        ascends(item.waits.as_slice())
+    }
+}
+
+pub(crate) fn is_in_order(parts: &Parts) -> bool
+    ensures { IsTrue result ↔ IsInOrder parts.now }
+{
+    all::<OrderTest>(parts.edges.as_slice()) && ascends(parts.defaults.as_slice())
+}
+
+/// Whether the edges have at most so many instructions.
+fn instructions_within(bodies: &Option<Items<Body>>, edges: &[Edge], most: u64) -> bool
+    ensures { IsTrue result ↔ (instructions bodies.now edges.now ≤ most) }
+{
+    let mut left = most;
+    for edge in edges {
+        match left.checked_sub(meant_len(bodies, &edge.code) as u64) {
+            Some(rest) => left = rest,
+            None => return false,
+        }
+    }
+    true
+}
+
+/// Whether each table has no more items than it may have.
+fn counts_fit(parts: &Parts) -> bool
+    ensures { IsTrue result ↔ CountsFit parts.now }
+{
+    parts.texts.len() <= 4_194_304
+        && parts.files.len() <= 4_194_304
+        && parts.pools.len() <= 4096
+        && parts.slots.len() <= 16_777_216
+        && parts.edges.len() <= 1_048_576
+}
+
+/// Whether each item fits.
+fn items_fit(parts: &Parts) -> bool
+    ensures { IsTrue result ↔ ItemsFit parts.now }
+{
+    all::<TextTest>(parts.texts.as_slice())
+        && all::<FileTest>(parts.files.as_slice())
+        && all::<PoolTest>(parts.pools.as_slice())
+        && all::<SlotTest>(parts.slots.as_slice())
+        && all::<EdgeTest>(parts.edges.as_slice())
+        && are_words(&parts.defaults)
+}
+
+fn fits_room(parts: &Parts) -> bool
+    ensures { IsTrue result ↔ (length (spelling parts.now) ≤ 268435456) }
+{
+    match parts_room(parts, 268_435_456) {
+        Some(_room) => true,
+        None => false,
+    }
+}
+
+/// Whether no limit is passed.
+pub(crate) fn is_within_limits(parts: &Parts) -> bool
+    ensures { IsTrue result ↔ IsWithinLimits parts.now }
+{
+    counts_fit(parts)
+        && items_fit(parts)
+        && bodies_fit(&parts.bodies)
+        && instructions_within(&parts.bodies, parts.edges.as_slice(), most_code(&parts.bodies))
+        && fits_room(parts)
+}

@@ -1,0 +1,234 @@
+//! How much room a spelling takes.
+
+ghost use Rattle.std.specs.Prelude.{◌≡◌, ◌++◌, ℕ, length};
+ghost use Rattle.std.specs.List.{flat_map};
+ghost use Rattle.plan_image.specs.Spelling.{counted, number, spelling, edge_code, RoomAfter};
+
+use plan_text::Items;
+use crate::body::Body;
+use crate::image::{Edge, EdgeCode, Parts, Pool, Slot};
+use crate::instr::{BodyInstr, Instr};
+
+/// What room is left behind an item.
+trait Measured {
+    ghost use Rattle.std.specs.Prelude.{List, ℕ, length};
+    ghost use Rattle.plan_image.specs.Spelling.{RoomAfter};
+
+    type Item;
+
+    ghost spell: { Self.Item → List ℕ };
+
+    fn room_after(item: &Self::Item, room: u64) -> Option<u64>
+        ensures { RoomAfter result (length (spell item.now)) room };
+}
+
+fn items_room<M: Measured>(items: &[M::Item], room: u64) -> Option<u64>
+    ensures { RoomAfter result (length (flat_map M.spell items.now)) room }
+{
+    let mut left = room;
+    for item in items {
+        match M::room_after(item, left) {
+            Some(rest) => left = rest,
+            None => return None,
+        }
+    }
+    Some(left)
+}
+
+fn counted_room<M: Measured>(items: &Items<M::Item>, room: u64) -> Option<u64>
+    ensures { RoomAfter result (length (counted M.spell items.now)) room }
+{
+    let room = room.checked_sub(4)?;
+    items_room::<M>(items.as_slice(), room)
+}
+
+struct Word;
+
+impl Measured for Word {
+    ghost use Rattle.plan_image.specs.Spelling.{number};
+
+    type Item = u32;
+
+    ghost spell = { number };
+
+    fn room_after(_item: &u32, room: u64) -> Option<u64> {
+        room.checked_sub(4)
+    }
+}
+
+struct LongText;
+
+impl Measured for LongText {
+    ghost use Rattle.plan_image.specs.Spelling.{long_text};
+
+    type Item = Items<u8>;
+
+    ghost spell = { long_text };
+
+    fn room_after(item: &Items<u8>, room: u64) -> Option<u64> {
+        let room = room.checked_sub(4)?;
+        room.checked_sub(item.len() as u64)
+    }
+}
+
+struct ShortText;
+
+impl Measured for ShortText {
+    ghost use Rattle.plan_image.specs.Spelling.{short_text};
+
+    type Item = Items<u8>;
+
+    ghost spell = { short_text };
+
+    fn room_after(item: &Items<u8>, room: u64) -> Option<u64> {
+        let room = room.checked_sub(2)?;
+        room.checked_sub(item.len() as u64)
+    }
+}
+
+struct PoolRoom;
+
+impl Measured for PoolRoom {
+    ghost use Rattle.plan_image.specs.Spelling.{pool};
+
+    type Item = Pool;
+
+    ghost spell = { pool };
+
+    fn room_after(item: &Pool, room: u64) -> Option<u64> {
+        let room = ShortText::room_after(&item.name, room)?;
+        room.checked_sub(4)
+    }
+}
+
+struct SlotRoom;
+
+impl Measured for SlotRoom {
+    ghost use Rattle.plan_image.specs.Spelling.{slot};
+
+    type Item = Slot;
+
+    ghost spell = { slot };
+
+    fn room_after(_item: &Slot, room: u64) -> Option<u64> {
+        room.checked_sub(5)
+    }
+}
+
+struct InstrRoom;
+
+impl Measured for InstrRoom {
+    ghost use Rattle.plan_image.specs.Spelling.{instr};
+
+    type Item = Instr;
+
+    ghost spell = { instr };
+
+    fn room_after(item: &Instr, room: u64) -> Option<u64> {
+        room.checked_sub(instr_size(*item))
+    }
+}
+
+const fn instr_size(instr: Instr) -> u64
+    ensures { result ≡ length (Rattle.plan_image.specs.Spelling.instr instr) }
+{
+    match instr {
+        Instr::Stat(_)
+        | Instr::Need(_)
+        | Instr::Load(_)
+        | Instr::Store(_)
+        | Instr::Text(_)
+        | Instr::Jump(_)
+        | Instr::JumpIf(_) => 5,
+        Instr::Flag(_) => 2,
+        _ => 1,
+    }
+}
+
+struct BodyInstrRoom;
+
+impl Measured for BodyInstrRoom {
+    ghost use Rattle.plan_image.specs.Spelling.{body_instr};
+
+    type Item = BodyInstr;
+
+    ghost spell = { body_instr };
+
+    fn room_after(item: &BodyInstr, room: u64) -> Option<u64> {
+        match item {
+            BodyInstr::Fixed(instr) => room.checked_sub(instr_size(*instr)),
+            BodyInstr::Open(_opening) => room.checked_sub(1),
+        }
+    }
+}
+
+struct BodyRoom;
+
+impl Measured for BodyRoom {
+    ghost use Rattle.plan_image.specs.Spelling.{body};
+
+    type Item = Body;
+
+    ghost spell = { body };
+
+    fn room_after(item: &Body, room: u64) -> Option<u64> {
+        let room = room.checked_sub(4)?;
+        items_room::<BodyInstrRoom>(item.as_slice(), room)
+    }
+}
+
+fn bodies_room(bodies: &Option<Items<Body>>, room: u64) -> Option<u64>
+    ensures { RoomAfter result (length (Rattle.plan_image.specs.Spelling.bodies bodies.now)) room }
+{
+    match bodies {
+        None => Some(room),
+        Some(bodies) => counted_room::<BodyRoom>(bodies, room),
+    }
+}
+
+fn code_room(code: &EdgeCode, room: u64) -> Option<u64>
+    ensures { RoomAfter result (length (edge_code code.now)) room }
+{
+    match code {
+        EdgeCode::Own(instrs) => counted_room::<InstrRoom>(instrs, room),
+        EdgeCode::Shared(number, numbers) => shared_room(*number, numbers.as_slice(), room),
+    }
+}
+
+fn shared_room(_number: u32, numbers: &[u32], room: u64) -> Option<u64>
+    ensures { RoomAfter result (length (number _number ++ flat_map number numbers.now)) room }
+{
+    let room = room.checked_sub(4)?;
+    items_room::<Word>(numbers, room)
+}
+
+struct EdgeRoom;
+
+impl Measured for EdgeRoom {
+    ghost use Rattle.plan_image.specs.Spelling.{edge};
+
+    type Item = Edge;
+
+    ghost spell = { edge };
+
+    fn room_after(item: &Edge, room: u64) -> Option<u64> {
+        let room = room.checked_sub(13)?;
+        let room = counted_room::<Word>(&item.outputs, room)?;
+        let room = counted_room::<Word>(&item.waits, room)?;
+        code_room(&item.code, room)
+    }
+}
+
+#[tactic(auto, unfolding(crate::specs::Spelling::spelling))]
+pub(crate) fn parts_room(parts: &Parts, room: u64) -> Option<u64>
+    ensures { RoomAfter result (length (spelling parts.now)) room }
+{
+    let room = room.checked_sub(8)?;
+    let room = counted_room::<LongText>(&parts.texts, room)?;
+    let room = counted_room::<ShortText>(&parts.files, room)?;
+    let room = counted_room::<PoolRoom>(&parts.pools, room)?;
+    let room = counted_room::<SlotRoom>(&parts.slots, room)?;
+    let room = bodies_room(&parts.bodies, room)?;
+    let room = counted_room::<EdgeRoom>(&parts.edges, room)?;
+    counted_room::<Word>(&parts.defaults, room)
+}
