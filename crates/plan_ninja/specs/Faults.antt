@@ -13,6 +13,10 @@ use Rattle.plan_graph.specs.Faults as graphs
 use Rattle.plan_graph.specs.Graph.{outputs_of}
 use Rattle.plan_graph.specs.declared.fault.GraphFault.{GraphFault}
 use Rattle.plan_graph.specs.declared.fault.GraphFault.TheVariants as graph
+use Rattle.plan_image.specs.Faults as images
+use Rattle.plan_image.specs.declared.fault.ImageFault.{ImageFault}
+use Rattle.plan_verify.specs.Faults as verdicts
+use Rattle.plan_verify.specs.declared.fault.VerifyFault.{VerifyFault}
 use Rattle.plan_ninja.specs.declared.fault.PlanFault.{PlanFault}
 
 -- a space, a path and an offset in it
@@ -67,6 +71,28 @@ printed_graph_fault manifest fault = record { number = graphs.number_of fault; r
 abbrev pub graph_memory : PlanFault
 graph_memory = record { number = 54; rest = [] }
 
+-- a space, the word at, and an offset
+abbrev pub at_offset : Option ℕ → List ℕ
+at_offset None = []
+at_offset (Some offset) = codes " at " ++ decimal offset
+
+-- why bytes are no image, as the program prints it
+abbrev pub printed_image_fault : ImageFault → PlanFault
+printed_image_fault fault = record { number = images.number_of fault; rest = at_offset (images.offset_of fault) }
+
+-- an edge, and a place in its code
+abbrev pub at_place : Option (ℕ × ℕ) → List ℕ
+at_place None = []
+at_place (Some here) = codes " at edge " ++ decimal here.0 ++ codes " place " ++ decimal here.1
+
+-- why an image is not run, as the program prints it
+abbrev pub printed_verify_fault : VerifyFault → PlanFault
+printed_verify_fault fault = record { number = verdicts.number_of fault; rest = at_place (verdicts.place_of fault) }
+
+-- a file that can't be read
+abbrev pub file_fault : List ℕ → PlanFault
+file_fault path = record { number = 133; rest = space ∷ path }
+
 -- want of memory of the program itself
 abbrev pub no_memory : PlanFault
 no_memory = record { number = 131; rest = [] }
@@ -110,6 +136,31 @@ names =
     ∷ (51, codes "Cycle")
     ∷ (52, codes "UnknownDefault")
     ∷ (53, codes "TooManyEdges")
+    ∷ (60, codes "BadMagic")
+    ∷ (61, codes "BadVersion")
+    ∷ (62, codes "Truncated")
+    ∷ (63, codes "Trailing")
+    ∷ (64, codes "BadTag")
+    ∷ (65, codes "Limit")
+    ∷ (67, codes "BadOrder")
+    ∷ (68, codes "BadBody")
+    ∷ (70, codes "EmptyStack")
+    ∷ (71, codes "WrongKind")
+    ∷ (72, codes "BadSlot")
+    ∷ (73, codes "UnsetSlot")
+    ∷ (74, codes "BadJump")
+    ∷ (75, codes "ShapesDiffer")
+    ∷ (76, codes "NotHolding")
+    ∷ (77, codes "Holding")
+    ∷ (78, codes "TooDeep")
+    ∷ (79, codes "BadWait")
+    ∷ (80, codes "BadFile")
+    ∷ (81, codes "BadText")
+    ∷ (82, codes "BadPool")
+    ∷ (83, codes "FallsOff")
+    ∷ (84, codes "DeadCode")
+    ∷ (85, codes "PathsInSlot")
+    ∷ (87, codes "ValuesLeft")
     ∷ (133, codes "FileFault")
     ∷ []
 

@@ -11,13 +11,17 @@ use std::{env, io};
 pub enum Request<'a> {
     /// The commands of the manifest at this path.
     Commands(&'a str),
+    /// The listing of the image at this path.
+    Dump(&'a str),
+    /// The verdict on the image at this path.
+    Verify(&'a str),
 }
 
 /// What `--version` prints behind the program's name.
 const VERSION: &str = "0.1.0";
 
 const ABOUT: &str =
-    "Reads Ninja manifests. What it prints is proved to be what the manifest means.";
+    "Reads Ninja manifests and plan images. What it prints is proved to be what they mean.";
 
 const COMMANDS_ABOUT: &str = "Prints the command of each build line of a manifest, in order";
 
@@ -30,22 +34,60 @@ Where the manifest is refused nothing is printed but the reason, on standard err
 
 const FILE_HELP: &str = "The manifest to read, as build.ninja";
 
-/// The commands and arguments that the program knows.
-fn program_command<'a>(alloc: Global) -> Result<Command<'a>, AllocError> {
-    let file = Arg::new(alloc, "FILE")
+const DUMP_ABOUT: &str = "Prints the tables and the code of a plan image as text";
+
+const DUMP_LONG_ABOUT: &str = "\
+Reads a plan image of either version and prints it as text, one line for each text, file, pool, slot, body, edge and \
+instruction. Whether the image can be run is not asked: `verify` says that.
+
+Where the bytes are no image nothing is printed but the reason, on standard error and with status 2: \
+`plan: NUMBER NAME at OFFSET`, the offset in bytes from 0.";
+
+const VERIFY_ABOUT: &str = "Says whether a plan image can be run without a step that goes wrong";
+
+const VERIFY_LONG_ABOUT: &str = "\
+Reads a plan image of either version and checks its tables and the code of each edge. An image that passes is proved never \
+to go wrong when it is run; printed is `ok EDGES BUDGET`: how many edges it has, and how many events they have at most, \
+but for those that dependencies bring.
+
+Else nothing is printed but the first check that fails, on standard error and with status 2: \
+`plan: NUMBER NAME at edge E place P`.";
+
+const IMAGE_HELP: &str = "The plan image to read";
+
+/// A command that reads one file.
+fn file_command<'a>(
+    alloc: Global,
+    name: &'a str,
+    about: (&'a str, &'a str),
+    argument: (&'a str, &'a str),
+) -> Result<Command<'a>, AllocError> {
+    let file = Arg::new(alloc, argument.0)
         .required(true)
         .action(ArgAction::Set)
-        .help(FILE_HELP);
-    let commands = Command::new(alloc, "commands")
-        .about(COMMANDS_ABOUT)
-        .long_about(COMMANDS_LONG_ABOUT)
-        .arg(file)?;
+        .help(argument.1);
+    Command::new(alloc, name)
+        .about(about.0)
+        .long_about(about.1)
+        .arg(file)
+}
+
+/// The commands and arguments that the program knows.
+fn program_command<'a>(alloc: Global) -> Result<Command<'a>, AllocError> {
+    let about = (COMMANDS_ABOUT, COMMANDS_LONG_ABOUT);
+    let commands = file_command(alloc, "commands", about, ("FILE", FILE_HELP))?;
+    let about = (DUMP_ABOUT, DUMP_LONG_ABOUT);
+    let dump = file_command(alloc, "dump", about, ("IMG", IMAGE_HELP))?;
+    let about = (VERIFY_ABOUT, VERIFY_LONG_ABOUT);
+    let verify = file_command(alloc, "verify", about, ("IMG", IMAGE_HELP))?;
     Command::new(alloc, "plan_ninja")
         .about(ABOUT)
         .version(VERSION)
         .subcommand_required(true)
         .arg_required_else_help(true)
-        .subcommand(commands)
+        .subcommand(commands)?
+        .subcommand(dump)?
+        .subcommand(verify)
 }
 
 /// The error of words that can't be read: one that is no text, or want of memory.
@@ -71,11 +113,14 @@ pub fn words_in<R: Env + AllocGlobal>(rt: &R) -> Result<Vec<String>, Error> {
 pub fn request_in<'a>(alloc: Global, words: &'a [String]) -> Result<Request<'a>, Error> {
     let mut command = program_command(alloc)?;
     let matches = command.try_get_matches_from_mut(words)?;
-    match matches.subcommand() {
-        Some(("commands", found)) => match found.get_str("FILE") {
-            Some(path) => Ok(Request::Commands(path)),
-            None => Err(command.error(ErrorKind::MissingRequiredArgument, "FILE is missing")?),
-        },
-        _ => Err(command.error(ErrorKind::MissingSubcommand, "a command is missing")?),
+    let request = match matches.subcommand() {
+        Some(("commands", found)) => found.get_str("FILE").map(Request::Commands),
+        Some(("dump", found)) => found.get_str("IMG").map(Request::Dump),
+        Some(("verify", found)) => found.get_str("IMG").map(Request::Verify),
+        _ => return Err(command.error(ErrorKind::MissingSubcommand, "a command is missing")?),
+    };
+    match request {
+        Some(request) => Ok(request),
+        None => Err(command.error(ErrorKind::MissingRequiredArgument, "a file is missing")?),
     }
 }

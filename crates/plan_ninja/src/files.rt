@@ -2,6 +2,7 @@
 
 ghost use Rattle.std.specs.Prelude.{◌≡◌};
 
+use plan_image::MAX_IMAGE;
 use plan_scope::{Source, SourceFault};
 use plan_text::{MAX_SOURCE, Tally};
 use std::alloc::Global;
@@ -9,35 +10,41 @@ use std::io::{ErrorKind, Read};
 use std::rt::Files;
 use std::{fs, io, str};
 
-/// One byte more than a source may have, so that one which is too long is seen to be.
-const MAX_READ: u64 = MAX_SOURCE as u64 + 1;
+/// One byte more than a manifest may have, so that one which is too long is seen to be.
+pub const MANIFEST_BYTES: u64 = MAX_SOURCE as u64 + 1;
+
+/// One byte more than an image may have.
+pub const IMAGE_BYTES: u64 = MAX_IMAGE as u64 + 1;
 
 /// The files that lie in the system, by their paths.
 #[derive(Drop)]
 pub struct FileSource<'a, R> {
     rt: &'a R,
+    /// How many bytes of a file are read.
+    most: u64,
     failures: Tally,
 }
 
 impl<'a, R: Files> FileSource<'a, R> {
-    /// The files that the runtime reaches, no read of which has failed.
-    pub fn new(rt: &'a R) -> FileSource<'a, R>
+    /// The files that the runtime reaches, so many bytes of each, no read of which has failed.
+    pub fn new(rt: &'a R, most: u64) -> FileSource<'a, R>
         ensures { result.failures.count ≡ 0 }
     {
         FileSource {
             rt,
+            most,
             failures: Tally::new(),
         }
     }
 }
 
-/// Reads the file at a path, or the front of one that is too long for a source.
-fn read_file<R: Files>(rt: &R, alloc: Global, path: &[u8]) -> io::Result<Vec<u8>> {
+/// Reads the file at a path, or a front of so many bytes of a longer one.
+fn read_file<R: Files>(rt: &R, alloc: Global, path: &[u8], most: u64) -> io::Result<Vec<u8>> {
     let Ok(path) = str::from_utf8(path) else {
         return Err(io::Error::from(ErrorKind::InvalidInput));
     };
     let mut bytes = Vec::new(alloc);
-    fs::open(rt, path)?.take(MAX_READ).read_to_end(&mut bytes)?;
+    fs::open(rt, path)?.take(most).read_to_end(&mut bytes)?;
     Ok(bytes)
 }
 
@@ -51,7 +58,7 @@ impl<R: Files> Source for FileSource<'_, R> {
     ghost failures = { λ s. s.failures.count };
 
     fn read(&mut self, alloc: Global, path: &[u8]) -> Result<Vec<u8>, SourceFault> {
-        match read_file(self.rt, alloc, path) {
+        match read_file(self.rt, alloc, path, self.most) {
             Ok(bytes) => Ok(bytes),
             Err(error) => match error.kind() {
                 ErrorKind::NotFound | ErrorKind::NotADirectory => Err(SourceFault::Missing),

@@ -9,16 +9,19 @@ mod commands;
 mod fault;
 mod files;
 mod graph_fault;
+mod image_fault;
+mod images;
 #[cfg(test)]
 mod tests;
 
 use crate::command_line::{Request, request_in, words_in};
 use crate::commands::do_commands;
 use crate::fault::{PlanFault, no_memory, output_fault};
-use crate::files::FileSource;
+use crate::files::{FileSource, IMAGE_BYTES, MANIFEST_BYTES};
+use crate::images::{do_dump, do_verify};
 use clap::Error;
 use clap::error::ErrorKind;
-use plan_text::Counted;
+use plan_text::{Counted, Sink};
 use std::alloc::Global;
 use std::io;
 use std::io::{BufWriter, Write};
@@ -31,15 +34,26 @@ const REFUSED: u8 = 2;
 /// How many bytes of output are written at once.
 const OUTPUT_BUFFER: usize = 65_536;
 
-/// Prints the commands of the manifest at this path, and says with which status the program ends.
-fn print_commands<R: Files + Print + AllocGlobal>(rt: &R, path: &str) -> Result<u8, PlanFault> {
+/// Writes what is asked for to a sink, and says with which status the program ends.
+fn answer<R: Files + AllocGlobal, W: Sink>(rt: &R, request: Request, out: &mut W) -> Result<u8, PlanFault> {
+    let alloc = rt.alloc();
+    let mut manifests = FileSource::new(rt, MANIFEST_BYTES);
+    let mut images = FileSource::new(rt, IMAGE_BYTES);
+    match request {
+        Request::Commands(path) => do_commands(alloc, &mut manifests, path.as_bytes(), out),
+        Request::Dump(path) => do_dump(alloc, &mut images, path.as_bytes(), out),
+        Request::Verify(path) => do_verify(alloc, &mut images, path.as_bytes(), out),
+    }
+}
+
+/// Prints what is asked for, and says with which status the program ends.
+fn print<R: Files + Print + AllocGlobal>(rt: &R, request: Request) -> Result<u8, PlanFault> {
     let alloc = rt.alloc();
     let Ok(buffer) = BufWriter::with_capacity(alloc, OUTPUT_BUFFER, io::writer(rt)) else {
         return Err(no_memory(alloc));
     };
     let mut out = Counted::new(buffer);
-    let mut source = FileSource::new(rt);
-    let status = do_commands(alloc, &mut source, path.as_bytes(), &mut out)?;
+    let status = answer(rt, request, &mut out)?;
     match out.into_writer().flush() {
         Ok(()) => Ok(status),
         Err(_) => Err(output_fault_or_memory(alloc)),
@@ -90,7 +104,7 @@ fn run<R: Env + Files + Print + Eprint + AllocGlobal, E: Print>(rt: &R, errors: 
         Err(error) => return show(rt, errors, &error),
     };
     match request_in(rt.alloc(), &words) {
-        Ok(Request::Commands(path)) => match print_commands(rt, path) {
+        Ok(request) => match print(rt, request) {
             Ok(status) => status,
             Err(fault) => report(rt.alloc(), errors, &fault),
         },
