@@ -76,9 +76,9 @@ name op.Drop = codes "Drop"
 name op.Swap = codes "Swap"
 
 -- what stands behind a name
-abbrev pub shown : Instr → Option ℕ
-shown (op.Flag b) = Some (flag_byte b)
-shown i = operand i
+abbrev pub operand_number : Instr → Option ℕ
+operand_number (op.Flag b) = Some (flag_byte b)
+operand_number i = operand i
 
 abbrev pub maybe : Option ℕ → List (List ℕ)
 maybe None = []
@@ -94,7 +94,7 @@ numbered text n [] = []
 numbered text n (x ∷ xs) = text n x ++ numbered text (n + 1) xs
 
 abbrev pub instr_line : ℕ → Instr → List ℕ
-instr_line place i = 32 ∷ 32 ∷ line (decimal place ∷ name i ∷ maybe (shown i))
+instr_line place i = 32 ∷ 32 ∷ line (decimal place ∷ name i ∷ maybe (operand_number i))
 
 -- what an edge line ends with, where the edge has no instructions of its own
 abbrev pub body_words : EdgeCode → List (List ℕ)
@@ -119,8 +119,8 @@ abbrev pub bodies_lines : Option (List (List BodyInstr)) → List ℕ
 bodies_lines None = []
 bodies_lines (Some bs) = numbered (λ n b. line (codes "body" ∷ decimal n ∷ []) ++ numbered body_instr_line 0 b) 0 bs
 
-abbrev pub listed : Parts → List ℕ
-listed p =
+abbrev pub listing_of : Parts → List ℕ
+listing_of p =
     numbered (λ n t. line (codes "text" ∷ decimal n ∷ hex t ∷ [])) 0 p.texts
     ++ numbered (λ n f. line (codes "file" ∷ decimal n ∷ hex f ∷ [])) 0 p.files
     ++ numbered (λ n q. line (codes "pool" ∷ decimal n ∷ hex q.name ∷ codes "depth" ∷ decimal q.depth ∷ [])) 0 p.pools

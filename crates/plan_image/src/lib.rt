@@ -12,7 +12,7 @@ mod sizes;
 mod writing;
 
 pub use body::{Body, split, split_law};
-pub use fault::{Cause, ImageFault};
+pub use fault::ImageFault;
 pub use image::{Edge, EdgeCode, Image, Parts, Pool, Slot, Sort, Version, image_law};
 pub use makers::edge_of;
 pub use reading::read_image;

@@ -7,7 +7,7 @@ ghost use Rattle.plan_image.specs.Spelling.{IsWord, AreWords, CodeFits, IsWithin
 
 use plan_text::Items;
 use crate::body::Body;
-use crate::image::{Edge, EdgeCode, Parts, Pool, Slot, meant_len};
+use crate::image::{Edge, EdgeCode, Parts, Pool, Slot, instr_count};
 use crate::instr::{BodyInstr, Instr};
 use crate::sizes::parts_room;
 
@@ -337,7 +337,7 @@ fn instructions_within(bodies: &Option<Items<Body>>, edges: &[Edge], most: u64) 
 {
     let mut left = most;
     for edge in edges {
-        match left.checked_sub(meant_len(bodies, &edge.code) as u64) {
+        match left.checked_sub(instr_count(bodies, &edge.code) as u64) {
             Some(rest) => left = rest,
             None => return false,
         }

@@ -1,8 +1,8 @@
 -- Reading items one after the other, as a loop does.
 use Rattle.std.proofs.Common.{◌≡◌, ℕ, suc, ◌-◌, ◌+◌, ◌≤◌, ◌<◌, List, [], ◌∷◌, ◌++◌, Ok, Err, refl, sym, ap, ◌∙◌, append_assoc, arith}
 use Rattle.std.proofs.lemmas.List.{append-nil}
-use Rattle.plan_image.specs.declared.fault.ReadError.{ReadError}
-use Rattle.plan_image.specs.declared.fault.ReadError.TheVariants as errors
+use Rattle.plan_image.specs.declared.reading.stop.ReadFault.{ReadFault}
+use Rattle.plan_image.specs.declared.reading.stop.ReadFault.TheVariants as errors
 use Rattle.plan_image.specs.Reading.{◌>>=◌, Fails, Read, items_at}
 
 -- what was read before, and what is still read
@@ -22,11 +22,11 @@ module _ {S X : Type 0} (item : S → List ℕ → Read X) (next : S → X → S
       let one : with_front front (items_at item next s (count - i) bytes) ≡ with_front (front ++ n ∷ []) (items_at item next (next s n) (count - (i + 1)) after) = rw (k, h) (regroup front n (items_at item next (next s n) (count - (i + 1)) after)) in
       sym one ∙ so_far
 
-  pub ends : (s : S) (e : ReadError) (front : List X) (count i : ℕ) (bytes : List ℕ) (total : Read (List X)) → i < count → Fails e (item s bytes)
+  pub ends : (s : S) (e : ReadFault) (front : List X) (count i : ℕ) (bytes : List ℕ) (total : Read (List X)) → i < count → Fails e (item s bytes)
       → with_front front (items_at item next s (count - i) bytes) ≡ total → Fails e total
   unfolding items_at
   ends s errors.Memory front count i bytes total lt h so_far = tt
-  ends s (errors.Fault f) front count i bytes total lt h so_far =
+  ends s (errors.Stop f) front count i bytes total lt h so_far =
       let k : count - i ≡ suc (count - (i + 1)) = omega arith in
       let one : with_front front (items_at item next s (count - i) bytes) ≡ Err f = rw (k, h) refl in
       sym so_far ∙ one

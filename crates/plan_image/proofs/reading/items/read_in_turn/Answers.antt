@@ -1,7 +1,7 @@
 use Rattle.std.proofs.lemmas.Result.{err_from_is_err_and}
 use Rattle.plan_image.specs.Reading.{items_at}
-use Rattle.plan_image.proofs.Loop.{goes_on, ends, is_done}
-use Rattle.plan_image.proofs.reading.in_turn.Goals as goal
+use Rattle.plan_image.proofs.LoopLemmas.{goes_on, ends, is_done}
+use Rattle.plan_image.proofs.reading.items.read_in_turn.Goals as goal
 
 pub returns-in_err-item : goal.returns-in_err-item
 returns-in_err-item g c =

@@ -9,14 +9,14 @@ use Rattle.plan_image.specs.declared.instr.BodyInstr.{BodyInstr}
 use Rattle.plan_image.specs.declared.image.Edge.{Edge}
 use Rattle.plan_image.specs.declared.image.EdgeCode.{EdgeCode}
 use Rattle.plan_image.specs.declared.image.EdgeCode.TheVariants as code_form
-use Rattle.plan_image.specs.Bodies.{opens, filled}
-use Rattle.plan_image.specs.Code.{body, meant, HasBody}
+use Rattle.plan_image.specs.Bodies.{opens, with_operands}
+use Rattle.plan_image.specs.Code.{body, instrs_of, HasBody}
 use Rattle.plan_image.specs.Spelling.{counted, number, instr, IsWord, AscendsFrom, EdgeFits, CodeFits, sort_byte, pool_number, edge_code, edge, instructions, most_code}
 use Rattle.plan_image.specs.Reading.{◌>>=◌, number_at, pool_of, instr_at, own_code_at, filling_at, shared_code_at, code_at, items_at, edge_at, edges_at, used_after}
-use Rattle.plan_image.proofs.BodyLaws.{filled_len}
-use Rattle.plan_image.proofs.Items.{Takes, Takes-then, bind_ok, ok_is, AllFrom, items_take, items_again}
-use Rattle.plan_image.proofs.Fields.{IsReader, opens as begins, passes, wide32, word_law, up_to_law, numbers_law, ascending_law, counted_takes, counted_again, each_fits}
-use Rattle.plan_image.proofs.CodeLaws.{sort_law, instr_law}
+use Rattle.plan_image.proofs.BodyLemmas.{filled_len}
+use Rattle.plan_image.proofs.ItemLemmas.{Takes, Takes-then, bind_ok, ok_is, AllFrom, items_take, items_again}
+use Rattle.plan_image.proofs.FieldLemmas.{IsReader, opens as begins, passes, wide32, word_law, up_to_law, numbers_law, ascending_law, counted_takes, counted_again, each_fits}
+use Rattle.plan_image.proofs.CodeLemmas.{sort_law, instr_law}
 
 -- ---- fields in a row
 
@@ -31,7 +31,7 @@ Takes7 r0 a r1 b r2 c r3 d r4 e r5 f r6 g r7 ta tb tc td te tf tg =
 
 -- a code, where the edges above have so many instructions
 pub record CodeAfter (bs : Option (List (List BodyInstr))) (used : ℕ) (c : EdgeCode) : Type 0 where
-  pub most : length (meant bs c) ≤ most_code bs - used
+  pub most : length (instrs_of bs c) ≤ most_code bs - used
   pub fits : CodeFits c
   pub filled : HasBody bs c
 
@@ -73,7 +73,7 @@ module _ (bs : List (List BodyInstr)) (used : ℕ) where
       let it = items_take (λ (s : Unit {0}). number_at w32) (λ s x. s) number (λ s x. IsWord x) (λ s bytes x fits e. word_law.takes bytes x fits e) (opens b) tt rest m.0 t.rest_fits m.1 in
       let le : length b ≤ 2 ^ 26 - used = ltb-false _ _ c.0 in
       let same : body (Some bs) n ≡ b = rw is refl in
-      let len : length (filled (body (Some bs) n) m.0.0) ≡ length b = filled_len (body (Some bs) n) m.0.0 ∙ ap (λ (y : List BodyInstr). length y) same in
+      let len : length (with_operands (body (Some bs) n) m.0.0) ≡ length b = filled_len (body (Some bs) n) m.0.0 ∙ ap (λ (y : List BodyInstr). length y) same in
       let made : EdgeCode × List ℕ = (code_form.Shared n m.0.0, m.0.1) in
       subst (λ (p : EdgeCode × List ℕ). Takes bytes (edge_code p.0) p.1 × CodeAfter (Some bs) used p.0) (ok_is made x m.2)
       (Takes-then bytes (number n) rest (flat_map number m.0.0) m.0.1 t it.0,
@@ -162,14 +162,14 @@ all_fit : (bs : Option (List (List BodyInstr))) (used : ℕ) (xs : List Edge) �
     → AllByRecursion EdgeFits xs × AllByRecursion (λ x. AscendsFrom 0 x.waits) xs × AllByRecursion (λ x. HasBody bs x.code) xs × (used + instructions bs xs ≤ most_code bs)
 all_fit bs used [] le h = (tt, tt, tt, omega (arith, le))
 all_fit bs used (x ∷ xs) le h =
-    let more = all_fit bs (used + length (meant bs x.code)) xs (omega (arith, le, h.0.code.most)) h.1 in
+    let more = all_fit bs (used + length (instrs_of bs x.code)) xs (omega (arith, le, h.0.code.most)) h.1 in
     ((h.0.fits, more.0), (h.0.waits, more.1), (h.0.code.filled, more.2), omega (arith, more.3))
 
 all_after : (bs : Option (List (List BodyInstr))) (used : ℕ) (xs : List Edge) → AllByRecursion EdgeFits xs → AllByRecursion (λ x. AscendsFrom 0 x.waits) xs → AllByRecursion (λ x. HasBody bs x.code) xs
     → used + instructions bs xs ≤ most_code bs → AllAfter bs used xs
 all_after bs used [] f w k le = tt
 all_after bs used (x ∷ xs) f w k le =
-    (record { fits = f.0; waits = w.0; code = record { most = omega (arith, le); fits = f.0.code; filled = k.0 } }, all_after bs (used + length (meant bs x.code)) xs f.1 w.1 k.1 (omega (arith, le)))
+    (record { fits = f.0; waits = w.0; code = record { most = omega (arith, le); fits = f.0.code; filled = k.0 } }, all_after bs (used + length (instrs_of bs x.code)) xs f.1 w.1 k.1 (omega (arith, le)))
 
 pub edges_law : (bs : Option (List (List BodyInstr))) → IsReader (edges_at bs) (counted edge) (EdgesFit bs)
 unfolding edges_at

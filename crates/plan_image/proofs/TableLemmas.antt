@@ -6,7 +6,7 @@ use Rattle.std.specs.List.{AllByRecursion, starts_with}
 use Rattle.std.proofs.lemmas.Bool.{ltb-false, le-ltb, eqb-true}
 use Rattle.std.proofs.lemmas.List.{append-nil, nil_from_length}
 use Rattle.plan_image.specs.declared.fault.Cause.TheVariants as cause
-use Rattle.plan_image.specs.declared.fault.Met.{Met}
+use Rattle.plan_image.specs.declared.reading.stop.Stop.{Stop}
 use Rattle.plan_image.specs.declared.fault.ImageFault.{ImageFault}
 use Rattle.plan_image.specs.declared.fault.ImageFault.TheVariants as fault
 use Rattle.plan_image.specs.declared.image.Pool.{Pool}
@@ -14,11 +14,11 @@ use Rattle.plan_image.specs.declared.image.Slot.{Slot}
 use Rattle.plan_image.specs.declared.image.Edge.{Edge}
 use Rattle.plan_image.specs.declared.image.Parts.{Parts}
 use Rattle.plan_image.specs.Spelling.{counted, number, long_text, short_text, AreWords, IsText, IsFileName, AscendsFrom, PoolFits, SlotFits, kind_byte, pool, slot, edge, magic, spelling, bodies, BodiesFit, version_of, version_byte, HasSpelling, IsPrefixFree, IsNoSpelling}
-use Rattle.plan_image.specs.Reading.{◌>>=◌, Read, met, number_up_to, bytes_at, table_at, ascending_at, byte_at, text_at, file_at, kind_at, slot_at, pool_at, version_by, versioned, bodies_at, edges_at, version_at, head_at, parts_at, tables_at, located, read_of}
-use Rattle.plan_image.proofs.Items.{IsBytes, Takes, Takes-then, bind_ok, ok_is}
-use Rattle.plan_image.proofs.Fields.{IsBytes-drop, IsReader, opens, passes, wide16, wide32, number_law, word_law, up_to_law, text_takes, bytes_again, text_law, file_law, table_law, ascending_law}
-use Rattle.plan_image.proofs.CodeLaws.{byte_law, kind_law, beside_is, bodies_law}
-use Rattle.plan_image.proofs.EdgeLaws.{EdgesFit, edges_law}
+use Rattle.plan_image.specs.Reading.{◌>>=◌, Read, stop, number_up_to, bytes_at, table_at, ascending_at, byte_at, text_at, file_at, kind_at, slot_at, pool_at, version_by, versioned, bodies_at, edges_at, version_at, head_at, parts_at, tables_at, located, read_of}
+use Rattle.plan_image.proofs.ItemLemmas.{IsBytes, Takes, Takes-then, bind_ok, ok_is}
+use Rattle.plan_image.proofs.FieldLemmas.{IsBytes-drop, IsReader, opens, passes, wide16, wide32, number_law, word_law, up_to_law, text_takes, bytes_again, text_law, file_law, table_law, ascending_law}
+use Rattle.plan_image.proofs.CodeLemmas.{byte_law, kind_law, beside_is, bodies_law}
+use Rattle.plan_image.proofs.EdgeLemmas.{EdgesFit, edges_law}
 use Rattle.plan_image.specs.declared.image.Version.{Version}
 use Rattle.plan_image.specs.declared.image.Version.TheVariants as version
 use Rattle.plan_image.specs.declared.instr.BodyInstr.{BodyInstr}
@@ -95,7 +95,7 @@ version_takes bytes x fits e =
 head_takes : (bytes : List ℕ) (x : Version × List ℕ) → IsBytes bytes → head_at bytes ≡ Ok x → Takes bytes (head x.0) x.1
 unfolding head_at
 head_takes bytes x fits e = by_front (starts_with nat_eq bytes magic) (starts_with nat_eq magic bytes) (front_is magic bytes) e where
-  by_front : (t u : Bool) → (t ≡ true → bytes ≡ magic ++ drop 7 bytes) → cond t (version_at (drop 7 bytes)) (cond u (met cause.Truncated []) (met cause.BadMagic bytes)) ≡ Ok x → Takes bytes (head x.0) x.1
+  by_front : (t u : Bool) → (t ≡ true → bytes ≡ magic ++ drop 7 bytes) → cond t (version_at (drop 7 bytes)) (cond u (stop cause.Truncated []) (stop cause.BadMagic bytes)) ≡ Ok x → Takes bytes (head x.0) x.1
   by_front true u is e = Takes-then bytes magic (drop 7 bytes) (version_byte x.0 ∷ []) x.1 (record { parts = is refl; rest_fits = IsBytes-drop 7 bytes fits }) (version_takes (drop 7 bytes) x (IsBytes-drop 7 bytes fits) e)
   by_front false true is e = absurd cc
   by_front false false is e = absurd cc
@@ -132,7 +132,7 @@ pools_law = table_law pool_law 4096 (omega arith)
 slots_law : IsReader (table_at slot_at (2 ^ 24)) (counted slot) (λ xs. (length xs ≤ 2 ^ 24) × AllByRecursion SlotFits xs)
 slots_law = table_law slot_law (2 ^ 24) (omega arith)
 
-abbrev made : Parts × List ℕ → Result (Parts × List ℕ) Met
+abbrev made : Parts × List ℕ → Result (Parts × List ℕ) Stop
 made x = Ok x
 
 -- all tables one after the other
@@ -216,7 +216,7 @@ has_spelling p f le = record {
 }
 
 -- what is read is spelled so
-located_ok : (whole : ℕ) (r : Result Parts Met) (p : Parts) → located whole r ≡ Ok p → r ≡ Ok p
+located_ok : (whole : ℕ) (r : Result Parts Stop) (p : Parts) → located whole r ≡ Ok p → r ≡ Ok p
 located_ok whole (Ok q) p e = cc
 located_ok whole (Err d) p e = absurd cc
 
@@ -229,7 +229,7 @@ nothing rest e = nil_from_length rest (zero_is (length rest) (eqb (length rest) 
 pub read_takes : (bytes : List ℕ) (p : Parts) → IsBytes bytes → read_of bytes ≡ Ok p → HasSpelling p × (spelling p ≡ bytes)
 unfolding read_of tables_at
 read_takes bytes p fits e = by_length (ltb 268435456 (length bytes)) refl e where
-  by_length : (t : Bool) → ltb 268435456 (length bytes) ≡ t → cond t (Err (fault.Bytes cause.Limit 0)) (located (length bytes) (tables_at bytes)) ≡ Ok p → HasSpelling p × (spelling p ≡ bytes)
+  by_length : (t : Bool) → ltb 268435456 (length bytes) ≡ t → cond t (Err (fault.Limit 0)) (located (length bytes) (tables_at bytes)) ≡ Ok p → HasSpelling p × (spelling p ≡ bytes)
   by_length true is e = absurd cc
   by_length false is e =
       let le : length bytes ≤ 268435456 = ltb-false _ _ is in

@@ -1,7 +1,7 @@
 use Rattle.std.proofs.lemmas.Result.{err_from_is_err_and}
 use Rattle.plan_image.specs.Reading.{items_at, file_at}
-use Rattle.plan_image.proofs.Loop.{goes_on, ends, is_done}
-use Rattle.plan_image.proofs.reading.file_names_of.Goals as goal
+use Rattle.plan_image.proofs.LoopLemmas.{goes_on, ends, is_done}
+use Rattle.plan_image.proofs.reading.texts.read_file_names.Goals as goal
 
 pub returns-in_err-item : goal.returns-in_err-item
 returns-in_err-item c =

@@ -20,8 +20,8 @@ use Rattle.plan_image.specs.declared.image.Version.{Version}
 use Rattle.plan_image.specs.declared.image.Version.TheVariants as version
 use Rattle.plan_image.specs.declared.fault.Cause.TheVariants as cause
 use Rattle.plan_image.specs.Bodies.{opening_of}
-use Rattle.plan_image.proofs.Items.{IsBytes, Takes, Takes-then, bind_ok, ok_is, AllFrom, items_take, items_again}
-use Rattle.plan_image.proofs.Fields.{IsReader, opens, passes, word_law, up_to_law, wide32, counted_takes, counted_again}
+use Rattle.plan_image.proofs.ItemLemmas.{IsBytes, Takes, Takes-then, bind_ok, ok_is, AllFrom, items_take, items_again}
+use Rattle.plan_image.proofs.FieldLemmas.{IsReader, opens, passes, word_law, up_to_law, wide32, counted_takes, counted_again}
 
 -- ---- bytes that stand for something
 

@@ -6,10 +6,10 @@ use Rattle.std.proofs.lemmas.Bool.{cases_lt, ltb-false, le-ltb, ne_eqb}
 use Rattle.std.proofs.lemmas.List.{take_at, drop_at, take-append-drop, length-append, length-take, get_or-drop, get_or-take, get_or_past}
 use Rattle.std.proofs.lemmas.Nat.{be_bytes_2, be_bytes_4, from_be_bytes-to_be_bytes_2, from_be_bytes-to_be_bytes_4}
 use Rattle.plan_image.specs.declared.fault.Cause.{Cause}
-use Rattle.plan_image.specs.declared.fault.Met.{Met}
+use Rattle.plan_image.specs.declared.reading.stop.Stop.{Stop}
 use Rattle.plan_image.specs.Spelling.{long_text, short_text, counted, number, IsWord, AreWords, IsText, IsFileName, AscendsFrom}
 use Rattle.plan_image.specs.Reading.{◌>>=◌, Read, refuse, number_at, number_up_to, bytes_at, text_at, file_at, items_at, table_at, numbers_at, next_at, ascending_at}
-use Rattle.plan_image.proofs.Items.{IsBytes, Takes, Takes-then, bind_ok, ok_is, AllFrom, items_take, items_again}
+use Rattle.plan_image.proofs.ItemLemmas.{IsBytes, Takes, Takes-then, bind_ok, ok_is, AllFrom, items_take, items_again}
 
 pub IsBytes-drop : (n : ℕ) (bytes : List ℕ) → IsBytes bytes → IsBytes (drop n bytes)
 IsBytes-drop n bytes h i = rw get_or-drop (h (n + i))
@@ -28,18 +28,18 @@ pub record IsReader {X : Type 0} (item : List ℕ → Read X) (spell : X → Lis
 
 -- what a first step took, where the whole didn't fail
 pub opens : {X Y : Type 0} {item : List ℕ → Read X} {spell : X → List ℕ} {Fits : X → Type 0} → IsReader item spell Fits
-    → (f : X × List ℕ → Result Y Met) (bytes : List ℕ) (y : Y) → IsBytes bytes → (item bytes >>= f) ≡ Ok y
+    → (f : X × List ℕ → Result Y Stop) (bytes : List ℕ) (y : Y) → IsBytes bytes → (item bytes >>= f) ≡ Ok y
     → (x : X × List ℕ) × Takes bytes (spell x.0) x.1 × Fits x.0 × (f x ≡ Ok y)
 opens {item = item} r f bytes y fits e =
     let a = bind_ok (item bytes) f y e in
     let t = r.takes bytes a.0 fits a.1 in
     (a.0, t.0, t.1, a.2)
 
-pub passes : {Y : Type 0} (b : Bool) (cause : Cause) (bytes : List ℕ) (f : Unit {0} → Result Y Met) (y : Y) → (refuse b cause bytes >>= f) ≡ Ok y → (b ≡ false) × (f tt ≡ Ok y)
+pub passes : {Y : Type 0} (b : Bool) (cause : Cause) (bytes : List ℕ) (f : Unit {0} → Result Y Stop) (y : Y) → (refuse b cause bytes >>= f) ≡ Ok y → (b ≡ false) × (f tt ≡ Ok y)
 passes true cause bytes f y e = absurd cc
 passes false cause bytes f y e = (refl, e)
 
-pub guard_ok : {A : Type 0} (b : Bool) (d : Met) (x y : A) → cond b (Err d) (Ok x) ≡ Ok y → (b ≡ false) × (x ≡ y)
+pub guard_ok : {A : Type 0} (b : Bool) (d : Stop) (x y : A) → cond b (Err d) (Ok x) ≡ Ok y → (b ≡ false) × (x ≡ y)
 guard_ok true d x y e = absurd cc
 guard_ok false d x y e = (refl, cc)
 

@@ -2,8 +2,8 @@ use Rattle.std.proofs.Common.{◌∷◌, [], arith}
 use Rattle.std.proofs.lemmas.List.{length-append}
 use Rattle.std.proofs.lemmas.Result.{err_from_is_err_and}
 use Rattle.plan_image.specs.Reading.{items_at}
-use Rattle.plan_image.proofs.Loop.{goes_on, ends, is_done}
-use Rattle.plan_image.proofs.reading.items_of.Goals as goal
+use Rattle.plan_image.proofs.LoopLemmas.{goes_on, ends, is_done}
+use Rattle.plan_image.proofs.reading.items.read_items.Goals as goal
 
 pub returns-in_err-item-clause-items : goal.returns-in_err-item-clause-items
 returns-in_err-item-clause-items g c =

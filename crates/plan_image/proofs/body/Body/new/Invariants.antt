@@ -1,6 +1,6 @@
 use Rattle.std.proofs.Common.{◌≡◌, ◌+◌, ◌≤◌, ◌++◌, drop}
 use Rattle.plan_image.specs.Bodies.{opens, ranks_from}
-use Rattle.plan_image.proofs.body.Body.from_vec.Given as goal
+use Rattle.plan_image.proofs.body.Body.new.Given as goal
 
 abbrev pub invariant-loop-instr : goal.invariant-loop-instr
 invariant-loop-instr l = record {
