@@ -7,7 +7,7 @@ ghost use Rattle.plan_image.specs.Bodies.{opens, ranks_from, with_operands, put,
 use std::alloc::{AllocError, Global};
 use std::marker::Model;
 
-use plan_text::Items;
+use plan_text::{Items, Memory};
 use crate::instr::{BodyInstr, Instr, Opening};
 
 /// Instructions, some of whose numbers stand in the edges.
@@ -61,7 +61,7 @@ impl Body {
     ghost use Rattle.plan_image.specs.Bodies.{opens, with_operands};
 
     /// The body of these instructions.
-    pub fn new(alloc: Global, instrs: Vec<BodyInstr>) -> Result<Body, AllocError>
+    pub fn new(alloc: Global, instrs: Vec<BodyInstr>) -> Result<Body, Memory>
         ensures { IfOk result (λ b. b ≡ instrs.items) }
     {
         let mut ranks = Vec::with_capacity(alloc, instrs.len())?;
@@ -181,7 +181,7 @@ fn push_open(numbers: &mut Vec<u32>, instr: Instr) -> Result<(), AllocError>
 }
 
 /// The body of a code, and the numbers for its open instructions.
-pub fn split(alloc: Global, code: &[Instr]) -> Result<(Body, Items<u32>), AllocError>
+pub fn split(alloc: Global, code: &[Instr]) -> Result<(Body, Items<u32>), Memory>
     ensures body { IfOk result (λ x. x.0 ≡ body_of code.now) }
     ensures numbers { IfOk result (λ x. x.1 ≡ operands_of code.now) }
 {

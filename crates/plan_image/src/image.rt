@@ -7,7 +7,7 @@ ghost use Rattle.plan_image.specs.Spelling.{HasSpelling, IsPrefixFree};
 
 use std::marker::Model;
 
-use plan_text::Items;
+use plan_text::{Items, RowList};
 use crate::body::Body;
 use crate::fault::ImageFault;
 use crate::instr::{Instr, Kind};
@@ -59,8 +59,8 @@ pub enum Version {
 
 #[derive(Debug, Drop)]
 pub struct Parts {
-    pub texts: Items<Items<u8>>,
-    pub files: Items<Items<u8>>,
+    pub texts: RowList<u8>,
+    pub files: RowList<u8>,
     pub pools: Items<Pool>,
     pub slots: Items<Slot>,
     /// The bodies that edges share, where the version is two.

@@ -8,8 +8,6 @@ use crate::fault::Cause;
 use crate::image::Sort;
 use crate::instr::{Instr, Kind};
 use crate::reading::stop::{ReadFault, stop_at};
-use plan_text::Items;
-use std::alloc::Global;
 
 #[tactic(auto, unfolding(crate::specs::Reading::number_at))]
 pub(crate) fn read_u32(bytes: &[u8]) -> Result<(u32, &[u8]), ReadFault>
@@ -58,16 +56,16 @@ pub(crate) fn read_u16_up_to(most: u16, bytes: &[u8]) -> Result<(u16, &[u8]), Re
     Ok((number, rest))
 }
 
+/// So many bytes, lent.
 #[tactic(auto, unfolding(crate::specs::Reading::bytes_at))]
-pub(crate) fn read_bytes(alloc: Global, len: usize, bytes: &[u8]) -> Result<(Items<u8>, &[u8]), ReadFault>
-    ensures { Gives (λ x. (x.0, x.1.now)) result (bytes_at len bytes.now) }
+pub(crate) fn read_bytes(len: usize, bytes: &[u8]) -> Result<(&[u8], &[u8]), ReadFault>
+    ensures { Gives (λ x. (x.0.now, x.1.now)) result (bytes_at len bytes.now) }
 {
     if bytes.len() < len {
         return Err(stop_at(Cause::Truncated, &[]));
     }
     let (text, rest) = bytes.split_at(len);
-    let text = Vec::from_slice(alloc, text)?;
-    Ok((Items::new(text), rest))
+    Ok((text, rest))
 }
 
 #[tactic(auto, unfolding(crate::specs::Reading::byte_at))]

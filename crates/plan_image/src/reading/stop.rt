@@ -20,6 +20,14 @@ pub(crate) enum ReadFault {
     Stop(Stop),
 }
 
+impl From<plan_text::Memory> for ReadFault {
+    ghost from_gives = { λ _ e. e ≡ Memory };
+
+    fn from(_e: plan_text::Memory) -> ReadFault {
+        ReadFault::Memory
+    }
+}
+
 impl From<AllocError> for ReadFault {
     ghost from_gives = { λ _ e. e ≡ Memory };
 

@@ -9,7 +9,8 @@ use crate::reading::edges::{Edges, read_edges};
 use crate::reading::fields::{read_byte, read_bytes, read_kind, read_u16, read_u32, read_u32_up_to};
 use crate::reading::items::{Spelled, read_ascending, read_table};
 use crate::reading::stop::{ReadFault, stop_at};
-use crate::reading::texts::read_files;
+use crate::reading::texts::{FileName, Text, read_texts};
+use plan_text::Items;
 use std::alloc::Global;
 
 /// "PLANIMG"
@@ -37,8 +38,9 @@ pub(crate) fn read_pool(alloc: Global, bytes: &[u8]) -> Result<(Pool, &[u8]), Re
     ensures { Gives (λ x. (x.0, x.1.now)) result (pool_at bytes.now) }
 {
     let (len, rest) = read_u16(bytes)?;
-    let (name, rest) = read_bytes(alloc, usize::from(len), rest)?;
+    let (name, rest) = read_bytes(usize::from(len), rest)?;
     let (depth, rest) = read_u32_up_to(1_000_000, rest)?;
+    let name = Items::new(Vec::from_slice(alloc, name)?);
     Ok((Pool { name, depth }, rest))
 }
 
@@ -87,8 +89,8 @@ pub(crate) fn read_parts(alloc: Global, bytes: &[u8]) -> Result<(Parts, &[u8]), 
     ensures { Gives (λ x. (x.0, x.1.now)) result (parts_at bytes.now) }
 {
     let (version, rest) = read_head(bytes)?;
-    let (texts, rest) = read_table(alloc, 4_194_304, rest)?;
-    let (files, rest) = read_files(alloc, rest)?;
+    let (texts, rest) = read_texts::<Text>(alloc, 4_194_304, rest)?;
+    let (files, rest) = read_texts::<FileName>(alloc, 4_194_304, rest)?;
     let (pools, rest) = read_table(alloc, 4096, rest)?;
     let (slots, rest) = read_table(alloc, 16_777_216, rest)?;
     let (bodies, rest) = read_bodies(alloc, version, rest)?;
