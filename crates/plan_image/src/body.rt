@@ -44,7 +44,7 @@ fn next_rank(rank: usize, instr: BodyInstr) -> usize
 }
 
 /// An open instruction with its number.
-const fn with_number(opening: Opening, number: u32) -> Instr
+pub(crate) const fn with_number(opening: Opening, number: u32) -> Instr
     ensures { result ≡ put opening number }
 {
     match opening {
