@@ -2,7 +2,7 @@
 """Times `plan_ninja verify` and `dump` on a generated image of 100,000 edges and some 6 million instructions.
 
 The edges are commands with a depfile, as a compiler of C has them: two order-only sources, one to three named inputs,
-an entry of the record, the five causes, the command, its depfile; the last waits for all others. The image is written
+an entry of the record, the five causes, the command, its depfile; the last is a phony that waits for 30,000 of them. The image is written
 in both versions. Printed are the sizes, the median wall time of five runs, the peak memory, and their ratio to the
 file's size. It is no test and asserts nothing.
 """
@@ -22,6 +22,7 @@ from image import Code, Edge, Image, Instr, Slot
 EDGES = 100_000
 HEADERS = 2_000  # that order-only sources are among
 ORDER_ONLY = 2
+WAITS = 30_000  # of the last edge: a body has at most 65,536 instructions
 RUNS = 5
 SLOTS = "SFSFTSFS"  # of an edge: the output's stamp, changed, newest, has an entry, its command, basis, lacks a path, newest path
 
@@ -71,8 +72,9 @@ def generated(count: int) -> Image:
     files += [file for n in range(count) for file in (b"src/m%d/f%d.c" % (n // 50, n), b"obj/m%d/f%d.o" % (n // 50, n))]
     slots = [Slot(n, kind) for n in range(count) for kind in SLOTS]
     edges = [edge(n) for n in range(count)]
-    last: Code = tuple(instr for n in range(count) for instr in (("Load", len(SLOTS) * n), ("Drop", None)))
-    all_ = Edge((*last, ("End", None)), sort=1, rank=1, label=0, outputs=[HEADERS + 1], waits=range(count))
+    waits = range(min(count, WAITS))
+    last: Code = tuple(instr for n in waits for instr in (("Load", len(SLOTS) * n), ("Drop", None)))
+    all_ = Edge((*last, ("End", None)), sort=1, rank=1, label=0, outputs=[HEADERS + 1], waits=waits)
     return Image(texts, files, [], slots, [*edges, all_], [count])
 
 

@@ -15,8 +15,6 @@ use Rattle.plan_graph.specs.declared.fault.GraphFault.{GraphFault}
 use Rattle.plan_graph.specs.declared.fault.GraphFault.TheVariants as graph
 use Rattle.plan_image.specs.Faults as images
 use Rattle.plan_image.specs.declared.fault.ImageFault.{ImageFault}
-use Rattle.plan_verify.specs.Faults as verdicts
-use Rattle.plan_verify.specs.declared.fault.VerifyFault.{VerifyFault}
 use Rattle.plan_ninja.specs.declared.fault.PlanFault.{PlanFault}
 
 -- a space, a path and an offset in it
@@ -79,15 +77,6 @@ at_offset (Some offset) = codes " at " ++ decimal offset
 -- why bytes are no image, as the program prints it
 abbrev pub printed_image_fault : ImageFault → PlanFault
 printed_image_fault fault = record { number = images.number_of fault; rest = at_offset (images.offset_of fault) }
-
--- an edge, and a place in its code
-abbrev pub at_place : Option (ℕ × ℕ) → List ℕ
-at_place None = []
-at_place (Some here) = codes " at edge " ++ decimal here.0 ++ codes " place " ++ decimal here.1
-
--- why an image is not run, as the program prints it
-abbrev pub printed_verify_fault : VerifyFault → PlanFault
-printed_verify_fault fault = record { number = verdicts.number_of fault; rest = at_place (verdicts.place_of fault) }
 
 -- a file that can't be read
 abbrev pub file_fault : List ℕ → PlanFault

@@ -1,6 +1,7 @@
 //! Why the program refuses, as it is printed.
 
-ghost use Rattle.std.specs.Prelude.{◌≡◌, ◌⊎◌, IfOk};
+ghost use Rattle.std.specs.Prelude.{◌≡◌, ◌⊎◌, ◌∷◌, IfOk};
+ghost use Rattle.plan_text.specs.Bytes.{space};
 ghost use Rattle.plan_ninja.specs.Faults as defined;
 
 use plan_scope::ScopeFault;
@@ -109,6 +110,16 @@ pub fn no_memory(alloc: Global) -> PlanFault
     }
 }
 
+/// ` PATH`
+fn spaced(alloc: Global, path: &[u8]) -> Result<Vec<u8>, AllocError>
+    ensures { IfOk result (λ text. text.items ≡ space ∷ path.now) }
+{
+    let mut text = Vec::new(alloc);
+    text.push(b' ')?;
+    text.extend_from_slice(path)?;
+    Ok(text)
+}
+
 /// ` PATH:OFFSET`
 fn place(alloc: Global, path: &[u8], offset: u64) -> Result<Vec<u8>, AllocError>
     ensures { IfOk result (λ text. text.items ≡ defined.place path.now offset) }
@@ -130,6 +141,19 @@ pub fn output_fault(alloc: Global) -> Result<PlanFault, AllocError>
         number: 133,
         rest: Items::new(Vec::from_slice(alloc, b" -")?),
     })
+}
+
+/// The file at this path can't be read; or want of memory where that finds none.
+pub fn file_fault(alloc: Global, path: &[u8]) -> PlanFault
+    ensures { (result ≡ defined.file_fault path.now) ⊎ (result ≡ defined.no_memory) }
+{
+    match spaced(alloc, path) {
+        Ok(rest) => PlanFault {
+            number: 133,
+            rest: Items::new(rest),
+        },
+        Err(_) => no_memory(alloc),
+    }
 }
 
 /// What is printed behind the name of a fault.

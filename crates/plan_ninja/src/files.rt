@@ -2,7 +2,6 @@
 
 ghost use Rattle.std.specs.Prelude.{◌≡◌};
 
-use plan_image::MAX_IMAGE;
 use plan_scope::{Source, SourceFault};
 use plan_text::{MAX_SOURCE, Tally};
 use std::alloc::Global;
@@ -14,7 +13,7 @@ use std::{fs, io, str};
 pub const MANIFEST_BYTES: u64 = MAX_SOURCE as u64 + 1;
 
 /// One byte more than an image may have.
-pub const IMAGE_BYTES: u64 = MAX_IMAGE as u64 + 1;
+pub const IMAGE_BYTES: u64 = 268_435_457;
 
 /// The files that lie in the system, by their paths.
 #[derive(Drop)]

@@ -2,7 +2,7 @@
 
 ghost use Rattle.std.specs.Prelude.{◌≡◌, ◌⊎◌, IfOk, IfErr, OnOk};
 ghost use Rattle.plan_scope.specs.Loading.{IsMissing};
-ghost use Rattle.plan_ninja.specs.Images.{IsImageAt, LacksImage, Dumps, FailsToDump, Accepts, Rejects, FailsToAccept};
+ghost use Rattle.plan_ninja.specs.Images.{IsImageAt, LacksImage, Dumps, FailsToDump};
 
 use crate::fault::{PlanFault, file_fault, no_memory, output_fault};
 use crate::image_fault::printed_image_fault;

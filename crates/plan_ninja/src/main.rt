@@ -18,7 +18,7 @@ use crate::command_line::{Request, request_in, words_in};
 use crate::commands::do_commands;
 use crate::fault::{PlanFault, no_memory, output_fault};
 use crate::files::{FileSource, IMAGE_BYTES, MANIFEST_BYTES};
-use crate::images::{do_dump, do_verify};
+use crate::images::do_dump;
 use clap::Error;
 use clap::error::ErrorKind;
 use plan_text::{Counted, Sink};
@@ -42,7 +42,6 @@ fn answer<R: Files + AllocGlobal, W: Sink>(rt: &R, request: Request, out: &mut W
     match request {
         Request::Commands(path) => do_commands(alloc, &mut manifests, path.as_bytes(), out),
         Request::Dump(path) => do_dump(alloc, &mut images, path.as_bytes(), out),
-        Request::Verify(path) => do_verify(alloc, &mut images, path.as_bytes(), out),
     }
 }
 
