@@ -1,0 +1,9 @@
+pub mod Tables
+pub mod Turn
+pub mod Shape
+pub mod WellShaped
+pub mod Fits
+pub mod Sound
+pub mod Alone
+pub mod Budget
+pub mod Seam

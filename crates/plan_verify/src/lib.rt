@@ -1,0 +1,15 @@
+//! Which images are well shaped, and what one edge of them does.
+#![tactic(auto)]
+
+mod fault;
+mod laws;
+mod shape;
+mod value;
+
+pub use fault::Refusal;
+pub use laws::{
+    goes_on_alone, hears_what_suits, instructions_fit, never_wrong_alone, questions_ignore_slots,
+    replies_are_safe, stays_in_budget_alone, stays_typed, steps_are_safe,
+};
+pub use shape::{Kinds, Shape};
+pub use value::{Cause, PathList, Value, Words};
