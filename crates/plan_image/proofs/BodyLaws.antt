@@ -1,5 +1,5 @@
 -- A code is its body with its numbers put in, and what stands at a place of it.
-use Rattle.std.proofs.Common.{◌≡◌, ℕ, zero, suc, ◌+◌, List, [], ◌∷◌, ◌++◌, length, get_or, drop, Option, Some, None, refl, sym, ap, subst, ◌∙◌, arith}
+use Rattle.std.proofs.Common.{◌≡◌, ℕ, zero, suc, ◌+◌, List, [], ◌∷◌, ◌++◌, length, get_or, drop, Option, Some, refl, sym, ap, ◌∙◌, arith}
 use Rattle.std.specs.Prelude.{slice_get, Result, Ok, Err, IfOk, ◌≤◌, ◌<◌}
 use Rattle.plan_image.specs.declared.image.EdgeCode.{EdgeCode}
 use Rattle.plan_image.specs.declared.image.EdgeCode.TheVariants as code_form
@@ -7,7 +7,6 @@ use Rattle.plan_image.specs.Code.{body, meant, IsShared}
 use Rattle.std.proofs.lemmas.List.{get_or-drop}
 use Rattle.plan_image.specs.declared.instr.Instr.{Instr}
 use Rattle.plan_image.specs.declared.instr.Instr.TheVariants as op
-use Rattle.plan_image.specs.declared.instr.Opening.{Opening}
 use Rattle.plan_image.specs.declared.instr.BodyInstr.{BodyInstr}
 use Rattle.plan_image.specs.declared.instr.BodyInstr.TheVariants as member
 use Rattle.plan_image.specs.Bodies.{opens, put, filled, ranks_from, opened, left_open, body_of, operands_of, IsSplit, seen}

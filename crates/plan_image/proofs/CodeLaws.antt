@@ -1,11 +1,9 @@
 -- Instructions, kinds and sorts that are read are those that were written, and what was written is read again.
-use Rattle.std.proofs.Common.{◌≡◌, ℕ, zero, suc, ◌+◌, ◌-◌, ◌^◌, ◌<◌, ◌≤◌, Bool, true, false, cond, ltb, eqb, List, [], ◌∷◌, ◌++◌, length, Option, Some, None, Result, Ok, Err, refl, sym, ap, subst, ◌∙◌, append_assoc, arith, ◌⊎◌, inl, inr}
+use Rattle.std.proofs.Common.{◌≡◌, ℕ, suc, ◌+◌, ◌-◌, ◌^◌, ◌<◌, ◌≤◌, Bool, true, false, cond, ltb, eqb, List, [], ◌∷◌, ◌++◌, length, Option, Some, None, Ok, refl, sym, ap, subst, ◌∙◌, append_assoc, arith, ◌⊎◌, inl, inr}
 use Rattle.std.specs.Prelude.{IfSome}
 use Rattle.std.specs.Int.{w32}
 use Rattle.std.specs.List.{flat_map, AllByRecursion}
 use Rattle.std.proofs.lemmas.Bool.{ltb-false, le-ltb, eqb-true}
-use Rattle.plan_image.specs.declared.fault.Cause.{Cause}
-use Rattle.plan_image.specs.declared.fault.Met.{Met}
 use Rattle.plan_image.specs.declared.instr.Kind.{Kind}
 use Rattle.plan_image.specs.declared.instr.Kind.TheVariants as kind
 use Rattle.plan_image.specs.declared.instr.Instr.{Instr}
@@ -13,7 +11,7 @@ use Rattle.plan_image.specs.declared.instr.Instr.TheVariants as op
 use Rattle.plan_image.specs.declared.image.Sort.{Sort}
 use Rattle.plan_image.specs.declared.image.Sort.TheVariants as sort
 use Rattle.plan_image.specs.Spelling.{counted, number, IsWord, kind_byte, sort_byte, flag_byte, instr, operand, InstrFits, opening_byte, body_instr, BodyInstrFits, BodyFits, body, BodiesFit, body_instructions, bodies, version_of}
-use Rattle.plan_image.specs.Reading.{◌>>=◌, Read, met, tag, number_at, number_up_to, items_at, byte_at, kind_of, kind_at, sort_of, sort_at, flag_of, bare_of, numbered_of, operand_at, flagged_at, instr_at, opening_by, open_at, body_instr_at, body_at, body_table_at, bodies_at, refuse}
+use Rattle.plan_image.specs.Reading.{◌>>=◌, tag, items_at, byte_at, kind_at, sort_at, bare_of, numbered_of, operand_at, flagged_at, instr_at, opening_by, open_at, body_instr_at, body_at, body_table_at, bodies_at, refuse}
 use Rattle.plan_image.specs.declared.instr.Opening.{Opening}
 use Rattle.plan_image.specs.declared.instr.Opening.TheVariants as opening
 use Rattle.plan_image.specs.declared.instr.BodyInstr.{BodyInstr}

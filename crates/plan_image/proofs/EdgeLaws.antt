@@ -1,21 +1,20 @@
 -- The code of an edge and edges that are read are those that were written, in both versions.
-use Rattle.std.proofs.Common.{◌≡◌, ℕ, zero, suc, ◌+◌, ◌-◌, ◌^◌, ◌<◌, ◌≤◌, Bool, true, false, cond, ltb, eqb, List, [], ◌∷◌, ◌++◌, length, Option, Some, None, Result, Ok, Err, refl, sym, ap, subst, ◌∙◌, append_assoc, arith}
+use Rattle.std.proofs.Common.{◌≡◌, ℕ, zero, suc, ◌+◌, ◌-◌, ◌^◌, ◌<◌, ◌≤◌, ltb, List, [], ◌∷◌, ◌++◌, length, Option, Some, None, Ok, refl, sym, ap, subst, ◌∙◌, append_assoc, arith}
 use Rattle.std.specs.Prelude.{slice_get}
 use Rattle.std.specs.Int.{w32}
 use Rattle.std.specs.List.{flat_map, AllByRecursion}
 use Rattle.std.proofs.lemmas.Bool.{ltb-false, le-ltb}
 use Rattle.plan_image.specs.declared.fault.Cause.TheVariants as cause
-use Rattle.plan_image.specs.declared.instr.Instr.{Instr}
 use Rattle.plan_image.specs.declared.instr.BodyInstr.{BodyInstr}
 use Rattle.plan_image.specs.declared.image.Edge.{Edge}
 use Rattle.plan_image.specs.declared.image.EdgeCode.{EdgeCode}
 use Rattle.plan_image.specs.declared.image.EdgeCode.TheVariants as code_form
 use Rattle.plan_image.specs.Bodies.{opens, filled}
 use Rattle.plan_image.specs.Code.{body, meant, HasBody}
-use Rattle.plan_image.specs.Spelling.{counted, number, instr, InstrFits, IsWord, AscendsFrom, EdgeFits, CodeFits, sort_byte, pool_number, edge_code, edge, instructions, most_code}
-use Rattle.plan_image.specs.Reading.{◌>>=◌, Read, met, refuse, number_at, number_up_to, numbers_at, ascending_at, sort_at, pool_of, instr_at, own_code_at, filling_at, shared_code_at, code_at, items_at, edge_at, edges_at, used_after}
+use Rattle.plan_image.specs.Spelling.{counted, number, instr, IsWord, AscendsFrom, EdgeFits, CodeFits, sort_byte, pool_number, edge_code, edge, instructions, most_code}
+use Rattle.plan_image.specs.Reading.{◌>>=◌, number_at, pool_of, instr_at, own_code_at, filling_at, shared_code_at, code_at, items_at, edge_at, edges_at, used_after}
 use Rattle.plan_image.proofs.BodyLaws.{filled_len}
-use Rattle.plan_image.proofs.Items.{IsBytes, Takes, Takes-then, bind_ok, ok_is, AllFrom, items_take, items_again}
+use Rattle.plan_image.proofs.Items.{Takes, Takes-then, bind_ok, ok_is, AllFrom, items_take, items_again}
 use Rattle.plan_image.proofs.Fields.{IsReader, opens as begins, passes, wide32, word_law, up_to_law, numbers_law, ascending_law, counted_takes, counted_again, each_fits}
 use Rattle.plan_image.proofs.CodeLaws.{sort_law, instr_law}
 

@@ -1,6 +1,5 @@
 -- A field that is read is the field that was written, and what was written is read again.
-use Rattle.std.proofs.Common.{◌≡◌, ℕ, zero, suc, ◌+◌, ◌-◌, ◌^◌, ◌<◌, ◌≤◌, Bool, true, false, cond, ltb, eqb, List, [], ◌∷◌, ◌++◌, length, get_or, take, drop, Option, Some, None, Result, Ok, Err, refl, sym, ap, subst, ◌∙◌, append_assoc, arith, ◌⊎◌, inl, inr}
-use Rattle.std.specs.Prelude.{IfSome, not}
+use Rattle.std.proofs.Common.{◌≡◌, ℕ, zero, suc, ◌+◌, ◌^◌, ◌<◌, ◌≤◌, Bool, true, false, cond, ltb, eqb, List, [], ◌∷◌, ◌++◌, length, take, drop, Result, Ok, Err, refl, sym, ap, subst, ◌∙◌, append_assoc, arith, inl, inr}
 use Rattle.std.specs.Int.{Width, w16, w32, byte_len, from_be_bytes, to_be_bytes}
 use Rattle.std.specs.List.{flat_map, AllByRecursion}
 use Rattle.std.proofs.lemmas.Bool.{cases_lt, ltb-false, le-ltb, ne_eqb}
@@ -9,7 +8,7 @@ use Rattle.std.proofs.lemmas.Nat.{be_bytes_2, be_bytes_4, from_be_bytes-to_be_by
 use Rattle.plan_image.specs.declared.fault.Cause.{Cause}
 use Rattle.plan_image.specs.declared.fault.Met.{Met}
 use Rattle.plan_image.specs.Spelling.{long_text, short_text, counted, number, IsWord, AreWords, IsText, IsFileName, AscendsFrom}
-use Rattle.plan_image.specs.Reading.{◌>>=◌, Read, met, refuse, tag, number_at, number_up_to, bytes_at, text_at, file_at, items_at, table_at, numbers_at, next_at, ascending_at, byte_at}
+use Rattle.plan_image.specs.Reading.{◌>>=◌, Read, refuse, number_at, number_up_to, bytes_at, text_at, file_at, items_at, table_at, numbers_at, next_at, ascending_at}
 use Rattle.plan_image.proofs.Items.{IsBytes, Takes, Takes-then, bind_ok, ok_is, AllFrom, items_take, items_again}
 
 pub IsBytes-drop : (n : ℕ) (bytes : List ℕ) → IsBytes bytes → IsBytes (drop n bytes)

@@ -1,27 +1,23 @@
 -- An image that is read is spelled so, and what is spelled so is read.
-use Rattle.std.proofs.Common.{◌≡◌, ◌≢◌, ◌&&◌, ℕ, zero, suc, ◌+◌, ◌-◌, ◌^◌, ◌<◌, ◌≤◌, Bool, true, false, cond, ltb, eqb, List, [], ◌∷◌, ◌++◌, length, drop, Option, Some, None, Result, Ok, Err, refl, sym, ap, subst, ◌∙◌, append_assoc, arith, ◌⊎◌, inl, inr}
+use Rattle.std.proofs.Common.{◌≡◌, ◌≢◌, ◌&&◌, ℕ, ◌^◌, ◌≤◌, Bool, true, false, cond, ltb, eqb, List, [], ◌∷◌, ◌++◌, length, drop, Option, Some, None, Result, Ok, Err, refl, sym, ap, subst, ◌∙◌, append_assoc, arith}
 use Rattle.std.specs.Prelude.{IfSome, not, nat_eq}
 use Rattle.std.specs.Int.{w16, w32, to_be_bytes}
-use Rattle.std.specs.List.{flat_map, AllByRecursion, starts_with}
+use Rattle.std.specs.List.{AllByRecursion, starts_with}
 use Rattle.std.proofs.lemmas.Bool.{ltb-false, le-ltb, eqb-true}
 use Rattle.std.proofs.lemmas.List.{append-nil, nil_from_length}
-use Rattle.plan_image.specs.declared.fault.Cause.{Cause}
 use Rattle.plan_image.specs.declared.fault.Cause.TheVariants as cause
 use Rattle.plan_image.specs.declared.fault.Met.{Met}
 use Rattle.plan_image.specs.declared.fault.ImageFault.{ImageFault}
 use Rattle.plan_image.specs.declared.fault.ImageFault.TheVariants as fault
-use Rattle.plan_image.specs.declared.instr.Kind.{Kind}
-use Rattle.plan_image.specs.declared.instr.Instr.{Instr}
-use Rattle.plan_image.specs.declared.image.Sort.{Sort}
 use Rattle.plan_image.specs.declared.image.Pool.{Pool}
 use Rattle.plan_image.specs.declared.image.Slot.{Slot}
 use Rattle.plan_image.specs.declared.image.Edge.{Edge}
 use Rattle.plan_image.specs.declared.image.Parts.{Parts}
-use Rattle.plan_image.specs.Spelling.{counted, number, long_text, short_text, IsWord, AreWords, IsText, IsFileName, AscendsFrom, PoolFits, SlotFits, EdgeFits, kind_byte, sort_byte, pool_number, pool, slot, edge, magic, spelling, bodies, BodiesFit, version_of, version_byte, CountsFit, ItemsFit, IsWithinLimits, IsInOrder, HasSpelling, IsPrefixFree, IsNoSpelling}
-use Rattle.plan_image.specs.Reading.{◌>>=◌, Read, met, refuse, number_at, number_up_to, bytes_at, table_at, numbers_at, ascending_at, byte_at, text_at, file_at, kind_at, slot_at, pool_at, version_by, versioned, bodies_at, edges_at, version_at, head_at, parts_at, tables_at, located, read_of}
-use Rattle.plan_image.proofs.Items.{IsBytes, Takes, Takes-then, bind_ok, ok_is, AllFrom, items_take, items_again}
-use Rattle.plan_image.proofs.Fields.{IsBytes-drop, IsReader, opens, passes, wide16, wide32, number_law, word_law, up_to_law, text_takes, bytes_again, text_law, file_law, table_law, numbers_law, ascending_law}
-use Rattle.plan_image.proofs.CodeLaws.{byte_law, kind_law, beside, beside_is, bodies_law}
+use Rattle.plan_image.specs.Spelling.{counted, number, long_text, short_text, AreWords, IsText, IsFileName, AscendsFrom, PoolFits, SlotFits, kind_byte, pool, slot, edge, magic, spelling, bodies, BodiesFit, version_of, version_byte, HasSpelling, IsPrefixFree, IsNoSpelling}
+use Rattle.plan_image.specs.Reading.{◌>>=◌, Read, met, number_up_to, bytes_at, table_at, ascending_at, byte_at, text_at, file_at, kind_at, slot_at, pool_at, version_by, versioned, bodies_at, edges_at, version_at, head_at, parts_at, tables_at, located, read_of}
+use Rattle.plan_image.proofs.Items.{IsBytes, Takes, Takes-then, bind_ok, ok_is}
+use Rattle.plan_image.proofs.Fields.{IsBytes-drop, IsReader, opens, passes, wide16, wide32, number_law, word_law, up_to_law, text_takes, bytes_again, text_law, file_law, table_law, ascending_law}
+use Rattle.plan_image.proofs.CodeLaws.{byte_law, kind_law, beside_is, bodies_law}
 use Rattle.plan_image.proofs.EdgeLaws.{EdgesFit, edges_law}
 use Rattle.plan_image.specs.declared.image.Version.{Version}
 use Rattle.plan_image.specs.declared.image.Version.TheVariants as version

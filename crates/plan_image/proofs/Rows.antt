@@ -1,6 +1,6 @@
 -- Worked images.
-use Rattle.std.proofs.Common.{◌≡◌, ℕ, List, [], ◌∷◌, ◌++◌, take, Option, Some, None, Result, Ok, Err, refl}
-use Rattle.plan_image.specs.declared.fault.Cause.TheVariants.{Truncated, Trailing, BadTag, Limit, BadOrder, BadMagic, BadVersion, BadBody}
+use Rattle.std.proofs.Common.{◌≡◌, ℕ, List, [], ◌∷◌, ◌++◌, take, Some, None, Ok, Err, refl}
+use Rattle.plan_image.specs.declared.fault.Cause.TheVariants.{Truncated, Trailing, BadTag, Limit, BadOrder, BadVersion, BadBody}
 use Rattle.plan_image.specs.declared.fault.ImageFault.TheVariants as fault
 use Rattle.plan_image.specs.declared.instr.Instr.TheVariants as op
 use Rattle.plan_image.specs.declared.image.Sort.TheVariants as sort
@@ -83,11 +83,6 @@ bad_flag = refl
 pub bad_order : read_of (before_code ++ ones ++ 0 ∷ [] ++ twos ++ zeros ++ zeros) ≡ Err (fault.Bytes BadOrder 74)
 unfolding read_of tables_at parts_at head_at version_at numbers_at bodies_at body_table_at body_at body_instr_at edges_at edge_at own_code_at shared_code_at sort_at instr_at pool_at slot_at kind_at byte_at ascending_at next_at table_at items_at file_at text_at bytes_at number_up_to number_at
 bad_order = refl
-
--- the entry of 24 bytes
-pub entry_spelled : entry (record { output = 97 ∷ []; command = 116 ∷ []; basis = 7; paths = [] })
-    ≡ (0 ∷ 0 ∷ 0 ∷ 20 ∷ []) ++ (0 ∷ 1 ∷ 97 ∷ []) ++ ones ++ (116 ∷ []) ++ zeros ++ (0 ∷ 0 ∷ 0 ∷ 7 ∷ []) ++ zeros
-entry_spelled = refl
 
 pub shown : listed parts ≡ codes "text 0 78\nfile 0 61\nedge 0 command rank 0 pool - label 0 outputs 0 waits -\n  0 End\ndefault 0\n"
 unfolding digits

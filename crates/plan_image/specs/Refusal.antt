@@ -1,5 +1,4 @@
 -- Why tables are no image.
-use Rattle.std.specs.Prelude.{◌≡◌, ℕ}
 use Rattle.plan_image.specs.declared.fault.Cause.TheVariants as cause
 use Rattle.plan_image.specs.declared.fault.ImageFault.{ImageFault}
 use Rattle.plan_image.specs.declared.fault.ImageFault.TheVariants as fault

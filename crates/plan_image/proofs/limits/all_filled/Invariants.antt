@@ -1,4 +1,4 @@
-use Rattle.std.proofs.Common.{◌≡◌, ◌↔◌, drop}
+use Rattle.std.proofs.Common.{◌↔◌, drop}
 use Rattle.std.specs.List.{AllByRecursion}
 use Rattle.plan_image.specs.Code.{HasBody}
 use Rattle.plan_image.proofs.limits.all_filled.Given as goal

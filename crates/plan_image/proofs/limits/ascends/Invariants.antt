@@ -1,4 +1,4 @@
-use Rattle.std.proofs.Common.{◌≡◌, ◌↔◌, ◌≤◌, ◌^◌, drop}
+use Rattle.std.proofs.Common.{◌↔◌, drop}
 use Rattle.plan_image.specs.Spelling.{AscendsFrom}
 use Rattle.plan_image.proofs.limits.ascends.Given as goal
 

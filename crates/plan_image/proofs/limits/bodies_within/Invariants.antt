@@ -1,4 +1,4 @@
-use Rattle.std.proofs.Common.{◌≡◌, ◌+◌, ◌≤◌, ◌↔◌, drop}
+use Rattle.std.proofs.Common.{◌≤◌, ◌↔◌, drop}
 use Rattle.plan_image.specs.Spelling.{body_instructions}
 use Rattle.plan_image.proofs.limits.bodies_within.Given as goal
 

@@ -1,4 +1,4 @@
-use Rattle.std.proofs.Common.{◌≡◌, ◌+◌, ◌≤◌, ◌↔◌, drop}
+use Rattle.std.proofs.Common.{◌≤◌, ◌↔◌, drop}
 use Rattle.plan_image.specs.Spelling.{instructions}
 use Rattle.plan_image.proofs.limits.instructions_within.Given as goal
 

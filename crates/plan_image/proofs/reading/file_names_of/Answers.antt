@@ -1,4 +1,3 @@
-use Rattle.std.proofs.Common.{◌≡◌, ◌++◌, ◌∷◌, []}
 use Rattle.std.proofs.lemmas.Result.{err_from_is_err_and}
 use Rattle.plan_image.specs.Reading.{items_at, file_at}
 use Rattle.plan_image.proofs.Loop.{goes_on, ends, is_done}
@@ -15,4 +14,4 @@ loop-preserved c =
 
 pub returns : goal.returns
 returns c =
-    rw c.from_vec.ensures (is_done (λ (s : Unit {0}). file_at) (λ s x. s) tt c.loop.items.items c.args.count c.loop.counter c.loop.rest.now (items_at (λ (s : Unit {0}). file_at) (λ s x. s) tt c.args.count c.args.bytes.now) c.loop-test.false c.loop.invariant)
+    rw c.new.ensures (is_done (λ (s : Unit {0}). file_at) (λ s x. s) tt c.loop.items.items c.args.count c.loop.counter c.loop.rest.now (items_at (λ (s : Unit {0}). file_at) (λ s x. s) tt c.args.count c.args.bytes.now) c.loop-test.false c.loop.invariant)

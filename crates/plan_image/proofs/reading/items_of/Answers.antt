@@ -1,4 +1,4 @@
-use Rattle.std.proofs.Common.{◌≡◌, ◌++◌, ◌∷◌, [], arith}
+use Rattle.std.proofs.Common.{◌∷◌, [], arith}
 use Rattle.std.proofs.lemmas.List.{length-append}
 use Rattle.std.proofs.lemmas.Result.{err_from_is_err_and}
 use Rattle.plan_image.specs.Reading.{items_at}
@@ -22,4 +22,4 @@ loop-preserved g c =
 pub returns-clause-items : goal.returns-clause-items
 returns-clause-items g c =
     let item = g.T.Spelled.read_at in
-    rw c.from_vec.ensures (is_done (λ (s : Unit {0}). item) (λ s x. s) tt c.loop.items.items c.args.count c.loop.counter c.loop.rest.now (items_at (λ (s : Unit {0}). item) (λ s x. s) tt c.args.count c.args.bytes.now) c.loop-test.false c.loop.invariant.read)
+    rw c.new.ensures (is_done (λ (s : Unit {0}). item) (λ s x. s) tt c.loop.items.items c.args.count c.loop.counter c.loop.rest.now (items_at (λ (s : Unit {0}). item) (λ s x. s) tt c.args.count c.args.bytes.now) c.loop-test.false c.loop.invariant.read)

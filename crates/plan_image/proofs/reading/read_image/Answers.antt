@@ -1,4 +1,4 @@
-use Rattle.std.proofs.Common.{◌≡◌, arith}
+use Rattle.std.proofs.Common.{arith}
 use Rattle.std.proofs.lemmas.Result.{err_from_is_err_and}
 use Rattle.plan_image.proofs.ImageLaws.{read_takes, refuses}
 use Rattle.plan_image.proofs.reading.read_image.Goals as goal

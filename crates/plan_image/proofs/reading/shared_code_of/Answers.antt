@@ -1,4 +1,4 @@
-use Rattle.std.proofs.Common.{◌≡◌, ◌∙◌, ap, ℕ, ◌+◌, ◌≤◌, subst, rules}
+use Rattle.std.proofs.Common.{ℕ, ◌+◌, ◌≤◌, subst}
 use Rattle.std.specs.Prelude.{IfOk}
 use Rattle.plan_image.proofs.BodyLaws.{most_of, got}
 use Rattle.plan_image.proofs.reading.shared_code_of.Goals as goal

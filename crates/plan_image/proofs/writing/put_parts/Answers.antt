@@ -1,4 +1,4 @@
-use Rattle.std.proofs.Common.{◌≡◌, ◌++◌, [], ◌∷◌}
+use Rattle.std.proofs.Common.{◌++◌, [], ◌∷◌}
 use Rattle.plan_image.specs.Spelling.{counted, long_text, short_text, pool, slot, edge, bodies, number, magic, version_byte, version_of, spelling}
 use Rattle.plan_image.proofs.ImageLaws.{regroup9}
 use Rattle.plan_image.proofs.writing.put_parts.Goals as goal

@@ -1,4 +1,4 @@
-use Rattle.std.proofs.Common.{◌≡◌, ◌∙◌, sym}
+use Rattle.std.proofs.Common.{◌∙◌, sym}
 use Rattle.plan_image.proofs.BodyLaws.{filled_len}
 use Rattle.plan_image.proofs.body.Body.filled_len.Goals as goal
 
