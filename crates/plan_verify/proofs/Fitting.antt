@@ -11,7 +11,7 @@ use Rattle.plan_image.specs.declared.instr.Instr.{Instr}
 use Rattle.plan_image.specs.declared.instr.Instr.TheVariants as op
 use Rattle.plan_image.specs.declared.image.Edge.{Edge}
 use Rattle.plan_image.specs.declared.image.Parts.{Parts}
-use Rattle.plan_image.specs.Code.{code, own_code}
+use Rattle.plan_image.specs.Code.{code, edge_code}
 use Rattle.plan_verify.specs.declared.shape.Shape.{Shape}
 use Rattle.plan_verify.specs.declared.fault.Refusal.{Refusal}
 use Rattle.plan_verify.specs.Tables.{is_member, owns, is_lent, own_slots, slot_kind, path_of, paths_of, outputs_of, first_output, first_path, pool_outside, is_outside, pool_in, outputs_in, with_path}
@@ -197,7 +197,7 @@ outputs_inside : (p : Parts) (fs : List ℕ) → lacks_outputs p fs ≡ false �
 outputs_inside p [] h = refl
 outputs_inside p (f ∷ fs) h = all_inside p (f ∷ fs) h
 
-right_by : (p : Parts) (e : ℕ) (o : Option Edge) → slice_get p.edges e ≡ o → 0 < length (own_code o) → table_refusal_of p e o ≡ None → Right p e
+right_by : (p : Parts) (e : ℕ) (o : Option Edge) → slice_get p.edges e ≡ o → 0 < length (edge_code p.bodies o) → table_refusal_of p e o ≡ None → Right p e
 right_by p e None is some h = absurd (omega (arith, some))
 right_by p e (Some x) is some h =
     let a = all_pass (table_checks p e x) h in
