@@ -14,7 +14,8 @@ use Rattle.plan_image.specs.declared.image.Parts.{Parts}
 use Rattle.plan_image.specs.Code.{code, edge_code}
 use Rattle.plan_verify.specs.declared.shape.Shape.{Shape}
 use Rattle.plan_verify.specs.declared.fault.Refusal.{Refusal}
-use Rattle.plan_verify.specs.Tables.{is_member, owns, is_lent, own_slots, slot_kind, path_of, paths_of, outputs_of, first_output, first_path, pool_outside, is_outside, pool_in, outputs_in, with_path}
+use Rattle.plan_verify.specs.Members.{is_member}
+use Rattle.plan_verify.specs.Tables.{owns, is_lent, own_slots, slot_kind, path_of, paths_of, outputs_of, first_output, first_path, pool_outside, is_outside, pool_in, outputs_in, with_path}
 use Rattle.plan_verify.specs.Shape.{left, targets, refused, first_of, checks, takes, kinds_after, bad_slot, bad_jump, bad_file, bad_text, lacks_place, keeps_place, same_kind, wrong_kind, unset_slot, values_left, falls_off, table_checks, table_refusal, table_refusal_of, lacks_outputs}
 use Rattle.plan_verify.specs.WellShaped.{at_start, toward, arriving_from, begins, arriving, AreAllShapes}
 use Rattle.plan_verify.specs.Fits.{Leads, Turns, Fits, with_kinds}

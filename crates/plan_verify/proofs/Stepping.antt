@@ -14,9 +14,10 @@ use Rattle.plan_image.specs.Code.{code}
 use Rattle.plan_verify.specs.declared.value.Value.{Value}
 use Rattle.plan_verify.specs.declared.value.Value.TheVariants.{Stamp, Flag, Text, Paths, Swept}
 use Rattle.plan_verify.specs.declared.shape.Shape.{Shape}
-use Rattle.plan_verify.specs.Tables.{is_member, owned_by, own_slots, slot_kind, path_of, paths_of, outputs_of, first_output, pool_outside}
+use Rattle.plan_verify.specs.Members.{is_member, with_member}
+use Rattle.plan_verify.specs.Tables.{owned_by, own_slots, slot_kind, path_of, paths_of, outputs_of, first_output, pool_outside}
 use Rattle.plan_verify.specs.Turn.{kind_of, Slots, is_filled, is_set, Request, Stat, Recall, Run, Deps, Keep, Reply, StampIs, Entry, Nothing, Exit, Signal, NotStarted, Bytes, Kept, Fault, Meaning, Local, PlaceNotHeld, Turn, Asks, Wrong, Calculated, calculate, calculated, earlier, later, same_text, goes, next, jumps, asks_of, ends, loads, stores, writes, sweeps, sweep, branches, runs, reads, keeps, act, act_at, turn, merged, found, ran, replied, replied_at, heard}
-use Rattle.plan_verify.specs.Shape.{with_member}
+use Rattle.plan_verify.specs.Shape.{}
 use Rattle.plan_verify.specs.Fits.{Leads, GoesOn, Fits, with_kinds}
 use Rattle.plan_verify.specs.Sound.{AreTyped, AreLentSet, IsTyped, asking, IsSafe, StepsAreSafe, RepliesAreSafe}
 use Rattle.plan_verify.proofs.Lists.{get_inside, get_same, get_other, map_length, when_true, when_false, when_either, or_cases, or_right, and_both, is_some_of}

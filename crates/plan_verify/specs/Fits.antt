@@ -8,8 +8,9 @@ use Rattle.plan_image.specs.declared.instr.Instr.TheVariants as op
 use Rattle.plan_image.specs.declared.image.Parts.{Parts}
 use Rattle.plan_image.specs.Code.{code}
 use Rattle.plan_verify.specs.declared.shape.Shape.{Shape}
-use Rattle.plan_verify.specs.Tables.{is_member, owns, is_lent, own_slots, slot_kind, path_of, paths_of, outputs_of, first_output, pool_outside}
-use Rattle.plan_verify.specs.Shape.{with_member}
+use Rattle.plan_verify.specs.Members.{is_member, with_member}
+use Rattle.plan_verify.specs.Tables.{owns, is_lent, own_slots, slot_kind, path_of, paths_of, outputs_of, first_output, pool_outside}
+use Rattle.plan_verify.specs.Shape.{}
 
 -- a place of the code has this shape
 pub record Leads (p : Parts) (e : ℕ) (shapes : List Shape) (place : ℕ) (shape : Shape) : Type 0 where

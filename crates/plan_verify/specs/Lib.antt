@@ -1,3 +1,5 @@
+pub mod Members
+pub mod Stack
 pub mod Tables
 pub mod Turn
 pub mod Shape
@@ -7,3 +9,7 @@ pub mod Sound
 pub mod Alone
 pub mod Budget
 pub mod Seam
+pub mod OwnSet
+pub mod Wanted
+pub mod OwnSlots
+pub mod Faults

@@ -12,7 +12,9 @@ use Rattle.plan_image.specs.Code.{code}
 use Rattle.plan_verify.specs.declared.shape.Shape.{Shape}
 use Rattle.plan_verify.specs.declared.fault.Refusal.{Refusal}
 use Rattle.plan_verify.specs.declared.fault.Refusal.TheVariants as refusal
-use Rattle.plan_verify.specs.Tables.{is_member, owns, is_lent, own_slots, slot_kind, is_outside}
+use Rattle.plan_verify.specs.Members.{is_member, with_member}
+use Rattle.plan_verify.specs.Stack.{swapped}
+use Rattle.plan_verify.specs.Tables.{owns, is_lent, own_slots, slot_kind, is_outside}
 
 -- ---- what an instruction does to the shape
 
@@ -36,10 +38,6 @@ takes p op.Keep = Some Swept ∷ Some Stamp ∷ Some Text ∷ []
 takes p op.Drop = None ∷ []
 takes p op.Swap = None ∷ None ∷ []
 takes p _ = []
-
-abbrev pub swapped : List Kind → List Kind
-swapped (x ∷ y ∷ kinds) = y ∷ x ∷ kinds
-swapped kinds = kinds
 
 -- what it puts there, the top first, for the kinds that it took
 abbrev pub gives : Parts → Instr → List Kind → List Kind
@@ -72,11 +70,6 @@ abbrev pub holding_after : Instr → Bool → Bool
 holding_after op.Take held = true
 holding_after op.Release held = false
 holding_after _ held = held
-
--- a set of numbers with one more, as the ascending list of its members
-abbrev pub with_member : ℕ → List ℕ → List ℕ
-with_member n [] = n ∷ []
-with_member n (m ∷ ms) = if nat_lt n m then n ∷ m ∷ ms else if n == m then m ∷ ms else m ∷ with_member n ms
 
 abbrev pub set_after : Instr → List ℕ → List ℕ
 set_after (op.Store s) set = with_member s set
@@ -186,7 +179,7 @@ refused p e place i s = first_of (checks p e place i s)
 
 -- ---- what is refused of an edge's tables
 
-abbrev ranks_below : Option Edge → ℕ → Bool
+abbrev pub ranks_below : Option Edge → ℕ → Bool
 ranks_below (Some maker) rank = nat_lt maker.rank rank
 ranks_below None rank = false
 

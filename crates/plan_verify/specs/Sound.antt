@@ -6,7 +6,8 @@ use Rattle.plan_image.specs.declared.image.Parts.{Parts}
 use Rattle.plan_image.specs.Code.{code}
 use Rattle.plan_verify.specs.declared.value.Value.{Value}
 use Rattle.plan_verify.specs.declared.shape.Shape.{Shape}
-use Rattle.plan_verify.specs.Tables.{is_member, owns, is_lent, own_slots, slot_kind}
+use Rattle.plan_verify.specs.Members.{is_member}
+use Rattle.plan_verify.specs.Tables.{owns, is_lent, own_slots, slot_kind}
 use Rattle.plan_verify.specs.Turn.{kind_of, Slots, is_set, Local, Turn, Goes, Sets, Asks, Ends, Fails, Wrong, Meaning, Reply, turn, heard, question}
 use Rattle.plan_verify.specs.WellShaped.{AreAllShapes}
 use Rattle.plan_verify.specs.Fits.{Fits}

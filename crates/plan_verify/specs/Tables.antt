@@ -1,11 +1,11 @@
 -- What an edge's instructions read of the tables.
 use Rattle.std.specs.Prelude.{ℕ, ◌+◌, Bool, false, List, [], ◌∷◌, length, Option, Some, None, nat_le, ◌==◌, if◌then◌else◌, slice_get}
-use Rattle.std.specs.List.{list_any}
 use Rattle.plan_image.specs.declared.instr.Kind.{Kind}
 use Rattle.plan_image.specs.declared.instr.Kind.TheVariants as kind
 use Rattle.plan_image.specs.declared.image.Slot.{Slot}
 use Rattle.plan_image.specs.declared.image.Edge.{Edge}
 use Rattle.plan_image.specs.declared.image.Parts.{Parts}
+use Rattle.plan_verify.specs.Members.{is_member}
 
 -- ---- edges
 
@@ -61,9 +61,6 @@ abbrev pub pool_outside : Parts → ℕ → Bool
 pool_outside p e = is_outside p (pool_of p e)
 
 -- ---- slots
-
-abbrev pub is_member : ℕ → List ℕ → Bool
-is_member n ms = list_any (λ m. m == n) ms
 
 abbrev pub kind_in : Option Slot → Kind
 kind_in (Some slot) = slot.kind

@@ -2,8 +2,13 @@
 #![tactic(auto)]
 
 mod fault;
+mod kinds;
 mod laws;
+mod own_slots;
+mod place_checks;
 mod shape;
+mod slot_set;
+mod table_checks;
 mod value;
 
 pub use fault::Refusal;
@@ -11,5 +16,7 @@ pub use laws::{
     goes_on_alone, hears_what_suits, instructions_fit, never_wrong_alone, questions_ignore_slots,
     replies_are_safe, stays_in_budget_alone, stays_typed, steps_are_safe,
 };
-pub use shape::{Kinds, Shape};
+pub use kinds::Kinds;
+pub use shape::Shape;
+pub use slot_set::SlotSet;
 pub use value::{Cause, PathList, Value, Words};
