@@ -7,6 +7,7 @@ mod laws;
 mod own_slots;
 mod place_checks;
 mod shape;
+mod shape_change;
 mod slot_set;
 mod table_checks;
 mod value;

@@ -273,3 +273,60 @@ fn has_values_left(instr: Instr, kinds: &Kinds) -> bool
         _ => false,
     }
 }
+
+/// The first check of an instruction at a place that fails, where the shape is this one.
+#[tactic(auto, unfolding(crate::specs::Shape::refused))]
+pub(crate) fn refusal_at(
+    parts: &Parts,
+    edge: u32,
+    own_len: usize,
+    len: usize,
+    place: usize,
+    instr: Instr,
+    shape: &Shape,
+) -> Option<Refusal>
+    requires order { IsInOrder parts.now }
+    requires own { own_len ≡ length (own_slots parts.now edge) }
+    requires len { len ≡ length (code parts.now edge) }
+    requires place { place < len }
+    requires set { IsOwnSet parts.now edge shape.now.set }
+    ensures { result ≡ refused parts.now edge place instr shape.now }
+{
+    if has_bad_slot(parts, edge, instr) {
+        return Some(Refusal::BadSlot);
+    }
+    if has_bad_jump(len, place, instr) {
+        return Some(Refusal::BadJump);
+    }
+    if has_bad_file(parts, instr) {
+        return Some(Refusal::BadFile);
+    }
+    if has_bad_text(parts, instr) {
+        return Some(Refusal::BadText);
+    }
+    if needs_a_place(instr, shape.holding) {
+        return Some(Refusal::NotHolding);
+    }
+    if still_holds(instr, shape.holding) {
+        return Some(Refusal::Holding);
+    }
+    if shape.kinds.len() < taken_len(parts, instr) {
+        return Some(Refusal::EmptyStack);
+    }
+    if has_wrong_kind(parts, instr, &shape.kinds) {
+        return Some(Refusal::WrongKind);
+    }
+    if has_unset_slot(parts, edge, own_len, instr, &shape.set) {
+        return Some(Refusal::UnsetSlot);
+    }
+    if has_values_left(instr, &shape.kinds) {
+        return Some(Refusal::ValuesLeft);
+    }
+    if 64 < len_after(parts, instr, &shape.kinds) {
+        return Some(Refusal::TooDeep);
+    }
+    if goes_past(len, place, instr) {
+        return Some(Refusal::FallsOff);
+    }
+    None
+}
