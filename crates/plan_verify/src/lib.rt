@@ -1,6 +1,7 @@
 //! Which images are well shaped, and what one edge of them does.
 #![tactic(auto)]
 
+mod arrivals;
 mod fault;
 mod kinds;
 mod laws;
