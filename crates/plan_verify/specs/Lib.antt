@@ -9,6 +9,7 @@ pub mod Sound
 pub mod Alone
 pub mod Budget
 pub mod Seam
+pub mod Pass
 pub mod Arrivals
 pub mod OwnSet
 pub mod Wanted

@@ -3,9 +3,11 @@
 
 mod arrivals;
 mod fault;
+mod flow;
 mod kinds;
 mod laws;
 mod own_slots;
+mod pass;
 mod place_checks;
 mod shape;
 mod shape_change;
