@@ -70,15 +70,14 @@ first_shape p e shapes all =
 
 -- ---- the checks that passed, by name
 
-IsOnwards : ℕ → ℕ → ℕ → Type 0
+-- a place is behind another and inside the code
+abbrev pub IsOnwards : ℕ → ℕ → ℕ → Type 0
 IsOnwards n len t = (n < t) × (t < len)
 
 jump_onwards : (n len d : ℕ) → (leb d n || leb len d) ≡ false → IsOnwards n len d
-unfolding IsOnwards
 jump_onwards n len d e = let o = or_false (leb d n) (leb len d) e in (leb-false d n o.0, leb-false len d o.1)
 
 next_onwards : (n len : ℕ) → leb len (n + 1) ≡ false → IsOnwards n len (n + 1)
-unfolding IsOnwards
 next_onwards n len e = let h = leb-false len (n + 1) e in (omega arith, h)
 
 targets_onwards : (n len : ℕ) (i : Instr) → bad_jump len n i ≡ false → falls_off len n i ≡ false → AllByRecursion (IsOnwards n len) (targets n i)
@@ -92,20 +91,21 @@ all_pass [] e = tt
 all_pass ((true, r) ∷ cs) e = absurd cc
 all_pass ((false, r) ∷ cs) e = (refl, all_pass cs e)
 
-record Passed (p : Parts) (e n : ℕ) (i : Instr) (s : Shape) : Type 0 where
-  slot : bad_slot p e i ≡ false
-  file : bad_file p i ≡ false
-  text : bad_text p i ≡ false
-  lacks : lacks_place i s.holding ≡ false
-  keeps : keeps_place i s.holding ≡ false
-  few : ltb (length s.kinds) (length (takes p i)) ≡ false
-  kinds : wrong_kind (takes p i) s.kinds ≡ false
-  unset : unset_slot p e i s.set ≡ false
-  left : values_left i s.kinds ≡ false
-  deep : ltb 64 (length (kinds_after p i s.kinds)) ≡ false
-  onwards : AllByRecursion (IsOnwards n (length (code p e))) (targets n i)
+-- the checks of an instruction that passed, by name
+pub record Passed (p : Parts) (e n : ℕ) (i : Instr) (s : Shape) : Type 0 where
+  pub slot : bad_slot p e i ≡ false
+  pub file : bad_file p i ≡ false
+  pub text : bad_text p i ≡ false
+  pub lacks : lacks_place i s.holding ≡ false
+  pub keeps : keeps_place i s.holding ≡ false
+  pub few : ltb (length s.kinds) (length (takes p i)) ≡ false
+  pub kinds : wrong_kind (takes p i) s.kinds ≡ false
+  pub unset : unset_slot p e i s.set ≡ false
+  pub left : values_left i s.kinds ≡ false
+  pub deep : ltb 64 (length (kinds_after p i s.kinds)) ≡ false
+  pub onwards : AllByRecursion (IsOnwards n (length (code p e))) (targets n i)
 
-passed_from : (p : Parts) (e n : ℕ) (i : Instr) (s : Shape) → refused p e n i s ≡ None → Passed p e n i s
+pub passed_from : (p : Parts) (e n : ℕ) (i : Instr) (s : Shape) → refused p e n i s ≡ None → Passed p e n i s
 unfolding refused
 passed_from p e n i s h =
     let a = all_pass (checks p e n i s) h in
@@ -227,7 +227,6 @@ module _ (p : Parts) (e : ℕ) (shapes : List Shape) (all : AreAllShapes p e sha
 
   -- at the next place is what the instruction leaves
   on : (i : Instr) → slice_get (code p e) n ≡ Some i → Passed p e n i s → targets n i ≡ (n + 1) ∷ [] → Leads p e shapes (n + 1) (left p i s)
-  unfolding IsOnwards
   on i here ok is =
       let there : Contains (targets n i) (n + 1) = rw is (0, omega arith, refl) in
       let o = subst (λ ts. AllByRecursion (IsOnwards n (length (code p e))) ts) is ok.onwards in
@@ -247,7 +246,7 @@ module _ (p : Parts) (e : ℕ) (shapes : List Shape) (all : AreAllShapes p e sha
   puts i given here ok is same = (s.kinds, refl, subst (λ (x : Shape). Leads p e shapes (n + 1) x) same (on i here ok is))
 
   fit : Right p e → (i : Instr) → slice_get (code p e) n ≡ Some i → Passed p e n i s → Fits p e shapes n s i
-  unfolding left IsOnwards
+  unfolding left
   fit t op.End here ok =
       let none : length s.kinds ≤ 0 = ltb-false 0 (length s.kinds) ok.left in
       (nil_from_length s.kinds (omega (arith, none)), ok.keeps, not_false (list_all (λ k. is_member k s.set) (own_slots p e)) ok.unset)
