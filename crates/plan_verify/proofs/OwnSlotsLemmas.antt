@@ -103,5 +103,5 @@ all_counted p place all le done = record {
     let is = counted_is p e p.slots 0 none refl in
     let same : own ≡ counted e none p.slots = sym last ∙ (done.each e own at).1 in
     let count : (counted e none p.slots).count ≡ 0 + length (own_slots p e) = is.0 in
-    rw same (omega (arith, count), is.1);
+    rw same (record { count = omega (arith, count); paths = is.1 });
 }

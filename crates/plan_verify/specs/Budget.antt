@@ -1,5 +1,5 @@
 -- How many events an edge may have.
-use Rattle.std.specs.Prelude.{◌≡◌, ℕ, ◌+◌, ◌*◌, ◌<◌, ◌≤◌, Bool, true, false, if◌then◌else◌, List, [], ◌∷◌, length, Ok}
+use Rattle.std.specs.Prelude.{◌≡◌, ℕ, zero, suc, ◌+◌, ◌*◌, ◌<◌, ◌≤◌, Bool, true, false, if◌then◌else◌, List, [], ◌∷◌, length, Ok}
 use Rattle.plan_image.specs.declared.instr.Instr.{Instr}
 use Rattle.plan_image.specs.declared.instr.Instr.TheVariants as op
 use Rattle.plan_image.specs.declared.image.Parts.{Parts}
@@ -52,6 +52,15 @@ costs (i ∷ is) = cost i + costs is
 -- one for its start
 abbrev pub edge_budget : Parts → ℕ → ℕ
 edge_budget p e = 1 + costs (code p e)
+
+-- of the first edges together
+abbrev pub budget_of_first : Parts → ℕ → ℕ
+budget_of_first p zero = 0
+budget_of_first p (suc n) = budget_of_first p n + edge_budget p n
+
+-- of all edges together
+abbrev pub image_budget : Parts → ℕ
+image_budget p = budget_of_first p (length p.edges)
 
 abbrev pub path_bytes : List (List ℕ) → ℕ
 path_bytes [] = 0

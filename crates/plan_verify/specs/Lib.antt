@@ -15,3 +15,4 @@ pub mod OwnSet
 pub mod Wanted
 pub mod OwnSlots
 pub mod Faults
+pub mod Verdict

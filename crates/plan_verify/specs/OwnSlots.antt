@@ -30,8 +30,11 @@ pub record AreCounted (p : Parts) (place : ℕ) (all : List OwnSlots) : Type 0 w
   pub long : length all ≡ length p.edges
   pub each : (e : ℕ) (own : OwnSlots) → slice_get all e ≡ Some own → (own.count ≤ place) × (counted e own (drop place p.slots) ≡ counted e none p.slots)
 
--- what is counted is what the table says of each edge
+-- what is counted is what the table says of an edge
+pub record IsOwn (p : Parts) (e : ℕ) (own : OwnSlots) : Type 0 where
+  pub count : own.count ≡ length (own_slots p e)
+  pub paths : own.has_paths ≡ list_any (λ s. is_paths (slot_kind p s)) (own_slots p e)
+
 pub record AreOwnSlots (p : Parts) (all : List OwnSlots) : Type 0 where
   pub long : length all ≡ length p.edges
-  pub each : (e : ℕ) (own : OwnSlots) → slice_get all e ≡ Some own
-      → (own.count ≡ length (own_slots p e)) × (own.has_paths ≡ list_any (λ s. is_paths (slot_kind p s)) (own_slots p e))
+  pub each : (e : ℕ) (own : OwnSlots) → slice_get all e ≡ Some own → IsOwn p e own

@@ -83,4 +83,4 @@ pub data IsFirstRefusal (p : Parts) (e : ℕ) : ℕ → Refusal → Type 0 where
 -- the first refusal of an image: of an edge after some that are shaped, or of the tables after all of them
 pub data IsRefused (p : Parts) : ℕ → ℕ → Refusal → Type 0 where
   edge_fails : {e place : ℕ} {r : Refusal} → e < length p.edges → ((d : ℕ) → d < e → IsShapedEdge p d) → IsFirstRefusal p e place r → IsRefused p e place r
-  tables_fail : {r : Refusal} → ((d : ℕ) → d < length p.edges → IsShapedEdge p d) → image_refusal p ≡ Some r → IsRefused p 0 0 r
+  all_fail : {r : Refusal} → ((d : ℕ) → d < length p.edges → IsShapedEdge p d) → image_refusal p ≡ Some r → IsRefused p 0 0 r

@@ -14,8 +14,9 @@ mod shape_change;
 mod slot_set;
 mod table_checks;
 mod value;
+mod verified;
 
-pub use fault::Refusal;
+pub use fault::{Refusal, VerifyFault};
 pub use laws::{
     goes_on_alone, hears_what_suits, instructions_fit, never_wrong_alone, questions_ignore_slots,
     replies_are_safe, stays_in_budget_alone, stays_typed, steps_are_safe,
@@ -23,4 +24,5 @@ pub use laws::{
 pub use kinds::Kinds;
 pub use shape::Shape;
 pub use slot_set::SlotSet;
+pub use verified::{Verified, verify};
 pub use value::{Cause, PathList, Value, Words};

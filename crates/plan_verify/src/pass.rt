@@ -2,7 +2,7 @@
 
 ghost use Rattle.std.specs.Prelude.{◌≡◌, ◌+◌, ◌*◌, ◌<◌, ◌≤◌, ◌^◌, None, Some, IfOk, OnOk, IfErr, length, slice_get};
 ghost use Rattle.plan_image.specs.Code.{code};
-ghost use Rattle.plan_image.specs.Spelling.{IsInOrder, HasSpelling};
+ghost use Rattle.plan_image.specs.Spelling.{IsInOrder};
 ghost use Rattle.plan_verify.specs.Tables.{own_slots};
 ghost use Rattle.plan_verify.specs.Shape.{table_refusal};
 ghost use Rattle.plan_verify.specs.WellShaped.{IsShapedEdge};
@@ -52,4 +52,69 @@ fn pass_place(
     jump(alloc, arrivals, instr, &flow.shape)?;
     flow.falls = falls_through(instr);
     Ok(())
+}
+
+/// The instruction at a place that is inside the code.
+fn instr_at(image: &Image, edge: u32, place: usize) -> Instr
+    requires place { place < length (code image.now edge) }
+    requires short { length (code image.now edge) < 2 ^ 32 }
+    ensures { slice_get (code image.now edge) place ≡ Some result }
+{
+    match image.instr(edge, place as u32) {
+        Some(instr) => instr,
+        None => unreachable!(),
+    }
+}
+
+/// What an instruction costs of the budget.
+fn cost(instr: Instr) -> u64
+    ensures value { result ≡ Rattle.plan_verify.specs.Budget.cost instr }
+    ensures small { result ≤ 2 }
+{
+    match instr {
+        Instr::Stat(_)
+        | Instr::Need(_)
+        | Instr::Recall
+        | Instr::Run
+        | Instr::Deps
+        | Instr::Keep => 2,
+        _ => 1,
+    }
+}
+
+/// The budget of an edge whose code has shapes, or the first place that is refused.
+pub(crate) fn pass_code(alloc: Global, image: &Image, edge: u32, own_len: usize) -> Result<u64, CodeFault>
+    requires tables { table_refusal image.now edge ≡ None }
+    requires own { own_len ≡ length (own_slots image.now edge) }
+    ensures ok { OnOk result (IsShapedEdge image.now edge) }
+    ensures budget { IfOk result (λ b. b ≡ edge_budget image.now edge) }
+    ensures small { IfOk result (λ b. b ≤ 2 ^ 28) }
+    ensures err { IfErr result (λ f. IsCodeFault image.now edge f) }
+{
+    let parts = image.parts();
+    let len = image.code_len(edge);
+    if len == 0 {
+        return Err(CodeFault::Refused(Refusal::FallsOff, 0));
+    }
+    let mut arrivals = no_arrivals(alloc, len)?;
+    let mut flow = flow_at_start(alloc);
+    let mut budget = 1u64;
+    for place in 0..len {
+        let instr = instr_at(image, edge, place);
+        match pass_place(
+            alloc,
+            parts,
+            edge,
+            own_len,
+            place,
+            instr,
+            &mut arrivals,
+            &mut flow,
+        ) {
+            Ok(()) => {}
+            Err(fault) => return Err(fault),
+        }
+        budget += cost(instr);
+    }
+    Ok(budget)
 }
