@@ -7,7 +7,6 @@ pub mod TableLemmas
 pub mod BuildGraphLemmas
 pub mod RankLaw
 pub mod InputLemmas
-pub mod RowListLemmas
 pub mod NumberLemmas
 pub mod EdgeLaws
 pub mod Rows

@@ -1,7 +1,6 @@
 pub mod Faults
 pub mod Files
 pub mod Keys
-pub mod RowLists
 pub mod Cycles
 pub mod Graph
 pub mod Reading

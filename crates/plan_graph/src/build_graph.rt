@@ -12,7 +12,7 @@ use crate::edge_reader::read_edges;
 use crate::fault::GraphFault;
 use crate::files::Files;
 use crate::graph_data::Graph;
-use crate::row_list::RowList;
+use plan_text::RowList;
 use crate::waits::{add_producer, all_waits, ascend};
 use crate::walk::ranks;
 use plan_scope::{DefaultTarget, Edge, Manifest};
@@ -35,7 +35,7 @@ fn has_unused<'a>(files: &Files<'a>, numbers: &[usize]) -> bool
 fn last_edges<'a>(
     alloc: Global,
     files: &Files<'a>,
-    outputs: &RowList,
+    outputs: &RowList<usize>,
     edges: &[Edge],
 ) -> Result<Items<usize>, GraphFault>
     requires fits { Fits files.now edges.now }
@@ -70,7 +70,7 @@ fn producers_of_targets<'a>(
 fn default_edges<'a>(
     alloc: Global,
     files: &Files<'a>,
-    outputs: &RowList,
+    outputs: &RowList<usize>,
     edges: &[Edge],
     defaults: &[DefaultTarget],
 ) -> Result<Items<usize>, GraphFault>

@@ -5,7 +5,7 @@ ghost use Rattle.plan_graph.specs.Cycles.{Chain, IsSimple};
 ghost use Rattle.plan_graph.specs.Walking.{TellsCycle};
 
 use crate::fault::GraphFault;
-use crate::row_list::RowList;
+use plan_text::RowList;
 use plan_text::Items;
 use std::alloc::{AllocError, Global};
 
@@ -49,7 +49,7 @@ fn place_of(path: &[usize], edge: usize) -> usize
 }
 
 /// The cycle that a path closes, the last of which waits for an edge on it.
-pub fn cycle_from(alloc: Global, waits: &RowList, path: &[usize], edge: usize) -> GraphFault
+pub fn cycle_from(alloc: Global, waits: &RowList<usize>, path: &[usize], edge: usize) -> GraphFault
     requires here { Contains path.now edge }
     requires chain { Chain waits.now (path.now ++ edge ∷ []) }
     requires simple { IsSimple path.now }

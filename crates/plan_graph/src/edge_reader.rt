@@ -11,7 +11,7 @@ ghost use Rattle.plan_graph.specs.declared.fault.GraphFault.TheVariants.{Memory,
 use crate::fault::GraphFault;
 use crate::files::{File, Files};
 use crate::graph_data::MAX_EDGES;
-use crate::row_list::RowList;
+use plan_text::RowList;
 use plan_scope::{DefaultTarget, Edge, Manifest};
 use plan_text::{Items, SmallText};
 use std::alloc::{AllocError, Global};
@@ -22,9 +22,9 @@ pub struct EdgeTable<'a> {
     /// The paths that they name.
     pub files: Files<'a>,
     /// The numbers of the outputs of each edge.
-    pub outputs: RowList,
+    pub outputs: RowList<usize>,
     /// The numbers of the inputs of each edge.
-    pub inputs: RowList,
+    pub inputs: RowList<usize>,
     /// The row that is being read.
     row: Vec<usize>,
 }

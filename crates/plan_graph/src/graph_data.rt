@@ -1,7 +1,7 @@
 //! What is known of all edges.
 
 use crate::files::Files;
-use crate::row_list::RowList;
+use plan_text::RowList;
 use plan_text::Items;
 
 /// The greatest number of edges of a manifest.
@@ -13,11 +13,11 @@ pub struct Graph<'a> {
     /// The paths that build lines name, in the order in which they first do, outputs before inputs.
     pub files: Files<'a>,
     /// The numbers of the outputs of each edge, explicit before implicit.
-    pub outputs: RowList,
+    pub outputs: RowList<usize>,
     /// The numbers of the inputs of each edge: explicit, then implicit, then order-only.
-    pub inputs: RowList,
+    pub inputs: RowList<usize>,
     /// The edges that each edge waits for, in ascending order.
-    pub waits: RowList,
+    pub waits: RowList<usize>,
     /// The rank of each edge: 0 where it waits for none, else one more than the greatest rank that it waits for.
     pub ranks: Items<usize>,
     /// The edges that are built where no target is asked for, in ascending order.

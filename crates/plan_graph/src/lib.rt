@@ -10,7 +10,6 @@ mod graph_data;
 mod key;
 mod laws;
 mod mark;
-mod row_list;
 mod waits;
 mod walk;
 
@@ -22,7 +21,6 @@ pub use laws::{
     defaults_ascend, files_complete, files_distinct, producers_numbered, producers_waited,
     ranked_unless_cyclic, ranks_rise, waits_ascend,
 };
-pub use row_list::RowList;
 
 #[cfg(test)]
 mod tests;

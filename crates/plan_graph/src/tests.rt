@@ -41,7 +41,7 @@ fn manifest_of(alloc: Global, bytes: &'static [u8]) -> Option<Manifest> {
 const THREE: &[u8] = b"rule r\n  command = true\nbuild c: r a b\nbuild a: r\nbuild b: r a\n";
 
 /// Whether the rows are these.
-fn are_rows(rows: &RowList, expected: &[&[usize]]) -> bool {
+fn are_rows(rows: &RowList<usize>, expected: &[&[usize]]) -> bool {
     if rows.len() != expected.len() {
         return false;
     }

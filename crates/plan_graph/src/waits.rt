@@ -11,7 +11,7 @@ ghost use Rattle.plan_graph.specs.Graph.{all_waits, inputs_named, rows_of, waits
 use crate::edge_reader::{is_own, own_of};
 use crate::fault::GraphFault;
 use crate::files::Files;
-use crate::row_list::RowList;
+use plan_text::RowList;
 use plan_scope::Edge;
 use std::alloc::Global;
 
@@ -78,9 +78,9 @@ fn waits_of<'a>(
 pub fn all_waits<'a>(
     alloc: Global,
     files: &Files<'a>,
-    inputs: &RowList,
+    inputs: &RowList<usize>,
     edges: &[Edge],
-) -> Result<RowList, GraphFault>
+) -> Result<RowList<usize>, GraphFault>
     requires fits { Fits files.now edges.now }
     requires inputs { inputs.now ≡ rows_of inputs_named (paths_in files.now) edges.now }
     ensures { Meets Memory (λ rows. rows) result (Ok (all_waits edges.now)) }

@@ -9,7 +9,7 @@ ghost use Rattle.plan_graph.specs.declared.mark.Mark.TheVariants as mark;
 use crate::cycle::cycle_from;
 use crate::fault::GraphFault;
 use crate::mark::{Mark, is_done, is_new};
-use crate::row_list::RowList;
+use plan_text::RowList;
 use plan_text::Items;
 use std::alloc::{AllocError, Global};
 use std::marker::Model;
@@ -19,7 +19,7 @@ use std::marker::Model;
 struct Walk<'a> {
     alloc: Global,
     /// What each edge waits for.
-    waits: &'a RowList,
+    waits: &'a RowList<usize>,
     /// How far the walk has come with each edge.
     marks: Vec<Mark>,
     /// How many of the waits of each edge it has passed; they are done.
@@ -73,7 +73,7 @@ fn done_len(row: &[usize], marks: &[Mark], known: usize) -> usize
 
 impl<'a> Walk<'a> {
     /// A walk that has met no edge.
-    fn new(alloc: Global, waits: &'a RowList) -> Result<Walk<'a>, AllocError>
+    fn new(alloc: Global, waits: &'a RowList<usize>) -> Result<Walk<'a>, AllocError>
         requires range { InRange waits.now }
         requires few { length waits.now ≤ max_edges }
         ensures { IfOk result (λ walk. IsUntrodden waits.now walk) }
@@ -211,7 +211,7 @@ impl<'a> Walk<'a> {
 }
 
 /// The rank of each edge, by what each waits for, or a cycle.
-pub fn ranks(alloc: Global, waits: &RowList) -> Result<Items<usize>, GraphFault>
+pub fn ranks(alloc: Global, waits: &RowList<usize>) -> Result<Items<usize>, GraphFault>
     requires range { InRange waits.now }
     requires few { length waits.now ≤ max_edges }
     ensures ranks { IfOk result (λ r. AreRanks waits.now r) }

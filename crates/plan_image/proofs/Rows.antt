@@ -1,6 +1,5 @@
 -- Worked images.
 use Rattle.std.proofs.Common.{◌≡◌, ℕ, List, [], ◌∷◌, ◌++◌, take, Some, None, Ok, Err, refl}
-use Rattle.plan_image.specs.declared.fault.Cause.TheVariants.{Truncated, Trailing, BadTag, Limit, BadOrder, BadVersion, BadBody}
 use Rattle.plan_image.specs.declared.fault.ImageFault.TheVariants as fault
 use Rattle.plan_image.specs.declared.instr.Instr.TheVariants as op
 use Rattle.plan_image.specs.declared.image.Sort.TheVariants as sort
@@ -9,12 +8,12 @@ use Rattle.plan_image.specs.declared.instr.BodyInstr.{BodyInstr}
 use Rattle.plan_image.specs.declared.instr.BodyInstr.TheVariants as member
 use Rattle.plan_image.specs.declared.instr.Opening.TheVariants as opening
 use Rattle.plan_image.specs.declared.instr.Instr.{Instr}
-use Rattle.plan_image.specs.Bodies.{filled, body_of, operands_of}
+use Rattle.plan_image.specs.Bodies.{with_operands, body_of, operands_of}
 use Rattle.plan_image.specs.Code.{code}
 use Rattle.plan_image.specs.declared.image.Edge.{Edge}
 use Rattle.plan_image.specs.declared.image.Parts.{Parts}
 use Rattle.plan_image.specs.Spelling.{spelling}
-use Rattle.plan_image.specs.Listing.{listed}
+use Rattle.plan_image.specs.Listing.{listing_of}
 use Rattle.std.specs.Prelude.{codes}
 use Rattle.std.specs.Fmt.{digits}
 use Rattle.plan_image.specs.Reading.{read_of, tables_at, parts_at, head_at, version_at, numbers_at, bodies_at, body_table_at, body_at, body_instr_at, edges_at, edge_at, own_code_at, shared_code_at, sort_at, instr_at, pool_at, slot_at, kind_at, byte_at, ascending_at, next_at, table_at, items_at, file_at, text_at, bytes_at, number_up_to, number_at}
@@ -43,19 +42,19 @@ pub is_read : read_of bytes ≡ Ok parts
 unfolding read_of tables_at parts_at head_at version_at numbers_at bodies_at body_table_at body_at body_instr_at edges_at edge_at own_code_at shared_code_at sort_at instr_at pool_at slot_at kind_at byte_at ascending_at next_at table_at items_at file_at text_at bytes_at number_up_to number_at
 is_read = refl
 
-pub cut : read_of (take 73 bytes) ≡ Err (fault.Bytes Truncated 73)
+pub cut : read_of (take 73 bytes) ≡ Err (fault.Truncated 73)
 unfolding read_of tables_at parts_at head_at version_at numbers_at bodies_at body_table_at body_at body_instr_at edges_at edge_at own_code_at shared_code_at sort_at instr_at pool_at slot_at kind_at byte_at ascending_at next_at table_at items_at file_at text_at bytes_at number_up_to number_at
 cut = refl
 
-pub more : read_of (bytes ++ 0 ∷ []) ≡ Err (fault.Bytes Trailing 74)
+pub more : read_of (bytes ++ 0 ∷ []) ≡ Err (fault.Trailing 74)
 unfolding read_of tables_at parts_at head_at version_at numbers_at bodies_at body_table_at body_at body_instr_at edges_at edge_at own_code_at shared_code_at sort_at instr_at pool_at slot_at kind_at byte_at ascending_at next_at table_at items_at file_at text_at bytes_at number_up_to number_at
 more = refl
 
-pub large : read_of ((80 ∷ 76 ∷ 65 ∷ 78 ∷ 73 ∷ 77 ∷ 71 ∷ 1 ∷ []) ++ 0 ∷ 64 ∷ 0 ∷ 1 ∷ []) ≡ Err (fault.Bytes Limit 8)
+pub large : read_of ((80 ∷ 76 ∷ 65 ∷ 78 ∷ 73 ∷ 77 ∷ 71 ∷ 1 ∷ []) ++ 0 ∷ 64 ∷ 0 ∷ 1 ∷ []) ≡ Err (fault.Limit 8)
 unfolding read_of tables_at parts_at head_at version_at numbers_at bodies_at body_table_at body_at body_instr_at edges_at edge_at own_code_at shared_code_at sort_at instr_at pool_at slot_at kind_at byte_at ascending_at next_at table_at items_at file_at text_at bytes_at number_up_to number_at
 large = refl
 
-pub magic_cut : read_of (80 ∷ 76 ∷ []) ≡ Err (fault.Bytes Truncated 2)
+pub magic_cut : read_of (80 ∷ 76 ∷ []) ≡ Err (fault.Truncated 2)
 unfolding read_of tables_at parts_at head_at version_at byte_at
 magic_cut = refl
 
@@ -68,23 +67,23 @@ before_code = before_edge ++ (0 ∷ []) ++ zeros ++ zeros ++ zeros ++ ones ++ ze
 abbrev twos : List ℕ
 twos = 0 ∷ 0 ∷ 0 ∷ 2 ∷ []
 
-pub bad_sort : read_of (before_edge ++ 2 ∷ []) ≡ Err (fault.Bytes BadTag 36)
+pub bad_sort : read_of (before_edge ++ 2 ∷ []) ≡ Err (fault.BadTag 36)
 unfolding read_of tables_at parts_at head_at version_at numbers_at bodies_at body_table_at body_at body_instr_at edges_at edge_at own_code_at shared_code_at sort_at instr_at pool_at slot_at kind_at byte_at ascending_at next_at table_at items_at file_at text_at bytes_at number_up_to number_at
 bad_sort = refl
 
-pub bad_opcode : read_of (before_code ++ twos ++ 29 ∷ 0 ∷ [] ++ ones ++ zeros) ≡ Err (fault.Bytes BadTag 65)
+pub bad_opcode : read_of (before_code ++ twos ++ 29 ∷ 0 ∷ [] ++ ones ++ zeros) ≡ Err (fault.BadTag 65)
 unfolding read_of tables_at parts_at head_at version_at numbers_at bodies_at body_table_at body_at body_instr_at edges_at edge_at own_code_at shared_code_at sort_at instr_at pool_at slot_at kind_at byte_at ascending_at next_at table_at items_at file_at text_at bytes_at number_up_to number_at
 bad_opcode = refl
 
-pub bad_flag : read_of (before_code ++ twos ++ 12 ∷ 2 ∷ 0 ∷ [] ++ ones ++ zeros) ≡ Err (fault.Bytes BadTag 66)
+pub bad_flag : read_of (before_code ++ twos ++ 12 ∷ 2 ∷ 0 ∷ [] ++ ones ++ zeros) ≡ Err (fault.BadTag 66)
 unfolding read_of tables_at parts_at head_at version_at numbers_at bodies_at body_table_at body_at body_instr_at edges_at edge_at own_code_at shared_code_at sort_at instr_at pool_at slot_at kind_at byte_at ascending_at next_at table_at items_at file_at text_at bytes_at number_up_to number_at
 bad_flag = refl
 
-pub bad_order : read_of (before_code ++ ones ++ 0 ∷ [] ++ twos ++ zeros ++ zeros) ≡ Err (fault.Bytes BadOrder 74)
+pub bad_order : read_of (before_code ++ ones ++ 0 ∷ [] ++ twos ++ zeros ++ zeros) ≡ Err (fault.BadOrder 74)
 unfolding read_of tables_at parts_at head_at version_at numbers_at bodies_at body_table_at body_at body_instr_at edges_at edge_at own_code_at shared_code_at sort_at instr_at pool_at slot_at kind_at byte_at ascending_at next_at table_at items_at file_at text_at bytes_at number_up_to number_at
 bad_order = refl
 
-pub shown : listed parts ≡ codes "text 0 78\nfile 0 61\nedge 0 command rank 0 pool - label 0 outputs 0 waits -\n  0 End\ndefault 0\n"
+pub shown : listing_of parts ≡ codes "text 0 78\nfile 0 61\nedge 0 command rank 0 pool - label 0 outputs 0 waits -\n  0 End\ndefault 0\n"
 unfolding digits
 shown = refl
 
@@ -119,15 +118,15 @@ sharing_read = refl
 pub sharing_code : code sharing 0 ≡ op.End ∷ []
 sharing_code = refl
 
-pub no_such_body : read_of (before_number ++ ones ++ ones ++ zeros) ≡ Err (fault.Bytes BadBody 70)
+pub no_such_body : read_of (before_number ++ ones ++ ones ++ zeros) ≡ Err (fault.BadBody 70)
 unfolding read_of tables_at parts_at head_at version_at numbers_at bodies_at body_table_at body_at body_instr_at edges_at edge_at own_code_at shared_code_at sort_at instr_at pool_at slot_at kind_at byte_at ascending_at next_at table_at items_at file_at text_at bytes_at number_up_to number_at
 no_such_body = refl
 
-pub bad_version : read_of ((80 ∷ 76 ∷ 65 ∷ 78 ∷ 73 ∷ 77 ∷ 71 ∷ 3 ∷ []) ++ zeros) ≡ Err (fault.Bytes BadVersion 7)
+pub bad_version : read_of ((80 ∷ 76 ∷ 65 ∷ 78 ∷ 73 ∷ 77 ∷ 71 ∷ 3 ∷ []) ++ zeros) ≡ Err (fault.BadVersion 7)
 unfolding read_of tables_at parts_at head_at version_at byte_at
 bad_version = refl
 
-pub long_body : read_of (before_bodies ++ ones ++ 0 ∷ 1 ∷ 0 ∷ 1 ∷ []) ≡ Err (fault.Bytes Limit 36)
+pub long_body : read_of (before_bodies ++ ones ++ 0 ∷ 1 ∷ 0 ∷ 1 ∷ []) ≡ Err (fault.Limit 36)
 unfolding read_of tables_at parts_at head_at version_at numbers_at bodies_at body_table_at body_at body_instr_at edges_at edge_at own_code_at shared_code_at sort_at instr_at pool_at slot_at kind_at byte_at ascending_at next_at table_at items_at file_at text_at bytes_at number_up_to number_at
 long_body = refl
 
@@ -138,7 +137,7 @@ open_body = member.Open opening.Text ∷ member.Open opening.Load ∷ member.Fix
 abbrev opened_code : List Instr
 opened_code = op.Text 7 ∷ op.Load 9 ∷ op.End ∷ []
 
-pub is_filled : filled open_body (7 ∷ 9 ∷ []) ≡ opened_code
+pub is_filled : with_operands open_body (7 ∷ 9 ∷ []) ≡ opened_code
 is_filled = refl
 
 pub is_split : body_of opened_code ≡ open_body
@@ -159,10 +158,10 @@ pub operands_read : read_of (spelling two_edges) ≡ Ok two_edges
 unfolding read_of tables_at parts_at head_at version_at numbers_at bodies_at body_table_at body_at body_instr_at edges_at edge_at own_code_at shared_code_at sort_at instr_at pool_at slot_at kind_at byte_at ascending_at next_at table_at items_at file_at text_at bytes_at number_up_to number_at spelling
 operands_read = refl
 
-pub sharing_shown : listed sharing ≡ codes "text 0 78\nfile 0 61\nbody 0\n  0 End\nedge 0 command rank 0 pool - label 0 outputs 0 waits - body 0 operands -\ndefault 0\n"
+pub sharing_shown : listing_of sharing ≡ codes "text 0 78\nfile 0 61\nbody 0\n  0 End\nedge 0 command rank 0 pool - label 0 outputs 0 waits - body 0 operands -\ndefault 0\n"
 unfolding digits
 sharing_shown = refl
 
-pub operands_shown : listed two_edges ≡ codes "body 0\n  0 Text _\n  1 Load _\n  2 End\nedge 0 phony rank 0 pool - label 0 outputs - waits - body 0 operands 7 9\ndefault -\n"
+pub operands_shown : listing_of two_edges ≡ codes "body 0\n  0 Text _\n  1 Load _\n  2 End\nedge 0 phony rank 0 pool - label 0 outputs - waits - body 0 operands 7 9\ndefault -\n"
 unfolding digits
 operands_shown = refl

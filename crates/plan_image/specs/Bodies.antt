@@ -22,10 +22,10 @@ put opening.Store n = op.Store n
 put opening.Text n = op.Text n
 
 -- the body with these numbers put in, in order; 0 where there are too few
-abbrev pub filled : List BodyInstr → List ℕ → List Instr
-filled [] ns = []
-filled (member.Fixed i ∷ is) ns = i ∷ filled is ns
-filled (member.Open o ∷ is) ns = put o (get_or ns 0 0) ∷ filled is (drop 1 ns)
+abbrev pub with_operands : List BodyInstr → List ℕ → List Instr
+with_operands [] ns = []
+with_operands (member.Fixed i ∷ is) ns = i ∷ with_operands is ns
+with_operands (member.Open o ∷ is) ns = put o (get_or ns 0 0) ∷ with_operands is (drop 1 ns)
 
 -- how many open instructions stand before each one, and n more
 abbrev pub ranks_from : ℕ → List BodyInstr → List ℕ
@@ -34,10 +34,10 @@ ranks_from n (member.Fixed i ∷ is) = n ∷ ranks_from n is
 ranks_from n (member.Open o ∷ is) = n ∷ ranks_from (n + 1) is
 
 -- an instruction of a body, with the number of that rank
-abbrev pub seen : List ℕ → Option BodyInstr → ℕ → Option Instr
-seen ns None rank = None
-seen ns (Some (member.Fixed i)) rank = Some i
-seen ns (Some (member.Open o)) rank = Some (put o (get_or ns rank 0))
+abbrev pub instr_with_rank : List ℕ → Option BodyInstr → ℕ → Option Instr
+instr_with_rank ns None rank = None
+instr_with_rank ns (Some (member.Fixed i)) rank = Some i
+instr_with_rank ns (Some (member.Open o)) rank = Some (put o (get_or ns rank 0))
 
 -- what an instruction is where its number is left open
 abbrev pub opening_of : Instr → Option Opening
@@ -48,32 +48,32 @@ opening_of (op.Store n) = Some opening.Store
 opening_of (op.Text n) = Some opening.Text
 opening_of i = None
 
-abbrev pub opened : Instr → BodyInstr
-opened (op.Stat n) = member.Open opening.Stat
-opened (op.Need n) = member.Open opening.Need
-opened (op.Load n) = member.Open opening.Load
-opened (op.Store n) = member.Open opening.Store
-opened (op.Text n) = member.Open opening.Text
-opened i = member.Fixed i
+abbrev pub leave_open : Instr → BodyInstr
+leave_open (op.Stat n) = member.Open opening.Stat
+leave_open (op.Need n) = member.Open opening.Need
+leave_open (op.Load n) = member.Open opening.Load
+leave_open (op.Store n) = member.Open opening.Store
+leave_open (op.Text n) = member.Open opening.Text
+leave_open i = member.Fixed i
 
 -- the number that is left open
-abbrev pub left_open : Instr → List ℕ
-left_open (op.Stat n) = n ∷ []
-left_open (op.Need n) = n ∷ []
-left_open (op.Load n) = n ∷ []
-left_open (op.Store n) = n ∷ []
-left_open (op.Text n) = n ∷ []
-left_open i = []
+abbrev pub open_operand : Instr → List ℕ
+open_operand (op.Stat n) = n ∷ []
+open_operand (op.Need n) = n ∷ []
+open_operand (op.Load n) = n ∷ []
+open_operand (op.Store n) = n ∷ []
+open_operand (op.Text n) = n ∷ []
+open_operand i = []
 
 -- the body of a code, and its numbers
 abbrev pub body_of : List Instr → List BodyInstr
 body_of [] = []
-body_of (i ∷ is) = opened i ∷ body_of is
+body_of (i ∷ is) = leave_open i ∷ body_of is
 
 abbrev pub operands_of : List Instr → List ℕ
 operands_of [] = []
-operands_of (i ∷ is) = left_open i ++ operands_of is
+operands_of (i ∷ is) = open_operand i ++ operands_of is
 
 -- each code is its body with its numbers put in, one for each open instruction
 abbrev pub IsSplit : Type 0
-IsSplit = (is : List Instr) → (filled (body_of is) (operands_of is) ≡ is) × (length (operands_of is) ≡ opens (body_of is))
+IsSplit = (is : List Instr) → (with_operands (body_of is) (operands_of is) ≡ is) × (length (operands_of is) ≡ opens (body_of is))

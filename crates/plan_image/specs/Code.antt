@@ -6,7 +6,7 @@ use Rattle.plan_image.specs.declared.image.EdgeCode.{EdgeCode}
 use Rattle.plan_image.specs.declared.image.EdgeCode.TheVariants as code_form
 use Rattle.plan_image.specs.declared.image.Edge.{Edge}
 use Rattle.plan_image.specs.declared.image.Parts.{Parts}
-use Rattle.plan_image.specs.Bodies.{filled, opens}
+use Rattle.plan_image.specs.Bodies.{with_operands, opens}
 
 abbrev or_empty : Option (List BodyInstr) → List BodyInstr
 or_empty (Some is) = is
@@ -18,12 +18,12 @@ body None n = []
 body (Some bs) n = or_empty (slice_get bs n)
 
 -- the instructions that an edge's code stands for
-abbrev pub meant : Option (List (List BodyInstr)) → EdgeCode → List Instr
-meant bodies (code_form.Own is) = is
-meant bodies (code_form.Shared n ns) = filled (body bodies n) ns
+abbrev pub instrs_of : Option (List (List BodyInstr)) → EdgeCode → List Instr
+instrs_of bodies (code_form.Own is) = is
+instrs_of bodies (code_form.Shared n ns) = with_operands (body bodies n) ns
 
 abbrev pub edge_code : Option (List (List BodyInstr)) → Option Edge → List Instr
-edge_code bodies (Some edge) = meant bodies edge.code
+edge_code bodies (Some edge) = instrs_of bodies edge.code
 edge_code bodies None = []
 
 -- the instructions of an edge, none where the number is outside

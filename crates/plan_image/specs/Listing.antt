@@ -1,6 +1,6 @@
 -- An image as text, one line for each item, in the order of the image.
 use Rattle.std.specs.Prelude.{ℕ, ◌+◌, ◌/◌, ◌%◌, false, List, [], ◌∷◌, ◌++◌, map, Option, Some, None}
-use Rattle.std.specs.List.{flat_map, join_with_byte}
+use Rattle.std.specs.List.{concat, join_with_byte}
 use Rattle.std.specs.Fmt.{decimal, digit_glyph}
 use Rattle.std.specs.Prelude.{codes}
 use Rattle.plan_image.specs.declared.instr.Kind.{Kind}
@@ -10,6 +10,9 @@ use Rattle.plan_image.specs.declared.instr.Instr.TheVariants as op
 use Rattle.plan_image.specs.declared.image.Sort.{Sort}
 use Rattle.plan_image.specs.declared.image.Sort.TheVariants as sort
 use Rattle.plan_image.specs.declared.image.Edge.{Edge}
+use Rattle.plan_image.specs.declared.image.Pool.{Pool}
+use Rattle.plan_image.specs.declared.image.Slot.{Slot}
+use Rattle.plan_image.specs.declared.instr.Opening.{Opening}
 use Rattle.plan_image.specs.declared.image.Parts.{Parts}
 use Rattle.plan_image.specs.declared.image.EdgeCode.{EdgeCode}
 use Rattle.plan_image.specs.declared.image.EdgeCode.TheVariants as code_form
@@ -22,16 +25,18 @@ use Rattle.plan_image.specs.Spelling.{operand, flag_byte}
 abbrev pub line : List (List ℕ) → List ℕ
 line words = join_with_byte 32 words ++ 10 ∷ []
 
--- a dash for what is empty
-abbrev pub or_dash : List ℕ → List ℕ
-or_dash [] = codes "-"
-or_dash (b ∷ bytes) = b ∷ bytes
+abbrev pub hex_byte : ℕ → List ℕ
+hex_byte b = digit_glyph false (b / 16) ∷ digit_glyph false (b % 16) ∷ []
 
+-- bytes in hexadecimal digits; a dash where there is none
 abbrev pub hex : List ℕ → List ℕ
-hex bytes = or_dash (flat_map (λ b. digit_glyph false (b / 16) ∷ digit_glyph false (b % 16) ∷ []) bytes)
+hex [] = codes "-"
+hex (b ∷ bytes) = concat (map hex_byte (b ∷ bytes))
 
+-- numbers with a space between each two; a dash where there is none
 abbrev pub members : List ℕ → List ℕ
-members ns = or_dash (join_with_byte 32 (map decimal ns))
+members [] = codes "-"
+members (n ∷ ns) = join_with_byte 32 (map decimal (n ∷ ns))
 
 abbrev pub kind_letter : Kind → List ℕ
 kind_letter kind.Stamp = codes "S"
@@ -75,56 +80,74 @@ name op.Keep = codes "Keep"
 name op.Drop = codes "Drop"
 name op.Swap = codes "Swap"
 
--- what stands behind a name
-abbrev pub shown : Instr → Option ℕ
-shown (op.Flag b) = Some (flag_byte b)
-shown i = operand i
+-- the number behind a name
+abbrev pub operand_number : Instr → Option ℕ
+operand_number (op.Flag b) = Some (flag_byte b)
+operand_number i = operand i
 
-abbrev pub maybe : Option ℕ → List (List ℕ)
-maybe None = []
-maybe (Some n) = decimal n ∷ []
+-- with a space before it, where there is one
+abbrev pub operand_words : Option ℕ → List ℕ
+operand_words None = []
+operand_words (Some n) = 32 ∷ decimal n
 
-abbrev pub pool_shown : Option ℕ → List ℕ
-pool_shown None = codes "-"
-pool_shown (Some n) = decimal n
+abbrev pub pool_words : Option ℕ → List ℕ
+pool_words None = codes "-"
+pool_words (Some n) = decimal n
 
--- each item's lines, in order, by its number
+-- the lines of each item, in order, by its number
 abbrev pub numbered : {X : Type 0} → (ℕ → X → List ℕ) → ℕ → List X → List ℕ
-numbered text n [] = []
-numbered text n (x ∷ xs) = text n x ++ numbered text (n + 1) xs
+numbered lines n [] = []
+numbered lines n (x ∷ xs) = lines n x ++ numbered lines (n + 1) xs
 
+-- a word, the number, the bytes
+abbrev pub bytes_line : List ℕ → ℕ → List ℕ → List ℕ
+bytes_line word n bytes = line (word ∷ decimal n ∷ hex bytes ∷ [])
+
+abbrev pub pool_line : ℕ → Pool → List ℕ
+pool_line n q = line (codes "pool" ∷ decimal n ∷ hex q.name ∷ codes "depth" ∷ decimal q.depth ∷ [])
+
+abbrev pub slot_line : ℕ → Slot → List ℕ
+slot_line n s = line (codes "slot" ∷ decimal n ∷ codes "owner" ∷ decimal s.owner ∷ codes "kind" ∷ kind_letter s.kind ∷ [])
+
+-- two spaces, the place, the name and the operand
 abbrev pub instr_line : ℕ → Instr → List ℕ
-instr_line place i = 32 ∷ 32 ∷ line (decimal place ∷ name i ∷ maybe (shown i))
+instr_line place i = codes "  " ++ line (decimal place ∷ (name i ++ operand_words (operand_number i)) ∷ [])
 
--- what an edge line ends with, where the edge has no instructions of its own
-abbrev pub body_words : EdgeCode → List (List ℕ)
-body_words (code_form.Own is) = []
-body_words (code_form.Shared n ns) = codes "body" ∷ decimal n ∷ codes "operands" ∷ members ns ∷ []
-
-abbrev pub code_lines : EdgeCode → List ℕ
-code_lines (code_form.Own is) = numbered instr_line 0 is
-code_lines (code_form.Shared n ns) = []
-
-abbrev pub edge_lines : ℕ → Edge → List ℕ
-edge_lines n x =
-    line (codes "edge" ∷ decimal n ∷ sort_word x.sort ∷ codes "rank" ∷ decimal x.rank ∷ codes "pool" ∷ pool_shown x.pool ∷ codes "label" ∷ decimal x.label
-        ∷ codes "outputs" ∷ members x.outputs ∷ codes "waits" ∷ members x.waits ∷ body_words x.code)
-    ++ code_lines x.code
+abbrev pub open_line : ℕ → Opening → List ℕ
+open_line place o = codes "  " ++ line (decimal place ∷ name (put o 0) ∷ codes "_" ∷ [])
 
 abbrev pub body_instr_line : ℕ → BodyInstr → List ℕ
 body_instr_line place (member.Fixed i) = instr_line place i
-body_instr_line place (member.Open o) = 32 ∷ 32 ∷ line (decimal place ∷ name (put o 0) ∷ codes "_" ∷ [])
+body_instr_line place (member.Open o) = open_line place o
+
+abbrev pub body_lines : ℕ → List BodyInstr → List ℕ
+body_lines n b = line (codes "body" ∷ decimal n ∷ []) ++ numbered body_instr_line 0 b
 
 abbrev pub bodies_lines : Option (List (List BodyInstr)) → List ℕ
 bodies_lines None = []
-bodies_lines (Some bs) = numbered (λ n b. line (codes "body" ∷ decimal n ∷ []) ++ numbered body_instr_line 0 b) 0 bs
+bodies_lines (Some bs) = numbered body_lines 0 bs
 
-abbrev pub listed : Parts → List ℕ
-listed p =
-    numbered (λ n t. line (codes "text" ∷ decimal n ∷ hex t ∷ [])) 0 p.texts
-    ++ numbered (λ n f. line (codes "file" ∷ decimal n ∷ hex f ∷ [])) 0 p.files
-    ++ numbered (λ n q. line (codes "pool" ∷ decimal n ∷ hex q.name ∷ codes "depth" ∷ decimal q.depth ∷ [])) 0 p.pools
-    ++ numbered (λ n s. line (codes "slot" ∷ decimal n ∷ codes "owner" ∷ decimal s.owner ∷ codes "kind" ∷ kind_letter s.kind ∷ [])) 0 p.slots
-    ++ bodies_lines p.bodies
-    ++ numbered edge_lines 0 p.edges
-    ++ line (codes "default" ∷ members p.defaults ∷ [])
+abbrev pub shared_words : ℕ → List ℕ → List ℕ
+shared_words n ns = 32 ∷ line (codes "body" ∷ decimal n ∷ codes "operands" ∷ members ns ∷ [])
+
+-- what an edge line ends with, and the lines below it: its own instructions, or its body and its operands
+abbrev pub code_words : EdgeCode → List ℕ
+code_words (code_form.Own is) = 10 ∷ numbered instr_line 0 is
+code_words (code_form.Shared n ns) = shared_words n ns
+
+abbrev pub edge_words : ℕ → Edge → List ℕ
+edge_words n x =
+    join_with_byte 32 (codes "edge" ∷ decimal n ∷ sort_word x.sort ∷ codes "rank" ∷ decimal x.rank ∷ codes "pool" ∷ pool_words x.pool ∷ codes "label" ∷ decimal x.label
+        ∷ codes "outputs" ∷ members x.outputs ∷ codes "waits" ∷ members x.waits ∷ [])
+
+abbrev pub edge_lines : ℕ → Edge → List ℕ
+edge_lines n x = edge_words n x ++ code_words x.code
+
+abbrev pub default_line : List ℕ → List ℕ
+default_line ns = line (codes "default" ∷ members ns ∷ [])
+
+-- the whole text
+abbrev pub listing_of : Parts → List ℕ
+listing_of p =
+    numbered (bytes_line (codes "text")) 0 p.texts ++ (numbered (bytes_line (codes "file")) 0 p.files ++ (numbered pool_line 0 p.pools ++ (numbered slot_line 0 p.slots
+    ++ (bodies_lines p.bodies ++ (numbered edge_lines 0 p.edges ++ default_line p.defaults)))))

@@ -4,9 +4,9 @@ use Rattle.std.specs.List.{starts_with}
 use Rattle.std.specs.Int.{Width, w16, w32, byte_len, from_be_bytes}
 use Rattle.plan_image.specs.declared.fault.Cause.{Cause}
 use Rattle.plan_image.specs.declared.fault.Cause.TheVariants.{BadMagic, BadVersion, Truncated, Trailing, BadTag, Limit, BadOrder, BadBody}
-use Rattle.plan_image.specs.declared.fault.Met.{Met}
-use Rattle.plan_image.specs.declared.fault.ReadError.{ReadError}
-use Rattle.plan_image.specs.declared.fault.ReadError.TheVariants as errors
+use Rattle.plan_image.specs.declared.reading.stop.Stop.{Stop}
+use Rattle.plan_image.specs.declared.reading.stop.ReadFault.{ReadFault}
+use Rattle.plan_image.specs.declared.reading.stop.ReadFault.TheVariants as errors
 use Rattle.plan_image.specs.declared.fault.ImageFault.{ImageFault}
 use Rattle.plan_image.specs.declared.fault.ImageFault.TheVariants as fault
 use Rattle.plan_image.specs.declared.instr.Kind.{Kind}
@@ -28,37 +28,38 @@ use Rattle.plan_image.specs.declared.instr.Opening.TheVariants as opening
 use Rattle.plan_image.specs.declared.instr.BodyInstr.{BodyInstr}
 use Rattle.plan_image.specs.declared.instr.BodyInstr.TheVariants as member
 use Rattle.plan_image.specs.Bodies.{opens}
-use Rattle.plan_image.specs.Code.{meant}
+use Rattle.plan_image.specs.Faults.{fault_at}
+use Rattle.plan_image.specs.Code.{instrs_of}
 use Rattle.plan_image.specs.Spelling.{magic}
 
--- a value and the bytes after it, or the fault that is met
+-- a value and the bytes after it, or where it stops
 abbrev pub Read : Type 0 → Type 0
-Read X = Result (X × List ℕ) Met
+Read X = Result (X × List ℕ) Stop
 
-abbrev pub met : {X : Type 0} → Cause → List ℕ → Result X Met
-met cause bytes = Err (record { cause = cause; left = length bytes })
+abbrev pub stop : {X : Type 0} → Cause → List ℕ → Result X Stop
+stop cause bytes = Err (record { cause = cause; left = length bytes })
 
 infixl 10 ◌>>=◌
-abbrev pub ◌>>=◌ : {A B : Type 0} → Result A Met → (A → Result B Met) → Result B Met
+abbrev pub ◌>>=◌ : {A B : Type 0} → Result A Stop → (A → Result B Stop) → Result B Stop
 (Ok x) >>= f = f x
 (Err e) >>= f = Err e
 
--- What a function returned, seen by view, is what reading gives, unless memory ran out.
-abbrev pub Fails : {Y : Type 0} → ReadError → Result Y Met → Type 0
+-- What a function returned, instr_with_rank by view, is what reading gives, unless memory ran out.
+abbrev pub Fails : {Y : Type 0} → ReadFault → Result Y Stop → Type 0
 Fails errors.Memory read = Unit {0}
-Fails (errors.Fault f) read = read ≡ Err f
+Fails (errors.Stop f) read = read ≡ Err f
 
-abbrev pub Gives : {X Y : Type 0} → (X → Y) → Result X ReadError → Result Y Met → Type 0
+abbrev pub Gives : {X Y : Type 0} → (X → Y) → Result X ReadFault → Result Y Stop → Type 0
 Gives view (Ok x) read = read ≡ Ok (view x)
 Gives view (Err e) read = Fails e read
 
 -- a refused length or number stands where its field begins
-abbrev pub refuse : Bool → Cause → List ℕ → Result (Unit {0}) Met
-refuse true cause bytes = met cause bytes
+abbrev pub refuse : Bool → Cause → List ℕ → Result (Unit {0}) Stop
+refuse true cause bytes = stop cause bytes
 refuse false cause bytes = Ok tt
 
 unfoldable pub number_at : Width → List ℕ → Read ℕ
-number_at w bytes = if nat_lt (length bytes) (byte_len w) then met Truncated [] else Ok (from_be_bytes w (take (byte_len w) bytes), drop (byte_len w) bytes)
+number_at w bytes = if nat_lt (length bytes) (byte_len w) then stop Truncated [] else Ok (from_be_bytes w (take (byte_len w) bytes), drop (byte_len w) bytes)
 
 -- a number of at most that
 unfoldable pub number_up_to : Width → ℕ → List ℕ → Read ℕ
@@ -69,7 +70,7 @@ number_up_to w most bytes = do
 
 -- that many bytes
 unfoldable pub bytes_at : ℕ → List ℕ → Read (List ℕ)
-bytes_at n bytes = if nat_lt (length bytes) n then met Truncated [] else Ok (take n bytes, drop n bytes)
+bytes_at n bytes = if nat_lt (length bytes) n then stop Truncated [] else Ok (take n bytes, drop n bytes)
 
 unfoldable pub text_at : List ℕ → Read (List ℕ)
 text_at bytes = do
@@ -114,7 +115,7 @@ numbers_at bytes = do
   items_at (λ (s : Unit {0}). number_at w32) (λ s x. s) tt n.0 n.1
 
 unfoldable pub byte_at : List ℕ → Read ℕ
-byte_at [] = met Truncated []
+byte_at [] = stop Truncated []
 byte_at (b ∷ rest) = Ok (b, rest)
 
 abbrev pub kind_of : ℕ → Option Kind
@@ -128,7 +129,7 @@ kind_of b =
 
 abbrev pub tag : {X : Type 0} → Option X → List ℕ → List ℕ → Read X
 tag (Some x) bytes rest = Ok (x, rest)
-tag None bytes rest = met BadTag bytes
+tag None bytes rest = stop BadTag bytes
 
 unfoldable pub kind_at : List ℕ → Read Kind
 kind_at bytes = do
@@ -233,7 +234,7 @@ numbers_for used n len count bytes rest = do
   Ok (code_form.Shared n ns.0, ns.1)
 
 abbrev pub filling_at : ℕ → ℕ → Option (List BodyInstr) → List ℕ → List ℕ → Read EdgeCode
-filling_at used n None bytes rest = met BadBody bytes
+filling_at used n None bytes rest = stop BadBody bytes
 filling_at used n (Some b) bytes rest = numbers_for used n (length b) (opens b) bytes rest
 
 unfoldable pub shared_code_at : List (List BodyInstr) → ℕ → List ℕ → Read EdgeCode
@@ -259,7 +260,7 @@ edge_at bodies used bytes = do
 
 -- the instructions of an edge and of those above it
 abbrev pub used_after : Option (List (List BodyInstr)) → ℕ → Edge → ℕ
-used_after bodies used x = used + length (meant bodies x.code)
+used_after bodies used x = used + length (instrs_of bodies x.code)
 
 unfoldable pub edges_at : Option (List (List BodyInstr)) → List ℕ → Read (List Edge)
 edges_at bodies bytes = do
@@ -314,7 +315,7 @@ version_by b = if b == 1 then Some version.One else if b == 2 then Some version.
 
 abbrev pub versioned : Option Version → List ℕ → List ℕ → Read Version
 versioned (Some v) bytes rest = Ok (v, rest)
-versioned None bytes rest = met BadVersion bytes
+versioned None bytes rest = stop BadVersion bytes
 
 unfoldable pub version_at : List ℕ → Read Version
 version_at bytes = do
@@ -325,8 +326,8 @@ version_at bytes = do
 unfoldable pub head_at : List ℕ → Read Version
 head_at bytes =
     if starts_with nat_eq bytes magic then version_at (drop 7 bytes)
-    else if starts_with nat_eq magic bytes then met Truncated []
-    else met BadMagic bytes
+    else if starts_with nat_eq magic bytes then stop Truncated []
+    else stop BadMagic bytes
 
 -- all tables, and the bytes after them
 unfoldable pub parts_at : List ℕ → Read Parts
@@ -341,16 +342,16 @@ parts_at bytes = do
   defaults ← ascending_at edges.1
   Ok (record { texts = texts.0; files = files.0; pools = pools.0; slots = slots.0; bodies = bodies.0; edges = edges.0; defaults = defaults.0 }, defaults.1)
 
-unfoldable pub tables_at : List ℕ → Result Parts Met
+unfoldable pub tables_at : List ℕ → Result Parts Stop
 tables_at bytes = do
   parts ← parts_at bytes
   _ ← refuse (not (length parts.1 == 0)) Trailing parts.1
   Ok parts.0
 
-abbrev pub located : ℕ → Result Parts Met → Result Parts ImageFault
+abbrev pub located : ℕ → Result Parts Stop → Result Parts ImageFault
 located whole (Ok parts) = Ok parts
-located whole (Err e) = Err (fault.Bytes e.cause (whole - e.left))
+located whole (Err e) = Err (fault_at e.cause (whole - e.left))
 
 -- what the bytes say, or the first fault with its offset
 unfoldable pub read_of : List ℕ → Result Parts ImageFault
-read_of bytes = if nat_lt 268435456 (length bytes) then Err (fault.Bytes Limit 0) else located (length bytes) (tables_at bytes)
+read_of bytes = if nat_lt 268435456 (length bytes) then Err (fault.Limit 0) else located (length bytes) (tables_at bytes)

@@ -1,5 +1,4 @@
 -- Why tables are no image.
-use Rattle.plan_image.specs.declared.fault.Cause.TheVariants as cause
 use Rattle.plan_image.specs.declared.fault.ImageFault.{ImageFault}
 use Rattle.plan_image.specs.declared.fault.ImageFault.TheVariants as fault
 use Rattle.plan_image.specs.declared.image.Parts.{Parts}
@@ -7,6 +6,6 @@ use Rattle.plan_image.specs.Spelling.{IsWithinLimits, IsInOrder, IsFilled}
 
 -- a limit before an order before a body, all at 0
 pub data IsPartsFault (p : Parts) : ImageFault → Type 0 where
-  over_limit : (IsWithinLimits p → ⊥) → IsPartsFault p (fault.Bytes cause.Limit 0)
-  out_of_order : IsWithinLimits p → (IsInOrder p → ⊥) → IsPartsFault p (fault.Bytes cause.BadOrder 0)
-  unfilled : IsWithinLimits p → IsInOrder p → (IsFilled p → ⊥) → IsPartsFault p (fault.Bytes cause.BadBody 0)
+  over_limit : (IsWithinLimits p → ⊥) → IsPartsFault p (fault.Limit 0)
+  out_of_order : IsWithinLimits p → (IsInOrder p → ⊥) → IsPartsFault p (fault.BadOrder 0)
+  unfilled : IsWithinLimits p → IsInOrder p → (IsFilled p → ⊥) → IsPartsFault p (fault.BadBody 0)

@@ -21,7 +21,7 @@ use Rattle.plan_image.specs.declared.instr.Opening.TheVariants as opening
 use Rattle.plan_image.specs.declared.instr.BodyInstr.{BodyInstr}
 use Rattle.plan_image.specs.declared.instr.BodyInstr.TheVariants as member
 use Rattle.plan_image.specs.Bodies.{opening_of}
-use Rattle.plan_image.specs.Code.{meant, HasBody}
+use Rattle.plan_image.specs.Code.{instrs_of, HasBody}
 
 -- ---- fields
 
@@ -211,7 +211,7 @@ pub record EdgeFits (x : Edge) : Type 0 where
 -- instructions in all
 abbrev pub instructions : Option (List (List BodyInstr)) → List Edge → ℕ
 instructions bs [] = 0
-instructions bs (x ∷ xs) = length (meant bs x.code) + instructions bs xs
+instructions bs (x ∷ xs) = length (instrs_of bs x.code) + instructions bs xs
 
 -- how many there may be
 abbrev pub most_code : Option (List (List BodyInstr)) → ℕ

@@ -2,12 +2,12 @@
 
 ghost use Rattle.std.specs.Prelude.{◌≡◌, ◌+◌, ◌<◌, ◌≤◌, ◌^◌, ◌∷◌, ◌++◌, [], length, List, IfOk, OnOk, slice_get, get_or};
 ghost use Rattle.plan_image.specs.declared.instr.BodyInstr.{BodyInstr};
-ghost use Rattle.plan_image.specs.Bodies.{opens, ranks_from, filled, put, IsSplit, body_of, operands_of, left_open};
+ghost use Rattle.plan_image.specs.Bodies.{opens, ranks_from, with_operands, put, IsSplit, body_of, operands_of, open_operand};
 
 use std::alloc::{AllocError, Global};
 use std::marker::Model;
 
-use plan_text::Items;
+use plan_text::{Items, Memory};
 use crate::instr::{BodyInstr, Instr, Opening};
 
 /// Instructions, some of whose numbers stand in the edges.
@@ -44,7 +44,7 @@ fn next_rank(rank: usize, instr: BodyInstr) -> usize
 }
 
 /// An open instruction with its number.
-const fn with_number(opening: Opening, number: u32) -> Instr
+pub(crate) const fn with_number(opening: Opening, number: u32) -> Instr
     ensures { result ≡ put opening number }
 {
     match opening {
@@ -58,10 +58,10 @@ const fn with_number(opening: Opening, number: u32) -> Instr
 
 impl Body {
     ghost use Rattle.std.specs.Prelude.{◌≡◌, length, IfOk, slice_get};
-    ghost use Rattle.plan_image.specs.Bodies.{opens, filled};
+    ghost use Rattle.plan_image.specs.Bodies.{opens, with_operands};
 
     /// The body of these instructions.
-    pub fn from_vec(alloc: Global, instrs: Vec<BodyInstr>) -> Result<Body, AllocError>
+    pub fn new(alloc: Global, instrs: Vec<BodyInstr>) -> Result<Body, Memory>
         ensures { IfOk result (λ b. b ≡ instrs.items) }
     {
         let mut ranks = Vec::with_capacity(alloc, instrs.len())?;
@@ -94,24 +94,24 @@ impl Body {
 
     /// How many instructions there are, with the numbers of an edge put in.
     pub fn filled_len(&self, _numbers: &[u32]) -> usize
-        ensures { result ≡ length (filled self.now _numbers.now) }
+        ensures { result ≡ length (with_operands self.now _numbers.now) }
     {
         self.len()
     }
 
     /// The instruction at a place, with the numbers of an edge put in.
     pub fn instr(&self, numbers: &[u32], place: usize) -> Option<Instr>
-        ensures { result ≡ slice_get (filled self.now numbers.now) place }
+        ensures { result ≡ slice_get (with_operands self.now numbers.now) place }
     {
         let instr = instr_at(self.instrs.as_slice(), place);
         let rank = rank_at(self.ranks.as_slice(), place);
-        seen(numbers, instr, rank)
+        instr_with_rank(numbers, instr, rank)
     }
 }
 
 /// An instruction of a body, with the number of that rank.
-fn seen(numbers: &[u32], instr: Option<BodyInstr>, rank: usize) -> Option<Instr>
-    ensures { result ≡ Rattle.plan_image.specs.Bodies.seen numbers.now instr rank }
+fn instr_with_rank(numbers: &[u32], instr: Option<BodyInstr>, rank: usize) -> Option<Instr>
+    ensures { result ≡ Rattle.plan_image.specs.Bodies.instr_with_rank numbers.now instr rank }
 {
     match instr {
         None => None,
@@ -146,8 +146,8 @@ fn number_at(numbers: &[u32], rank: usize) -> u32
 }
 
 /// An instruction whose number is left open, where it can be.
-const fn opened(instr: Instr) -> BodyInstr
-    ensures { result ≡ Rattle.plan_image.specs.Bodies.opened instr }
+const fn leave_open(instr: Instr) -> BodyInstr
+    ensures { result ≡ Rattle.plan_image.specs.Bodies.leave_open instr }
 {
     match instr {
         Instr::Stat(_number) => BodyInstr::Open(Opening::Stat),
@@ -168,7 +168,7 @@ fn push_number(numbers: &mut Vec<u32>, number: u32) -> Result<(), AllocError>
 
 /// The number that is left open behind the others.
 fn push_open(numbers: &mut Vec<u32>, instr: Instr) -> Result<(), AllocError>
-    ensures { OnOk result (numbers.new.items ≡ numbers.old.items ++ left_open instr) }
+    ensures { OnOk result (numbers.new.items ≡ numbers.old.items ++ open_operand instr) }
 {
     match instr {
         Instr::Stat(number) => push_number(numbers, number),
@@ -181,17 +181,17 @@ fn push_open(numbers: &mut Vec<u32>, instr: Instr) -> Result<(), AllocError>
 }
 
 /// The body of a code, and the numbers for its open instructions.
-pub fn split(alloc: Global, code: &[Instr]) -> Result<(Body, Items<u32>), AllocError>
+pub fn split(alloc: Global, code: &[Instr]) -> Result<(Body, Items<u32>), Memory>
     ensures body { IfOk result (λ x. x.0 ≡ body_of code.now) }
     ensures numbers { IfOk result (λ x. x.1 ≡ operands_of code.now) }
 {
     let mut instrs = Vec::with_capacity(alloc, code.len())?;
     let mut numbers = Vec::new(alloc);
     for &instr in code {
-        instrs.push(opened(instr))?;
+        instrs.push(leave_open(instr))?;
         push_open(&mut numbers, instr)?;
     }
-    let body = Body::from_vec(alloc, instrs)?;
+    let body = Body::new(alloc, instrs)?;
     Ok((body, Items::new(numbers)))
 }
 

@@ -1,15 +1,15 @@
 //! The tables of an image.
 
 ghost use Rattle.std.specs.Prelude.{◌≡◌, ◌↔◌, IsTrue, IsOk, IfOk, IfErr, length, slice_get};
-ghost use Rattle.plan_image.specs.Bodies.{filled};
-ghost use Rattle.plan_image.specs.Code.{meant, body};
+ghost use Rattle.plan_image.specs.Bodies.{with_operands};
+ghost use Rattle.plan_image.specs.Code.{instrs_of, body};
 ghost use Rattle.plan_image.specs.Spelling.{HasSpelling, IsPrefixFree};
 
 use std::marker::Model;
 
-use plan_text::Items;
+use plan_text::{Items, RowList};
 use crate::body::Body;
-use crate::fault::{Cause, ImageFault};
+use crate::fault::ImageFault;
 use crate::instr::{Instr, Kind};
 use crate::limits::{is_filled, is_in_order, is_within_limits};
 
@@ -59,8 +59,8 @@ pub enum Version {
 
 #[derive(Debug, Drop)]
 pub struct Parts {
-    pub texts: Items<Items<u8>>,
-    pub files: Items<Items<u8>>,
+    pub texts: RowList<u8>,
+    pub files: RowList<u8>,
     pub pools: Items<Pool>,
     pub slots: Items<Slot>,
     /// The bodies that edges share, where the version is two.
@@ -85,8 +85,8 @@ impl Parts {
 }
 
 /// The number of instructions that an edge's code stands for.
-pub(crate) fn meant_len(bodies: &Option<Items<Body>>, code: &EdgeCode) -> usize
-    ensures { result ≡ length (meant bodies.now code.now) }
+pub(crate) fn instr_count(bodies: &Option<Items<Body>>, code: &EdgeCode) -> usize
+    ensures { result ≡ length (instrs_of bodies.now code.now) }
 {
     match code {
         EdgeCode::Own(instrs) => instrs.len(),
@@ -95,7 +95,7 @@ pub(crate) fn meant_len(bodies: &Option<Items<Body>>, code: &EdgeCode) -> usize
 }
 
 fn filled_len(bodies: &Option<Items<Body>>, number: u32, numbers: &[u32]) -> usize
-    ensures { result ≡ length (filled (body bodies.now number) numbers.now) }
+    ensures { result ≡ length (with_operands (body bodies.now number) numbers.now) }
 {
     match bodies {
         None => 0,
@@ -107,8 +107,8 @@ fn filled_len(bodies: &Option<Items<Body>>, number: u32, numbers: &[u32]) -> usi
 }
 
 /// The instruction at a place of an edge's code.
-fn meant_instr(bodies: &Option<Items<Body>>, code: &EdgeCode, place: usize) -> Option<Instr>
-    ensures { result ≡ slice_get (meant bodies.now code.now) place }
+fn instr_of(bodies: &Option<Items<Body>>, code: &EdgeCode, place: usize) -> Option<Instr>
+    ensures { result ≡ slice_get (instrs_of bodies.now code.now) place }
 {
     match code {
         EdgeCode::Own(instrs) => instrs.as_slice().get(place).copied(),
@@ -117,7 +117,7 @@ fn meant_instr(bodies: &Option<Items<Body>>, code: &EdgeCode, place: usize) -> O
 }
 
 fn filled_instr(bodies: &Option<Items<Body>>, number: u32, numbers: &[u32], place: usize) -> Option<Instr>
-    ensures { result ≡ slice_get (filled (body bodies.now number) numbers.now) place }
+    ensures { result ≡ slice_get (with_operands (body bodies.now number) numbers.now) place }
 {
     match bodies {
         None => None,
@@ -159,15 +159,15 @@ impl Image {
         ensures fault { IfErr result (λ e. IsPartsFault parts e.1) }
     {
         if !is_within_limits(&parts) {
-            return Err((parts, ImageFault::Bytes(Cause::Limit, 0)));
+            return Err((parts, ImageFault::Limit(0)));
         }
         if !is_in_order(&parts) {
-            return Err((parts, ImageFault::Bytes(Cause::BadOrder, 0)));
+            return Err((parts, ImageFault::BadOrder(0)));
         }
         if !is_filled(&parts) {
-            return Err((parts, ImageFault::Bytes(Cause::BadBody, 0)));
+            return Err((parts, ImageFault::BadBody(0)));
         }
-        Ok(Image::sealed(parts))
+        Ok(Image::with_spelling(parts))
     }
 
     /// The tables.
@@ -191,7 +191,7 @@ impl Image {
         ensures { result ≡ length (code self.now edge) }
     {
         match self.parts.edges.as_slice().get(edge as usize) {
-            Some(edge) => meant_len(&self.parts.bodies, &edge.code),
+            Some(edge) => instr_count(&self.parts.bodies, &edge.code),
             None => 0,
         }
     }
@@ -201,12 +201,12 @@ impl Image {
         ensures { result ≡ slice_get (code self.now edge) place }
     {
         match self.parts.edges.as_slice().get(edge as usize) {
-            Some(edge) => meant_instr(&self.parts.bodies, &edge.code, place as usize),
+            Some(edge) => instr_of(&self.parts.bodies, &edge.code, place as usize),
             None => None,
         }
     }
 
-    pub(crate) fn sealed(parts: Parts) -> Image
+    pub(crate) fn with_spelling(parts: Parts) -> Image
         requires { HasSpelling parts }
         ensures { result ≡ parts }
     {

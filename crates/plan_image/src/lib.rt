@@ -6,14 +6,16 @@ mod fault;
 mod image;
 mod instr;
 mod limits;
+mod lister;
 mod makers;
 mod reading;
 mod sizes;
 mod writing;
 
 pub use body::{Body, split, split_law};
-pub use fault::{Cause, ImageFault};
+pub use fault::ImageFault;
 pub use image::{Edge, EdgeCode, Image, Parts, Pool, Slot, Sort, Version, image_law};
+pub use lister::{WriteFault, listing};
 pub use makers::edge_of;
 pub use reading::read_image;
 pub use instr::{BodyInstr, Instr, Kind, Opening};

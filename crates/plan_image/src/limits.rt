@@ -5,9 +5,9 @@ ghost use Rattle.plan_image.specs.Bodies.{opening_of, opens};
 ghost use Rattle.plan_image.specs.Code.{HasBody, body};
 ghost use Rattle.plan_image.specs.Spelling.{IsWord, AreWords, CodeFits, IsWithinLimits, CountsFit, ItemsFit, IsInOrder, RoomAfter, spelling, IsText, IsFileName, SlotFits, EdgeFits, PoolFits, instructions, pool_number, AscendsFrom, body_instructions, BodiesFit, IsFilled};
 
-use plan_text::Items;
+use plan_text::{Items, RowList};
 use crate::body::Body;
-use crate::image::{Edge, EdgeCode, Parts, Pool, Slot, meant_len};
+use crate::image::{Edge, EdgeCode, Parts, Pool, Slot, instr_count};
 use crate::instr::{BodyInstr, Instr};
 use crate::sizes::parts_room;
 
@@ -49,31 +49,48 @@ impl Test for WordTest {
     }
 }
 
+/// What must hold of each text of a table.
+trait RowTest {
+    ghost use Rattle.std.specs.Prelude.{List, ℕ, IsTrue, ◌↔◌};
+
+    ghost holds: { List ℕ → Type 0 };
+
+    fn test(row: &[u8]) -> bool
+        ensures { IsTrue result ↔ holds row.now };
+}
+
+fn all_rows<T: RowTest>(rows: &RowList<u8>) -> bool
+    ensures { IsTrue result ↔ AllByRecursion T.holds rows.now }
+{
+    for number in 0..rows.len() {
+        if !T::test(rows.row(number)) {
+            return false;
+        }
+    }
+    true
+}
+
 struct TextTest;
 
-impl Test for TextTest {
+impl RowTest for TextTest {
     ghost use Rattle.plan_image.specs.Spelling.{IsText};
-
-    type Item = Items<u8>;
 
     ghost holds = { IsText };
 
-    fn test(item: &Items<u8>) -> bool {
-        item.len() <= 1_048_576
+    fn test(row: &[u8]) -> bool {
+        row.len() <= 1_048_576
     }
 }
 
 struct FileTest;
 
-impl Test for FileTest {
+impl RowTest for FileTest {
     ghost use Rattle.plan_image.specs.Spelling.{IsFileName};
-
-    type Item = Items<u8>;
 
     ghost holds = { IsFileName };
 
-    fn test(item: &Items<u8>) -> bool {
-        !item.is_empty() && item.len() <= 4096
+    fn test(row: &[u8]) -> bool {
+        !row.is_empty() && row.len() <= 4096
     }
 }
 
@@ -337,7 +354,7 @@ fn instructions_within(bodies: &Option<Items<Body>>, edges: &[Edge], most: u64) 
 {
     let mut left = most;
     for edge in edges {
-        match left.checked_sub(meant_len(bodies, &edge.code) as u64) {
+        match left.checked_sub(instr_count(bodies, &edge.code) as u64) {
             Some(rest) => left = rest,
             None => return false,
         }
@@ -360,8 +377,8 @@ fn counts_fit(parts: &Parts) -> bool
 fn items_fit(parts: &Parts) -> bool
     ensures { IsTrue result ↔ ItemsFit parts.now }
 {
-    all::<TextTest>(parts.texts.as_slice())
-        && all::<FileTest>(parts.files.as_slice())
+    all_rows::<TextTest>(&parts.texts)
+        && all_rows::<FileTest>(&parts.files)
         && all::<PoolTest>(parts.pools.as_slice())
         && all::<SlotTest>(parts.slots.as_slice())
         && all::<EdgeTest>(parts.edges.as_slice())

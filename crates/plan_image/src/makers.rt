@@ -6,8 +6,8 @@ use crate::image::{Edge, Image, Parts};
 fn is_named(parts: &Parts, path: &[u8], file: u32) -> bool
     ensures { result ≡ Rattle.plan_image.specs.Makers.is_named parts.now path.now file }
 {
-    match parts.files.as_slice().get(file as usize) {
-        Some(name) => name.as_slice() == path,
+    match parts.files.get(file as usize) {
+        Some(name) => name == path,
         None => false,
     }
 }

@@ -4,7 +4,7 @@ ghost use Rattle.std.specs.Prelude.{◌≡◌, ◌++◌, ℕ, length};
 ghost use Rattle.std.specs.List.{flat_map};
 ghost use Rattle.plan_image.specs.Spelling.{counted, number, spelling, edge_code, RoomAfter};
 
-use plan_text::Items;
+use plan_text::{Items, RowList};
 use crate::body::Body;
 use crate::image::{Edge, EdgeCode, Parts, Pool, Slot};
 use crate::instr::{BodyInstr, Instr};
@@ -56,33 +56,60 @@ impl Measured for Word {
     }
 }
 
+/// What room is left behind a text.
+trait TextMeasure {
+    ghost use Rattle.std.specs.Prelude.{List, ℕ, length};
+    ghost use Rattle.plan_image.specs.Spelling.{RoomAfter};
+
+    ghost spell: { List ℕ → List ℕ };
+
+    fn room_after(text: &[u8], room: u64) -> Option<u64>
+        ensures { RoomAfter result (length (spell text.now)) room };
+}
+
+fn rows_room<M: TextMeasure>(rows: &RowList<u8>, room: u64) -> Option<u64>
+    ensures { RoomAfter result (length (flat_map M.spell rows.now)) room }
+{
+    let mut left = room;
+    for number in 0..rows.len() {
+        match M::room_after(rows.row(number), left) {
+            Some(rest) => left = rest,
+            None => return None,
+        }
+    }
+    Some(left)
+}
+
+fn texts_room<M: TextMeasure>(rows: &RowList<u8>, room: u64) -> Option<u64>
+    ensures { RoomAfter result (length (counted M.spell rows.now)) room }
+{
+    let room = room.checked_sub(4)?;
+    rows_room::<M>(rows, room)
+}
+
 struct LongText;
 
-impl Measured for LongText {
+impl TextMeasure for LongText {
     ghost use Rattle.plan_image.specs.Spelling.{long_text};
-
-    type Item = Items<u8>;
 
     ghost spell = { long_text };
 
-    fn room_after(item: &Items<u8>, room: u64) -> Option<u64> {
+    fn room_after(text: &[u8], room: u64) -> Option<u64> {
         let room = room.checked_sub(4)?;
-        room.checked_sub(item.len() as u64)
+        room.checked_sub(text.len() as u64)
     }
 }
 
 struct ShortText;
 
-impl Measured for ShortText {
+impl TextMeasure for ShortText {
     ghost use Rattle.plan_image.specs.Spelling.{short_text};
-
-    type Item = Items<u8>;
 
     ghost spell = { short_text };
 
-    fn room_after(item: &Items<u8>, room: u64) -> Option<u64> {
+    fn room_after(text: &[u8], room: u64) -> Option<u64> {
         let room = room.checked_sub(2)?;
-        room.checked_sub(item.len() as u64)
+        room.checked_sub(text.len() as u64)
     }
 }
 
@@ -96,7 +123,7 @@ impl Measured for PoolRoom {
     ghost spell = { pool };
 
     fn room_after(item: &Pool, room: u64) -> Option<u64> {
-        let room = ShortText::room_after(&item.name, room)?;
+        let room = ShortText::room_after(item.name.as_slice(), room)?;
         room.checked_sub(4)
     }
 }
@@ -224,8 +251,8 @@ pub(crate) fn parts_room(parts: &Parts, room: u64) -> Option<u64>
     ensures { RoomAfter result (length (spelling parts.now)) room }
 {
     let room = room.checked_sub(8)?;
-    let room = counted_room::<LongText>(&parts.texts, room)?;
-    let room = counted_room::<ShortText>(&parts.files, room)?;
+    let room = texts_room::<LongText>(&parts.texts, room)?;
+    let room = texts_room::<ShortText>(&parts.files, room)?;
     let room = counted_room::<PoolRoom>(&parts.pools, room)?;
     let room = counted_room::<SlotRoom>(&parts.slots, room)?;
     let room = bodies_room(&parts.bodies, room)?;

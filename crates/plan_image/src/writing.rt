@@ -1,9 +1,10 @@
+//! Images, written as their bytes.
+
 ghost use Rattle.std.specs.Prelude.{◌≡◌, ◌<◌, ◌≤◌, ◌^◌, ◌++◌, ◌∷◌, [], length, OnOk, IfOk, IfErr, IfSome};
 ghost use Rattle.std.specs.List.{flat_map, AllByRecursion};
 ghost use Rattle.plan_image.specs.Spelling.{number, counted, flag_byte, IsWord, edge_head, EdgeFits, HasSpelling, magic, spelling, edge_code, CodeFits, BodiesFit};
 
-use plan_text::Items;
-use crate::fault::ImageFault;
+use plan_text::{Items, Memory, RowList};
 use crate::body::Body;
 use crate::image::{Edge, EdgeCode, Image, Parts, Pool, Slot, Sort, Version};
 use crate::instr::{BodyInstr, Instr, Kind, Opening};
@@ -73,39 +74,68 @@ impl Speller for Word {
     }
 }
 
+/// How a text of a table is spelled.
+trait TextSpeller {
+    ghost use Rattle.std.specs.Prelude.{List, ℕ, ◌≡◌, ◌++◌, OnOk};
+
+    ghost spell: { List ℕ → List ℕ };
+
+    /// The text has a spelling.
+    ghost fits: { List ℕ → Type 0 };
+
+    fn put(out: &mut Vec<u8>, text: &[u8]) -> Result<(), AllocError>
+        requires { fits text.now }
+        ensures { OnOk result (out.new.items ≡ out.old.items ++ spell text.now) };
+}
+
+fn put_rows<S: TextSpeller>(out: &mut Vec<u8>, rows: &RowList<u8>) -> Result<(), AllocError>
+    requires { AllByRecursion S.fits rows.now }
+    ensures { OnOk result (out.new.items ≡ out.old.items ++ flat_map S.spell rows.now) }
+{
+    for number in 0..rows.len() {
+        S::put(out, rows.row(number))?;
+    }
+    Ok(())
+}
+
+fn put_texts<S: TextSpeller>(out: &mut Vec<u8>, rows: &RowList<u8>) -> Result<(), AllocError>
+    requires len { length rows.now < 2 ^ 32 }
+    requires fits { AllByRecursion S.fits rows.now }
+    ensures { OnOk result (out.new.items ≡ out.old.items ++ counted S.spell rows.now) }
+{
+    put_number(out, rows.len() as u32)?;
+    put_rows::<S>(out, rows)
+}
+
 /// A text behind its length of four bytes.
 struct LongText;
 
-impl Speller for LongText {
+impl TextSpeller for LongText {
     ghost use Rattle.std.specs.Prelude.{length, ◌<◌, ◌^◌};
     ghost use Rattle.plan_image.specs.Spelling.{long_text};
 
-    type Item = Items<u8>;
-
-    ghost spell = { λ _. long_text };
+    ghost spell = { long_text };
     ghost fits = { λ t. length t < 2 ^ 32 };
 
-    fn put(&self, out: &mut Vec<u8>, item: &Items<u8>) -> Result<(), AllocError> {
-        put_number(out, item.len() as u32)?;
-        out.extend_from_slice(item.as_slice())
+    fn put(out: &mut Vec<u8>, text: &[u8]) -> Result<(), AllocError> {
+        put_number(out, text.len() as u32)?;
+        out.extend_from_slice(text)
     }
 }
 
 /// A text behind its length of two bytes.
 struct ShortText;
 
-impl Speller for ShortText {
+impl TextSpeller for ShortText {
     ghost use Rattle.std.specs.Prelude.{length, ◌<◌, ◌^◌};
     ghost use Rattle.plan_image.specs.Spelling.{short_text};
 
-    type Item = Items<u8>;
-
-    ghost spell = { λ _. short_text };
+    ghost spell = { short_text };
     ghost fits = { λ t. length t < 2 ^ 16 };
 
-    fn put(&self, out: &mut Vec<u8>, item: &Items<u8>) -> Result<(), AllocError> {
-        out.extend_from_slice(&(item.len() as u16).to_be_bytes())?;
-        out.extend_from_slice(item.as_slice())
+    fn put(out: &mut Vec<u8>, text: &[u8]) -> Result<(), AllocError> {
+        out.extend_from_slice(&(text.len() as u16).to_be_bytes())?;
+        out.extend_from_slice(text)
     }
 }
 
@@ -120,7 +150,7 @@ impl Speller for PoolSpeller {
     ghost fits = { PoolFits };
 
     fn put(&self, out: &mut Vec<u8>, item: &Pool) -> Result<(), AllocError> {
-        ShortText.put(out, &item.name)?;
+        ShortText::put(out, item.name.as_slice())?;
         put_number(out, item.depth)
     }
 }
@@ -356,8 +386,8 @@ fn put_parts(out: &mut Vec<u8>, parts: &Parts) -> Result<(), AllocError>
     ensures { OnOk result (out.new.items ≡ out.old.items ++ spelling parts.now) }
 {
     put_magic(out, parts.version())?;
-    put_counted(out, &LongText, &parts.texts)?;
-    put_counted(out, &ShortText, &parts.files)?;
+    put_texts::<LongText>(out, &parts.texts)?;
+    put_texts::<ShortText>(out, &parts.files)?;
     put_counted(out, &PoolSpeller, &parts.pools)?;
     put_counted(out, &SlotSpeller, &parts.slots)?;
     put_bodies(out, &parts.bodies)?;
@@ -367,9 +397,8 @@ fn put_parts(out: &mut Vec<u8>, parts: &Parts) -> Result<(), AllocError>
 }
 
 /// The one spelling of an image.
-pub fn write_image(alloc: Global, image: &Image) -> Result<Vec<u8>, ImageFault>
-    ensures spelled { IfOk result (λ v. v.items ≡ spelling image.now) }
-    ensures memory { IfErr result (λ e. e ≡ ImageFault.Memory) }
+pub fn write_image(alloc: Global, image: &Image) -> Result<Vec<u8>, Memory>
+    ensures { IfOk result (λ v. v.items ≡ spelling image.now) }
 {
     let mut out = Vec::new(alloc);
     put_parts(&mut out, image.parts())?;

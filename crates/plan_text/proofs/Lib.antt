@@ -3,6 +3,7 @@ mod Walks
 pub mod PathLemmas
 pub mod PieceReaderLemmas
 mod PlainTable
+pub mod RowListLemmas
 pub mod RunReaderLemmas
 pub mod LineReaderLemmas
 pub mod SinkLemmas

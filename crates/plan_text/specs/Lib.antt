@@ -4,6 +4,7 @@ pub mod Lines
 pub mod Pieces
 pub mod SmallTexts
 pub mod PieceLists
+pub mod RowLists
 pub mod Gathering
 pub mod Path
 pub mod Reducing

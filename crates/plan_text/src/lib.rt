@@ -10,6 +10,7 @@
 //!   other.
 //! - `MAX_SOURCE`, `MAX_TEXT`, `MAX_PATH`: the most bytes of what is read and kept.
 //! - `Items`: a list that contracts see as a list.
+//! - `RowList`: rows of items, held one behind the other; contracts see a list of lists.
 //! - `SmallText`, `PieceList`: a text, and a list of pieces, that take no allocation where they are short. Contracts
 //!   see them as lists too.
 //! - `Sink`, `Counted` and `write_all`: what bytes are written to, with a count of failures that only proofs read, a
@@ -35,6 +36,7 @@ mod numerals;
 mod path;
 mod piece_list;
 mod piece_reader;
+mod row_list;
 mod run_reader;
 mod sink;
 mod small_text;
@@ -55,6 +57,7 @@ pub use numerals::number_in;
 pub use path::canonical;
 pub use piece_list::PieceList;
 pub use piece_reader::{Mode, Piece, escape_len, name_len, pieces, pieces_at};
+pub use row_list::RowList;
 pub use run_reader::{Unit, run_len};
 pub use sink::{Sink, SinkFault, write_all};
 pub use small_text::SmallText;

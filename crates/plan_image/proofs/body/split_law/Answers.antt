@@ -1,4 +1,4 @@
-use Rattle.plan_image.proofs.BodyLaws.{split_is}
+use Rattle.plan_image.proofs.BodyLemmas.{split_is}
 use Rattle.plan_image.proofs.body.split_law.Goals as goal
 
 pub returns : goal.returns

@@ -1,4 +1,4 @@
-use Rattle.plan_image.proofs.ImageLaws.{prefix_free}
+use Rattle.plan_image.proofs.TableLemmas.{prefix_free}
 use Rattle.plan_image.proofs.image.image_law.Goals as goal
 
 pub returns : goal.returns

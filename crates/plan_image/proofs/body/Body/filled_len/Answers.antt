@@ -1,5 +1,5 @@
 use Rattle.std.proofs.Common.{◌∙◌, sym}
-use Rattle.plan_image.proofs.BodyLaws.{filled_len}
+use Rattle.plan_image.proofs.BodyLemmas.{filled_len}
 use Rattle.plan_image.proofs.body.Body.filled_len.Goals as goal
 
 pub returns : goal.returns

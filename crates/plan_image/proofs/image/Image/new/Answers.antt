@@ -1,4 +1,4 @@
-use Rattle.plan_image.proofs.NewLaws.{over, disordered, not_filled}
+use Rattle.plan_image.proofs.ImageLemmas.{over, disordered, not_filled}
 use Rattle.plan_image.proofs.image.Image.new.Goals as goal
 
 pub returns-then-not-is_within_limits-clause-fault : goal.returns-then-not-is_within_limits-clause-fault

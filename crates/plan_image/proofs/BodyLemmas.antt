@@ -1,0 +1,124 @@
+-- A code is its body with its numbers put in, and what stands at a place of it.
+use Rattle.std.proofs.Common.{◌≡◌, ℕ, zero, suc, ◌+◌, List, [], ◌∷◌, ◌++◌, length, get_or, drop, Option, Some, refl, sym, ap, ◌∙◌, arith}
+use Rattle.std.specs.Prelude.{slice_get, Result, Ok, Err, IfOk, ◌≤◌, ◌<◌}
+use Rattle.plan_image.specs.declared.image.EdgeCode.{EdgeCode}
+use Rattle.plan_image.specs.declared.image.EdgeCode.TheVariants as code_form
+use Rattle.plan_image.specs.Code.{body, instrs_of, IsShared}
+use Rattle.std.proofs.lemmas.List.{get_or-drop}
+use Rattle.plan_image.specs.declared.instr.Instr.{Instr}
+use Rattle.plan_image.specs.declared.instr.Instr.TheVariants as op
+use Rattle.plan_image.specs.declared.instr.BodyInstr.{BodyInstr}
+use Rattle.plan_image.specs.declared.instr.BodyInstr.TheVariants as member
+use Rattle.plan_image.specs.Bodies.{opens, put, with_operands, ranks_from, leave_open, open_operand, body_of, operands_of, IsSplit, instr_with_rank}
+
+split_one : (i : Instr) (is : List Instr) → with_operands (body_of is) (operands_of is) ≡ is → with_operands (leave_open i ∷ body_of is) (open_operand i ++ operands_of is) ≡ i ∷ is
+split_one op.End is e = ap (λ (xs : List Instr). op.End ∷ xs) e
+split_one (op.Stat n) is e = ap (λ (xs : List Instr). op.Stat n ∷ xs) e
+split_one (op.Need n) is e = ap (λ (xs : List Instr). op.Need n ∷ xs) e
+split_one (op.Load n) is e = ap (λ (xs : List Instr). op.Load n ∷ xs) e
+split_one (op.Store n) is e = ap (λ (xs : List Instr). op.Store n ∷ xs) e
+split_one (op.Text n) is e = ap (λ (xs : List Instr). op.Text n ∷ xs) e
+split_one op.Older is e = ap (λ (xs : List Instr). op.Older ∷ xs) e
+split_one op.Newer is e = ap (λ (xs : List Instr). op.Newer ∷ xs) e
+split_one op.Before is e = ap (λ (xs : List Instr). op.Before ∷ xs) e
+split_one op.Same is e = ap (λ (xs : List Instr). op.Same ∷ xs) e
+split_one op.IsMissing is e = ap (λ (xs : List Instr). op.IsMissing ∷ xs) e
+split_one op.Or is e = ap (λ (xs : List Instr). op.Or ∷ xs) e
+split_one op.Not is e = ap (λ (xs : List Instr). op.Not ∷ xs) e
+split_one (op.Flag b) is e = ap (λ (xs : List Instr). op.Flag b ∷ xs) e
+split_one op.Zero is e = ap (λ (xs : List Instr). op.Zero ∷ xs) e
+split_one op.NoPaths is e = ap (λ (xs : List Instr). op.NoPaths ∷ xs) e
+split_one op.Join is e = ap (λ (xs : List Instr). op.Join ∷ xs) e
+split_one op.Equal is e = ap (λ (xs : List Instr). op.Equal ∷ xs) e
+split_one op.Recall is e = ap (λ (xs : List Instr). op.Recall ∷ xs) e
+split_one op.Sweep is e = ap (λ (xs : List Instr). op.Sweep ∷ xs) e
+split_one (op.Jump d) is e = ap (λ (xs : List Instr). op.Jump d ∷ xs) e
+split_one (op.JumpIf d) is e = ap (λ (xs : List Instr). op.JumpIf d ∷ xs) e
+split_one op.Take is e = ap (λ (xs : List Instr). op.Take ∷ xs) e
+split_one op.Release is e = ap (λ (xs : List Instr). op.Release ∷ xs) e
+split_one op.Run is e = ap (λ (xs : List Instr). op.Run ∷ xs) e
+split_one op.Deps is e = ap (λ (xs : List Instr). op.Deps ∷ xs) e
+split_one op.Keep is e = ap (λ (xs : List Instr). op.Keep ∷ xs) e
+split_one op.Drop is e = ap (λ (xs : List Instr). op.Drop ∷ xs) e
+split_one op.Swap is e = ap (λ (xs : List Instr). op.Swap ∷ xs) e
+
+count_one : (i : Instr) (is : List Instr) → length (operands_of is) ≡ opens (body_of is) → length (open_operand i ++ operands_of is) ≡ opens (leave_open i ∷ body_of is)
+count_one op.End is e = e
+count_one op.Older is e = e
+count_one op.Newer is e = e
+count_one op.Before is e = e
+count_one op.Same is e = e
+count_one op.IsMissing is e = e
+count_one op.Or is e = e
+count_one op.Not is e = e
+count_one op.Zero is e = e
+count_one op.NoPaths is e = e
+count_one op.Join is e = e
+count_one op.Equal is e = e
+count_one op.Recall is e = e
+count_one op.Sweep is e = e
+count_one op.Take is e = e
+count_one op.Release is e = e
+count_one op.Run is e = e
+count_one op.Deps is e = e
+count_one op.Keep is e = e
+count_one op.Drop is e = e
+count_one op.Swap is e = e
+count_one (op.Flag b) is e = e
+count_one (op.Jump d) is e = e
+count_one (op.JumpIf d) is e = e
+count_one (op.Stat n) is e = ap suc e
+count_one (op.Need n) is e = ap suc e
+count_one (op.Load n) is e = ap suc e
+count_one (op.Store n) is e = ap suc e
+count_one (op.Text n) is e = ap suc e
+
+pub split_is : IsSplit
+split_is [] = (refl, refl)
+split_is (i ∷ is) = let more = split_is is in (split_one i is more.0, count_one i is more.1)
+
+pub filled_len : (is : List BodyInstr) (ns : List ℕ) → length (with_operands is ns) ≡ length is
+filled_len [] ns = refl
+filled_len (member.Fixed i ∷ is) ns = ap suc (filled_len is ns)
+filled_len (member.Open o ∷ is) ns = ap suc (filled_len is (drop 1 ns))
+
+more_dropped : (ns : List ℕ) (k : ℕ) → drop 1 (drop k ns) ≡ drop (k + 1) ns
+more_dropped ns zero = refl
+more_dropped [] (suc k) =
+    let e : suc k + 1 ≡ suc (k + 1) = omega arith in
+    rw e refl
+more_dropped (n ∷ ns) (suc k) =
+    let e : suc k + 1 ≡ suc (k + 1) = omega arith in
+    rw e (more_dropped ns k)
+
+first_is : (ns : List ℕ) (k : ℕ) → get_or (drop k ns) 0 0 ≡ get_or ns k 0
+first_is ns k =
+    let e : k + 0 ≡ k = omega arith in
+    rw (get_or-drop, e) refl
+
+pub seen_at : (ns : List ℕ) (is : List BodyInstr) (place k : ℕ) → slice_get (with_operands is (drop k ns)) place ≡ instr_with_rank ns (slice_get is place) (get_or (ranks_from k is) place 0)
+seen_at ns [] place k = refl
+seen_at ns (member.Fixed i ∷ is) zero k = refl
+seen_at ns (member.Fixed i ∷ is) (suc place) k = seen_at ns is place k
+seen_at ns (member.Open o ∷ is) zero k = ap (λ n. Some (put o n)) (first_is ns k)
+seen_at ns (member.Open o ∷ is) (suc place) k = ap (λ (xs : List ℕ). slice_get (with_operands is xs) place) (more_dropped ns k) ∙ seen_at ns is place (k + 1)
+
+pub instr_is_found : (is : List BodyInstr) (ns : List ℕ) (place : ℕ) (o : Option BodyInstr) (ranks : List ℕ) (rank : ℕ) (result : Option Instr)
+    → result ≡ instr_with_rank ns o rank → o ≡ slice_get is place → rank ≡ get_or ranks place 0 → ranks ≡ ranks_from 0 is → result ≡ slice_get (with_operands is ns) place
+instr_is_found is ns place o ranks rank result e eo er ek = e ∙ rw (eo, er, ek) (sym (seen_at ns is place 0))
+
+instr_count : (bs : List (List BodyInstr)) (n : ℕ) (b : List BodyInstr) (c : EdgeCode) → IsShared n c → slice_get bs n ≡ Some b → length (instrs_of (Some bs) c) ≡ length b
+instr_count bs n b (code_form.Own is) h e = absurd h
+instr_count bs n b (code_form.Shared m ns) h e =
+    let same : body (Some bs) m ≡ b = rw (h, e) refl in
+    filled_len (body (Some bs) m) ns ∙ ap (λ (y : List BodyInstr). length y) same
+
+pub most_of : {R E : Type 0} (bs : List (List BodyInstr)) (n : ℕ) (b : List BodyInstr) (used most : ℕ) (r : Result (EdgeCode × R) E)
+    → IfOk r (λ x. used + length b ≤ most) → IfOk r (λ x. IsShared n x.0) → slice_get bs n ≡ Some b → IfOk r (λ x. used + length (instrs_of (Some bs) x.0) ≤ most)
+most_of bs n b used most (Ok x) le h e = omega (arith, le, instr_count bs n b x.0 h e)
+most_of bs n b used most (Err y) le h e = tt
+
+pub body_is_found : (bs : List (List BodyInstr)) (n : ℕ) (b : List BodyInstr) → n < length bs → b ≡ get_or bs n b → slice_get bs n ≡ Some b
+body_is_found [] n b lt e = absurd (omega (arith, lt))
+body_is_found (x ∷ bs) zero b lt e = ap (λ (y : List BodyInstr). Some y) (sym e)
+body_is_found (x ∷ bs) (suc n) b lt e = body_is_found bs n b (omega (arith, lt)) e

@@ -1,0 +1,32 @@
+-- Serves src/listing: what is written item by item.
+use Rattle.std.proofs.Common.{◌≡◌, ℕ, zero, suc, ◌+◌, ◌<◌, ◌≤◌, List, [], ◌∷◌, ◌++◌, length, map, refl, sym, ap, subst, ◌∙◌, append_assoc, arith, get_or, drop}
+use Rattle.std.specs.List.{concat, join_with_byte}
+use Rattle.std.specs.Fmt.{decimal}
+use Rattle.std.proofs.lemmas.List.{append-nil, drop_more}
+use Rattle.plan_image.specs.Listing.{hex, hex_byte, members, numbered}
+
+-- one item more is written
+pub one_more : {X : Type 0} (lines : ℕ → X → List ℕ) (xs : List X) (i : ℕ) (d x : X) (done : List ℕ) → x ≡ get_or xs i d → i < length xs → done ++ numbered lines i (drop i xs) ≡ numbered lines 0 xs
+    → (done ++ lines i x) ++ numbered lines (i + 1) (drop (i + 1) xs) ≡ numbered lines 0 xs
+one_more {X = X} lines xs i d x done is lt so_far =
+    let there : (done ++ lines i (get_or xs i d)) ++ numbered lines (i + 1) (drop (i + 1) xs) ≡ numbered lines 0 xs
+    = append_assoc done (lines i (get_or xs i d)) (numbered lines (i + 1) (drop (i + 1) xs)) ∙ (ap (λ ys. done ++ numbered lines i ys) (sym (drop_more xs i d lt)) ∙ so_far) in
+    subst (λ (y : X). (done ++ lines i y) ++ numbered lines (i + 1) (drop (i + 1) xs) ≡ numbered lines 0 xs) (sym is) there
+
+-- texts that don't depend on the number
+without_numbers : {X : Type 0} (text : X → List ℕ) (xs : List X) (n : ℕ) → numbered (λ _ x. text x) n xs ≡ concat (map text xs)
+without_numbers text [] n = refl
+without_numbers text (x ∷ xs) n = ap (λ rest. text x ++ rest) (without_numbers text xs (n + 1))
+
+-- words with a space between are the first, and a space before each other
+joined : (first : List ℕ) (ns : List ℕ) → join_with_byte 32 (first ∷ map decimal ns) ≡ first ++ concat (map (λ n. 32 ∷ decimal n) ns)
+joined first [] = sym (append-nil first)
+joined first (n ∷ ns) = ap (λ rest. first ++ 32 ∷ rest) (joined (decimal n) ns)
+
+-- bytes are the digits of the first, and of the others
+pub hex_are : (b : ℕ) (bs : List ℕ) → hex_byte b ++ numbered (λ _ c. hex_byte c) 0 bs ≡ hex (b ∷ bs)
+hex_are b bs = ap (λ rest. hex_byte b ++ rest) (without_numbers hex_byte bs 0)
+
+-- numbers are the first, and each other behind a space
+pub members_are : (n k : ℕ) (ns : List ℕ) → k ≡ n → decimal k ++ numbered (λ _ m. 32 ∷ decimal m) 0 ns ≡ members (n ∷ ns)
+members_are n k ns is = ap (λ j. decimal j ++ numbered (λ _ m. 32 ∷ decimal m) 0 ns) is ∙ ap (λ rest. decimal n ++ rest) (without_numbers (λ m. 32 ∷ decimal m) ns 0) ∙ sym (joined (decimal n) ns)

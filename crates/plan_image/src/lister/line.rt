@@ -1,0 +1,133 @@
+//! The lines of a listing.
+
+ghost use Rattle.std.specs.Prelude.{is_ok};
+ghost use Rattle.plan_text.specs.Sinks.{Writes};
+ghost use Rattle.plan_image.specs.Listing.{instr_line, open_line, shared_words};
+
+use crate::body::{Body, with_number};
+use crate::image::{Edge, EdgeCode, Pool, Slot};
+use crate::instr::{BodyInstr, Instr, Opening};
+use crate::lister::each::{Each, Listed};
+use crate::lister::part::{Line, Number, Part, Spaced, Word, WriteFault, write_behind_space};
+use crate::lister::value::{Hex, Members, Operand, PoolNumber, letter_of, name_of, operand_of, word_of};
+use plan_text::Sink;
+
+/// `pool N HEX depth D`
+impl Listed for Pool {
+    ghost use Rattle.plan_image.specs.Listing.{pool_line};
+
+    ghost lines = { pool_line };
+
+    fn write<W: Sink>(&self, number: usize, out: &mut W) -> Result<(), WriteFault> {
+        let depth = Spaced(Word(b"depth"), Number(u64::from(self.depth)));
+        let name = Spaced(Hex(self.name.as_slice()), depth);
+        Line(Spaced(Word(b"pool"), Spaced(Number(number as u64), name))).write(out)
+    }
+}
+
+/// `slot N owner E kind K`
+impl Listed for Slot {
+    ghost use Rattle.plan_image.specs.Listing.{slot_line};
+
+    ghost lines = { slot_line };
+
+    fn write<W: Sink>(&self, number: usize, out: &mut W) -> Result<(), WriteFault> {
+        let kind = Spaced(Word(b"kind"), Word(letter_of(self.kind)));
+        let owner = Spaced(Word(b"owner"), Spaced(Number(u64::from(self.owner)), kind));
+        Line(Spaced(Word(b"slot"), Spaced(Number(number as u64), owner))).write(out)
+    }
+}
+
+/// An instruction's place, name and operand.
+impl Listed for Instr {
+    ghost use Rattle.plan_image.specs.Listing.{instr_line};
+
+    ghost lines = { instr_line };
+
+    fn write<W: Sink>(&self, number: usize, out: &mut W) -> Result<(), WriteFault> {
+        write_instr(number, *self, out)
+    }
+}
+
+fn write_instr<W: Sink>(place: usize, instr: Instr, out: &mut W) -> Result<(), WriteFault>
+    ensures { Writes (is_ok result) (W.failures out.old, W.taken out.old) (W.failures out.new, W.taken out.new) (instr_line place instr) }
+{
+    let name = (Word(name_of(instr)), Operand(operand_of(instr)));
+    (Word(b"  "), Line(Spaced(Number(place as u64), name))).write(out)
+}
+
+fn write_open<W: Sink>(place: usize, opening: Opening, out: &mut W) -> Result<(), WriteFault>
+    ensures { Writes (is_ok result) (W.failures out.old, W.taken out.old) (W.failures out.new, W.taken out.new) (open_line place opening) }
+{
+    let name = Spaced(Word(name_of(with_number(opening, 0))), Word(b"_"));
+    (Word(b"  "), Line(Spaced(Number(place as u64), name))).write(out)
+}
+
+/// The same of an instruction of a body, `_` for an open operand.
+impl Listed for BodyInstr {
+    ghost use Rattle.plan_image.specs.Listing.{body_instr_line};
+
+    ghost lines = { body_instr_line };
+
+    fn write<W: Sink>(&self, number: usize, out: &mut W) -> Result<(), WriteFault> {
+        match *self {
+            BodyInstr::Fixed(instr) => write_instr(number, instr, out),
+            BodyInstr::Open(opening) => write_open(number, opening, out),
+        }
+    }
+}
+
+/// `body N`, and its instructions.
+impl Listed for Body {
+    ghost use Rattle.plan_image.specs.Listing.{body_lines};
+
+    ghost lines = { body_lines };
+
+    fn write<W: Sink>(&self, number: usize, out: &mut W) -> Result<(), WriteFault> {
+        let head = Line(Spaced(Word(b"body"), Number(number as u64)));
+        (head, Each(self.as_slice())).write(out)
+    }
+}
+
+/// An edge, and its own instructions.
+impl Listed for Edge {
+    ghost use Rattle.plan_image.specs.Listing.{edge_lines};
+
+    ghost lines = { edge_lines };
+
+    fn write<W: Sink>(&self, number: usize, out: &mut W) -> Result<(), WriteFault> {
+        let waits = Spaced(Word(b"waits"), Members(self.waits.as_slice()));
+        let outputs = Spaced(Word(b"outputs"), Spaced(Members(self.outputs.as_slice()), waits));
+        let label = Spaced(Word(b"label"), Spaced(Number(u64::from(self.label)), outputs));
+        let pool = Spaced(Word(b"pool"), Spaced(PoolNumber(self.pool), label));
+        let rank = Spaced(Word(b"rank"), Spaced(Number(u64::from(self.rank)), pool));
+        let sort = Spaced(Word(word_of(self.sort)), rank);
+        let head = Spaced(Word(b"edge"), Spaced(Number(number as u64), sort));
+        (head, Code(&self.code)).write(out)
+    }
+}
+
+/// What an edge line ends with, and the lines below it.
+#[derive(Drop)]
+struct Code<'a>(&'a EdgeCode);
+
+impl<'a> Part for Code<'a> {
+    ghost use Rattle.plan_image.specs.Listing.{code_words};
+
+    ghost text = { λ c. code_words c.0.now };
+
+    fn write<W: Sink>(&self, out: &mut W) -> Result<(), WriteFault> {
+        match self.0 {
+            EdgeCode::Own(instrs) => (Word(b"\n"), Each(instrs.as_slice())).write(out),
+            EdgeCode::Shared(number, operands) => write_shared(*number, operands.as_slice(), out),
+        }
+    }
+}
+
+fn write_shared<W: Sink>(number: u32, operands: &[u32], out: &mut W) -> Result<(), WriteFault>
+    ensures { Writes (is_ok result) (W.failures out.old, W.taken out.old) (W.failures out.new, W.taken out.new) (shared_words number operands.now) }
+{
+    let operands = Spaced(Word(b"operands"), Members(operands));
+    let body = Spaced(Word(b"body"), Spaced(Number(u64::from(number)), operands));
+    write_behind_space(&Line(body), out)
+}

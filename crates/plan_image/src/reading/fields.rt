@@ -1,0 +1,120 @@
+//! Numbers, bytes and tags, read from the front.
+
+ghost use Rattle.plan_image.specs.Reading.{Gives, number_at, number_up_to, bytes_at, byte_at, kind_at, flagged_at, sort_at};
+ghost use Rattle.std.specs.Int.{w16, w32};
+ghost use Rattle.std.specs.Prelude.{◌≤◌, IfOk};
+
+use crate::fault::Cause;
+use crate::image::Sort;
+use crate::instr::{Instr, Kind};
+use crate::reading::stop::{ReadFault, stop_at};
+
+#[tactic(auto, unfolding(crate::specs::Reading::number_at))]
+pub(crate) fn read_u32(bytes: &[u8]) -> Result<(u32, &[u8]), ReadFault>
+    ensures { Gives (λ x. (x.0, x.1.now)) result (number_at w32 bytes.now) }
+{
+    if bytes.len() < 4 {
+        return Err(stop_at(Cause::Truncated, &[]));
+    }
+    let (front, rest) = bytes.split_at(4);
+    let number = u32::from_be_bytes([front[0], front[1], front[2], front[3]]);
+    Ok((number, rest))
+}
+
+#[tactic(auto, unfolding(crate::specs::Reading::number_at))]
+pub(crate) fn read_u16(bytes: &[u8]) -> Result<(u16, &[u8]), ReadFault>
+    ensures { Gives (λ x. (x.0, x.1.now)) result (number_at w16 bytes.now) }
+{
+    if bytes.len() < 2 {
+        return Err(stop_at(Cause::Truncated, &[]));
+    }
+    let (front, rest) = bytes.split_at(2);
+    let number = u16::from_be_bytes([front[0], front[1]]);
+    Ok((number, rest))
+}
+
+#[tactic(auto, unfolding(crate::specs::Reading::number_up_to))]
+pub(crate) fn read_u32_up_to(most: u32, bytes: &[u8]) -> Result<(u32, &[u8]), ReadFault>
+    ensures number { Gives (λ x. (x.0, x.1.now)) result (number_up_to w32 most bytes.now) }
+    ensures most { IfOk result (λ x. x.0 ≤ most) }
+{
+    let (number, rest) = read_u32(bytes)?;
+    if most < number {
+        return Err(stop_at(Cause::Limit, bytes));
+    }
+    Ok((number, rest))
+}
+
+#[tactic(auto, unfolding(crate::specs::Reading::number_up_to))]
+pub(crate) fn read_u16_up_to(most: u16, bytes: &[u8]) -> Result<(u16, &[u8]), ReadFault>
+    ensures { Gives (λ x. (x.0, x.1.now)) result (number_up_to w16 most bytes.now) }
+{
+    let (number, rest) = read_u16(bytes)?;
+    if most < number {
+        return Err(stop_at(Cause::Limit, bytes));
+    }
+    Ok((number, rest))
+}
+
+/// So many bytes, lent.
+#[tactic(auto, unfolding(crate::specs::Reading::bytes_at))]
+pub(crate) fn read_bytes(len: usize, bytes: &[u8]) -> Result<(&[u8], &[u8]), ReadFault>
+    ensures { Gives (λ x. (x.0.now, x.1.now)) result (bytes_at len bytes.now) }
+{
+    if bytes.len() < len {
+        return Err(stop_at(Cause::Truncated, &[]));
+    }
+    let (text, rest) = bytes.split_at(len);
+    Ok((text, rest))
+}
+
+#[tactic(auto, unfolding(crate::specs::Reading::byte_at))]
+pub(crate) fn read_byte(bytes: &[u8]) -> Result<(u8, &[u8]), ReadFault>
+    ensures { Gives (λ x. (x.0, x.1.now)) result (byte_at bytes.now) }
+{
+    match bytes {
+        [] => Err(stop_at(Cause::Truncated, bytes)),
+        [byte, rest @ ..] => Ok((*byte, rest)),
+    }
+}
+
+#[tactic(auto, unfolding(crate::specs::Reading::kind_at))]
+pub(crate) fn read_kind(bytes: &[u8]) -> Result<(Kind, &[u8]), ReadFault>
+    ensures { Gives (λ x. (x.0, x.1.now)) result (kind_at bytes.now) }
+{
+    let (byte, rest) = read_byte(bytes)?;
+    let kind = match byte {
+        1 => Kind::Stamp,
+        2 => Kind::Flag,
+        3 => Kind::Text,
+        4 => Kind::Paths,
+        5 => Kind::Swept,
+        _ => return Err(stop_at(Cause::BadTag, bytes)),
+    };
+    Ok((kind, rest))
+}
+
+#[tactic(auto, unfolding(crate::specs::Reading::sort_at))]
+pub(crate) fn read_sort(bytes: &[u8]) -> Result<(Sort, &[u8]), ReadFault>
+    ensures { Gives (λ x. (x.0, x.1.now)) result (sort_at bytes.now) }
+{
+    let (byte, rest) = read_byte(bytes)?;
+    let sort = match byte {
+        0 => Sort::Command,
+        1 => Sort::Phony,
+        _ => return Err(stop_at(Cause::BadTag, bytes)),
+    };
+    Ok((sort, rest))
+}
+
+pub(crate) fn read_flag(bytes: &[u8]) -> Result<(Instr, &[u8]), ReadFault>
+    ensures { Gives (λ x. (x.0, x.1.now)) result (flagged_at bytes.now) }
+{
+    let (byte, rest) = read_byte(bytes)?;
+    let flag = match byte {
+        0 => false,
+        1 => true,
+        _ => return Err(stop_at(Cause::BadTag, bytes)),
+    };
+    Ok((Instr::Flag(flag), rest))
+}

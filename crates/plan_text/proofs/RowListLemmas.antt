@@ -1,0 +1,67 @@
+-- Rows of items that are held one behind the other. Serves src/row_list.rt.
+use Rattle.std.proofs.Common.{◌≡◌, ℕ, zero, suc, ◌+◌, ◌-◌, ◌<◌, ◌≤◌, List, [], ◌∷◌, ◌++◌, length, refl, ◌∙◌, ap, arith, get_or, length-append, take, drop}
+use Rattle.std.specs.Prelude.{Some, None, slice_get, slice_range}
+use Rattle.std.proofs.Math.Seq.{drop-append_seam, take-length}
+use Rattle.std.proofs.lemmas.List.{drop-append-le, get_or_past, length-drop, take-append-le}
+use Rattle.plan_text.specs.RowLists.{AreEnds, rows_from}
+
+-- there are as many rows as ends
+pub length_rows : {X : Type 0} (start : ℕ) (items : List X) (ends : List ℕ) → length (rows_from start items ends) ≡ length ends
+length_rows start items [] = refl
+length_rows start items (e ∷ es) = ap suc (length_rows e items es)
+
+-- a row lies from the end of the one before it to its own
+pub row_at : {X : Type 0} (start : ℕ) (items : List X) (ends : List ℕ) (n : ℕ) → n < length ends → get_or (rows_from start items ends) n [] ≡ slice_range items (get_or (start ∷ ends) n 0) (get_or ends n 0)
+row_at start items [] n h = absurd (omega (arith, h))
+row_at start items (e ∷ es) zero h = refl
+row_at start items (e ∷ es) (suc n) h = row_at e items es n (omega (arith, h))
+
+-- behind the last row there is none
+pub no_row : {X : Type 0} (start : ℕ) (items : List X) (ends : List ℕ) (n : ℕ) → length ends ≤ n → get_or (rows_from start items ends) n [] ≡ []
+no_row start items ends n h = let long = length_rows start items ends in get_or_past (rows_from start items ends) n [] (omega (arith, h, long))
+
+start_within : (start : ℕ) (ends : List ℕ) (len : ℕ) → AreEnds start ends len → start ≤ len
+start_within start [] len h = omega (arith, h)
+start_within start (e ∷ es) len h = let rest : e ≤ len = start_within e es len h.1 in omega (arith, h.0, rest)
+
+-- a row lies within the items
+pub row_within : (start : ℕ) (ends : List ℕ) (len n : ℕ) → AreEnds start ends len → n < length ends → (get_or (start ∷ ends) n 0 ≤ get_or ends n 0) × (get_or ends n 0 ≤ len)
+row_within start [] len n a h = absurd (omega (arith, h))
+row_within start (e ∷ es) len zero a h = (a.0, start_within e es len a.1)
+row_within start (e ∷ es) len (suc n) a h = row_within e es len n a.1 (omega (arith, h))
+
+-- one end more
+pub ends_push : (start : ℕ) (ends : List ℕ) (len more : ℕ) → len ≤ more → AreEnds start ends len → AreEnds start (ends ++ more ∷ []) more
+ends_push start [] len more le h = (omega (arith, le, h), refl)
+ends_push start (e ∷ es) len more le h = (h.0, ends_push e es len more le h.1)
+
+last_row : {X : Type 0} (items row : List X) → slice_range (items ++ row) (length items) (length (items ++ row)) ≡ row
+last_row items row =
+    let long : length (items ++ row) ≡ length items + length row = length-append items row in
+    let rest : length (items ++ row) - length items ≡ length row = omega (arith, long) in
+    ap (take (length (items ++ row) - length items)) (drop-append_seam items row) ∙ (ap (λ n. take n row) rest ∙ take-length row)
+
+row_stays : {X : Type 0} (items row : List X) (start end : ℕ) → start ≤ end → end ≤ length items → slice_range (items ++ row) start end ≡ slice_range items start end
+row_stays items row start end h g =
+    let long : length (drop start items) ≡ length items - start = length-drop start items in
+    ap (take (end - start)) (drop-append-le start items row (omega (arith, h, g))) ∙ take-append-le (end - start) (drop start items) row (omega (arith, h, g, long))
+
+-- one row more
+pub rows_push : {X : Type 0} (start : ℕ) (items row : List X) (ends : List ℕ) → AreEnds start ends (length items)
+    → rows_from start (items ++ row) (ends ++ length (items ++ row) ∷ []) ≡ rows_from start items ends ++ row ∷ []
+rows_push {X = X} start items row [] h = ap (λ (r : List X). r ∷ []) (ap (λ n. slice_range (items ++ row) n (length (items ++ row))) h ∙ last_row items row)
+rows_push {X = X} start items row (e ∷ es) h =
+    ap (λ (r : List X). r ∷ rows_from e (items ++ row) (es ++ length (items ++ row) ∷ [])) (row_stays items row start e h.0 (start_within e es (length items) h.1))
+    ∙ ap (λ (rs : List (List X)). slice_range items start e ∷ rs) (rows_push e items row es h.1)
+
+-- an item that is there
+pub item_there : {X : Type 0} (xs : List X) (n : ℕ) (x : X) → n < length xs → Some (get_or xs n x) ≡ slice_get xs n
+item_there [] n x h = absurd (omega (arith, h))
+item_there (y ∷ xs) zero x h = refl
+item_there (y ∷ xs) (suc n) x h = item_there xs n x (omega (arith, h))
+
+-- and one that is not
+pub item_missing : {X : Type 0} (xs : List X) (n : ℕ) → length xs ≤ n → None ≡ slice_get xs n
+item_missing [] n h = refl
+item_missing (y ∷ xs) zero h = absurd (omega (arith, h))
+item_missing (y ∷ xs) (suc n) h = item_missing xs n (omega (arith, h))
