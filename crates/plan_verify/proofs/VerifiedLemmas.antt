@@ -18,7 +18,7 @@ unfolding table_refusal
 table_refusal_is p e x here = ap (λ (o : Option Edge). table_refusal_of p e o) here
 
 -- an image that is refused isn't well shaped
-refused_is_not : (p : Parts) (e place : ℕ) (r : Refusal) → IsRefused p e place r → IsWellShaped p → ⊥
+pub refused_is_not : (p : Parts) (e place : ℕ) (r : Refusal) → IsRefused p e place r → IsWellShaped p → ⊥
 refused_is_not p e place r (edge_fails lt before first) shaped = refused_has_none p e place r first (shaped.edges e lt)
 refused_is_not p _ _ r (all_fail before fails) shaped = differ (sym fails ∙ shaped.tables)
   where

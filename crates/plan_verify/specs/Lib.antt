@@ -16,3 +16,4 @@ pub mod Wanted
 pub mod OwnSlots
 pub mod Faults
 pub mod Verdict
+pub mod Facts

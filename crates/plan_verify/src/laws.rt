@@ -1,6 +1,7 @@
 //! Laws over the definitions.
 ghost use Rattle.plan_verify.specs.Alone.{GoesOnAlone, NeverWrongAlone};
 ghost use Rattle.plan_verify.specs.Budget.{StaysInBudgetAlone};
+ghost use Rattle.plan_verify.specs.Facts.{RefusalsAreTrue, TablesAreInRange, VerifiedNeverGoesWrong};
 ghost use Rattle.plan_verify.specs.Seam.{HearsWhatSuits, QuestionsIgnoreSlots, StaysTyped};
 ghost use Rattle.plan_verify.specs.Sound.{InstructionsFit, RepliesAreSafe, StepsAreSafe};
 
@@ -47,4 +48,20 @@ pub fn hears_what_suits()
 /// An edge run alone that still runs can go on.
 pub fn goes_on_alone()
     ensures { GoesOnAlone }
+{}
+
+/// The tables of a well-shaped image are in range: each edge waits for edges of lesser ranks alone, its pool, label and
+/// outputs are in their tables, each slot has an owner and holds no list of paths, each default is an edge.
+pub fn tables_are_in_range()
+    ensures { TablesAreInRange }
+{}
+
+/// An edge of a well-shaped image, run alone, never goes wrong.
+pub fn verified_never_goes_wrong()
+    ensures { VerifiedNeverGoesWrong }
+{}
+
+/// An edge that is refused has no shapes, and an image that is refused isn't well shaped.
+pub fn refusals_are_true()
+    ensures { RefusalsAreTrue }
 {}
