@@ -133,9 +133,9 @@ module _ (p : Parts) (e : ℕ) where
       elim (cases_eq m n) [
         | inl same ↦ rw (eq-eqb m n same) (skip_head e m ms (n + 1) slots (omega (arith, same)) ∙ rest ms (subst (λ (k : ℕ). AscendsFrom (k + 1) ms) same up.1) own.1 ∙ one_more (length ms) (length (own_from e (n + 1) slots)))
         | inr differ ↦
-          let up' = above n m ms differ up in
-          let less = few (n + 1) slots (m ∷ ms) next up' own in
-          rw (below_least n (n + 1) (m ∷ ms) (omega arith) up', ne_eqb (suc (length ms)) (suc (length (own_from e (n + 1) slots))) (λ e. omega (arith, e, less))) refl
+            let up' = above n m ms differ up in
+            let less = few (n + 1) slots (m ∷ ms) next up' own in
+            rw (below_least n (n + 1) (m ∷ ms) (omega arith) up', ne_eqb (suc (length ms)) (suc (length (own_from e (n + 1) slots))) (λ e. omega (arith, e, less))) refl
       ]
   same_by n false slots [] is next up own rest = rest [] tt tt
   same_by n false slots (m ∷ ms) is next up own rest =

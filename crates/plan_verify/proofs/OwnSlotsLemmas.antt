@@ -47,8 +47,8 @@ pub first_counted : (p : Parts) (n : ℕ) (all : List OwnSlots) → all ≡ repl
 first_counted p n all is long = record {
   long = long;
   each = λ e own at.
-    let same : none ≡ own = nothing_at n e none own (ap (λ (xs : List OwnSlots). slice_get xs e) (sym is) ∙ at) in
-    rw (← same) (omega arith, refl);
+      let same : none ≡ own = nothing_at n e none own (ap (λ (xs : List OwnSlots). slice_get xs e) (sym is) ∙ at) in
+      rw (← same) (omega arith, refl);
 }
 
 module _ (p : Parts) (place : ℕ) (slot : Slot) (old new : List OwnSlots) where
@@ -62,9 +62,9 @@ module _ (p : Parts) (place : ℕ) (slot : Slot) (old new : List OwnSlots) where
   next_counted here step before = record {
     long = step.long ∙ before.long;
     each = λ e own at.
-      let from = step.each e own at in
-      let then = before.each e from.0 from.1 in
-      rw from.2 (next_by e from.0 (eqb slot.owner e) (drop (place + 1) p.slots) refl then.0 (ap (λ (xs : List Slot). counted e from.0 xs) (sym (rest_at place p.slots slot here)) ∙ then.1));
+        let from = step.each e own at in
+        let then = before.each e from.0 from.1 in
+        rw from.2 (next_by e from.0 (eqb slot.owner e) (drop (place + 1) p.slots) refl then.0 (ap (λ (xs : List Slot). counted e from.0 xs) (sym (rest_at place p.slots slot here)) ∙ then.1));
   }
 
 -- ---- what is counted
@@ -99,9 +99,9 @@ pub all_counted : (p : Parts) (place : ℕ) (all : List OwnSlots) → length p.s
 all_counted p place all le done = record {
   long = done.long;
   each = λ e own at.
-    let last : counted e own (drop place p.slots) ≡ own = rw (drop_all place p.slots le) refl in
-    let is = counted_is p e p.slots 0 none refl in
-    let same : own ≡ counted e none p.slots = sym last ∙ (done.each e own at).1 in
-    let count : (counted e none p.slots).count ≡ 0 + length (own_slots p e) = is.0 in
-    rw same (record { count = omega (arith, count); paths = is.1 });
+      let last : counted e own (drop place p.slots) ≡ own = rw (drop_all place p.slots le) refl in
+      let is = counted_is p e p.slots 0 none refl in
+      let same : own ≡ counted e none p.slots = sym last ∙ (done.each e own at).1 in
+      let count : (counted e none p.slots).count ≡ 0 + length (own_slots p e) = is.0 in
+      rw same (record { count = omega (arith, count); paths = is.1 });
 }

@@ -61,15 +61,15 @@ joined_each (t ∷ ts) old new s m b joins got =
     let rest = joined_each ts mid new s m b joins.2 got in
     elim (cases_eq t m) [
       | inl same ↦
-        let in_mid = slice_get_within mid m rest.0 rest.1 in
-        let in_old : m < length old = omega (arith, one.long, in_mid) in
-        let a = get_inside old m in_old in
-        let there = one.there a.0 (ap (λ (k : ℕ). slice_get old k) same ∙ a.1) in
-        let mid-is : there.0 ≡ rest.0 = some_is there.0 rest.0 (sym there.1 ∙ ap (λ (k : ℕ). slice_get mid k) same ∙ rest.1) in
-        (a.0, a.1, λ xs d. rw (eq-eqb t m same) (let more = there.2.more xs d in rw append_cons (rest.2 (xs ++ s ∷ []) (rw mid-is at more))))
+          let in_mid = slice_get_within mid m rest.0 rest.1 in
+          let in_old : m < length old = omega (arith, one.long, in_mid) in
+          let a = get_inside old m in_old in
+          let there = one.there a.0 (ap (λ (k : ℕ). slice_get old k) same ∙ a.1) in
+          let mid-is : there.0 ≡ rest.0 = some_is there.0 rest.0 (sym there.1 ∙ ap (λ (k : ℕ). slice_get mid k) same ∙ rest.1) in
+          (a.0, a.1, λ xs d. rw (eq-eqb t m same) (let more = there.2.more xs d in rw append_cons (rest.2 (xs ++ s ∷ []) (rw mid-is at more))))
       | inr differ ↦
-        let at_old : slice_get old m ≡ Some rest.0 = sym (one.others m (λ e. differ (sym e))) ∙ rest.1 in
-        (rest.0, at_old, λ xs d. rw (ne_eqb t m differ) (rest.2 xs d))
+          let at_old : slice_get old m ≡ Some rest.0 = sym (one.others m (λ e. differ (sym e))) ∙ rest.1 in
+          (rest.0, at_old, λ xs d. rw (ne_eqb t m differ) (rest.2 xs d))
     ]
 
 set_other : {A : Type 0} (xs : List A) (i k : ℕ) (y : A) → i < k → slice_get (set xs i y) k ≡ slice_get xs k
@@ -98,8 +98,8 @@ starts p e n arrivals flow is shape falls = record {
   are = record { within = omega arith; each = λ place i s at got. absurd cc };
   kept = record {
     each = λ m a le got.
-      let none : arrival.Nothing ≡ a = nothing_there n m a (ap (λ (xs : List Arrival). slice_get xs m) (sym is) ∙ got) in
-      ([], first_arrives p e m flow shape falls, rw (← none) refl);
+        let none : arrival.Nothing ≡ a = nothing_there n m a (ap (λ (xs : List Arrival). slice_get xs m) (sym is) ∙ got) in
+        ([], first_arrives p e m flow shape falls, rw (← none) refl);
   };
 }
 
@@ -156,12 +156,11 @@ module _ (p : Parts) (e place : ℕ) (old : List Arrival) (flow : Flow) (r : Rea
         let none : brought_to flow (length r.shapes) m ≡ [] = rw (ne_eqb (length r.shapes) m (λ e. omega (arith, e, more, le))) refl in
         let old_is : arriving p e r.shapes m ≡ before.0 = before.1 ∙ ap (λ (xs : List Shape). before.0 ++ xs) none ∙ append-nil before.0 in
         let next : arriving p e (r.shapes ++ s ∷ []) m ≡ before.0 ++ (toward m (jumps_to i) (left p i s) ++ brought_to (along i (left p i s)) (length r.shapes + 1) m) =
-          arriving-push p e r.shapes i s m (at_place i here) ∙ rw (old_is, split_targets (length r.shapes) m i (left p i s)) refl in
-        (
+        arriving-push p e r.shapes i s m (at_place i here) ∙ rw (old_is, split_targets (length r.shapes) m i (left p i s)) refl in (
           before.0 ++ toward m (jumps_to i) (left p i s),
           next ∙ sym (append_assoc before.0 (toward m (jumps_to i) (left p i s)) (brought_to (along i (left p i s)) (length r.shapes + 1) m))
-          ∙ ap (λ (k : ℕ). (before.0 ++ toward m (jumps_to i) (left p i s)) ++ brought_to (along i (left p i s)) k m) (sym more),
-          from.2 before.0 before.2
+              ∙ ap (λ (k : ℕ). (before.0 ++ toward m (jumps_to i) (left p i s)) ++ brought_to (along i (left p i s)) k m) (sym more),
+          from.2 before.0 before.2,
         )
 
     -- the next place is reached

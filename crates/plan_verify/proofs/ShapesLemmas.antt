@@ -83,17 +83,17 @@ module _ (p : Parts) (e : ℕ) where
       record {
         within = omega (arith, length_push shapes s, within);
         each = λ place j t at got.
-          elim (cases_lt place (length shapes)) [
-            | inl lt ↦
-              let before : slice_get shapes place ≡ Some t = sym (front_at shapes (s ∷ []) place lt) ∙ got in
-              rw (same place (omega arith)) (are.each place j t at before)
-            | inr ge ↦
-              let short = slice_get_within (shapes ++ s ∷ []) place t got in
-              let is_last : place ≡ length shapes = omega (arith, length_push shapes s, short) in
-              let t-is : s ≡ t = some_is s t (sym (last_at shapes s) ∙ ap (λ (k : ℕ). slice_get (shapes ++ s ∷ []) k) (sym is_last) ∙ got) in
-              let j-is : i ≡ j = some_is i j (sym here ∙ ap (λ (k : ℕ). slice_get (code p e) k) (sym is_last) ∙ at) in
-              rw (is_last, ← t-is, ← j-is, same (length shapes) (omega arith)) (among, fits)
-          ];
+            elim (cases_lt place (length shapes)) [
+              | inl lt ↦
+                  let before : slice_get shapes place ≡ Some t = sym (front_at shapes (s ∷ []) place lt) ∙ got in
+                  rw (same place (omega arith)) (are.each place j t at before)
+              | inr ge ↦
+                  let short = slice_get_within (shapes ++ s ∷ []) place t got in
+                  let is_last : place ≡ length shapes = omega (arith, length_push shapes s, short) in
+                  let t-is : s ≡ t = some_is s t (sym (last_at shapes s) ∙ ap (λ (k : ℕ). slice_get (shapes ++ s ∷ []) k) (sym is_last) ∙ got) in
+                  let j-is : i ≡ j = some_is i j (sym here ∙ ap (λ (k : ℕ). slice_get (code p e) k) (sym is_last) ∙ at) in
+                  rw (is_last, ← t-is, ← j-is, same (length shapes) (omega arith)) (among, fits)
+            ];
       }
 
 -- ---- one shape less
@@ -128,16 +128,15 @@ module _ (p : Parts) (e : ℕ) where
       let within = are.within in
       let at = get_inside (code p e) (length shapes) (omega arith) in
       let last = are.each (length shapes) at.0 s at.1 (last_at shapes s) in
-      let same = same_before p e shapes at.0 s at.1 last.1 in
-      (
+      let same = same_before p e shapes at.0 s at.1 last.1 in (
         record {
           within = omega arith;
           each = λ place i t here got.
-            let lt = slice_get_within shapes place t got in
-            let both = are.each place i t here (front_at shapes (s ∷ []) place lt ∙ got) in
-            (subst (λ (xs : List Shape). IsShapeAmong t xs) (same place (omega arith)) both.0, both.1);
+              let lt = slice_get_within shapes place t got in
+              let both = are.each place i t here (front_at shapes (s ∷ []) place lt ∙ got) in
+              (subst (λ (xs : List Shape). IsShapeAmong t xs) (same place (omega arith)) both.0, both.1);
         },
-        record { instr = at.0; here = at.1; among = subst (λ (xs : List Shape). IsShapeAmong s xs) (same (length shapes) (omega arith)) last.0; fits = last.1 }
+        record { instr = at.0; here = at.1; among = subst (λ (xs : List Shape). IsShapeAmong s xs) (same (length shapes) (omega arith)) last.0; fits = last.1 },
       )
 
   unique : (n : ℕ) (xs ys : List Shape) → length xs ≡ n → length ys ≡ n → AreShapes p e xs → AreShapes p e ys → xs ≡ ys
@@ -222,7 +221,7 @@ module _ (p : Parts) (e : ℕ) where
   unfolding arriving
   arriving_own zero shapes len are m =
       subst (λ (xs : List Shape). All HasOwnSet (begins m ++ arriving_from p 0 (code p e) xs m)) (none_left shapes len)
-        (rw (arriving_none p 0 (code p e) m, append-nil (begins m)) (begins_own m))
+      (rw (arriving_none p 0 (code p e) m, append-nil (begins m)) (begins_own m))
   arriving_own (suc n) shapes len are m =
       let l = split_last n shapes len in
       let pop = AreShapes-pop l.0 l.1 (subst (AreShapes p e) l.2 are) in
@@ -232,8 +231,8 @@ module _ (p : Parts) (e : ℕ) where
       let own : HasOwnSet l.1 = subst HasOwnSet at.2 (before (length l.0) at.0 l.1 at.1) in
       let leaves = toward_own m (targets (length l.0) passed.instr) (left p passed.instr l.1) (left_own passed.instr l.1 (passed_from p e (length l.0) passed.instr l.1 passed.fits).slot own) in
       subst (λ (xs : List Shape). All HasOwnSet (arriving p e xs m)) (sym l.2)
-        (subst (λ (xs : List Shape). All HasOwnSet xs) (sym (arriving-push p e l.0 passed.instr l.1 m passed.here))
-          (All-append HasOwnSet (arriving p e l.0 m) (toward m (targets (length l.0) passed.instr) (left p passed.instr l.1)) (before m) leaves))
+      (subst (λ (xs : List Shape). All HasOwnSet xs) (sym (arriving-push p e l.0 passed.instr l.1 m passed.here))
+      (All-append HasOwnSet (arriving p e l.0 m) (toward m (targets (length l.0) passed.instr) (left p passed.instr l.1)) (before m) leaves))
 
   -- the own slots of the shape that arrives at the next place are a set of own ones
   pub shape_own : (shapes : List Shape) (s : Shape) → AreShapes p e shapes → IsShapeAmong s (arriving p e shapes (length shapes)) → HasOwnSet s

@@ -8,7 +8,6 @@ use Rattle.plan_verify.specs.declared.fault.VerifyFault.{VerifyFault}
 use Rattle.plan_verify.specs.declared.fault.VerifyFault.TheVariants as fault
 use Rattle.plan_verify.specs.Shape.{table_refusal, table_refusal_of, image_refusal}
 use Rattle.plan_verify.specs.WellShaped.{IsShapedEdge, IsWellShaped, IsFirstRefusal, IsRefused, edge_fails, all_fail}
-
 use Rattle.plan_verify.specs.Verdict.{IsEdgeFault, IsVerifyFault}
 use Rattle.plan_verify.proofs.ShapesLemmas.{refused_has_none}
 

@@ -97,7 +97,12 @@ fn arrive(alloc: Global, all: &mut Vec<Arrival>, to: usize, shape: &Shape) -> Re
 }
 
 /// The shape goes where the instruction jumps to.
-pub(crate) fn jump(alloc: Global, all: &mut Vec<Arrival>, instr: Instr, shape: &Shape) -> Result<(), AllocError>
+pub(crate) fn jump(
+    alloc: Global,
+    all: &mut Vec<Arrival>,
+    instr: Instr,
+    shape: &Shape,
+) -> Result<(), AllocError>
     requires { All (λ t. t < length all.old.items) (jumps_to instr) }
     ensures { OnOk result (JoinsEach all.old.items all.new.items (jumps_to instr) shape.now) }
 {

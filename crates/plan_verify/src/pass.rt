@@ -72,18 +72,19 @@ fn cost(instr: Instr) -> u64
     ensures small { result ≤ 2 }
 {
     match instr {
-        Instr::Stat(_)
-        | Instr::Need(_)
-        | Instr::Recall
-        | Instr::Run
-        | Instr::Deps
-        | Instr::Keep => 2,
+        Instr::Stat(_) | Instr::Need(_) | Instr::Recall | Instr::Run | Instr::Deps | Instr::Keep =>
+            2,
         _ => 1,
     }
 }
 
 /// The budget of an edge whose code has shapes, or the first place that is refused.
-pub(crate) fn pass_code(alloc: Global, image: &Image, edge: u32, own_len: usize) -> Result<u64, CodeFault>
+pub(crate) fn pass_code(
+    alloc: Global,
+    image: &Image,
+    edge: u32,
+    own_len: usize,
+) -> Result<u64, CodeFault>
     requires tables { table_refusal image.now edge ≡ None }
     requires own { own_len ≡ length (own_slots image.now edge) }
     ensures ok { OnOk result (IsShapedEdge image.now edge) }

@@ -201,7 +201,9 @@ fn is_kind(wanted: Option<Kind>, kind: Kind) -> bool
 }
 
 const STAMP: Option<Option<Kind>> = Some(Some(Kind::Stamp));
+
 const FLAG: Option<Option<Kind>> = Some(Some(Kind::Flag));
+
 const TEXT: Option<Option<Kind>> = Some(Some(Kind::Text));
 
 /// What an instruction takes, the top first; none behind the last.

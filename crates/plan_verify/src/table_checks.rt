@@ -55,7 +55,12 @@ fn has_file_outside(parts: &Parts, files: &[u32]) -> bool
 }
 
 /// The first check of an edge's tables that fails.
-pub(crate) fn table_refusal(parts: &Parts, edge: u32, entry: &Edge, own: OwnSlots) -> Option<Refusal>
+pub(crate) fn table_refusal(
+    parts: &Parts,
+    edge: u32,
+    entry: &Edge,
+    own: OwnSlots,
+) -> Option<Refusal>
     requires own { own.has_paths ≡ list_any (λ s. is_paths (slot_kind parts.now s)) (own_slots parts.now edge) }
     ensures { result ≡ table_refusal_of parts.now edge (Some entry.now) }
 {
@@ -89,7 +94,11 @@ fn has_outside(parts: &Parts, edges: &[u32]) -> bool
 fn has_owner_outside(parts: &Parts) -> bool
     ensures { result ≡ list_any (λ (s : Slot). nat_le (length parts.now.edges) s.owner) parts.now.slots }
 {
-    parts.slots.as_slice().iter().any(|slot| parts.edges.len() <= slot.owner as usize)
+    parts
+        .slots
+        .as_slice()
+        .iter()
+        .any(|slot| parts.edges.len() <= slot.owner as usize)
 }
 
 /// The first check of all edges' tables together that fails.

@@ -17,11 +17,11 @@ pub loop-want-preserved : goal.loop-want-preserved
 loop-want-preserved c =
     elim c.match-want.branch [
       | in-Some+in-Some-peek+else-not-is_kind w ↦ record {
-          rest = rw w.depth-is (fits_here c.args.wanted.now c.args.kinds.now c.loop-want.want-index c.loop-want.depth _ c.loop-want-test.true c.loop-want.invariant.rest w.in-Some.want w.in-Some-peek.kind w.in-Some.is (sym w.in-Some-peek.ensures) (sym w.if-not-is_kind.ensures));
-          few = omega arith;
-        }
+        rest = rw w.depth-is (fits_here c.args.wanted.now c.args.kinds.now c.loop-want.want-index c.loop-want.depth _ c.loop-want-test.true c.loop-want.invariant.rest w.in-Some.want w.in-Some-peek.kind w.in-Some.is (sym w.in-Some-peek.ensures) (sym w.if-not-is_kind.ensures));
+        few = omega arith;
+      }
       | in_default w ↦ record {
-          rest = rw w.depth-is (passes_by c.args.wanted.now c.args.kinds.now c.loop-want.want-index c.loop-want.depth _ c.loop-want-test.true c.loop-want.invariant.rest w.in_default.is);
-          few = omega arith;
-        }
+        rest = rw w.depth-is (passes_by c.args.wanted.now c.args.kinds.now c.loop-want.want-index c.loop-want.depth _ c.loop-want-test.true c.loop-want.invariant.rest w.in_default.is);
+        few = omega arith;
+      }
     ]
