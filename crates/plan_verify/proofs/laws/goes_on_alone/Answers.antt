@@ -1,0 +1,5 @@
+use Rattle.plan_verify.proofs.RunningAlone.{goes_on_alone}
+use Rattle.plan_verify.proofs.laws.goes_on_alone.Goals as goal
+
+pub returns : goal.returns
+returns c = goes_on_alone

@@ -1,0 +1,5 @@
+use Rattle.plan_verify.proofs.Fitting.{instructions_fit}
+use Rattle.plan_verify.proofs.laws.instructions_fit.Goals as goal
+
+pub returns : goal.returns
+returns c = instructions_fit

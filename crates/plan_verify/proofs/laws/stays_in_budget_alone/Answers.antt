@@ -1,0 +1,5 @@
+use Rattle.plan_verify.proofs.Spending.{stays_in_budget_alone}
+use Rattle.plan_verify.proofs.laws.stays_in_budget_alone.Goals as goal
+
+pub returns : goal.returns
+returns c = stays_in_budget_alone

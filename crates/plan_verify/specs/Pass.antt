@@ -1,0 +1,55 @@
+-- What one pass from left to right keeps.
+use Rattle.std.specs.Prelude.{◌≡◌, ℕ, ◌≤◌, ◌⊎◌, Bool, true, false, List, [], ◌∷◌, ◌++◌, length, Option, Some, None, ◌==◌, if◌then◌else◌, slice_get}
+use Rattle.plan_image.specs.declared.instr.Instr.{Instr}
+use Rattle.plan_image.specs.declared.instr.Instr.TheVariants as op
+use Rattle.plan_image.specs.declared.image.Parts.{Parts}
+use Rattle.plan_verify.specs.declared.shape.Shape.{Shape}
+use Rattle.plan_verify.specs.declared.arrivals.Arrival.{Arrival}
+use Rattle.plan_verify.specs.declared.flow.Flow.{Flow}
+use Rattle.plan_verify.specs.declared.fault.Refusal.{Refusal}
+use Rattle.plan_verify.specs.declared.fault.Refusal.TheVariants as refusal
+use Rattle.plan_verify.specs.declared.fault.CodeFault.{CodeFault}
+use Rattle.plan_verify.specs.declared.fault.CodeFault.TheVariants as fault
+use Rattle.plan_verify.specs.Arrivals.{Describes}
+use Rattle.plan_verify.specs.WellShaped.{arriving, IsShapeAmong, Differ, AreShapes, IsFirstRefusal}
+
+-- whether the next place is one that an instruction goes on to
+abbrev pub goes_on : Instr → Bool
+goes_on op.End = false
+goes_on (op.Jump d) = false
+goes_on _ = true
+
+-- the shape that goes along, where it arrives at this place
+abbrev pub brought : Flow → List Shape
+brought flow = if flow.falls then flow.shape ∷ [] else []
+
+-- the same at any place, where it goes along to that one
+abbrev pub brought_to : Flow → ℕ → ℕ → List Shape
+brought_to flow place m = if place == m then brought flow else []
+
+-- the one shape of what arrived, or why there is none
+abbrev pub IsMet : List Shape → Shape → Option Refusal → Type 0
+IsMet arrived s None = IsShapeAmong s arrived
+IsMet arrived s (Some r) = ((r ≡ refusal.DeadCode) × (arrived ≡ [])) ⊎ ((r ≡ refusal.ShapesDiffer) × Differ arrived)
+
+-- whatever the jumps brought
+pub record MeetsAs (a : Arrival) (old new : Flow) (result : Option Refusal) : Type 0 where
+  pub meets : (jumped : List Shape) → Describes a jumped → IsMet (jumped ++ brought old) new.shape result
+
+-- What is kept for each place that is still to come describes what jumps bring there from the places with these shapes;
+-- the rest of what arrives goes along.
+pub record Keeps (p : Parts) (e : ℕ) (shapes : List Shape) (arrivals : List Arrival) (flow : Flow) : Type 0 where
+  pub each : (m : ℕ) (a : Arrival) → length shapes ≤ m → slice_get arrivals m ≡ Some a
+      → (jumped : List Shape) × (arriving p e shapes m ≡ jumped ++ brought_to flow (length shapes) m) × Describes a jumped
+
+-- the shapes of the places before one, and what is kept for those from it on
+pub record Reached (p : Parts) (e place : ℕ) (arrivals : List Arrival) (flow : Flow) : Type 0 where
+  pub shapes : List Shape
+  pub count : length shapes ≡ place
+  pub are : AreShapes p e shapes
+  pub kept : Keeps p e shapes arrivals flow
+
+-- the first refusal of an edge, unless memory ran out
+abbrev pub IsCodeFault : Parts → ℕ → CodeFault → Type 0
+IsCodeFault p e fault.Memory = Unit {0}
+IsCodeFault p e (fault.Refused r place) = IsFirstRefusal p e place r

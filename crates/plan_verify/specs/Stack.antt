@@ -1,0 +1,8 @@
+-- A stack of kinds, the top first.
+use Rattle.std.specs.Prelude.{List, ◌∷◌}
+use Rattle.plan_image.specs.declared.instr.Kind.{Kind}
+
+-- the two at the top, turned round
+abbrev pub swapped : List Kind → List Kind
+swapped (x ∷ y ∷ kinds) = y ∷ x ∷ kinds
+swapped kinds = kinds

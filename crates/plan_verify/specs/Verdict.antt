@@ -1,0 +1,29 @@
+-- What the verifier answers.
+use Rattle.std.specs.Prelude.{◌≡◌, ℕ}
+use Rattle.plan_image.specs.declared.image.Parts.{Parts}
+use Rattle.plan_verify.specs.declared.fault.CodeFault.{CodeFault}
+use Rattle.plan_verify.specs.declared.fault.CodeFault.TheVariants as code_fault
+use Rattle.plan_verify.specs.declared.fault.VerifyFault.{VerifyFault}
+use Rattle.plan_verify.specs.declared.fault.VerifyFault.TheVariants as fault
+use Rattle.plan_verify.specs.WellShaped.{IsFirstRefusal, IsRefused, IsWellShaped}
+use Rattle.plan_verify.specs.Budget.{image_budget}
+
+-- what a verified image keeps: it is well shaped, and its budget is known
+pub record IsVerified (p : Parts) (budget : ℕ) : Type 0 where
+  pub shaped : IsWellShaped p
+  pub known : budget ≡ image_budget p
+
+-- a fault of an edge's places as one of the image
+abbrev pub fault_at : ℕ → CodeFault → VerifyFault
+fault_at e (code_fault.Refused r place) = fault.Refused r e place
+fault_at e code_fault.Memory = fault.Memory
+
+-- the first refusal of an edge, unless memory ran out
+abbrev pub IsEdgeFault : Parts → ℕ → VerifyFault → Type 0
+IsEdgeFault p e (fault.Refused r d place) = (d ≡ e) × IsFirstRefusal p e place r
+IsEdgeFault p e fault.Memory = Unit {0}
+
+-- the first refusal of an image, unless memory ran out
+abbrev pub IsVerifyFault : Parts → VerifyFault → Type 0
+IsVerifyFault p (fault.Refused r e place) = IsRefused p e place r
+IsVerifyFault p fault.Memory = Unit {0}

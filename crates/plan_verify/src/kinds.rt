@@ -1,0 +1,119 @@
+//! The kinds of the values on a stack.
+
+ghost use Rattle.std.specs.Prelude.{◌≡◌, ◌<◌, ◌≤◌, ◌↔◌, IsTrue, ◌∷◌, ◌++◌, [], length, take, drop, slice_get};
+ghost use Rattle.plan_verify.specs.Stack.{swapped};
+
+use arrayvec::ArrayVec;
+use plan_image::Kind;
+use std::marker::Model;
+
+/// The kinds of at most 64 values, the top first.
+#[derive(Drop)]
+pub struct Kinds {
+    held: ArrayVec<Kind, 64>,
+}
+
+impl Model for Kinds {
+    ghost use Rattle.std.specs.Prelude.{List, reverse, length, ◌≤◌};
+    ghost use Rattle.plan_image.specs.declared.instr.Kind.{Kind};
+
+    ghost Value = { List Kind };
+
+    ghost view = { λ k. reverse k.held.items };
+
+    ghost invariant = { λ k. length k.held.items ≤ 64 };
+}
+
+impl Kinds {
+    /// No kind.
+    pub(crate) fn new() -> Self
+        ensures { result ≡ [] }
+    {
+        Self {
+            held: ArrayVec::new(),
+        }
+    }
+
+    /// How many there are.
+    pub(crate) fn len(&self) -> usize
+        ensures value { result ≡ length self.now }
+        ensures fits { result ≤ 64 }
+    {
+        self.held.len()
+    }
+
+    /// One more at the top.
+    pub(crate) fn push(&mut self, kind: Kind)
+        requires { length self.old < 64 }
+        ensures { self.new ≡ kind ∷ self.old }
+    {
+        self.held.push(kind);
+    }
+
+    /// Takes the topmost off, where there is one.
+    fn pop(&mut self)
+        ensures { self.new ≡ drop 1 self.old }
+    {
+        let _ = self.held.pop();
+    }
+
+    /// Takes some off.
+    pub(crate) fn cut(&mut self, count: usize)
+        ensures { self.new ≡ drop count self.old }
+    {
+        for _ in 0..count {
+            self.pop();
+        }
+    }
+
+    /// The kind at a depth, the top at 0.
+    pub(crate) fn peek(&self, depth: usize) -> Option<Kind>
+        ensures { result ≡ slice_get self.now depth }
+    {
+        let len = self.held.len();
+        if depth < len {
+            Some(self.held[len - 1 - depth])
+        } else {
+            None
+        }
+    }
+
+    /// Turns the two at the top round, where there are two.
+    #[tactic(auto, using(crate::proofs::KindsLemmas::lengths))]
+    pub(crate) fn swap(&mut self)
+        ensures { self.new ≡ swapped (take 2 self.old) ++ drop 2 self.old }
+    {
+        let _ = &self.held;
+        if let Some(top) = self.peek(0) {
+            if let Some(below) = self.peek(1) {
+                self.cut(2);
+                self.push(top);
+                self.push(below);
+            }
+        }
+    }
+
+    /// Whether these are the others.
+    pub(crate) fn is_same(&self, other: &Kinds) -> bool
+        ensures { IsTrue result ↔ (self.now ≡ other.now) }
+    {
+        are_same(self.held.as_slice(), other.held.as_slice())
+    }
+
+    /// The same once more.
+    pub(crate) fn copy(&self) -> Kinds
+        ensures { result ≡ self.now }
+    {
+        let mut held = ArrayVec::new();
+        match held.try_extend_from_slice(self.held.as_slice()) {
+            Ok(()) => Kinds { held },
+            Err(_) => unreachable!(),
+        }
+    }
+}
+
+fn are_same(a: &[Kind], b: &[Kind]) -> bool
+    ensures { IsTrue result ↔ (a.now ≡ b.now) }
+{
+    a == b
+}

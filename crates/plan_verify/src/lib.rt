@@ -1,0 +1,32 @@
+//! Which images are well shaped, and what one edge of them does.
+#![tactic(auto)]
+
+mod arrivals;
+mod fault;
+mod flow;
+mod kinds;
+mod laws;
+mod own_slots;
+mod pass;
+mod place_checks;
+mod shape;
+mod shape_change;
+mod slot_set;
+mod table_checks;
+mod value;
+mod verified;
+
+pub use fault::{Refusal, VerifyFault};
+pub use kinds::Kinds;
+pub use laws::{
+    goes_on_alone, hears_what_suits, instructions_fit, never_wrong_alone, questions_ignore_slots,
+    refusals_are_true, replies_are_safe, stays_in_budget_alone, stays_typed, steps_are_safe,
+    tables_are_in_range, verified_never_goes_wrong,
+};
+pub use shape::Shape;
+pub use slot_set::SlotSet;
+pub use value::{Cause, PathList, Value, Words};
+pub use verified::{Verified, verify};
+
+#[cfg(test)]
+mod tests;

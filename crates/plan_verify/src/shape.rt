@@ -1,0 +1,52 @@
+//! What the verifier knows of an edge at a place.
+
+ghost use Rattle.std.specs.Prelude.{◌≡◌, ◌↔◌, IsTrue, IfOk};
+
+use crate::kinds::Kinds;
+use crate::slot_set::SlotSet;
+use std::alloc::{AllocError, Global};
+
+/// The kinds on the stack, the top first; whether a place is held; which own slots are set, ascending.
+#[derive(Drop)]
+pub struct Shape {
+    pub kinds: Kinds,
+    pub holding: bool,
+    pub set: SlotSet,
+}
+
+impl Shape {
+    ghost use Rattle.plan_verify.specs.WellShaped.{at_start};
+
+    /// Nothing on the stack, no place held, no slot set.
+    pub(crate) fn start(alloc: Global) -> Shape
+        ensures { result ≡ at_start }
+    {
+        Shape {
+            kinds: Kinds::new(),
+            holding: false,
+            set: SlotSet::new(alloc),
+        }
+    }
+
+    /// Whether this is the other.
+    pub(crate) fn is_same(&self, other: &Shape) -> bool
+        ensures { IsTrue result ↔ (self.now ≡ other.now) }
+    {
+        self.kinds.is_same(&other.kinds)
+            && self.holding == other.holding
+            && self.set.is_same(&other.set)
+    }
+
+    /// The same once more.
+    pub(crate) fn copy(&self, alloc: Global) -> Result<Shape, AllocError>
+        ensures { IfOk result (λ s. s ≡ self.now) }
+    {
+        let kinds = self.kinds.copy();
+        let set = self.set.copy(alloc)?;
+        Ok(Shape {
+            kinds,
+            holding: self.holding,
+            set,
+        })
+    }
+}

@@ -1,0 +1,371 @@
+//! Each public function once, on images made by hand.
+
+use super::*;
+use plan_image::{Edge, EdgeCode, Image, Instr, Kind, Parts, Pool, Slot, Sort, split, write_image};
+use plan_text::{Items, Memory, RowList};
+use std::alloc::{AllocError, Global};
+use std::test::Fail;
+
+/// An edge with label 0 and output 0.
+fn edge(alloc: Global, rank: u32, waits: &[u32], code: EdgeCode) -> Result<Edge, AllocError> {
+    Ok(Edge {
+        sort: Sort::Command,
+        pool: None,
+        rank,
+        label: 0,
+        outputs: Items::new(Vec::from_slice(alloc, [0].as_slice())?),
+        waits: Items::new(Vec::from_slice(alloc, waits)?),
+        code,
+    })
+}
+
+/// The tables of these edges: text 0 is `x`, file 0 is `a`, edge 0 is built by default.
+fn parts_of(alloc: Global, slots: &[Slot], edges: Vec<Edge>) -> Result<Parts, AllocError> {
+    let mut texts = RowList::new(alloc);
+    texts.push(b"x")?;
+    let mut files = RowList::new(alloc);
+    files.push(b"a")?;
+    Ok(Parts {
+        texts,
+        files,
+        pools: Items::empty(alloc),
+        slots: Items::new(Vec::from_slice(alloc, slots)?),
+        bodies: None,
+        edges: Items::new(edges),
+        defaults: Items::new(Vec::from_slice(alloc, [0].as_slice())?),
+    })
+}
+
+/// What the verifier says of tables.
+fn verdict_on(alloc: Global, parts: Parts) -> Result<u64, VerifyFault> {
+    let Ok(image) = Image::new(parts) else {
+        return Err(VerifyFault::Memory);
+    };
+    match verify(alloc, image) {
+        Ok(verified) => Ok(verified.budget()),
+        Err((_, fault)) => Err(fault),
+    }
+}
+
+/// What the verifier says of one edge's code in version 1.
+fn verdict(alloc: Global, code: &[Instr], slots: &[Slot]) -> Result<u64, VerifyFault> {
+    let own = EdgeCode::Own(Items::new(Vec::from_slice(alloc, code)?));
+    let mut edges = Vec::new(alloc);
+    edges.push(edge(alloc, 0, &[], own)?)?;
+    verdict_on(alloc, parts_of(alloc, slots, edges)?)
+}
+
+/// What it says of the code as a body in version 2.
+fn verdict_on_body(alloc: Global, code: &[Instr], slots: &[Slot]) -> Result<u64, VerifyFault> {
+    let Ok((body, operands)) = split(alloc, code) else {
+        return Err(VerifyFault::Memory);
+    };
+    let mut bodies = Vec::new(alloc);
+    bodies.push(body)?;
+    let mut edges = Vec::new(alloc);
+    edges.push(edge(alloc, 0, &[], EdgeCode::Shared(0, operands))?)?;
+    let mut parts = parts_of(alloc, slots, edges)?;
+    parts.bodies = Some(Items::new(bodies));
+    verdict_on(alloc, parts)
+}
+
+#[test]
+fn accepted_code(rt: HostRuntime) {
+    for (code, budget) in [
+        ([Instr::End].as_slice(), 2),
+        (
+            [Instr::Flag(true), Instr::JumpIf(3), Instr::End, Instr::End].as_slice(),
+            5,
+        ),
+        (
+            [
+                Instr::Take,
+                Instr::Text(0),
+                Instr::Run,
+                Instr::Release,
+                Instr::Text(0),
+                Instr::Deps,
+                Instr::Drop,
+                Instr::End,
+            ]
+            .as_slice(),
+            11,
+        ),
+        (
+            [
+                Instr::Zero,
+                Instr::Flag(false),
+                Instr::Text(0),
+                Instr::Deps,
+                Instr::Sweep,
+                Instr::Drop,
+                Instr::Drop,
+                Instr::Drop,
+                Instr::End,
+            ]
+            .as_slice(),
+            11,
+        ),
+    ] {
+        assert_eq!(rt; verdict(rt.alloc(), code, &[]), Ok(budget));
+        assert_eq!(rt; verdict_on_body(rt.alloc(), code, &[]), Ok(budget));
+    }
+}
+
+#[test]
+fn refused_code(rt: HostRuntime) {
+    for (code, refusal, place) in [
+        ([].as_slice(), Refusal::FallsOff, 0),
+        ([Instr::Or, Instr::End].as_slice(), Refusal::EmptyStack, 0),
+        (
+            [Instr::Zero, Instr::Not, Instr::End].as_slice(),
+            Refusal::WrongKind,
+            1,
+        ),
+        (
+            [Instr::Load(0), Instr::Drop, Instr::End].as_slice(),
+            Refusal::BadSlot,
+            0,
+        ),
+        (
+            [Instr::Flag(true), Instr::JumpIf(1), Instr::End].as_slice(),
+            Refusal::BadJump,
+            1,
+        ),
+        (
+            [Instr::Flag(true), Instr::JumpIf(3), Instr::End].as_slice(),
+            Refusal::BadJump,
+            1,
+        ),
+        (
+            [Instr::Flag(true), Instr::JumpIf(3), Instr::Zero, Instr::End].as_slice(),
+            Refusal::ShapesDiffer,
+            3,
+        ),
+        (
+            [Instr::Text(0), Instr::Run, Instr::End].as_slice(),
+            Refusal::NotHolding,
+            1,
+        ),
+        ([Instr::Take, Instr::End].as_slice(), Refusal::Holding, 1),
+        (
+            [Instr::Stat(1), Instr::Drop, Instr::End].as_slice(),
+            Refusal::BadFile,
+            0,
+        ),
+        (
+            [Instr::Text(1), Instr::Drop, Instr::End].as_slice(),
+            Refusal::BadText,
+            0,
+        ),
+        ([Instr::Zero, Instr::Drop].as_slice(), Refusal::FallsOff, 1),
+        (
+            [Instr::Jump(2), Instr::End, Instr::End].as_slice(),
+            Refusal::DeadCode,
+            1,
+        ),
+        ([Instr::Zero, Instr::End].as_slice(), Refusal::ValuesLeft, 1),
+    ] {
+        let fault = VerifyFault::Refused(refusal, 0, place);
+        assert_eq!(rt; verdict(rt.alloc(), code, &[]), Err(fault));
+        assert_eq!(rt; verdict_on_body(rt.alloc(), code, &[]), Err(fault));
+    }
+}
+
+#[test]
+fn own_slots(rt: HostRuntime) {
+    let stamp = [Slot {
+        owner: 0,
+        kind: Kind::Stamp,
+    }];
+    let store = [Instr::Zero, Instr::Store(0), Instr::End];
+    assert_eq!(rt;
+        verdict(rt.alloc(), store.as_slice(), stamp.as_slice()),
+        Ok(4)
+    );
+    let load = [Instr::Load(0), Instr::Drop, Instr::End];
+    assert_eq!(rt;
+        verdict(rt.alloc(), load.as_slice(), stamp.as_slice()),
+        Err(VerifyFault::Refused(Refusal::UnsetSlot, 0, 0))
+    );
+    let end = [Instr::End];
+    assert_eq!(rt;
+        verdict(rt.alloc(), end.as_slice(), stamp.as_slice()),
+        Err(VerifyFault::Refused(Refusal::UnsetSlot, 0, 0))
+    );
+    let paths = [Slot {
+        owner: 0,
+        kind: Kind::Paths,
+    }];
+    assert_eq!(rt;
+        verdict(rt.alloc(), end.as_slice(), paths.as_slice()),
+        Err(VerifyFault::Refused(Refusal::PathsInSlot, 0, 0))
+    );
+    let foreign = [Slot {
+        owner: 1,
+        kind: Kind::Stamp,
+    }];
+    assert_eq!(rt;
+        verdict(rt.alloc(), end.as_slice(), foreign.as_slice()),
+        Err(VerifyFault::Refused(Refusal::BadSlot, 0, 0))
+    );
+}
+
+#[test]
+fn stack_of_65(rt: HostRuntime) -> Result<(), Fail> {
+    let mut code = vec![in rt.alloc(); Instr::Zero; 65]?;
+    code.push(Instr::End)?;
+    assert_eq!(rt;
+        verdict(rt.alloc(), &code, &[]),
+        Err(VerifyFault::Refused(Refusal::TooDeep, 0, 64))
+    );
+    Ok(())
+}
+
+/// What the verifier says where edge 1 loads the slot of edge 0.
+fn verdict_on_two(alloc: Global, rank: u32, waits: &[u32]) -> Result<u64, VerifyFault> {
+    let store = [Instr::Zero, Instr::Store(0), Instr::End];
+    let load = [Instr::Load(0), Instr::Drop, Instr::End];
+    let mut edges = Vec::new(alloc);
+    let own = EdgeCode::Own(Items::new(Vec::from_slice(alloc, store.as_slice())?));
+    edges.push(edge(alloc, 0, &[], own)?)?;
+    let own = EdgeCode::Own(Items::new(Vec::from_slice(alloc, load.as_slice())?));
+    edges.push(edge(alloc, rank, waits, own)?)?;
+    let slots = [Slot {
+        owner: 0,
+        kind: Kind::Stamp,
+    }];
+    verdict_on(alloc, parts_of(alloc, slots.as_slice(), edges)?)
+}
+
+#[test]
+fn slots_of_waits(rt: HostRuntime) {
+    assert_eq!(rt; verdict_on_two(rt.alloc(), 1, &[0]), Ok(8));
+    assert_eq!(rt;
+        verdict_on_two(rt.alloc(), 1, &[]),
+        Err(VerifyFault::Refused(Refusal::BadSlot, 1, 0))
+    );
+    assert_eq!(rt;
+        verdict_on_two(rt.alloc(), 0, &[0]),
+        Err(VerifyFault::Refused(Refusal::BadWait, 1, 0))
+    );
+    assert_eq!(rt;
+        verdict_on_two(rt.alloc(), 1, &[2]),
+        Err(VerifyFault::Refused(Refusal::BadWait, 1, 0))
+    );
+}
+
+/// The tables of one edge whose code is `End`.
+fn plain_parts(alloc: Global) -> Result<Parts, AllocError> {
+    let own = EdgeCode::Own(Items::new(Vec::from_slice(alloc, [Instr::End].as_slice())?));
+    let mut edges = Vec::new(alloc);
+    edges.push(edge(alloc, 0, &[], own)?)?;
+    parts_of(alloc, &[], edges)
+}
+
+#[test]
+fn tables_outside(rt: HostRuntime) -> Result<(), Fail> {
+    let mut parts = plain_parts(rt.alloc())?;
+    parts.defaults = Items::new(Vec::from_slice(rt.alloc(), [1].as_slice())?);
+    assert_eq!(rt;
+        verdict_on(rt.alloc(), parts),
+        Err(VerifyFault::Refused(Refusal::BadWait, 0, 0))
+    );
+    let mut parts = plain_parts(rt.alloc())?;
+    parts.texts = RowList::new(rt.alloc());
+    assert_eq!(rt;
+        verdict_on(rt.alloc(), parts),
+        Err(VerifyFault::Refused(Refusal::BadText, 0, 0))
+    );
+    let mut parts = plain_parts(rt.alloc())?;
+    parts.files = RowList::new(rt.alloc());
+    assert_eq!(rt;
+        verdict_on(rt.alloc(), parts),
+        Err(VerifyFault::Refused(Refusal::BadFile, 0, 0))
+    );
+    Ok(())
+}
+
+/// The tables of three edges that take a place of pool 0, of which there are some.
+fn pooled_parts(alloc: Global, pools: Vec<Pool>) -> Result<Parts, AllocError> {
+    let code = [
+        Instr::Take,
+        Instr::Text(0),
+        Instr::Run,
+        Instr::Release,
+        Instr::End,
+    ];
+    let mut edges = Vec::new(alloc);
+    for _ in 0..3 {
+        let own = EdgeCode::Own(Items::new(Vec::from_slice(alloc, code.as_slice())?));
+        let mut one = edge(alloc, 0, &[], own)?;
+        one.pool = Some(0);
+        edges.push(one)?;
+    }
+    let mut parts = parts_of(alloc, &[], edges)?;
+    parts.pools = Items::new(pools);
+    Ok(parts)
+}
+
+#[test]
+fn pool_of_one(rt: HostRuntime) -> Result<(), Fail> {
+    let mut pools = Vec::new(rt.alloc());
+    pools.push(Pool {
+        name: Items::new(Vec::from_slice(rt.alloc(), b"p")?),
+        depth: 1,
+    })?;
+    assert_eq!(rt;
+        verdict_on(rt.alloc(), pooled_parts(rt.alloc(), pools)?),
+        Ok(21)
+    );
+    let parts = pooled_parts(rt.alloc(), Vec::new(rt.alloc()))?;
+    assert_eq!(rt;
+        verdict_on(rt.alloc(), parts),
+        Err(VerifyFault::Refused(Refusal::BadPool, 0, 0))
+    );
+    Ok(())
+}
+
+/// The bytes of the image that comes back, accepted or refused.
+fn bytes_back(alloc: Global, parts: Parts) -> Result<Vec<u8>, Memory> {
+    let Ok(image) = Image::new(parts) else {
+        return Err(Memory);
+    };
+    match verify(alloc, image) {
+        Ok(verified) => write_image(alloc, verified.image()),
+        Err((image, _)) => write_image(alloc, &image),
+    }
+}
+
+#[test]
+fn images_come_back(rt: HostRuntime) -> Result<(), Fail> {
+    let image =
+        b"PLANIMG\x01\0\0\0\x01\0\0\0\x01x\0\0\0\x01\0\x01a\0\0\0\0\0\0\0\0\0\0\0\x01\0\0\0\0\0\0\0\0\0\0\0\0\0\0\0\0\x01\0\0\0\0\0\0\0\0\0\0\0\x01\0\0\0\0\x01\0\0\0\0";
+    let mut parts = plain_parts(rt.alloc())?;
+    let Ok(bytes) = bytes_back(rt.alloc(), parts) else {
+        panic!(rt; "no memory");
+    };
+    assert!(rt; bytes.as_slice() == image.as_slice());
+    parts = plain_parts(rt.alloc())?;
+    parts.defaults = Items::new(Vec::from_slice(rt.alloc(), [7].as_slice())?);
+    let Ok(bytes) = bytes_back(rt.alloc(), parts) else {
+        panic!(rt; "no memory");
+    };
+    assert!(rt; bytes.len() == image.len());
+    Ok(())
+}
+
+#[test]
+fn numbers(rt: HostRuntime) {
+    let fault = VerifyFault::Refused(Refusal::ValuesLeft, 3, 5);
+    assert_eq!(rt;
+        (fault.number(), fault.edge(), fault.place()),
+        (87, Some(3), Some(5))
+    );
+    let memory = VerifyFault::Memory;
+    assert_eq!(rt;
+        (memory.number(), memory.edge(), memory.place()),
+        (86, None, None)
+    );
+    assert_eq!(rt; Refusal::EmptyStack.number(), 70);
+}
