@@ -120,7 +120,9 @@ fn each_bit_flipped(rt: HostRuntime) -> Result<(), Fail> {
 /// The fault of an image where one byte is another.
 fn with_byte(alloc: Global, bytes: &[u8], at: usize, byte: u8) -> Result<Option<ImageFault>, Fail> {
     let mut turned = Vec::from_slice(alloc, bytes)?;
-    turned[at] = byte;
+    if let Some(place) = turned.get_mut(at) {
+        *place = byte;
+    }
     Ok(fault_of(alloc, &turned))
 }
 
