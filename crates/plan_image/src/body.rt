@@ -3,12 +3,12 @@
 ghost use Rattle.std.specs.Prelude.{◌≡◌, ◌+◌, ◌<◌, ◌≤◌, ◌^◌, ◌∷◌, ◌++◌, [], length, List, IfOk, OnOk, slice_get, get_or};
 ghost use Rattle.plan_image.specs.declared.instr.BodyInstr.{BodyInstr};
 ghost use Rattle.plan_image.specs.Bodies.{opens, ranks_from, with_operands, put, IsSplit, body_of, operands_of, open_operand};
+ghost use Rattle.plan_image.specs.Spelling.{BodiesHaveSpelling};
 
+use crate::instr::{BodyInstr, Instr, Opening};
+use plan_text::{Items, Memory};
 use std::alloc::{AllocError, Global};
 use std::marker::Model;
-
-use plan_text::{Items, Memory};
-use crate::instr::{BodyInstr, Instr, Opening};
 
 /// Instructions, some of whose numbers stand in the edges.
 #[derive(Debug, Drop)]
@@ -70,7 +70,11 @@ impl Body {
             ranks.push(open_count)?;
             open_count = next_rank(open_count, instr);
         }
-        Ok(Body { instrs, ranks, open_count })
+        Ok(Body {
+            instrs,
+            ranks,
+            open_count,
+        })
     }
 
     pub fn len(&self) -> usize
@@ -195,8 +199,8 @@ pub fn split(alloc: Global, code: &[Instr]) -> Result<(Body, Items<u32>), Memory
     Ok((body, Items::new(numbers)))
 }
 
-/// Each code is its body with its numbers put in.
+/// Each code is its body with its numbers put in, and its body has a spelling, as far as its instructions go.
 pub fn split_law()
-    ensures { IsSplit }
-{
-}
+    ensures split { IsSplit }
+    ensures spelling { BodiesHaveSpelling }
+{}

@@ -5,13 +5,12 @@ ghost use Rattle.plan_image.specs.Bodies.{with_operands};
 ghost use Rattle.plan_image.specs.Code.{instrs_of, body};
 ghost use Rattle.plan_image.specs.Spelling.{HasSpelling, IsPrefixFree};
 
-use std::marker::Model;
-
-use plan_text::{Items, RowList};
 use crate::body::Body;
 use crate::fault::ImageFault;
 use crate::instr::{Instr, Kind};
 use crate::limits::{is_filled, is_in_order, is_within_limits};
+use plan_text::{Items, RowList};
+use std::marker::Model;
 
 #[derive(Clone, Copy, Debug, PartialEq, Eq)]
 pub enum Sort {
@@ -112,11 +111,21 @@ fn instr_of(bodies: &Option<Items<Body>>, code: &EdgeCode, place: usize) -> Opti
 {
     match code {
         EdgeCode::Own(instrs) => instrs.as_slice().get(place).copied(),
-        EdgeCode::Shared(number, numbers) => filled_instr(bodies, *number, numbers.as_slice(), place),
+        EdgeCode::Shared(number, numbers) => filled_instr(
+            bodies,
+            *number,
+            numbers.as_slice(),
+            place,
+        ),
     }
 }
 
-fn filled_instr(bodies: &Option<Items<Body>>, number: u32, numbers: &[u32], place: usize) -> Option<Instr>
+fn filled_instr(
+    bodies: &Option<Items<Body>>,
+    number: u32,
+    numbers: &[u32],
+    place: usize,
+) -> Option<Instr>
     ensures { result ≡ slice_get (with_operands (body bodies.now number) numbers.now) place }
 {
     match bodies {
@@ -217,5 +226,4 @@ impl Image {
 /// No spelling of an image begins another.
 pub fn image_law()
     ensures { IsPrefixFree }
-{
-}
+{}

@@ -15,9 +15,11 @@ mod writing;
 pub use body::{Body, split, split_law};
 pub use fault::ImageFault;
 pub use image::{Edge, EdgeCode, Image, Parts, Pool, Slot, Sort, Version, image_law};
+pub use instr::{BodyInstr, Instr, Kind, Opening};
 pub use lister::{WriteFault, listing};
 pub use makers::edge_of;
 pub use reading::read_image;
-pub use instr::{BodyInstr, Instr, Kind, Opening};
-
 pub use writing::write_image;
+
+#[cfg(test)]
+mod tests;

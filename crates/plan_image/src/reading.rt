@@ -30,7 +30,9 @@ fn read_within_limit(alloc: Global, bytes: &[u8]) -> Result<Parts, ImageFault>
     match read_whole(alloc, bytes) {
         Ok(parts) => Ok(parts),
         Err(ReadFault::Memory) => Err(ImageFault::Memory),
-        Err(ReadFault::Stop(stop)) => Err(stop.cause.at(bytes.len().saturating_sub(stop.left) as u64)),
+        Err(ReadFault::Stop(stop)) => Err(
+            stop.cause.at(bytes.len().saturating_sub(stop.left) as u64),
+        ),
     }
 }
 
