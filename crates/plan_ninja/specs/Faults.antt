@@ -15,6 +15,8 @@ use Rattle.plan_graph.specs.declared.fault.GraphFault.{GraphFault}
 use Rattle.plan_graph.specs.declared.fault.GraphFault.TheVariants as graph
 use Rattle.plan_image.specs.Faults as images
 use Rattle.plan_image.specs.declared.fault.ImageFault.{ImageFault}
+use Rattle.plan_verify.specs.Faults as verdicts
+use Rattle.plan_verify.specs.declared.fault.VerifyFault.{VerifyFault}
 use Rattle.plan_ninja.specs.declared.fault.PlanFault.{PlanFault}
 
 -- a space, a path and an offset in it
@@ -77,6 +79,15 @@ at_offset (Some offset) = codes " at " ++ decimal offset
 -- why bytes are no image, as the program prints it
 abbrev pub printed_image_fault : ImageFault → PlanFault
 printed_image_fault fault = record { number = images.number_of fault; rest = at_offset (images.offset_of fault) }
+
+-- the edge and the place in its code, where there are any
+abbrev pub at_edge : Option ℕ → Option ℕ → List ℕ
+at_edge (Some edge) (Some place) = codes " at edge " ++ decimal edge ++ codes " place " ++ decimal place
+at_edge edge place = []
+
+-- why an image can't be run, as the program prints it
+abbrev pub printed_verify_fault : VerifyFault → PlanFault
+printed_verify_fault fault = record { number = verdicts.number_of fault; rest = at_edge (verdicts.edge_of fault) (verdicts.place_of fault) }
 
 -- a file that can't be read
 abbrev pub file_fault : List ℕ → PlanFault

@@ -13,6 +13,8 @@ pub enum Request<'a> {
     Commands(&'a str),
     /// The listing of the image at this path.
     Dump(&'a str),
+    /// The verdict on the image at this path.
+    Verify(&'a str),
 }
 
 /// What `--version` prints behind the program's name.
@@ -41,6 +43,16 @@ instruction. Whether the image can be run is not asked: `verify` says that.
 Where the bytes are no image nothing is printed but the reason, on standard error and with status 2: \
 `plan: NUMBER NAME at OFFSET`, the offset in bytes from 0.";
 
+const VERIFY_ABOUT: &str = "Says whether a plan image can be run without a step that goes wrong";
+
+const VERIFY_LONG_ABOUT: &str = "\
+Reads a plan image of either version and checks its tables and the code of each edge. An image that passes is proved never \
+to go wrong when it is run; printed is `ok EDGES BUDGET`: how many edges it has, and how many events they have at most, \
+but for those that dependencies bring.
+
+Else nothing is printed but the first check that fails, on standard error and with status 2: \
+`plan: NUMBER NAME at edge E place P`.";
+
 const IMAGE_HELP: &str = "The plan image to read";
 
 /// A command that reads one file.
@@ -66,13 +78,16 @@ fn program_command<'a>(alloc: Global) -> Result<Command<'a>, AllocError> {
     let commands = file_command(alloc, "commands", about, ("FILE", FILE_HELP))?;
     let about = (DUMP_ABOUT, DUMP_LONG_ABOUT);
     let dump = file_command(alloc, "dump", about, ("IMG", IMAGE_HELP))?;
+    let about = (VERIFY_ABOUT, VERIFY_LONG_ABOUT);
+    let verify = file_command(alloc, "verify", about, ("IMG", IMAGE_HELP))?;
     Command::new(alloc, "plan_ninja")
         .about(ABOUT)
         .version(VERSION)
         .subcommand_required(true)
         .arg_required_else_help(true)
         .subcommand(commands)?
-        .subcommand(dump)
+        .subcommand(dump)?
+        .subcommand(verify)
 }
 
 /// The error of words that can't be read: one that is no text, or want of memory.
@@ -101,6 +116,7 @@ pub fn request_in<'a>(alloc: Global, words: &'a [String]) -> Result<Request<'a>,
     let request = match matches.subcommand() {
         Some(("commands", found)) => found.get_str("FILE").map(Request::Commands),
         Some(("dump", found)) => found.get_str("IMG").map(Request::Dump),
+        Some(("verify", found)) => found.get_str("IMG").map(Request::Verify),
         _ => return Err(command.error(ErrorKind::MissingSubcommand, "a command is missing")?),
     };
     match request {

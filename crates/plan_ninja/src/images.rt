@@ -1,4 +1,4 @@
-//! The commands `dump` and `verify`, which read an image.
+//! Images read from a source, and the command `dump`.
 
 ghost use Rattle.std.specs.Prelude.{◌≡◌, ◌⊎◌, IfOk, IfErr, OnOk};
 ghost use Rattle.plan_scope.specs.Loading.{IsMissing};
@@ -13,7 +13,7 @@ use std::alloc::Global;
 use std::mem::forget;
 
 /// The image at the path. The bytes of the file are freed.
-fn image_at<S: Source>(alloc: Global, source: &mut S, path: &[u8]) -> Result<Image, PlanFault>
+pub fn image_at<S: Source>(alloc: Global, source: &mut S, path: &[u8]) -> Result<Image, PlanFault>
     ensures image { IfOk result (λ image. IsImageAt (S.gives source.old) path.now image) }
     ensures read { OnOk result (S.failures source.new ≡ S.failures source.old) }
     ensures refused { let missing = IsMissing (S.gives source.old) (S.fails source.old) (S.failures source.old) (S.failures source.new) in

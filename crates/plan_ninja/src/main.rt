@@ -13,12 +13,14 @@ mod image_fault;
 mod images;
 #[cfg(test)]
 mod tests;
+mod verdicts;
 
 use crate::command_line::{Request, request_in, words_in};
 use crate::commands::do_commands;
 use crate::fault::{PlanFault, no_memory, output_fault};
 use crate::files::{FileSource, IMAGE_BYTES, MANIFEST_BYTES};
 use crate::images::do_dump;
+use crate::verdicts::do_verify;
 use clap::Error;
 use clap::error::ErrorKind;
 use plan_text::{Counted, Sink};
@@ -42,6 +44,7 @@ fn answer<R: Files + AllocGlobal, W: Sink>(rt: &R, request: Request, out: &mut W
     match request {
         Request::Commands(path) => do_commands(alloc, &mut manifests, path.as_bytes(), out),
         Request::Dump(path) => do_dump(alloc, &mut images, path.as_bytes(), out),
+        Request::Verify(path) => do_verify(alloc, &mut images, path.as_bytes(), out),
     }
 }
 
