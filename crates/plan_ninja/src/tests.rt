@@ -1,6 +1,8 @@
 use crate::commands::do_commands;
 use crate::fault::{PlanFault, no_memory, output_fault, printed_fault};
 use crate::graph_fault::printed_graph_fault;
+use crate::images::do_dump;
+use crate::verdicts::do_verify;
 use plan_graph::GraphFault;
 use plan_scope::{Manifest, ScopeFault, Source, SourceFault};
 use plan_text::{Counted, Items, Sink, SinkFault, Tally};
@@ -12,6 +14,18 @@ const DEMO: &[u8] =
     b"rule demo\n  command = echo \"this is a demo of $foo\"\nbuild out: demo\n  foo = bar\n";
 
 const DEMO_OUTPUT: &[u8] = b"echo \"this is a demo of bar\"\n";
+
+/// An image of one edge without inputs, which does nothing, in version 2.
+const IMAGE: &[u8] = b"PLANIMG\x02\0\0\0\x01\0\0\0\x01x\0\0\0\x01\0\x01a\0\0\0\0\0\0\0\0\0\0\0\x01\0\0\0\x01\0\
+\0\0\0\x01\0\0\0\0\0\0\0\0\0\0\0\0\0\0\0\0\x01\0\0\0\0\0\0\0\0\0\0\0\0\0\0\0\x01\0\0\0\0";
+
+const LISTING: &[u8] = b"text 0 78\nfile 0 61\nbody 0\n  0 End\n\
+edge 0 command rank 0 pool - label 0 outputs 0 waits - body 0 operands -\ndefault 0\n";
+
+const VERDICT: &[u8] = b"ok 1 2\n";
+
+/// Where the edge's label ends, in the image.
+const LABEL: usize = 57;
 
 /// A file under any path; or a read that fails, where there is none.
 #[derive(Drop)]
@@ -44,6 +58,24 @@ impl Source for OneFile {
                 Err(SourceFault::Failed)
             }
         }
+    }
+}
+
+/// Bytes under any path.
+#[derive(Drop)]
+struct HeldFile {
+    bytes: Vec<u8>,
+}
+
+impl Source for HeldFile {
+    ghost gives = { λ _ _ _. Unit {0} };
+
+    ghost fails = { λ _ _. Unit {0} };
+
+    ghost failures = { λ _. 0 };
+
+    fn read(&mut self, alloc: Global, _path: &[u8]) -> Result<Vec<u8>, SourceFault> {
+        Vec::from_slice(alloc, &self.bytes).map_err(|_| SourceFault::Memory)
     }
 }
 
@@ -214,4 +246,83 @@ fn shows_faults(rt: HostRuntime) -> Result<(), Fail> {
         b"plan: 133 FileFault -\n",
     );
     Ok(())
+}
+
+#[test]
+fn prints_an_image(rt: HostRuntime) {
+    let mut out = Counted::new(Vec::new(rt.alloc()));
+    let status = do_dump(rt.alloc(), &mut OneFile::new(Some(IMAGE)), b"plan.img", &mut out);
+    assert!(rt; matches!(status, Ok(0)));
+    assert!(rt; out.into_writer().as_slice() == LISTING);
+}
+
+#[test]
+fn accepts_an_image(rt: HostRuntime) {
+    let mut out = Counted::new(Vec::new(rt.alloc()));
+    let status = do_verify(rt.alloc(), &mut OneFile::new(Some(IMAGE)), b"plan.img", &mut out);
+    assert!(rt; matches!(status, Ok(0)));
+    assert!(rt; out.into_writer().as_slice() == VERDICT);
+}
+
+/// Both commands say of these bytes that they are no image, and print nothing.
+fn assert_image_refused(rt: &impl Abort, alloc: Global, image: &'static [u8], line: &[u8]) {
+    let mut out = Counted::new(Vec::new(alloc));
+    match do_dump(alloc, &mut OneFile::new(Some(image)), b"plan.img", &mut out) {
+        Ok(_) => assert!(rt; false),
+        Err(fault) => assert_refused(rt, alloc, &fault, line),
+    }
+    match do_verify(alloc, &mut OneFile::new(Some(image)), b"plan.img", &mut out) {
+        Ok(_) => assert!(rt; false),
+        Err(fault) => assert_refused(rt, alloc, &fault, line),
+    }
+    assert!(rt; out.into_writer().is_empty());
+}
+
+#[test]
+fn says_where_an_image_is_refused(rt: HostRuntime) {
+    let alloc = rt.alloc();
+    assert_image_refused(&rt, alloc, b"PLANX", b"plan: 60 BadMagic at 0\n");
+    assert_image_refused(&rt, alloc, b"PLANIMG\x03", b"plan: 61 BadVersion at 7\n");
+    assert_image_refused(&rt, alloc, b"PLANIMG\x01", b"plan: 62 Truncated at 8\n");
+}
+
+#[test]
+fn says_which_check_fails(rt: HostRuntime) {
+    let alloc = rt.alloc();
+    let Ok(mut image) = Vec::from_slice(alloc, IMAGE) else {
+        assert!(rt; false);
+        return;
+    };
+    image[LABEL] = 1;
+    let mut out = Counted::new(Vec::new(alloc));
+    let mut source = HeldFile { bytes: image };
+    match do_verify(alloc, &mut source, b"plan.img", &mut out) {
+        Ok(_) => assert!(rt; false),
+        Err(fault) => assert_refused(&rt, alloc, &fault, b"plan: 81 BadText at edge 0 place 0\n"),
+    }
+    assert!(rt; out.into_writer().is_empty());
+}
+
+#[test]
+fn says_that_an_image_is_missing(rt: HostRuntime) {
+    let mut out = Counted::new(Vec::new(rt.alloc()));
+    match do_dump(rt.alloc(), &mut OneFile::new(None), b"a/b", &mut out) {
+        Ok(_) => assert!(rt; false),
+        Err(fault) => assert_refused(&rt, rt.alloc(), &fault, b"plan: 133 FileFault a/b\n"),
+    }
+}
+
+#[test]
+fn says_that_the_verdict_is_not_written(rt: HostRuntime) {
+    for left in 0..VERDICT.len() {
+        let mut out = Narrow {
+            left,
+            failures: Tally::new(),
+        };
+        match do_verify(rt.alloc(), &mut OneFile::new(Some(IMAGE)), b"plan.img", &mut out) {
+            Ok(_) => assert!(rt; false),
+            Err(fault) => assert_refused(&rt, rt.alloc(), &fault, b"plan: 133 FileFault -\n"),
+        }
+        assert!(rt; out.left == 0);
+    }
 }
