@@ -413,7 +413,7 @@ fn put_parts(out: &mut Vec<u8>, parts: &Parts) -> Result<(), AllocError>
     Ok(())
 }
 
-/// The one spelling of an image.
+/// The one spelling of an image, in the bytes of its version.
 pub fn write_image(alloc: Global, image: &Image) -> Result<Vec<u8>, Memory>
     ensures { IfOk result (λ v. v.items ≡ spelling image.now) }
 {
