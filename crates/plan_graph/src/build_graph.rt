@@ -12,11 +12,10 @@ use crate::edge_reader::read_edges;
 use crate::fault::GraphFault;
 use crate::files::Files;
 use crate::graph_data::Graph;
-use plan_text::RowList;
 use crate::waits::{add_producer, all_waits, ascend};
 use crate::walk::ranks;
 use plan_scope::{DefaultTarget, Edge, Manifest};
-use plan_text::Items;
+use plan_text::{Items, RowList};
 use std::alloc::Global;
 
 /// Whether the path of one of these numbers is no input of any edge.

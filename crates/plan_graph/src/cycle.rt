@@ -5,8 +5,7 @@ ghost use Rattle.plan_graph.specs.Cycles.{Chain, IsSimple};
 ghost use Rattle.plan_graph.specs.Walking.{TellsCycle};
 
 use crate::fault::GraphFault;
-use plan_text::RowList;
-use plan_text::Items;
+use plan_text::{Items, RowList};
 use std::alloc::{AllocError, Global};
 
 /// Where the least of these numbers stands.

@@ -11,9 +11,8 @@ ghost use Rattle.plan_graph.specs.declared.fault.GraphFault.TheVariants.{Memory,
 use crate::fault::GraphFault;
 use crate::files::{File, Files};
 use crate::graph_data::MAX_EDGES;
-use plan_text::RowList;
 use plan_scope::{DefaultTarget, Edge, Manifest};
-use plan_text::{Items, SmallText};
+use plan_text::{Items, RowList, SmallText};
 use std::alloc::{AllocError, Global};
 
 /// What is known past some build lines.

@@ -1,8 +1,7 @@
 //! What is known of all edges.
 
 use crate::files::Files;
-use plan_text::RowList;
-use plan_text::Items;
+use plan_text::{Items, RowList};
 
 /// The greatest number of edges of a manifest.
 pub const MAX_EDGES: usize = 1_048_576;

@@ -11,8 +11,8 @@ ghost use Rattle.plan_graph.specs.Graph.{all_waits, inputs_named, rows_of, waits
 use crate::edge_reader::{is_own, own_of};
 use crate::fault::GraphFault;
 use crate::files::Files;
-use plan_text::RowList;
 use plan_scope::Edge;
+use plan_text::RowList;
 use std::alloc::Global;
 
 /// Appends the producer of a path, unless it is the edge itself.

@@ -9,8 +9,7 @@ ghost use Rattle.plan_graph.specs.declared.mark.Mark.TheVariants as mark;
 use crate::cycle::cycle_from;
 use crate::fault::GraphFault;
 use crate::mark::{Mark, is_done, is_new};
-use plan_text::RowList;
-use plan_text::Items;
+use plan_text::{Items, RowList};
 use std::alloc::{AllocError, Global};
 use std::marker::Model;
 

@@ -9,6 +9,7 @@ use Rattle.plan_image.specs.declared.instr.Instr.{Instr}
 use Rattle.plan_image.specs.declared.instr.Instr.TheVariants as op
 use Rattle.plan_image.specs.declared.instr.BodyInstr.{BodyInstr}
 use Rattle.plan_image.specs.declared.instr.BodyInstr.TheVariants as member
+use Rattle.plan_image.specs.Spelling.{BodiesHaveSpelling, BodyInstrFits, InstrFits}
 use Rattle.plan_image.specs.Bodies.{opens, put, with_operands, ranks_from, leave_open, open_operand, body_of, operands_of, IsSplit, instr_with_rank}
 
 split_one : (i : Instr) (is : List Instr) → with_operands (body_of is) (operands_of is) ≡ is → with_operands (leave_open i ∷ body_of is) (open_operand i ++ operands_of is) ≡ i ∷ is
@@ -122,3 +123,39 @@ pub body_is_found : (bs : List (List BodyInstr)) (n : ℕ) (b : List BodyInstr) 
 body_is_found [] n b lt e = absurd (omega (arith, lt))
 body_is_found (x ∷ bs) zero b lt e = ap (λ (y : List BodyInstr). Some y) (sym e)
 body_is_found (x ∷ bs) (suc n) b lt e = body_is_found bs n b (omega (arith, lt)) e
+
+one_fits : (i : Instr) → InstrFits i → BodyInstrFits (leave_open i)
+one_fits op.End fits = (refl, fits)
+one_fits op.Older fits = (refl, fits)
+one_fits op.Newer fits = (refl, fits)
+one_fits op.Before fits = (refl, fits)
+one_fits op.Same fits = (refl, fits)
+one_fits op.IsMissing fits = (refl, fits)
+one_fits op.Or fits = (refl, fits)
+one_fits op.Not fits = (refl, fits)
+one_fits op.Zero fits = (refl, fits)
+one_fits op.NoPaths fits = (refl, fits)
+one_fits op.Join fits = (refl, fits)
+one_fits op.Equal fits = (refl, fits)
+one_fits op.Recall fits = (refl, fits)
+one_fits op.Sweep fits = (refl, fits)
+one_fits op.Take fits = (refl, fits)
+one_fits op.Release fits = (refl, fits)
+one_fits op.Run fits = (refl, fits)
+one_fits op.Deps fits = (refl, fits)
+one_fits op.Keep fits = (refl, fits)
+one_fits op.Drop fits = (refl, fits)
+one_fits op.Swap fits = (refl, fits)
+one_fits (op.Flag b) fits = (refl, fits)
+one_fits (op.Jump d) fits = (refl, fits)
+one_fits (op.JumpIf d) fits = (refl, fits)
+one_fits (op.Stat n) fits = tt
+one_fits (op.Need n) fits = tt
+one_fits (op.Load n) fits = tt
+one_fits (op.Store n) fits = tt
+one_fits (op.Text n) fits = tt
+
+-- a body has a spelling, as far as its instructions go
+pub bodies_fit : BodiesHaveSpelling
+bodies_fit [] fits = tt
+bodies_fit (i ∷ is) fits = (one_fits i fits.0, bodies_fit is fits.1)

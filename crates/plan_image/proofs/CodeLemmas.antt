@@ -356,8 +356,10 @@ body_table_law = record {
       (subst (λ (k : ℕ). Takes bytes (number k ++ flat_map body x.0) x.1) (sym b.1) both, record { count = rw b.1 a.2.0; each = all.0; instructions = omega (arith, all.1) });
   again = λ xs rest fits.
       ap body_table_at (append_assoc (number (length xs)) (flat_map body xs) rest)
-      ∙ rw ((up_to_law w32 (2 ^ 32) (2 ^ 20) wide32).again (length xs) (flat_map body xs ++ rest) (fits.count, omega (arith, fits.count)),
-        items_again body_at (λ used b. used + length b) body BodyAfter (λ used. (body_law used).again) xs 0 rest (bodies_after 0 xs fits.each (omega (arith, fits.instructions)))) refl;
+      ∙ rw (
+        (up_to_law w32 (2 ^ 32) (2 ^ 20) wide32).again (length xs) (flat_map body xs ++ rest) (fits.count, omega (arith, fits.count)),
+        items_again body_at (λ used b. used + length b) body BodyAfter (λ used. (body_law used).again) xs 0 rest (bodies_after 0 xs fits.each (omega (arith, fits.instructions))),
+      ) refl;
 }
 
 pub bodies_law : (v : Version) → IsReader (bodies_at v) bodies (λ o. (version_of o ≡ v) × IfSome o BodiesFit)

@@ -75,9 +75,10 @@ module _ (bs : List (List BodyInstr)) (used : ℕ) where
       let same : body (Some bs) n ≡ b = rw is refl in
       let len : length (with_operands (body (Some bs) n) m.0.0) ≡ length b = filled_len (body (Some bs) n) m.0.0 ∙ ap (λ (y : List BodyInstr). length y) same in
       let made : EdgeCode × List ℕ = (code_form.Shared n m.0.0, m.0.1) in
-      subst (λ (p : EdgeCode × List ℕ). Takes bytes (edge_code p.0) p.1 × CodeAfter (Some bs) used p.0) (ok_is made x m.2)
-      (Takes-then bytes (number n) rest (flat_map number m.0.0) m.0.1 t it.0,
-        record { most = rw len le; fits = (w, each_fits (number_at w32) number IsWord m.0.0 it.2); filled = (found_in bs n b is, it.1 ∙ ap opens (sym same)) })
+      subst (λ (p : EdgeCode × List ℕ). Takes bytes (edge_code p.0) p.1 × CodeAfter (Some bs) used p.0) (ok_is made x m.2) (
+        Takes-then bytes (number n) rest (flat_map number m.0.0) m.0.1 t it.0,
+        record { most = rw len le; fits = (w, each_fits (number_at w32) number IsWord m.0.0 it.2); filled = (found_in bs n b is, it.1 ∙ ap opens (sym same)) },
+      )
 
   pub shared_code_law : IsReader (shared_code_at bs used) edge_code (CodeAfter (Some bs) used)
   unfolding shared_code_at
@@ -93,7 +94,7 @@ module _ (bs : List (List BodyInstr)) (used : ℕ) where
         let b : List BodyInstr = body (Some bs) n in
         let le : length b ≤ 2 ^ 26 - used = omega (arith, fits.most, filled_len b ns) in
         let items : items_at (λ (s : Unit {0}). number_at w32) (λ s x. s) tt (opens b) (flat_map number ns ++ rest) ≡ Ok (ns, rest) =
-            subst (λ (k : ℕ). items_at (λ (s : Unit {0}). number_at w32) (λ s x. s) tt k (flat_map number ns ++ rest) ≡ Ok (ns, rest)) fits.filled.1 (counted_again word_law ns rest fits.fits.1) in
+        subst (λ (k : ℕ). items_at (λ (s : Unit {0}). number_at w32) (λ s x. s) tt k (flat_map number ns ++ rest) ≡ Ok (ns, rest)) fits.filled.1 (counted_again word_law ns rest fits.fits.1) in
         ap (shared_code_at bs used) (append_assoc (number n) (flat_map number ns) rest)
         ∙ rw (word_law.again n (flat_map number ns ++ rest) fits.fits.0, body_found bs n fits.filled.0, le-ltb (2 ^ 26 - used) (length b) le, items) refl
 
@@ -138,14 +139,16 @@ edge_law bs used = record {
   again = λ x rest fits.
       let regrouped : edge x ++ rest ≡ (sort_byte x.sort ∷ []) ++ (number (pool_number x.pool) ++ (number x.rank ++ (number x.label ++ (counted number x.outputs ++ (counted number x.waits ++ (edge_code x.code ++ rest)))))) = regroup7 (sort_byte x.sort ∷ []) (number (pool_number x.pool)) (number x.rank) (number x.label) (counted number x.outputs) (counted number x.waits) (edge_code x.code) rest in
       ap (edge_at bs used) regrouped
-      ∙ rw (sort_law.again x.sort (number (pool_number x.pool) ++ (number x.rank ++ (number x.label ++ (counted number x.outputs ++ (counted number x.waits ++ (edge_code x.code ++ rest)))))) tt,
+      ∙ rw (
+        sort_law.again x.sort (number (pool_number x.pool) ++ (number x.rank ++ (number x.label ++ (counted number x.outputs ++ (counted number x.waits ++ (edge_code x.code ++ rest)))))) tt,
         word_law.again (pool_number x.pool) (number x.rank ++ (number x.label ++ (counted number x.outputs ++ (counted number x.waits ++ (edge_code x.code ++ rest))))) fits.fits.pool,
         word_law.again x.rank (number x.label ++ (counted number x.outputs ++ (counted number x.waits ++ (edge_code x.code ++ rest)))) fits.fits.rank,
         word_law.again x.label (counted number x.outputs ++ (counted number x.waits ++ (edge_code x.code ++ rest))) fits.fits.label,
         numbers_law.again x.outputs (counted number x.waits ++ (edge_code x.code ++ rest)) fits.fits.outputs,
         ascending_law.again x.waits (edge_code x.code ++ rest) (fits.fits.waits, fits.waits),
         (code_law bs used).again x.code rest fits.code,
-        pool_again x.pool) refl;
+        pool_again x.pool,
+      ) refl;
 }
 
 abbrev AllAfter : Option (List (List BodyInstr)) → ℕ → List Edge → Type 0
@@ -182,6 +185,8 @@ edges_law bs = record {
       (subst (λ (k : ℕ). Takes bytes (number k ++ flat_map edge x.0) x.1) (sym b.1) both, record { count = rw b.1 a.2.0; each = all.0; waits = all.1; filled = all.2; instructions = omega (arith, all.3) });
   again = λ xs rest fits.
       ap (edges_at bs) (append_assoc (number (length xs)) (flat_map edge xs) rest)
-      ∙ rw ((up_to_law w32 (2 ^ 32) (2 ^ 20) wide32).again (length xs) (flat_map edge xs ++ rest) (fits.count, omega (arith, fits.count)),
-        items_again (edge_at bs) (used_after bs) edge (FitsAfter bs) (λ used. (edge_law bs used).again) xs 0 rest (all_after bs 0 xs fits.each fits.waits fits.filled (omega (arith, fits.instructions)))) refl;
+      ∙ rw (
+        (up_to_law w32 (2 ^ 32) (2 ^ 20) wide32).again (length xs) (flat_map edge xs ++ rest) (fits.count, omega (arith, fits.count)),
+        items_again (edge_at bs) (used_after bs) edge (FitsAfter bs) (λ used. (edge_law bs used).again) xs 0 rest (all_after bs 0 xs fits.each fits.waits fits.filled (omega (arith, fits.instructions))),
+      ) refl;
 }

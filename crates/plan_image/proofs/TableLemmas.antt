@@ -176,14 +176,16 @@ parts_again : (p : Parts) (rest : List ℕ) → PartsFit p → parts_at (spellin
 unfolding parts_at spelling
 parts_again p rest fits =
     ap parts_at (regroup8 (head (version_of p.bodies)) (counted long_text p.texts) (counted short_text p.files) (counted pool p.pools) (counted slot p.slots) (bodies p.bodies) (counted edge p.edges) (counted number p.defaults) rest)
-    ∙ rw (head_law.again (version_of p.bodies) (counted long_text p.texts ++ (counted short_text p.files ++ (counted pool p.pools ++ (counted slot p.slots ++ (bodies p.bodies ++ (counted edge p.edges ++ (counted number p.defaults ++ rest))))))) tt,
+    ∙ rw (
+      head_law.again (version_of p.bodies) (counted long_text p.texts ++ (counted short_text p.files ++ (counted pool p.pools ++ (counted slot p.slots ++ (bodies p.bodies ++ (counted edge p.edges ++ (counted number p.defaults ++ rest))))))) tt,
       texts_law.again p.texts (counted short_text p.files ++ (counted pool p.pools ++ (counted slot p.slots ++ (bodies p.bodies ++ (counted edge p.edges ++ (counted number p.defaults ++ rest)))))) fits.texts,
       files_law.again p.files (counted pool p.pools ++ (counted slot p.slots ++ (bodies p.bodies ++ (counted edge p.edges ++ (counted number p.defaults ++ rest))))) fits.files,
       pools_law.again p.pools (counted slot p.slots ++ (bodies p.bodies ++ (counted edge p.edges ++ (counted number p.defaults ++ rest)))) fits.pools,
       slots_law.again p.slots (bodies p.bodies ++ (counted edge p.edges ++ (counted number p.defaults ++ rest))) fits.slots,
       (bodies_law (version_of p.bodies)).again p.bodies (counted edge p.edges ++ (counted number p.defaults ++ rest)) (refl, fits.bodies),
       (edges_law p.bodies).again p.edges (counted number p.defaults ++ rest) fits.edges,
-      ascending_law.again p.defaults rest fits.defaults) refl
+      ascending_law.again p.defaults rest fits.defaults,
+    ) refl
 
 pub parts_law : IsReader parts_at spelling PartsFit
 parts_law = record { takes = parts_takes; again = parts_again }
@@ -257,5 +259,5 @@ pub refuses : (bytes : List ℕ) (e : ImageFault) → (e ≢ fault.Memory → re
 refuses bytes e h n p fits is =
     let one : read_of bytes ≡ Ok p = subst (λ (bs : List ℕ). read_of bs ≡ Ok p) is (read_again p fits) in
     apart p e (read_of bytes) one (h n) where
-  apart : (p : Parts) (e : ImageFault) (r : Result Parts ImageFault) → r ≡ Ok p → r ≡ Err e → ⊥
-  apart p e r is other = cc
+      apart : (p : Parts) (e : ImageFault) (r : Result Parts ImageFault) → r ≡ Ok p → r ≡ Err e → ⊥
+      apart p e r is other = cc

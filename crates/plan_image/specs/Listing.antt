@@ -138,7 +138,7 @@ code_words (code_form.Shared n ns) = shared_words n ns
 abbrev pub edge_words : ℕ → Edge → List ℕ
 edge_words n x =
     join_with_byte 32 (codes "edge" ∷ decimal n ∷ sort_word x.sort ∷ codes "rank" ∷ decimal x.rank ∷ codes "pool" ∷ pool_words x.pool ∷ codes "label" ∷ decimal x.label
-        ∷ codes "outputs" ∷ members x.outputs ∷ codes "waits" ∷ members x.waits ∷ [])
+    ∷ codes "outputs" ∷ members x.outputs ∷ codes "waits" ∷ members x.waits ∷ [])
 
 abbrev pub edge_lines : ℕ → Edge → List ℕ
 edge_lines n x = edge_words n x ++ code_words x.code

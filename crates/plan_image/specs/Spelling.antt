@@ -20,7 +20,7 @@ use Rattle.plan_image.specs.declared.instr.Opening.{Opening}
 use Rattle.plan_image.specs.declared.instr.Opening.TheVariants as opening
 use Rattle.plan_image.specs.declared.instr.BodyInstr.{BodyInstr}
 use Rattle.plan_image.specs.declared.instr.BodyInstr.TheVariants as member
-use Rattle.plan_image.specs.Bodies.{opening_of}
+use Rattle.plan_image.specs.Bodies.{body_of, opening_of}
 use Rattle.plan_image.specs.Code.{instrs_of, HasBody}
 
 -- ---- fields
@@ -199,6 +199,10 @@ BodyInstrFits (member.Open o) = Unit {0}
 
 abbrev pub BodyFits : List BodyInstr → Type 0
 BodyFits is = (length is ≤ 65536) × AllByRecursion BodyInstrFits is
+
+-- the body of a code whose numbers fit their fields has a spelling, as far as its instructions go
+abbrev pub BodiesHaveSpelling : Type 0
+BodiesHaveSpelling = (is : List Instr) → AllByRecursion InstrFits is → AllByRecursion BodyInstrFits (body_of is)
 
 pub record EdgeFits (x : Edge) : Type 0 where
   pub pool : IsWord (pool_number x.pool)

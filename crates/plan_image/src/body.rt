@@ -3,14 +3,16 @@
 ghost use Rattle.std.specs.Prelude.{◌≡◌, ◌+◌, ◌<◌, ◌≤◌, ◌^◌, ◌∷◌, ◌++◌, [], length, List, IfOk, OnOk, slice_get, get_or};
 ghost use Rattle.plan_image.specs.declared.instr.BodyInstr.{BodyInstr};
 ghost use Rattle.plan_image.specs.Bodies.{opens, ranks_from, with_operands, put, IsSplit, body_of, operands_of, open_operand};
+ghost use Rattle.plan_image.specs.Spelling.{BodiesHaveSpelling};
 
+use crate::instr::{BodyInstr, Instr, Opening};
+use plan_text::{Items, Memory};
 use std::alloc::{AllocError, Global};
 use std::marker::Model;
 
-use plan_text::{Items, Memory};
-use crate::instr::{BodyInstr, Instr, Opening};
-
-/// Instructions, some of whose numbers stand in the edges.
+/// A list of instructions that edges share, some of them open. A contract sees the list.
+///
+/// Beside each instruction stands how many open ones are before it, so that the operand of an open one costs one look.
 #[derive(Debug, Drop)]
 pub struct Body {
     instrs: Vec<BodyInstr>,
@@ -60,7 +62,7 @@ impl Body {
     ghost use Rattle.std.specs.Prelude.{◌≡◌, length, IfOk, slice_get};
     ghost use Rattle.plan_image.specs.Bodies.{opens, with_operands};
 
-    /// The body of these instructions.
+    /// The body of these instructions, in their order.
     pub fn new(alloc: Global, instrs: Vec<BodyInstr>) -> Result<Body, Memory>
         ensures { IfOk result (λ b. b ≡ instrs.items) }
     {
@@ -70,15 +72,21 @@ impl Body {
             ranks.push(open_count)?;
             open_count = next_rank(open_count, instr);
         }
-        Ok(Body { instrs, ranks, open_count })
+        Ok(Body {
+            instrs,
+            ranks,
+            open_count,
+        })
     }
 
+    /// How many instructions there are.
     pub fn len(&self) -> usize
         ensures { result ≡ length self.now }
     {
         self.instrs.len()
     }
 
+    /// The instructions, lent.
     pub fn as_slice(&self) -> &[BodyInstr]
         ensures { result.now ≡ self.now }
     {
@@ -92,14 +100,14 @@ impl Body {
         self.open_count
     }
 
-    /// How many instructions there are, with the numbers of an edge put in.
+    /// How many instructions there are, with the operands of an edge put in: as many as before.
     pub fn filled_len(&self, _numbers: &[u32]) -> usize
         ensures { result ≡ length (with_operands self.now _numbers.now) }
     {
         self.len()
     }
 
-    /// The instruction at a place, with the numbers of an edge put in.
+    /// The instruction at a place, counted from 0, with the operands of an edge put in; 0 for one that is missing.
     pub fn instr(&self, numbers: &[u32], place: usize) -> Option<Instr>
         ensures { result ≡ slice_get (with_operands self.now numbers.now) place }
     {
@@ -180,7 +188,7 @@ fn push_open(numbers: &mut Vec<u32>, instr: Instr) -> Result<(), AllocError>
     }
 }
 
-/// The body of a code, and the numbers for its open instructions.
+/// The body of a code, and the operands of its open instructions, in order.
 pub fn split(alloc: Global, code: &[Instr]) -> Result<(Body, Items<u32>), Memory>
     ensures body { IfOk result (λ x. x.0 ≡ body_of code.now) }
     ensures numbers { IfOk result (λ x. x.1 ≡ operands_of code.now) }
@@ -195,8 +203,9 @@ pub fn split(alloc: Global, code: &[Instr]) -> Result<(Body, Items<u32>), Memory
     Ok((body, Items::new(numbers)))
 }
 
-/// Each code is its body with its numbers put in.
+/// Each code is its body with its operands put in, as many as it has open instructions; and its body has a spelling, as
+/// far as its instructions go.
 pub fn split_law()
-    ensures { IsSplit }
-{
-}
+    ensures split { IsSplit }
+    ensures spelling { BodiesHaveSpelling }
+{}

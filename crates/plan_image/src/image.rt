@@ -5,32 +5,38 @@ ghost use Rattle.plan_image.specs.Bodies.{with_operands};
 ghost use Rattle.plan_image.specs.Code.{instrs_of, body};
 ghost use Rattle.plan_image.specs.Spelling.{HasSpelling, IsPrefixFree};
 
-use std::marker::Model;
-
-use plan_text::{Items, RowList};
 use crate::body::Body;
 use crate::fault::ImageFault;
 use crate::instr::{Instr, Kind};
 use crate::limits::{is_filled, is_in_order, is_within_limits};
+use plan_text::{Items, RowList};
+use std::marker::Model;
 
+/// What an edge is.
 #[derive(Clone, Copy, Debug, PartialEq, Eq)]
 pub enum Sort {
+    /// It has a command.
     Command,
+    /// It only waits.
     Phony,
 }
 
+/// A pool: its name, at most 65,535 bytes, and how many edges may hold a place of it, at most 1,000,000.
 #[derive(Debug, Drop)]
 pub struct Pool {
     pub name: Items<u8>,
     pub depth: u32,
 }
 
+/// A slot: the edge that sets it, and the kind of its value.
 #[derive(Clone, Copy, Debug, PartialEq, Eq)]
 pub struct Slot {
     pub owner: u32,
     pub kind: Kind,
 }
 
+/// An edge: its pool's number, its rank, its label (a text's number), the files that it makes (its name first), the
+/// edges that it waits for (ascending), and its code. An image says nothing of what the numbers lead to.
 #[derive(Debug, Drop)]
 pub struct Edge {
     pub sort: Sort,
@@ -42,21 +48,25 @@ pub struct Edge {
     pub code: EdgeCode,
 }
 
-/// The instructions of an edge.
+/// The instructions of an edge, in the form of the image's version.
 #[derive(Debug, Drop)]
 pub enum EdgeCode {
-    /// Its own.
+    /// Version 1: its own.
     Own(Items<Instr>),
-    /// A body by its number, and a number for each open instruction of it.
+    /// Version 2: a body by its number, and an operand for each open instruction of it.
     Shared(u32, Items<u32>),
 }
 
+/// The version of an image.
 #[derive(Clone, Copy, Debug, PartialEq, Eq)]
 pub enum Version {
+    /// Each edge has its own instructions.
     One,
+    /// Edges share bodies.
     Two,
 }
 
+/// The tables of an image; items are named by their places, from 0. docs/IMAGE.md has their limits.
 #[derive(Debug, Drop)]
 pub struct Parts {
     pub texts: RowList<u8>,
@@ -73,7 +83,7 @@ impl Parts {
     ghost use Rattle.std.specs.Prelude.{◌≡◌};
     ghost use Rattle.plan_image.specs.Spelling.{version_of};
 
-    /// Version two has a table of bodies.
+    /// The version: two where there is a table of bodies.
     pub fn version(&self) -> Version
         ensures { result ≡ version_of self.now.bodies }
     {
@@ -112,11 +122,21 @@ fn instr_of(bodies: &Option<Items<Body>>, code: &EdgeCode, place: usize) -> Opti
 {
     match code {
         EdgeCode::Own(instrs) => instrs.as_slice().get(place).copied(),
-        EdgeCode::Shared(number, numbers) => filled_instr(bodies, *number, numbers.as_slice(), place),
+        EdgeCode::Shared(number, numbers) => filled_instr(
+            bodies,
+            *number,
+            numbers.as_slice(),
+            place,
+        ),
     }
 }
 
-fn filled_instr(bodies: &Option<Items<Body>>, number: u32, numbers: &[u32], place: usize) -> Option<Instr>
+fn filled_instr(
+    bodies: &Option<Items<Body>>,
+    number: u32,
+    numbers: &[u32],
+    place: usize,
+) -> Option<Instr>
     ensures { result ≡ slice_get (with_operands (body bodies.now number) numbers.now) place }
 {
     match bodies {
@@ -128,7 +148,8 @@ fn filled_instr(bodies: &Option<Items<Body>>, number: u32, numbers: &[u32], plac
     }
 }
 
-/// Tables that have a spelling.
+/// Tables that have a spelling: within all limits, in order, each code of the version's form. A contract sees the
+/// tables.
 #[derive(Debug, Drop)]
 pub struct Image {
     parts: Parts,
@@ -152,7 +173,8 @@ impl Image {
     ghost use Rattle.plan_image.specs.Spelling.{HasSpelling};
     ghost use Rattle.plan_image.specs.Code.{code};
 
-    /// The image of these tables; else the tables back, and why.
+    /// The image of these tables; else the tables back, and why: `Limit` before `BadOrder` before `BadBody`, all at 0.
+    /// It takes no memory.
     pub fn new(parts: Parts) -> Result<Image, (Parts, ImageFault)>
         ensures made { IfOk result (λ i. i ≡ parts) }
         ensures back { IfErr result (λ e. e.0 ≡ parts) }
@@ -217,5 +239,4 @@ impl Image {
 /// No spelling of an image begins another.
 pub fn image_law()
     ensures { IsPrefixFree }
-{
-}
+{}

@@ -1,4 +1,14 @@
-//! Images: the tables of a build plan and the code of its edges.
+//! Images: the tables of a build plan and the code of its edges, in bytes and as text.
+//!
+//! - `read_image`: the image that bytes spell, or their first fault; `write_image`: its bytes; `listing`: its text.
+//! - `Image`: tables that have a spelling; `Parts`, `Edge`, `EdgeCode`, `Pool`, `Slot`, `Sort`, `Version`: the tables.
+//! - `Instr`, `Kind`: the instructions of an edge, and the kinds of their values. `Body`, `BodyInstr`, `Opening`:
+//!   bodies that edges share; `split`: the body of a code, and its operands.
+//! - `edge_of`: the edge that makes a path.
+//! - `ImageFault`: why bytes or tables are refused, with the offset; `WriteFault`: a write failed.
+//! - `image_law`, `split_law`: what holds of all images and bodies, for the proofs of the crates above.
+//!
+//! The format is this project's own choice; docs/IMAGE.md has it rule by rule.
 #![tactic(auto)]
 
 mod body;
@@ -15,9 +25,11 @@ mod writing;
 pub use body::{Body, split, split_law};
 pub use fault::ImageFault;
 pub use image::{Edge, EdgeCode, Image, Parts, Pool, Slot, Sort, Version, image_law};
+pub use instr::{BodyInstr, Instr, Kind, Opening};
 pub use lister::{WriteFault, listing};
 pub use makers::edge_of;
 pub use reading::read_image;
-pub use instr::{BodyInstr, Instr, Kind, Opening};
-
 pub use writing::write_image;
+
+#[cfg(test)]
+mod tests;

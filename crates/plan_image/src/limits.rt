@@ -1,3 +1,5 @@
+//! Whether tables have a spelling.
+
 ghost use Rattle.std.specs.Prelude.{◌≡◌, ◌<◌, ◌≤◌, ◌^◌, ◌+◌, ◌↔◌, IsTrue, length};
 ghost use Rattle.std.specs.Prelude.{Option, Some, None, IfSome};
 ghost use Rattle.std.specs.List.{AllByRecursion};
@@ -5,11 +7,11 @@ ghost use Rattle.plan_image.specs.Bodies.{opening_of, opens};
 ghost use Rattle.plan_image.specs.Code.{HasBody, body};
 ghost use Rattle.plan_image.specs.Spelling.{IsWord, AreWords, CodeFits, IsWithinLimits, CountsFit, ItemsFit, IsInOrder, RoomAfter, spelling, IsText, IsFileName, SlotFits, EdgeFits, PoolFits, instructions, pool_number, AscendsFrom, body_instructions, BodiesFit, IsFilled};
 
-use plan_text::{Items, RowList};
 use crate::body::Body;
 use crate::image::{Edge, EdgeCode, Parts, Pool, Slot, instr_count};
 use crate::instr::{BodyInstr, Instr};
 use crate::sizes::parts_room;
+use plan_text::{Items, RowList};
 
 /// What must hold of each item of a list.
 trait Test {
@@ -156,7 +158,8 @@ fn code_fits(code: &EdgeCode) -> bool
     ensures { IsTrue result ↔ CodeFits code.now }
 {
     match code {
-        EdgeCode::Own(instrs) => instrs.len() < 4_294_967_296 && all::<InstrTest>(instrs.as_slice()),
+        EdgeCode::Own(instrs) => instrs.len() < 4_294_967_296
+            && all::<InstrTest>(instrs.as_slice()),
         EdgeCode::Shared(number, numbers) => shared_fits(*number, numbers.as_slice()),
     }
 }
@@ -172,7 +175,8 @@ fn is_closed(instr: Instr) -> bool
     ensures { IsTrue result ↔ (opening_of instr ≡ None) }
 {
     match instr {
-        Instr::Stat(_) | Instr::Need(_) | Instr::Load(_) | Instr::Store(_) | Instr::Text(_) => false,
+        Instr::Stat(_) | Instr::Need(_) | Instr::Load(_) | Instr::Store(_) | Instr::Text(_) =>
+            false,
         _ => true,
     }
 }
@@ -225,7 +229,9 @@ fn bodies_within(bodies: &[Body], most: u64) -> bool
 fn table_fits(bodies: &Items<Body>) -> bool
     ensures { IsTrue result ↔ BodiesFit bodies.now }
 {
-    bodies.len() <= 1_048_576 && all::<BodyTest>(bodies.as_slice()) && bodies_within(bodies.as_slice(), 16_777_216)
+    bodies.len() <= 1_048_576
+        && all::<BodyTest>(bodies.as_slice())
+        && bodies_within(bodies.as_slice(), 16_777_216)
 }
 
 fn bodies_fit(bodies: &Option<Items<Body>>) -> bool
@@ -310,7 +316,10 @@ impl Test for EdgeTest {
     fn test(item: &Edge) -> bool {
         let _rank = item.rank;
         let _label = item.label;
-        pool_fits(item.pool) && are_words(&item.outputs) && are_words(&item.waits) && code_fits(&item.code)
+        pool_fits(item.pool)
+            && are_words(&item.outputs)
+            && are_words(&item.waits)
+            && code_fits(&item.code)
     }
 }
 
@@ -401,6 +410,10 @@ pub(crate) fn is_within_limits(parts: &Parts) -> bool
     counts_fit(parts)
         && items_fit(parts)
         && bodies_fit(&parts.bodies)
-        && instructions_within(&parts.bodies, parts.edges.as_slice(), most_code(&parts.bodies))
+        && instructions_within(
+            &parts.bodies,
+            parts.edges.as_slice(),
+            most_code(&parts.bodies),
+        )
         && fits_room(parts)
 }

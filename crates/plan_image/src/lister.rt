@@ -14,9 +14,8 @@ use crate::image::Image;
 use crate::lister::each::{Each, write_texts};
 use crate::lister::part::{Line, Part, Spaced, Word};
 use crate::lister::value::Members;
-use plan_text::{Items, RowList, Sink};
-
 pub use part::WriteFault;
+use plan_text::{Items, RowList, Sink};
 
 /// The texts of a table behind their word.
 #[derive(Drop)]

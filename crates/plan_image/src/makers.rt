@@ -1,3 +1,5 @@
+//! Which edge makes a path.
+
 ghost use Rattle.std.specs.Prelude.{◌≡◌};
 ghost use Rattle.plan_image.specs.Makers.{first_maker};
 
@@ -23,7 +25,7 @@ fn makes(parts: &Parts, path: &[u8], edge: &Edge) -> bool
     false
 }
 
-/// The least edge that has this path among its outputs.
+/// The least edge that has this path among its outputs, by one look at each output.
 pub fn edge_of(image: &Image, path: &[u8]) -> Option<u32>
     ensures { result ≡ first_maker image.now path.now 0 image.now.edges }
 {

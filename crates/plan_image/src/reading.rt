@@ -30,11 +30,14 @@ fn read_within_limit(alloc: Global, bytes: &[u8]) -> Result<Parts, ImageFault>
     match read_whole(alloc, bytes) {
         Ok(parts) => Ok(parts),
         Err(ReadFault::Memory) => Err(ImageFault::Memory),
-        Err(ReadFault::Stop(stop)) => Err(stop.cause.at(bytes.len().saturating_sub(stop.left) as u64)),
+        Err(ReadFault::Stop(stop)) => Err(
+            stop.cause.at(bytes.len().saturating_sub(stop.left) as u64),
+        ),
     }
 }
 
-/// The image that the bytes spell, all of the bytes.
+/// The image whose spelling the bytes are, all of them, of either version; else the first fault from left to right,
+/// with its offset. However large a count is, no more is reserved than the bytes behind it can fill.
 pub fn read_image(alloc: Global, bytes: &[u8]) -> Result<Image, ImageFault>
     // What is read is spelled so.
     ensures read { IfOk result (λ i. spelling i ≡ bytes.now) }

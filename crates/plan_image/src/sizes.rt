@@ -4,10 +4,10 @@ ghost use Rattle.std.specs.Prelude.{◌≡◌, ◌++◌, ℕ, length};
 ghost use Rattle.std.specs.List.{flat_map};
 ghost use Rattle.plan_image.specs.Spelling.{counted, number, spelling, edge_code, RoomAfter};
 
-use plan_text::{Items, RowList};
 use crate::body::Body;
 use crate::image::{Edge, EdgeCode, Parts, Pool, Slot};
 use crate::instr::{BodyInstr, Instr};
+use plan_text::{Items, RowList};
 
 /// What room is left behind an item.
 trait Measured {

@@ -4,10 +4,10 @@ ghost use Rattle.std.specs.Prelude.{◌≡◌, ◌<◌, ◌≤◌, ◌^◌, ◌+
 ghost use Rattle.std.specs.List.{flat_map, AllByRecursion};
 ghost use Rattle.plan_image.specs.Spelling.{number, counted, flag_byte, IsWord, edge_head, EdgeFits, HasSpelling, magic, spelling, edge_code, CodeFits, BodiesFit};
 
-use plan_text::{Items, Memory, RowList};
 use crate::body::Body;
 use crate::image::{Edge, EdgeCode, Image, Parts, Pool, Slot, Sort, Version};
 use crate::instr::{BodyInstr, Instr, Kind, Opening};
+use plan_text::{Items, Memory, RowList};
 use std::alloc::{AllocError, Global};
 
 /// How an item is spelled.
@@ -26,7 +26,11 @@ trait Speller {
         ensures { OnOk result (out.new.items ≡ out.old.items ++ spell self.now item.now) };
 }
 
-fn put_items<S: Speller>(out: &mut Vec<u8>, speller: &S, items: &[S::Item]) -> Result<(), AllocError>
+fn put_items<S: Speller>(
+    out: &mut Vec<u8>,
+    speller: &S,
+    items: &[S::Item],
+) -> Result<(), AllocError>
     requires { AllByRecursion S.fits items.now }
     ensures { OnOk result (out.new.items ≡ out.old.items ++ flat_map (S.spell speller.now) items.now) }
 {
@@ -49,7 +53,11 @@ fn put_number(out: &mut Vec<u8>, n: u32) -> Result<(), AllocError>
     out.extend_from_slice(&n.to_be_bytes())
 }
 
-fn put_counted<S: Speller>(out: &mut Vec<u8>, speller: &S, items: &Items<S::Item>) -> Result<(), AllocError>
+fn put_counted<S: Speller>(
+    out: &mut Vec<u8>,
+    speller: &S,
+    items: &Items<S::Item>,
+) -> Result<(), AllocError>
     requires len { length items.now < 2 ^ 32 }
     requires fits { AllByRecursion S.fits items.now }
     ensures { OnOk result (out.new.items ≡ out.old.items ++ counted (S.spell speller.now) items.now) }
@@ -67,6 +75,7 @@ impl Speller for Word {
     type Item = u32;
 
     ghost spell = { λ _. number };
+
     ghost fits = { λ _. Unit {0} };
 
     fn put(&self, out: &mut Vec<u8>, item: &u32) -> Result<(), AllocError> {
@@ -115,6 +124,7 @@ impl TextSpeller for LongText {
     ghost use Rattle.plan_image.specs.Spelling.{long_text};
 
     ghost spell = { long_text };
+
     ghost fits = { λ t. length t < 2 ^ 32 };
 
     fn put(out: &mut Vec<u8>, text: &[u8]) -> Result<(), AllocError> {
@@ -131,6 +141,7 @@ impl TextSpeller for ShortText {
     ghost use Rattle.plan_image.specs.Spelling.{short_text};
 
     ghost spell = { short_text };
+
     ghost fits = { λ t. length t < 2 ^ 16 };
 
     fn put(out: &mut Vec<u8>, text: &[u8]) -> Result<(), AllocError> {
@@ -147,6 +158,7 @@ impl Speller for PoolSpeller {
     type Item = Pool;
 
     ghost spell = { λ _. pool };
+
     ghost fits = { PoolFits };
 
     fn put(&self, out: &mut Vec<u8>, item: &Pool) -> Result<(), AllocError> {
@@ -175,6 +187,7 @@ impl Speller for SlotSpeller {
     type Item = Slot;
 
     ghost spell = { λ _. slot };
+
     ghost fits = { λ _. Unit {0} };
 
     fn put(&self, out: &mut Vec<u8>, item: &Slot) -> Result<(), AllocError> {
@@ -205,6 +218,7 @@ impl Speller for InstrSpeller {
     type Item = Instr;
 
     ghost spell = { λ _. instr };
+
     ghost fits = { λ _. Unit {0} };
 
     fn put(&self, out: &mut Vec<u8>, item: &Instr) -> Result<(), AllocError> {
@@ -262,6 +276,7 @@ impl Speller for BodyInstrSpeller {
     type Item = BodyInstr;
 
     ghost spell = { λ _. body_instr };
+
     ghost fits = { λ _. Unit {0} };
 
     fn put(&self, out: &mut Vec<u8>, item: &BodyInstr) -> Result<(), AllocError> {
@@ -280,6 +295,7 @@ impl Speller for BodySpeller {
     type Item = Body;
 
     ghost spell = { λ _. body };
+
     ghost fits = { BodyFits };
 
     fn put(&self, out: &mut Vec<u8>, item: &Body) -> Result<(), AllocError> {
@@ -325,6 +341,7 @@ impl Speller for EdgeSpeller {
     type Item = Edge;
 
     ghost spell = { λ _. edge };
+
     ghost fits = { EdgeFits };
 
     fn put(&self, out: &mut Vec<u8>, item: &Edge) -> Result<(), AllocError> {
@@ -396,7 +413,7 @@ fn put_parts(out: &mut Vec<u8>, parts: &Parts) -> Result<(), AllocError>
     Ok(())
 }
 
-/// The one spelling of an image.
+/// The one spelling of an image, in the bytes of its version.
 pub fn write_image(alloc: Global, image: &Image) -> Result<Vec<u8>, Memory>
     ensures { IfOk result (λ v. v.items ≡ spelling image.now) }
 {

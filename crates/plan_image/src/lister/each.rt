@@ -44,7 +44,11 @@ fn write_items<T: Listed, W: Sink>(items: &[T], out: &mut W) -> Result<(), Write
 }
 
 /// Writes a line for each text of a table: a word, the number, the bytes.
-pub(crate) fn write_texts<W: Sink>(word: &[u8], texts: &RowList<u8>, out: &mut W) -> Result<(), WriteFault>
+pub(crate) fn write_texts<W: Sink>(
+    word: &[u8],
+    texts: &RowList<u8>,
+    out: &mut W,
+) -> Result<(), WriteFault>
     ensures { Writes (is_ok result) (W.failures out.old, W.taken out.old) (W.failures out.new, W.taken out.new) (numbered (bytes_line word.now) 0 texts.now) }
 {
     writes_join();

@@ -9,7 +9,9 @@ use crate::image::{Edge, EdgeCode, Pool, Slot};
 use crate::instr::{BodyInstr, Instr, Opening};
 use crate::lister::each::{Each, Listed};
 use crate::lister::part::{Line, Number, Part, Spaced, Word, WriteFault, write_behind_space};
-use crate::lister::value::{Hex, Members, Operand, PoolNumber, letter_of, name_of, operand_of, word_of};
+use crate::lister::value::{
+    Hex, Members, Operand, PoolNumber, letter_of, name_of, operand_of, word_of,
+};
 use plan_text::Sink;
 
 /// `pool N HEX depth D`
@@ -97,8 +99,14 @@ impl Listed for Edge {
 
     fn write<W: Sink>(&self, number: usize, out: &mut W) -> Result<(), WriteFault> {
         let waits = Spaced(Word(b"waits"), Members(self.waits.as_slice()));
-        let outputs = Spaced(Word(b"outputs"), Spaced(Members(self.outputs.as_slice()), waits));
-        let label = Spaced(Word(b"label"), Spaced(Number(u64::from(self.label)), outputs));
+        let outputs = Spaced(
+            Word(b"outputs"),
+            Spaced(Members(self.outputs.as_slice()), waits),
+        );
+        let label = Spaced(
+            Word(b"label"),
+            Spaced(Number(u64::from(self.label)), outputs),
+        );
         let pool = Spaced(Word(b"pool"), Spaced(PoolNumber(self.pool), label));
         let rank = Spaced(Word(b"rank"), Spaced(Number(u64::from(self.rank)), pool));
         let sort = Spaced(Word(word_of(self.sort)), rank);

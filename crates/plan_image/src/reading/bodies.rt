@@ -22,7 +22,9 @@ impl InTurn for Bodies {
     type Item = Body;
 
     ghost item_at = { λ _. body_at };
+
     ghost next = { λ _ used b. used + length b };
+
     ghost most = { λ _. 2 ^ 24 };
 
     fn shortest(&self) -> usize {
@@ -30,7 +32,12 @@ impl InTurn for Bodies {
     }
 
     #[tactic(auto, unfolding(crate::specs::Reading::body_at))]
-    fn read<'a>(&self, alloc: Global, before: u64, bytes: &'a [u8]) -> Result<(Body, u64, &'a [u8]), ReadFault> {
+    fn read<'a>(
+        &self,
+        alloc: Global,
+        before: u64,
+        bytes: &'a [u8],
+    ) -> Result<(Body, u64, &'a [u8]), ReadFault> {
         let (count, rest) = read_u32_up_to(65_536, bytes)?;
         let left = 16_777_216 - before;
         if left < u64::from(count) {
@@ -43,7 +50,10 @@ impl InTurn for Bodies {
 }
 
 #[tactic(auto, unfolding(crate::specs::Reading::body_table_at))]
-pub(crate) fn read_body_table(alloc: Global, bytes: &[u8]) -> Result<(Items<Body>, &[u8]), ReadFault>
+pub(crate) fn read_body_table(
+    alloc: Global,
+    bytes: &[u8],
+) -> Result<(Items<Body>, &[u8]), ReadFault>
     ensures { Gives (λ x. (x.0, x.1.now)) result (body_table_at bytes.now) }
 {
     let (count, rest) = read_u32_up_to(1_048_576, bytes)?;
@@ -51,7 +61,11 @@ pub(crate) fn read_body_table(alloc: Global, bytes: &[u8]) -> Result<(Items<Body
 }
 
 #[tactic(auto, unfolding(crate::specs::Reading::bodies_at))]
-pub(crate) fn read_bodies(alloc: Global, version: Version, bytes: &[u8]) -> Result<(Option<Items<Body>>, &[u8]), ReadFault>
+pub(crate) fn read_bodies(
+    alloc: Global,
+    version: Version,
+    bytes: &[u8],
+) -> Result<(Option<Items<Body>>, &[u8]), ReadFault>
     ensures { Gives (λ x. (x.0, x.1.now)) result (bodies_at version bytes.now) }
 {
     match version {
@@ -61,7 +75,10 @@ pub(crate) fn read_bodies(alloc: Global, version: Version, bytes: &[u8]) -> Resu
 }
 
 #[tactic(auto, unfolding(crate::specs::Reading::bodies_at))]
-pub(crate) fn read_some_bodies(alloc: Global, bytes: &[u8]) -> Result<(Option<Items<Body>>, &[u8]), ReadFault>
+pub(crate) fn read_some_bodies(
+    alloc: Global,
+    bytes: &[u8],
+) -> Result<(Option<Items<Body>>, &[u8]), ReadFault>
     ensures { Gives (λ x. (x.0, x.1.now)) result (bodies_at Version.Two bytes.now) }
 {
     let (bodies, rest) = read_body_table(alloc, bytes)?;

@@ -16,7 +16,11 @@ use std::alloc::Global;
 
 /// Instructions that stand in the edge itself.
 #[tactic(auto, unfolding(crate::specs::Reading::own_code_at))]
-pub(crate) fn read_own_code(alloc: Global, used: u64, bytes: &[u8]) -> Result<(EdgeCode, &[u8]), ReadFault>
+pub(crate) fn read_own_code(
+    alloc: Global,
+    used: u64,
+    bytes: &[u8],
+) -> Result<(EdgeCode, &[u8]), ReadFault>
     requires { used ≤ 2 ^ 24 }
     ensures code { Gives (λ x. (x.0, x.1.now)) result (own_code_at used bytes.now) }
     ensures most { IfOk result (λ x. used + length (instrs_of None x.0) ≤ 2 ^ 24) }
@@ -28,7 +32,15 @@ pub(crate) fn read_own_code(alloc: Global, used: u64, bytes: &[u8]) -> Result<(E
 }
 
 /// The numbers for the open instructions of a body.
-pub(crate) fn read_operands<'a>(alloc: Global, used: u64, number: u32, len: usize, count: usize, bytes: &[u8], rest: &'a [u8]) -> Result<(EdgeCode, &'a [u8]), ReadFault>
+pub(crate) fn read_operands<'a>(
+    alloc: Global,
+    used: u64,
+    number: u32,
+    len: usize,
+    count: usize,
+    bytes: &[u8],
+    rest: &'a [u8],
+) -> Result<(EdgeCode, &'a [u8]), ReadFault>
     requires { used ≤ 2 ^ 26 }
     ensures code { Gives (λ x. (x.0, x.1.now)) result (numbers_for used number len count bytes.now rest.now) }
     ensures most { IfOk result (λ x. used + len ≤ 2 ^ 26) }
@@ -44,7 +56,12 @@ pub(crate) fn read_operands<'a>(alloc: Global, used: u64, number: u32, len: usiz
 
 /// The number of a body, and the numbers for its open instructions.
 #[tactic(auto, unfolding(crate::specs::Reading::shared_code_at))]
-pub(crate) fn read_shared_code<'a>(alloc: Global, bodies: &[Body], used: u64, bytes: &'a [u8]) -> Result<(EdgeCode, &'a [u8]), ReadFault>
+pub(crate) fn read_shared_code<'a>(
+    alloc: Global,
+    bodies: &[Body],
+    used: u64,
+    bytes: &'a [u8],
+) -> Result<(EdgeCode, &'a [u8]), ReadFault>
     requires { used ≤ 2 ^ 26 }
     ensures code { Gives (λ x. (x.0, x.1.now)) result (shared_code_at bodies.now used bytes.now) }
     ensures most { IfOk result (λ x. used + length (instrs_of (Some bodies.now) x.0) ≤ 2 ^ 26) }
@@ -52,12 +69,25 @@ pub(crate) fn read_shared_code<'a>(alloc: Global, bodies: &[Body], used: u64, by
     let (number, rest) = read_u32(bytes)?;
     match bodies.get(number as usize) {
         None => Err(stop_at(Cause::BadBody, bytes)),
-        Some(body) => read_operands(alloc, used, number, body.len(), body.open_count(), bytes, rest),
+        Some(body) => read_operands(
+            alloc,
+            used,
+            number,
+            body.len(),
+            body.open_count(),
+            bytes,
+            rest,
+        ),
     }
 }
 
 /// The code of an edge, as the version says.
-pub(crate) fn read_code<'a>(alloc: Global, bodies: &Option<Items<Body>>, used: u64, bytes: &'a [u8]) -> Result<(EdgeCode, &'a [u8]), ReadFault>
+pub(crate) fn read_code<'a>(
+    alloc: Global,
+    bodies: &Option<Items<Body>>,
+    used: u64,
+    bytes: &'a [u8],
+) -> Result<(EdgeCode, &'a [u8]), ReadFault>
     requires { used ≤ most_code bodies.now }
     ensures code { Gives (λ x. (x.0, x.1.now)) result (code_at bodies.now used bytes.now) }
     ensures most { IfOk result (λ x. used + length (instrs_of bodies.now x.0) ≤ most_code bodies.now) }
@@ -69,7 +99,12 @@ pub(crate) fn read_code<'a>(alloc: Global, bodies: &Option<Items<Body>>, used: u
 }
 
 #[tactic(auto, unfolding(crate::specs::Reading::edge_at))]
-pub(crate) fn read_edge<'a>(alloc: Global, bodies: &Option<Items<Body>>, used: u64, bytes: &'a [u8]) -> Result<(Edge, &'a [u8]), ReadFault>
+pub(crate) fn read_edge<'a>(
+    alloc: Global,
+    bodies: &Option<Items<Body>>,
+    used: u64,
+    bytes: &'a [u8],
+) -> Result<(Edge, &'a [u8]), ReadFault>
     requires { used ≤ most_code bodies.now }
     ensures edge { Gives (λ x. (x.0, x.1.now)) result (edge_at bodies.now used bytes.now) }
     ensures most { IfOk result (λ x. used + length (instrs_of bodies.now x.0.code) ≤ most_code bodies.now) }
@@ -110,14 +145,21 @@ impl InTurn for Edges {
     type Item = Edge;
 
     ghost item_at = { λ r. edge_at r.bodies };
+
     ghost next = { λ r. used_after r.bodies };
+
     ghost most = { λ r. most_code r.bodies };
 
     fn shortest(&self) -> usize {
         25
     }
 
-    fn read<'a>(&self, alloc: Global, before: u64, bytes: &'a [u8]) -> Result<(Edge, u64, &'a [u8]), ReadFault> {
+    fn read<'a>(
+        &self,
+        alloc: Global,
+        before: u64,
+        bytes: &'a [u8],
+    ) -> Result<(Edge, u64, &'a [u8]), ReadFault> {
         let (edge, rest) = read_edge(alloc, &self.bodies, before, bytes)?;
         let next = before + instr_count(&self.bodies, &edge.code) as u64;
         Ok((edge, next, rest))
@@ -125,7 +167,11 @@ impl InTurn for Edges {
 }
 
 #[tactic(auto, unfolding(crate::specs::Reading::edges_at))]
-pub(crate) fn read_edges<'a>(alloc: Global, reader: &Edges, bytes: &'a [u8]) -> Result<(Items<Edge>, &'a [u8]), ReadFault>
+pub(crate) fn read_edges<'a>(
+    alloc: Global,
+    reader: &Edges,
+    bytes: &'a [u8],
+) -> Result<(Items<Edge>, &'a [u8]), ReadFault>
     ensures { Gives (λ x. (x.0, x.1.now)) result (edges_at reader.now.bodies bytes.now) }
 {
     let (count, rest) = read_u32_up_to(1_048_576, bytes)?;

@@ -32,6 +32,7 @@ pub(crate) trait InTurn {
     type Item: Drop;
 
     ghost item_at: { Self → ℕ → List ℕ → Read Self.Item };
+
     ghost next: { Self → ℕ → Self.Item → ℕ };
     /// No state is above.
     ghost most: { Self → ℕ };
@@ -40,7 +41,12 @@ pub(crate) trait InTurn {
     fn shortest(&self) -> usize
         ensures { 0 < result };
 
-    fn read<'a>(&self, alloc: Global, before: u64, bytes: &'a [u8]) -> Result<(Self::Item, u64, &'a [u8]), ReadFault>
+    fn read<'a>(
+        &self,
+        alloc: Global,
+        before: u64,
+        bytes: &'a [u8],
+    ) -> Result<(Self::Item, u64, &'a [u8]), ReadFault>
         requires { before ≤ most self.now }
         ensures item { Gives (λ x. (x.0, x.2.now)) result (item_at self.now before bytes.now) }
         ensures next { IfOk result (λ x. x.1 ≡ next self.now before x.0) }
@@ -57,7 +63,9 @@ impl InTurn for Ascending {
     type Item = u32;
 
     ghost item_at = { λ _. next_at };
+
     ghost next = { λ _ least n. n + 1 };
+
     ghost most = { λ _. 2 ^ 32 };
 
     fn shortest(&self) -> usize {
@@ -65,7 +73,12 @@ impl InTurn for Ascending {
     }
 
     #[tactic(auto, unfolding(crate::specs::Reading::next_at))]
-    fn read<'a>(&self, _alloc: Global, before: u64, bytes: &'a [u8]) -> Result<(u32, u64, &'a [u8]), ReadFault> {
+    fn read<'a>(
+        &self,
+        _alloc: Global,
+        before: u64,
+        bytes: &'a [u8],
+    ) -> Result<(u32, u64, &'a [u8]), ReadFault> {
         let (number, rest) = read_u32(bytes)?;
         if u64::from(number) < before {
             return Err(stop_at(Cause::BadOrder, bytes));
@@ -81,7 +94,11 @@ pub(crate) fn room(count: usize, rest: &[u8], shortest: usize) -> usize
     count.min(rest.len() / shortest)
 }
 
-pub(crate) fn read_items<T: Spelled>(alloc: Global, count: usize, bytes: &[u8]) -> Result<(Items<T>, &[u8]), ReadFault>
+pub(crate) fn read_items<T: Spelled>(
+    alloc: Global,
+    count: usize,
+    bytes: &[u8],
+) -> Result<(Items<T>, &[u8]), ReadFault>
     ensures items { Gives (λ x. (x.0, x.1.now)) result (items_at (λ (s : Unit {0}). T.read_at) (λ s x. s) tt count bytes.now) }
     ensures len { IfOk result (λ x. length x.0 ≡ count) }
 {
@@ -95,7 +112,13 @@ pub(crate) fn read_items<T: Spelled>(alloc: Global, count: usize, bytes: &[u8]) 
     Ok((Items::new(items), rest))
 }
 
-pub(crate) fn read_in_turn<'a, R: InTurn>(alloc: Global, reader: &R, start: u64, count: u32, bytes: &'a [u8]) -> Result<(Items<R::Item>, &'a [u8]), ReadFault>
+pub(crate) fn read_in_turn<'a, R: InTurn>(
+    alloc: Global,
+    reader: &R,
+    start: u64,
+    count: u32,
+    bytes: &'a [u8],
+) -> Result<(Items<R::Item>, &'a [u8]), ReadFault>
     requires { start ≤ R.most reader.now }
     ensures { Gives (λ x. (x.0, x.1.now)) result (items_at (R.item_at reader.now) (R.next reader.now) start count bytes.now) }
 {
@@ -112,7 +135,11 @@ pub(crate) fn read_in_turn<'a, R: InTurn>(alloc: Global, reader: &R, start: u64,
 }
 
 #[tactic(auto, unfolding(crate::specs::Reading::table_at))]
-pub(crate) fn read_table<T: Spelled>(alloc: Global, most: u32, bytes: &[u8]) -> Result<(Items<T>, &[u8]), ReadFault>
+pub(crate) fn read_table<T: Spelled>(
+    alloc: Global,
+    most: u32,
+    bytes: &[u8],
+) -> Result<(Items<T>, &[u8]), ReadFault>
     ensures { Gives (λ x. (x.0, x.1.now)) result (table_at T.read_at most bytes.now) }
 {
     let (count, rest) = read_u32_up_to(most, bytes)?;

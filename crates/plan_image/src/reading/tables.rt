@@ -6,7 +6,9 @@ use crate::fault::Cause;
 use crate::image::{Parts, Pool, Slot, Version};
 use crate::reading::bodies::read_bodies;
 use crate::reading::edges::{Edges, read_edges};
-use crate::reading::fields::{read_byte, read_bytes, read_kind, read_u16, read_u32, read_u32_up_to};
+use crate::reading::fields::{
+    read_byte, read_bytes, read_kind, read_u16, read_u32, read_u32_up_to,
+};
 use crate::reading::items::{Spelled, read_ascending, read_table};
 use crate::reading::stop::{ReadFault, stop_at};
 use crate::reading::texts::{FileName, Text, read_texts};

@@ -68,7 +68,11 @@ impl TextField for FileName {
 }
 
 /// So many texts, one behind the other.
-fn read_rows<F: TextField>(alloc: Global, count: usize, bytes: &[u8]) -> Result<(RowList<u8>, &[u8]), ReadFault>
+fn read_rows<F: TextField>(
+    alloc: Global,
+    count: usize,
+    bytes: &[u8],
+) -> Result<(RowList<u8>, &[u8]), ReadFault>
     ensures { Gives (λ x. (x.0, x.1.now)) result (items_at (λ (s : Unit {0}). F.read_at) (λ s x. s) tt count bytes.now) }
 {
     let mut rows = RowList::new(alloc);
@@ -84,7 +88,11 @@ fn read_rows<F: TextField>(alloc: Global, count: usize, bytes: &[u8]) -> Result<
 
 /// A table of at most so many texts.
 #[tactic(auto, unfolding(crate::specs::Reading::table_at))]
-pub(crate) fn read_texts<F: TextField>(alloc: Global, most: u32, bytes: &[u8]) -> Result<(RowList<u8>, &[u8]), ReadFault>
+pub(crate) fn read_texts<F: TextField>(
+    alloc: Global,
+    most: u32,
+    bytes: &[u8],
+) -> Result<(RowList<u8>, &[u8]), ReadFault>
     ensures { Gives (λ x. (x.0, x.1.now)) result (table_at F.read_at most bytes.now) }
 {
     let (count, rest) = read_u32_up_to(most, bytes)?;

@@ -1,4 +1,4 @@
-use Rattle.std.proofs.Common.{◌∙◌, List, ℕ, ap, length, sym}
+use Rattle.std.proofs.Common.{◌∙◌, ap, length, sym}
 use Rattle.plan_text.proofs.RowListLemmas.{length_rows}
 use Rattle.plan_text.proofs.row_list.RowList.len.Goals as goal
 

@@ -1,0 +1,275 @@
+//! Each public function once, on values from outside.
+
+use super::*;
+use plan_text::{Counted, Items, RowList};
+use std::alloc::Global;
+use std::io::{self, Write};
+use std::test::Fail;
+
+/// One edge in version 1.
+const ONE_EDGE: [u8; 74] =
+    *b"PLANIMG\x01\0\0\0\x01\0\0\0\x01x\0\0\0\x01\0\x01a\0\0\0\0\0\0\0\0\0\0\0\x01\0\0\0\0\0\0\0\0\0\0\0\0\0\0\0\0\x01\0\0\0\0\0\0\0\0\0\0\0\x01\0\0\0\0\x01\0\0\0\0";
+
+/// The same in version 2.
+const ONE_SHARED: [u8; 82] =
+    *b"PLANIMG\x02\0\0\0\x01\0\0\0\x01x\0\0\0\x01\0\x01a\0\0\0\0\0\0\0\0\0\0\0\x01\0\0\0\x01\0\0\0\0\x01\0\0\0\0\0\0\0\0\0\0\0\0\0\0\0\0\x01\0\0\0\0\0\0\0\0\0\0\0\0\0\0\0\x01\0\0\0\0";
+
+/// A pool, a slot, two edges, and a body with open operands.
+const OPEN: [u8; 161] =
+    *b"PLANIMG\x02\0\0\0\0\0\0\0\x01\0\x02ab\0\0\0\x01\0\x01p\0\0\0\x02\0\0\0\x01\0\0\0\0\x02\0\0\0\x01\0\0\0\x06\x0c\x01\x04\x03\x14\0\0\0\x05\x02\x1b\0\0\0\x02\0\0\0\0\x01\0\0\0\x07\0\0\0\x09\0\0\0\x02\0\0\0\0\0\0\0\0\0\0\0\0\0\0\0\0\0\0\0\0\0\0\0\0\0\0\0\x0c\x01\0\0\0\0\0\0\0\x08\0\0\0\x09\0\0\0\0\0\0\0\x01\0\0\0\0\0\0\0\0\0\0\0\x01\0\0\0\x02\0\0\0\x03\0\0\0\x02\0\0\0\0\0\0\0\x01";
+
+/// The fault of bytes, where they have one.
+fn fault_of(alloc: Global, bytes: &[u8]) -> Option<ImageFault> {
+    match read_image(alloc, bytes) {
+        Ok(_) => None,
+        Err(fault) => Some(fault),
+    }
+}
+
+/// Whether an image that is read, taken apart and made again is written as it was.
+fn comes_back(alloc: Global, bytes: &[u8]) -> Result<bool, ImageFault> {
+    let image = read_image(alloc, bytes)?;
+    let written = write_image(alloc, &image)?;
+    let again = match Image::new(image.into_parts()) {
+        Ok(image) => image,
+        Err((_, fault)) => return Err(fault),
+    };
+    let same = write_image(alloc, &again)?;
+    Ok(written.as_slice() == bytes && same.as_slice() == bytes)
+}
+
+/// Whether the bytes are those of an image with this listing.
+fn is_listed(alloc: Global, bytes: &[u8], text: &[u8]) -> bool {
+    let Ok(image) = read_image(alloc, bytes) else {
+        return false;
+    };
+    let mut out = Counted::new(Vec::new(alloc));
+    listing(&image, &mut out).is_ok() && out.into_writer().as_slice() == text
+}
+
+#[test]
+fn images_come_back(rt: HostRuntime) -> Result<(), Fail> {
+    assert!(rt; comes_back(rt.alloc(), ONE_EDGE.as_slice())?);
+    assert!(rt; comes_back(rt.alloc(), ONE_SHARED.as_slice())?);
+    assert!(rt; comes_back(rt.alloc(), OPEN.as_slice())?);
+    let mut empty = Vec::new(rt.alloc());
+    empty.extend_from_slice(b"PLANIMG\x01")?;
+    empty.extend_from_slice([0; 24].as_slice())?;
+    assert!(rt; comes_back(rt.alloc(), &empty)?);
+    let mut empty = Vec::new(rt.alloc());
+    empty.extend_from_slice(b"PLANIMG\x02")?;
+    empty.extend_from_slice([0; 28].as_slice())?;
+    assert!(rt; comes_back(rt.alloc(), &empty)?);
+    Ok(())
+}
+
+#[test]
+fn listings(rt: HostRuntime) {
+    let text =
+        b"text 0 78\nfile 0 61\nedge 0 command rank 0 pool - label 0 outputs 0 waits -\n  0 End\ndefault 0\n";
+    assert!(rt; is_listed(rt.alloc(), ONE_EDGE.as_slice(), text.as_slice()));
+    let text =
+        b"text 0 78\nfile 0 61\nbody 0\n  0 End\nedge 0 command rank 0 pool - label 0 outputs 0 waits - body 0 operands -\ndefault 0\n";
+    assert!(rt; is_listed(rt.alloc(), ONE_SHARED.as_slice(), text.as_slice()));
+    let text =
+        b"file 0 6162\npool 0 70 depth 2\nslot 0 owner 0 kind F\nbody 0\n  0 Flag 1\n  1 Store _\n  2 Load _\n  3 Jump 5\n  4 Need _\n  5 Drop\nedge 0 command rank 7 pool 0 label 9 outputs 0 0 waits - body 0 operands 0 0 12\nedge 1 phony rank 8 pool - label 9 outputs - waits 0 body 0 operands 1 2 3\ndefault 0 1\n";
+    assert!(rt; is_listed(rt.alloc(), OPEN.as_slice(), text.as_slice()));
+}
+
+#[test]
+fn what_an_image_has(rt: HostRuntime) -> Result<(), Fail> {
+    for bytes in [ONE_EDGE.as_slice(), ONE_SHARED.as_slice()] {
+        let image = read_image(rt.alloc(), bytes)?;
+        assert_eq!(rt; edge_of(&image, b"a"), Some(0));
+        assert_eq!(rt; edge_of(&image, b"b"), None);
+        assert_eq!(rt; image.code_len(0), 1);
+        assert_eq!(rt; image.code_len(1), 0);
+        assert!(rt; image.instr(0, 0) == Some(Instr::End));
+        assert!(rt; image.instr(0, 1) == None);
+        assert_eq!(rt; image.parts().files.row(0), b"a".as_slice());
+        assert_eq!(rt; image.parts().texts.len(), 1);
+    }
+    Ok(())
+}
+
+#[test]
+fn cut_at_each_length(rt: HostRuntime) {
+    for bytes in [ONE_EDGE.as_slice(), ONE_SHARED.as_slice(), OPEN.as_slice()] {
+        for at in 0..bytes.len() {
+            let fault = fault_of(rt.alloc(), &bytes[..at]);
+            assert_eq!(rt; fault, Some(ImageFault::Truncated(at as u64)));
+        }
+    }
+}
+
+#[test]
+fn each_bit_flipped(rt: HostRuntime) -> Result<(), Fail> {
+    for bytes in [ONE_EDGE.as_slice(), ONE_SHARED.as_slice(), OPEN.as_slice()] {
+        for bit in 0..bytes.len() * 8 {
+            let mut turned = Vec::from_slice(rt.alloc(), bytes)?;
+            turned[bit / 8] ^= 1 << (bit % 8);
+            match fault_of(rt.alloc(), &turned) {
+                None => assert!(rt; comes_back(rt.alloc(), &turned)?),
+                Some(fault) => assert!(rt; fault.offset().is_some()),
+            }
+        }
+    }
+    Ok(())
+}
+
+/// The fault of an image where one byte is another.
+fn with_byte(alloc: Global, bytes: &[u8], at: usize, byte: u8) -> Result<Option<ImageFault>, Fail> {
+    let mut turned = Vec::from_slice(alloc, bytes)?;
+    if let Some(place) = turned.get_mut(at) {
+        *place = byte;
+    }
+    Ok(fault_of(alloc, &turned))
+}
+
+#[test]
+fn refused_bytes(rt: HostRuntime) -> Result<(), Fail> {
+    for (at, byte, fault) in [
+        (0, b'p', ImageFault::BadMagic(0)),
+        (7, 3, ImageFault::BadVersion(7)),
+        (9, 64, ImageFault::Limit(8)),
+        (12, 1, ImageFault::Limit(12)),
+        (22, 0, ImageFault::Limit(21)),
+        (36, 2, ImageFault::BadTag(36)),
+        (65, 29, ImageFault::BadTag(65)),
+        (69, 0, ImageFault::Trailing(70)),
+    ] {
+        let found = with_byte(rt.alloc(), ONE_EDGE.as_slice(), at, byte)?;
+        assert_eq!(rt; found, Some(fault));
+    }
+    let found = with_byte(rt.alloc(), ONE_SHARED.as_slice(), 73, 1)?;
+    assert_eq!(rt; found, Some(ImageFault::BadBody(70)));
+    Ok(())
+}
+
+#[test]
+fn refused_counts(rt: HostRuntime) {
+    let fault = fault_of(rt.alloc(), b"PLANIMG\x01\0\x40\0\0");
+    assert_eq!(rt; fault, Some(ImageFault::Truncated(12)));
+    let fault = fault_of(rt.alloc(), b"PLANIMG\x01\0\x40\0\x01");
+    assert_eq!(rt; fault, Some(ImageFault::Limit(8)));
+}
+
+/// Tables of one edge without outputs, and these defaults.
+fn tables(alloc: Global, code: EdgeCode, defaults: &[u32]) -> Result<Parts, Fail> {
+    let mut edges = Vec::new(alloc);
+    edges.push(Edge {
+        sort: Sort::Phony,
+        pool: None,
+        rank: 0,
+        label: 0,
+        outputs: Items::empty(alloc),
+        waits: Items::empty(alloc),
+        code,
+    })?;
+    Ok(Parts {
+        texts: RowList::new(alloc),
+        files: RowList::new(alloc),
+        pools: Items::empty(alloc),
+        slots: Items::empty(alloc),
+        bodies: None,
+        edges: Items::new(edges),
+        defaults: Items::new(Vec::from_slice(alloc, defaults)?),
+    })
+}
+
+/// Why tables are handed back, and how many edges they have then.
+fn handed_back(parts: Parts) -> Option<(usize, ImageFault)> {
+    match Image::new(parts) {
+        Ok(_) => None,
+        Err((parts, fault)) => Some((parts.edges.len(), fault)),
+    }
+}
+
+#[test]
+fn tables_handed_back(rt: HostRuntime) -> Result<(), Fail> {
+    let own = EdgeCode::Own(Items::empty(rt.alloc()));
+    let parts = tables(rt.alloc(), own, [0, 0].as_slice())?;
+    assert!(rt; matches!(parts.version(), Version::One));
+    assert!(rt; handed_back(parts) == Some((1, ImageFault::BadOrder(0))));
+    let shared = EdgeCode::Shared(0, Items::empty(rt.alloc()));
+    let parts = tables(rt.alloc(), shared, [].as_slice())?;
+    assert!(rt; handed_back(parts) == Some((1, ImageFault::BadBody(0))));
+    let own = EdgeCode::Own(Items::empty(rt.alloc()));
+    let mut parts = tables(rt.alloc(), own, [0, 0].as_slice())?;
+    parts.files.push(b"")?;
+    assert!(rt; handed_back(parts) == Some((1, ImageFault::Limit(0))));
+    Ok(())
+}
+
+#[test]
+fn bodies(rt: HostRuntime) -> Result<(), Fail> {
+    let code = [
+        Instr::Text(7),
+        Instr::Flag(true),
+        Instr::Load(9),
+        Instr::End,
+    ];
+    let (body, numbers) = split(rt.alloc(), code.as_slice())?;
+    assert_eq!(rt; numbers.as_slice(), [7, 9].as_slice());
+    assert_eq!(rt; body.len(), 4);
+    assert_eq!(rt; body.open_count(), 2);
+    assert_eq!(rt; body.filled_len(numbers.as_slice()), 4);
+    assert!(rt; body.as_slice()[0] == BodyInstr::Open(Opening::Text));
+    for (place, instr) in code.iter().enumerate() {
+        assert!(rt; body.instr(numbers.as_slice(), place) == Some(*instr));
+    }
+    let same = Body::new(rt.alloc(), Vec::from_slice(rt.alloc(), body.as_slice())?)?;
+    assert!(rt; same.instr(numbers.as_slice(), 4) == None);
+    Ok(())
+}
+
+#[test]
+fn faults(rt: HostRuntime) {
+    for (fault, number) in [
+        (ImageFault::BadMagic(1), 60),
+        (ImageFault::BadVersion(1), 61),
+        (ImageFault::Truncated(1), 62),
+        (ImageFault::Trailing(1), 63),
+        (ImageFault::BadTag(1), 64),
+        (ImageFault::Limit(1), 65),
+        (ImageFault::BadOrder(1), 67),
+        (ImageFault::BadBody(1), 68),
+    ] {
+        assert_eq!(rt; fault.number(), number);
+        assert_eq!(rt; fault.offset(), Some(1));
+    }
+    assert_eq!(rt; ImageFault::Memory.number(), 66);
+    assert_eq!(rt; ImageFault::Memory.offset(), None);
+}
+
+/// Takes no more than some writes.
+#[derive(Drop)]
+struct Failing {
+    left: u32,
+}
+
+impl Write for Failing {
+    fn write(&mut self, bytes: &[u8]) -> io::Result<usize> {
+        match self.left.checked_sub(1) {
+            Some(left) => self.left = left,
+            None => return Err(io::Error::from(io::ErrorKind::BrokenPipe)),
+        }
+        Ok(bytes.len())
+    }
+
+    fn flush(&mut self) -> io::Result<()> {
+        Ok(())
+    }
+}
+
+#[test]
+fn failed_writes(rt: HostRuntime) -> Result<(), Fail> {
+    let image = read_image(rt.alloc(), ONE_EDGE.as_slice())?;
+    for left in 0..40 {
+        let mut out = Counted::new(Failing { left });
+        assert!(rt; matches!(listing(&image, &mut out), Err(WriteFault)));
+    }
+    let mut out = Counted::new(Failing { left: 1000 });
+    assert!(rt; listing(&image, &mut out).is_ok());
+    Ok(())
+}
