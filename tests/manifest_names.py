@@ -18,7 +18,7 @@ import call_graph
 import doc_names
 
 ROOT = pathlib.Path(__file__).resolve().parent.parent
-PAGES = ("MANIFEST.md", "DEPFILE.md", "IMAGE.md")
+PAGES = ("MANIFEST.md", "DEPFILE.md", "IMAGE.md", "VERIFIER.md")
 KEYS = {"manual", "defined", "done", "offered", "rows", "tests", "examples", "texts", "edits"}
 
 

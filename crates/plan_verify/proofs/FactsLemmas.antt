@@ -1,20 +1,19 @@
 -- What the crates above take from a well-shaped image.
-use Rattle.std.proofs.Common.{◌≡◌, ℕ, zero, suc, ◌+◌, ◌<◌, ◌≤◌, Bool, true, false, cond, eqb, leb, ltb, List, [], ◌∷◌, length, drop, get_or, Option, Some, None, All, refl, sym, ap, subst, ◌∙◌, arith, inl, inr}
-use Rattle.std.specs.Prelude.{◌||◌, ◌&&◌, not, slice_get, Contains}
+use Rattle.std.proofs.Common.{◌≡◌, ℕ, zero, suc, ◌+◌, ◌<◌, Bool, true, false, cond, eqb, leb, List, [], ◌∷◌, length, drop, get_or, Option, Some, None, All, refl, sym, ap, subst, ◌∙◌, arith}
+use Rattle.std.specs.Prelude.{slice_get}
 use Rattle.std.specs.List.{list_all, list_any}
-use Rattle.std.proofs.lemmas.Bool.{cases_eq, eq-eqb, ne_eqb, leb-false, ltb-true}
+use Rattle.std.proofs.lemmas.Bool.{eq-eqb, leb-false, ltb-true}
 use Rattle.std.proofs.lemmas.Option.{slice_get_within}
 use Rattle.plan_image.specs.declared.image.Slot.{Slot}
 use Rattle.plan_image.specs.declared.image.Edge.{Edge}
 use Rattle.plan_image.specs.declared.image.Parts.{Parts}
-use Rattle.plan_verify.specs.declared.fault.Refusal.{Refusal}
 use Rattle.plan_verify.specs.Tables.{is_outside, own_from, own_slots, slot_kind, kind_in}
 use Rattle.plan_verify.specs.Shape.{ranks_below, is_paths, lacks_outputs, table_checks, image_checks, image_refusal}
 use Rattle.plan_verify.specs.WellShaped.{IsWellShaped}
-use Rattle.plan_verify.specs.Facts.{IsEdgeInRange, IsSlotInRange, AreInRange, TablesAreInRange, VerifiedNeverGoesWrong, RefusalsAreTrue}
+use Rattle.plan_verify.specs.Facts.{IsEdgeInRange, IsSlotInRange, TablesAreInRange, VerifiedNeverGoesWrong, RefusalsAreTrue}
 use Rattle.plan_verify.proofs.Lists.{and_both, or_false, not_false}
 use Rattle.plan_verify.proofs.Fitting.{all_pass}
-use Rattle.plan_verify.proofs.OwnSlotsLemmas.{head_of_rest, tail_of_rest, rest_at}
+use Rattle.plan_verify.proofs.OwnSlotsLemmas.{head_of_rest, tail_of_rest}
 use Rattle.plan_verify.proofs.ShapesLemmas.{refused_has_none}
 use Rattle.plan_verify.proofs.VerifiedLemmas.{table_refusal_is, refused_is_not}
 use Rattle.plan_verify.proofs.RunningAlone.{never_wrong_alone}

@@ -1,9 +1,9 @@
 -- The pass: what is kept from place to place.
-use Rattle.std.proofs.Common.{◌≡◌, ◌≢◌, ℕ, zero, suc, ◌+◌, ◌<◌, ◌≤◌, Bool, true, false, cond, eqb, ltb, List, [], ◌∷◌, ◌++◌, length, get_or, Option, Some, None, All, set, refl, sym, ap, subst, ◌∙◌, append_assoc, arith, inl, inr}
-use Rattle.std.specs.Prelude.{◌⊎◌, replicate, slice_get}
+use Rattle.std.proofs.Common.{◌≡◌, ℕ, zero, suc, ◌+◌, ◌<◌, ◌≤◌, Bool, true, false, cond, eqb, List, [], ◌∷◌, ◌++◌, length, get_or, Option, Some, None, All, set, refl, sym, ap, subst, ◌∙◌, append_assoc, arith, inl, inr}
+use Rattle.std.specs.Prelude.{replicate, slice_get}
 use Rattle.std.specs.List.{AllByRecursion}
 use Rattle.std.proofs.lemmas.Bool.{cases_eq, eq-eqb, ne_eqb, ltb-false}
-use Rattle.std.proofs.lemmas.List.{append-nil, length_push, length-set, length-replicate}
+use Rattle.std.proofs.lemmas.List.{append-nil, length_push, length-set}
 use Rattle.std.proofs.lemmas.List.Elements.{All-from_recursion}
 use Rattle.std.proofs.lemmas.Option.{slice_get_within, slice_get_read}
 use Rattle.plan_image.specs.declared.instr.Instr.{Instr}
@@ -16,10 +16,10 @@ use Rattle.plan_verify.specs.declared.arrivals.Arrival.TheVariants as arrival
 use Rattle.plan_verify.specs.declared.flow.Flow.{Flow}
 use Rattle.plan_verify.specs.declared.fault.Refusal.{Refusal}
 use Rattle.plan_verify.specs.Shape.{left, targets, refused, kinds_after, table_refusal}
-use Rattle.plan_verify.specs.WellShaped.{at_start, toward, begins, arriving, arriving_from, IsShapeAmong, AreShapes, AreAllShapes, IsShapedEdge, IsRefusedAt, not_reached, shapes_differ, check_fails, IsFirstRefusal, place_fails}
-use Rattle.plan_verify.specs.Arrivals.{Describes, JoinsAt, JoinsEach, jumps_to}
+use Rattle.plan_verify.specs.WellShaped.{at_start, toward, arriving, IsShapeAmong, IsRefusedAt, not_reached, shapes_differ, check_fails, IsFirstRefusal, place_fails}
+use Rattle.plan_verify.specs.Arrivals.{Describes, JoinsEach, jumps_to}
 use Rattle.plan_verify.specs.OwnSet.{IsOwnSet}
-use Rattle.plan_verify.specs.Pass.{goes_on, brought, brought_to, IsMet, MeetsAs, Keeps, Reached}
+use Rattle.plan_verify.specs.Pass.{goes_on, brought, brought_to, IsMet, MeetsAs, Reached}
 use Rattle.plan_verify.proofs.Lists.{some_is, get_inside}
 use Rattle.plan_verify.proofs.Fitting.{IsOnwards, passed_from}
 use Rattle.plan_verify.proofs.ShapesLemmas.{arriving_none, arriving-push, AreShapes-push, shape_own}

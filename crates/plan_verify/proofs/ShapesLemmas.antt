@@ -1,8 +1,8 @@
 -- Shapes of the first places: one more, one less, and that they are the only ones.
-use Rattle.std.proofs.Common.{◌≡◌, ◌≢◌, ℕ, zero, suc, ◌+◌, ◌-◌, ◌<◌, ◌≤◌, Bool, true, false, cond, eqb, List, [], ◌∷◌, ◌++◌, length, get_or, Option, Some, None, All, refl, sym, ap, subst, ◌∙◌, append_assoc, arith, inl, inr, add-zero, rules}
-use Rattle.std.specs.Prelude.{Contains, ◌⊎◌, slice_get}
+use Rattle.std.proofs.Common.{◌≡◌, ℕ, zero, suc, ◌+◌, ◌-◌, ◌<◌, ◌≤◌, Bool, true, false, cond, eqb, List, [], ◌∷◌, ◌++◌, length, get_or, Option, Some, None, All, refl, sym, ap, subst, ◌∙◌, append_assoc, arith, inl, inr, add-zero}
+use Rattle.std.specs.Prelude.{Contains, slice_get}
 use Rattle.std.specs.List.{AllByRecursion}
-use Rattle.std.proofs.lemmas.Bool.{cases_eq, cases_lt, eq-eqb, ne_eqb}
+use Rattle.std.proofs.lemmas.Bool.{cases_lt, ne_eqb}
 use Rattle.std.proofs.lemmas.List.{append-nil, length_push}
 use Rattle.std.proofs.lemmas.List.Elements.{All-append}
 use Rattle.std.proofs.lemmas.Option.{slice_get_within}
@@ -13,8 +13,8 @@ use Rattle.plan_image.specs.Code.{code}
 use Rattle.plan_verify.specs.declared.shape.Shape.{Shape}
 use Rattle.plan_verify.specs.declared.fault.Refusal.{Refusal}
 use Rattle.plan_verify.specs.Tables.{owns}
-use Rattle.plan_verify.specs.Shape.{left, targets, refused, bad_slot, set_after, table_refusal}
-use Rattle.plan_verify.specs.WellShaped.{at_start, toward, arriving_from, begins, arriving, IsShapeAmong, AreShapes, AreAllShapes, IsShapedEdge, IsRefusedAt, not_reached, shapes_differ, check_fails, IsFirstRefusal, tables_fail, no_code, place_fails}
+use Rattle.plan_verify.specs.Shape.{left, targets, refused, bad_slot}
+use Rattle.plan_verify.specs.WellShaped.{at_start, toward, arriving_from, begins, arriving, IsShapeAmong, AreShapes, IsShapedEdge, IsRefusedAt, not_reached, shapes_differ, check_fails, IsFirstRefusal, tables_fail, no_code, place_fails}
 use Rattle.plan_verify.specs.OwnSet.{IsOwnSet}
 use Rattle.plan_verify.proofs.Lists.{some_is, get_inside, not_false}
 use Rattle.plan_verify.proofs.Fitting.{IsOnwards, passed_from}

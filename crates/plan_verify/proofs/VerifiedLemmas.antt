@@ -1,13 +1,13 @@
 -- The verdict on all edges.
-use Rattle.std.proofs.Common.{◌≡◌, ℕ, zero, suc, ◌+◌, ◌<◌, ◌≤◌, List, [], ◌∷◌, length, Option, Some, None, refl, sym, ap, subst, ◌∙◌, arith, inl, inr}
+use Rattle.std.proofs.Common.{◌≡◌, ℕ, ◌<◌, length, Option, Some, None, refl, sym, ap, ◌∙◌}
 use Rattle.std.specs.Prelude.{slice_get}
 use Rattle.plan_image.specs.declared.image.Edge.{Edge}
 use Rattle.plan_image.specs.declared.image.Parts.{Parts}
 use Rattle.plan_verify.specs.declared.fault.Refusal.{Refusal}
 use Rattle.plan_verify.specs.declared.fault.VerifyFault.{VerifyFault}
 use Rattle.plan_verify.specs.declared.fault.VerifyFault.TheVariants as fault
-use Rattle.plan_verify.specs.Shape.{table_refusal, table_refusal_of, image_refusal}
-use Rattle.plan_verify.specs.WellShaped.{IsShapedEdge, IsWellShaped, IsFirstRefusal, IsRefused, edge_fails, all_fail}
+use Rattle.plan_verify.specs.Shape.{table_refusal, table_refusal_of}
+use Rattle.plan_verify.specs.WellShaped.{IsShapedEdge, IsWellShaped, IsRefused, edge_fails, all_fail}
 use Rattle.plan_verify.specs.Verdict.{IsEdgeFault, IsVerifyFault}
 use Rattle.plan_verify.proofs.ShapesLemmas.{refused_has_none}
 

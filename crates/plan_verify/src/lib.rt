@@ -1,4 +1,12 @@
 //! Which images are well shaped, and what one edge of them does.
+//!
+//! - `verify`: an image as a `Verified` one with its budget, or the image back with a `VerifyFault`: the first check that
+//!   fails, a `Refusal`, with edge and place.
+//! - `Value`, `Cause`: what stands on an edge's stack, and why an edge fails. `Shape`: what is known of an edge at a place.
+//! - The laws say what holds of each edge of a verified image, for the proofs of the crates above: run alone it never
+//!   goes wrong and stays in its budget, its tables are in range.
+//!
+//! docs/VERIFIER.md has the rules one by one.
 #![tactic(auto)]
 
 mod arrivals;

@@ -1,4 +1,4 @@
-use Rattle.std.proofs.Common.{◌≡◌, sym, ◌∙◌, ap}
+use Rattle.std.proofs.Common.{sym, ◌∙◌}
 use Rattle.std.proofs.lemmas.Bool.{false≢true}
 use Rattle.plan_verify.proofs.ArrivalsLemmas.{one_differs, still_differ}
 use Rattle.plan_verify.proofs.arrivals.with_shape.Goals as goal

@@ -1,4 +1,3 @@
-use Rattle.std.proofs.Common.{◌≡◌, ◌≤◌, drop, length}
 use Rattle.plan_verify.specs.OwnSlots.{AreCounted}
 use Rattle.plan_verify.proofs.own_slots.own_slots_of_all.Given as goal
 

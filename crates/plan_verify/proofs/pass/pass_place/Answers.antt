@@ -1,4 +1,4 @@
-use Rattle.std.proofs.Common.{◌≡◌, ◌<◌, sym, ap, ◌∙◌, arith, length, rules}
+use Rattle.std.proofs.Common.{◌≡◌, sym, arith, length, rules}
 use Rattle.std.proofs.lemmas.Option.{slice_get_within}
 use Rattle.plan_image.specs.Code.{code}
 use Rattle.plan_verify.proofs.PassLemmas.{moved_at, met, no_shape, check_refused, set_own, next_reached, shallow, jumps_within}

@@ -1,6 +1,4 @@
-use Rattle.std.proofs.Common.{◌≡◌, sym, ◌∙◌, ap, arith, drop}
-use Rattle.plan_verify.specs.Shape.{wrong_kind}
-use Rattle.plan_verify.specs.Wanted.{options}
+use Rattle.std.proofs.Common.{sym, arith}
 use Rattle.plan_verify.proofs.PlaceChecksLemmas.{passes_by, is_out, clashes_here, fits_here}
 use Rattle.plan_verify.proofs.place_checks.clashes.Goals as goal
 use Rattle.plan_verify.proofs.place_checks.clashes.Goals.{in-Some+in-Some-peek+else-not-is_kind, in_default}

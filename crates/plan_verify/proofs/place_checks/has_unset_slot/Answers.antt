@@ -1,4 +1,4 @@
-use Rattle.std.proofs.Common.{◌≡◌, refl}
+use Rattle.std.proofs.Common.{refl}
 use Rattle.plan_verify.proofs.OwnSetLemmas.{all_set}
 use Rattle.plan_verify.proofs.place_checks.has_unset_slot.Goals as goal
 

@@ -1,4 +1,4 @@
-use Rattle.std.proofs.Common.{◌≡◌, sym}
+use Rattle.std.proofs.Common.{sym}
 use Rattle.std.specs.Prelude.{Err}
 use Rattle.std.proofs.lemmas.List.Sorted.{searched}
 use Rattle.plan_verify.proofs.SlotSetLemmas.{rises, not_member_at}

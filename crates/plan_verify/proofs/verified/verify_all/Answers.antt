@@ -1,8 +1,8 @@
-use Rattle.std.proofs.Common.{◌≡◌, ℕ, ◌<◌, ◌≤◌, ◌+◌, length, List, sym, ap, ◌∙◌, arith, below_more}
+use Rattle.std.proofs.Common.{◌≡◌, length, sym, ap, ◌∙◌, arith, below_more}
 use Rattle.plan_image.specs.declared.image.Parts.{Parts}
 use Rattle.plan_verify.specs.Shape.{image_refusal}
 use Rattle.plan_verify.specs.WellShaped.{IsShapedEdge, all_fail}
-use Rattle.plan_verify.specs.Budget.{edge_budget, budget_of_first}
+use Rattle.plan_verify.specs.Budget.{edge_budget}
 use Rattle.plan_verify.proofs.BudgetLemmas.{budget_more}
 use Rattle.plan_verify.proofs.VerifiedLemmas.{edge_fault}
 use Rattle.plan_verify.proofs.verified.verify_all.Goals as goal

@@ -1,4 +1,4 @@
-use Rattle.std.proofs.Common.{◌≡◌, sym, ◌∙◌, ap}
+use Rattle.std.proofs.Common.{sym, ◌∙◌, ap}
 use Rattle.std.specs.Prelude.{reverse}
 use Rattle.plan_verify.proofs.KindsLemmas.{reverse_same}
 use Rattle.plan_verify.proofs.kinds.Kinds.is_same.Goals as goal
