@@ -24,7 +24,7 @@ use Rattle.plan_scope.specs.Trees.{TreeStatement}
 use Rattle.plan_scope.specs.Scopes.{Text, Name, Bindings, ScopedBindings, nearest, lookup, expand, bound_by, is_too_long, is_long_path, is_empty}
 use Rattle.plan_text.specs.Limits.{max_path, max_text}
 use Rattle.plan_text.specs.Numerals.{is_numeral, number_past}
-use Rattle.plan_scope.specs.Edges.{all_variables, canonical_paths, has_empty, has_long, texts_of, block_of, builds_in, builds_of, edge_of_build, canonical_or, causes_of, console, defaults_alone, depth_in, edge_alone, edge_of_rule, edge_of, edge_or_refusal, first_of, manifest_of_kind, manifest_past, in_front, is_among, is_taken, manifest_of, map_ok, max_depth, names_no_pool, near, empty_manifest, or_refused, path_of, paths_of, phony_variables, pool_alone, pool_by, pools_in, pools_of, rules_of, target_at, targets_by, text_in, environment_of, variables_of, with_front, with_more}
+use Rattle.plan_scope.specs.Edges.{texts_of_variables, canonical_paths, has_empty, has_long, texts_of, block_of, builds_in, builds_of, edge_of_build, canonical_or, causes_of, console, defaults_alone, depth_in, edge_alone, edge_of_rule, edge_of, edge_or_refusal, first_of, manifest_of_kind, manifest_past, in_front, is_among, is_taken, manifest_of, map_ok, max_depth, names_no_pool, near, empty_manifest, or_refused, path_of, paths_of, phony_variables, pool_alone, pool_by, pools_in, pools_of, rules_of, target_at, targets_by, environment_of, variables_of, with_front, with_more}
 use Rattle.plan_scope.specs.Sound.{AreApart, IsPath, IsSound, IsSoundEdge, MakesSome, names_of}
 use Rattle.plan_scope.proofs.PathLemmas.{or_parts}
 
@@ -88,10 +88,10 @@ pool_known pools text h = known (known_by (is_empty text) (is_too_long text) (is
 
 -- variables without a text but one
 record NoTexts (v : Variables) : Type 0 where
-  command : text_in v.command ≡ []
-  description : text_in v.description ≡ []
-  depfile : text_in v.depfile ≡ []
-  pool : text_in v.pool ≡ []
+  command : v.command ≡ []
+  description : v.description ≡ []
+  depfile : v.depfile ≡ []
+  pool : v.pool ≡ []
 
 edge_sound : CanonicalStays → (pools : List Name) (here : Name → Text) (b : Build) (v : Variables) (is_phony : Bool) (e : Edge) → MakesSome b → (is_phony ≡ true → NoTexts v)
     → edge_or_refusal pools here b v is_phony ≡ Ok e → IsSoundEdge pools e
@@ -115,8 +115,8 @@ edge_sound s pools here b v is_phony e some texts h =
     let l3 = any_append is_long_path (o ++ io ++ i) ii l4.0 in
     let l2 = any_append is_long_path (o ++ io) i l3.0 in
     let l1 = any_append is_long_path o io l2.0 in
-    let long = λ (t : Option Text). is_too_long (text_in t) in
-    let t = or_parts (list_any long (all_variables v)) _ c.1.1.1.1.1.1.1.0 in
+    let long = is_too_long in
+    let t = or_parts (list_any long (texts_of_variables v)) _ c.1.1.1.1.1.1.1.0 in
     let t1 = or_parts (long v.command) _ t.0 in
     let t2 = or_parts (long v.depfile) _ t1.1 in
     let t3 = or_parts (long v.deps) _ t2.1 in
@@ -128,10 +128,10 @@ edge_sound s pools here b v is_phony e some texts h =
       inputs = paths_sound s i e2.1 l2.1;
       implicit_inputs = paths_sound s ii e3.1 l3.1;
       order_only_inputs = paths_sound s oo e4.1 l4.1;
-      command = ltb-false max_text (length (text_in v.command)) t1.0;
-      description = ltb-false max_text (length (text_in v.description)) t4.0;
-      depfile = ltb-false max_text (length (text_in v.depfile)) t2.0;
-      pool = pool_known pools (text_in v.pool) c.0;
+      command = ltb-false max_text (length v.command) t1.0;
+      description = ltb-false max_text (length v.description) t4.0;
+      depfile = ltb-false max_text (length v.depfile) t2.0;
+      pool = pool_known pools v.pool c.0;
       phony = λ p. let n = texts p in record { command = n.command; description = n.description; depfile = n.depfile; pool = n.pool };
     })
 
