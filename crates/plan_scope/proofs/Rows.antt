@@ -91,11 +91,13 @@ in_of_file = refl
 quoting : manifest (codes "rule r" ++ lf ++ codes "  command = c $rspfile_content" ++ lf ++ codes "  description = d $in" ++ lf ++ codes "  depfile = $in.d" ++ lf ++ codes "  rspfile_content = $out" ++ lf ++ codes "build a$ b/./c | d: r e$ f | .//g || h")
     ≡ Ok (record {
       edges = record {
-        outputs = codes "a b/c" ∷ [];
-        implicit_outputs = codes "d" ∷ [];
-        inputs = codes "e f" ∷ [];
-        implicit_inputs = codes "g" ∷ [];
-        order_only_inputs = codes "h" ∷ [];
+        paths = record {
+          outputs = codes "a b/c" ∷ [];
+          implicit_outputs = codes "d" ∷ [];
+          inputs = codes "e f" ∷ [];
+          implicit_inputs = codes "g" ∷ [];
+          order_only_inputs = codes "h" ∷ [];
+        };
         command = codes "c 'a b/c'";
         description = codes "d 'e f'";
         depfile = codes "e f.d";
@@ -170,11 +172,13 @@ empty_first = refl
 defaults : manifest (codes "default x/../a" ++ lf ++ codes "build a: phony" ++ lf ++ codes "default a b")
     ≡ Ok (record {
       edges = record {
-        outputs = codes "a" ∷ [];
-        implicit_outputs = [];
-        inputs = [];
-        implicit_inputs = [];
-        order_only_inputs = [];
+        paths = record {
+          outputs = codes "a" ∷ [];
+          implicit_outputs = [];
+          inputs = [];
+          implicit_inputs = [];
+          order_only_inputs = [];
+        };
         command = [];
         description = [];
         depfile = [];

@@ -6,6 +6,8 @@ use Rattle.plan_text.specs.Numerals.{number_in}
 use Rattle.plan_text.specs.Path.{canonical_of}
 use Rattle.plan_text.specs.declared.fault.TextFault.{TextFault}
 use Rattle.plan_text.specs.declared.piece_reader.Piece.{Piece}
+use Rattle.plan_parse.specs.declared.path_lists.PathLists.{PathLists}
+use Rattle.plan_parse.specs.PathLists.{all_in, map_lists}
 use Rattle.plan_parse.specs.declared.statement.Binding.{Binding}
 use Rattle.plan_parse.specs.declared.statement.Build.{Build}
 use Rattle.plan_parse.specs.declared.statement.StatementKind.{StatementKind}
@@ -18,7 +20,6 @@ use Rattle.plan_scope.specs.declared.manifest.DefaultTarget.{DefaultTarget}
 use Rattle.plan_scope.specs.declared.manifest.Edge.{Edge}
 use Rattle.plan_scope.specs.declared.manifest.Manifest.{Manifest}
 use Rattle.plan_scope.specs.declared.manifest.Pool.{Pool}
-use Rattle.plan_scope.specs.declared.edge.paths.Paths.{Paths}
 use Rattle.plan_scope.specs.declared.edge.variables.Variables.{Variables}
 use Rattle.plan_scope.specs.Trees.{TreeStatement}
 use Rattle.plan_scope.specs.Scopes.{Text, Name, Bindings, ScopedBindings, last_of, frame, nearest, lookup, expand, in_own, bound_by, is_too_long, is_long_path, is_empty}
@@ -93,29 +94,17 @@ near here block name = unwrap_or (last_of name block) (here name)
 abbrev pub paths_of : (Name → Text) → List (List Piece) → List Text
 paths_of here paths = map (expand here) paths
 
+-- the paths of a build line
+abbrev pub Paths : Type 0
+Paths = PathLists (List Text)
+
 -- the paths of a build line as expanded
 abbrev pub texts_of : (Name → Text) → Build → Paths
-texts_of here b = record {
-  outputs = paths_of here b.outputs;
-  implicit_outputs = paths_of here b.implicit_outputs;
-  inputs = paths_of here b.inputs;
-  implicit_inputs = paths_of here b.implicit_inputs;
-  order_only_inputs = paths_of here b.order_only_inputs;
-}
+texts_of here b = map_lists (paths_of here) b.paths
 
 -- the canonical forms of paths
 abbrev pub canonical_paths : Paths → Paths
-canonical_paths p = record {
-  outputs = map path_of p.outputs;
-  implicit_outputs = map path_of p.implicit_outputs;
-  inputs = map path_of p.inputs;
-  implicit_inputs = map path_of p.implicit_inputs;
-  order_only_inputs = map path_of p.order_only_inputs;
-}
-
--- all of them
-abbrev pub all_in : Paths → List Text
-all_in p = p.outputs ++ p.implicit_outputs ++ p.inputs ++ p.implicit_inputs ++ p.order_only_inputs
+canonical_paths p = map_lists (map path_of) p
 
 -- whether one has no byte
 abbrev pub has_empty : Paths → Bool
@@ -212,11 +201,7 @@ causes_of pools v empty_path long_path long_value =
 -- the edge with these canonical paths and these variables
 abbrev pub edge_of : Paths → Variables → Bool → Edge
 edge_of p v is_phony = record {
-  outputs = p.outputs;
-  implicit_outputs = p.implicit_outputs;
-  inputs = p.inputs;
-  implicit_inputs = p.implicit_inputs;
-  order_only_inputs = p.order_only_inputs;
+  paths = p;
   command = v.command;
   description = v.description;
   depfile = v.depfile;

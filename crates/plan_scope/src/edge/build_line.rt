@@ -10,7 +10,7 @@ ghost use Rattle.plan_scope.specs.Outcomes.{Gives};
 ghost use Rattle.plan_scope.specs.ScopeNames.{names_in};
 
 use crate::edge::expansion::EdgeEnvironment;
-use crate::edge::paths::{BlockTexts, PathTexts, Paths, block, read_paths};
+use crate::edge::paths::{BlockTexts, PathTexts, block, read_paths};
 use crate::edge::rule_variables::RuleVariables;
 use crate::edge::variables::{
     Variables, has_long_text, is_other_deps, is_present, variables_of_phony, variables_of_rule,
@@ -20,7 +20,8 @@ use crate::manifest::Edge;
 use crate::manifest::pool_names::PoolNames;
 use crate::scope::Scope;
 use crate::scope::text::is_long;
-use plan_parse::Build;
+use plan_parse::{Build, PathLists};
+use plan_text::{Items, SmallText};
 use std::alloc::{AllocError, Global};
 
 /// What is read of a build line before its variables are looked up.
@@ -86,17 +87,13 @@ fn cause(pools: &PoolNames, parts: &Parts, variables: &Variables) -> Option<Caus
 }
 
 /// The edge with these paths and variables.
-fn edge_from(paths: Paths, variables: Variables, phony: bool) -> Edge
+fn edge_from(paths: PathLists<Items<SmallText>>, variables: Variables, phony: bool) -> Edge
     ensures { result ≡ edge_of paths variables phony }
 {
     let restat = is_present(variables.restat.as_slice());
     let generator = is_present(variables.generator.as_slice());
     Edge {
-        outputs: paths.outputs,
-        implicit_outputs: paths.implicit_outputs,
-        inputs: paths.inputs,
-        implicit_inputs: paths.implicit_inputs,
-        order_only_inputs: paths.order_only_inputs,
+        paths,
         command: variables.command,
         description: variables.description,
         depfile: variables.depfile,
