@@ -1,5 +1,5 @@
 -- The paths of a build line, as the code holds them.
-use Rattle.std.specs.Prelude.{◌≡◌, Bool, List, [], ◌∷◌, map, Option}
+use Rattle.std.specs.Prelude.{◌≡◌, Bool, List, map, Option}
 use Rattle.std.specs.List.{list_any}
 use Rattle.plan_parse.specs.declared.path_lists.PathLists.{PathLists}
 use Rattle.plan_parse.specs.PathLists.{map_lists}
