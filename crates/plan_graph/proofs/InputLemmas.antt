@@ -16,4 +16,4 @@ without_append e xs ys =
 
 -- the inputs of all sorts are those that are named, without an edge's own
 pub inputs_are : (e : Edge) → inputs_of e ≡ without_own e (inputs_named e)
-inputs_are e = sym (without_append e (e.inputs ++ e.implicit_inputs) e.order_only_inputs) ∙ ap (without_own e) (append_assoc e.inputs e.implicit_inputs e.order_only_inputs)
+inputs_are e = sym (without_append e (e.paths.inputs ++ e.paths.implicit_inputs) e.paths.order_only_inputs) ∙ ap (without_own e) (append_assoc e.paths.inputs e.paths.implicit_inputs e.paths.order_only_inputs)

@@ -23,11 +23,13 @@ d = codes "d"
 
 abbrev line : Bool → List Path → List Path → List Path → List Path → List Path → Edge
 line phony outputs implicit_outputs inputs implicit_inputs order_only_inputs = record {
-  outputs = outputs;
-  implicit_outputs = implicit_outputs;
-  inputs = inputs;
-  implicit_inputs = implicit_inputs;
-  order_only_inputs = order_only_inputs;
+  paths = record {
+    outputs = outputs;
+    implicit_outputs = implicit_outputs;
+    inputs = inputs;
+    implicit_inputs = implicit_inputs;
+    order_only_inputs = order_only_inputs;
+  };
   command = codes "true";
   description = [];
   depfile = [];

@@ -14,11 +14,11 @@ use Rattle.plan_graph.specs.Cycles.{AreRanks, IsCycle, IsLeastFirst, IsSimple}
 
 -- explicit outputs before implicit ones
 abbrev pub outputs_of : Edge → List Path
-outputs_of e = e.outputs ++ e.implicit_outputs
+outputs_of e = e.paths.outputs ++ e.paths.implicit_outputs
 
 -- inputs of any sort, as they are named
 abbrev pub inputs_named : Edge → List Path
-inputs_named e = e.inputs ++ (e.implicit_inputs ++ e.order_only_inputs)
+inputs_named e = e.paths.inputs ++ (e.paths.implicit_inputs ++ e.paths.order_only_inputs)
 
 -- a phony loses its own outputs from its inputs
 abbrev pub without_own : Edge → List Path → List Path
@@ -26,10 +26,10 @@ without_own e paths = if e.phony then filter (λ p. not (is_among (outputs_of e)
 
 -- explicit and implicit inputs
 abbrev pub named_inputs_of : Edge → List Path
-named_inputs_of e = without_own e (e.inputs ++ e.implicit_inputs)
+named_inputs_of e = without_own e (e.paths.inputs ++ e.paths.implicit_inputs)
 
 abbrev pub order_only_of : Edge → List Path
-order_only_of e = without_own e e.order_only_inputs
+order_only_of e = without_own e e.paths.order_only_inputs
 
 -- inputs of any sort
 abbrev pub inputs_of : Edge → List Path

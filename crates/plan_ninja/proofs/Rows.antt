@@ -10,11 +10,13 @@ use Rattle.plan_ninja.specs.Faults.{graph_memory, name_of, printed_graph_fault}
 
 abbrev edge : List (List ℕ) → List (List ℕ) → Edge
 edge outputs implicit_outputs = record {
-  outputs = outputs;
-  implicit_outputs = implicit_outputs;
-  inputs = [];
-  implicit_inputs = [];
-  order_only_inputs = [];
+  paths = record {
+    outputs = outputs;
+    implicit_outputs = implicit_outputs;
+    inputs = [];
+    implicit_inputs = [];
+    order_only_inputs = [];
+  };
   command = codes "true";
   description = [];
   depfile = [];

@@ -245,12 +245,14 @@ build_made : ℕ → List (List Piece) × List (List Piece) × Place → List �
 build_made at o rule inputs bindings = record {
   offset = at;
   kind = kind.Build (record {
-    outputs = o.0;
-    implicit_outputs = o.1;
+    paths = record {
+      outputs = o.0;
+      implicit_outputs = o.1;
+      inputs = inputs.0;
+      implicit_inputs = inputs.1;
+      order_only_inputs = inputs.2;
+    };
     rule = rule;
-    inputs = inputs.0;
-    implicit_inputs = inputs.1;
-    order_only_inputs = inputs.2;
     bindings = bindings;
   });
 }

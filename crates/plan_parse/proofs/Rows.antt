@@ -25,12 +25,14 @@ abbrev full_build : ℕ → (outputs implicit_outputs : List (List Piece)) → L
 full_build at outputs implicit_outputs name inputs implicit_inputs order_only_inputs bindings = record {
   offset = at;
   kind = kind.Build (record {
-    outputs = outputs;
-    implicit_outputs = implicit_outputs;
+    paths = record {
+      outputs = outputs;
+      implicit_outputs = implicit_outputs;
+      inputs = inputs;
+      implicit_inputs = implicit_inputs;
+      order_only_inputs = order_only_inputs;
+    };
     rule = name;
-    inputs = inputs;
-    implicit_inputs = implicit_inputs;
-    order_only_inputs = order_only_inputs;
     bindings = bindings;
   });
 }

@@ -15,7 +15,7 @@ use Rattle.plan_parse.specs.Statements.{statements_of}
 -- A rule binds its command once, a build line has an output of either sort, and a default has a target.
 abbrev pub IsWholeKind : StatementKind → Type 0
 IsWholeKind (kind.Rule r) = count_by (λ b. bytes_eq b.name (codes "command")) r.bindings ≡ 1
-IsWholeKind (kind.Build b) = 0 < length b.outputs + length b.implicit_outputs
+IsWholeKind (kind.Build b) = 0 < length b.paths.outputs + length b.paths.implicit_outputs
 IsWholeKind (kind.Pool p) = Unit {0}
 IsWholeKind (kind.Default targets) = 0 < length targets
 IsWholeKind (kind.Include path) = Unit {0}

@@ -1,6 +1,7 @@
 pub mod Faults
 pub mod Reading
 pub mod Blocks
+pub mod PathLists
 pub mod Statements
 pub mod Views
 pub mod BlockLines

@@ -156,12 +156,14 @@ build_of at p lines =
     Ok (record {
       offset = at;
       kind = kind.Build (record {
-        outputs = outputs.0;
-        implicit_outputs = outputs.1;
+        paths = record {
+          outputs = outputs.0;
+          implicit_outputs = outputs.1;
+          inputs = inputs.0;
+          implicit_inputs = inputs.1;
+          order_only_inputs = inputs.2;
+        };
         rule = rule.0;
-        inputs = inputs.0;
-        implicit_inputs = inputs.1;
-        order_only_inputs = inputs.2;
         bindings = bindings;
       });
     })

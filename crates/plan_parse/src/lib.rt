@@ -14,6 +14,7 @@ mod cursor;
 mod fault;
 mod laws;
 mod parser;
+mod path_lists;
 mod reading;
 mod span;
 mod statement;
@@ -23,6 +24,7 @@ pub use compact::{CompactStatement, read_binding};
 pub use fault::ParseFault;
 pub use laws::{faults_have_places, statements_are_whole, statements_join};
 pub use parser::parse;
+pub use path_lists::PathLists;
 pub use span::Span;
 pub use statement::{Binding, Build, Pool, Rule, Statement, StatementKind};
 

@@ -1,5 +1,6 @@
 //! What a manifest says.
 
+use crate::path_lists::PathLists;
 use plan_text::{Items, PieceList, SmallText};
 
 /// A name and its value: `name = value`.
@@ -32,18 +33,10 @@ pub struct Pool {
 /// A build line and the lines below it.
 #[derive(Debug, Drop)]
 pub struct Build {
-    /// The pieces of each explicit output.
-    pub outputs: Items<PieceList>,
-    /// Those of each implicit output, behind `|`; there is at least one output of either sort.
-    pub implicit_outputs: Items<PieceList>,
+    /// The pieces of each path; there is at least one output, explicit or implicit.
+    pub paths: PathLists<Items<PieceList>>,
     /// The name of its rule.
     pub rule: SmallText,
-    /// The pieces of each explicit input.
-    pub inputs: Items<PieceList>,
-    /// Those of each implicit input, behind `|`.
-    pub implicit_inputs: Items<PieceList>,
-    /// Those of each order-only input, behind `||`.
-    pub order_only_inputs: Items<PieceList>,
     /// Its own variables in order.
     pub bindings: Items<Binding>,
 }

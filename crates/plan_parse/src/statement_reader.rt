@@ -12,6 +12,7 @@ use crate::block_kind::BlockKind;
 use crate::compact::{CompactStatement, compact_statement};
 use crate::cursor::Cursor;
 use crate::fault::ParseFault;
+use crate::path_lists::PathLists;
 use crate::reading::{
     binding_at, file_at, inputs_at, line_end_at, name_at, name_of, outputs_at, past, past_gap,
     targets_at,
@@ -109,12 +110,14 @@ fn build_of(
     Ok(Statement {
         offset: at as u64,
         kind: StatementKind::Build(Build {
-            outputs: Items::new(outputs),
-            implicit_outputs: Items::new(implicit_outputs),
+            paths: PathLists {
+                outputs: Items::new(outputs),
+                implicit_outputs: Items::new(implicit_outputs),
+                inputs: Items::new(inputs),
+                implicit_inputs: Items::new(implicit_inputs),
+                order_only_inputs: Items::new(order_only_inputs),
+            },
             rule,
-            inputs: Items::new(inputs),
-            implicit_inputs: Items::new(implicit_inputs),
-            order_only_inputs: Items::new(order_only_inputs),
             bindings: Items::new(bindings),
         }),
     })

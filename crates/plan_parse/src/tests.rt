@@ -102,9 +102,9 @@ fn demo_build(rt: HostRuntime) -> Result<(), Fail> {
     assert_eq!(rt; found.len(), 1);
     match &found[0].kind {
         StatementKind::Build(build) => {
-            assert!(rt; lists(rt.alloc(), &build.outputs, b"out;")?);
+            assert!(rt; lists(rt.alloc(), &build.paths.outputs, b"out;")?);
             assert_eq!(rt; build.rule.as_slice(), b"demo".as_slice());
-            assert!(rt; lists(rt.alloc(), &build.inputs, b"")?);
+            assert!(rt; lists(rt.alloc(), &build.paths.inputs, b"")?);
             assert!(rt; binds(rt.alloc(), &build.bindings, b"foo=bar;")?);
         }
         _ => assert!(rt; false, "a build line"),
@@ -122,8 +122,14 @@ fn quoted_paths(rt: HostRuntime) -> Result<(), Fail> {
         (StatementKind::Binding(binding), StatementKind::Build(build)) => {
             assert_eq!(rt; binding.name.as_slice(), b"spaced".as_slice());
             assert!(rt; spells(rt.alloc(), &binding.value, b"foo bar")?);
-            assert!(rt; lists(rt.alloc(), &build.outputs, b"<spaced>/baz;other file;")?);
-            assert!(rt; lists(rt.alloc(), &build.inputs, b"in:1;in2;")?);
+            assert!(rt;
+                lists(
+                    rt.alloc(),
+                    &build.paths.outputs,
+                    b"<spaced>/baz;other file;"
+                )?
+            );
+            assert!(rt; lists(rt.alloc(), &build.paths.inputs, b"in:1;in2;")?);
         }
         _ => assert!(rt; false, "a binding and a build line"),
     }
@@ -137,12 +143,12 @@ fn five_lists(rt: HostRuntime) -> Result<(), Fail> {
     assert_eq!(rt; found.len(), 1);
     match &found[0].kind {
         StatementKind::Build(build) => {
-            assert!(rt; lists(rt.alloc(), &build.outputs, b"foo.o;<dir>/foo.d;")?);
-            assert!(rt; lists(rt.alloc(), &build.implicit_outputs, b"foo.su;")?);
+            assert!(rt; lists(rt.alloc(), &build.paths.outputs, b"foo.o;<dir>/foo.d;")?);
+            assert!(rt; lists(rt.alloc(), &build.paths.implicit_outputs, b"foo.su;")?);
             assert_eq!(rt; build.rule.as_slice(), b"cc".as_slice());
-            assert!(rt; lists(rt.alloc(), &build.inputs, b"foo.c;")?);
-            assert!(rt; lists(rt.alloc(), &build.implicit_inputs, b"foo.h;bar.h;")?);
-            assert!(rt; lists(rt.alloc(), &build.order_only_inputs, b"generated;")?);
+            assert!(rt; lists(rt.alloc(), &build.paths.inputs, b"foo.c;")?);
+            assert!(rt; lists(rt.alloc(), &build.paths.implicit_inputs, b"foo.h;bar.h;")?);
+            assert!(rt; lists(rt.alloc(), &build.paths.order_only_inputs, b"generated;")?);
         }
         _ => assert!(rt; false, "a build line"),
     }

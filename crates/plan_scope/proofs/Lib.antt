@@ -11,6 +11,7 @@ pub mod VariableLemmas
 pub mod ListLemmas
 pub mod PoolNameLemmas
 pub mod PoolLemmas
+pub mod RuleLemmas
 pub mod LoaderLemmas
 pub mod TreeLemmas
 pub mod EvaluatorLemmas

@@ -17,10 +17,12 @@ use Rattle.plan_scope.specs.Trees.{TreeStatement}
 use Rattle.plan_scope.specs.Scopes.{Text, Name, ScopedBindings, lookup, expand, bound_by, bound_in, is_long_path, is_empty}
 use Rattle.plan_text.specs.Limits.{max_path}
 use Rattle.plan_scope.specs.Kept.{kept, KeptEqScoped}
-use Rattle.plan_scope.specs.Loading.{FileContents, Outcome, PathSet, FileAnswers, RestAnswers, GoesOn, LoadsStatement, LoadsStatements, LoadsParsed, LoadsFile, LoadsWithin, LoadsFirst, Loads, IsMissing, cause_of_path, cause_to_load, greatest_scope, own_scope, scopes_in, included_by}
+use Rattle.plan_scope.specs.Loading.{FileContents, Outcome, PathSet, LoadsFirst, Loads, IsMissing, cause_of_path, cause_to_load, greatest_scope, own_scope, scopes_in, included_by}
+use Rattle.plan_scope.specs.LoadingSteps.{FileAnswers, RestAnswers, GoesOn, LoadsStatement, LoadsStatements, LoadsParsed, LoadsFile, LoadsWithin}
 use Rattle.plan_scope.specs.Edges.{first_of}
 use Rattle.plan_scope.specs.Sources.{SameFiles}
 use Rattle.plan_scope.specs.LoaderAnswers.{Answers, LoadsOne, IsIncluded, never, includes}
+use Rattle.plan_scope.proofs.RuleLemmas.{by_rules}
 use Rattle.plan_scope.proofs.ScopeLemmas.{agrees_more}
 use Rattle.plan_scope.proofs.TextLemmas.{Same, same_from_kept}
 
@@ -307,10 +309,11 @@ some_scope above scopes inner k lt e = subst (λ (s : List ℕ). 0 < length s) (
 first : (g : FileContents) (m n : PathSet) (name path : Text) (scopes : List ℕ) (above : List TreeStatement) (out : Outcome) → ((p : Text) → m p → n p) → name ≡ path → scopes ≡ 0 ∷ [] → above ≡ []
     → LoadsWithin g m 63 name scopes above out → LoadsFirst g n path out
 first g m n name path scopes above out mn e f h r =
-    within_wider g g m n (λ p bytes x. x) mn 63 path (0 ∷ []) [] out
+    by_rules g n 63 path (0 ∷ []) [] out
+    (within_wider g g m n (λ p bytes x. x) mn 63 path (0 ∷ []) [] out
     (subst (λ (x : Text). LoadsWithin g m 63 x (0 ∷ []) [] out) e
     (subst (λ (x : List ℕ). LoadsWithin g m 63 name x [] out) f
-    (subst (λ (x : List TreeStatement). LoadsWithin g m 63 name scopes x out) h r)))
+    (subst (λ (x : List TreeStatement). LoadsWithin g m 63 name scopes x out) h r))))
 
 -- a tree that is loaded
 pub tree_loaded : (g : FileContents) (f : PathSet) (b n : ℕ) (name path : Text) (scopes : List ℕ) (above statements tree : List TreeStatement) → name ≡ path → scopes ≡ 0 ∷ [] → above ≡ [] → tree ≡ statements

@@ -1,19 +1,22 @@
 -- Blocks and paths of which as much is kept. Serves src/edge/paths.rt.
-use Rattle.std.proofs.Common.{◌≡◌, ℕ, ◌+◌, ◌<◌, ◌≤◌, Bool, true, false, ◌||◌, List, [], ◌∷◌, ◌++◌, length, map, Option, Ok, Err, refl, ap, sym, ◌∙◌, cond, inl, inr, arith, take, get_or}
+use Rattle.std.proofs.Common.{◌≡◌, ℕ, ◌+◌, ◌<◌, ◌≤◌, Bool, true, false, ◌||◌, List, [], ◌∷◌, ◌++◌, length, map, Ok, Err, refl, ap, sym, ◌∙◌, cond, inl, inr, arith, take, get_or, subst}
 use Rattle.std.specs.List.{list_any}
 use Rattle.std.proofs.lemmas.Bool.{lt-ltb, ltb-false, ne_eqb}
 use Rattle.std.proofs.lemmas.List.{map_more, map-append}
 use Rattle.std.proofs.lemmas.List.Folds.{list_any-append}
+use Rattle.plan_parse.specs.declared.path_lists.PathLists.{PathLists}
+use Rattle.plan_parse.specs.PathLists.{all_in, map_lists}
 use Rattle.plan_parse.specs.declared.statement.Binding.{Binding}
 use Rattle.plan_text.specs.Path.{canonical_of}
 use Rattle.plan_scope.specs.Scopes.{Text, Name, Bindings, last_of, expand, is_too_long, is_long_path, is_empty}
 use Rattle.plan_text.specs.Limits.{max_text, max_path}
 use Rattle.plan_scope.specs.declared.fault.Cause.TheVariants.{EmptyPath, PathTooLong}
 use Rattle.plan_scope.specs.declared.manifest.DefaultTarget.{DefaultTarget}
-use Rattle.plan_scope.specs.Edges.{all_in, canonical_paths, has_long, block_of, near, path_of, canonical_or, first_of, or_refused, target_at, targets_by}
-use Rattle.plan_scope.specs.declared.edge.paths.Paths.{Paths}
+use Rattle.plan_scope.specs.Edges.{Paths, canonical_paths, has_long, block_of, near, path_of, canonical_or, first_of, or_refused, target_at, targets_by}
+use Rattle.plan_scope.specs.declared.edge.paths.PathList.{PathList}
+use Rattle.plan_scope.specs.declared.edge.paths.PathTexts.{PathTexts}
 use Rattle.plan_scope.specs.Kept.{kept, KeptEqBindings, KeptEqLookup}
-use Rattle.plan_scope.specs.Paths.{IsListOf, kept_in}
+use Rattle.plan_scope.specs.Paths.{AreListsOf, AreRead, IsListOf, kept_in}
 use Rattle.plan_scope.proofs.TextLemmas.{Same, same_from_kept, kept_or}
 
 -- names that stand for as much in a block and above it do so on its build line
@@ -118,17 +121,29 @@ pub record KeptLists (p q : Paths) : Type 0 where
 
 -- what is kept of each list
 pub kept_lists : (p q : Paths) → kept_in p ≡ kept_in q → KeptLists p q
-kept_lists p q e = record { outputs = cc; implicit_outputs = cc; inputs = cc; implicit_inputs = cc; order_only_inputs = cc }
+kept_lists p q e = record {
+  outputs = ap (λ l. l.outputs) e;
+  implicit_outputs = ap (λ l. l.implicit_outputs) e;
+  inputs = ap (λ l. l.inputs) e;
+  implicit_inputs = ap (λ l. l.implicit_inputs) e;
+  order_only_inputs = ap (λ l. l.order_only_inputs) e;
+}
 
--- equal arguments give equal results, at five
-pub five : {X Y : Type 0} (f : X → X → X → X → X → Y) (a b c d e k l m n o : X) → a ≡ k → b ≡ l → c ≡ m → d ≡ n → e ≡ o → f a b c d e ≡ f k l m n o
-five f a b c d e k l m n o p q r s t = cc
+abbrev lists_of : {X : Type 0} → X → X → X → X → X → PathLists X
+lists_of a b c d e = record { outputs = a; implicit_outputs = b; inputs = c; implicit_inputs = d; order_only_inputs = e }
+
+five : {X : Type 0} (a b c d e k l m n o : X) → a ≡ k → b ≡ l → c ≡ m → d ≡ n → e ≡ o → lists_of a b c d e ≡ lists_of k l m n o
+five a b c d e k l m n o p q r s t = cc
+
+-- equal lists, each by itself
+pub same_lists : {X : Type 0} (p q : PathLists X) → p.outputs ≡ q.outputs → p.implicit_outputs ≡ q.implicit_outputs → p.inputs ≡ q.inputs → p.implicit_inputs ≡ q.implicit_inputs → p.order_only_inputs ≡ q.order_only_inputs → p ≡ q
+same_lists p q o io i ii oo = five _ _ _ _ _ _ _ _ _ _ o io i ii oo
 
 -- as much is kept of the canonical forms of paths
 pub kept_forms : (p q : Paths) → kept_in p ≡ kept_in q → kept_in (canonical_paths p) ≡ kept_in (canonical_paths q)
 kept_forms p q e =
     let s = kept_lists p q e in
-    five (λ (a b c d e : List (Option Text)). a ∷ b ∷ c ∷ d ∷ e ∷ []) _ _ _ _ _ _ _ _ _ _
+    same_lists (kept_in (canonical_paths p)) (kept_in (canonical_paths q))
     (kept_canonical p.outputs q.outputs s.outputs) (kept_canonical p.implicit_outputs q.implicit_outputs s.implicit_outputs) (kept_canonical p.inputs q.inputs s.inputs)
     (kept_canonical p.implicit_inputs q.implicit_inputs s.implicit_inputs) (kept_canonical p.order_only_inputs q.order_only_inputs s.order_only_inputs)
 
@@ -157,7 +172,7 @@ exact_forms p q e f =
     let three = any_parts is_long_path (p.outputs ++ p.implicit_outputs ++ p.inputs) p.implicit_inputs four.0 in
     let two = any_parts is_long_path (p.outputs ++ p.implicit_outputs) p.inputs three.0 in
     let one = any_parts is_long_path p.outputs p.implicit_outputs two.0 in
-    five (λ (a b c d e : List Text). record { outputs = a; implicit_outputs = b; inputs = c; implicit_inputs = d; order_only_inputs = e }) _ _ _ _ _ _ _ _ _ _
+    same_lists p q
     (exact_paths p.outputs q.outputs s.outputs one.0) (exact_paths p.implicit_outputs q.implicit_outputs s.implicit_outputs one.1) (exact_paths p.inputs q.inputs s.inputs two.1)
     (exact_paths p.implicit_inputs q.implicit_inputs s.implicit_inputs three.1) (exact_paths p.order_only_inputs q.order_only_inputs s.order_only_inputs four.1)
 
@@ -208,8 +223,37 @@ any_five test a b c d e =
     ∙ ap (λ (t : Bool). t || list_any test c) (list_any-append test a b)))
 
 -- whether a path of some list passes a test
-pub any_of_five : (test : Text → Bool) (p : Paths) (a b c d e : Bool) → a ≡ list_any test p.outputs → b ≡ list_any test p.implicit_outputs → c ≡ list_any test p.inputs → d ≡ list_any test p.implicit_inputs → e ≡ list_any test p.order_only_inputs
+any_of_five : (test : Text → Bool) (p : Paths) (a b c d e : Bool) → a ≡ list_any test p.outputs → b ≡ list_any test p.implicit_outputs → c ≡ list_any test p.inputs → d ≡ list_any test p.implicit_inputs → e ≡ list_any test p.order_only_inputs
     → ((((a || b) || c) || d) || e) ≡ list_any test (all_in p)
 any_of_five test p a b c d e h i j k l =
-    five (λ (a b c d e : Bool). (((a || b) || c) || d) || e) _ _ _ _ _ _ _ _ _ _ h i j k l
+    let each : ((((a || b) || c) || d) || e) ≡ ((((list_any test p.outputs || list_any test p.implicit_outputs) || list_any test p.inputs) || list_any test p.implicit_inputs) || list_any test p.order_only_inputs) = cc in
+    each
     ∙ sym (any_five test p.outputs p.implicit_outputs p.inputs p.implicit_inputs p.order_only_inputs)
+
+-- what is read of five lists
+pub lists_read : (texts : Paths) (lists : PathLists PathList) (read : PathTexts) → AreListsOf texts lists
+    → read ≡ record {
+      has_empty = (((lists.outputs.has_empty || lists.implicit_outputs.has_empty) || lists.inputs.has_empty) || lists.implicit_inputs.has_empty) || lists.order_only_inputs.has_empty;
+      has_long = (((lists.outputs.has_long || lists.implicit_outputs.has_long) || lists.inputs.has_long) || lists.implicit_inputs.has_long) || lists.order_only_inputs.has_long;
+      paths = map_lists (λ l. l.forms) lists;
+    }
+    → AreRead texts read
+lists_read texts lists read h e =
+    let o = h.outputs in
+    let io = h.implicit_outputs in
+    let i = h.inputs in
+    let ii = h.implicit_inputs in
+    let oo = h.order_only_inputs in
+    subst (AreRead texts) (sym e) (
+      same_lists (map_lists (λ l. l.forms) lists) (canonical_paths texts) o.0 io.0 i.0 ii.0 oo.0,
+      any_of_five is_empty texts _ _ _ _ _ o.1 io.1 i.1 ii.1 oo.1,
+      any_of_five is_long_path texts _ _ _ _ _ o.2 io.2 i.2 ii.2 oo.2,
+    )
+
+-- the canonical forms of all paths are those of each list
+pub forms_in : (p : Paths) → map path_of (all_in p) ≡ all_in (canonical_paths p)
+forms_in p =
+    map-append path_of (p.outputs ++ p.implicit_outputs ++ p.inputs ++ p.implicit_inputs) p.order_only_inputs
+    ∙ ap (λ l. l ++ map path_of p.order_only_inputs) (map-append path_of (p.outputs ++ p.implicit_outputs ++ p.inputs) p.implicit_inputs
+    ∙ ap (λ l. l ++ map path_of p.implicit_inputs) (map-append path_of (p.outputs ++ p.implicit_outputs) p.inputs
+    ∙ ap (λ l. l ++ map path_of p.inputs) (map-append path_of p.outputs p.implicit_outputs)))

@@ -10,7 +10,7 @@ use Rattle.plan_scope.specs.declared.fault.ScopeFault.TheVariants.{Refused, Sour
 use Rattle.plan_scope.specs.declared.manifest.Manifest.{Manifest}
 use Rattle.plan_scope.specs.Trees.{TreeStatement}
 use Rattle.plan_scope.specs.Edges.{manifest_of, commands_of}
-use Rattle.plan_scope.specs.Loading.{LoadsFirst, LoadsWithin, fresh_scope}
+use Rattle.plan_scope.specs.Loading.{LoadsFirst, MayLoad, whole_file, is_read, is_missing, is_refused, is_added, includes_file, ends, fresh_scope}
 
 abbrev lf : List ℕ
 lf = 10 ∷ []
@@ -91,11 +91,13 @@ in_of_file = refl
 quoting : manifest (codes "rule r" ++ lf ++ codes "  command = c $rspfile_content" ++ lf ++ codes "  description = d $in" ++ lf ++ codes "  depfile = $in.d" ++ lf ++ codes "  rspfile_content = $out" ++ lf ++ codes "build a$ b/./c | d: r e$ f | .//g || h")
     ≡ Ok (record {
       edges = record {
-        outputs = codes "a b/c" ∷ [];
-        implicit_outputs = codes "d" ∷ [];
-        inputs = codes "e f" ∷ [];
-        implicit_inputs = codes "g" ∷ [];
-        order_only_inputs = codes "h" ∷ [];
+        paths = record {
+          outputs = codes "a b/c" ∷ [];
+          implicit_outputs = codes "d" ∷ [];
+          inputs = codes "e f" ∷ [];
+          implicit_inputs = codes "g" ∷ [];
+          order_only_inputs = codes "h" ∷ [];
+        };
         command = codes "c 'a b/c'";
         description = codes "d 'e f'";
         depfile = codes "e f.d";
@@ -170,11 +172,13 @@ empty_first = refl
 defaults : manifest (codes "default x/../a" ++ lf ++ codes "build a: phony" ++ lf ++ codes "default a b")
     ≡ Ok (record {
       edges = record {
-        outputs = codes "a" ∷ [];
-        implicit_outputs = [];
-        inputs = [];
-        implicit_inputs = [];
-        order_only_inputs = [];
+        paths = record {
+          outputs = codes "a" ∷ [];
+          implicit_outputs = [];
+          inputs = [];
+          implicit_inputs = [];
+          order_only_inputs = [];
+        };
         command = [];
         description = [];
         depfile = [];
@@ -223,10 +227,12 @@ gives path bytes = ((path ≡ name) × (bytes ≡ Some (codes "subninja c"))) �
 
 -- its tree
 two_files : LoadsFirst gives (λ path. ⊥) name (Ok (tree_statements (codes "c") (1 ∷ 0 ∷ []) (statements_of (codes "x = 1"))))
-unfolding LoadsWithin
 two_files =
     let back = tree_statements (codes "c") (1 ∷ 0 ∷ []) (statements_of (codes "x = 1")) in
-    inr (codes "subninja c", inl (refl, refl), (Ok back, inr (codes "x = 1", inr (refl, refl), refl), refl))
+    is_read 63 name (0 ∷ []) [] (codes "subninja c") _ (Ok back) (inl (refl, refl)) refl
+    (includes_file 62 name (0 ∷ []) [] _ [] (codes "c") back (Ok back) refl refl
+    (is_read 62 (codes "c") (1 ∷ 0 ∷ []) [] (codes "x = 1") _ (Ok back) (inr (refl, refl)) refl (is_added 62 (codes "c") (1 ∷ 0 ∷ []) [] _ [] (Ok back) refl refl (ends 62 (codes "c") (1 ∷ 0 ∷ []) back)))
+    (ends 63 name (0 ∷ []) back))
 
 -- a file opens a scope that neither statements above have nor the statement that includes it
 fresh_scopes : fresh_scope (tree_statements name (0 ∷ []) (statements_of child) ++ tree_statements (codes "c") (1 ∷ 0 ∷ []) (statements_of child)) (0 ∷ []) ≡ 2
@@ -236,10 +242,8 @@ fresh_inside : fresh_scope [] (2 ∷ 0 ∷ []) ≡ 3
 fresh_inside = refl
 
 -- at depth 64 nothing is included, whatever the path
-too_deep : LoadsWithin gives (λ path. ⊥) 0 name (0 ∷ []) [] (Err (Refused name 0 IncludeDepth))
-unfolding LoadsWithin
-too_deep = inr (codes "subninja c", inl (refl, refl), refl)
+too_deep : MayLoad gives (λ path. ⊥) 0 (whole_file name (0 ∷ [])) [] (Err (Refused name 0 IncludeDepth))
+too_deep = is_read 0 name (0 ∷ []) [] (codes "subninja c") _ _ (inl (refl, refl)) refl (is_refused 0 name (0 ∷ []) [] _ [] IncludeDepth refl)
 
 missing_file : LoadsFirst gives (λ path. path ≡ codes "d") (codes "d") (Err (SourceMissing (codes "d")))
-unfolding LoadsWithin
-missing_file = inl (refl, refl)
+missing_file = is_missing 63 (codes "d") (0 ∷ []) [] refl

@@ -9,6 +9,7 @@ use Rattle.std.proofs.lemmas.List.Elements.{All-nil, All-cons, All-append}
 use Rattle.plan_text.specs.Laws.{CanonicalStays}
 use Rattle.plan_text.specs.Path.{canonical_of}
 use Rattle.plan_text.specs.declared.piece_reader.Piece.{Piece}
+use Rattle.plan_parse.specs.PathLists.{all_in}
 use Rattle.plan_parse.specs.declared.statement.Build.{Build}
 use Rattle.plan_parse.specs.declared.statement.StatementKind.{StatementKind}
 use Rattle.plan_parse.specs.declared.statement.StatementKind.TheVariants as kind
@@ -24,9 +25,9 @@ use Rattle.plan_scope.specs.Trees.{TreeStatement}
 use Rattle.plan_scope.specs.Scopes.{Text, Name, Bindings, ScopedBindings, nearest, lookup, expand, bound_by, is_too_long, is_long_path, is_empty}
 use Rattle.plan_text.specs.Limits.{max_path, max_text}
 use Rattle.plan_text.specs.Numerals.{is_numeral, number_past}
-use Rattle.plan_scope.specs.Edges.{all_variables, canonical_paths, has_empty, has_long, texts_of, block_of, builds_in, builds_of, edge_of_build, canonical_or, causes_of, console, defaults_alone, depth_in, edge_alone, edge_of_rule, edge_of, edge_or_refusal, first_of, manifest_of_kind, manifest_past, in_front, is_among, is_taken, manifest_of, map_ok, max_depth, names_no_pool, near, empty_manifest, or_refused, path_of, paths_of, phony_variables, pool_alone, pool_by, pools_in, pools_of, rules_of, target_at, targets_by, text_in, environment_of, variables_of, with_front, with_more}
+use Rattle.plan_scope.specs.Edges.{texts_of_variables, canonical_paths, has_empty, has_long, texts_of, block_of, builds_in, builds_of, edge_of_build, canonical_or, causes_of, console, defaults_alone, depth_in, edge_alone, edge_of_rule, edge_of, edge_or_refusal, first_of, manifest_of_kind, manifest_past, in_front, is_among, is_taken, manifest_of, map_ok, max_depth, names_no_pool, near, empty_manifest, or_refused, path_of, paths_of, phony_variables, pool_alone, pool_by, pools_in, pools_of, rules_of, target_at, targets_by, environment_of, variables_of, with_front, with_more}
 use Rattle.plan_scope.specs.Sound.{AreApart, IsPath, IsSound, IsSoundEdge, MakesSome, names_of}
-use Rattle.plan_scope.proofs.PathLemmas.{or_parts}
+use Rattle.plan_scope.proofs.PathLemmas.{forms_in, or_parts}
 
 -- none of these causes stands
 abbrev NoneStands : List (Bool × Cause) → Type 0
@@ -61,13 +62,6 @@ paths_sound s (p ∷ ps) n l =
     let short = or_parts (is_long_path p) (list_any is_long_path ps) l in
     All-cons IsPath (path_of p) (map path_of ps) (path_sound s p none.0 short.0) (paths_sound s ps none.1 short.1)
 
-any_append : (test : Text → Bool) (xs ys : List Text) → list_any test (xs ++ ys) ≡ false → (list_any test xs ≡ false) × (list_any test ys ≡ false)
-any_append test [] ys e = (refl, e)
-any_append test (x ∷ xs) ys e =
-    let here = or_parts (test x) (list_any test (xs ++ ys)) e in
-    let more = any_append test xs ys here.1 in
-    (ap (λ t. t || list_any test xs) here.0 ∙ more.0, more.1)
-
 -- two tests, the later of which is one of two
 known_by : (e l a : Bool) → (not e && (l || not a)) ≡ false → (e ≡ true) ⊎ (a ≡ true)
 known_by true l a h = inl refl
@@ -88,50 +82,33 @@ pool_known pools text h = known (known_by (is_empty text) (is_too_long text) (is
 
 -- variables without a text but one
 record NoTexts (v : Variables) : Type 0 where
-  command : text_in v.command ≡ []
-  description : text_in v.description ≡ []
-  depfile : text_in v.depfile ≡ []
-  pool : text_in v.pool ≡ []
+  command : v.command ≡ []
+  description : v.description ≡ []
+  depfile : v.depfile ≡ []
+  pool : v.pool ≡ []
 
 edge_sound : CanonicalStays → (pools : List Name) (here : Name → Text) (b : Build) (v : Variables) (is_phony : Bool) (e : Edge) → MakesSome b → (is_phony ≡ true → NoTexts v)
     → edge_or_refusal pools here b v is_phony ≡ Ok e → IsSoundEdge pools e
 edge_sound s pools here b v is_phony e some texts h =
     let block : Bindings Text = block_of here b.bindings in
     let at : Name → Text = near here block in
-    let o = paths_of at b.outputs in
-    let io = paths_of at b.implicit_outputs in
-    let i = paths_of at b.inputs in
-    let ii = paths_of at b.implicit_inputs in
-    let oo = paths_of at b.order_only_inputs in
     let paths = texts_of at b in
     let causes = causes_of pools v (has_empty paths) (has_long paths) (list_any (λ (x : Name × Text). is_too_long x.1) block) in
     let r = not_refused (first_of causes) (edge_of (canonical_paths paths) v is_phony) e h in
     let c = none_stands causes r.0 in
-    let e4 = any_append is_empty (o ++ io ++ i ++ ii) oo c.1.1.0 in
-    let e3 = any_append is_empty (o ++ io ++ i) ii e4.0 in
-    let e2 = any_append is_empty (o ++ io) i e3.0 in
-    let e1 = any_append is_empty o io e2.0 in
-    let l4 = any_append is_long_path (o ++ io ++ i ++ ii) oo c.1.1.1.1.1.1.0 in
-    let l3 = any_append is_long_path (o ++ io ++ i) ii l4.0 in
-    let l2 = any_append is_long_path (o ++ io) i l3.0 in
-    let l1 = any_append is_long_path o io l2.0 in
-    let long = λ (t : Option Text). is_too_long (text_in t) in
-    let t = or_parts (list_any long (all_variables v)) _ c.1.1.1.1.1.1.1.0 in
+    let long = is_too_long in
+    let t = or_parts (list_any long (texts_of_variables v)) _ c.1.1.1.1.1.1.1.0 in
     let t1 = or_parts (long v.command) _ t.0 in
     let t2 = or_parts (long v.depfile) _ t1.1 in
     let t3 = or_parts (long v.deps) _ t2.1 in
     let t4 = or_parts (long v.description) _ t3.1 in
     subst (IsSoundEdge pools) r.1 (record {
-      made = omega (arith, some, length-map o path_of, length-map b.outputs (expand at), length-map io path_of, length-map b.implicit_outputs (expand at));
-      outputs = paths_sound s o e1.0 l1.0;
-      implicit_outputs = paths_sound s io e1.1 l1.1;
-      inputs = paths_sound s i e2.1 l2.1;
-      implicit_inputs = paths_sound s ii e3.1 l3.1;
-      order_only_inputs = paths_sound s oo e4.1 l4.1;
-      command = ltb-false max_text (length (text_in v.command)) t1.0;
-      description = ltb-false max_text (length (text_in v.description)) t4.0;
-      depfile = ltb-false max_text (length (text_in v.depfile)) t2.0;
-      pool = pool_known pools (text_in v.pool) c.0;
+      made = omega (arith, some, length-map paths.outputs path_of, length-map b.paths.outputs (expand at), length-map paths.implicit_outputs path_of, length-map b.paths.implicit_outputs (expand at));
+      paths = subst (All IsPath) (forms_in paths) (paths_sound s (all_in paths) c.1.1.0 c.1.1.1.1.1.1.0);
+      command = ltb-false max_text (length v.command) t1.0;
+      description = ltb-false max_text (length v.description) t4.0;
+      depfile = ltb-false max_text (length v.depfile) t2.0;
+      pool = pool_known pools v.pool c.0;
       phony = λ p. let n = texts p in record { command = n.command; description = n.description; depfile = n.depfile; pool = n.pool };
     })
 

@@ -15,17 +15,39 @@ use Rattle.plan_scope.specs.declared.edge.variables.Variables.{Variables}
 use Rattle.plan_scope.specs.Scopes.{Text, Name, Bindings, last_of, is_too_long, is_empty}
 use Rattle.plan_text.specs.Limits.{max_text}
 use Rattle.plan_scope.specs.Expansion.{EdgeEnvironment, plain, quoted, listed, Meaning, Known, Late, or_known, or_late, meaning_of, both, text_of_piece, joined, text_of, text_within, variable}
-use Rattle.plan_scope.specs.Edges.{all_variables, canonical_paths, causes_of, edge_of, edge_or_refusal, first_of, is_among, is_other_deps, is_present, names_no_pool, or_refused, phony_variables, text_in, environment_of, variables_of}
-use Rattle.plan_scope.specs.Kept.{kept, KeptEqBindings, EqNames, KeptEqLookup}
+use Rattle.plan_scope.specs.Edges.{canonical_paths, causes_of, edge_of, edge_or_refusal, first_of, is_among, is_other_deps, is_present, meets_cycle, names_no_pool, or_refused, phony_variables, plain_names, quoted_names, text_of_variable, texts_of_variables, environment_of, variables_of}
+use Rattle.plan_scope.specs.Kept.{kept, KeptEqBindings, KeptEqVariables, EqNames, KeptEqLookup}
 use Rattle.plan_scope.specs.Parts.{IsRead, texts_in, environment_from}
 use Rattle.plan_scope.proofs.TextLemmas.{Same, same_from_kept, kept_append, kept_or, kept_paths, kept_quoted, long_kept}
 use Rattle.plan_scope.proofs.PathLemmas.{empty_kept, exact_kept, kept_lists, or_parts}
 
--- equal items give equal lists, of nine
-pub nine : {X : Type 0} (a b c d e f g h i k l m n o p q r s : X)
-    → a ≡ k → b ≡ l → c ≡ m → d ≡ n → e ≡ o → f ≡ p → g ≡ q → h ≡ r → i ≡ s
-    → a ∷ b ∷ c ∷ d ∷ e ∷ f ∷ g ∷ h ∷ i ∷ [] ≡ k ∷ l ∷ m ∷ n ∷ o ∷ p ∷ q ∷ r ∷ s ∷ []
-nine a b c d e f g h i k l m n o p q r s t1 t2 t3 t4 t5 t6 t7 t8 t9 = cc
+-- equal items give equal lists
+infixr 10 ◌∷≡◌
+pub ◌∷≡◌ : {X : Type 0} {x y : X} {xs ys : List X} → x ≡ y → xs ≡ ys → x ∷ xs ≡ y ∷ ys
+e ∷≡ f = cc
+
+-- a test of one item more
+pub also : (t u w c : Bool) → t ≡ (u || c) → u ≡ w → t ≡ (w || c)
+also t u w c e f = e ∙ ap (λ x. x || c) f
+
+-- two tests that say the same
+pub or_both : (a b c d : Bool) → a ≡ c → b ≡ d → (a || b) ≡ (c || d)
+or_both a b c d e f = cc
+
+-- whether an item of a list passes, by going along it
+abbrev any_past : {A : Type 0} → (A → Bool) → Bool → List A → Bool
+any_past test t [] = t
+any_past test t (x ∷ xs) = any_past test (t || test x) xs
+
+or_assoc : (a b c : Bool) → ((a || b) || c) ≡ (a || (b || c))
+or_assoc true b c = refl
+or_assoc false b c = refl
+
+-- it is whether one of them does
+pub any_past_is : {A : Type 0} (test : A → Bool) (t : Bool) (xs : List A) → any_past test t xs ≡ (t || list_any test xs)
+any_past_is test true [] = refl
+any_past_is test false [] = refl
+any_past_is test t (x ∷ xs) = any_past_is test (t || test x) xs ∙ or_assoc t (test x) (list_any test xs)
 
 -- a way to show paths that shows alike what is kept alike
 abbrev Shows : (Text → Text) → Type 0
@@ -120,22 +142,48 @@ variable_alike show t u v h name =
     within_kept (length u.rule) (meaning_of show u) (meaning_of show v) (meaning_alike show t u v h) [] name
     ∙ ap (λ (r : Bindings (List Piece)). option_map kept (text_within (length r) (meaning_of show v) [] name)) h.rule
 
-abbrev pub KeptAlike : Variables → Variables → Type 0
-KeptAlike u v = map (option_map kept) (all_variables u) ≡ map (option_map kept) (all_variables v)
+cycle_kept : (a b : Option Text) → option_map kept a ≡ option_map kept b → is_none a ≡ is_none b
+cycle_kept None None e = refl
+cycle_kept None (Some y) e = cc
+cycle_kept (Some x) None e = cc
+cycle_kept (Some x) (Some y) e = refl
+
+meets_alike : (show : Text → Text) → Shows show → (u v : EdgeEnvironment) → Alike u v → (names : List Name) → meets_cycle show u names ≡ meets_cycle show v names
+meets_alike show t u v h [] = refl
+meets_alike show t u v h (n ∷ ns) =
+    ap (λ x. x || meets_cycle show u ns) (cycle_kept (variable show u n) (variable show v n) (variable_alike show t u v h n))
+    ∙ ap (λ x. is_none (variable show v n) || x) (meets_alike show t u v h ns)
+
+texts_alike : (show : Text → Text) → Shows show → (u v : EdgeEnvironment) → Alike u v → (name : Name) → kept (text_of_variable show u name) ≡ kept (text_of_variable show v name)
+texts_alike show t u v h name = kept_or (variable show u name) (variable show v name) [] [] (variable_alike show t u v h name) refl
 
 -- the variables of two such edges
-pub variables_alike : (u v : EdgeEnvironment) → Alike u v → KeptAlike (variables_of u) (variables_of v)
+variables_alike : (u v : EdgeEnvironment) → Alike u v → KeptEqVariables (variables_of u) (variables_of v)
 variables_alike u v h =
-    let p = variable_alike plain shows_plain u v h in
-    let q = variable_alike quoted shows_quoted u v h in
-    nine _ _ _ _ _ _ _ _ _ _ _ _ _ _ _ _ _ _
-    (q (codes "command")) (p (codes "depfile")) (p (codes "deps")) (q (codes "description")) (p (codes "dyndep")) (p (codes "generator")) (p (codes "pool")) (p (codes "restat")) (p (codes "rspfile"))
+    let p = texts_alike plain shows_plain u v h in
+    let q = texts_alike quoted shows_quoted u v h in
+    record {
+      texts = q (codes "command") ∷≡ p (codes "depfile") ∷≡ p (codes "deps") ∷≡ q (codes "description") ∷≡ p (codes "dyndep") ∷≡ p (codes "generator") ∷≡ p (codes "pool") ∷≡ p (codes "restat") ∷≡ p (codes "rspfile") ∷≡ refl;
+      cycle = or_both _ _ _ _ (meets_alike quoted shows_quoted u v h quoted_names) (meets_alike plain shows_plain u v h plain_names);
+    }
 
 -- the variables of two such phony edges
-pub phony_alike : (u v : EdgeEnvironment) → Alike u v → KeptAlike (phony_variables u) (phony_variables v)
-phony_alike u v h =
-    nine _ _ _ _ _ _ _ _ _ _ _ _ _ _ _ _ _ _
-    refl refl refl refl (variable_alike plain shows_plain u v h (codes "dyndep")) refl refl refl refl
+phony_alike : (u v : EdgeEnvironment) → Alike u v → KeptEqVariables (phony_variables u) (phony_variables v)
+phony_alike u v h = record {
+  texts = refl ∷≡ refl ∷≡ refl ∷≡ refl ∷≡ texts_alike plain shows_plain u v h (codes "dyndep") ∷≡ refl;
+  cycle = cycle_kept (variable plain u (codes "dyndep")) (variable plain v (codes "dyndep")) (variable_alike plain shows_plain u v h (codes "dyndep"));
+}
+
+variables_through : (u v w : Variables) → KeptEqVariables u v → KeptEqVariables v w → KeptEqVariables u w
+variables_through u v w e f = record { texts = e.texts ∙ f.texts; cycle = e.cycle ∙ f.cycle }
+
+-- variables that were found in an edge that is looked up like another
+pub found_alike : (held : Variables) (u v : EdgeEnvironment) → KeptEqVariables held (variables_of u) → Alike u v → KeptEqVariables held (variables_of v)
+found_alike held u v e h = variables_through held (variables_of u) (variables_of v) e (variables_alike u v h)
+
+-- the same of a phony edge
+pub found_alike_phony : (held : Variables) (u v : EdgeEnvironment) → KeptEqVariables held (phony_variables u) → Alike u v → KeptEqVariables held (phony_variables v)
+found_alike_phony held u v e h = variables_through held (phony_variables u) (phony_variables v) e (phony_alike u v h)
 
 -- what the code holds of a build line is looked up alike
 pub alike_read : (h f : Name → Text) (b : Build) (p : Parts) (rule other : Bindings (List Piece)) (file : Name → Text) (held : EdgeEnvironment)
@@ -144,30 +192,17 @@ alike_read h f b p rule other file held r e s u =
     let lists = kept_lists p.read.paths (canonical_paths (texts_in h b)) r.paths in
     subst (λ x. Alike x (environment_of h f b other)) (sym u) (record { inputs = lists.inputs; outputs = lists.outputs; block = r.values; rule = e; file = s })
 
-any_alike : (test : Option Text → Bool) → ((a b : Option Text) → option_map kept a ≡ option_map kept b → test a ≡ test b) → (us vs : List (Option Text)) → map (option_map kept) us ≡ map (option_map kept) vs
-    → list_any test us ≡ list_any test vs
+any_alike : (test : Text → Bool) → ((a b : Text) → kept a ≡ kept b → test a ≡ test b) → (us vs : List Text) → map kept us ≡ map kept vs → list_any test us ≡ list_any test vs
 any_alike test h [] [] e = refl
 any_alike test h [] (v ∷ vs) e = cc
 any_alike test h (u ∷ us) [] e = cc
 any_alike test h (u ∷ us) (v ∷ vs) e =
-    let k : option_map kept u ≡ option_map kept v = cc in
-    let l : map (option_map kept) us ≡ map (option_map kept) vs = cc in
+    let k : kept u ≡ kept v = cc in
+    let l : map kept us ≡ map kept vs = cc in
     ap (λ t. t || list_any test us) (h u v k) ∙ ap (λ t. test v || t) (any_alike test h us vs l)
 
-cycle_kept : (a b : Option Text) → option_map kept a ≡ option_map kept b → is_none a ≡ is_none b
-cycle_kept None None e = refl
-cycle_kept None (Some y) e = cc
-cycle_kept (Some x) None e = cc
-cycle_kept (Some x) (Some y) e = refl
-
-text_in_kept : (a b : Option Text) → option_map kept a ≡ option_map kept b → kept (text_in a) ≡ kept (text_in b)
-text_in_kept a b e = kept_or a b [] [] e refl
-
-long_alike : (a b : Option Text) → option_map kept a ≡ option_map kept b → is_too_long (text_in a) ≡ is_too_long (text_in b)
-long_alike a b e = long_kept (text_in a) (text_in b) (text_in_kept a b e)
-
-present_alike : (a b : Option Text) → option_map kept a ≡ option_map kept b → is_present a ≡ is_present b
-present_alike a b e = ap not (empty_kept (text_in a) (text_in b) (text_in_kept a b e))
+present_alike : (a b : Text) → kept a ≡ kept b → is_present a ≡ is_present b
+present_alike a b e = ap not (empty_kept a b e)
 
 differs : (t : Bool) → (t ≡ true → ⊥) → t ≡ false
 differs true h = absurd (h refl)
@@ -197,21 +232,15 @@ pool_same pools names s a b k (inr h) =
 pool_kept : (pools names : List Name) → EqNames pools names → (a b : Text) → kept a ≡ kept b → names_no_pool pools a ≡ names_no_pool names b
 pool_kept pools names s a b e = pool_same pools names s a b e (same_from_kept a b e)
 
-abbrev is_long_in : Option Text → Bool
-is_long_in text = is_too_long (text_in text)
-
-exact_texts : (us vs : List (Option Text)) → map (option_map kept) us ≡ map (option_map kept) vs → list_any is_long_in us ≡ false → map text_in us ≡ map text_in vs
+exact_texts : (us vs : List Text) → map kept us ≡ map kept vs → list_any is_too_long us ≡ false → us ≡ vs
 exact_texts [] [] e f = refl
 exact_texts [] (v ∷ vs) e f = cc
 exact_texts (u ∷ us) [] e f = cc
 exact_texts (u ∷ us) (v ∷ vs) e f =
-    let k : option_map kept u ≡ option_map kept v = cc in
-    let l : map (option_map kept) us ≡ map (option_map kept) vs = cc in
-    let parts = or_parts (is_long_in u) (list_any is_long_in us) f in
-    let short = ltb-false max_text (length (text_in u)) parts.0 in
-    let first : text_in u ≡ text_in v = exact_kept (text_in u) (text_in v) (text_in_kept u v k) short in
-    let others : map text_in us ≡ map text_in vs = exact_texts us vs l parts.1 in
-    cc
+    let k : kept u ≡ kept v = cc in
+    let l : map kept us ≡ map kept vs = cc in
+    let parts = or_parts (is_too_long u) (list_any is_too_long us) f in
+    exact_kept u v k (ltb-false max_text (length u) parts.0) ∷≡ exact_texts us vs l parts.1
 
 abbrev eight : (a b c d e f g h : Bool) → List (Bool × Cause)
 eight a b c d e f g h =
@@ -228,68 +257,44 @@ no_cause false false false false false false true h n = cc
 no_cause false false false false false false false true n = cc
 no_cause false false false false false false false false n = (refl, refl)
 
-congruent_eight : {A B : Type 0} (u : A → A → A → A → A → A → A → A → B) (a b c d e f g h i k l m n o p q : A)
-    → a ≡ i → b ≡ k → c ≡ l → d ≡ m → e ≡ n → f ≡ o → g ≡ p → h ≡ q → u a b c d e f g h ≡ u i k l m n o p q
-congruent_eight u a b c d e f g h i k l m n o p q t1 t2 t3 t4 t5 t6 t7 t8 = cc
-
-congruent_six : {A B C : Type 0} (u : A → A → A → B → B → A → C) (a b c : A) (d e : B) (f : A) (i k l : A) (m n : B) (o : A)
-    → a ≡ i → b ≡ k → c ≡ l → d ≡ m → e ≡ n → f ≡ o → u a b c d e f ≡ u i k l m n o
-congruent_six u a b c d e f i k l m n o t1 t2 t3 t4 t5 t6 = cc
-
 or_refused_same : {A : Type 0} (o : Option Cause) (x y : A) → (o ≡ None → x ≡ y) → or_refused o x ≡ or_refused o y
 or_refused_same None x y h = ap (λ e. Ok e) (h refl)
 or_refused_same (Some cause) x y h = refl
 
--- each variable, as far as it is kept
-record KeptEach (u v : Variables) : Type 0 where
-  command : option_map kept u.command ≡ option_map kept v.command
-  depfile : option_map kept u.depfile ≡ option_map kept v.depfile
-  deps : option_map kept u.deps ≡ option_map kept v.deps
-  description : option_map kept u.description ≡ option_map kept v.description
-  dyndep : option_map kept u.dyndep ≡ option_map kept v.dyndep
-  generator : option_map kept u.generator ≡ option_map kept v.generator
-  pool : option_map kept u.pool ≡ option_map kept v.pool
-  restat : option_map kept u.restat ≡ option_map kept v.restat
-  rspfile : option_map kept u.rspfile ≡ option_map kept v.rspfile
-
-kept_each : (u v : Variables) → KeptAlike u v → KeptEach u v
-kept_each u v e = record { command = cc; depfile = cc; deps = cc; description = cc; dyndep = cc; generator = cc; pool = cc; restat = cc; rspfile = cc }
-
 -- the edge, where no path and no text is too long
-edge_same : (h : Name → Text) (b : Build) (p : Parts) (u v : Variables) (t : Bool) → IsRead h b p → KeptAlike u v → p.read.has_long ≡ false → list_any is_long_in (all_variables u) ≡ false
+edge_same : (h : Name → Text) (b : Build) (p : Parts) (u v : Variables) (t : Bool) → IsRead h b p → KeptEqVariables u v → p.read.has_long ≡ false → list_any is_too_long (texts_of_variables u) ≡ false
     → edge_of p.read.paths u t ≡ edge_of (canonical_paths (texts_in h b)) v t
 edge_same h b p u v t r e far long =
-    let q = canonical_paths (texts_in h b) in
-    let each = kept_each u v e in
-    let texts : map text_in (all_variables u) ≡ map text_in (all_variables v) = exact_texts (all_variables u) (all_variables v) e long in
-    let command : text_in u.command ≡ text_in v.command = cc in
-    let description : text_in u.description ≡ text_in v.description = cc in
-    let depfile : text_in u.depfile ≡ text_in v.depfile = cc in
-    let pool : text_in u.pool ≡ text_in v.pool = cc in
-    ap (λ x. edge_of x u t) (r.exact far)
-    ∙ congruent_six
-    (λ (a b c : Text) (d e : Bool) (f : Text).
-    record { outputs = q.outputs; implicit_outputs = q.implicit_outputs; inputs = q.inputs; implicit_inputs = q.implicit_inputs; order_only_inputs = q.order_only_inputs; command = a; description = b; depfile = c; restat = d; generator = e; phony = t; pool = f })
-    _ _ _ _ _ _ _ _ _ _ _ _
-    command description depfile (present_alike u.restat v.restat each.restat) (present_alike u.generator v.generator each.generator) pool
+    let paths : p.read.paths ≡ canonical_paths (texts_in h b) = r.exact far in
+    let texts : texts_of_variables u ≡ texts_of_variables v = exact_texts (texts_of_variables u) (texts_of_variables v) e.texts long in
+    let command : u.command ≡ v.command = cc in
+    let description : u.description ≡ v.description = cc in
+    let depfile : u.depfile ≡ v.depfile = cc in
+    let restat : is_present u.restat ≡ is_present v.restat = cc in
+    let generator : is_present u.generator ≡ is_present v.generator = cc in
+    let pool : u.pool ≡ v.pool = cc in
+    cc
 
 -- what the code holds gives the edge that is meant
-pub edge_held : (pools names : List Name) (h : Name → Text) (b : Build) (p : Parts) (u v : Variables) (t : Bool) → EqNames pools names → IsRead h b p → KeptAlike u v
+pub edge_held : (pools names : List Name) (h : Name → Text) (b : Build) (p : Parts) (u v : Variables) (t : Bool) → EqNames pools names → IsRead h b p → KeptEqVariables u v
     → or_refused (first_of (causes_of pools u p.read.has_empty p.read.has_long p.block.has_long)) (edge_of p.read.paths u t) ≡ edge_or_refusal names h b v t
 edge_held pools names h b p u v t s r e =
-    let each = kept_each u v e in
-    let long = any_alike is_long_in long_alike (all_variables u) (all_variables v) e in
+    let long = any_alike is_too_long long_kept (texts_of_variables u) (texts_of_variables v) e.texts in
+    let texts : map kept (texts_of_variables u) ≡ map kept (texts_of_variables v) = e.texts in
+    let dyndep : kept u.dyndep ≡ kept v.dyndep = cc in
+    let rspfile : kept u.rspfile ≡ kept v.rspfile = cc in
+    let deps : kept u.deps ≡ kept v.deps = cc in
+    let pool : kept u.pool ≡ kept v.pool = cc in
+    let t1 = pool_kept pools names s u.pool v.pool pool in
+    let t2 = e.cycle in
+    let t3 = r.empty_path in
+    let t4 = present_alike u.dyndep v.dyndep dyndep in
+    let t5 = present_alike u.rspfile v.rspfile rspfile in
+    let t6 = deps_kept u.deps v.deps deps in
+    let t7 = r.long_path in
+    let t8 = r.long_value in
     or_refused_same (first_of (causes_of pools u p.read.has_empty p.read.has_long p.block.has_long)) (edge_of p.read.paths u t) (edge_of (canonical_paths (texts_in h b)) v t)
     (λ none.
-    let parts = no_cause _ _ _ _ _ _ p.read.has_long (list_any is_long_in (all_variables u) || p.block.has_long) none in
-    edge_same h b p u v t r e parts.0 (or_parts (list_any is_long_in (all_variables u)) p.block.has_long parts.1).0)
-    ∙ congruent_eight (λ (x1 x2 x3 x4 x5 x6 x7 x8 : Bool). or_refused (first_of (eight x1 x2 x3 x4 x5 x6 x7 x8)) (edge_of (canonical_paths (texts_in h b)) v t))
-    _ _ _ _ _ _ _ _ _ _ _ _ _ _ _ _
-    (pool_kept pools names s (text_in u.pool) (text_in v.pool) (text_in_kept u.pool v.pool each.pool))
-    (any_alike is_none cycle_kept (all_variables u) (all_variables v) e)
-    r.empty_path
-    (present_alike u.dyndep v.dyndep each.dyndep)
-    (present_alike u.rspfile v.rspfile each.rspfile)
-    (deps_kept (text_in u.deps) (text_in v.deps) (text_in_kept u.deps v.deps each.deps))
-    r.long_path
-    (ap (λ x. x || p.block.has_long) long ∙ ap (λ x. list_any is_long_in (all_variables v) || x) r.long_value)
+    let parts = no_cause _ _ _ _ _ _ p.read.has_long (list_any is_too_long (texts_of_variables u) || p.block.has_long) none in
+    edge_same h b p u v t r e parts.0 (or_parts (list_any is_too_long (texts_of_variables u)) p.block.has_long parts.1).0)
+    ∙ cc

@@ -6,6 +6,8 @@ use Rattle.plan_text.specs.Numerals.{number_in}
 use Rattle.plan_text.specs.Path.{canonical_of}
 use Rattle.plan_text.specs.declared.fault.TextFault.{TextFault}
 use Rattle.plan_text.specs.declared.piece_reader.Piece.{Piece}
+use Rattle.plan_parse.specs.declared.path_lists.PathLists.{PathLists}
+use Rattle.plan_parse.specs.PathLists.{all_in, map_lists}
 use Rattle.plan_parse.specs.declared.statement.Binding.{Binding}
 use Rattle.plan_parse.specs.declared.statement.Build.{Build}
 use Rattle.plan_parse.specs.declared.statement.StatementKind.{StatementKind}
@@ -18,7 +20,6 @@ use Rattle.plan_scope.specs.declared.manifest.DefaultTarget.{DefaultTarget}
 use Rattle.plan_scope.specs.declared.manifest.Edge.{Edge}
 use Rattle.plan_scope.specs.declared.manifest.Manifest.{Manifest}
 use Rattle.plan_scope.specs.declared.manifest.Pool.{Pool}
-use Rattle.plan_scope.specs.declared.edge.paths.Paths.{Paths}
 use Rattle.plan_scope.specs.declared.edge.variables.Variables.{Variables}
 use Rattle.plan_scope.specs.Trees.{TreeStatement}
 use Rattle.plan_scope.specs.Scopes.{Text, Name, Bindings, ScopedBindings, last_of, frame, nearest, lookup, expand, in_own, bound_by, is_too_long, is_long_path, is_empty}
@@ -93,29 +94,17 @@ near here block name = unwrap_or (last_of name block) (here name)
 abbrev pub paths_of : (Name → Text) → List (List Piece) → List Text
 paths_of here paths = map (expand here) paths
 
+-- the paths of a build line
+abbrev pub Paths : Type 0
+Paths = PathLists (List Text)
+
 -- the paths of a build line as expanded
 abbrev pub texts_of : (Name → Text) → Build → Paths
-texts_of here b = record {
-  outputs = paths_of here b.outputs;
-  implicit_outputs = paths_of here b.implicit_outputs;
-  inputs = paths_of here b.inputs;
-  implicit_inputs = paths_of here b.implicit_inputs;
-  order_only_inputs = paths_of here b.order_only_inputs;
-}
+texts_of here b = map_lists (paths_of here) b.paths
 
 -- the canonical forms of paths
 abbrev pub canonical_paths : Paths → Paths
-canonical_paths p = record {
-  outputs = map path_of p.outputs;
-  implicit_outputs = map path_of p.implicit_outputs;
-  inputs = map path_of p.inputs;
-  implicit_inputs = map path_of p.implicit_inputs;
-  order_only_inputs = map path_of p.order_only_inputs;
-}
-
--- all of them
-abbrev pub all_in : Paths → List Text
-all_in p = p.outputs ++ p.implicit_outputs ++ p.inputs ++ p.implicit_inputs ++ p.order_only_inputs
+canonical_paths p = map_lists (map path_of) p
 
 -- whether one has no byte
 abbrev pub has_empty : Paths → Bool
@@ -133,43 +122,60 @@ environment_of here file b rule =
     let paths = canonical_paths (texts_of (near here block) b) in
     record { inputs = paths.inputs; outputs = paths.outputs; block = block; rule = rule; file = file }
 
--- the variables of an edge; paths in its command and its description are quoted
+-- the variables in which paths are quoted
+abbrev pub quoted_names : List Name
+quoted_names = codes "command" ∷ codes "description" ∷ []
+
+-- the variables in which paths stay as they are
+abbrev pub plain_names : List Name
+plain_names =
+    codes "depfile" ∷ codes "deps" ∷ codes "dyndep" ∷ codes "generator" ∷ codes "pool" ∷ codes "restat"
+    ∷ codes "rspfile" ∷ []
+
+-- whether the expansion of one of these variables meets a cycle
+abbrev pub meets_cycle : (Text → Text) → EdgeEnvironment → List Name → Bool
+meets_cycle show edge names = list_any (λ name. is_none (variable show edge name)) names
+
+-- the text of a variable; where its expansion meets a cycle it has none, and nothing else is found in it
+abbrev pub text_of_variable : (Text → Text) → EdgeEnvironment → Name → Text
+text_of_variable show edge name = unwrap_or (variable show edge name) []
+
+-- the variables of an edge
 abbrev pub variables_of : EdgeEnvironment → Variables
 variables_of edge = record {
-  command = variable quoted edge (codes "command");
-  depfile = variable plain edge (codes "depfile");
-  deps = variable plain edge (codes "deps");
-  description = variable quoted edge (codes "description");
-  dyndep = variable plain edge (codes "dyndep");
-  generator = variable plain edge (codes "generator");
-  pool = variable plain edge (codes "pool");
-  restat = variable plain edge (codes "restat");
-  rspfile = variable plain edge (codes "rspfile");
+  command = text_of_variable quoted edge (codes "command");
+  depfile = text_of_variable plain edge (codes "depfile");
+  deps = text_of_variable plain edge (codes "deps");
+  description = text_of_variable quoted edge (codes "description");
+  dyndep = text_of_variable plain edge (codes "dyndep");
+  generator = text_of_variable plain edge (codes "generator");
+  pool = text_of_variable plain edge (codes "pool");
+  restat = text_of_variable plain edge (codes "restat");
+  rspfile = text_of_variable plain edge (codes "rspfile");
+  has_cycle = meets_cycle quoted edge quoted_names || meets_cycle plain edge plain_names;
 }
 
 -- a phony has no rule, and looks up `dyndep` alone
 abbrev pub phony_variables : EdgeEnvironment → Variables
 phony_variables edge = record {
-  command = Some [];
-  depfile = Some [];
-  deps = Some [];
-  description = Some [];
-  dyndep = variable plain edge (codes "dyndep");
-  generator = Some [];
-  pool = Some [];
-  restat = Some [];
-  rspfile = Some [];
+  command = [];
+  depfile = [];
+  deps = [];
+  description = [];
+  dyndep = text_of_variable plain edge (codes "dyndep");
+  generator = [];
+  pool = [];
+  restat = [];
+  rspfile = [];
+  has_cycle = is_none (variable plain edge (codes "dyndep"));
 }
 
-abbrev pub all_variables : Variables → List (Option Text)
-all_variables v = v.command ∷ v.depfile ∷ v.deps ∷ v.description ∷ v.dyndep ∷ v.generator ∷ v.pool ∷ v.restat ∷ v.rspfile ∷ []
+-- the texts of them
+abbrev pub texts_of_variables : Variables → List Text
+texts_of_variables v = v.command ∷ v.depfile ∷ v.deps ∷ v.description ∷ v.dyndep ∷ v.generator ∷ v.pool ∷ v.restat ∷ v.rspfile ∷ []
 
--- the text of a variable; where its expansion meets a cycle it has none, and nothing else is found in it
-abbrev pub text_in : Option Text → Text
-text_in text = unwrap_or text []
-
-abbrev pub is_present : Option Text → Bool
-is_present text = not (is_empty (text_in text))
+abbrev pub is_present : Text → Bool
+is_present text = not (is_empty text)
 
 -- a text that isn't empty names a pool; one that is too long names none
 abbrev pub names_no_pool : List Name → Text → Bool
@@ -182,31 +188,27 @@ is_other_deps text = not (is_empty text) && not (bytes_eq text (codes "gcc"))
 -- a path has no byte, a path is too long, or a text of its block is.
 abbrev pub causes_of : List Name → Variables → (empty_path long_path long_value : Bool) → List (Bool × Cause)
 causes_of pools v empty_path long_path long_value =
-    (names_no_pool pools (text_in v.pool), UnknownPool)
-    ∷ (list_any is_none (all_variables v), RuleCycle)
+    (names_no_pool pools v.pool, UnknownPool)
+    ∷ (v.has_cycle, RuleCycle)
     ∷ (empty_path, EmptyPath)
     ∷ (is_present v.dyndep, Dyndep)
     ∷ (is_present v.rspfile, Rspfile)
-    ∷ (is_other_deps (text_in v.deps), DepsKind)
+    ∷ (is_other_deps v.deps, DepsKind)
     ∷ (long_path, PathTooLong)
-    ∷ (list_any (λ text. is_too_long (text_in text)) (all_variables v) || long_value, TextTooLong)
+    ∷ (list_any is_too_long (texts_of_variables v) || long_value, TextTooLong)
     ∷ []
 
 -- the edge with these canonical paths and these variables
 abbrev pub edge_of : Paths → Variables → Bool → Edge
 edge_of p v is_phony = record {
-  outputs = p.outputs;
-  implicit_outputs = p.implicit_outputs;
-  inputs = p.inputs;
-  implicit_inputs = p.implicit_inputs;
-  order_only_inputs = p.order_only_inputs;
-  command = text_in v.command;
-  description = text_in v.description;
-  depfile = text_in v.depfile;
+  paths = p;
+  command = v.command;
+  description = v.description;
+  depfile = v.depfile;
   restat = is_present v.restat;
   generator = is_present v.generator;
   phony = is_phony;
-  pool = text_in v.pool;
+  pool = v.pool;
 }
 
 -- The edge of a build line, or why it is refused, by the pools of the tree, what names stand for above the line, and

@@ -2,7 +2,8 @@
 use Rattle.std.specs.Prelude.{◌≡◌, ℕ, List, [], ◌∷◌, ◌++◌, Option, Some, None, if◌then◌else◌, option_map, map}
 use Rattle.std.specs.Borrow.{Bor}
 use Rattle.plan_scope.specs.Scopes.{Text, Name, Bindings, ScopedBindings, last_of, frame, is_too_long}
-use Rattle.plan_scope.specs.Edges.{is_among}
+use Rattle.plan_scope.specs.declared.edge.variables.Variables.{Variables}
+use Rattle.plan_scope.specs.Edges.{is_among, texts_of_variables}
 
 -- A text, unless it is too long. Of a text that is too long the code keeps no more than shows it.
 unfoldable pub kept : Text → Option Text
@@ -19,6 +20,11 @@ KeptEqScoped stored meant = (scope : ℕ) (name : Name) → option_map kept (las
 -- names that stand for the same texts, as far as texts are kept
 abbrev pub KeptEqLookup : (Name → Text) → (Name → Text) → Type 0
 KeptEqLookup stored meant = (name : Name) → kept (stored name) ≡ kept (meant name)
+
+-- the same variables of an edge, as far as texts are kept
+pub record KeptEqVariables (stored meant : Variables) : Type 0 where
+  pub texts : map kept (texts_of_variables stored) ≡ map kept (texts_of_variables meant)
+  pub cycle : stored.has_cycle ≡ meant.has_cycle
 
 -- the same values for the same names in each scope
 abbrev pub EqScoped : {V : Type 0} → ScopedBindings V → ScopedBindings V → Type 0

@@ -7,6 +7,7 @@ pub mod Edges
 pub mod Sound
 pub mod Laws
 pub mod Loading
+pub mod LoadingSteps
 pub mod LoaderAnswers
 pub mod Kept
 pub mod Keys

@@ -12,7 +12,8 @@ use Rattle.plan_scope.specs.declared.fault.ScopeFault.{ScopeFault}
 use Rattle.plan_scope.specs.declared.fault.ScopeFault.TheVariants.{SourceMissing, Refused, LoadMemory}
 use Rattle.plan_scope.specs.Trees.{TreeStatement}
 use Rattle.plan_scope.specs.Scopes.{Text, lookup, bound_by}
-use Rattle.plan_scope.specs.Loading.{FileAnswers, FileContents, Outcome, PathSet, LoadsStatement, LoadsWithin, IsMissing, cause_to_load, included_by}
+use Rattle.plan_scope.specs.Loading.{FileContents, Outcome, PathSet, IsMissing, cause_to_load, included_by}
+use Rattle.plan_scope.specs.LoadingSteps.{FileAnswers, LoadsStatement, LoadsWithin}
 
 -- no file is missing
 abbrev pub never : PathSet

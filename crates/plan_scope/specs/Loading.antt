@@ -1,5 +1,5 @@
 -- The statements of a file and of all files that it includes.
-use Rattle.std.specs.Prelude.{◌≡◌, ℕ, zero, suc, ◌+◌, ◌⊎◌, ◌==◌, Bool, true, false, max, List, [], ◌∷◌, ◌++◌, Option, Some, None, Result, Ok, Err, if◌then◌else◌}
+use Rattle.std.specs.Prelude.{◌≡◌, ℕ, suc, ◌+◌, ◌⊎◌, ◌==◌, Bool, true, false, max, List, [], ◌∷◌, ◌++◌, Option, Some, None, Result, Ok, Err, if◌then◌else◌}
 use Rattle.plan_parse.specs.declared.fault.ParseFault.{ParseFault}
 use Rattle.plan_parse.specs.declared.statement.Statement.{Statement}
 use Rattle.plan_parse.specs.declared.statement.StatementKind.{StatementKind}
@@ -64,49 +64,57 @@ cause_to_load left here (kind.Include path) = cause_of_path left (expand here pa
 cause_to_load left here (kind.Subninja path) = cause_of_path left (expand here path)
 cause_to_load left here other = None
 
--- what may be answered for a file: its path, its scopes, the statements above it, and the answer, all statements so
--- far or a fault
-abbrev pub FileAnswers : Type 1
-FileAnswers = Text → List ℕ → List TreeStatement → Outcome → Type 0
+-- what names stand for behind the statements above
+abbrev pub names_above : List TreeStatement → List ℕ → Name → Text
+names_above above scopes = lookup (bound_by above) scopes
 
--- what may be answered for what follows these statements
-abbrev pub RestAnswers : Type 1
-RestAnswers = List TreeStatement → Outcome → Type 0
+-- a statement of the file at a path
+abbrev pub placed : Text → List ℕ → Statement → TreeStatement
+placed path scopes s = record { path = path; scopes = scopes; offset = s.offset; kind = s.kind }
 
--- the first fault counts
-abbrev pub GoesOn : RestAnswers → Outcome → Outcome → Type 0
-GoesOn next (Ok statements) out = next statements out
-GoesOn next (Err fault) out = out ≡ Err fault
+-- What is to be loaded: the file at a path, or the statements that are left of it. They see these scopes.
+pub data Job : Type 0 where
+  whole_file : (path : Text) → (scopes : List ℕ) → Job
+  rest_of_file : (path : Text) → (scopes : List ℕ) → (statements : List Statement) → Job
 
--- a statement that is refused, one that includes no file, and one in whose place the statements of this file stand
-abbrev pub LoadsStatement : FileAnswers → RestAnswers → List TreeStatement → TreeStatement → Option Cause → Option Text → Outcome → Type 0
-LoadsStatement answers next above l (Some cause) file out = out ≡ Err (Refused l.path l.offset cause)
-LoadsStatement answers next above l None None out = next (above ++ l ∷ []) out
-LoadsStatement answers next above l None (Some file) out =
-    (inner : Outcome) × answers file (scopes_in above l.scopes l.kind) above inner × GoesOn next inner out
-
--- the statements of a file in order, behind the statements above
-abbrev pub LoadsStatements : FileAnswers → ℕ → Text → List ℕ → List TreeStatement → List Statement → Outcome → Type 0
-LoadsStatements answers left path scopes above [] out = out ≡ Ok above
-LoadsStatements answers left path scopes above (s ∷ more) out =
-    let here = lookup (bound_by above) scopes in
-    LoadsStatement answers (λ statements out. LoadsStatements answers left path scopes statements more out) above (record { path = path; scopes = scopes; offset = s.offset; kind = s.kind })
-    (cause_to_load left here s.kind) (included_by here s.kind) out
-
-abbrev pub LoadsParsed : FileAnswers → ℕ → Text → List ℕ → List TreeStatement → Result (List Statement) ParseFault → Outcome → Type 0
-LoadsParsed answers left path scopes above (Ok statements) out = LoadsStatements answers left path scopes above statements out
-LoadsParsed answers left path scopes above (Err fault) out = out ≡ Err (Parse path fault)
-
--- A file: it is missing, where the source may say so or its read failed; or it has bytes that the source may give.
-abbrev pub LoadsFile : (gives : FileContents) → (missing : PathSet) → FileAnswers → ℕ → FileAnswers
-LoadsFile gives missing answers left path scopes above out =
-    ((out ≡ Err (SourceMissing path)) × missing path)
-    ⊎ ((bytes : List ℕ) × gives path (Some bytes) × LoadsParsed answers left path scopes above (statements_of bytes) out)
-
--- a file, where so many files more may be open
-unfoldable pub LoadsWithin : (gives : FileContents) → (missing : PathSet) → ℕ → FileAnswers
-LoadsWithin gives missing zero = LoadsFile gives missing (λ path scopes above out. ⊥) 0
-LoadsWithin gives missing (suc left) = LoadsFile gives missing (LoadsWithin gives missing left) (suc left)
+-- What may be answered for it, behind the statements above, where so many files more may be open: all statements so
+-- far, or a fault.
+pub data MayLoad (gives : FileContents) (missing : PathSet) : ℕ → Job → List TreeStatement → Outcome → Type 0 where
+  -- a file that may be missing
+  is_missing : (left : ℕ) (path : Text) (scopes : List ℕ) (above : List TreeStatement) → missing path
+      → MayLoad gives missing left (whole_file path scopes) above (Err (SourceMissing path))
+  -- a file whose bytes are no list of statements
+  has_fault : (left : ℕ) (path : Text) (scopes : List ℕ) (above : List TreeStatement) (bytes : List ℕ) (fault : ParseFault)
+      → gives path (Some bytes) → statements_of bytes ≡ Err fault
+      → MayLoad gives missing left (whole_file path scopes) above (Err (Parse path fault))
+  -- a file whose statements are loaded
+  is_read : (left : ℕ) (path : Text) (scopes : List ℕ) (above : List TreeStatement) (bytes : List ℕ) (statements : List Statement) (out : Outcome)
+      → gives path (Some bytes) → statements_of bytes ≡ Ok statements
+      → MayLoad gives missing left (rest_of_file path scopes statements) above out
+      → MayLoad gives missing left (whole_file path scopes) above out
+  -- the end of a file
+  ends : (left : ℕ) (path : Text) (scopes : List ℕ) (above : List TreeStatement)
+      → MayLoad gives missing left (rest_of_file path scopes []) above (Ok above)
+  -- a statement that is refused
+  is_refused : (left : ℕ) (path : Text) (scopes : List ℕ) (above : List TreeStatement) (s : Statement) (more : List Statement) (cause : Cause)
+      → cause_to_load left (names_above above scopes) s.kind ≡ Some cause
+      → MayLoad gives missing left (rest_of_file path scopes (s ∷ more)) above (Err (Refused path s.offset cause))
+  -- a statement that includes no file
+  is_added : (left : ℕ) (path : Text) (scopes : List ℕ) (above : List TreeStatement) (s : Statement) (more : List Statement) (out : Outcome)
+      → cause_to_load left (names_above above scopes) s.kind ≡ None → included_by (names_above above scopes) s.kind ≡ None
+      → MayLoad gives missing left (rest_of_file path scopes more) (above ++ placed path scopes s ∷ []) out
+      → MayLoad gives missing left (rest_of_file path scopes (s ∷ more)) above out
+  -- a statement in whose place the statements of a file stand
+  includes_file : (left : ℕ) (path : Text) (scopes : List ℕ) (above : List TreeStatement) (s : Statement) (more : List Statement) (inner : Text) (with_inner : List TreeStatement) (out : Outcome)
+      → cause_to_load (suc left) (names_above above scopes) s.kind ≡ None → included_by (names_above above scopes) s.kind ≡ Some inner
+      → MayLoad gives missing left (whole_file inner (scopes_in above scopes s.kind)) above (Ok with_inner)
+      → MayLoad gives missing (suc left) (rest_of_file path scopes more) with_inner out
+      → MayLoad gives missing (suc left) (rest_of_file path scopes (s ∷ more)) above out
+  -- a statement that includes a file with a fault
+  includes_fault : (left : ℕ) (path : Text) (scopes : List ℕ) (above : List TreeStatement) (s : Statement) (more : List Statement) (inner : Text) (fault : ScopeFault)
+      → cause_to_load (suc left) (names_above above scopes) s.kind ≡ None → included_by (names_above above scopes) s.kind ≡ Some inner
+      → MayLoad gives missing left (whole_file inner (scopes_in above scopes s.kind)) above (Err fault)
+      → MayLoad gives missing (suc left) (rest_of_file path scopes (s ∷ more)) above (Err fault)
 
 -- at most 64 files are open at once: so many beside the first
 abbrev pub more_files : ℕ
@@ -114,7 +122,7 @@ more_files = 63
 
 -- the first file has scope 0
 abbrev pub LoadsFirst : (gives : FileContents) → (missing : PathSet) → Text → Outcome → Type 0
-LoadsFirst gives missing path out = LoadsWithin gives missing more_files path (0 ∷ []) [] out
+LoadsFirst gives missing path out = MayLoad gives missing more_files (whole_file path (0 ∷ [])) [] out
 
 -- its read failed, and raised the count, or found no file, and didn't
 abbrev pub IsMissing : (gives : FileContents) → (fails : PathSet) → (before now : ℕ) → Text → Type 0

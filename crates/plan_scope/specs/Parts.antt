@@ -4,10 +4,9 @@ use Rattle.std.specs.List.{list_any}
 use Rattle.plan_text.specs.declared.piece_reader.Piece.{Piece}
 use Rattle.plan_parse.specs.declared.statement.Build.{Build}
 use Rattle.plan_scope.specs.declared.edge.build_line.Parts.{Parts}
-use Rattle.plan_scope.specs.declared.edge.paths.Paths.{Paths}
 use Rattle.plan_scope.specs.Scopes.{Text, Name, Bindings, is_too_long}
 use Rattle.plan_scope.specs.Expansion.{EdgeEnvironment}
-use Rattle.plan_scope.specs.Edges.{block_of, canonical_paths, has_empty, has_long, near, texts_of}
+use Rattle.plan_scope.specs.Edges.{Paths, block_of, canonical_paths, has_empty, has_long, near, texts_of}
 use Rattle.plan_scope.specs.Kept.{KeptEqBindings}
 use Rattle.plan_scope.specs.Paths.{kept_in}
 

@@ -2,6 +2,7 @@
 use Rattle.std.specs.Prelude.{◌≡◌, ◌<◌, ◌≤◌, ◌+◌, ◌⊎◌, true, false, List, [], ◌∷◌, ◌++◌, length, map, Ok}
 use Rattle.std.specs.List.{All}
 use Rattle.plan_text.specs.Path.{canonical_of}
+use Rattle.plan_parse.specs.PathLists.{all_in}
 use Rattle.plan_parse.specs.declared.statement.Build.{Build}
 use Rattle.plan_scope.specs.declared.manifest.Edge.{Edge}
 use Rattle.plan_scope.specs.declared.manifest.Manifest.{Manifest}
@@ -12,7 +13,7 @@ use Rattle.plan_scope.specs.Edges.{is_among, max_depth}
 
 -- a build line has an output of either sort
 abbrev pub MakesSome : Build → Type 0
-MakesSome b = 0 < length b.outputs + length b.implicit_outputs
+MakesSome b = 0 < length b.paths.outputs + length b.paths.implicit_outputs
 
 -- a canonical path of 1 to 4,096 bytes
 pub record IsPath (path : Text) : Type 0 where
@@ -29,12 +30,8 @@ pub record RunsNothing (e : Edge) : Type 0 where
 
 -- an edge, by the names of the pools
 pub record IsSoundEdge (pools : List Name) (e : Edge) : Type 0 where
-  pub made : 0 < length e.outputs + length e.implicit_outputs
-  pub outputs : All IsPath e.outputs
-  pub implicit_outputs : All IsPath e.implicit_outputs
-  pub inputs : All IsPath e.inputs
-  pub implicit_inputs : All IsPath e.implicit_inputs
-  pub order_only_inputs : All IsPath e.order_only_inputs
+  pub made : 0 < length e.paths.outputs + length e.paths.implicit_outputs
+  pub paths : All IsPath (all_in e.paths)
   pub command : length e.command ≤ max_text
   pub description : length e.description ≤ max_text
   pub depfile : length e.depfile ≤ max_text

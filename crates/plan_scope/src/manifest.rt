@@ -7,21 +7,14 @@ pub(crate) mod pool_names;
 mod pools;
 mod rules;
 
+use plan_parse::PathLists;
 use plan_text::{Items, SmallText};
 
 /// What a build line makes, from what, and how. Its paths are canonical.
 #[derive(Debug, Drop)]
 pub struct Edge {
-    /// The explicit outputs.
-    pub outputs: Items<SmallText>,
-    /// The implicit outputs; there is at least one output of either sort.
-    pub implicit_outputs: Items<SmallText>,
-    /// The explicit inputs.
-    pub inputs: Items<SmallText>,
-    /// The implicit inputs.
-    pub implicit_inputs: Items<SmallText>,
-    /// The order-only inputs.
-    pub order_only_inputs: Items<SmallText>,
+    /// The paths of its outputs and inputs; there is at least one output, explicit or implicit.
+    pub paths: PathLists<Items<SmallText>>,
     /// The text of its command; empty for a phony.
     pub command: Items<u8>,
     /// What is shown in place of the command, where it isn't empty.

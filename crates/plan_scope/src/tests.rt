@@ -284,11 +284,11 @@ fn lists_of_an_edge(rt: HostRuntime) -> Result<(), Fail> {
     let Some(edge) = only_edge(&manifest) else {
         panic!(rt; "not one edge");
     };
-    assert!(rt; is_only(&edge.outputs, b"a"));
-    assert!(rt; is_only(&edge.implicit_outputs, b"b/c"));
-    assert!(rt; is_only(&edge.inputs, b"d"));
-    assert!(rt; is_only(&edge.implicit_inputs, b"f"));
-    assert!(rt; is_only(&edge.order_only_inputs, b"g"));
+    assert!(rt; is_only(&edge.paths.outputs, b"a"));
+    assert!(rt; is_only(&edge.paths.implicit_outputs, b"b/c"));
+    assert!(rt; is_only(&edge.paths.inputs, b"d"));
+    assert!(rt; is_only(&edge.paths.implicit_inputs, b"f"));
+    assert!(rt; is_only(&edge.paths.order_only_inputs, b"g"));
     assert_eq!(rt; command_text(edge), b"c".as_slice());
     Ok(())
 }

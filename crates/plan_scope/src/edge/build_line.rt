@@ -10,18 +10,18 @@ ghost use Rattle.plan_scope.specs.Outcomes.{Gives};
 ghost use Rattle.plan_scope.specs.ScopeNames.{names_in};
 
 use crate::edge::expansion::EdgeEnvironment;
-use crate::edge::paths::{BlockTexts, PathTexts, Paths, block, read_paths};
+use crate::edge::paths::{BlockTexts, PathTexts, block, read_paths};
 use crate::edge::rule_variables::RuleVariables;
 use crate::edge::variables::{
-    Variables, has_cycle, has_long_text, into_text, is_other_deps, is_present, text_or_empty,
-    variables_of_phony, variables_of_rule,
+    Variables, has_long_text, is_other_deps, is_present, variables_of_phony, variables_of_rule,
 };
 use crate::fault::{Cause, StatementFault};
 use crate::manifest::Edge;
 use crate::manifest::pool_names::PoolNames;
 use crate::scope::Scope;
 use crate::scope::text::is_long;
-use plan_parse::Build;
+use plan_parse::{Build, PathLists};
+use plan_text::{Items, SmallText};
 use std::alloc::{AllocError, Global};
 
 /// What is read of a build line before its variables are looked up.
@@ -59,22 +59,22 @@ fn names_no_pool(pools: &PoolNames, text: &[u8]) -> bool
 fn cause(pools: &PoolNames, parts: &Parts, variables: &Variables) -> Option<Cause>
     ensures { result ≡ first_of (causes_of pools.now variables.now parts.now.read.has_empty parts.now.read.has_long parts.now.block.has_long) }
 {
-    if names_no_pool(pools, text_or_empty(&variables.pool)) {
+    if names_no_pool(pools, variables.pool.as_slice()) {
         return Some(Cause::UnknownPool);
     }
-    if has_cycle(variables) {
+    if variables.has_cycle {
         return Some(Cause::RuleCycle);
     }
     if parts.read.has_empty {
         return Some(Cause::EmptyPath);
     }
-    if is_present(&variables.dyndep) {
+    if is_present(variables.dyndep.as_slice()) {
         return Some(Cause::Dyndep);
     }
-    if is_present(&variables.rspfile) {
+    if is_present(variables.rspfile.as_slice()) {
         return Some(Cause::Rspfile);
     }
-    if is_other_deps(text_or_empty(&variables.deps)) {
+    if is_other_deps(variables.deps.as_slice()) {
         return Some(Cause::DepsKind);
     }
     if parts.read.has_long {
@@ -87,30 +87,25 @@ fn cause(pools: &PoolNames, parts: &Parts, variables: &Variables) -> Option<Caus
 }
 
 /// The edge with these paths and variables.
-fn edge_from(alloc: Global, paths: Paths, variables: Variables, phony: bool) -> Edge
+fn edge_from(paths: PathLists<Items<SmallText>>, variables: Variables, phony: bool) -> Edge
     ensures { result ≡ edge_of paths variables phony }
 {
-    let restat = is_present(&variables.restat);
-    let generator = is_present(&variables.generator);
+    let restat = is_present(variables.restat.as_slice());
+    let generator = is_present(variables.generator.as_slice());
     Edge {
-        outputs: paths.outputs,
-        implicit_outputs: paths.implicit_outputs,
-        inputs: paths.inputs,
-        implicit_inputs: paths.implicit_inputs,
-        order_only_inputs: paths.order_only_inputs,
-        command: into_text(alloc, variables.command),
-        description: into_text(alloc, variables.description),
-        depfile: into_text(alloc, variables.depfile),
+        paths,
+        command: variables.command,
+        description: variables.description,
+        depfile: variables.depfile,
         restat,
         generator,
         phony,
-        pool: into_text(alloc, variables.pool),
+        pool: variables.pool,
     }
 }
 
 /// The edge with these variables, unless it is refused.
 fn edge_or_refusal(
-    alloc: Global,
     pools: &PoolNames,
     parts: Parts,
     variables: Variables,
@@ -120,7 +115,7 @@ fn edge_or_refusal(
 {
     match cause(pools, &parts, &variables) {
         Some(cause) => Err(StatementFault::Refused(cause)),
-        None => Ok(edge_from(alloc, parts.read.paths, variables, phony)),
+        None => Ok(edge_from(parts.read.paths, variables, phony)),
     }
 }
 
@@ -156,7 +151,7 @@ pub fn edge<'a>(
     let parts = read_parts(alloc, here, build)?;
     let environment = environment_with(&parts, &*rule, file);
     let variables = variables_of_rule(alloc, &environment)?;
-    edge_or_refusal(alloc, pools, parts, variables, false)
+    edge_or_refusal(pools, parts, variables, false)
 }
 
 /// The edge of a phony build line, by the same.
@@ -173,5 +168,5 @@ pub fn phony_edge<'a>(
     let rule = RuleVariables::empty(alloc);
     let environment = environment_with(&parts, &rule, file);
     let variables = variables_of_phony(alloc, &environment)?;
-    edge_or_refusal(alloc, pools, parts, variables, true)
+    edge_or_refusal(pools, parts, variables, true)
 }

@@ -4,15 +4,15 @@ ghost use Rattle.std.specs.Prelude.{◌≡◌, ◌≤◌, ◌+◌, List, length,
 ghost use Rattle.std.specs.List.{list_any};
 ghost use Rattle.plan_scope.specs.Scopes.{Bindings, Name, Text, expand, is_empty, is_long_path, is_too_long, value_of};
 ghost use Rattle.plan_text.specs.Limits.{max_text};
-ghost use Rattle.plan_scope.specs.Edges.{block_of, near, path_of, paths_of, texts_of};
+ghost use Rattle.plan_scope.specs.Edges.{Paths, block_of, near, path_of, paths_of, texts_of};
 ghost use Rattle.plan_scope.specs.Kept.{KeptEqBindings, KeptEqLookup, kept};
-ghost use Rattle.plan_scope.specs.Paths.{AreRead, IsListOf, kept_in};
+ghost use Rattle.plan_scope.specs.Paths.{AreListsOf, AreRead, IsListOf, kept_in};
 ghost use Rattle.plan_scope.specs.ScopeNames.{names_in};
 
 use crate::scope::small_map::SmallMap;
 use crate::scope::text::{append, is_long};
 use crate::scope::{Scope, expand_pieces, name_text};
-use plan_parse::{Binding, Build};
+use plan_parse::{Binding, Build, PathLists};
 use plan_text::{Items, MAX_PATH, Piece, PieceList, SmallText, TextFault, canonical, is_canonical};
 use std::alloc::{AllocError, Global};
 
@@ -126,11 +126,12 @@ fn read_list<'a>(
     alloc: Global,
     block: &'a SmallMap<'a, Items<u8>>,
     here: Scope<'a>,
-    paths: &'a [PieceList],
+    list: &'a Items<PieceList>,
     buffer: &mut Vec<u8>,
 ) -> Result<PathList, AllocError>
-    ensures { IfOk result (λ list. (texts : List Text) × IsListOf texts list.forms list.has_empty list.has_long × ((b : Bindings Text) (m : Name → Text) → KeptEqBindings block.now b → KeptEqLookup (names_in here.entry) m → map kept texts ≡ map kept (paths_of (near m b) paths.now))) }
+    ensures { IfOk result (λ read. (texts : List Text) × IsListOf texts read.forms read.has_empty read.has_long × ((b : Bindings Text) (m : Name → Text) → KeptEqBindings block.now b → KeptEqLookup (names_in here.entry) m → map kept texts ≡ map kept (paths_of (near m b) list.now))) }
 {
+    let paths = list.as_slice();
     let mut forms = Vec::with_capacity(alloc, paths.len())?;
     let mut has_empty = false;
     let mut has_long = false;
@@ -147,26 +148,11 @@ fn read_list<'a>(
     })
 }
 
-/// The paths of a build line.
-#[derive(Drop)]
-pub struct Paths {
-    /// The explicit outputs.
-    pub outputs: Items<SmallText>,
-    /// The implicit outputs.
-    pub implicit_outputs: Items<SmallText>,
-    /// The explicit inputs.
-    pub inputs: Items<SmallText>,
-    /// The implicit inputs.
-    pub implicit_inputs: Items<SmallText>,
-    /// The order-only inputs.
-    pub order_only_inputs: Items<SmallText>,
-}
-
 /// What is read of the paths of a build line.
 #[derive(Drop)]
 pub struct PathTexts {
     /// Their canonical forms.
-    pub paths: Paths,
+    pub paths: PathLists<Items<SmallText>>,
     /// Whether a path as expanded has no byte.
     pub has_empty: bool,
     /// Whether a path as expanded is too long.
@@ -174,21 +160,16 @@ pub struct PathTexts {
 }
 
 /// What is read of five lists.
-fn combine(
-    outputs: PathList,
-    implicit_outputs: PathList,
-    inputs: PathList,
-    implicit_inputs: PathList,
-    order_only_inputs: PathList,
-) -> PathTexts
-    ensures { (texts : Paths)
-        → IsListOf texts.outputs outputs.forms outputs.has_empty outputs.has_long
-        → IsListOf texts.implicit_outputs implicit_outputs.forms implicit_outputs.has_empty implicit_outputs.has_long
-        → IsListOf texts.inputs inputs.forms inputs.has_empty inputs.has_long
-        → IsListOf texts.implicit_inputs implicit_inputs.forms implicit_inputs.has_empty implicit_inputs.has_long
-        → IsListOf texts.order_only_inputs order_only_inputs.forms order_only_inputs.has_empty order_only_inputs.has_long
-        → AreRead texts result }
+fn combine(lists: PathLists<PathList>) -> PathTexts
+    ensures { (texts : Paths) → AreListsOf texts lists → AreRead texts result }
 {
+    let PathLists {
+        outputs,
+        implicit_outputs,
+        inputs,
+        implicit_inputs,
+        order_only_inputs,
+    } = lists;
     PathTexts {
         has_empty: outputs.has_empty
             | implicit_outputs.has_empty
@@ -200,7 +181,7 @@ fn combine(
             | inputs.has_long
             | implicit_inputs.has_long
             | order_only_inputs.has_long,
-        paths: Paths {
+        paths: PathLists {
             outputs: outputs.forms,
             implicit_outputs: implicit_outputs.forms,
             inputs: inputs.forms,
@@ -223,36 +204,14 @@ pub fn read_paths<'a>(
     ensures { IfOk result (λ read. (texts : Paths) × AreRead texts read × ((b : Bindings Text) (m : Name → Text) → KeptEqBindings block.now b → KeptEqLookup (names_in here.entry) m → kept_in texts ≡ kept_in (texts_of (near m b) build.now))) }
 {
     let mut buffer = Vec::with_capacity(alloc, BUFFER)?;
-    let outputs = read_list(alloc, block, here, build.outputs.as_slice(), &mut buffer)?;
-    let implicit_outputs = read_list(
-        alloc,
-        block,
-        here,
-        build.implicit_outputs.as_slice(),
-        &mut buffer,
-    )?;
-    let inputs = read_list(alloc, block, here, build.inputs.as_slice(), &mut buffer)?;
-    let implicit_inputs = read_list(
-        alloc,
-        block,
-        here,
-        build.implicit_inputs.as_slice(),
-        &mut buffer,
-    )?;
-    let order_only_inputs = read_list(
-        alloc,
-        block,
-        here,
-        build.order_only_inputs.as_slice(),
-        &mut buffer,
-    )?;
-    Ok(combine(
-        outputs,
-        implicit_outputs,
-        inputs,
-        implicit_inputs,
-        order_only_inputs,
-    ))
+    let lists = &build.paths;
+    Ok(combine(PathLists {
+        outputs: read_list(alloc, block, here, &lists.outputs, &mut buffer)?,
+        implicit_outputs: read_list(alloc, block, here, &lists.implicit_outputs, &mut buffer)?,
+        inputs: read_list(alloc, block, here, &lists.inputs, &mut buffer)?,
+        implicit_inputs: read_list(alloc, block, here, &lists.implicit_inputs, &mut buffer)?,
+        order_only_inputs: read_list(alloc, block, here, &lists.order_only_inputs, &mut buffer)?,
+    }))
 }
 
 /// Whether a path of a list has no byte.

@@ -1,44 +1,55 @@
 //! The variables of an edge.
 
-ghost use Rattle.std.specs.Prelude.{◌≡◌, ◌∷◌, [], IfOk, None, is_none, map, option_map, true};
+ghost use Rattle.std.specs.Prelude.{◌≡◌, ◌||◌, [], IfOk, OnOk, None, false, is_none, true};
 ghost use Rattle.std.specs.List.{list_any};
 ghost use Rattle.plan_scope.specs.Scopes.{Text, is_too_long};
 ghost use Rattle.plan_scope.specs.Expansion.{Known, listed, meaning_of, variable};
-ghost use Rattle.plan_scope.specs.Edges.{all_variables, is_other_deps, is_present, phony_variables, text_in, variables_of};
-ghost use Rattle.plan_scope.specs.Kept.{kept};
+ghost use Rattle.plan_scope.specs.Edges.{is_other_deps, is_present, phony_variables, text_of_variable, texts_of_variables, variables_of};
+ghost use Rattle.plan_scope.specs.Kept.{kept, KeptEqVariables};
 ghost use Rattle.plan_scope.specs.HeldEnvironment.{environment_of};
 ghost use Rattle.plan_scope.specs.Memo.{IsMemo};
 ghost use Rattle.plan_scope.specs.ShellQuoting.{quoted_as};
-ghost use Rattle.plan_scope.specs.declared.scope.text.Quoting.TheVariants.{Plain, Shell};
 
 use crate::edge::expansion::{EdgeEnvironment, append_whole};
 use crate::edge::memo::MemoEntry;
 use crate::fault::StatementFault;
+use crate::scope::text::Quoting::{Plain, Shell};
 use crate::scope::text::{Quoting, copy_of, is_long};
 use plan_text::Items;
 use std::alloc::{AllocError, Global};
 
-/// The texts of the variables that an edge looks up; none where the expansion meets a name that is in use already.
+/// The texts of the variables that an edge looks up.
 #[derive(Drop)]
 pub struct Variables {
     /// What runs.
-    pub command: Option<Items<u8>>,
+    pub command: Items<u8>,
     /// The path of its depfile.
-    pub depfile: Option<Items<u8>>,
+    pub depfile: Items<u8>,
     /// How its depfile is handled.
-    pub deps: Option<Items<u8>>,
+    pub deps: Items<u8>,
     /// What is shown in place of the command.
-    pub description: Option<Items<u8>>,
+    pub description: Items<u8>,
     /// The path of a file with more outputs and inputs.
-    pub dyndep: Option<Items<u8>>,
+    pub dyndep: Items<u8>,
     /// Not empty where it makes the manifest's own files.
-    pub generator: Option<Items<u8>>,
+    pub generator: Items<u8>,
     /// The name of its pool.
-    pub pool: Option<Items<u8>>,
+    pub pool: Items<u8>,
     /// Not empty where outputs that it leaves alone count as built.
-    pub restat: Option<Items<u8>>,
+    pub restat: Items<u8>,
     /// The path of a response file.
-    pub rspfile: Option<Items<u8>>,
+    pub rspfile: Items<u8>,
+    /// Whether the expansion of one meets a name that is in use already, so that it has no text.
+    pub has_cycle: bool,
+}
+
+/// What is found of the variables of an edge that show paths alike.
+#[derive(Drop)]
+struct Findings<'a> {
+    /// The variables of its rule that were found on the way.
+    memo: Vec<MemoEntry<'a>>,
+    /// Whether the expansion of one meets a name that is in use already.
+    has_cycle: bool,
 }
 
 /// How many bytes a buffer has room for at first, enough for most commands.
@@ -61,62 +72,46 @@ fn is_unbound<'a>(edge: &EdgeEnvironment<'a>, name: &[u8]) -> bool
     }
 }
 
-/// A variable of an edge, expanded for itself; none where its expansion meets a name that is in use already.
+/// Nothing found yet.
+fn no_findings<'a>(alloc: Global) -> Findings<'a>
+    ensures memo { result.memo.items ≡ [] }
+    ensures cycle { result.has_cycle ≡ false }
+{
+    Findings {
+        memo: Vec::new(alloc),
+        has_cycle: false,
+    }
+}
+
+/// A variable of an edge, expanded for itself; empty where its expansion meets a name that is in use already, which is
+/// kept among the findings.
 /// It is put together in a buffer, whatever that held, so that the text takes no more memory than it needs.
 fn variable<'a>(
     alloc: Global,
     edge: &'a EdgeEnvironment<'a>,
     quoting: Quoting,
-    memo: &mut Vec<MemoEntry<'a>>,
+    found: &mut Findings<'a>,
     name: &'a [u8],
     buffer: &mut Vec<u8>,
-) -> Result<Option<Items<u8>>, AllocError>
+) -> Result<Items<u8>, AllocError>
     requires unlisted { listed (quoted_as quoting) (environment_of edge.now) name.now ≡ None }
-    requires memo { IsMemo (meaning_of (quoted_as quoting) (environment_of edge.now)) memo.old.items }
-    ensures memo { IsMemo (meaning_of (quoted_as quoting) (environment_of edge.now)) memo.new.items }
-    ensures text { IfOk result (λ text. option_map kept text ≡ option_map kept (variable (quoted_as quoting) (environment_of edge.now) name.now)) }
+    requires memo { IsMemo (meaning_of (quoted_as quoting) (environment_of edge.now)) found.old.memo.items }
+    ensures memo { IsMemo (meaning_of (quoted_as quoting) (environment_of edge.now)) found.new.memo.items }
+    ensures text { IfOk result (λ text. kept text ≡ kept (text_of_variable (quoted_as quoting) (environment_of edge.now) name.now)) }
+    ensures cycle { OnOk result (found.new.has_cycle ≡ (found.old.has_cycle || is_none (variable (quoted_as quoting) (environment_of edge.now) name.now))) }
 {
     if is_unbound(edge, name) {
-        return Ok(Some(Items::empty(alloc)));
+        return Ok(Items::empty(alloc));
     }
     buffer.clear();
-    match append_whole(alloc, edge, quoting, memo, name, buffer) {
-        Ok(()) => Ok(Some(copy_of(alloc, buffer)?)),
-        Err(StatementFault::Refused(_)) => Ok(None),
+    match append_whole(alloc, edge, quoting, &mut found.memo, name, buffer) {
+        Ok(()) => copy_of(alloc, buffer),
+        Err(StatementFault::Refused(_)) => {
+            found.has_cycle = true;
+            Ok(Items::empty(alloc))
+        }
         Err(StatementFault::Memory) => Err(AllocError),
     }
-}
-
-/// A variable of an edge that shows paths as they are.
-fn plain_variable<'a>(
-    alloc: Global,
-    edge: &'a EdgeEnvironment<'a>,
-    memo: &mut Vec<MemoEntry<'a>>,
-    name: &'a [u8],
-    buffer: &mut Vec<u8>,
-) -> Result<Option<Items<u8>>, AllocError>
-    requires unlisted { listed (quoted_as Plain) (environment_of edge.now) name.now ≡ None }
-    requires memo { IsMemo (meaning_of (quoted_as Plain) (environment_of edge.now)) memo.old.items }
-    ensures memo { IsMemo (meaning_of (quoted_as Plain) (environment_of edge.now)) memo.new.items }
-    ensures text { IfOk result (λ text. option_map kept text ≡ option_map kept (variable (quoted_as Plain) (environment_of edge.now) name.now)) }
-{
-    variable(alloc, edge, Quoting::Plain, memo, name, buffer)
-}
-
-/// A variable of an edge that quotes paths for the shell.
-fn quoted_variable<'a>(
-    alloc: Global,
-    edge: &'a EdgeEnvironment<'a>,
-    memo: &mut Vec<MemoEntry<'a>>,
-    name: &'a [u8],
-    buffer: &mut Vec<u8>,
-) -> Result<Option<Items<u8>>, AllocError>
-    requires unlisted { listed (quoted_as Shell) (environment_of edge.now) name.now ≡ None }
-    requires memo { IsMemo (meaning_of (quoted_as Shell) (environment_of edge.now)) memo.old.items }
-    ensures memo { IsMemo (meaning_of (quoted_as Shell) (environment_of edge.now)) memo.new.items }
-    ensures text { IfOk result (λ text. option_map kept text ≡ option_map kept (variable (quoted_as Shell) (environment_of edge.now) name.now)) }
-{
-    variable(alloc, edge, Quoting::Shell, memo, name, buffer)
 }
 
 /// The variables of an edge with a rule. Paths in its command and its description are quoted.
@@ -124,21 +119,22 @@ pub fn variables_of_rule<'a>(
     alloc: Global,
     edge: &'a EdgeEnvironment<'a>,
 ) -> Result<Variables, AllocError>
-    ensures { IfOk result (λ v. map (option_map kept) (all_variables v) ≡ map (option_map kept) (all_variables (variables_of (environment_of edge.now)))) }
+    ensures { IfOk result (λ v. KeptEqVariables v (variables_of (environment_of edge.now))) }
 {
     let mut buffer = Vec::with_capacity(alloc, BUFFER)?;
-    let mut plain = Vec::new(alloc);
-    let mut quoted = Vec::new(alloc);
+    let mut plain = no_findings(alloc);
+    let mut quoted = no_findings(alloc);
     Ok(Variables {
-        command: quoted_variable(alloc, edge, &mut quoted, b"command", &mut buffer)?,
-        depfile: plain_variable(alloc, edge, &mut plain, b"depfile", &mut buffer)?,
-        deps: plain_variable(alloc, edge, &mut plain, b"deps", &mut buffer)?,
-        description: quoted_variable(alloc, edge, &mut quoted, b"description", &mut buffer)?,
-        dyndep: plain_variable(alloc, edge, &mut plain, b"dyndep", &mut buffer)?,
-        generator: plain_variable(alloc, edge, &mut plain, b"generator", &mut buffer)?,
-        pool: plain_variable(alloc, edge, &mut plain, b"pool", &mut buffer)?,
-        restat: plain_variable(alloc, edge, &mut plain, b"restat", &mut buffer)?,
-        rspfile: plain_variable(alloc, edge, &mut plain, b"rspfile", &mut buffer)?,
+        command: variable(alloc, edge, Shell, &mut quoted, b"command", &mut buffer)?,
+        depfile: variable(alloc, edge, Plain, &mut plain, b"depfile", &mut buffer)?,
+        deps: variable(alloc, edge, Plain, &mut plain, b"deps", &mut buffer)?,
+        description: variable(alloc, edge, Shell, &mut quoted, b"description", &mut buffer)?,
+        dyndep: variable(alloc, edge, Plain, &mut plain, b"dyndep", &mut buffer)?,
+        generator: variable(alloc, edge, Plain, &mut plain, b"generator", &mut buffer)?,
+        pool: variable(alloc, edge, Plain, &mut plain, b"pool", &mut buffer)?,
+        restat: variable(alloc, edge, Plain, &mut plain, b"restat", &mut buffer)?,
+        rspfile: variable(alloc, edge, Plain, &mut plain, b"rspfile", &mut buffer)?,
+        has_cycle: quoted.has_cycle | plain.has_cycle,
     })
 }
 
@@ -147,49 +143,30 @@ pub fn variables_of_phony<'a>(
     alloc: Global,
     edge: &'a EdgeEnvironment<'a>,
 ) -> Result<Variables, AllocError>
-    ensures { IfOk result (λ v. map (option_map kept) (all_variables v) ≡ map (option_map kept) (all_variables (phony_variables (environment_of edge.now)))) }
+    ensures { IfOk result (λ v. KeptEqVariables v (phony_variables (environment_of edge.now))) }
 {
     let mut buffer = Vec::new(alloc);
-    let mut plain = Vec::new(alloc);
-    let dyndep = plain_variable(alloc, edge, &mut plain, b"dyndep", &mut buffer)?;
+    let mut plain = no_findings(alloc);
+    let dyndep = variable(alloc, edge, Plain, &mut plain, b"dyndep", &mut buffer)?;
     Ok(Variables {
-        command: Some(Items::empty(alloc)),
-        depfile: Some(Items::empty(alloc)),
-        deps: Some(Items::empty(alloc)),
-        description: Some(Items::empty(alloc)),
+        command: Items::empty(alloc),
+        depfile: Items::empty(alloc),
+        deps: Items::empty(alloc),
+        description: Items::empty(alloc),
         dyndep,
-        generator: Some(Items::empty(alloc)),
-        pool: Some(Items::empty(alloc)),
-        restat: Some(Items::empty(alloc)),
-        rspfile: Some(Items::empty(alloc)),
+        generator: Items::empty(alloc),
+        pool: Items::empty(alloc),
+        restat: Items::empty(alloc),
+        rspfile: Items::empty(alloc),
+        has_cycle: plain.has_cycle,
     })
 }
 
-/// The text of a variable, lent.
-pub fn text_or_empty(variable: &Option<Items<u8>>) -> &[u8]
-    ensures { result.now ≡ text_in variable.now }
+/// Whether the text of a variable has a byte.
+pub fn is_present(text: &[u8]) -> bool
+    ensures { result ≡ is_present text.now }
 {
-    match variable {
-        Some(text) => text.as_slice(),
-        None => &[],
-    }
-}
-
-/// The text of a variable.
-pub fn into_text(alloc: Global, variable: Option<Items<u8>>) -> Items<u8>
-    ensures { result ≡ text_in variable }
-{
-    match variable {
-        Some(text) => text,
-        None => Items::empty(alloc),
-    }
-}
-
-/// Whether a variable is neither without a text nor empty.
-pub fn is_present(variable: &Option<Items<u8>>) -> bool
-    ensures { result ≡ is_present variable.now }
-{
-    !text_or_empty(variable).is_empty()
+    !text.is_empty()
 }
 
 /// Whether a `deps` asks for what isn't known.
@@ -199,46 +176,26 @@ pub fn is_other_deps(text: &[u8]) -> bool
     !text.is_empty() & (text != b"gcc".as_slice())
 }
 
-/// Whether the text of a variable is too long.
-fn is_long_text(variable: &Option<Items<u8>>) -> bool
-    ensures { result ≡ is_too_long (text_in variable.now) }
+/// Whether one of these texts is too long.
+fn any_is_long(texts: &[&Items<u8>]) -> bool
+    ensures { result ≡ list_any (λ text. is_too_long text.now) texts.now }
 {
-    is_long(text_or_empty(variable))
-}
-
-/// Whether a variable has no text.
-fn is_cycle(variable: &Option<Items<u8>>) -> bool
-    ensures { result ≡ is_none variable.now }
-{
-    variable.is_none()
-}
-
-/// Whether the expansion of a variable meets a cycle.
-pub fn has_cycle(variables: &Variables) -> bool
-    ensures { result ≡ list_any is_none (all_variables variables.now) }
-{
-    is_cycle(&variables.command)
-        | is_cycle(&variables.depfile)
-        | is_cycle(&variables.deps)
-        | is_cycle(&variables.description)
-        | is_cycle(&variables.dyndep)
-        | is_cycle(&variables.generator)
-        | is_cycle(&variables.pool)
-        | is_cycle(&variables.restat)
-        | is_cycle(&variables.rspfile)
+    texts.iter().any(|text| is_long(text.as_slice()))
 }
 
 /// Whether the text of a variable is too long.
 pub fn has_long_text(variables: &Variables) -> bool
-    ensures { result ≡ list_any (λ text. is_too_long (text_in text)) (all_variables variables.now) }
+    ensures { result ≡ list_any is_too_long (texts_of_variables variables.now) }
 {
-    is_long_text(&variables.command)
-        | is_long_text(&variables.depfile)
-        | is_long_text(&variables.deps)
-        | is_long_text(&variables.description)
-        | is_long_text(&variables.dyndep)
-        | is_long_text(&variables.generator)
-        | is_long_text(&variables.pool)
-        | is_long_text(&variables.restat)
-        | is_long_text(&variables.rspfile)
+    any_is_long(&[
+        &variables.command,
+        &variables.depfile,
+        &variables.deps,
+        &variables.description,
+        &variables.dyndep,
+        &variables.generator,
+        &variables.pool,
+        &variables.restat,
+        &variables.rspfile,
+    ])
 }

@@ -4,7 +4,8 @@ ghost use Rattle.std.specs.Prelude.{◌≡◌, ◌<◌, ◌≤◌, ◌+◌, ◌-
 ghost use Rattle.std.specs.List.{list_any};
 ghost use Rattle.plan_scope.specs.Scopes.{Name, Text, bound_by, bound_in, expand, is_too_long, lookup};
 ghost use Rattle.plan_scope.specs.Kept.{KeptEqLookup};
-ghost use Rattle.plan_scope.specs.Loading.{Loads, LoadsStatements, LoadsWithin, cause_of_path, cause_to_load, opens_scope, scopes_in, included_by};
+ghost use Rattle.plan_scope.specs.Loading.{Loads, cause_of_path, cause_to_load, opens_scope, scopes_in, included_by};
+ghost use Rattle.plan_scope.specs.LoadingSteps.{LoadsStatements, LoadsWithin};
 ghost use Rattle.plan_parse.specs.Compact.{said_in};
 ghost use Rattle.plan_scope.specs.Sources.{SameFiles};
 ghost use Rattle.plan_scope.specs.LoaderAnswers.{Answers, IsBound, IsRead, IsRefusal, IsIncluded, LoadsOne, includes};

@@ -18,7 +18,7 @@ returns-clause-table c =
     let edge = c.args.edge.now in
     let all = three_inputs own files one two xs ys zs c.in_ok-with_inputs.ensures.table c.in_ok-with_inputs-2.ensures.table in
     let named = ap (λ (x : List Path). with_inputs own files (x ++ (ys ++ zs))) c.as_slice.ensures
-    ∙ (ap (λ (y : List Path). with_inputs own files (edge.inputs ++ (y ++ zs))) c.as_slice-2.ensures ∙ ap (λ (z : List Path). with_inputs own files (edge.inputs ++ (edge.implicit_inputs ++ z))) c.as_slice-3.ensures) in
+    ∙ (ap (λ (y : List Path). with_inputs own files (edge.paths.inputs ++ (y ++ zs))) c.as_slice-2.ensures ∙ ap (λ (z : List Path). with_inputs own files (edge.paths.inputs ++ (edge.paths.implicit_inputs ++ z))) c.as_slice-3.ensures) in
     ap okay (sym (all ∙ named)) ∙ c.in_ok-with_inputs-3.ensures.table
 
 pub returns-clause-row : goal.returns-clause-row
@@ -43,4 +43,4 @@ returns-clause-row c =
     all
     ∙ (ap (λ (ps : List Path). row ++ numbers_past seen ps) (append_assoc xs ys zs)
     ∙ (ap (λ (x : List Path). row ++ numbers_past seen (x ++ (ys ++ zs))) c.as_slice.ensures
-    ∙ (ap (λ (y : List Path). row ++ numbers_past seen (edge.inputs ++ (y ++ zs))) c.as_slice-2.ensures ∙ ap (λ (z : List Path). row ++ numbers_past seen (edge.inputs ++ (edge.implicit_inputs ++ z))) c.as_slice-3.ensures)))
+    ∙ (ap (λ (y : List Path). row ++ numbers_past seen (edge.paths.inputs ++ (y ++ zs))) c.as_slice-2.ensures ∙ ap (λ (z : List Path). row ++ numbers_past seen (edge.paths.inputs ++ (edge.paths.implicit_inputs ++ z))) c.as_slice-3.ensures)))

@@ -22,7 +22,7 @@ loop-path-preserved c =
       list_more texts at.forms.items c.push.new.self.items at.has_empty at.has_long c.is_empty.result c.is_long_path.result t c.in_ok-canonical_path.field-0
           at.invariant.1 form c.in_ok-push.ensures.items empty long,
       λ b m h k.
-          paths_taken (expand (near m b)) c.args.paths.now at.path-index c.path-item.result texts (texts ++ t ∷ []) t
+          paths_taken (expand (near m b)) c.as_slice-paths.result.now at.path-index c.path-item.result texts (texts ++ t ∷ []) t
           c.loop-path-test.true c.path-item.is (at.invariant.2 b m h k)
           (c.in_ok-expand_path.ensures.text b m h k ∙ ap (λ ps. kept (expand (near m b) ps)) c.as_slice.ensures)
           refl,
@@ -35,5 +35,5 @@ returns c =
       (c.new.ensures ∙ read.1.0, read.1.1, read.1.2),
       λ b m h k.
           read.2 b m h k
-          ∙ ap (λ (ps : List (List Piece)). map kept (paths_of (near m b) ps)) (take_all c.loop-path.path-index c.args.paths.now c.loop-path-test.false),
+          ∙ ap (λ (ps : List (List Piece)). map kept (paths_of (near m b) ps)) (take_all c.loop-path.path-index c.as_slice-paths.result.now c.loop-path-test.false ∙ c.as_slice-paths.ensures),
     )

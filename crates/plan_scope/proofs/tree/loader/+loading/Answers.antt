@@ -9,7 +9,8 @@ use Rattle.plan_scope.specs.declared.tree.File.{File}
 use Rattle.plan_scope.specs.declared.fault.ReadFault.{ReadFault}
 use Rattle.plan_scope.specs.Trees.{TreeStatement}
 use Rattle.plan_scope.specs.Scopes.{Name, Text, bound_by, lookup}
-use Rattle.plan_scope.specs.Loading.{LoadsStatements, LoadsWithin, cause_to_load, included_by}
+use Rattle.plan_scope.specs.Loading.{cause_to_load, included_by}
+use Rattle.plan_scope.specs.LoadingSteps.{LoadsStatements, LoadsWithin}
 use Rattle.plan_scope.specs.LoaderAnswers.{Answers, IsRead, IsIncluded, LoadsOne, never, includes}
 use Rattle.plan_scope.proofs.LoaderLemmas.{same_files, missing_file, unparsed_file, parsed_file, goes_on, stops, includes_file, one_more, some_scope, none_left}
 use Rattle.plan_scope.proofs.tree.loader.+loading.Goals as goal
