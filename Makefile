@@ -69,6 +69,7 @@ rows: built
 tests: built
 	python3 tests/manifest_names.py
 	python3 tests/run_rows.py $(PROGRAM)
+	python3 tests/run_images.py $(PROGRAM)
 	python3 tests/against_ninja.py $(PROGRAM)
 	python3 tests/fail_alloc.py $(PROGRAM)
 	python3 tests/real/real.py --short $(PROGRAM)
@@ -102,6 +103,7 @@ install: all
 bench: built
 	python3 bench/run.py $(PROGRAM)
 	python3 bench/hostile.py $(PROGRAM)
+	python3 bench/images.py $(PROGRAM)
 
 .PHONY: clean
 clean:

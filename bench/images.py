@@ -2,9 +2,9 @@
 """Times `plan_ninja verify` and `dump` on a generated image of 100,000 edges and some 6 million instructions.
 
 The edges are commands with a depfile, as a compiler of C has them: two order-only sources, one to three named inputs,
-an entry of the record, the five causes, the command, its depfile; the last is a phony that waits for 30,000 of them. The image is written
-in both versions. Printed are the sizes, the median wall time of five runs, the peak memory, and their ratio to the
-file's size. It is no test and asserts nothing.
+an entry of the record, the five causes, the command, its depfile; the last is a phony that waits for 30,000 of them.
+The image is written in both versions. Printed are the sizes, the median wall time of five runs, the peak memory, and
+its ratio to the file's size. It is no test and asserts nothing.
 """
 import pathlib
 import statistics
@@ -24,7 +24,9 @@ HEADERS = 2_000  # that order-only sources are among
 ORDER_ONLY = 2
 WAITS = 30_000  # of the last edge: a body has at most 65,536 instructions
 RUNS = 5
-SLOTS = "SFSFTSFS"  # of an edge: the output's stamp, changed, newest, has an entry, its command, basis, lacks a path, newest path
+# The kinds of an edge's slots: the output's stamp, changed, newest, has an entry, its command, basis, lacks a path,
+# the newest path.
+SLOTS = "SFSFTSFS"
 
 
 def bare(words: str) -> Iterator[Instr]:
@@ -42,10 +44,12 @@ def decided(number: int, slot: int) -> Iterator[Instr]:
     yield ("Zero", None)
     for _ in range(1 + number % 3):
         yield from [("Need", source), ("Newer", None)]
-    yield from [("Store", newest), ("Stat", output), ("Store", stamp), ("Load", newest), *bare("Flag0 Recall"),
-                ("Store", has), ("Store", kept), ("Store", basis), *bare("Sweep Drop"), ("Store", lacks), ("Store", swept)]
-    yield from [("Load", stamp), ("IsMissing", None), ("Load", has), *bare("Not Or"), ("Load", kept), ("Text", command),
-                *bare("Equal Not Or"), ("Load", lacks), ("Or", None), ("Load", stamp), ("Load", swept), *bare("Before Or")]
+    yield from [
+        ("Store", newest), ("Stat", output), ("Store", stamp), ("Load", newest), *bare("Flag0 Recall"), ("Store", has),
+        ("Store", kept), ("Store", basis), *bare("Sweep Drop"), ("Store", lacks), ("Store", swept)]
+    yield from [
+        ("Load", stamp), ("IsMissing", None), ("Load", has), *bare("Not Or"), ("Load", kept), ("Text", command),
+        *bare("Equal Not Or"), ("Load", lacks), ("Or", None), ("Load", stamp), ("Load", swept), *bare("Before Or")]
 
 
 def code(number: int) -> Code:
@@ -54,9 +58,10 @@ def code(number: int) -> Code:
     stamp, changed, newest = range(slot, slot + 3)
     front = list(decided(number, slot))
     clean = [("JumpIf", len(front) + 4), *bare("Flag0"), ("Store", changed), ("End", None)]
-    dirty = [("Take", None), ("Text", command), *bare("Run Release"), ("Text", command), ("Load", newest), *bare("Flag0"),
-             ("Text", command + 1), *bare("Deps Sweep Swap Drop Keep"), ("Stat", output), ("Store", stamp), *bare("Flag1"),
-             ("Store", changed), ("End", None)]
+    dirty = [
+        ("Take", None), ("Text", command), *bare("Run Release"), ("Text", command), ("Load", newest), *bare("Flag0"),
+        ("Text", command + 1), *bare("Deps Sweep Swap Drop Keep"), ("Stat", output), ("Store", stamp), *bare("Flag1"),
+        ("Store", changed), ("End", None)]
     return (*front, *clean, *dirty)
 
 
@@ -64,18 +69,28 @@ def edge(number: int) -> Edge:
     return Edge(code(number), label=2 * number, outputs=[HEADERS + 2 * number + 1])
 
 
+def texts_of(number: int) -> tuple[bytes, bytes]:
+    """The command and the depfile of an edge."""
+    source = b"m%d/f%d" % (number // 50, number)
+    command = b"gcc -O2 -Wall -Iinclude -MMD -MF obj/%b.o.d -c src/%b.c -o obj/%b.o" % (source, source, source)
+    return command, b"obj/%b.o.d" % source
+
+
+def files_of(number: int) -> tuple[bytes, bytes]:
+    """The source and the output of an edge."""
+    source = b"m%d/f%d" % (number // 50, number)
+    return b"src/%b.c" % source, b"obj/%b.o" % source
+
+
 def generated(count: int) -> Image:
-    texts = [text for n in range(count) for text in (
-        b"gcc -O2 -Wall -Iinclude -MMD -MF obj/m%d/f%d.o.d -c src/m%d/f%d.c -o obj/m%d/f%d.o" % (n // 50, n, n // 50, n, n // 50, n),
-        b"obj/m%d/f%d.o.d" % (n // 50, n))]
-    files = [b"include/h%d.h" % n for n in range(HEADERS)]
-    files += [file for n in range(count) for file in (b"src/m%d/f%d.c" % (n // 50, n), b"obj/m%d/f%d.o" % (n // 50, n))]
-    slots = [Slot(n, kind) for n in range(count) for kind in SLOTS]
-    edges = [edge(n) for n in range(count)]
+    texts = [text for number in range(count) for text in texts_of(number)]
+    files = [b"include/h%d.h" % number for number in range(HEADERS)]
+    files += [file for number in range(count) for file in files_of(number)]
+    slots = [Slot(number, kind) for number in range(count) for kind in SLOTS]
     waits = range(min(count, WAITS))
-    last: Code = tuple(instr for n in waits for instr in (("Load", len(SLOTS) * n), ("Drop", None)))
-    all_ = Edge((*last, ("End", None)), sort=1, rank=1, label=0, outputs=[HEADERS + 1], waits=waits)
-    return Image(texts, files, [], slots, [*edges, all_], [count])
+    last: Code = tuple(instr for number in waits for instr in (("Load", len(SLOTS) * number), ("Drop", None)))
+    phony = Edge((*last, ("End", None)), sort=1, rank=1, outputs=[HEADERS + 1], waits=waits)
+    return Image(texts, files, [], slots, [*map(edge, range(count)), phony], [count])
 
 
 def shown(word: str, size: int, runs: list[Run]) -> str:
