@@ -2,6 +2,7 @@
 
 use super::*;
 use plan_scope::{Manifest, Source, SourceFault, evaluate, load};
+use plan_text::RowList;
 use std::alloc::Global;
 use std::test::Fail;
 

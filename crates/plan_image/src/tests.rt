@@ -273,3 +273,8 @@ fn failed_writes(rt: HostRuntime) -> Result<(), Fail> {
     assert!(rt; listing(&image, &mut out).is_ok());
     Ok(())
 }
+
+#[test]
+fn instructions_are_short(rt: HostRuntime) {
+    assert_eq!(rt; std::mem::size_of::<Instr>(), 8);
+}

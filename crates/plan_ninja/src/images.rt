@@ -35,7 +35,12 @@ pub fn image_at<S: Source>(alloc: Global, source: &mut S, path: &[u8]) -> Result
 ///
 /// Where the file is missing or no image, nothing is written, and the fault says why and where. Where a write fails, the
 /// fault is that of the output.
-pub fn do_dump<S: Source, W: Sink>(alloc: Global, source: &mut S, path: &[u8], out: &mut W) -> Result<u8, PlanFault>
+pub fn do_dump<S: Source, W: Sink>(
+    alloc: Global,
+    source: &mut S,
+    path: &[u8],
+    out: &mut W,
+) -> Result<u8, PlanFault>
     ensures done { IfOk result (λ status. (status ≡ 0)
         × Dumps (S.gives source.old) path.now (W.failures out.old, W.taken out.old) (W.failures out.new, W.taken out.new)) }
     ensures read { OnOk result (S.failures source.new ≡ S.failures source.old) }

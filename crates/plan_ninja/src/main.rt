@@ -37,7 +37,11 @@ const REFUSED: u8 = 2;
 const OUTPUT_BUFFER: usize = 65_536;
 
 /// Writes what is asked for to a sink, and says with which status the program ends.
-fn answer<R: Files + AllocGlobal, W: Sink>(rt: &R, request: Request, out: &mut W) -> Result<u8, PlanFault> {
+fn answer<R: Files + AllocGlobal, W: Sink>(
+    rt: &R,
+    request: Request,
+    out: &mut W,
+) -> Result<u8, PlanFault> {
     let alloc = rt.alloc();
     let mut manifests = FileSource::new(rt, MANIFEST_BYTES);
     let mut images = FileSource::new(rt, IMAGE_BYTES);

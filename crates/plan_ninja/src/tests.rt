@@ -16,7 +16,8 @@ const DEMO: &[u8] =
 const DEMO_OUTPUT: &[u8] = b"echo \"this is a demo of bar\"\n";
 
 /// An image of one edge without inputs, which does nothing, in version 2.
-const IMAGE: &[u8] = b"PLANIMG\x02\0\0\0\x01\0\0\0\x01x\0\0\0\x01\0\x01a\0\0\0\0\0\0\0\0\0\0\0\x01\0\0\0\x01\0\
+const IMAGE: &[u8] =
+    b"PLANIMG\x02\0\0\0\x01\0\0\0\x01x\0\0\0\x01\0\x01a\0\0\0\0\0\0\0\0\0\0\0\x01\0\0\0\x01\0\
 \0\0\0\x01\0\0\0\0\0\0\0\0\0\0\0\0\0\0\0\0\x01\0\0\0\0\0\0\0\0\0\0\0\0\0\0\0\x01\0\0\0\0";
 
 const LISTING: &[u8] = b"text 0 78\nfile 0 61\nbody 0\n  0 End\n\
@@ -251,7 +252,12 @@ fn shows_faults(rt: HostRuntime) -> Result<(), Fail> {
 #[test]
 fn prints_an_image(rt: HostRuntime) {
     let mut out = Counted::new(Vec::new(rt.alloc()));
-    let status = do_dump(rt.alloc(), &mut OneFile::new(Some(IMAGE)), b"plan.img", &mut out);
+    let status = do_dump(
+        rt.alloc(),
+        &mut OneFile::new(Some(IMAGE)),
+        b"plan.img",
+        &mut out,
+    );
     assert!(rt; matches!(status, Ok(0)));
     assert!(rt; out.into_writer().as_slice() == LISTING);
 }
@@ -259,7 +265,12 @@ fn prints_an_image(rt: HostRuntime) {
 #[test]
 fn accepts_an_image(rt: HostRuntime) {
     let mut out = Counted::new(Vec::new(rt.alloc()));
-    let status = do_verify(rt.alloc(), &mut OneFile::new(Some(IMAGE)), b"plan.img", &mut out);
+    let status = do_verify(
+        rt.alloc(),
+        &mut OneFile::new(Some(IMAGE)),
+        b"plan.img",
+        &mut out,
+    );
     assert!(rt; matches!(status, Ok(0)));
     assert!(rt; out.into_writer().as_slice() == VERDICT);
 }
@@ -319,7 +330,12 @@ fn says_that_the_verdict_is_not_written(rt: HostRuntime) {
             left,
             failures: Tally::new(),
         };
-        match do_verify(rt.alloc(), &mut OneFile::new(Some(IMAGE)), b"plan.img", &mut out) {
+        match do_verify(
+            rt.alloc(),
+            &mut OneFile::new(Some(IMAGE)),
+            b"plan.img",
+            &mut out,
+        ) {
             Ok(_) => assert!(rt; false),
             Err(fault) => assert_refused(&rt, rt.alloc(), &fault, b"plan: 133 FileFault -\n"),
         }

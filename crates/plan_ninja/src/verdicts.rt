@@ -48,7 +48,12 @@ fn line_of(alloc: Global, verified: &Verified) -> Result<Vec<u8>, AllocError>
 ///
 /// Where the file is missing or no image, or a check of the image fails, nothing is written, and the fault says why and
 /// where. Where a write fails, the fault is that of the output.
-pub fn do_verify<S: Source, W: Sink>(alloc: Global, source: &mut S, path: &[u8], out: &mut W) -> Result<u8, PlanFault>
+pub fn do_verify<S: Source, W: Sink>(
+    alloc: Global,
+    source: &mut S,
+    path: &[u8],
+    out: &mut W,
+) -> Result<u8, PlanFault>
     ensures done { IfOk result (λ status. (status ≡ 0)
         × Accepts (S.gives source.old) path.now (W.failures out.old, W.taken out.old) (W.failures out.new, W.taken out.new)) }
     ensures read { OnOk result (S.failures source.new ≡ S.failures source.old) }
