@@ -1,8 +1,8 @@
 #!/usr/bin/env python3
-"""Runs the program on small trees of manifests once for each of its allocations, and refuses that one.
+"""Runs the program on small trees of manifests, and on images, once for each of its allocations, and refuses that one.
 
-Each run has to end in a fault of memory (status 2, `plan: 22 Memory`, 41, 54 or 131, nothing on standard output), or to
-print all that it prints with ample memory. Needs a C compiler, for the library that refuses (refusing.c).
+Each run has to end in a fault of memory (status 2, as `plan: 22 Memory`, nothing on standard output), or to print all
+that it prints with ample memory. Needs a C compiler, for the library that refuses (refusing.c).
 The last line is `N passed, M failed`.
 """
 import pathlib
@@ -10,8 +10,14 @@ import shutil
 import subprocess
 import sys
 import tempfile
+from collections.abc import Iterator
+from typing import NamedTuple
 
 import programs
+
+sys.path.insert(0, str(pathlib.Path(__file__).resolve().parent / "images"))
+
+from cases import cases
 
 SECONDS = 60
 LIBRARY = pathlib.Path(__file__).resolve().parent / "refusing.c"
@@ -81,15 +87,37 @@ TREES = [
      b"plan: 51 Cycle a -> c -> d\n"),
     ({"build.ninja": RULE + "build a: r\ndefault a b\n"}, b"plan: 52 UnknownDefault b\n"),
 ]
-REFUSALS = {f"plan: {number} Memory\n".encode() for number in (22, 41, 54, 131)}
+REFUSALS = {f"plan: {number} Memory\n".encode() for number in (22, 41, 54, 66, 86, 131)}
+
+# with slots of each kind, texts, a pool, jumps and waits; and one that is refused
+IMAGES = ("verifier/pool_and_a_phony", "verifier/slots_set_in_another_order", "verifier/loads_of_own_and_waited_for",
+          "verifier/values_of_each_kind", "verifier/second_wait_of_equal_rank")
 
 
-def run(program: str, library: pathlib.Path, folder: pathlib.Path, refused: int) -> tuple[Ended, int]:
+class Trial(NamedTuple):
+    """The words of a command line, the files that it finds, and what is said of them on standard error."""
+
+    words: list[str]
+    files: dict[str, bytes]
+    said: bytes
+
+
+def trials() -> Iterator[Trial]:
+    """The trees, and each image in both versions for both commands."""
+    for files, said in TREES:
+        yield Trial(["commands", "build.ninja"], {name: text.encode() for name, text in files.items()}, said)
+    for case in cases():
+        if case.name.rpartition(" (")[0] in IMAGES:
+            said = b"" if case.answer.startswith("ok ") else f"plan: {case.answer}\n".encode()
+            yield Trial(["verify", "plan.img"], {"plan.img": case.data}, said)
+            yield Trial(["dump", "plan.img"], {"plan.img": case.data}, b"")
+
+
+def run(command: list[str], library: pathlib.Path, folder: pathlib.Path, refused: int) -> tuple[Ended, int]:
     """How a run ends of which one allocation is refused, and how many it asks for."""
     count = folder / "allocations"
     env = {"LD_PRELOAD": str(library), "REFUSED_ALLOCATION": str(refused), "ALLOCATIONS_FILE": str(count)}
-    words = [program, "commands", "build.ninja"]
-    done = subprocess.run(words, cwd=folder, capture_output=True, env=env, timeout=SECONDS)
+    done = subprocess.run(command, cwd=folder, capture_output=True, env=env, timeout=SECONDS)
     return (done.returncode, done.stdout, done.stderr), int(count.read_text())
 
 
@@ -97,16 +125,17 @@ def is_want_of_memory(status: int, output: bytes, errors: bytes) -> bool:
     return status == 2 and output == b"" and errors in REFUSALS
 
 
-def faults(program: str, library: pathlib.Path, folder: pathlib.Path, said: bytes) -> tuple[int, list[str]]:
-    """How many allocations the program makes for the tree in the folder, and those whose refusal ends otherwise."""
-    whole, allocations = run(program, library, folder, 0)
+def faults(program: str, library: pathlib.Path, folder: pathlib.Path, trial: Trial) -> tuple[int, list[str]]:
+    """How many allocations the program makes for the files in the folder, and those whose refusal ends otherwise."""
+    command, said = [program, *trial.words], trial.said
+    whole, allocations = run(command, library, folder, 0)
     if allocations == 0 or whole[0] != (2 if said else 0) or whole[2] != said:
         sys.exit(f"with ample memory: {whole}, {allocations} allocations")
     found = []
     for refused in range(1, allocations + 1):
-        done, _ = run(program, library, folder, refused)
+        done, _ = run(command, library, folder, refused)
         if done != whole and not is_want_of_memory(*done):
-            found.append(f"allocation {refused}: {done}")
+            found.append(f"{' '.join(trial.words)}, allocation {refused}: {done}")
     return allocations, found
 
 
@@ -120,10 +149,10 @@ def main() -> None:
     with tempfile.TemporaryDirectory() as home:
         library = pathlib.Path(home) / "refusing.so"
         subprocess.run([compiler, "-shared", "-fPIC", "-o", str(library), str(LIBRARY), "-ldl"], check=True)
-        for number, (files, said) in enumerate(TREES):
-            folder = pathlib.Path(home) / f"tree{number}"
-            programs.write(files, folder)
-            allocations, found = faults(program, library, folder, said)
+        for number, trial in enumerate(trials()):
+            folder = pathlib.Path(home) / f"trial{number}"
+            programs.write(trial.files, folder)
+            allocations, found = faults(program, library, folder, trial)
             passed, failed = passed + allocations - len(found), failed + len(found)
             for fault in found:
                 print(fault)

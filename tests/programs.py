@@ -36,12 +36,12 @@ def run(words: Sequence[str], folder: pathlib.Path, seconds: float = SECONDS) ->
     return subprocess.run(words, cwd=folder, stdin=subprocess.DEVNULL, capture_output=True, timeout=seconds)
 
 
-def write(files: Mapping[str, str], folder: pathlib.Path) -> None:
-    """Writes texts by their paths below a folder, byte for byte in UTF-8."""
+def write(files: Mapping[str, str | bytes], folder: pathlib.Path) -> None:
+    """Writes bytes, or texts in UTF-8, by their paths below a folder."""
     for name, text in files.items():
         path = folder / name
         path.parent.mkdir(parents=True, exist_ok=True)
-        path.write_bytes(text.encode())
+        path.write_bytes(text.encode() if isinstance(text, str) else text)
 
 
 def counted(printed: bytes) -> Lines:
