@@ -11,12 +11,12 @@ use Rattle.plan_verify.specs.Tables.{is_outside, own_from, own_slots, slot_kind,
 use Rattle.plan_verify.specs.Shape.{ranks_below, is_paths, lacks_outputs, table_checks, image_checks, image_refusal}
 use Rattle.plan_verify.specs.WellShaped.{IsWellShaped}
 use Rattle.plan_verify.specs.Facts.{IsEdgeInRange, IsSlotInRange, TablesAreInRange, VerifiedNeverGoesWrong, RefusalsAreTrue}
-use Rattle.plan_verify.proofs.Lists.{and_both, or_false, not_false}
-use Rattle.plan_verify.proofs.Fitting.{all_pass}
+use Rattle.plan_verify.proofs.ListLemmas.{and_both, or_false, not_false}
+use Rattle.plan_verify.proofs.FitsLaw.{all_pass}
 use Rattle.plan_verify.proofs.OwnSlotsLemmas.{head_of_rest, tail_of_rest}
 use Rattle.plan_verify.proofs.ShapesLemmas.{refused_has_none}
 use Rattle.plan_verify.proofs.VerifiedLemmas.{table_refusal_is, refused_is_not}
-use Rattle.plan_verify.proofs.RunningAlone.{never_wrong_alone}
+use Rattle.plan_verify.proofs.AloneLaw.{never_wrong_alone}
 
 -- ---- tests of lists
 

@@ -9,7 +9,7 @@ use Rattle.plan_verify.specs.declared.own_slots.OwnSlots.{OwnSlots}
 use Rattle.plan_verify.specs.Tables.{own_from, own_slots, slot_kind, kind_in}
 use Rattle.plan_verify.specs.Shape.{is_paths}
 use Rattle.plan_verify.specs.OwnSlots.{none, more, counted, CountsMore, AreCounted, AreOwnSlots}
-use Rattle.plan_verify.proofs.Lists.{some_is}
+use Rattle.plan_verify.proofs.ListLemmas.{some_is}
 
 -- ---- lists
 

@@ -20,8 +20,8 @@ use Rattle.plan_verify.specs.WellShaped.{at_start, toward, arriving, IsShapeAmon
 use Rattle.plan_verify.specs.Arrivals.{Describes, JoinsEach, jumps_to}
 use Rattle.plan_verify.specs.OwnSet.{IsOwnSet}
 use Rattle.plan_verify.specs.Pass.{goes_on, brought, brought_to, IsMet, MeetsAs, Reached}
-use Rattle.plan_verify.proofs.Lists.{some_is, get_inside}
-use Rattle.plan_verify.proofs.Fitting.{IsOnwards, passed_from}
+use Rattle.plan_verify.proofs.ListLemmas.{some_is, get_inside}
+use Rattle.plan_verify.proofs.FitsLaw.{IsOnwards, passed_from}
 use Rattle.plan_verify.proofs.ShapesLemmas.{arriving_none, arriving-push, AreShapes-push, shape_own}
 
 -- ---- what goes along, and what jumps

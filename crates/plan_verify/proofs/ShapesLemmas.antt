@@ -16,8 +16,8 @@ use Rattle.plan_verify.specs.Tables.{owns}
 use Rattle.plan_verify.specs.Shape.{left, targets, refused, bad_slot}
 use Rattle.plan_verify.specs.WellShaped.{at_start, toward, arriving_from, begins, arriving, IsShapeAmong, AreShapes, IsShapedEdge, IsRefusedAt, not_reached, shapes_differ, check_fails, IsFirstRefusal, tables_fail, no_code, place_fails}
 use Rattle.plan_verify.specs.OwnSet.{IsOwnSet}
-use Rattle.plan_verify.proofs.Lists.{some_is, get_inside, not_false}
-use Rattle.plan_verify.proofs.Fitting.{IsOnwards, passed_from}
+use Rattle.plan_verify.proofs.ListLemmas.{some_is, get_inside, not_false}
+use Rattle.plan_verify.proofs.FitsLaw.{IsOnwards, passed_from}
 use Rattle.plan_verify.proofs.OwnSetLemmas.{with_own, none_own}
 
 -- ---- lists

@@ -1,4 +1,4 @@
-use Rattle.plan_verify.proofs.RunningAlone.{goes_on_alone}
+use Rattle.plan_verify.proofs.AloneLaw.{goes_on_alone}
 use Rattle.plan_verify.proofs.laws.goes_on_alone.Goals as goal
 
 pub returns : goal.returns

@@ -1,4 +1,4 @@
-use Rattle.plan_verify.proofs.Fitting.{instructions_fit}
+use Rattle.plan_verify.proofs.FitsLaw.{instructions_fit}
 use Rattle.plan_verify.proofs.laws.instructions_fit.Goals as goal
 
 pub returns : goal.returns

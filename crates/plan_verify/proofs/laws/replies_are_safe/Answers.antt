@@ -1,4 +1,4 @@
-use Rattle.plan_verify.proofs.Stepping.{replies_are_safe}
+use Rattle.plan_verify.proofs.StepsLaw.{replies_are_safe}
 use Rattle.plan_verify.proofs.laws.replies_are_safe.Goals as goal
 
 pub returns : goal.returns

@@ -1,4 +1,4 @@
-use Rattle.plan_verify.proofs.Spending.{stays_in_budget_alone}
+use Rattle.plan_verify.proofs.BudgetLaw.{stays_in_budget_alone}
 use Rattle.plan_verify.proofs.laws.stays_in_budget_alone.Goals as goal
 
 pub returns : goal.returns

@@ -12,7 +12,7 @@ use Rattle.plan_verify.specs.declared.value.Value.TheVariants.{Stamp, Flag, Text
 use Rattle.plan_verify.specs.Tables.{own_slots, path_of, paths_of, outputs_of, first_output, pool_outside}
 use Rattle.plan_verify.specs.Turn.{Slots, is_set, Request, Stat, Recall, Run, Deps, Keep, Reply, StampIs, Exit, Fault, Meaning, Local, Turn, Calculated, On, TooLong, Off, calculate, calculated, goes, next, jumps, asks_of, ends, loads, stores, writes, sweeps, sweep, branches, runs, reads, keeps, act, act_at, turn, request_of, replied, replied_at, heard}
 use Rattle.plan_verify.specs.Seam.{QuestionsIgnoreSlots, StaysTyped, suits, HearsWhatSuits}
-use Rattle.plan_verify.proofs.Lists.{when_true, when_either}
+use Rattle.plan_verify.proofs.ListLemmas.{when_true, when_either}
 
 abbrev Silent : Turn → Type 0
 Silent t = request_of t ≡ None

@@ -23,10 +23,10 @@ use Rattle.plan_verify.specs.Fits.{Fits}
 use Rattle.plan_verify.specs.Sound.{AreLentSet, IsTyped}
 use Rattle.plan_verify.specs.Alone.{Stage, Runs, Ended, Failed, WentWrong, Alone, after, at_begin, RunsAlone, rests, steps, hears}
 use Rattle.plan_verify.specs.Budget.{asks_once, cost, costs, path_bytes, brought, all_brought, IsFrugal, StaysInBudgetAlone}
-use Rattle.plan_verify.proofs.Lists.{some_is, when_true, when_either, or_false, is_some_of, get_inside}
-use Rattle.plan_verify.proofs.Fitting.{all_pass, instructions_fit}
-use Rattle.plan_verify.proofs.Stepping.{top_any, top_stamp, top_flag, top_text, two_stamps, two_flags, two_texts, swept_three, kept_three, set_is, owned_is}
-use Rattle.plan_verify.proofs.RunningAlone.{Good, begun_typed, step_good, hear_good}
+use Rattle.plan_verify.proofs.ListLemmas.{some_is, when_true, when_either, or_false, is_some_of, get_inside}
+use Rattle.plan_verify.proofs.FitsLaw.{all_pass, instructions_fit}
+use Rattle.plan_verify.proofs.StepsLaw.{top_any, top_stamp, top_flag, top_text, two_stamps, two_flags, two_texts, swept_three, kept_three, set_is, owned_is}
+use Rattle.plan_verify.proofs.AloneLaw.{Good, begun_typed, step_good, hear_good}
 
 -- two for each path that is still to be swept
 abbrev paths_left : Value → ℕ

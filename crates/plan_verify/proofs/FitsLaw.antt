@@ -20,7 +20,7 @@ use Rattle.plan_verify.specs.Shape.{left, targets, refused, first_of, checks, ta
 use Rattle.plan_verify.specs.WellShaped.{at_start, toward, arriving_from, begins, arriving, AreAllShapes}
 use Rattle.plan_verify.specs.Fits.{Leads, Turns, Fits, with_kinds}
 use Rattle.plan_verify.specs.Sound.{InstructionsFit}
-use Rattle.plan_verify.proofs.Lists.{some_is, get_inside, or_false, not_false}
+use Rattle.plan_verify.proofs.ListLemmas.{some_is, get_inside, or_false, not_false}
 
 -- ---- what an instruction leaves arrives where it goes on to
 

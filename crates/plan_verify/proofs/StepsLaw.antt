@@ -20,8 +20,8 @@ use Rattle.plan_verify.specs.Turn.{kind_of, Slots, is_filled, is_set, Request, S
 use Rattle.plan_verify.specs.Shape.{}
 use Rattle.plan_verify.specs.Fits.{Leads, GoesOn, Fits, with_kinds}
 use Rattle.plan_verify.specs.Sound.{AreTyped, AreLentSet, IsTyped, asking, IsSafe, StepsAreSafe, RepliesAreSafe}
-use Rattle.plan_verify.proofs.Lists.{get_inside, get_same, get_other, map_length, when_true, when_false, when_either, or_cases, or_right, and_both, is_some_of}
-use Rattle.plan_verify.proofs.Fitting.{instructions_fit}
+use Rattle.plan_verify.proofs.ListLemmas.{get_inside, get_same, get_other, map_length, when_true, when_false, when_either, or_cases, or_right, and_both, is_some_of}
+use Rattle.plan_verify.proofs.FitsLaw.{instructions_fit}
 
 -- ---- stacks of the kinds that are wanted
 

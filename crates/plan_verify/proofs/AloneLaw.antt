@@ -12,10 +12,10 @@ use Rattle.plan_verify.specs.Turn.{kind_of, Slots, Request, Reply, Meaning, Loca
 use Rattle.plan_verify.specs.WellShaped.{at_start, AreAllShapes}
 use Rattle.plan_verify.specs.Sound.{AreTyped, AreLentSet, AreOwnSet, IsTyped, IsSafe}
 use Rattle.plan_verify.specs.Alone.{Stage, Runs, Ended, Failed, WentWrong, Alone, after, at_begin, RunsAlone, rests, steps, hears, IsFine, NeverWrongAlone, GoesOnAlone}
-use Rattle.plan_verify.proofs.Lists.{is_some_of, some_is, get_inside, get_same, get_other, set_length}
-use Rattle.plan_verify.proofs.Fitting.{first_shape}
-use Rattle.plan_verify.proofs.Asking.{hears_what_suits}
-use Rattle.plan_verify.proofs.Stepping.{steps_are_safe, replies_are_safe, owned_is, set_stays}
+use Rattle.plan_verify.proofs.ListLemmas.{is_some_of, some_is, get_inside, get_same, get_other, set_length}
+use Rattle.plan_verify.proofs.FitsLaw.{first_shape}
+use Rattle.plan_verify.proofs.QuestionsLaw.{hears_what_suits}
+use Rattle.plan_verify.proofs.StepsLaw.{steps_are_safe, replies_are_safe, owned_is, set_stays}
 
 -- what an own slot is set to leaves the slots typed
 pub still_typed : (p : Parts) (e : ℕ) (slots : Slots) (s : ℕ) (v : Value) → AreTyped p slots → owns p e s ≡ true → kind_of v ≡ slot_kind p s → AreTyped p (slice_set slots s (Some v))
