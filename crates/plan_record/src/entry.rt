@@ -1,0 +1,85 @@
+//! Entries of a record.
+
+ghost use Rattle.std.specs.Prelude.{◌≡◌, drop};
+ghost use Rattle.plan_record.specs.Entry.{data_of, IsPlaced};
+ghost use Rattle.plan_record.specs.Heads.{seen};
+ghost use Rattle.plan_record.specs.Reading.{entry_at, head_of};
+
+use crate::reading::{Head, entry_head};
+use std::alloc::Global;
+use std::marker::Model;
+use std::sync::Arc;
+
+/// What is kept of an edge that ran: its first output, its command, the greatest stamp that it read, and the paths that
+/// its depfile named. Contracts see these; held is where its spelling begins in the bytes of a file, which all entries
+/// of a record share.
+#[derive(Drop)]
+pub struct Entry {
+    file: Arc<Vec<u8>, Global>,
+    start: usize,
+}
+
+impl Model for Entry {
+    ghost use Rattle.std.specs.Prelude.{drop};
+    ghost use Rattle.std.specs.Arc.{arc_value};
+    ghost use Rattle.plan_record.specs.Entries.{EntryData};
+    ghost use Rattle.plan_record.specs.Reading.{entry_at};
+    ghost use Rattle.plan_record.specs.Entry.{data_of, IsPlaced};
+
+    ghost Value = { EntryData };
+
+    ghost view = { λ e. data_of (entry_at (drop e.start (arc_value e.file).items)) };
+
+    ghost invariant = { λ e. IsPlaced (arc_value e.file).items e.start };
+}
+
+/// The bytes from a place on.
+fn bytes_from(bytes: &[u8], start: usize) -> &[u8]
+    ensures { result.now ≡ drop start bytes.now }
+{
+    match bytes.get(start..) {
+        Some(rest) => rest,
+        None => &[],
+    }
+}
+
+/// What stands in front of the paths of the entry at a place, which there is.
+fn head_at(bytes: &[u8], start: usize) -> Head<'_>
+    requires { IsPlaced bytes.now start }
+    ensures { seen result ≡ head_of (data_of (entry_at (drop start bytes.now))) }
+{
+    match entry_head(bytes_from(bytes, start)) {
+        Some((head, _)) => head,
+        None => Head {
+            output: &[],
+            command: &[],
+            basis: 0,
+            count: 0,
+        },
+    }
+}
+
+impl Entry {
+    ghost use Rattle.std.specs.Prelude.{◌≡◌};
+
+    /// The path of its first output, canonical, 1 to 4,096 bytes.
+    pub fn output(&self) -> &[u8]
+        ensures { result.now ≡ self.now.output }
+    {
+        head_at(&self.file, self.start).output
+    }
+
+    /// The command that it ran, at most 1,048,576 bytes.
+    pub fn command(&self) -> &[u8]
+        ensures { result.now ≡ self.now.command }
+    {
+        head_at(&self.file, self.start).command
+    }
+
+    /// The greatest stamp that it read; 0 where it read none.
+    pub fn basis(&self) -> u64
+        ensures { result ≡ self.now.basis }
+    {
+        head_at(&self.file, self.start).basis
+    }
+}

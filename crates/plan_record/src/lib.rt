@@ -1,0 +1,7 @@
+//! Build records: what is kept of each edge that ran, from one build to the next.
+#![tactic(auto)]
+
+mod entry;
+mod reading;
+
+pub use entry::Entry;
