@@ -1,3 +1,4 @@
 pub mod EntryLemmas
 pub mod ReadingLemmas
 pub mod PlacedLemmas
+pub mod FrontLemmas

@@ -34,7 +34,7 @@ impl Model for Entry {
 }
 
 /// The bytes from a place on.
-fn bytes_from(bytes: &[u8], start: usize) -> &[u8]
+pub(crate) fn bytes_from(bytes: &[u8], start: usize) -> &[u8]
     ensures { result.now ≡ drop start bytes.now }
 {
     match bytes.get(start..) {
@@ -60,7 +60,18 @@ fn head_at(bytes: &[u8], start: usize) -> Head<'_>
 }
 
 impl Entry {
-    ghost use Rattle.std.specs.Prelude.{◌≡◌};
+    ghost use Rattle.std.specs.Prelude.{◌≡◌, drop};
+    ghost use Rattle.std.specs.Arc.{arc_value};
+    ghost use Rattle.plan_record.specs.Entry.{data_of, IsPlaced};
+    ghost use Rattle.plan_record.specs.Reading.{entry_at};
+
+    /// The entry at a place of a file, which there is.
+    pub(crate) fn placed(file: Arc<Vec<u8>, Global>, start: usize) -> Entry
+        requires { IsPlaced (arc_value file).items start }
+        ensures { result ≡ data_of (entry_at (drop start (arc_value file).items)) }
+    {
+        Entry { file, start }
+    }
 
     /// The path of its first output, canonical, 1 to 4,096 bytes.
     pub fn output(&self) -> &[u8]

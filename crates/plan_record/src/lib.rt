@@ -3,5 +3,6 @@
 
 mod entry;
 mod reading;
+mod record;
 
 pub use entry::Entry;
