@@ -330,3 +330,11 @@ pub paths_fill : (bytes : List ℕ) (x : EntryData × List ℕ) → IsBytes byte
 paths_fill bytes x fits e =
     let t = entry_law.takes bytes x fits e in
     ap (some_paths_at (length x.0.paths)) (sym (append-nil (flat_map path_spelling x.0.paths))) ∙ some_paths_again x.0.paths [] t.1.paths
+
+-- Items that are bytes, as a Vec tells of them.
+pub vec_bytes : (bytes : List ℕ) → ((i : ℕ) → i < length bytes → get_or bytes i 0 < 256) → IsBytes bytes
+vec_bytes bytes each i =
+    elim (cases_lt i (length bytes)) [
+      | inl lt ↦ each i lt
+      | inr le ↦ rw (get_or_past bytes i 0 le) (omega arith)
+    ]

@@ -1,9 +1,10 @@
 -- The longest front of whole entries is the one behind which no entry stands.
-use Rattle.std.proofs.Common.{◌≡◌, ℕ, ◌+◌, ◌-◌, ◌≤◌, List, [], ◌∷◌, ◌++◌, length, take, drop, Option, Some, None, refl, sym, ap, ◌∙◌, append_assoc, arith}
+use Rattle.std.proofs.Common.{◌≡◌, ℕ, ◌+◌, ◌-◌, ◌≤◌, ◌<◌, List, [], ◌∷◌, ◌++◌, length, take, drop, Option, Some, None, refl, sym, ap, ◌∙◌, append_assoc, arith}
 use Rattle.std.specs.List.{flat_map, AllByRecursion}
-use Rattle.std.proofs.lemmas.List.{append-nil, take_at, take-append-drop, length-append, length-take}
+use Rattle.std.proofs.lemmas.List.{append-nil, take_at, take-append-drop, length-append, length-take, length-drop}
 use Rattle.std.proofs.lemmas.List.Concat.{flat_map-cons, flat_map-append}
-use Rattle.plan_record.specs.Entries.{EntryData, spelling, HasSpelling, IsWholeFront, IsGoodFront}
+use Rattle.std.specs.Int.{w32, to_be_bytes}
+use Rattle.plan_record.specs.Entries.{EntryData, body, spelling, HasSpelling, IsWholeFront, IsGoodFront}
 use Rattle.plan_record.specs.Reading.{entry_at}
 use Rattle.plan_record.proofs.EntryLemmas.{IsBytes, entry_law, some_is}
 
@@ -68,3 +69,17 @@ front_grows file entries len x fits whole read =
       spelled = ap (take (length file - length x.1)) joined ∙ ap (λ k. take k ((flat_map spelling entries ++ spelling x.0) ++ x.1)) end ∙ take_at (flat_map spelling entries ++ spelling x.0) x.1 _ refl ∙ sym all;
       fit = fit_append entries x.0 whole.fit t.1;
     }
+
+some_bytes : (x : EntryData) → 0 < length (spelling x)
+unfolding spelling
+some_bytes x =
+    let long : length (to_be_bytes w32 (length (body x)) ++ body x) ≡ length (to_be_bytes w32 (length (body x))) + length (body x) = length-append (to_be_bytes w32 (length (body x))) (body x) in
+    let four : length (to_be_bytes w32 (length (body x))) ≡ 4 = refl in
+    omega (arith, long, four)
+
+-- An entry takes at least a byte.
+pub entry_takes : (file : List ℕ) (len : ℕ) (x : EntryData × List ℕ) → IsBytes (drop len file) → entry_at (drop len file) ≡ Some x → length x.1 + len < length file
+entry_takes file len x fits read =
+    let t = entry_law.takes (drop len file) x fits read in
+    let long : length (drop len file) ≡ length (spelling x.0) + length x.1 = ap length t.0.parts ∙ length-append (spelling x.0) x.1 in
+    omega (arith, long, length-drop len file, some_bytes x.0)

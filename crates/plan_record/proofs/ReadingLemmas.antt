@@ -2,6 +2,7 @@
 use Rattle.std.proofs.Common.{◌≡◌, Bool, true, false, eqb, [], ◌∷◌, ℕ, zero, suc, ◌-◌, ◌+◌, ◌^◌, ◌≤◌, ◌<◌, List, length, Option, Some, None, refl, sym, subst, ◌∙◌, ap, arith, option_map}
 use Rattle.std.proofs.lemmas.Bool.{ne_eqb}
 use Rattle.std.specs.Int.{w32, w64}
+use Rattle.plan_record.specs.Entries.{EntryData}
 use Rattle.plan_record.specs.Reading.{◌>>=◌, Read, number_at, bytes_at, path_at, command_at, some_paths_at, head_at, with_paths, body_at, exactly, entry_of, entry_at}
 
 -- the bytes behind so many paths
@@ -42,3 +43,17 @@ paths_in_front count bytes rest e = found (some_paths_at count bytes) e where
   found (Some x) e = let same : rest ≡ x.1 = cc in (x.0, ap (λ r. Some (x.0, r)) (sym same))
   found None e = absurd cc
 
+
+-- what entry there is in front of some bytes
+pub entry_in_front : (bytes rest : List ℕ) → Some rest ≡ option_map (λ x. x.1) (entry_at bytes) → (x : EntryData) × (entry_at bytes ≡ Some (x, rest))
+entry_in_front bytes rest e = found (entry_at bytes) e where
+  found : (read : Read EntryData) → Some rest ≡ option_map (λ (x : EntryData × List ℕ). x.1) read → (x : EntryData) × (read ≡ Some (x, rest))
+  found (Some x) e = let same : rest ≡ x.1 = cc in (x.0, ap (λ r. Some (x.0, r)) (sym same))
+  found None e = absurd cc
+
+-- no entry is in front of some bytes
+pub no_entry_in_front : (bytes : List ℕ) → None ≡ option_map (λ (x : EntryData × List ℕ). x.1) (entry_at bytes) → entry_at bytes ≡ None
+no_entry_in_front bytes e = found (entry_at bytes) e where
+  found : (read : Read EntryData) → None ≡ option_map (λ (x : EntryData × List ℕ). x.1) read → read ≡ None
+  found (Some x) e = absurd cc
+  found None e = refl
