@@ -2,3 +2,4 @@ pub mod EntryLemmas
 pub mod ReadingLemmas
 pub mod PlacedLemmas
 pub mod FrontLemmas
+pub mod RecordLemmas

@@ -2,3 +2,6 @@ pub mod Entries
 pub mod Reading
 pub mod Heads
 pub mod Entry
+pub mod Outputs
+pub mod Paths
+pub mod Appending

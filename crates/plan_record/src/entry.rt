@@ -1,11 +1,13 @@
 //! Entries of a record.
 
-ghost use Rattle.std.specs.Prelude.{◌≡◌, drop};
+ghost use Rattle.std.specs.Prelude.{◌≡◌, ◌≤◌, ◌-◌, length, take, drop};
+ghost use Rattle.plan_record.specs.Entries.{spelling};
 ghost use Rattle.plan_record.specs.Entry.{data_of, IsPlaced};
 ghost use Rattle.plan_record.specs.Heads.{seen};
 ghost use Rattle.plan_record.specs.Reading.{entry_at, head_of};
 
-use crate::reading::{Head, entry_head};
+use crate::reading::{Head, entry_head, skip_entry};
+use plan_text::Memory;
 use std::alloc::Global;
 use std::marker::Model;
 use std::sync::Arc;
@@ -44,7 +46,7 @@ pub(crate) fn bytes_from(bytes: &[u8], start: usize) -> &[u8]
 }
 
 /// What stands in front of the paths of the entry at a place, which there is.
-fn head_at(bytes: &[u8], start: usize) -> Head<'_>
+fn placed_head(bytes: &[u8], start: usize) -> Head<'_>
     requires { IsPlaced bytes.now start }
     ensures { seen result ≡ head_of (data_of (entry_at (drop start bytes.now))) }
 {
@@ -59,9 +61,30 @@ fn head_at(bytes: &[u8], start: usize) -> Head<'_>
     }
 }
 
+/// The bytes before the last ones, so many.
+fn front_before(bytes: &[u8], last: usize) -> &[u8]
+    requires { last ≤ length bytes.now }
+    ensures { result.now ≡ take (length bytes.now - last) bytes.now }
+{
+    &bytes[..bytes.len() - last]
+}
+
+/// The spelling of the entry at a place, which there is.
+fn placed_spelling(bytes: &[u8], start: usize) -> &[u8]
+    requires { IsPlaced bytes.now start }
+    ensures { result.now ≡ spelling (data_of (entry_at (drop start bytes.now))) }
+{
+    let placed = bytes_from(bytes, start);
+    match skip_entry(placed) {
+        Some(rest) => front_before(placed, rest.len()),
+        None => &[],
+    }
+}
+
 impl Entry {
-    ghost use Rattle.std.specs.Prelude.{◌≡◌, drop};
+    ghost use Rattle.std.specs.Prelude.{◌≡◌, drop, IfOk};
     ghost use Rattle.std.specs.Arc.{arc_value};
+    ghost use Rattle.plan_record.specs.Entries.{spelling};
     ghost use Rattle.plan_record.specs.Entry.{data_of, IsPlaced};
     ghost use Rattle.plan_record.specs.Reading.{entry_at};
 
@@ -77,20 +100,37 @@ impl Entry {
     pub fn output(&self) -> &[u8]
         ensures { result.now ≡ self.now.output }
     {
-        head_at(&self.file, self.start).output
+        placed_head(&self.file, self.start).output
     }
 
     /// The command that it ran, at most 1,048,576 bytes.
     pub fn command(&self) -> &[u8]
         ensures { result.now ≡ self.now.command }
     {
-        head_at(&self.file, self.start).command
+        placed_head(&self.file, self.start).command
     }
 
     /// The greatest stamp that it read; 0 where it read none.
     pub fn basis(&self) -> u64
         ensures { result ≡ self.now.basis }
     {
-        head_at(&self.file, self.start).basis
+        placed_head(&self.file, self.start).basis
+    }
+
+    /// The same entry. It shares the bytes.
+    pub fn copy(&self) -> Result<Entry, Memory>
+        ensures { IfOk result (λ entry. entry ≡ self.now) }
+    {
+        Ok(Entry {
+            file: Arc::try_clone(&self.file)?,
+            start: self.start,
+        })
+    }
+
+    /// The bytes of its spelling.
+    pub(crate) fn spelling(&self) -> &[u8]
+        ensures { result.now ≡ spelling self.now }
+    {
+        placed_spelling(&self.file, self.start)
     }
 }

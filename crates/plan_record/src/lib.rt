@@ -1,8 +1,15 @@
 //! Build records: what is kept of each edge that ran, from one build to the next.
 #![tactic(auto)]
 
+
 mod entry;
+mod laws;
 mod reading;
 mod record;
+mod writing;
+
 
 pub use entry::Entry;
+pub use laws::entry_law;
+pub use record::{Record, load};
+pub use writing::{WriteFault, append};
