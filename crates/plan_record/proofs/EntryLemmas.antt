@@ -20,7 +20,7 @@ pub record Takes (bytes text rest : List ℕ) : Type 0 where
 Takes-then : (a x b y c : List ℕ) → Takes a x b → Takes b y c → Takes a (x ++ y) c
 Takes-then a x b y c p q = record { parts = p.parts ∙ ap (λ (t : List ℕ). x ++ t) q.parts ∙ sym (append_assoc x y c); rest_fits = q.rest_fits }
 
-bind_some : {A B : Type 0} (r : Option A) (f : A → Option B) (y : B) → (r >>= f) ≡ Some y → (x : A) × (r ≡ Some x) × (f x ≡ Some y)
+pub bind_some : {A B : Type 0} (r : Option A) (f : A → Option B) (y : B) → (r >>= f) ≡ Some y → (x : A) × (r ≡ Some x) × (f x ≡ Some y)
 bind_some (Some x) f y e = (x, refl, e)
 bind_some None f y e = absurd cc
 
@@ -129,7 +129,7 @@ text_takes w bytes n x t e =
     let b = bytes_takes n.0 n.1 x t.rest_fits e in
     (subst (λ (k : ℕ). Takes bytes (to_be_bytes w k ++ x.0) x.1) (sym b.1) (Takes-then bytes (to_be_bytes w n.0) n.1 x.0 x.1 t b.0), b.1)
 
-path_law : IsReader path_at path_spelling IsPath
+pub path_law : IsReader path_at path_spelling IsPath
 unfolding path_at
 path_law = record {
   takes = λ bytes x fits e.
@@ -182,7 +182,7 @@ some_paths_take (suc n) bytes x fits e =
     subst (λ (y : List (List ℕ) × List ℕ). Takes bytes (flat_map path_spelling y.0) y.1 × (length y.0 ≡ suc n) × AllByRecursion IsPath y.0) (some_is made x b.2)
     (rw flat_map-cons both, ap suc more.1, (a.2, more.2))
 
-some_paths_again : (paths : List (List ℕ)) (rest : List ℕ) → AllByRecursion IsPath paths → some_paths_at (length paths) (flat_map path_spelling paths ++ rest) ≡ Some (paths, rest)
+pub some_paths_again : (paths : List (List ℕ)) (rest : List ℕ) → AllByRecursion IsPath paths → some_paths_at (length paths) (flat_map path_spelling paths ++ rest) ≡ Some (paths, rest)
 unfolding some_paths_at
 some_paths_again [] rest fits = refl
 some_paths_again (path ∷ paths) rest fits =
@@ -201,7 +201,7 @@ pub record ArePartsFit (x : EntryData) : Type 0 where
   pub paths : AllByRecursion IsPath x.paths
 
 -- what stands in front of the paths
-abbrev head_spelling : Head → List ℕ
+abbrev pub head_spelling : Head → List ℕ
 head_spelling h = path_spelling h.output ++ command_spelling h.command ++ to_be_bytes w64 h.basis ++ to_be_bytes w32 h.count
 
 record IsHead (h : Head) : Type 0 where

@@ -3,3 +3,4 @@ pub mod ReadingLemmas
 pub mod PlacedLemmas
 pub mod FrontLemmas
 pub mod RecordLemmas
+pub mod PathsLemmas

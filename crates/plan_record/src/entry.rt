@@ -4,8 +4,10 @@ ghost use Rattle.std.specs.Prelude.{◌≡◌, ◌≤◌, ◌-◌, length, take,
 ghost use Rattle.plan_record.specs.Entries.{spelling};
 ghost use Rattle.plan_record.specs.Entry.{data_of, IsPlaced};
 ghost use Rattle.plan_record.specs.Heads.{seen};
-ghost use Rattle.plan_record.specs.Reading.{entry_at, head_of};
+ghost use Rattle.plan_record.specs.Paths.{paths_in, ArePaths};
+ghost use Rattle.plan_record.specs.Reading.{entry_at, head_of, some_paths_at};
 
+use crate::paths::Paths;
 use crate::reading::{Head, entry_head, skip_entry};
 use plan_text::Memory;
 use std::alloc::Global;
@@ -59,6 +61,22 @@ fn placed_head(bytes: &[u8], start: usize) -> Head<'_>
             count: 0,
         },
     }
+}
+
+/// How many bytes an entry has in front of its paths beside its output and its command: the lengths of its body (4),
+/// its output (2) and its command (4), its basis (8) and the count of its paths (4).
+const FIXED_LEN: usize = 22;
+
+/// Where the paths of the entry at a place begin, which there is, and how many there are.
+fn placed_paths(bytes: &[u8], start: usize) -> (usize, u32)
+    requires { IsPlaced bytes.now start }
+    ensures there { ArePaths result.1 (drop result.0 bytes.now) }
+    ensures paths { paths_in (some_paths_at result.1 (drop result.0 bytes.now)) ≡ (data_of (entry_at (drop start bytes.now))).paths }
+{
+    let head = placed_head(bytes, start);
+    let front = FIXED_LEN + head.output.len() + head.command.len();
+    let paths = bytes_from(bytes_from(bytes, start), front);
+    (bytes.len() - paths.len(), head.count)
 }
 
 /// The bytes before the last ones, so many.
@@ -115,6 +133,14 @@ impl Entry {
         ensures { result ≡ self.now.basis }
     {
         placed_head(&self.file, self.start).basis
+    }
+
+    /// The paths that its depfile named, in its order. They share the bytes.
+    pub fn paths(&self) -> Result<Paths, Memory>
+        ensures { IfOk result (λ paths. paths ≡ self.now.paths) }
+    {
+        let (first, count) = placed_paths(&self.file, self.start);
+        Ok(Paths::placed(Arc::try_clone(&self.file)?, first, count))
     }
 
     /// The same entry. It shares the bytes.

@@ -4,6 +4,7 @@
 
 mod entry;
 mod laws;
+mod paths;
 mod reading;
 mod record;
 mod writing;
@@ -11,5 +12,6 @@ mod writing;
 
 pub use entry::Entry;
 pub use laws::entry_law;
+pub use paths::Paths;
 pub use record::{Record, load};
 pub use writing::{WriteFault, append};

@@ -69,7 +69,7 @@ fn read_bytes(len: usize, bytes: &[u8]) -> Option<(&[u8], &[u8])>
 }
 
 #[tactic(auto, unfolding(crate::specs::Reading::path_at))]
-fn read_path(bytes: &[u8]) -> Option<(&[u8], &[u8])>
+pub(crate) fn read_path(bytes: &[u8]) -> Option<(&[u8], &[u8])>
     ensures { option_map (λ x. (x.0.now, x.1.now)) result ≡ path_at bytes.now }
 {
     let (len, rest) = read_u16(bytes)?;
