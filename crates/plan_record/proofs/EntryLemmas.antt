@@ -6,7 +6,7 @@ use Rattle.std.proofs.lemmas.Bool.{cases_lt, ltb-false, le-ltb, ne_eqb}
 use Rattle.std.proofs.lemmas.List.{append-nil, take_at, drop_at, take-append-drop, length-append, length-take, get_or-drop, get_or-take, get_or_past}
 use Rattle.std.proofs.lemmas.List.Concat.{flat_map-cons}
 use Rattle.std.proofs.lemmas.Nat.{be_bytes_2, be_bytes_4, be_bytes_8, from_be_bytes-to_be_bytes_2, from_be_bytes-to_be_bytes_4, from_be_bytes-to_be_bytes_8}
-use Rattle.plan_record.specs.Entries.{EntryData, path_spelling, command_spelling, body, spelling, IsPath, HasSpelling, IsPrefixFree}
+use Rattle.plan_record.specs.Entries.{EntryData, path_spelling, command_spelling, body, spelling, IsPath, ArePartsFit, HasSpelling, IsPrefixFree}
 use Rattle.plan_record.specs.Reading.{◌>>=◌, Read, number_at, bytes_at, path_at, command_at, some_paths_at, Head, head_of, head_at, entry_head_at, with_paths, body_at, exactly, entry_of, entry_at}
 
 abbrev pub IsBytes : List ℕ → Type 0
@@ -192,14 +192,6 @@ some_paths_again (path ∷ paths) rest fits =
 
 -- ---- bodies and entries
 
--- the parts of an entry are within their limits
-pub record ArePartsFit (x : EntryData) : Type 0 where
-  pub output : IsPath x.output
-  pub command : length x.command ≤ 1048576
-  pub basis : x.basis < 2 ^ 64
-  pub count : length x.paths < 2 ^ 32
-  pub paths : AllByRecursion IsPath x.paths
-
 -- what stands in front of the paths
 abbrev pub head_spelling : Head → List ℕ
 head_spelling h = path_spelling h.output ++ command_spelling h.command ++ to_be_bytes w64 h.basis ++ to_be_bytes w32 h.count
@@ -278,7 +270,8 @@ front_fits n bytes x fits e =
     let g = passes (ltb (length bytes) n) (Some (take n bytes, drop n bytes)) x e in
     subst (λ (p : List ℕ × List ℕ). IsBytes p.0) (some_is _ _ g.1) (IsBytes-take n bytes fits)
 
-parts_of : (x : EntryData) → HasSpelling x → ArePartsFit x
+-- What has a spelling has its parts within their limits.
+pub parts_of : (x : EntryData) → HasSpelling x → ArePartsFit x
 parts_of x h = record { output = h.output; command = h.command; basis = h.basis; count = h.count; paths = h.paths }
 
 pub entry_law : IsReader entry_at spelling HasSpelling
@@ -338,3 +331,7 @@ vec_bytes bytes each i =
       | inl lt ↦ each i lt
       | inr le ↦ rw (get_or_past bytes i 0 le) (omega arith)
     ]
+
+-- Bytes that spell an entry are read as that entry.
+pub spelled_again : (bytes : List ℕ) (x : EntryData) → HasSpelling x → bytes ≡ spelling x → entry_at bytes ≡ Some (x, [])
+spelled_again bytes x fits e = ap entry_at (e ∙ sym (append-nil (spelling x))) ∙ entry_law.again x [] fits

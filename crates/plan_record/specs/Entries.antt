@@ -32,6 +32,14 @@ spelling x = to_be_bytes w32 (length (body x)) ++ body x
 abbrev pub IsPath : List ℕ → Type 0
 IsPath path = (0 < length path) × (length path ≤ 4096)
 
+-- the parts of an entry are within their limits, and the numbers fit their fields
+pub record ArePartsFit (x : EntryData) : Type 0 where
+  pub output : IsPath x.output
+  pub command : length x.command ≤ 1048576
+  pub basis : x.basis < 2 ^ 64
+  pub count : length x.paths < 2 ^ 32
+  pub paths : AllByRecursion IsPath x.paths
+
 -- the entry is within its limits, and its numbers fit their fields
 pub record HasSpelling (x : EntryData) : Type 0 where
   pub output : IsPath x.output

@@ -7,9 +7,11 @@ ghost use Rattle.plan_record.specs.Heads.{seen};
 ghost use Rattle.plan_record.specs.Paths.{paths_in, ArePaths};
 ghost use Rattle.plan_record.specs.Reading.{entry_at, head_of, some_paths_at};
 
+use crate::fault::EntryFault;
 use crate::paths::Paths;
 use crate::reading::{Head, entry_head, skip_entry};
-use plan_text::Memory;
+use crate::spelling::spell;
+use plan_text::{Items, Memory};
 use std::alloc::Global;
 use std::marker::Model;
 use std::sync::Arc;
@@ -100,11 +102,31 @@ fn placed_spelling(bytes: &[u8], start: usize) -> &[u8]
 }
 
 impl Entry {
-    ghost use Rattle.std.specs.Prelude.{◌≡◌, drop, IfOk};
+    ghost use Rattle.std.specs.Prelude.{◌≡◌, ◌≢◌, drop, IfOk, IfErr, OnOk};
     ghost use Rattle.std.specs.Arc.{arc_value};
-    ghost use Rattle.plan_record.specs.Entries.{spelling};
+    ghost use Rattle.plan_record.specs.Entries.{spelling, HasSpelling};
     ghost use Rattle.plan_record.specs.Entry.{data_of, IsPlaced};
     ghost use Rattle.plan_record.specs.Reading.{entry_at};
+
+    /// The entry of these parts. Its bytes are its own.
+    ///
+    /// # Errors
+    /// `OutsideLimits` exactly where the parts have no spelling, and `Memory`.
+    pub fn new(
+        alloc: Global,
+        output: &[u8],
+        command: &[u8],
+        basis: u64,
+        paths: &[Items<u8>],
+    ) -> Result<Entry, EntryFault>
+        ensures made { IfOk result (λ entry. entry ≡ record { output = output.now; command = command.now; basis = basis; paths = paths.now }) }
+        ensures within { OnOk result (HasSpelling (record { output = output.now; command = command.now; basis = basis; paths = paths.now })) }
+        ensures outside { IfErr result (λ f. f ≢ EntryFault.Memory → HasSpelling (record { output = output.now; command = command.now; basis = basis; paths = paths.now }) → ⊥) }
+    {
+        let bytes = spell(alloc, output, command, basis, paths)?;
+        let file = Arc::new(alloc, bytes)?;
+        Ok(Entry { file, start: 0 })
+    }
 
     /// The entry at a place of a file, which there is.
     pub(crate) fn placed(file: Arc<Vec<u8>, Global>, start: usize) -> Entry

@@ -16,10 +16,10 @@ pub(crate) struct Head<'a> {
 }
 
 /// The longest path, in bytes.
-const MAX_PATH: u16 = 4096;
+pub(crate) const MAX_PATH: u16 = 4096;
 
 /// The longest command, in bytes.
-const MAX_COMMAND: u32 = 1_048_576;
+pub(crate) const MAX_COMMAND: u32 = 1_048_576;
 
 #[tactic(auto, unfolding(crate::specs::Reading::number_at))]
 fn read_u16(bytes: &[u8]) -> Option<(u16, &[u8])>
