@@ -187,7 +187,7 @@ unfolding some_paths_at
 some_paths_again [] rest fits = refl
 some_paths_again (path ∷ paths) rest fits =
     let regrouped : flat_map path_spelling (path ∷ paths) ++ rest ≡ path_spelling path ++ (flat_map path_spelling paths ++ rest) =
-        ap (λ (t : List ℕ). t ++ rest) (flat_map-cons path_spelling path paths) ∙ append_assoc (path_spelling path) (flat_map path_spelling paths) rest in
+    ap (λ (t : List ℕ). t ++ rest) (flat_map-cons path_spelling path paths) ∙ append_assoc (path_spelling path) (flat_map path_spelling paths) rest in
     ap (some_paths_at (suc (length paths))) regrouped ∙ rw (path_law.again path (flat_map path_spelling paths ++ rest) fits.0, some_paths_again paths rest fits.1) refl
 
 -- ---- bodies and entries
@@ -218,10 +218,12 @@ head_law = record {
       (all, record { output = o.2; command = c.2; basis = b.2; count = n.2 });
   again = λ h rest fits.
       ap head_at (regroup (path_spelling h.output) (command_spelling h.command) (to_be_bytes w64 h.basis) (to_be_bytes w32 h.count) rest)
-      ∙ rw (path_law.again h.output (command_spelling h.command ++ (to_be_bytes w64 h.basis ++ (to_be_bytes w32 h.count ++ rest))) fits.output,
-          command_law.again h.command (to_be_bytes w64 h.basis ++ (to_be_bytes w32 h.count ++ rest)) fits.command,
-          number_again w64 (2 ^ 64) wide64 h.basis (to_be_bytes w32 h.count ++ rest) fits.basis,
-          number_again w32 (2 ^ 32) wide32 h.count rest fits.count) refl;
+      ∙ rw (
+        path_law.again h.output (command_spelling h.command ++ (to_be_bytes w64 h.basis ++ (to_be_bytes w32 h.count ++ rest))) fits.output,
+        command_law.again h.command (to_be_bytes w64 h.basis ++ (to_be_bytes w32 h.count ++ rest)) fits.command,
+        number_again w64 (2 ^ 64) wide64 h.basis (to_be_bytes w32 h.count ++ rest) fits.basis,
+        number_again w32 (2 ^ 32) wide32 h.count rest fits.count,
+      ) refl;
 } where
   regroup : (a b c d rest : List ℕ) → (a ++ b ++ c ++ d) ++ rest ≡ a ++ (b ++ (c ++ (d ++ rest)))
   regroup a b c d rest = simp append_assoc
@@ -236,13 +238,16 @@ body_law = record {
       let both = Takes-then bytes (head_spelling h.0.0) h.0.1 (flat_map path_spelling b.0.0) b.0.1 h.1 p.0 in
       let few = h.2.count in
       let made : EntryData × List ℕ = (with_paths h.0.0 b.0.0, b.0.1) in
-      subst (λ (y : EntryData × List ℕ). Takes bytes (body y.0) y.1 × ArePartsFit y.0) (some_is made x b.2)
-      (subst (λ (k : ℕ). Takes bytes (path_spelling h.0.0.output ++ command_spelling h.0.0.command ++ to_be_bytes w64 h.0.0.basis ++ to_be_bytes w32 k ++ flat_map path_spelling b.0.0) b.0.1) (sym p.1) both,
-        record { output = h.2.output; command = h.2.command; basis = h.2.basis; count = rw p.1 few; paths = p.2 });
+      subst (λ (y : EntryData × List ℕ). Takes bytes (body y.0) y.1 × ArePartsFit y.0) (some_is made x b.2) (
+        subst (λ (k : ℕ). Takes bytes (path_spelling h.0.0.output ++ command_spelling h.0.0.command ++ to_be_bytes w64 h.0.0.basis ++ to_be_bytes w32 k ++ flat_map path_spelling b.0.0) b.0.1) (sym p.1) both,
+        record { output = h.2.output; command = h.2.command; basis = h.2.basis; count = rw p.1 few; paths = p.2 },
+      );
   again = λ x rest fits.
       ap body_at (append_assoc (head_spelling (head_of x)) (flat_map path_spelling x.paths) rest)
-      ∙ rw (head_law.again (head_of x) (flat_map path_spelling x.paths ++ rest) (record { output = fits.output; command = fits.command; basis = fits.basis; count = fits.count }),
-          some_paths_again x.paths rest fits.paths) refl;
+      ∙ rw (
+        head_law.again (head_of x) (flat_map path_spelling x.paths ++ rest) (record { output = fits.output; command = fits.command; basis = fits.basis; count = fits.count }),
+        some_paths_again x.paths rest fits.paths,
+      ) refl;
 }
 
 -- a body and nothing behind it
@@ -286,9 +291,10 @@ entry_law = record {
       let is = entry_of_is b.0.0 y.0 front y.1 in
       let few : length b.0.0 < 2 ^ 32 = rw t.1 n.2 in
       let long : length (body y.0) < 2 ^ 32 = subst (λ (k : List ℕ). length k < 2 ^ 32) is.0 few in
-      subst (λ (z : EntryData × List ℕ). Takes bytes (to_be_bytes w32 (length (body z.0)) ++ body z.0) z.1 × HasSpelling z.0) (some_is _ _ y.2)
-      (subst (λ (k : List ℕ). Takes bytes (to_be_bytes w32 (length k) ++ k) b.0.1) is.0 t.0,
-        record { output = is.1.output; command = is.1.command; basis = is.1.basis; count = is.1.count; paths = is.1.paths; body = long });
+      subst (λ (z : EntryData × List ℕ). Takes bytes (to_be_bytes w32 (length (body z.0)) ++ body z.0) z.1 × HasSpelling z.0) (some_is _ _ y.2) (
+        subst (λ (k : List ℕ). Takes bytes (to_be_bytes w32 (length k) ++ k) b.0.1) is.0 t.0,
+        record { output = is.1.output; command = is.1.command; basis = is.1.basis; count = is.1.count; paths = is.1.paths; body = long },
+      );
   again = λ x rest fits.
       ap entry_at (append_assoc (to_be_bytes w32 (length (body x))) (body x) rest)
       ∙ rw (number_again w32 (2 ^ 32) wide32 (length (body x)) (body x ++ rest) fits.body, bytes_again (body x) rest, entry_of_again x (parts_of x fits)) refl;

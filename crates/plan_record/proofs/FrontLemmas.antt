@@ -60,7 +60,7 @@ front_grows file entries len x fits whole read =
     let t = entry_law.takes (drop len file) x fits read in
     let a = split file entries len whole in
     let all : flat_map spelling (entries ++ x.0 ∷ []) ≡ flat_map spelling entries ++ spelling x.0 =
-        flat_map-append spelling entries (x.0 ∷ []) ∙ ap (λ (s : List ℕ). flat_map spelling entries ++ s) (flat_map-cons spelling x.0 [] ∙ append-nil (spelling x.0)) in
+    flat_map-append spelling entries (x.0 ∷ []) ∙ ap (λ (s : List ℕ). flat_map spelling entries ++ s) (flat_map-cons spelling x.0 [] ∙ append-nil (spelling x.0)) in
     let joined : file ≡ (flat_map spelling entries ++ spelling x.0) ++ x.1 = a.0 ∙ ap (λ (s : List ℕ). flat_map spelling entries ++ s) t.0.parts ∙ sym (append_assoc (flat_map spelling entries) (spelling x.0) x.1) in
     let long : length file ≡ length (flat_map spelling entries ++ spelling x.0) + length x.1 = ap length joined ∙ length-append (flat_map spelling entries ++ spelling x.0) x.1 in
     let end : length file - length x.1 ≡ length (flat_map spelling entries ++ spelling x.0) = omega (arith, long) in

@@ -4,3 +4,4 @@ pub mod PlacedLemmas
 pub mod FrontLemmas
 pub mod RecordLemmas
 pub mod PathsLemmas
+mod Rows

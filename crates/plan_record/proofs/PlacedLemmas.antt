@@ -81,9 +81,9 @@ paths_there bytes start fits placed =
     let paths = flat_map path_spelling x.paths in
     let n32 = to_be_bytes w32 (length (body x)) in
     let parts : drop start bytes ≡ front_of x ++ (paths ++ rest) =
-        t.0.parts ∙ append_assoc n32 (body x) rest ∙ ap (λ (b : List ℕ). n32 ++ b) (append_assoc (head_spelling (head_of x)) paths rest) ∙ sym (append_assoc n32 (head_spelling (head_of x)) (paths ++ rest)) in
+    t.0.parts ∙ append_assoc n32 (body x) rest ∙ ap (λ (b : List ℕ). n32 ++ b) (append_assoc (head_spelling (head_of x)) paths rest) ∙ sym (append_assoc n32 (head_spelling (head_of x)) (paths ++ rest)) in
     let there : drop (22 + length x.output + length x.command) (drop start bytes) ≡ paths ++ rest =
-        ap (drop (22 + length x.output + length x.command)) parts ∙ drop_at (front_of x) (paths ++ rest) (22 + length x.output + length x.command) (front_len x) in
+    ap (drop (22 + length x.output + length x.command)) parts ∙ drop_at (front_of x) (paths ++ rest) (22 + length x.output + length x.command) (front_len x) in
     subst (λ (y : EntryData). PathsThere (drop start bytes) y) (sym (ap data_of placed.1))
     (record {
       few_output = t.1.output.1;

@@ -43,7 +43,6 @@ paths_in_front count bytes rest e = found (some_paths_at count bytes) e where
   found (Some x) e = let same : rest ≡ x.1 = cc in (x.0, ap (λ r. Some (x.0, r)) (sym same))
   found None e = absurd cc
 
-
 -- what entry there is in front of some bytes
 pub entry_in_front : (bytes rest : List ℕ) → Some rest ≡ option_map (λ x. x.1) (entry_at bytes) → (x : EntryData) × (entry_at bytes ≡ Some (x, rest))
 entry_in_front bytes rest e = found (entry_at bytes) e where

@@ -43,7 +43,7 @@ loop-rest-preserved c =
     let long : c.len.result ≡ length c.args.bytes.items = c.len.ensures ∙ ap vec_len c.deref-in-Some.ensures ∙ c.in_ok-file.file.value.ok.0 ∙ ap length c.loop-rest.invariant.file in
     let same : c.in_ok-try_clone.field-0.value.items ≡ c.in_ok-file.file.value.items = ap (λ v. v.items) (c.in_ok-try_clone.ensures) in
     let entry : c.placed-entry.result ≡ found.0 =
-        c.placed-entry.ensures ∙ ap (λ (b : List ℕ). data_of (entry_at (drop c.loop-rest.start b))) (same ∙ c.loop-rest.invariant.file) ∙ ap (λ b. data_of (entry_at b)) (sym there) ∙ ap data_of found.1 in
+    c.placed-entry.ensures ∙ ap (λ (b : List ℕ). data_of (entry_at (drop c.loop-rest.start b))) (same ∙ c.loop-rest.invariant.file) ∙ ap (λ b. data_of (entry_at b)) (sym there) ∙ ap data_of found.1 in
     let pushed : c.push.new.self.items ≡ c.loop-rest.entries.items ++ found.0 ∷ [] = c.in_ok-push.ensures.items ∙ ap (λ (x : EntryData). c.loop-rest.entries.items ++ x ∷ []) entry in
     record {
       file = c.loop-rest.invariant.file;

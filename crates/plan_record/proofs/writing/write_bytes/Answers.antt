@@ -13,7 +13,7 @@ loop-written-preserved g c =
     let rest : take (length bytes - written) (drop written bytes) ≡ drop written bytes = take_rest bytes written in
     let bound : n ≤ length (drop written bytes) = subst (λ (b : List ℕ). n ≤ length b) rest c.in-Ok.ensures.bound in
     let more : take (written + n) bytes ≡ take written bytes ++ take n (take (length bytes - written) (drop written bytes)) =
-        take-add written n bytes ∙ ap (λ (b : List ℕ). take written bytes ++ take n b) (sym rest) in
+    take-add written n bytes ∙ ap (λ (b : List ℕ). take written bytes ++ take n b) (sym rest) in
     record {
       within = omega (arith, bound, length-drop written bytes, c.loop-written.invariant.within);
       kept = c.in-Ok.ensures.failures ∙ c.loop-written.invariant.kept;
