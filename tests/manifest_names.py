@@ -1,10 +1,10 @@
 #!/usr/bin/env python3
 """Checks that the documents lead where they say.
 
-Of docs/MANIFEST.md and docs/DEPFILE.md, both ways: each definition, function, row and must-fail edit that a rule names
-is in its crate, what stands under "done" is reached from the program's `main` (call_graph.py), and every row and every
-edit stands under a rule. Of the other documents, what doc_names.py says. Each fault is a line; the last line is how
-many there are.
+Of docs/MANIFEST.md, docs/DEPFILE.md and docs/RECORD.md, both ways: each definition, function, row and must-fail edit
+that a rule names is in its crate, what stands under "done" is reached from the program's `main` (call_graph.py), and
+every row and every edit stands under a rule. Of the other documents, what doc_names.py says. Each fault is a line; the
+last line is how many there are.
 """
 import argparse
 import fnmatch
@@ -18,7 +18,7 @@ import call_graph
 import doc_names
 
 ROOT = pathlib.Path(__file__).resolve().parent.parent
-PAGES = ("MANIFEST.md", "DEPFILE.md")
+PAGES = ("MANIFEST.md", "DEPFILE.md", "RECORD.md")
 KEYS = {"manual", "defined", "done", "offered", "rows", "tests", "examples", "texts", "edits"}
 
 
