@@ -1,6 +1,8 @@
 -- Entries by hand: the definitions compute what docs/RECORD.md says.
-use Rattle.std.proofs.Common.{◌≡◌, ℕ, List, [], ◌∷◌, ◌++◌, take, drop, Some, None, refl}
+use Rattle.std.proofs.Common.{◌≡◌, ℕ, List, [], ◌∷◌, ◌++◌, take, drop, Some, None, Err, refl, arith}
+use Rattle.plan_record.specs.Appending.{AppendsSpelling}
 use Rattle.plan_record.specs.Entries.{EntryData, spelling, last_of}
+use Rattle.plan_record.specs.Paths.{paths_in}
 use Rattle.plan_record.specs.Reading.{number_at, bytes_at, path_at, command_at, some_paths_at, head_at, body_at, entry_of, entry_at, entry_head_at, head_of}
 
 -- output `a`, command `t`, basis 7, no paths
@@ -69,3 +71,11 @@ last_counts = refl
 
 none_of_that_output : last_of (99 ∷ []) (kept ∷ other ∷ []) ≡ None
 none_of_that_output = refl
+
+two_paths : paths_in (some_paths_at 2 (0 ∷ 1 ∷ 97 ∷ 0 ∷ 1 ∷ 98 ∷ [])) ≡ (97 ∷ []) ∷ (98 ∷ []) ∷ []
+unfolding path_at some_paths_at number_at bytes_at
+two_paths = refl
+
+-- a sink that took ten bytes, and then failed
+ten_bytes_written : AppendsSpelling (Err (record { written = 10 })) (0, Some []) (1, Some (take 10 bytes)) bytes
+ten_bytes_written = (refl, omega arith, refl)

@@ -2,5 +2,5 @@
 use Rattle.plan_record.specs.declared.reading.Head.{Head}
 use Rattle.plan_record.specs.Reading.{Head as HeadData}
 
-abbrev pub seen : Head → HeadData
-seen h = record { output = h.output.now; command = h.command.now; basis = h.basis; count = h.count }
+abbrev pub head_data : Head → HeadData
+head_data h = record { output = h.output.now; command = h.command.now; basis = h.basis; count = h.count }

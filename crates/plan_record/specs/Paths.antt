@@ -1,5 +1,5 @@
 -- The paths that stand in front of some bytes.
-use Rattle.std.specs.Prelude.{◌≡◌, ℕ, List, [], ◌∷◌, Option, Some, None}
+use Rattle.std.specs.Prelude.{◌≡◌, ℕ, List, [], Some, None}
 use Rattle.plan_record.specs.Reading.{Read, some_paths_at}
 
 -- what was read, the bytes behind it left out
@@ -10,8 +10,3 @@ paths_in None = []
 -- so many paths stand in front of these bytes
 abbrev pub ArePaths : ℕ → List ℕ → Type 0
 ArePaths count bytes = (x : List (List ℕ) × List ℕ) × (some_paths_at count bytes ≡ Some x)
-
--- the first item, and those behind it
-abbrev pub split_first : {X : Type 0} → List X → Option (X × List X)
-split_first [] = None
-split_first (x ∷ xs) = Some (x, xs)

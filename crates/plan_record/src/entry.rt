@@ -3,7 +3,7 @@
 ghost use Rattle.std.specs.Prelude.{◌≡◌, ◌≤◌, ◌-◌, length, take, drop};
 ghost use Rattle.plan_record.specs.Entries.{spelling};
 ghost use Rattle.plan_record.specs.Entry.{data_of, IsPlaced};
-ghost use Rattle.plan_record.specs.Heads.{seen};
+ghost use Rattle.plan_record.specs.Heads.{head_data};
 ghost use Rattle.plan_record.specs.Paths.{paths_in, ArePaths};
 ghost use Rattle.plan_record.specs.Reading.{entry_at, head_of, some_paths_at};
 
@@ -52,7 +52,7 @@ pub(crate) fn bytes_from(bytes: &[u8], start: usize) -> &[u8]
 /// What stands in front of the paths of the entry at a place, which there is.
 fn placed_head(bytes: &[u8], start: usize) -> Head<'_>
     requires { IsPlaced bytes.now start }
-    ensures { seen result ≡ head_of (data_of (entry_at (drop start bytes.now))) }
+    ensures { head_data result ≡ head_of (data_of (entry_at (drop start bytes.now))) }
 {
     match entry_head(bytes_from(bytes, start)) {
         Some((head, _)) => head,

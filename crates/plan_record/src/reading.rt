@@ -2,7 +2,7 @@
 
 ghost use Rattle.std.specs.Prelude.{◌≡◌, option_map, is_some};
 ghost use Rattle.std.specs.Int.{w16, w32, w64};
-ghost use Rattle.plan_record.specs.Heads.{seen};
+ghost use Rattle.plan_record.specs.Heads.{head_data};
 ghost use Rattle.plan_record.specs.Reading.{number_at, bytes_at, path_at, command_at, some_paths_at, body_at, entry_of, entry_at, head_at, entry_head_at};
 
 /// What stands in front of an entry's paths.
@@ -93,7 +93,7 @@ fn read_command(bytes: &[u8]) -> Option<(&[u8], &[u8])>
 /// What stands in front of the paths of a body, and the rest of it.
 #[tactic(auto, unfolding(crate::specs::Reading::head_at))]
 fn read_head(body: &[u8]) -> Option<(Head<'_>, &[u8])>
-    ensures { option_map (λ x. (seen x.0, x.1.now)) result ≡ head_at body.now }
+    ensures { option_map (λ x. (head_data x.0, x.1.now)) result ≡ head_at body.now }
 {
     let (output, rest) = read_path(body)?;
     let (command, rest) = read_command(rest)?;
@@ -137,7 +137,7 @@ fn is_body(body: &[u8]) -> bool
 /// What stands in front of the paths of the entry in front, and the rest of its body, which is not read.
 #[tactic(auto, unfolding(crate::specs::Reading::entry_head_at))]
 pub(crate) fn entry_head(bytes: &[u8]) -> Option<(Head<'_>, &[u8])>
-    ensures { option_map (λ x. (seen x.0, x.1.now)) result ≡ entry_head_at bytes.now }
+    ensures { option_map (λ x. (head_data x.0, x.1.now)) result ≡ entry_head_at bytes.now }
 {
     let (len, rest) = read_u32(bytes)?;
     let (body, _) = read_bytes(len as usize, rest)?;

@@ -74,7 +74,7 @@ pub fn load(alloc: Global, bytes: Vec<u8>) -> Result<(Record, u64), Memory>
 }
 
 /// The entry of a number.
-fn numbered(entries: &[Entry], number: usize) -> Option<&Entry>
+fn nth_entry(entries: &[Entry], number: usize) -> Option<&Entry>
     ensures { option_map (λ e. e.now) result ≡ slice_get entries.now number }
 {
     entries.get(number)
@@ -93,7 +93,7 @@ impl Record {
         ensures { option_map (λ e. e.now) result ≡ last_of output.now self.now }
     {
         match self.numbers.get(output) {
-            Some(number) => numbered(&self.entries, *number),
+            Some(number) => nth_entry(&self.entries, *number),
             None => None,
         }
     }

@@ -12,20 +12,20 @@ const ENTRY: [u8; 24] = [
 ];
 
 /// The record of some bytes.
-fn loaded(alloc: Global, bytes: &[u8]) -> Result<(Record, u64), Memory> {
+fn record_of(alloc: Global, bytes: &[u8]) -> Result<(Record, u64), Memory> {
     let mut file = Vec::new(alloc);
     file.extend_from_slice(bytes)?;
     load(alloc, file)
 }
 
 /// How many entries the record of some bytes has, and how long they are.
-fn found(alloc: Global, bytes: &[u8]) -> Result<(usize, u64), Memory> {
-    let (record, len) = loaded(alloc, bytes)?;
+fn front_of(alloc: Global, bytes: &[u8]) -> Result<(usize, u64), Memory> {
+    let (record, len) = record_of(alloc, bytes)?;
     Ok((record.entries().len(), len))
 }
 
 /// The bytes of an entry.
-fn spelled(alloc: Global, entry: &Entry) -> Result<Vec<u8>, WriteFault> {
+fn spelling_of(alloc: Global, entry: &Entry) -> Result<Vec<u8>, WriteFault> {
     let mut sink = Counted::new(Vec::new(alloc));
     append(entry, &mut sink)?;
     Ok(sink.into_writer())
@@ -33,7 +33,7 @@ fn spelled(alloc: Global, entry: &Entry) -> Result<Vec<u8>, WriteFault> {
 
 #[test]
 fn entry_of_24_bytes(rt: HostRuntime) -> Result<(), Fail> {
-    let (record, len) = loaded(rt.alloc(), &ENTRY)?;
+    let (record, len) = record_of(rt.alloc(), &ENTRY)?;
     assert_eq!(rt; len, 24);
     assert_eq!(rt; record.entries().len(), 1);
     match record.entry(b"a") {
@@ -52,14 +52,14 @@ fn entry_of_24_bytes(rt: HostRuntime) -> Result<(), Fail> {
 #[test]
 fn torn_entries(rt: HostRuntime) -> Result<(), Fail> {
     let mut file = Vec::new(rt.alloc());
-    assert_eq!(rt; found(rt.alloc(), &file)?, (0, 0));
+    assert_eq!(rt; front_of(rt.alloc(), &file)?, (0, 0));
     file.extend_from_slice(&ENTRY)?;
     file.extend_from_slice(&ENTRY[..10])?;
-    assert_eq!(rt; found(rt.alloc(), &file)?, (1, 24));
+    assert_eq!(rt; front_of(rt.alloc(), &file)?, (1, 24));
     file.truncate(24);
     file.extend_from_slice(&ENTRY)?;
-    assert_eq!(rt; found(rt.alloc(), &file)?, (2, 48));
-    assert_eq!(rt; found(rt.alloc(), &ENTRY[..23])?, (0, 0));
+    assert_eq!(rt; front_of(rt.alloc(), &file)?, (2, 48));
+    assert_eq!(rt; front_of(rt.alloc(), &ENTRY[..23])?, (0, 0));
     Ok(())
 }
 
@@ -69,16 +69,16 @@ fn bodies_of_another_length(rt: HostRuntime) -> Result<(), Fail> {
     longer.extend_from_slice(&ENTRY)?;
     longer.push(0)?;
     longer[3] = 21;
-    assert_eq!(rt; found(rt.alloc(), &longer)?, (0, 0));
+    assert_eq!(rt; front_of(rt.alloc(), &longer)?, (0, 0));
     let mut shorter = ENTRY;
     shorter[3] = 19;
-    assert_eq!(rt; found(rt.alloc(), &shorter)?, (0, 0));
+    assert_eq!(rt; front_of(rt.alloc(), &shorter)?, (0, 0));
     let mut counted = ENTRY;
     counted[23] = 1;
-    assert_eq!(rt; found(rt.alloc(), &counted)?, (0, 0));
+    assert_eq!(rt; front_of(rt.alloc(), &counted)?, (0, 0));
     let mut nameless = ENTRY;
     nameless[5] = 0;
-    assert_eq!(rt; found(rt.alloc(), &nameless)?, (0, 0));
+    assert_eq!(rt; front_of(rt.alloc(), &nameless)?, (0, 0));
     Ok(())
 }
 
@@ -91,7 +91,7 @@ fn last_of_an_output(rt: HostRuntime) -> Result<(), Fail> {
         entry[19] = basis;
         file.extend_from_slice(&entry)?;
     }
-    let (record, len) = loaded(rt.alloc(), &file)?;
+    let (record, len) = record_of(rt.alloc(), &file)?;
     assert_eq!(rt; len, 96);
     for (output, basis) in [
         (b"a".as_slice(), 3),
@@ -107,7 +107,7 @@ fn last_of_an_output(rt: HostRuntime) -> Result<(), Fail> {
 }
 
 /// Whether parts of these lengths make an entry, which is then read again as it is.
-fn is_made(alloc: Global, output: usize, command: usize, path: usize) -> Result<bool, Fail> {
+fn makes_entry(alloc: Global, output: usize, command: usize, path: usize) -> Result<bool, Fail> {
     let output = vec![in alloc; b'o'; output]?;
     let command = vec![in alloc; b'c'; command]?;
     let mut paths = Vec::new(alloc);
@@ -117,7 +117,7 @@ fn is_made(alloc: Global, output: usize, command: usize, path: usize) -> Result<
         Err(EntryFault::OutsideLimits) => return Ok(false),
         Err(fault) => return Err(Fail::from(fault)),
     };
-    let bytes = spelled(alloc, &entry)?;
+    let bytes = spelling_of(alloc, &entry)?;
     let len = bytes.len() as u64;
     let (record, front) = load(alloc, bytes)?;
     Ok(match record.entry(&output) {
@@ -128,13 +128,13 @@ fn is_made(alloc: Global, output: usize, command: usize, path: usize) -> Result<
 
 #[test]
 fn limits(rt: HostRuntime) -> Result<(), Fail> {
-    assert!(rt; is_made(rt.alloc(), 1, 0, 1)?);
-    assert!(rt; is_made(rt.alloc(), 4_096, 1_048_576, 4_096)?);
-    assert!(rt; !is_made(rt.alloc(), 0, 0, 1)?);
-    assert!(rt; !is_made(rt.alloc(), 4_097, 0, 1)?);
-    assert!(rt; !is_made(rt.alloc(), 1, 1_048_577, 1)?);
-    assert!(rt; !is_made(rt.alloc(), 1, 0, 0)?);
-    assert!(rt; !is_made(rt.alloc(), 1, 0, 4_097)?);
+    assert!(rt; makes_entry(rt.alloc(), 1, 0, 1)?);
+    assert!(rt; makes_entry(rt.alloc(), 4_096, 1_048_576, 4_096)?);
+    assert!(rt; !makes_entry(rt.alloc(), 0, 0, 1)?);
+    assert!(rt; !makes_entry(rt.alloc(), 4_097, 0, 1)?);
+    assert!(rt; !makes_entry(rt.alloc(), 1, 1_048_577, 1)?);
+    assert!(rt; !makes_entry(rt.alloc(), 1, 0, 0)?);
+    assert!(rt; !makes_entry(rt.alloc(), 1, 0, 4_097)?);
     Ok(())
 }
 

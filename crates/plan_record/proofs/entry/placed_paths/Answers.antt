@@ -1,5 +1,5 @@
 use Rattle.std.proofs.Common.{◌≡◌, ◌+◌, ◌-◌, ◌≤◌, ℕ, List, length, sym, ◌∙◌, ap, drop, arith}
-use Rattle.plan_record.specs.Heads.{seen}
+use Rattle.plan_record.specs.Heads.{head_data}
 use Rattle.plan_record.specs.Paths.{paths_in}
 use Rattle.plan_record.specs.Reading.{Head}
 use Rattle.plan_record.proofs.PlacedLemmas.{paths_there, paths_behind}
@@ -15,11 +15,11 @@ overflow_add-front-2 c =
 pub returns-clause-there : goal.returns-clause-there
 returns-clause-there c =
     let place = ap (λ (b : List ℕ). length c.args.bytes.now - length b) (c.bytes_from-paths.ensures ∙ ap (λ (b : List ℕ). drop (22 + length c.placed_head-head.result.output.now + length c.placed_head-head.result.command.now) b) c.bytes_from.ensures) in
-    let behind = paths_behind c.args.bytes.now c.args.start (seen c.placed_head-head.result) _ (λ i. omega (arith, c.type_inv.bytes i)) c.requires c.placed_head-head.ensures place in
+    let behind = paths_behind c.args.bytes.now c.args.start (head_data c.placed_head-head.result) _ (λ i. omega (arith, c.type_inv.bytes i)) c.requires c.placed_head-head.ensures place in
     ((_, behind.rest), behind.read)
 
 pub returns-clause-paths : goal.returns-clause-paths
 returns-clause-paths c =
     let place = ap (λ (b : List ℕ). length c.args.bytes.now - length b) (c.bytes_from-paths.ensures ∙ ap (λ (b : List ℕ). drop (22 + length c.placed_head-head.result.output.now + length c.placed_head-head.result.command.now) b) c.bytes_from.ensures) in
-    let behind = paths_behind c.args.bytes.now c.args.start (seen c.placed_head-head.result) _ (λ i. omega (arith, c.type_inv.bytes i)) c.requires c.placed_head-head.ensures place in
+    let behind = paths_behind c.args.bytes.now c.args.start (head_data c.placed_head-head.result) _ (λ i. omega (arith, c.type_inv.bytes i)) c.requires c.placed_head-head.ensures place in
     ap paths_in behind.read
