@@ -1,9 +1,7 @@
 -- Paths skipped one after the other.
-use Rattle.std.proofs.Common.{◌≡◌, Bool, true, false, eqb, [], ◌∷◌, ℕ, zero, suc, ◌-◌, ◌+◌, ◌^◌, ◌≤◌, ◌<◌, List, length, Option, Some, None, refl, sym, subst, ◌∙◌, ap, arith, option_map}
-use Rattle.std.proofs.lemmas.Bool.{ne_eqb}
-use Rattle.std.specs.Int.{w32, w64}
+use Rattle.std.proofs.Common.{◌≡◌, ◌∷◌, ℕ, suc, ◌-◌, ◌+◌, ◌≤◌, ◌<◌, List, Option, Some, None, refl, sym, ◌∙◌, ap, arith, option_map}
 use Rattle.plan_record.specs.Entries.{EntryData}
-use Rattle.plan_record.specs.Reading.{◌>>=◌, Read, number_at, bytes_at, path_at, command_at, some_paths_at, head_at, with_paths, body_at, exactly, entry_of, entry_at}
+use Rattle.plan_record.specs.Reading.{◌>>=◌, Read, path_at, some_paths_at, entry_at}
 
 -- the bytes behind so many paths
 abbrev pub behind : ℕ → List ℕ → Option (List ℕ)

@@ -3,7 +3,7 @@ use Rattle.std.proofs.Common.{◌≡◌, ℕ, List, [], ◌∷◌, ◌++◌, tak
 use Rattle.plan_record.specs.Appending.{AppendsSpelling}
 use Rattle.plan_record.specs.Entries.{EntryData, spelling, last_of}
 use Rattle.plan_record.specs.Paths.{paths_in}
-use Rattle.plan_record.specs.Reading.{number_at, bytes_at, path_at, command_at, some_paths_at, head_at, body_at, entry_of, entry_at, entry_head_at, head_of}
+use Rattle.plan_record.specs.Reading.{number_at, bytes_at, path_at, command_at, some_paths_at, head_at, body_at, entry_of, entry_at}
 
 -- output `a`, command `t`, basis 7, no paths
 abbrev kept : EntryData

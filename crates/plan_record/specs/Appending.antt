@@ -1,7 +1,6 @@
 -- What appending an entry does to a sink.
 use Rattle.std.specs.Prelude.{◌≡◌, ℕ, ◌+◌, ◌<◌, List, length, take, Option, Result, Ok, Err}
 use Rattle.std.specs.Io.KnownBytes.{Appends}
-use Rattle.plan_text.specs.Sinks.{Writes}
 use Rattle.plan_record.specs.declared.writing.WriteFault.{WriteFault}
 
 -- An entry of this spelling is appended, between what a sink shows before and after: how many of its writes failed,

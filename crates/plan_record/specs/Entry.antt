@@ -1,5 +1,5 @@
 -- An entry as it stands in the bytes of a file.
-use Rattle.std.specs.Prelude.{◌≡◌, ℕ, List, [], drop, Option, Some, None}
+use Rattle.std.specs.Prelude.{◌≡◌, ℕ, List, [], drop, Some, None}
 use Rattle.plan_record.specs.Entries.{EntryData}
 use Rattle.plan_record.specs.Reading.{Read, entry_at}
 

@@ -1,5 +1,5 @@
 -- The reading of an entry from the front of some bytes.
-use Rattle.std.specs.Prelude.{ℕ, zero, suc, ◌<◌, ◌+◌, nat_lt, nat_le, ◌==◌, ◌||◌, if◌then◌else◌, List, [], ◌∷◌, length, take, drop, Option, Some, None}
+use Rattle.std.specs.Prelude.{ℕ, zero, suc, nat_lt, ◌==◌, ◌||◌, if◌then◌else◌, List, [], ◌∷◌, length, take, drop, Option, Some, None}
 use Rattle.std.specs.Int.{Width, w16, w32, w64, byte_len, from_be_bytes}
 use Rattle.plan_record.specs.Entries.{EntryData}
 

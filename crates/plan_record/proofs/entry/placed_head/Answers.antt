@@ -1,4 +1,4 @@
-use Rattle.std.proofs.Common.{◌≡◌, sym, ◌∙◌, ap, arith}
+use Rattle.std.proofs.Common.{◌∙◌, ap, arith}
 use Rattle.plan_record.specs.Reading.{entry_head_at}
 use Rattle.plan_record.proofs.PlacedLemmas.{head_there, head_not_missing}
 use Rattle.plan_record.proofs.entry.placed_head.Goals as goal

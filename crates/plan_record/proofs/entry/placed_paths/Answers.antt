@@ -1,4 +1,4 @@
-use Rattle.std.proofs.Common.{◌≡◌, ◌+◌, ◌-◌, ◌≤◌, ℕ, List, length, sym, ◌∙◌, ap, drop, arith}
+use Rattle.std.proofs.Common.{◌+◌, ◌-◌, ℕ, List, length, ◌∙◌, ap, drop, arith}
 use Rattle.plan_record.specs.Heads.{head_data}
 use Rattle.plan_record.specs.Paths.{paths_in}
 use Rattle.plan_record.specs.Reading.{Head}

@@ -1,4 +1,4 @@
-use Rattle.std.proofs.Common.{◌≡◌, sym, ◌∙◌, ap, subst, drop, arith}
+use Rattle.std.proofs.Common.{sym, ◌∙◌, ap, subst, arith}
 use Rattle.plan_record.proofs.EntryLemmas.{IsBytes, IsBytes-drop}
 use Rattle.plan_record.specs.Entries.{spelling}
 use Rattle.plan_record.specs.Entry.{data_of}

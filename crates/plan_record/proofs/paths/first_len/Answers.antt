@@ -1,5 +1,5 @@
 use Rattle.std.proofs.Common.{arith}
-use Rattle.plan_record.proofs.PathsLemmas.{GoesOn, goes_on, first_not_missing}
+use Rattle.plan_record.proofs.PathsLemmas.{goes_on, first_not_missing}
 use Rattle.plan_record.proofs.paths.first_len.Goals as goal
 
 pub returns-in-Some-clause-within : goal.returns-in-Some-clause-within

@@ -1,4 +1,4 @@
-use Rattle.std.proofs.Common.{◌≡◌, sym, ◌∙◌, ap, arith}
+use Rattle.std.proofs.Common.{arith}
 use Rattle.plan_record.proofs.PathsLemmas.{none_first, some_first, first_not_missing}
 use Rattle.plan_record.proofs.paths.first_path.Goals as goal
 

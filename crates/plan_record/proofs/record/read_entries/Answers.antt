@@ -1,7 +1,7 @@
-use Rattle.std.proofs.Common.{◌≡◌, ◌≤◌, ◌<◌, ◌+◌, ◌-◌, length, List, ◌∷◌, ◌++◌, [], drop, ℕ, sym, ◌∙◌, ap, subst, arith}
+use Rattle.std.proofs.Common.{◌≡◌, length, List, ◌∷◌, ◌++◌, [], drop, ℕ, sym, ◌∙◌, ap, arith}
 use Rattle.std.specs.Vec.{vec_len}
 use Rattle.plan_record.specs.Entry.{data_of}
-use Rattle.plan_record.specs.Entries.{EntryData, IsWholeFront}
+use Rattle.plan_record.specs.Entries.{EntryData}
 use Rattle.plan_record.specs.Reading.{entry_at}
 use Rattle.plan_record.proofs.EntryLemmas.{IsBytes, IsBytes-drop, vec_bytes}
 use Rattle.plan_record.proofs.ReadingLemmas.{entry_in_front, no_entry_in_front}

@@ -1,4 +1,4 @@
-use Rattle.std.proofs.Common.{◌≡◌, Some, None, sym, ◌∙◌, ap, subst, option_map}
+use Rattle.std.proofs.Common.{◌∙◌, ap}
 use Rattle.std.specs.Prelude.{slice_get}
 use Rattle.plan_record.specs.Entries.{last_of}
 use Rattle.plan_record.proofs.RecordLemmas.{numbered_last, none_numbered}
