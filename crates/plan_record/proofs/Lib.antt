@@ -1,0 +1,7 @@
+pub mod EntryLemmas
+pub mod ReadingLemmas
+pub mod PlacedLemmas
+pub mod FrontLemmas
+pub mod RecordLemmas
+pub mod PathsLemmas
+mod Rows

@@ -1,0 +1,13 @@
+-- An entry as it stands in the bytes of a file.
+use Rattle.std.specs.Prelude.{◌≡◌, ℕ, List, [], drop, Some, None}
+use Rattle.plan_record.specs.Entries.{EntryData}
+use Rattle.plan_record.specs.Reading.{Read, entry_at}
+
+-- what was read, the bytes behind it left out; an entry of nothing where nothing was
+abbrev pub data_of : Read EntryData → EntryData
+data_of (Some x) = x.0
+data_of None = record { output = []; command = []; basis = 0; paths = [] }
+
+-- a whole entry begins at an offset of some bytes
+abbrev pub IsPlaced : List ℕ → ℕ → Type 0
+IsPlaced bytes start = (x : EntryData × List ℕ) × (entry_at (drop start bytes) ≡ Some x)

@@ -1,0 +1,21 @@
+//! Build records: what is kept of each edge that ran, from one build to the next.
+#![tactic(auto)]
+
+mod entry;
+mod fault;
+mod laws;
+mod paths;
+mod reading;
+mod record;
+mod spelling;
+mod writing;
+
+pub use entry::Entry;
+pub use fault::EntryFault;
+pub use laws::entry_law;
+pub use paths::Paths;
+pub use record::{Record, load};
+pub use writing::{WriteFault, append};
+
+#[cfg(test)]
+mod tests;

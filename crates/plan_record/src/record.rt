@@ -1,0 +1,100 @@
+//! The entries of a record file.
+
+ghost use Rattle.std.specs.Prelude.{◌≡◌, ◌≤◌, ℕ, IfOk, length, drop, option_map, slice_get};
+ghost use Rattle.std.specs.Arc.{arc_value};
+ghost use Rattle.plan_record.specs.Entries.{IsGoodFront, last_of};
+ghost use Rattle.plan_record.specs.Outputs.{IsIndexOf};
+
+use crate::entry::{Entry, bytes_from};
+use crate::reading::skip_entry;
+use indexmap::IndexMap;
+use plan_text::Memory;
+use std::alloc::Global;
+use std::marker::Model;
+use std::sync::Arc;
+
+/// The entries of a record file, in the file's order. Contracts see the list. They share the bytes of the file, which
+/// are held once.
+#[derive(Drop)]
+pub struct Record {
+    entries: Vec<Entry>,
+    /// How many entries stand before the last of an output.
+    numbers: IndexMap<Vec<u8>, usize>,
+}
+
+impl Model for Record {
+    ghost use Rattle.std.specs.Prelude.{List};
+    ghost use Rattle.plan_record.specs.Entries.{EntryData};
+    ghost use Rattle.plan_record.specs.Outputs.{IsIndexOf};
+
+    ghost Value = { List EntryData };
+
+    ghost view = { λ r. r.entries.items };
+
+    ghost invariant = { λ r. IsIndexOf r.numbers.entries r.entries.items };
+}
+
+/// The entries of the longest front of whole ones, and the length of that front in bytes.
+fn read_entries(alloc: Global, bytes: Vec<u8>) -> Result<(Vec<Entry>, usize), Memory>
+    ensures { IfOk result (λ r. IsGoodFront bytes.items r.0.items r.1) }
+{
+    let file = Arc::new(alloc, bytes)?;
+    let mut entries = Vec::new(alloc);
+    let mut start = 0usize;
+    while let Some(rest) = skip_entry(bytes_from(&file, start)) {
+        let entry = Entry::placed(Arc::try_clone(&file)?, start);
+        let end = file.len() - rest.len();
+        entries.push(entry)?;
+        start = end;
+    }
+    Ok((entries, start))
+}
+
+/// By its output, how many entries stand before the last one of it.
+fn numbers_of(alloc: Global, entries: &[Entry]) -> Result<IndexMap<Vec<u8>, usize>, Memory>
+    ensures { IfOk result (λ numbers. IsIndexOf numbers.entries entries.now) }
+{
+    let mut numbers = IndexMap::new(alloc);
+    for number in 0..entries.len() {
+        let mut output = Vec::new(alloc);
+        output.extend_from_slice(entries[number].output())?;
+        numbers.insert(output, number)?;
+    }
+    Ok(numbers)
+}
+
+/// The entries of the longest front of a record file that is whole entries, and the length of that front in bytes.
+/// What stands behind it is dropped. The only error is want of memory.
+pub fn load(alloc: Global, bytes: Vec<u8>) -> Result<(Record, u64), Memory>
+    ensures { IfOk result (λ r. IsGoodFront bytes.items r.0 r.1) }
+{
+    let (entries, len) = read_entries(alloc, bytes)?;
+    let numbers = numbers_of(alloc, &entries)?;
+    Ok((Record { entries, numbers }, len as u64))
+}
+
+/// The entry of a number.
+fn nth_entry(entries: &[Entry], number: usize) -> Option<&Entry>
+    ensures { option_map (λ e. e.now) result ≡ slice_get entries.now number }
+{
+    entries.get(number)
+}
+
+impl Record {
+    /// All entries, in the file's order.
+    pub fn entries(&self) -> &[Entry]
+        ensures { result.now ≡ self.now }
+    {
+        &self.entries
+    }
+
+    /// The last entry of an output.
+    pub fn entry(&self, output: &[u8]) -> Option<&Entry>
+        ensures { option_map (λ e. e.now) result ≡ last_of output.now self.now }
+    {
+        match self.numbers.get(output) {
+            Some(number) => nth_entry(&self.entries, *number),
+            None => None,
+        }
+    }
+}

@@ -1,0 +1,206 @@
+//! Each public function once, on values from outside.
+
+use super::*;
+use plan_text::{Counted, Items, Memory};
+use std::alloc::Global;
+use std::io::{self, Write};
+use std::test::Fail;
+
+/// The entry of output `a`, command `t`, basis 7 and no paths.
+const ENTRY: [u8; 24] = [
+    0, 0, 0, 20, 0, 1, b'a', 0, 0, 0, 1, b't', 0, 0, 0, 0, 0, 0, 0, 7, 0, 0, 0, 0,
+];
+
+/// The record of some bytes.
+fn record_of(alloc: Global, bytes: &[u8]) -> Result<(Record, u64), Memory> {
+    let mut file = Vec::new(alloc);
+    file.extend_from_slice(bytes)?;
+    load(alloc, file)
+}
+
+/// How many entries the record of some bytes has, and how long they are.
+fn front_of(alloc: Global, bytes: &[u8]) -> Result<(usize, u64), Memory> {
+    let (record, len) = record_of(alloc, bytes)?;
+    Ok((record.entries().len(), len))
+}
+
+/// The bytes of an entry.
+fn spelling_of(alloc: Global, entry: &Entry) -> Result<Vec<u8>, WriteFault> {
+    let mut sink = Counted::new(Vec::new(alloc));
+    append(entry, &mut sink)?;
+    Ok(sink.into_writer())
+}
+
+#[test]
+fn entry_of_24_bytes(rt: HostRuntime) -> Result<(), Fail> {
+    let (record, len) = record_of(rt.alloc(), &ENTRY)?;
+    assert_eq!(rt; len, 24);
+    assert_eq!(rt; record.entries().len(), 1);
+    match record.entry(b"a") {
+        Some(entry) => {
+            assert_eq!(rt; entry.output(), b"a".as_slice());
+            assert_eq!(rt; entry.command(), b"t".as_slice());
+            assert_eq!(rt; entry.basis(), 7);
+            assert!(rt; entry.paths()?.first().is_none());
+        }
+        None => panic!(rt; "no entry"),
+    }
+    assert!(rt; record.entry(b"b").is_none());
+    Ok(())
+}
+
+#[test]
+fn torn_entries(rt: HostRuntime) -> Result<(), Fail> {
+    let mut file = Vec::new(rt.alloc());
+    assert_eq!(rt; front_of(rt.alloc(), &file)?, (0, 0));
+    file.extend_from_slice(&ENTRY)?;
+    file.extend_from_slice(&ENTRY[..10])?;
+    assert_eq!(rt; front_of(rt.alloc(), &file)?, (1, 24));
+    file.truncate(24);
+    file.extend_from_slice(&ENTRY)?;
+    assert_eq!(rt; front_of(rt.alloc(), &file)?, (2, 48));
+    assert_eq!(rt; front_of(rt.alloc(), &ENTRY[..23])?, (0, 0));
+    Ok(())
+}
+
+#[test]
+fn bodies_of_another_length(rt: HostRuntime) -> Result<(), Fail> {
+    let mut longer = Vec::new(rt.alloc());
+    longer.extend_from_slice(&ENTRY)?;
+    longer.push(0)?;
+    longer[3] = 21;
+    assert_eq!(rt; front_of(rt.alloc(), &longer)?, (0, 0));
+    let mut shorter = ENTRY;
+    shorter[3] = 19;
+    assert_eq!(rt; front_of(rt.alloc(), &shorter)?, (0, 0));
+    let mut counted = ENTRY;
+    counted[23] = 1;
+    assert_eq!(rt; front_of(rt.alloc(), &counted)?, (0, 0));
+    let mut nameless = ENTRY;
+    nameless[5] = 0;
+    assert_eq!(rt; front_of(rt.alloc(), &nameless)?, (0, 0));
+    Ok(())
+}
+
+#[test]
+fn last_of_an_output(rt: HostRuntime) -> Result<(), Fail> {
+    let mut file = Vec::new(rt.alloc());
+    for (output, basis) in [(b'a', 1), (b'b', 2), (b'a', 3), (b'c', 4)] {
+        let mut entry = ENTRY;
+        entry[6] = output;
+        entry[19] = basis;
+        file.extend_from_slice(&entry)?;
+    }
+    let (record, len) = record_of(rt.alloc(), &file)?;
+    assert_eq!(rt; len, 96);
+    for (output, basis) in [
+        (b"a".as_slice(), 3),
+        (b"b".as_slice(), 2),
+        (b"c".as_slice(), 4),
+    ] {
+        match record.entry(output) {
+            Some(entry) => assert_eq!(rt; entry.basis(), basis),
+            None => panic!(rt; "no entry"),
+        }
+    }
+    Ok(())
+}
+
+/// Whether parts of these lengths make an entry, which is then read again as it is.
+fn makes_entry(alloc: Global, output: usize, command: usize, path: usize) -> Result<bool, Fail> {
+    let output = vec![in alloc; b'o'; output]?;
+    let command = vec![in alloc; b'c'; command]?;
+    let mut paths = Vec::new(alloc);
+    paths.push(Items::new(vec![in alloc; b'p'; path]?))?;
+    let entry = match Entry::new(alloc, &output, &command, 9, &paths) {
+        Ok(entry) => entry,
+        Err(EntryFault::OutsideLimits) => return Ok(false),
+        Err(fault) => return Err(Fail::from(fault)),
+    };
+    let bytes = spelling_of(alloc, &entry)?;
+    let len = bytes.len() as u64;
+    let (record, front) = load(alloc, bytes)?;
+    Ok(match record.entry(&output) {
+        Some(read) => front == len && read.command() == command.as_slice() && read.basis() == 9,
+        None => false,
+    })
+}
+
+#[test]
+fn limits(rt: HostRuntime) -> Result<(), Fail> {
+    assert!(rt; makes_entry(rt.alloc(), 1, 0, 1)?);
+    assert!(rt; makes_entry(rt.alloc(), 4_096, 1_048_576, 4_096)?);
+    assert!(rt; !makes_entry(rt.alloc(), 0, 0, 1)?);
+    assert!(rt; !makes_entry(rt.alloc(), 4_097, 0, 1)?);
+    assert!(rt; !makes_entry(rt.alloc(), 1, 1_048_577, 1)?);
+    assert!(rt; !makes_entry(rt.alloc(), 1, 0, 0)?);
+    assert!(rt; !makes_entry(rt.alloc(), 1, 0, 4_097)?);
+    Ok(())
+}
+
+#[test]
+fn paths_one_by_one(rt: HostRuntime) -> Result<(), Fail> {
+    let mut named = Vec::new(rt.alloc());
+    for name in [b"a.h".as_slice(), b"b/c.h".as_slice()] {
+        let mut path = Vec::new(rt.alloc());
+        path.extend_from_slice(name)?;
+        named.push(Items::new(path))?;
+    }
+    let entry = Entry::new(rt.alloc(), b"a.o", b"cc -c a.c", 5, &named)?.copy()?;
+    let mut paths = entry.paths()?;
+    assert_eq!(rt; paths.first(), Some(b"a.h".as_slice()));
+    paths.advance();
+    assert_eq!(rt; paths.first(), Some(b"b/c.h".as_slice()));
+    paths.advance();
+    assert!(rt; paths.first().is_none());
+    paths.advance();
+    assert!(rt; paths.first().is_none());
+    Ok(())
+}
+
+/// Takes so many bytes at a call, and fails once it took so many in all.
+#[derive(Drop)]
+struct Narrow {
+    taken: Vec<u8>,
+    at_a_call: usize,
+    left: usize,
+}
+
+impl Write for Narrow {
+    fn write(&mut self, bytes: &[u8]) -> io::Result<usize> {
+        if self.left == 0 {
+            return Err(io::Error::from(io::ErrorKind::BrokenPipe));
+        }
+        let n = bytes.len().min(self.at_a_call).min(self.left);
+        self.taken.extend_from_slice(&bytes[..n])?;
+        self.left -= n;
+        Ok(n)
+    }
+
+    fn flush(&mut self) -> io::Result<()> {
+        Ok(())
+    }
+}
+
+#[test]
+fn writers_that_take_little(rt: HostRuntime) -> Result<(), Fail> {
+    let entry = Entry::new(rt.alloc(), b"a", b"t", 7, &[])?;
+    let mut failing = Counted::new(Narrow {
+        taken: Vec::new(rt.alloc()),
+        at_a_call: 10,
+        left: 10,
+    });
+    assert_eq!(rt;
+        append(&entry, &mut failing),
+        Err(WriteFault { written: 10 })
+    );
+    assert_eq!(rt; failing.into_writer().taken.as_slice(), &ENTRY[..10]);
+    let mut slow = Counted::new(Narrow {
+        taken: Vec::new(rt.alloc()),
+        at_a_call: 1,
+        left: 24,
+    });
+    assert_eq!(rt; append(&entry, &mut slow), Ok(()));
+    assert_eq!(rt; slow.into_writer().taken.as_slice(), ENTRY.as_slice());
+    Ok(())
+}
