@@ -11,7 +11,7 @@ use Rattle.plan_depfile.specs.declared.state.Held.{Held}
 use Rattle.plan_depfile.specs.declared.state.Held.TheVariants as held
 use Rattle.plan_depfile.specs.declared.state.Stand.{Stand as RustStand}
 use Rattle.plan_depfile.specs.declared.state.Stand.TheVariants as stand
-use Rattle.plan_depfile.specs.Machine.{found_with, found_after, found, unless, stand_at, bytes_of, answer}
+use Rattle.plan_depfile.specs.Machine.{found_with, found_after, paths_found, unless, stand_at, bytes_of, answer}
 use Rattle.plan_depfile.specs.Runs.{is_plain, IsSteady, past_plain, past_run}
 
 plain_sign : (b : ℕ) (rest : List ℕ) → is_plain b ≡ true → sign_at b rest ≡ (Byte b, 0)
@@ -70,18 +70,18 @@ run_taken paths stand at n text rest s h within =
 
 -- the same for a machine that holds nothing
 pub run_answered : (old new : Machine) (n : ℕ) (text rest : List ℕ) → old.held ≡ held.Nothing → IsSteady (stand_at old.stand old.word.items) → n ≤ prefix_len is_plain text → n ≤ length text
-    → new.held ≡ old.held → new.fault ≡ old.fault → new.at ≡ old.at + n → found new ≡ found old → stand_at new.stand new.word.items ≡ past_run (stand_at old.stand old.word.items) (take n text)
+    → new.held ≡ old.held → new.fault ≡ old.fault → new.at ≡ old.at + n → paths_found new ≡ paths_found old → stand_at new.stand new.word.items ≡ past_run (stand_at old.stand old.word.items) (take n text)
     → answer new (drop n text ++ rest) ≡ answer old (text ++ rest)
 run_answered old new n text rest nothing steady plain within same_held same_fault place same_found past =
     let after = drop n text ++ rest in
     let mid = stand_at new.stand new.word.items in
-    ap (λ (h : Held). unless new.fault (found_with (found new) mid (new.at + length (bytes_of h ++ after)) (marks_past new.at (bytes_of h ++ after) 0))) (same_held ∙ nothing)
-    ∙ ap (λ (k : ℕ). unless new.fault (found_with (found new) mid (k + length after) (marks_past k after 0))) place
-    ∙ ap (λ (s : Stand). unless new.fault (found_with (found new) s (old.at + n + length after) (marks_past (old.at + n) after 0))) past
+    ap (λ (h : Held). unless new.fault (found_with (paths_found new) mid (new.at + length (bytes_of h ++ after)) (marks_past new.at (bytes_of h ++ after) 0))) (same_held ∙ nothing)
+    ∙ ap (λ (k : ℕ). unless new.fault (found_with (paths_found new) mid (k + length after) (marks_past k after 0))) place
+    ∙ ap (λ (s : Stand). unless new.fault (found_with (paths_found new) s (old.at + n + length after) (marks_past (old.at + n) after 0))) past
     ∙ ap (λ (paths : List (List ℕ)). unless new.fault (found_with paths (past_run (stand_at old.stand old.word.items) (take n text)) (old.at + n + length after) (marks_past (old.at + n) after 0))) same_found
-    ∙ ap (λ r. unless new.fault r) (run_taken (found old) (stand_at old.stand old.word.items) old.at n text rest steady plain within)
-    ∙ ap (λ f. unless f (found_with (found old) (stand_at old.stand old.word.items) (old.at + length (text ++ rest)) (marks_past old.at (text ++ rest) 0))) same_fault
-    ∙ sym (ap (λ (h : Held). unless old.fault (found_with (found old) (stand_at old.stand old.word.items) (old.at + length (bytes_of h ++ (text ++ rest))) (marks_past old.at (bytes_of h ++ (text ++ rest)) 0))) nothing)
+    ∙ ap (λ r. unless new.fault r) (run_taken (paths_found old) (stand_at old.stand old.word.items) old.at n text rest steady plain within)
+    ∙ ap (λ f. unless f (found_with (paths_found old) (stand_at old.stand old.word.items) (old.at + length (text ++ rest)) (marks_past old.at (text ++ rest) 0))) same_fault
+    ∙ sym (ap (λ (h : Held). unless old.fault (found_with (paths_found old) (stand_at old.stand old.word.items) (old.at + length (bytes_of h ++ (text ++ rest))) (marks_past old.at (bytes_of h ++ (text ++ rest)) 0))) nothing)
 
 -- where no path is read
 pub run_elsewhere : (s : RustStand) (word run : List ℕ) → ((start : ℕ) → s ≢ stand.Inside start) → stand_at s word ≡ past_run (stand_at s word) run
