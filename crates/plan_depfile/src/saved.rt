@@ -31,7 +31,14 @@ impl Machine {
         ensures place { self.new.at ≡ saved.at }
         ensures held { self.new.held ≡ saved.held }
     {
-        let Saved { word, paths, at, held, stand, fault } = saved;
+        let Saved {
+            word,
+            paths,
+            at,
+            held,
+            stand,
+            fault,
+        } = saved;
         self.paths.truncate(paths);
         self.word = word;
         self.at = at;
