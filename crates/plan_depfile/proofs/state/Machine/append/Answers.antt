@@ -1,7 +1,6 @@
 use Rattle.std.proofs.Common.{◌≡◌, ◌-◌, ◌++◌, ℕ, List, length, take, min, ap, sym, ◌∙◌, refl, arith}
 use Rattle.std.proofs.lemmas.List.{take_min}
 use Rattle.plan_depfile.specs.Machine.{stand_at}
-use Rattle.plan_depfile.specs.Going.{Stand, Inside}
 use Rattle.plan_depfile.specs.Runs.{past_run}
 use Rattle.plan_depfile.proofs.RunLemmas.{run_of_path, run_elsewhere}
 use Rattle.plan_depfile.proofs.state.Machine.append.Goals as goal

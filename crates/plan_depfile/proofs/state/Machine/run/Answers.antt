@@ -1,4 +1,4 @@
-use Rattle.std.proofs.Common.{◌≡◌, ◌≤◌, ◌<◌, ◌+◌, take, ℕ, ap, sym, ◌∙◌, map, length, refl, arith}
+use Rattle.std.proofs.Common.{◌≤◌, ◌<◌, ◌+◌, ap, ◌∙◌, map, length, arith}
 use Rattle.std.specs.List.{prefix_len}
 use Rattle.plan_depfile.specs.Runs.{is_plain, past_run}
 use Rattle.plan_depfile.specs.Machine.{stand_at}
