@@ -1,6 +1,7 @@
 //! Each public function once, on values from outside.
 
 use super::*;
+use plan_text::Memory;
 use std::alloc::Global;
 use std::test::Fail;
 
@@ -79,7 +80,8 @@ fn longest_path(rt: HostRuntime) -> Result<(), Fail> {
 
 #[test]
 fn longest_depfile(rt: HostRuntime) -> Result<(), Fail> {
-    let mut text = vec![in rt.alloc(); b' '; 16_777_217]?;
+    let mut text = vec![in rt.alloc(); b'a'; 16_777_217]?;
+    text[16_777_216] = b':';
     assert_eq!(rt; fault_of(rt.alloc(), &text[1..]), None);
     assert_eq!(rt;
         fault_of(rt.alloc(), &text),
@@ -148,4 +150,78 @@ fn numbers_and_offsets(rt: HostRuntime) {
     assert_eq!(rt; DepFault::Memory.number(), 95);
     assert_eq!(rt; DepFault::TooLong(7).offset(), Some(7));
     assert_eq!(rt; DepFault::Memory.offset(), None);
+}
+
+/// Feeds a piece, once more where memory was refused.
+fn feed_again(reader: &mut Reader, piece: &[u8]) -> Result<(), DepFault> {
+    match reader.feed(piece) {
+        Err(DepFault::Memory) => reader.feed(piece),
+        answer => answer,
+    }
+}
+
+/// The paths of a reader, which is asked once more where memory was refused.
+fn finish_again(reader: Reader) -> Result<Paths, DepFault> {
+    let reader = match reader.finish() {
+        Ok(paths) => return Ok(paths),
+        Err((reader, DepFault::Memory)) => reader,
+        Err((_, fault)) => return Err(fault),
+    };
+    match reader.finish() {
+        Ok(paths) => Ok(paths),
+        Err((_, fault)) => Err(fault),
+    }
+}
+
+/// Gathers a text, each call once more where memory was refused.
+fn gather_again(alloc: Global, text: &[u8]) -> Result<Parsed, Memory> {
+    let mut gather = Gather::new(alloc);
+    for piece in text.chunks(7) {
+        match gather.feed(piece) {
+            Ok(()) => {}
+            Err(_) => gather.feed(piece)?,
+        }
+    }
+    match gather.finish() {
+        Ok(parsed) => Ok(parsed),
+        Err((gather, _)) => match gather.finish() {
+            Ok(parsed) => Ok(parsed),
+            Err((_, memory)) => Err(memory),
+        },
+    }
+}
+
+const REFUSED_ONCE: &[u8] =
+    b"# x\nout: ./a\\ b.h \\\r\n $$b.h a\\ b.h ../c/./d.h\\:e\nx:/usr/include/y.h a/../z";
+
+/// `rt try --test --fail-alloc N` refuses one allocation: that call answers want of memory, and nothing is lost.
+#[test]
+fn reads_after_refused_memory(rt: HostRuntime) -> Result<(), DepFault> {
+    let want = [
+        b"a b.h".as_slice(),
+        b"$b.h".as_slice(),
+        b"../c/d.h:e".as_slice(),
+        b"/usr/include/y.h".as_slice(),
+        b"z".as_slice(),
+    ];
+    let mut reader = Reader::new(rt.alloc());
+    for piece in REFUSED_ONCE.chunks(7) {
+        feed_again(&mut reader, piece)?;
+    }
+    let paths = finish_again(reader)?;
+    assert!(rt; has_paths(&paths, want.as_slice()));
+    Ok(())
+}
+
+/// The same for what is gathered, and for a copy of it.
+#[test]
+fn gathers_after_refused_memory(rt: HostRuntime) -> Result<(), Memory> {
+    let parsed = gather_again(rt.alloc(), REFUSED_ONCE)?;
+    let copy = match parsed.copy(rt.alloc()) {
+        Ok(copy) => copy,
+        Err(_) => parsed.copy(rt.alloc())?,
+    };
+    assert_eq!(rt; copy.bytes(), REFUSED_ONCE);
+    assert!(rt; matches!(copy.result(), Ok(paths) if paths.len() == 5));
+    Ok(())
 }
