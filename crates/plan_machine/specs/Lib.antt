@@ -1,0 +1,12 @@
+pub mod Limits
+pub mod State
+pub mod Places
+pub mod Step
+pub mod Depfile
+pub mod Wanted
+pub mod Runs
+pub mod NeverWrong
+pub mod NeverStuck
+pub mod Orderly
+pub mod InBudget
+pub mod Standing
