@@ -6,8 +6,10 @@
 #![tactic(auto)]
 
 mod event;
+mod laws;
 mod mark;
 
 pub use event::{Event, Reply};
+pub use laws::{marks_are_orderly, never_stuck, never_wrong};
 pub use mark::{Mark, Outcome};
 pub use plan_verify::Cause;
