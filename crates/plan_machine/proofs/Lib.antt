@@ -6,3 +6,5 @@ pub mod OpensLemmas
 pub mod NeverStuckLemmas
 pub mod HoldingLemmas
 pub mod OrderlyLemmas
+pub mod InBudgetLemmas
+pub mod Rows

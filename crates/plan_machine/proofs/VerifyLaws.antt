@@ -9,6 +9,7 @@ use Rattle.plan_verify.specs.Tables.{waits_in, waits_of}
 use Rattle.plan_verify.specs.WellShaped.{IsWellShaped}
 use Rattle.plan_verify.specs.Sound.{InstructionsFit, StepsAreSafe, RepliesAreSafe}
 use Rattle.plan_verify.specs.Seam.{StaysTyped}
+use Rattle.plan_verify.specs.Worth.{AllTurnsPay}
 use Rattle.plan_verify.specs.Facts.{TablesAreInRange}
 use Rattle.plan_machine.proofs.ListLemmas.{get_inside, member_contained}
 
@@ -19,6 +20,7 @@ pub record VerifyLaws : Type 0 where
   pub replies_safe : RepliesAreSafe
   pub stay_typed : StaysTyped
   pub in_range : TablesAreInRange
+  pub turns_pay : AllTurnsPay
 
 -- ---- ranks
 

@@ -3,13 +3,19 @@
 //! - `Event`, `Reply`: what may happen next, and answers from outside. `Mark`: what an event did. `Outcome`: how an edge
 //!   came out. `Cause` (of plan_verify): why it failed.
 //! - `Options`: how many jobs there are, and how many failures are borne.
+//! - The laws say what holds of every run of an image that is well shaped: it never goes wrong (`never_wrong`), its marks
+//!   are orderly (`marks_are_orderly`), it never gets stuck (`never_stuck`), its events are bounded (`stays_in_budget`).
 #![tactic(auto)]
 
 mod event;
 mod laws;
 mod mark;
+mod options;
 
 pub use event::{Event, Reply};
-pub use laws::{marks_are_orderly, never_stuck, never_wrong};
+pub use laws::{
+    depfiles_are_frugal, marks_are_orderly, never_stuck, never_wrong, stays_in_budget,
+};
 pub use mark::{Mark, Outcome};
+pub use options::Options;
 pub use plan_verify::Cause;

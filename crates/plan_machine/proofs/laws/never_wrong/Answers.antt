@@ -9,4 +9,5 @@ returns c = never_wrong (record {
     replies_safe = c.replies_are_safe.ensures;
     stay_typed = c.stays_typed.ensures;
     in_range = c.tables_are_in_range.ensures;
+    turns_pay = c.all_turns_pay.ensures;
   })
