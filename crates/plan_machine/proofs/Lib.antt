@@ -8,3 +8,4 @@ pub mod HoldingLemmas
 pub mod OrderlyLemmas
 pub mod InBudgetLemmas
 pub mod Rows
+pub mod WantedLemmas

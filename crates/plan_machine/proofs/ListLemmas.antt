@@ -1,6 +1,6 @@
 -- Elements of lists, tests over them, and choices.
 use Rattle.std.proofs.Common.{◌≡◌, ℕ, zero, suc, ◌+◌, ◌<◌, Bool, true, false, eqb, List, [], ◌∷◌, length, map, Option, Some, None, refl, sym, ap, ◌∙◌, subst, arith, inl, inr}
-use Rattle.std.specs.Prelude.{◌⊎◌, not, ◌||◌, ◌&&◌, slice_get, slice_set, IsSome, if◌then◌else◌, Contains}
+use Rattle.std.specs.Prelude.{◌⊎◌, not, ◌||◌, ◌&&◌, slice_get, slice_set, slice_index_or, IsSome, if◌then◌else◌, Contains}
 use Rattle.std.specs.List.{list_all, list_any}
 use Rattle.std.proofs.lemmas.Bool.{eqb-true, eq-eqb}
 use Rattle.plan_image.specs.declared.image.Slot.{Slot}
@@ -125,3 +125,14 @@ member_contained n (m ∷ ns) h = elim (or_cases (eqb m n) (is_member n ns) h) [
     | inl e ↦ (0, omega arith, eqb-true m n e)
     | inr r ↦ let c = member_contained n ns r in (suc c.0, omega (arith, c.1), c.2)
   ]
+
+pub index_member : (es : List ℕ) (k d : ℕ) → k < length es → is_member (slice_index_or es k d) es ≡ true
+index_member [] k d lt = absurd (omega (arith, lt))
+index_member (e ∷ es) zero d lt = ap (λ (b : Bool). b || is_member e es) (eq-eqb e e refl)
+index_member (e ∷ es) (suc k) d lt = or_right (eqb e (slice_index_or es k d)) (is_member (slice_index_or es k d) es) (index_member es k d (omega (arith, lt)))
+
+pub none_member : (f : ℕ → Bool) (ns : List ℕ) (n : ℕ) → list_any f ns ≡ false → is_member n ns ≡ true → f n ≡ false
+none_member f [] n h k = absurd cc
+none_member f (m ∷ ns) n h k =
+    let b = or_false (f m) (list_any f ns) h in
+    elim (or_cases (eqb m n) (is_member n ns) k) [ inl e ↦ ap f (sym (eqb-true m n e)) ∙ b.0 | inr r ↦ none_member f ns n b.1 r ]

@@ -217,7 +217,7 @@ module _ (laws : VerifyLaws) (meaning : Meaning) (p : Parts) (shaped : IsWellSha
 
       inside : (w : ℕ) → is_member w (waits_of p e) ≡ true → (status : Status) × (slice_get s.edges w ≡ Some status) × (status ≢ Over NotWanted)
       inside w wait =
-          let at = get_inside s.edges w (omega (arith, (wait_below laws p shaped e w short wait).0, sound.long)) in
+          let at = get_inside s.edges w (omega (arith, (wait_below laws.in_range p shaped e w short wait).0, sound.long)) in
           (at.0, at.1, λ gone. sound.needed e w now wait (at.1 ∙ ap Some gone))
 
       by_wait : ((w : ℕ) (status : Status) → rank_of p w < n → slice_get s.edges w ≡ Some status → is_over status ≡ false → GoesOn) → Wait s (waits_of p e) → GoesOn
@@ -227,7 +227,7 @@ module _ (laws : VerifyLaws) (meaning : Meaning) (p : Parts) (shaped : IsWellSha
       by_wait again (inr (inl q)) =
           goes_by (Skip e q.0) _ _ refl (ap (λ (o : Option Status). skips p s e q.0 o) now
             ∙ when_true (λ (o : Stepped). o ≡ Next (with_status s e (Over (Skipped q.0))) (mark.Skipped e q.0)) (is_member q.0 (waits_of p e) && stands is_ill s q.0) _ _ (and_from _ _ q.1 q.2) refl)
-      by_wait again (inr (inr q)) = again q.0 q.1 (omega (arith, lt, (wait_below laws p shaped e q.0 short q.2).1)) q.3 q.4
+      by_wait again (inr (inr q)) = again q.0 q.1 (omega (arith, lt, (wait_below laws.in_range p shaped e q.0 short q.2).1)) q.3 q.4
 
   pub goes : (has_ended s ≡ true) ⊎ GoesOn
   goes = elim (find_open s.edges) [ inl all ↦ inl all | inr q ↦ inr (edge_goes (suc (rank_of p q.0)) q.0 q.1 (omega arith) q.2 q.3) ]

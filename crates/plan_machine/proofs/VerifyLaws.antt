@@ -32,9 +32,9 @@ abbrev pub rank_of : Parts → ℕ → ℕ
 rank_of p e = rank_in (slice_get p.edges e)
 
 -- what an edge waits for is in the image, and of lesser rank
-pub wait_below : (laws : VerifyLaws) (p : Parts) → IsWellShaped p → (e w : ℕ) → e < length p.edges → is_member w (waits_of p e) ≡ true → (w < length p.edges) × (rank_of p w < rank_of p e)
-wait_below laws p shaped e w lt wait =
+pub wait_below : TablesAreInRange → (p : Parts) → IsWellShaped p → (e w : ℕ) → e < length p.edges → is_member w (waits_of p e) ≡ true → (w < length p.edges) × (rank_of p w < rank_of p e)
+wait_below in_range p shaped e w lt wait =
     let x = get_inside p.edges e lt in
     let there : Contains x.0.waits w = member_contained w x.0.waits (ap (λ (o : Option Edge). is_member w (waits_in o)) (sym x.1) ∙ wait) in
-    let maker = ((laws.in_range p shaped).edges e x.0 x.1).waits w there in
+    let maker = ((in_range p shaped).edges e x.0 x.1).waits w there in
     (slice_get_within p.edges w maker.0 maker.1, omega (arith, maker.2, ap rank_in maker.1, ap rank_in x.1))

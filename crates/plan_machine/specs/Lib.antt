@@ -4,6 +4,7 @@ pub mod Places
 pub mod Step
 pub mod Depfile
 pub mod Wanted
+pub mod Walk
 pub mod Runs
 pub mod NeverWrong
 pub mod NeverStuck

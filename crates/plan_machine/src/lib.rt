@@ -11,6 +11,7 @@ mod event;
 mod laws;
 mod mark;
 mod options;
+mod wanted;
 
 pub use event::{Event, Reply};
 pub use laws::{
