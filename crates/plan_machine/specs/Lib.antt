@@ -11,3 +11,5 @@ pub mod NeverStuck
 pub mod Orderly
 pub mod InBudget
 pub mod Standing
+pub mod Going
+pub mod Statuses
