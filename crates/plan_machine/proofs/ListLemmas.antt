@@ -122,9 +122,9 @@ own_all p f e k slot at own h =
 pub member_contained : (n : ℕ) (ns : List ℕ) → is_member n ns ≡ true → Contains ns n
 member_contained n [] h = absurd cc
 member_contained n (m ∷ ns) h = elim (or_cases (eqb m n) (is_member n ns) h) [
-    | inl e ↦ (0, omega arith, eqb-true m n e)
-    | inr r ↦ let c = member_contained n ns r in (suc c.0, omega (arith, c.1), c.2)
-  ]
+  | inl e ↦ (0, omega arith, eqb-true m n e)
+  | inr r ↦ let c = member_contained n ns r in (suc c.0, omega (arith, c.1), c.2)
+]
 
 pub index_member : (es : List ℕ) (k d : ℕ) → k < length es → is_member (slice_index_or es k d) es ≡ true
 index_member [] k d lt = absurd (omega (arith, lt))

@@ -134,7 +134,7 @@ module _ (laws : VerifyLaws) (meaning : Meaning) (p : Parts) (shaped : IsWellSha
       let u = sound.active e l now in
       let n = settles_next e l (stepped e) u.shapes (turn p e s.slots l) (turn_safe laws meaning p shaped limits s sound e l u) in
       let is : steps p limits s e (Some (Active l)) ≡ Next n.0 n.1 =
-          when_false (λ (o : Stepped). o ≡ Next n.0 n.1) (l.asked || (at_take p e l && not (is_free p limits s e))) _ _ (ap (λ (b : Bool). b || (at_take p e l && not (is_free p limits s e))) quiet ∙ free) n.2 in
+      when_false (λ (o : Stepped). o ≡ Next n.0 n.1) (l.asked || (at_take p e l && not (is_free p limits s e))) _ _ (ap (λ (b : Bool). b || (at_take p e l && not (is_free p limits s e))) quiet ∙ free) n.2 in
       goes_by (Step e) n.0 n.1 refl (ap (λ (o : Option Status). steps p limits s e o) now ∙ is)
 
   -- an edge that holds a place isn't at Take, and goes on
@@ -145,16 +145,16 @@ module _ (laws : VerifyLaws) (meaning : Meaning) (p : Parts) (shaped : IsWellSha
       elim (cases_Bool l.asked) [
         | inl loud ↦ inr (record { edge = e; local = l; active = now; asked = loud })
         | inr quiet ↦ elim (cases_Bool (at_take p e l)) [
-            | inl take ↦ absurd (let clash : true ≡ false = sym holds ∙ take_idle laws p s e l (sound.active e l now) take in cc)
-            | inr off ↦ step_goes e l now quiet (ap (λ (b : Bool). b && not (is_free p limits s e)) off)
-          ]
+          | inl take ↦ absurd (let clash : true ≡ false = sym holds ∙ take_idle laws p s e l (sound.active e l now) take in cc)
+          | inr off ↦ step_goes e l now quiet (ap (λ (b : Bool). b && not (is_free p limits s e)) off)
+        ]
       ]
 
   stop_goes : (e : ℕ) (l : Local) → slice_get s.edges e ≡ Some (Active l) → is_spent limits s ≡ true → at_take p e l ≡ true → GoesOn
   unfolding step
   stop_goes e l now spent take =
       goes_by (Stop e) _ _ refl (ap (λ (o : Option Status). stops p limits s e o) now
-        ∙ when_true (λ (o : Stepped). o ≡ Next (with_status s e (Over Stopped)) (mark.Stopped e)) (is_spent limits s && at_take p e l) _ _ (and_from _ _ spent take) refl)
+      ∙ when_true (λ (o : Stepped). o ≡ Next (with_status s e (Over Stopped)) (mark.Stopped e)) (is_spent limits s && at_take p e l) _ _ (and_from _ _ spent take) refl)
 
   -- no room in a pool: an edge holds a place of it
   full_goes : (o : Option ℕ) → has_room p s o ≡ false → GoesOn
@@ -181,14 +181,14 @@ module _ (laws : VerifyLaws) (meaning : Meaning) (p : Parts) (shaped : IsWellSha
       elim (cases_Bool (has_room p s (pool_of p e))) [
         | inr full ↦ full_goes (pool_of p e) full
         | inl room ↦ elim (cases_Bool (nat_lt (count_by is_holder s.edges) limits.jobs)) [
-            | inr busy ↦
-                let many : limits.jobs ≤ count_by is_holder s.edges = ltb-false (count_by is_holder s.edges) limits.jobs busy in
-                let f = find_counted is_holder s.edges (omega (arith, many, some_jobs)) in
-                holder_goes f.0 f.1 f.2 f.3
-            | inl idle ↦
-                let free : is_free p limits s e ≡ true = and_from _ _ (and_from _ _ room idle) (ap not unspent) in
-                step_goes e l now quiet (ap (λ (b : Bool). at_take p e l && not b) free ∙ ap (λ (b : Bool). b && false) take)
-          ]
+          | inr busy ↦
+              let many : limits.jobs ≤ count_by is_holder s.edges = ltb-false (count_by is_holder s.edges) limits.jobs busy in
+              let f = find_counted is_holder s.edges (omega (arith, many, some_jobs)) in
+              holder_goes f.0 f.1 f.2 f.3
+          | inl idle ↦
+              let free : is_free p limits s e ≡ true = and_from _ _ (and_from _ _ room idle) (ap not unspent) in
+              step_goes e l now quiet (ap (λ (b : Bool). at_take p e l && not b) free ∙ ap (λ (b : Bool). b && false) take)
+        ]
       ]
 
   active_goes : (e : ℕ) (l : Local) → slice_get s.edges e ≡ Some (Active l) → GoesOn
@@ -196,12 +196,12 @@ module _ (laws : VerifyLaws) (meaning : Meaning) (p : Parts) (shaped : IsWellSha
       elim (cases_Bool l.asked) [
         | inl loud ↦ inr (record { edge = e; local = l; active = now; asked = loud })
         | inr quiet ↦ elim (cases_Bool (at_take p e l)) [
-            | inr off ↦ step_goes e l now quiet (ap (λ (b : Bool). b && not (is_free p limits s e)) off)
-            | inl take ↦ elim (cases_Bool (is_spent limits s)) [
-                | inl spent ↦ stop_goes e l now spent take
-                | inr unspent ↦ take_goes e l now quiet take unspent
-              ]
+          | inr off ↦ step_goes e l now quiet (ap (λ (b : Bool). b && not (is_free p limits s e)) off)
+          | inl take ↦ elim (cases_Bool (is_spent limits s)) [
+            | inl spent ↦ stop_goes e l now spent take
+            | inr unspent ↦ take_goes e l now quiet take unspent
           ]
+        ]
       ]
 
   -- an edge without outcome, of a rank below some number
@@ -223,10 +223,10 @@ module _ (laws : VerifyLaws) (meaning : Meaning) (p : Parts) (shaped : IsWellSha
       by_wait : ((w : ℕ) (status : Status) → rank_of p w < n → slice_get s.edges w ≡ Some status → is_over status ≡ false → GoesOn) → Wait s (waits_of p e) → GoesOn
       by_wait again (inl all) =
           goes_by (Start e) _ _ refl (ap (λ (o : Option Status). starts p s e o) now
-            ∙ when_true (λ (o : Stepped). o ≡ Next (with_status s e (Active begun)) (mark.Started e)) (list_all (stands is_well s) (waits_of p e)) _ _ all refl)
+          ∙ when_true (λ (o : Stepped). o ≡ Next (with_status s e (Active begun)) (mark.Started e)) (list_all (stands is_well s) (waits_of p e)) _ _ all refl)
       by_wait again (inr (inl q)) =
           goes_by (Skip e q.0) _ _ refl (ap (λ (o : Option Status). skips p s e q.0 o) now
-            ∙ when_true (λ (o : Stepped). o ≡ Next (with_status s e (Over (Skipped q.0))) (mark.Skipped e q.0)) (is_member q.0 (waits_of p e) && stands is_ill s q.0) _ _ (and_from _ _ q.1 q.2) refl)
+          ∙ when_true (λ (o : Stepped). o ≡ Next (with_status s e (Over (Skipped q.0))) (mark.Skipped e q.0)) (is_member q.0 (waits_of p e) && stands is_ill s q.0) _ _ (and_from _ _ q.1 q.2) refl)
       by_wait again (inr (inr q)) = again q.0 q.1 (omega (arith, lt, (wait_below laws.in_range p shaped e q.0 short q.2).1)) q.3 q.4
 
   pub goes : (has_ended s ≡ true) ⊎ GoesOn

@@ -66,13 +66,19 @@ module _ (laws : VerifyLaws) (meaning : Meaning) (p : Parts) (shaped : IsWellSha
   calm : (e : ℕ) (old new : Status) (mid : State) (told : Mark) → slice_get s.edges e ≡ Some old → mid.edges ≡ slice_set s.edges e new → is_holder new ≡ is_holder old → ((f : ℕ) (x : Bool) → holds_then f x told ≡ x)
       → ((f : ℕ) → told ≢ mark.Started f) → new ≢ Unbegun → is_well old ≡ false → (is_well new ≡ true → (ran : Bool) × (told ≡ mark.Ended e ran)) → Alters p limits s mid told
   calm e old new mid told now becomes same still none not_unbegun unwell ended_by = record {
-      e = e; old = old; new = new; now = now; becomes = becomes;
-      held = same ∙ sym (still e (is_holder old));
-      others = λ f ne x. still f x;
-      started = λ f h. absurd (none f h);
-      not_unbegun = not_unbegun; unwell = unwell; ended_by = ended_by;
-      room = λ h k. absurd (let clash : true ≡ false = sym k ∙ same ∙ h in cc);
-    }
+    e = e;
+    old = old;
+    new = new;
+    now = now;
+    becomes = becomes;
+    held = same ∙ sym (still e (is_holder old));
+    others = λ f ne x. still f x;
+    started = λ f h. absurd (none f h);
+    not_unbegun = not_unbegun;
+    unwell = unwell;
+    ended_by = ended_by;
+    room = λ h k. absurd (let clash : true ≡ false = sym k ∙ same ∙ h in cc);
+  }
 
   over_alters : (e : ℕ) (old : Status) (outcome : Outcome) (told : Mark) → slice_get s.edges e ≡ Some old → is_holder old ≡ false → is_well old ≡ false → is_well (Over outcome) ≡ false
       → ((f : ℕ) (x : Bool) → holds_then f x told ≡ x) → ((f : ℕ) → told ≢ mark.Started f) → Altering (Next (with_status s e (Over outcome)) told)
@@ -81,13 +87,19 @@ module _ (laws : VerifyLaws) (meaning : Meaning) (p : Parts) (shaped : IsWellSha
 
   failed_alters : (e : ℕ) (l : Local) (cause : _) → slice_get s.edges e ≡ Some (Active l) → Altering (Next (with_status s e (Over (Failed cause))) (mark.Failed e cause))
   failed_alters e l cause now = record {
-      e = e; old = Active l; new = Over (Failed cause); now = now; becomes = refl;
-      held = sym (when_true (λ (x : Bool). x ≡ false) (e == e) _ _ (eq-eqb e e refl) refl);
-      others = λ f ne x. when_false (λ (y : Bool). y ≡ x) (e == f) _ _ (ne_eqb e f (λ h. ne (sym h))) refl;
-      started = λ f h. absurd cc;
-      not_unbegun = λ h. absurd cc; unwell = refl; ended_by = λ h. absurd cc;
-      room = λ h k. absurd cc;
-    }
+    e = e;
+    old = Active l;
+    new = Over (Failed cause);
+    now = now;
+    becomes = refl;
+    held = sym (when_true (λ (x : Bool). x ≡ false) (e == e) _ _ (eq-eqb e e refl) refl);
+    others = λ f ne x. when_false (λ (y : Bool). y ≡ x) (e == f) _ _ (ne_eqb e f (λ h. ne (sym h))) refl;
+    started = λ f h. absurd cc;
+    not_unbegun = λ h. absurd cc;
+    unwell = refl;
+    ended_by = λ h. absurd cc;
+    room = λ h k. absurd cc;
+  }
 
   ended_alters : (e : ℕ) (l : Local) → slice_get s.edges e ≡ Some (Active l) → l.holding ≡ false → Altering (Next (with_status s e (Over (ended l.ran))) (mark.Ended e l.ran))
   ended_alters e l now idle =
@@ -96,21 +108,33 @@ module _ (laws : VerifyLaws) (meaning : Meaning) (p : Parts) (shaped : IsWellSha
   steps_on : (e : ℕ) (l : Local) (t : Turn) → slice_get s.edges e ≡ Some (Active l) → (u : IsUnderWay p s e l) → IsSafe p e u.shapes s.slots l t → Noted p e l t → (at_take p e l ≡ true → is_free p limits s e ≡ true) → Altering (settles s e l (stepped e) t)
   steps_on e l (Goes Moved m) now u safe noted free = calm e (Active l) (Active m) (with_status s e (Active m)) (mark.Moved e) now refl noted (λ f x. refl) (λ f h. absurd cc) (λ h. absurd cc) refl (λ h. absurd cc)
   steps_on e l (Goes Took m) now u safe noted free = record {
-      e = e; old = Active l; new = Active m; now = now; becomes = refl;
-      held = noted.0 ∙ sym (when_true (λ (x : Bool). x ≡ true) (e == e) _ _ (eq-eqb e e refl) refl);
-      others = λ f ne x. when_false (λ (y : Bool). y ≡ x) (e == f) _ _ (ne_eqb e f (λ h. ne (sym h))) refl;
-      started = λ f h. absurd cc;
-      not_unbegun = λ h. absurd cc; unwell = refl; ended_by = λ h. absurd cc;
-      room = λ h k. free noted.1;
-    }
+    e = e;
+    old = Active l;
+    new = Active m;
+    now = now;
+    becomes = refl;
+    held = noted.0 ∙ sym (when_true (λ (x : Bool). x ≡ true) (e == e) _ _ (eq-eqb e e refl) refl);
+    others = λ f ne x. when_false (λ (y : Bool). y ≡ x) (e == f) _ _ (ne_eqb e f (λ h. ne (sym h))) refl;
+    started = λ f h. absurd cc;
+    not_unbegun = λ h. absurd cc;
+    unwell = refl;
+    ended_by = λ h. absurd cc;
+    room = λ h k. free noted.1;
+  }
   steps_on e l (Goes Released m) now u safe noted free = record {
-      e = e; old = Active l; new = Active m; now = now; becomes = refl;
-      held = noted ∙ sym (when_true (λ (x : Bool). x ≡ false) (e == e) _ _ (eq-eqb e e refl) refl);
-      others = λ f ne x. when_false (λ (y : Bool). y ≡ x) (e == f) _ _ (ne_eqb e f (λ h. ne (sym h))) refl;
-      started = λ f h. absurd cc;
-      not_unbegun = λ h. absurd cc; unwell = refl; ended_by = λ h. absurd cc;
-      room = λ h k. absurd (let clash : true ≡ false = sym k ∙ noted in cc);
-    }
+    e = e;
+    old = Active l;
+    new = Active m;
+    now = now;
+    becomes = refl;
+    held = noted ∙ sym (when_true (λ (x : Bool). x ≡ false) (e == e) _ _ (eq-eqb e e refl) refl);
+    others = λ f ne x. when_false (λ (y : Bool). y ≡ x) (e == f) _ _ (ne_eqb e f (λ h. ne (sym h))) refl;
+    started = λ f h. absurd cc;
+    not_unbegun = λ h. absurd cc;
+    unwell = refl;
+    ended_by = λ h. absurd cc;
+    room = λ h k. absurd (let clash : true ≡ false = sym k ∙ noted in cc);
+  }
   steps_on e l (Sets k v m) now u safe noted free = calm e (Active l) (Active m) (record { edges = slice_set s.edges e (Active m); slots = slice_set s.slots k (Some v) }) (mark.Moved e) now refl noted (λ f x. refl) (λ f h. absurd cc) (λ h. absurd cc) refl (λ h. absurd cc)
   steps_on e l (Asks q) now u safe noted free = calm e (Active l) (Active (asking l)) (with_status s e (Active (asking l))) (mark.Asked e) now refl refl (λ f x. refl) (λ f h. absurd cc) (λ h. absurd cc) refl (λ h. absurd cc)
   steps_on e l Ends now u safe noted free = ended_alters e l now safe.1
@@ -129,10 +153,17 @@ module _ (laws : VerifyLaws) (meaning : Meaning) (p : Parts) (shaped : IsWellSha
   starts_alters e (Some Unbegun) now =
       when_either Altering (list_all (stands is_well s) (waits_of p e)) _ _
       (λ all. record {
-        e = e; old = Unbegun; new = Active begun; now = now; becomes = refl;
-        held = refl; others = λ f ne x. refl;
+        e = e;
+        old = Unbegun;
+        new = Active begun;
+        now = now;
+        becomes = refl;
+        held = refl;
+        others = λ f ne x. refl;
         started = λ f h. (let same : e ≡ f = cc in (sym same, refl, λ w wait. all_member (stands is_well s) (waits_of p e) w all wait));
-        not_unbegun = λ h. absurd cc; unwell = refl; ended_by = λ h. absurd cc;
+        not_unbegun = λ h. absurd cc;
+        unwell = refl;
+        ended_by = λ h. absurd cc;
         room = λ h k. absurd cc;
       })
       (λ h. tt)
@@ -314,19 +345,19 @@ module _ (p : Parts) (limits : Limits) (s mid : State) (marks : List Mark) (told
 
   held_mid : (f : ℕ) → holds_by all f ≡ stands is_holder mid f
   held_mid f = elim (cases_eq x.e f) [
-      | inl same ↦ subst (λ (g : ℕ). holds_by all g ≡ stands is_holder mid g) same
-          (holds_push x.e false marks told ∙ ap (λ (b : Bool). holds_then x.e b told) (linked.held x.e ∙ ap (passes is_holder) x.now) ∙ sym x.held ∙ sym (ap (passes is_holder) at_e))
-      | inr other ↦ holds_push f false marks told ∙ x.others f (λ h. other (sym h)) (holds_by marks f) ∙ linked.held f ∙ sym (ap (passes is_holder) (at_mid f other))
-    ]
+    | inl same ↦ subst (λ (g : ℕ). holds_by all g ≡ stands is_holder mid g) same
+        (holds_push x.e false marks told ∙ ap (λ (b : Bool). holds_then x.e b told) (linked.held x.e ∙ ap (passes is_holder) x.now) ∙ sym x.held ∙ sym (ap (passes is_holder) at_e))
+    | inr other ↦ holds_push f false marks told ∙ x.others f (λ h. other (sym h)) (holds_by marks f) ∙ linked.held f ∙ sym (ap (passes is_holder) (at_mid f other))
+  ]
 
   unbegun_mid : (f n : ℕ) → slice_get mid.edges f ≡ Some Unbegun → slice_get all n ≡ Some (mark.Started f) → ⊥
   unbegun_mid f n h at = elim (status_at f Unbegun h) [
-      | inl q ↦ x.not_unbegun q.1
-      | inr q ↦ elim (get_push marks told (mark.Started f) n at) [
-          | inl before ↦ linked.unbegun f n q.1 before
-          | inr last ↦ q.0 (sym (x.started f last.1).0)
-        ]
+    | inl q ↦ x.not_unbegun q.1
+    | inr q ↦ elim (get_push marks told (mark.Started f) n at) [
+      | inl before ↦ linked.unbegun f n q.1 before
+      | inr last ↦ q.0 (sym (x.started f last.1).0)
     ]
+  ]
 
   well_mid : (w : ℕ) → stands is_well mid w ≡ true → (k : ℕ) × (ran : Bool) × (slice_get all k ≡ Some (mark.Ended w ran))
   well_mid w well =
@@ -342,27 +373,27 @@ module _ (p : Parts) (limits : Limits) (s mid : State) (marks : List Mark) (told
 
   once_mid : (f n k : ℕ) → slice_get all n ≡ Some (mark.Started f) → slice_get all k ≡ Some (mark.Started f) → n ≡ k
   once_mid f n k one two = elim (get_push marks told (mark.Started f) n one) [
-      | inl a ↦ elim (get_push marks told (mark.Started f) k two) [
-          | inl b ↦ linked.orderly.once f n k a b
-          | inr b ↦ absurd (fresh b.1 n a)
-        ]
-      | inr a ↦ elim (get_push marks told (mark.Started f) k two) [
-          | inl b ↦ absurd (fresh a.1 k b)
-          | inr b ↦ a.0 ∙ sym b.0
-        ]
+    | inl a ↦ elim (get_push marks told (mark.Started f) k two) [
+      | inl b ↦ linked.orderly.once f n k a b
+      | inr b ↦ absurd (fresh b.1 n a)
     ]
+    | inr a ↦ elim (get_push marks told (mark.Started f) k two) [
+      | inl b ↦ absurd (fresh a.1 k b)
+      | inr b ↦ a.0 ∙ sym b.0
+    ]
+  ]
     where
       fresh : told ≡ mark.Started f → (n : ℕ) → slice_get marks n ≡ Some (mark.Started f) → ⊥
       fresh is n at = let r = x.started f is in linked.unbegun f n (ap (slice_get s.edges) r.0 ∙ x.now ∙ ap Some r.1) at
 
   after_mid : (n f w : ℕ) → slice_get all n ≡ Some (mark.Started f) → is_member w (waits_of p f) ≡ true → (k : ℕ) × (ran : Bool) × (k < n) × (slice_get all k ≡ Some (mark.Ended w ran))
   after_mid n f w at wait = elim (get_push marks told (mark.Started f) n at) [
-      | inl before ↦ let r = linked.orderly.after_waits n f w before wait in (r.0, r.1, r.2, get_front marks (told ∷ []) r.0 (mark.Ended w r.1) r.3)
-      | inr last ↦
-          let r = x.started f last.1 in
-          let ended = linked.well w (r.2 w (ap (λ (g : ℕ). is_member w (waits_of p g)) (sym r.0) ∙ wait)) in
-          (ended.0, ended.1, omega (arith, slice_get_within marks ended.0 (mark.Ended w ended.1) ended.2, last.0), get_front marks (told ∷ []) ended.0 (mark.Ended w ended.1) ended.2)
-    ]
+    | inl before ↦ let r = linked.orderly.after_waits n f w before wait in (r.0, r.1, r.2, get_front marks (told ∷ []) r.0 (mark.Ended w r.1) r.3)
+    | inr last ↦
+        let r = x.started f last.1 in
+        let ended = linked.well w (r.2 w (ap (λ (g : ℕ). is_member w (waits_of p g)) (sym r.0) ∙ wait)) in
+        (ended.0, ended.1, omega (arith, slice_get_within marks ended.0 (mark.Ended w ended.1) ended.2, last.0), get_front marks (told ∷ []) ended.0 (mark.Ended w ended.1) ended.2)
+  ]
 
   by_index : (l : List Mark) (t : State) → ((f : ℕ) → holds_by l f ≡ stands is_holder t f) → (i j : ℕ) (st : Status) → j ≡ 0 + i → slice_get t.edges i ≡ Some st → holds_by l j ≡ is_holder st
   by_index l t h i j st is at = h j ∙ ap (λ (k : ℕ). stands is_holder t k) (let same : j ≡ i = omega (arith, is) in same) ∙ ap (passes is_holder) at
@@ -376,7 +407,7 @@ module _ (p : Parts) (limits : Limits) (s mid : State) (marks : List Mark) (told
   jobs_after : count_by is_holder mid.edges ≤ limits.jobs
   jobs_after =
       let c : count_by is_holder mid.edges + bit01 (is_holder x.old) ≡ count_by is_holder s.edges + bit01 (is_holder x.new) =
-          subst (λ (l : List Status). count_by is_holder l + bit01 (is_holder x.old) ≡ count_by is_holder s.edges + bit01 (is_holder x.new)) (sym x.becomes) (count_set is_holder s.edges x.e x.old x.new x.now) in
+      subst (λ (l : List Status). count_by is_holder l + bit01 (is_holder x.old) ≡ count_by is_holder s.edges + bit01 (is_holder x.new)) (sym x.becomes) (count_set is_holder s.edges x.e x.old x.new x.now) in
       by_cases (is_holder x.old) (is_holder x.new) refl refl c
     where
       by_cases : (a b : Bool) → is_holder x.old ≡ a → is_holder x.new ≡ b → count_by is_holder mid.edges + bit01 (is_holder x.old) ≡ count_by is_holder s.edges + bit01 (is_holder x.new) → count_by is_holder mid.edges ≤ limits.jobs
@@ -390,11 +421,11 @@ module _ (p : Parts) (limits : Limits) (s mid : State) (marks : List Mark) (told
 
   jobs_mid : (n : ℕ) → holding (take n all) 0 p.edges ≤ limits.jobs
   jobs_mid n = elim (take_push marks told n) [
-      | inl q ↦ omega (arith, ap (λ (ms : List Mark). holding ms 0 p.edges) q, linked.orderly.in_jobs n)
-      | inr q ↦
-          let l = holding_is all 0 p.edges mid.edges long_mid (by_index all mid held_mid) in
-          omega (arith, ap (λ (ms : List Mark). holding ms 0 p.edges) q, l, jobs_after)
-    ]
+    | inl q ↦ omega (arith, ap (λ (ms : List Mark). holding ms 0 p.edges) q, linked.orderly.in_jobs n)
+    | inr q ↦
+        let l = holding_is all 0 p.edges mid.edges long_mid (by_index all mid held_mid) in
+        omega (arith, ap (λ (ms : List Mark). holding ms 0 p.edges) q, l, jobs_after)
+  ]
 
   pool_after : (pool : ℕ) (row : Pool) → slice_get p.pools pool ≡ Some row → 0 < row.depth → holders_from p pool 0 mid.edges ≤ row.depth
   pool_after pool row at some =
@@ -402,7 +433,7 @@ module _ (p : Parts) (limits : Limits) (s mid : State) (marks : List Mark) (told
       let before : holders_from p pool 0 s.edges ≤ row.depth = omega (arith, linked.orderly.in_depth (length marks) pool row at some, l, ap (λ (ms : List Mark). holding_of p pool ms 0 p.edges) (take_all marks)) in
       let zero_plus : x.e ≡ 0 + x.e = omega arith in
       let c = subst (λ (l : List Status). holders_from p pool 0 l + bit (is_pool pool (pool_of p x.e) && is_holder x.old) ≡ holders_from p pool 0 s.edges + bit (is_pool pool (pool_of p x.e) && is_holder x.new)) (sym x.becomes)
-          (holders_set p pool 0 x.e x.e s.edges x.old x.new zero_plus x.now) in
+      (holders_set p pool 0 x.e x.e s.edges x.old x.new zero_plus x.now) in
       by_cases (is_pool pool (pool_of p x.e)) (is_holder x.old) (is_holder x.new) refl refl refl before c
     where
       by_cases : (q a b : Bool) → is_pool pool (pool_of p x.e) ≡ q → is_holder x.old ≡ a → is_holder x.new ≡ b → holders_from p pool 0 s.edges ≤ row.depth
@@ -420,11 +451,11 @@ module _ (p : Parts) (limits : Limits) (s mid : State) (marks : List Mark) (told
 
   depth_mid : (n pool : ℕ) (row : Pool) → slice_get p.pools pool ≡ Some row → 0 < row.depth → holding_of p pool (take n all) 0 p.edges ≤ row.depth
   depth_mid n pool row at some = elim (take_push marks told n) [
-      | inl q ↦ omega (arith, ap (λ (ms : List Mark). holding_of p pool ms 0 p.edges) q, linked.orderly.in_depth n pool row at some)
-      | inr q ↦
-          let l = holding_of_is p pool all 0 p.edges mid.edges long_mid (by_index all mid held_mid) in
-          omega (arith, ap (λ (ms : List Mark). holding_of p pool ms 0 p.edges) q, l, pool_after pool row at some)
-    ]
+    | inl q ↦ omega (arith, ap (λ (ms : List Mark). holding_of p pool ms 0 p.edges) q, linked.orderly.in_depth n pool row at some)
+    | inr q ↦
+        let l = holding_of_is p pool all 0 p.edges mid.edges long_mid (by_index all mid held_mid) in
+        omega (arith, ap (λ (ms : List Mark). holding_of p pool ms 0 p.edges) q, l, pool_after pool row at some)
+  ]
 
   pub linked_mid : Linked p limits (marks ++ told ∷ []) mid
   linked_mid = record { held = held_mid; unbegun = unbegun_mid; well = well_mid; orderly = record { once = once_mid; after_waits = after_mid; in_jobs = jobs_mid; in_depth = depth_mid } }
@@ -458,16 +489,16 @@ none_hold_of p pool (suc n) e (x ∷ edges) = let r = none_hold_of p pool (suc n
 
 pub first_linked : (p : Parts) (limits : Limits) (targets : List ℕ) (s : State) → Opens p targets s → Linked p limits [] s
 first_linked p limits targets s opens = record {
-    held = λ e. sym (ap (λ (l : List Status). passes is_holder (slice_get l e)) opens.edges ∙ no_holders opens.wanted e);
-    unbegun = λ e n h at. absurd cc;
-    well = λ w well. let h = stands_at is_well s w well in absurd (none_well opens.wanted w h.0 (ap (λ (l : List Status). slice_get l w) (sym opens.edges) ∙ h.1) h.2);
-    orderly = record {
-      once = λ e n k h j. absurd cc;
-      after_waits = λ n e w h wait. absurd cc;
-      in_jobs = λ n. omega (arith, none_hold n 0 p.edges);
-      in_depth = λ n pool row at some. omega (arith, none_hold_of p pool n 0 p.edges);
-    };
-  }
+  held = λ e. sym (ap (λ (l : List Status). passes is_holder (slice_get l e)) opens.edges ∙ no_holders opens.wanted e);
+  unbegun = λ e n h at. absurd cc;
+  well = λ w well. let h = stands_at is_well s w well in absurd (none_well opens.wanted w h.0 (ap (λ (l : List Status). slice_get l w) (sym opens.edges) ∙ h.1) h.2);
+  orderly = record {
+    once = λ e n k h j. absurd cc;
+    after_waits = λ n e w h wait. absurd cc;
+    in_jobs = λ n. omega (arith, none_hold n 0 p.edges);
+    in_depth = λ n pool row at some. omega (arith, none_hold_of p pool n 0 p.edges);
+  };
+}
 
 pub marks_are_orderly : VerifyLaws → MarksAreOrderly
 marks_are_orderly laws meaning p shaped limits targets events marks s reached =

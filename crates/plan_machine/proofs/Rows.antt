@@ -52,17 +52,17 @@ budget_is = refl
 
 pool_of_one :
     marks_of three (record { jobs = 4; keep = 1 }) first
-        (Start 0 ∷ Start 1 ∷ Start 2 ∷ Step 0 ∷ Step 1 ∷ Step 0 ∷ Step 0 ∷ Hear 0 (reply.Exit 0) ∷ Step 0 ∷ Step 1 ∷ [])
+    (Start 0 ∷ Start 1 ∷ Start 2 ∷ Step 0 ∷ Step 1 ∷ Step 0 ∷ Step 0 ∷ Hear 0 (reply.Exit 0) ∷ Step 0 ∷ Step 1 ∷ [])
     ≡ Some (mark.Started 0) ∷ Some (mark.Started 1) ∷ Some (mark.Started 2) ∷ Some (mark.Took 0) ∷ None ∷ Some (mark.Moved 0) ∷ Some (mark.Asked 0) ∷ Some (mark.Answered 0)
-        ∷ Some (mark.Released 0) ∷ Some (mark.Took 1) ∷ []
+    ∷ Some (mark.Released 0) ∷ Some (mark.Took 1) ∷ []
 unfolding marks_of then_marks three edge first step turn heard
 pool_of_one = refl
 
 -- one failure reaches keep 1: the others are stopped, one of them at Take
 one_fails :
     marks_of three (record { jobs = 4; keep = 1 }) first
-        (Start 0 ∷ Start 1 ∷ Stop 2 ∷ Step 0 ∷ Step 0 ∷ Step 0 ∷ Hear 0 (reply.Bytes []) ∷ Hear 0 (reply.Exit 2) ∷ Step 1 ∷ Stop 1 ∷ Start 2 ∷ Stop 2 ∷ [])
+    (Start 0 ∷ Start 1 ∷ Stop 2 ∷ Step 0 ∷ Step 0 ∷ Step 0 ∷ Hear 0 (reply.Bytes []) ∷ Hear 0 (reply.Exit 2) ∷ Step 1 ∷ Stop 1 ∷ Start 2 ∷ Stop 2 ∷ [])
     ≡ Some (mark.Started 0) ∷ Some (mark.Started 1) ∷ None ∷ Some (mark.Took 0) ∷ Some (mark.Moved 0) ∷ Some (mark.Asked 0) ∷ None ∷ Some (mark.Failed 0 (Exit 2))
-        ∷ None ∷ Some (mark.Stopped 1) ∷ Some (mark.Started 2) ∷ Some (mark.Stopped 2) ∷ []
+    ∷ None ∷ Some (mark.Stopped 1) ∷ Some (mark.Started 2) ∷ Some (mark.Stopped 2) ∷ []
 unfolding marks_of then_marks three edge first step turn heard
 one_fails = refl

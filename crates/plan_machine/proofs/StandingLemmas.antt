@@ -67,9 +67,9 @@ module _ (laws : VerifyLaws) (p : Parts) (s : State) (e : ℕ) (old new : Status
   still_well : (w : ℕ) → stands is_well s w ≡ true → stands is_well mid w ≡ true
   unfolding mid
   still_well w well = elim (cases_eq e w) [
-      | inl same ↦ absurd (let clash : true ≡ false = sym well ∙ (ap (stands is_well s) (sym same) ∙ ap (passes is_well) now) ∙ unwell in cc)
-      | inr ne ↦ ap (passes is_well) (get_other s.edges e w new ne) ∙ well
-    ]
+    | inl same ↦ absurd (let clash : true ≡ false = sym well ∙ (ap (stands is_well s) (sym same) ∙ ap (passes is_well) now) ∙ unwell in cc)
+    | inr ne ↦ ap (passes is_well) (get_other s.edges e w new ne) ∙ well
+  ]
 
   active_here : (l : Local) → new ≡ Active l → IsUnderWay p mid e l
   unfolding mid
@@ -105,9 +105,9 @@ module _ (laws : VerifyLaws) (p : Parts) (s : State) (e : ℕ) (old new : Status
         long = set_length s.edges e new ∙ sound.long;
         typed = typed;
         active = λ f l is. elim (get_cases s.edges e f new (Active l) is) [
-            | inl q ↦ subst (λ (g : ℕ). IsUnderWay p mid g l) q.0 (active_here l q.1)
-            | inr q ↦ active_there f l q.1
-          ];
+          | inl q ↦ subst (λ (g : ℕ). IsUnderWay p mid g l) q.0 (active_here l q.1)
+          | inr q ↦ active_there f l q.1
+        ];
         set = λ f well.
             let h = stands_at is_well mid f well in
             elim (get_cases s.edges e f new h.0 h.1) [
@@ -115,12 +115,12 @@ module _ (laws : VerifyLaws) (p : Parts) (s : State) (e : ℕ) (old new : Status
               | inr q ↦ all_more (is_set s.slots) (is_set slots) (own_slots p f) grow (sound.set f (stands_now is_well s f h.0 q.1 h.2))
             ];
         needed = λ f w is wait gone. elim (get_cases s.edges e f new Unbegun is) [
-            | inl q ↦ absurd (begun_here new owed q.1)
-            | inr q ↦ elim (get_cases s.edges e w new (Over NotWanted) gone) [
-                | inl r ↦ absurd (wanted_here new owed r.1)
-                | inr r ↦ sound.needed f w q.1 wait r.1
-              ]
-          ];
+          | inl q ↦ absurd (begun_here new owed q.1)
+          | inr q ↦ elim (get_cases s.edges e w new (Over NotWanted) gone) [
+            | inl r ↦ absurd (wanted_here new owed r.1)
+            | inr r ↦ sound.needed f w q.1 wait r.1
+          ]
+        ];
       }
 
 -- ---- events
@@ -150,7 +150,7 @@ module _ (laws : VerifyLaws) (meaning : Meaning) (p : Parts) (shaped : IsWellSha
         let o = owned_is e (slice_get p.slots k) safe.0 in
         let short : k < length s.slots = omega (arith, slice_get_within p.slots k o.0 o.1, sound.typed.table) in
         changed laws p s e (Active l) (Active m) (slice_set s.slots k (Some v)) sound now refl (still_typed p e s.slots k v sound.typed safe.0 safe.1)
-            (λ n h. set_stays s.slots k n v short (inr h)) (u.shapes, u.all, safe.2, u.waited)
+        (λ n h. set_stays s.slots k n v short (inr h)) (u.shapes, u.all, safe.2, u.waited)
     settles_safe e l told (Asks q) now u safe = changed laws p s e (Active l) (Active (asking l)) s.slots sound now refl sound.typed (same_slots s) (u.shapes, u.all, safe, u.waited)
     settles_safe e l told Ends now u safe = changed laws p s e (Active l) (Over (ended l.ran)) s.slots sound now refl sound.typed (same_slots s) ((λ well. safe.2), ended_wanted l.ran)
     settles_safe e l told (Fails cause) now u safe = over_safe e (Active l) (Failed cause) (mark.Failed e cause) now refl refl (λ h. absurd cc)
@@ -164,7 +164,7 @@ module _ (laws : VerifyLaws) (meaning : Meaning) (p : Parts) (shaped : IsWellSha
         let edge = shaped.edges e (omega (arith, slice_get_within s.edges e Unbegun now, sound.long)) in
         when_either Safe (list_all (stands is_well s) (waits_of p e)) _ _
         (λ all. changed laws p s e Unbegun (Active begun) s.slots sound now refl sound.typed (same_slots s)
-            (edge.0, edge.1, begun_typed p e edge.0 s.slots edge.1, λ w h. all_member (stands is_well s) (waits_of p e) w all h))
+        (edge.0, edge.1, begun_typed p e edge.0 s.slots edge.1, λ w h. all_member (stands is_well s) (waits_of p e) w all h))
         (λ h. tt)
     starts_safe e None now = tt
     starts_safe e (Some (Active l)) now = tt

@@ -37,20 +37,26 @@ unmet_set (true ∷ met) (suc e) h = unmet_set met e h
 
 none_more : (w : Walked) → MeetsAll [] w w
 none_more w = record {
-    long = refl; kept = λ e h. h; these = λ e h. absurd cc; only = λ e h. inl h; ahead_kept = λ e h. h; ahead_only = λ e h. inl h; less = omega arith;
-  }
+  long = refl;
+  kept = λ e h. h;
+  these = λ e h. absurd cc;
+  only = λ e h. inl h;
+  ahead_kept = λ e h. h;
+  ahead_only = λ e h. inl h;
+  less = omega arith;
+}
 
 -- one that was met already
 old_one : (w : Walked) (e : ℕ) → slice_get w.met e ≡ Some true → MeetsAll (e ∷ []) w w
 old_one w e at = record {
-    long = refl;
-    kept = λ d h. h;
-    these = λ d h. elim (or_cases (eqb e d) false h) [ inl same ↦ ap (slice_get w.met) (sym (eqb-true e d same)) ∙ at | inr bad ↦ absurd cc ];
-    only = λ d h. inl h;
-    ahead_kept = λ d h. h;
-    ahead_only = λ d h. inl h;
-    less = omega arith;
-  }
+  long = refl;
+  kept = λ d h. h;
+  these = λ d h. elim (or_cases (eqb e d) false h) [ inl same ↦ ap (slice_get w.met) (sym (eqb-true e d same)) ∙ at | inr bad ↦ absurd cc ];
+  only = λ d h. inl h;
+  ahead_kept = λ d h. h;
+  ahead_only = λ d h. inl h;
+  less = omega arith;
+}
 
 new_one : (w : Walked) (e : ℕ) → slice_get w.met e ≡ Some false → MeetsAll (e ∷ []) w (record { met = slice_set w.met e true; ahead = e ∷ w.ahead })
 new_one w e at =
@@ -61,9 +67,9 @@ new_one w e at =
       kept = λ d h. elim (cases_eq e d) [ inl same ↦ ap (slice_get (slice_set w.met e true)) (sym same) ∙ here | inr ne ↦ get_other w.met e d true ne ∙ h ];
       these = λ d h. elim (or_cases (eqb e d) false h) [ inl same ↦ ap (slice_get (slice_set w.met e true)) (sym (eqb-true e d same)) ∙ here | inr bad ↦ absurd cc ];
       only = λ d h. elim (cases_eq e d) [
-          | inl same ↦ inr (ap (λ (n : ℕ). is_member n (e ∷ [])) (sym same) ∙ first_in e [], ap (λ (n : ℕ). is_member n (e ∷ w.ahead)) (sym same) ∙ first_in e w.ahead)
-          | inr ne ↦ inl (sym (get_other w.met e d true ne) ∙ h)
-        ];
+        | inl same ↦ inr (ap (λ (n : ℕ). is_member n (e ∷ [])) (sym same) ∙ first_in e [], ap (λ (n : ℕ). is_member n (e ∷ w.ahead)) (sym same) ∙ first_in e w.ahead)
+        | inr ne ↦ inl (sym (get_other w.met e d true ne) ∙ h)
+      ];
       ahead_kept = λ d h. or_right (eqb e d) (is_member d w.ahead) h;
       ahead_only = λ d h. elim (or_cases (eqb e d) (is_member d w.ahead) h) [ inl same ↦ inr (ap (λ (b : Bool). b || false) same) | inr r ↦ inl r ];
       less = (let u = unmet_set w.met e at in omega (arith, u));
@@ -78,26 +84,26 @@ meets_one w e lt = let at = get_inside w.met e lt in by at.0 at.1
 
 then_more : (e : ℕ) (es : List ℕ) (a b c : Walked) → MeetsAll (e ∷ []) a b → MeetsAll es b c → MeetsAll (e ∷ es) a c
 then_more e es a b c m r = record {
-    long = r.long ∙ m.long;
-    kept = λ d h. r.kept d (m.kept d h);
-    these = λ d h. elim (or_cases (eqb e d) (is_member d es) h) [ inl same ↦ r.kept d (m.these d (ap (λ (x : Bool). x || false) same)) | inr later ↦ r.these d later ];
-    only = λ d h. elim (r.only d h) [
-        | inl old ↦ elim (m.only d old) [
-            | inl older ↦ inl older
-            | inr q ↦ inr (elim (or_cases (eqb e d) false q.0) [ inl same ↦ ap (λ (x : Bool). x || is_member d es) same | inr bad ↦ absurd cc ], r.ahead_kept d q.1)
-          ]
-        | inr q ↦ inr (or_right (eqb e d) (is_member d es) q.0, q.1)
-      ];
-    ahead_kept = λ d h. r.ahead_kept d (m.ahead_kept d h);
-    ahead_only = λ d h. elim (r.ahead_only d h) [
-        | inl old ↦ elim (m.ahead_only d old) [
-            | inl older ↦ inl older
-            | inr q ↦ inr (elim (or_cases (eqb e d) false q) [ inl same ↦ ap (λ (x : Bool). x || is_member d es) same | inr bad ↦ absurd cc ])
-          ]
-        | inr q ↦ inr (or_right (eqb e d) (is_member d es) q)
-      ];
-    less = omega (arith, r.less, m.less);
-  }
+  long = r.long ∙ m.long;
+  kept = λ d h. r.kept d (m.kept d h);
+  these = λ d h. elim (or_cases (eqb e d) (is_member d es) h) [ inl same ↦ r.kept d (m.these d (ap (λ (x : Bool). x || false) same)) | inr later ↦ r.these d later ];
+  only = λ d h. elim (r.only d h) [
+    | inl old ↦ elim (m.only d old) [
+      | inl older ↦ inl older
+      | inr q ↦ inr (elim (or_cases (eqb e d) false q.0) [ inl same ↦ ap (λ (x : Bool). x || is_member d es) same | inr bad ↦ absurd cc ], r.ahead_kept d q.1)
+    ]
+    | inr q ↦ inr (or_right (eqb e d) (is_member d es) q.0, q.1)
+  ];
+  ahead_kept = λ d h. r.ahead_kept d (m.ahead_kept d h);
+  ahead_only = λ d h. elim (r.ahead_only d h) [
+    | inl old ↦ elim (m.ahead_only d old) [
+      | inl older ↦ inl older
+      | inr q ↦ inr (elim (or_cases (eqb e d) false q) [ inl same ↦ ap (λ (x : Bool). x || is_member d es) same | inr bad ↦ absurd cc ])
+    ]
+    | inr q ↦ inr (or_right (eqb e d) (is_member d es) q)
+  ];
+  less = omega (arith, r.less, m.less);
+}
 
 pub meets_all : (es : List ℕ) (w : Walked) → ((e : ℕ) → is_member e es ≡ true → e < length w.met) → MeetsAll es w (meet_all w es)
 meets_all [] w within = none_more w
@@ -146,26 +152,28 @@ pub walk_goes_on : (p : Parts) (targets : List ℕ) (old mid : Walked) (top : �
 walk_goes_on p targets old mid top walks ahead met inside =
     let long : length mid.met ≡ length p.edges = ap length met ∙ walks.long in
     let m = meets_all (waits_of p top) mid (λ e h. omega (arith, inside e h, long)) in
-    let top_met : slice_get old.met top ≡ Some true = walks.ahead_met top (ap (is_member top) ahead ∙ first_in top mid.ahead) in
-    (record {
-      long = m.long ∙ long;
-      begun = λ e h. m.kept e (up e (walks.begun e h));
-      sound = λ e h. elim (m.only e h) [ inl before ↦ walks.sound e (down e before) | inr q ↦ is_waited (walks.sound top top_met) q.0 ];
-      on = λ e v h wait. elim (m.only e h) [
+    let top_met : slice_get old.met top ≡ Some true = walks.ahead_met top (ap (is_member top) ahead ∙ first_in top mid.ahead) in (
+      record {
+        long = m.long ∙ long;
+        begun = λ e h. m.kept e (up e (walks.begun e h));
+        sound = λ e h. elim (m.only e h) [ inl before ↦ walks.sound e (down e before) | inr q ↦ is_waited (walks.sound top top_met) q.0 ];
+        on = λ e v h wait. elim (m.only e h) [
           | inr q ↦ inl q.1
           | inl before ↦ elim (walks.on e v (down e before) wait) [
-              | inr was ↦ inr (m.kept v (up v was))
-              | inl was ↦ elim (or_cases (eqb top e) (is_member e mid.ahead) (ap (is_member e) (sym ahead) ∙ was)) [
-                  | inl same ↦ inr (m.these v (ap (λ (n : ℕ). is_member v (waits_of p n)) (eqb-true top e same) ∙ wait))
-                  | inr still ↦ inl (m.ahead_kept e still)
-                ]
+            | inr was ↦ inr (m.kept v (up v was))
+            | inl was ↦ elim (or_cases (eqb top e) (is_member e mid.ahead) (ap (is_member e) (sym ahead) ∙ was)) [
+              | inl same ↦ inr (m.these v (ap (λ (n : ℕ). is_member v (waits_of p n)) (eqb-true top e same) ∙ wait))
+              | inr still ↦ inl (m.ahead_kept e still)
             ]
+          ]
         ];
-      ahead_met = λ e h. elim (m.ahead_only e h) [
+        ahead_met = λ e h. elim (m.ahead_only e h) [
           | inl before ↦ m.kept e (up e (walks.ahead_met e (ap (is_member e) ahead ∙ or_right (eqb top e) (is_member e mid.ahead) before)))
           | inr q ↦ m.these e q
         ];
-    }, omega (arith, m.less, ap length ahead, ap unmet met))
+      },
+      omega (arith, m.less, ap length ahead, ap unmet met),
+    )
   where
     up : (e : ℕ) → slice_get old.met e ≡ Some true → slice_get mid.met e ≡ Some true
     up e h = ap (λ (l : List Bool). slice_get l e) met ∙ h

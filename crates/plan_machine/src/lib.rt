@@ -19,11 +19,12 @@ mod status;
 mod wanted;
 
 pub use event::{Event, Reply};
-pub use laws::{
-    depfiles_are_frugal, marks_are_orderly, never_stuck, never_wrong, stays_in_budget,
-};
+pub use laws::{depfiles_are_frugal, marks_are_orderly, never_stuck, never_wrong, stays_in_budget};
 pub use mark::{Mark, Outcome};
 pub use options::Options;
+pub use plan_verify::Cause;
 pub use refused::Refused;
 pub use state::State;
-pub use plan_verify::Cause;
+
+#[cfg(test)]
+mod tests;

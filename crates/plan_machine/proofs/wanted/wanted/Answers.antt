@@ -31,14 +31,14 @@ pub loop-e-smaller : goal.loop-e-smaller
 loop-e-smaller c =
     let walks = c.loop-e.invariant in
     let on = walk_goes_on c.args.parts.now c.args.targets.now c.loop-e.walk c.next.new.self c.in-Some.e walks c.in-Some.ensures.0 c.in-Some.ensures.1
-        (waits_inside c.tables_are_in_range.ensures c.args.parts.now c.requires.shaped c.args.targets.now c.loop-e.walk walks c.in-Some.e (ap (is_member c.in-Some.e) c.in-Some.ensures.0 ∙ first_in c.in-Some.e c.next.new.self.ahead)) in
+    (waits_inside c.tables_are_in_range.ensures c.args.parts.now c.requires.shaped c.args.targets.now c.loop-e.walk walks c.in-Some.e (ap (is_member c.in-Some.e) c.in-Some.ensures.0 ∙ first_in c.in-Some.e c.next.new.self.ahead)) in
     subst (λ (w : Walked). left w < left c.loop-e.walk) (sym (c.in_ok-meet_all-2.ensures ∙ ap (meet_all c.next.new.self) c.waits.ensures)) on.1
 
 pub loop-e-preserved : goal.loop-e-preserved
 loop-e-preserved c =
     let walks = c.loop-e.invariant in
     let on = walk_goes_on c.args.parts.now c.args.targets.now c.loop-e.walk c.next.new.self c.in-Some.e walks c.in-Some.ensures.0 c.in-Some.ensures.1
-        (waits_inside c.tables_are_in_range.ensures c.args.parts.now c.requires.shaped c.args.targets.now c.loop-e.walk walks c.in-Some.e (ap (is_member c.in-Some.e) c.in-Some.ensures.0 ∙ first_in c.in-Some.e c.next.new.self.ahead)) in
+    (waits_inside c.tables_are_in_range.ensures c.args.parts.now c.requires.shaped c.args.targets.now c.loop-e.walk walks c.in-Some.e (ap (is_member c.in-Some.e) c.in-Some.ensures.0 ∙ first_in c.in-Some.e c.next.new.self.ahead)) in
     subst (λ (w : Walked). Walks c.args.parts.now c.args.targets.now w) (sym (c.in_ok-meet_all-2.ensures ∙ ap (meet_all c.next.new.self) c.waits.ensures)) on.0
 
 pub returns : goal.returns
