@@ -22,7 +22,7 @@ use Rattle.plan_verify.specs.WellShaped.{AreAllShapes, IsWellShaped}
 use Rattle.plan_verify.specs.Fits.{Fits}
 use Rattle.plan_verify.specs.Sound.{AreLentSet, IsTyped}
 use Rattle.plan_verify.specs.Alone.{Stage, Runs, Ended, Failed, WentWrong, Alone, after, at_begin, RunsAlone, rests, steps, hears}
-use Rattle.plan_verify.specs.Worth.{paths_left, unswept, rest_of, worth, Pays, TurnsPay, AllTurnsPay}
+use Rattle.plan_verify.specs.Worth.{paths_left, unswept, rest_of, worth, Pays, AllTurnsPay}
 use Rattle.plan_verify.specs.Budget.{asks_once, cost, costs, path_bytes, brought, all_brought, IsFrugal, StaysInBudgetAlone}
 use Rattle.plan_verify.proofs.Lists.{some_is, when_true, when_either, or_false, is_some_of, get_inside}
 use Rattle.plan_verify.proofs.Fitting.{all_pass, instructions_fit}
