@@ -22,30 +22,12 @@ use Rattle.plan_verify.specs.WellShaped.{AreAllShapes, IsWellShaped}
 use Rattle.plan_verify.specs.Fits.{Fits}
 use Rattle.plan_verify.specs.Sound.{AreLentSet, IsTyped}
 use Rattle.plan_verify.specs.Alone.{Stage, Runs, Ended, Failed, WentWrong, Alone, after, at_begin, RunsAlone, rests, steps, hears}
+use Rattle.plan_verify.specs.Worth.{paths_left, unswept, rest_of, worth, Pays, AllTurnsPay}
 use Rattle.plan_verify.specs.Budget.{asks_once, cost, costs, path_bytes, brought, all_brought, IsFrugal, StaysInBudgetAlone}
 use Rattle.plan_verify.proofs.ListLemmas.{some_is, when_true, when_either, or_false, is_some_of, get_inside}
 use Rattle.plan_verify.proofs.FitsLaw.{all_pass, instructions_fit}
 use Rattle.plan_verify.proofs.StepsLaw.{top_any, top_stamp, top_flag, top_text, two_stamps, two_flags, two_texts, swept_three, kept_three, set_is, owned_is}
 use Rattle.plan_verify.proofs.AloneLaw.{Good, begun_typed, step_good, hear_good}
-
--- two for each path that is still to be swept
-abbrev paths_left : Value → ℕ
-paths_left (Stamp n) = 0
-paths_left (Flag b) = 0
-paths_left (Text t) = 0
-paths_left (Paths all n) = 2 * (length all - n)
-paths_left (Swept all) = 0
-
-abbrev unswept : List Value → ℕ
-unswept [] = 0
-unswept (v ∷ vs) = paths_left v + unswept vs
-
--- what the code from a place on may cost
-abbrev rest_of : List Instr → ℕ → ℕ
-rest_of is n = costs (drop n is)
-
-abbrev worth : Parts → ℕ → Local → ℕ
-worth p e l = rest_of (code p e) l.place + unswept l.stack
 
 cost_at : (is : List Instr) (n : ℕ) (i : Instr) → slice_get is n ≡ Some i → costs (drop n is) ≡ cost i + costs (drop (suc n) is)
 cost_at [] n i h = absurd cc
@@ -70,15 +52,6 @@ cost_less (i ∷ is) (suc n) (suc m) h = cost_less is n m (omega (arith, h))
 
 some_cost : (i : Instr) → 1 ≤ cost i
 some_cost i = when_either (λ (n : ℕ). 1 ≤ n) (asks_once i) 2 1 (λ h. omega arith) (λ h. omega arith)
-
--- what a turn leaves, and one more, is within m
-abbrev Pays : Parts → ℕ → Local → ℕ → Turn → Type 0
-Pays p e l m (Goes did k) = worth p e k + 1 ≤ m
-Pays p e l m (Sets s v k) = worth p e k + 1 ≤ m
-Pays p e l m (Asks q) = (worth p e l ≤ m) × (1 ≤ m)
-Pays p e l m Ends = 1 ≤ m
-Pays p e l m (Fails cause) = 1 ≤ m
-Pays p e l m (Wrong flaw) = Unit {0}
 
 goes_pays : (p : Parts) (e : ℕ) (l k : Local) (m to : ℕ) (stack : List Value) → rest_of (code p e) to + unswept stack + 1 ≤ m → Pays p e l m (goes k to stack)
 goes_pays p e l k m to stack h = when_either (Pays p e l m) (nat_lt 64 (length stack)) _ _ (λ deep. tt) (λ short. h)
@@ -335,7 +308,7 @@ load p e (Ended ran) = 0
 load p e (Failed cause) = 0
 load p e (WentWrong flaw) = 0
 
-module _ (p : Parts) (e : ℕ) (shaped : IsWellShaped p) (shapes : List Shape) (all : AreAllShapes p e shapes) (meaning : Meaning) (frugal : IsFrugal meaning) where
+module _ (p : Parts) (e : ℕ) (shaped : IsWellShaped p) (shapes : List Shape) (all : AreAllShapes p e shapes) where
   -- a turn that is paid leaves less
   paid : (slots : Slots) (l : Local) (m : ℕ) (t : Turn) → Pays p e l m t → Good p e shapes all (after l slots t) → load p e (after l slots t).stage + 1 ≤ m
   paid slots l m (Goes did k) h g = omega (arith, h)
@@ -358,13 +331,14 @@ module _ (p : Parts) (e : ℕ) (shaped : IsWellShaped p) (shapes : List Shape) (
       let i = is_some_of (slice_get (code p e) l.place) typed.inside in
       omega (arith, more p e shapes slots l typed l.place (slice_get_within (code p e) l.place i.0 i.1))
 
+module _ (p : Parts) (e : ℕ) (shaped : IsWellShaped p) (shapes : List Shape) (all : AreAllShapes p e shapes) (meaning : Meaning) (frugal : IsFrugal meaning) where
   hear_pays : (slots : Slots) (l : Local) (q : Request) (r : Reply) (t : Turn) → question p e slots l ≡ Some q → heard meaning p e l r ≡ Some t → Good p e shapes all (record { stage = Runs l; slots = slots })
       → (l.asked ≡ true) × Pays p e l (worth p e l - 1 + brought r) t
   unfolding heard
   hear_pays slots l q r t asked is g =
       let typed : IsTyped p e shapes slots l = g.sound in
       let i = is_some_of (slice_get (code p e) l.place) typed.inside in
-      let some = worth_some slots l typed in
+      let some = worth_some p e shaped shapes all slots l typed in
       let m : ℕ = worth p e l - 1 + brought r in
       let all_replies = reply_pays p e shapes slots l typed meaning frugal q asked i.0 i.1 (instructions_fit p e shapes all l.place i.0 typed.shape i.1 typed.here) r m (omega (arith, some)) in
       by l.asked refl is (subst (λ (o : Option Instr). IfSome (replied_at meaning l o r) (Pays p e l m)) (sym i.1) all_replies)
@@ -378,15 +352,24 @@ module _ (p : Parts) (e : ℕ) (shaped : IsWellShaped p) (shapes : List Shape) (
   run_pays n x y told g rests = omega arith
   run_pays (suc n) x y told g (steps {l = l} {slots = slots} quiet run) =
       let next_good = step_good p e shapes all slots l g in
-      let less = paid slots l (worth p e l) (turn p e slots l) (step_pays slots l g) next_good in
+      let less = paid p e shaped shapes all slots l (worth p e l) (turn p e slots l) (step_pays p e shaped shapes all slots l g) next_good in
       let rest = run_pays n (after l slots (turn p e slots l)) y told next_good run in
       omega (arith, less, rest, ap one_if quiet)
   run_pays (suc n) x y told g (hears {l = l} {slots = slots} {q = q} {r = r} {t = t} {told = others} asked is run) =
       let next_good = hear_good p e shapes all meaning slots l r t is g in
       let h = hear_pays slots l q r t asked is g in
-      let less = paid slots l (worth p e l - 1 + brought r) t h.1 next_good in
+      let less = paid p e shaped shapes all slots l (worth p e l - 1 + brought r) t h.1 next_good in
       let rest = run_pays n (after l slots t) y others next_good run in
-      omega (arith, less, rest, ap one_if h.0, worth_some slots l g.sound)
+      omega (arith, less, rest, ap one_if h.0, worth_some p e shaped shapes all slots l g.sound)
+
+pub all_turns_pay : AllTurnsPay
+all_turns_pay p e shaped shapes all slots l typed lent sound =
+    let good : Good p e shapes all (record { stage = Runs l; slots = slots }) = record { typed = typed; lent = lent; sound = sound } in
+    record {
+      some = worth_some p e shaped shapes all slots l sound;
+      step = step_pays p e shaped shapes all slots l good;
+      reply = λ meaning frugal q r t asked is. (hear_pays p e shaped shapes all meaning frugal slots l q r t asked is good).1;
+    }
 
 pub stays_in_budget_alone : StaysInBudgetAlone
 stays_in_budget_alone p e shaped within slots good lent meaning frugal n told x run =

@@ -8,6 +8,7 @@ pub mod Fits
 pub mod Sound
 pub mod Alone
 pub mod Budget
+pub mod Worth
 pub mod Seam
 pub mod Pass
 pub mod Arrivals

@@ -4,6 +4,7 @@ ghost use Rattle.plan_verify.specs.Budget.{StaysInBudgetAlone};
 ghost use Rattle.plan_verify.specs.Facts.{RefusalsAreTrue, TablesAreInRange, VerifiedNeverGoesWrong};
 ghost use Rattle.plan_verify.specs.Seam.{HearsWhatSuits, QuestionsIgnoreSlots, StaysTyped};
 ghost use Rattle.plan_verify.specs.Sound.{InstructionsFit, RepliesAreSafe, StepsAreSafe};
+ghost use Rattle.plan_verify.specs.Worth.{AllTurnsPay};
 
 /// In an edge with shapes each instruction fits its place.
 pub fn instructions_fit()
@@ -28,6 +29,11 @@ pub fn never_wrong_alone()
 /// An edge run alone has no more events than its budget and the bytes that came in.
 pub fn stays_in_budget_alone()
     ensures { StaysInBudgetAlone }
+{}
+
+/// Each turn of an edge is paid by what the edge may still cost.
+pub fn all_turns_pay()
+    ensures { AllTurnsPay }
 {}
 
 /// What an edge asks doesn't hang on the slots.

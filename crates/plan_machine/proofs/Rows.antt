@@ -1,0 +1,68 @@
+-- The definitions, computed on small images.
+use Rattle.std.proofs.Common.{◌≡◌, ℕ, List, [], ◌∷◌, Option, Some, None, refl}
+use Rattle.plan_image.specs.declared.instr.Instr.TheVariants as op
+use Rattle.plan_image.specs.declared.image.Sort.TheVariants as sort
+use Rattle.plan_image.specs.declared.image.EdgeCode.TheVariants.{Own}
+use Rattle.plan_image.specs.declared.image.Edge.{Edge}
+use Rattle.plan_image.specs.declared.image.Parts.{Parts}
+use Rattle.plan_verify.specs.Turn.{turn, heard}
+use Rattle.plan_verify.specs.declared.value.Cause.TheVariants.{Exit}
+use Rattle.plan_machine.specs.Limits.{Limits}
+use Rattle.plan_machine.specs.declared.event.Reply.TheVariants as reply
+use Rattle.plan_machine.specs.declared.event.Event.{Event}
+use Rattle.plan_machine.specs.declared.event.Event.TheVariants.{Start, Stop, Step, Reply as Hear}
+use Rattle.plan_machine.specs.declared.mark.Mark.{Mark}
+use Rattle.plan_machine.specs.declared.mark.Mark.TheVariants as mark
+use Rattle.plan_machine.specs.State.{Unbegun, State}
+use Rattle.plan_machine.specs.Step.{Stepped, Next, Wrong, NotEnabled, step}
+use Rattle.plan_verify.specs.Budget.{image_budget}
+use Rattle.plan_machine.specs.Depfile.{depfile}
+
+-- the marks of events, none where one is refused, which leaves all as it was
+then_marks : State → (State → List (Option Mark)) → Stepped → List (Option Mark)
+then_marks s next (Next mid told) = Some told ∷ next mid
+then_marks s next (Wrong flaw) = None ∷ next s
+then_marks s next NotEnabled = None ∷ next s
+
+marks_of : Parts → Limits → State → List Event → List (Option Mark)
+marks_of p limits s [] = []
+marks_of p limits s (event ∷ events) = then_marks s (λ t. marks_of p limits t events) (step depfile p limits s event)
+
+-- edges of one pool of depth 1
+edge : ℕ → Edge
+edge n = record { sort = sort.Command; pool = Some 0; rank = 0; label = 0; outputs = n ∷ []; waits = []; code = Own (op.Take ∷ op.Text 0 ∷ op.Run ∷ op.Release ∷ op.End ∷ []) }
+
+three : Parts
+three = record {
+  texts = (120 ∷ []) ∷ [];
+  files = (97 ∷ []) ∷ (98 ∷ []) ∷ (99 ∷ []) ∷ [];
+  pools = record { name = 112 ∷ []; depth = 1 } ∷ [];
+  slots = [];
+  bodies = None;
+  edges = edge 0 ∷ edge 1 ∷ edge 2 ∷ [];
+  defaults = 0 ∷ 1 ∷ 2 ∷ [];
+}
+
+first : State
+first = record { edges = Unbegun ∷ Unbegun ∷ Unbegun ∷ []; slots = [] }
+
+budget_is : image_budget three ≡ 21
+unfolding three edge
+budget_is = refl
+
+pool_of_one :
+    marks_of three (record { jobs = 4; keep = 1 }) first
+    (Start 0 ∷ Start 1 ∷ Start 2 ∷ Step 0 ∷ Step 1 ∷ Step 0 ∷ Step 0 ∷ Hear 0 (reply.Exit 0) ∷ Step 0 ∷ Step 1 ∷ [])
+    ≡ Some (mark.Started 0) ∷ Some (mark.Started 1) ∷ Some (mark.Started 2) ∷ Some (mark.Took 0) ∷ None ∷ Some (mark.Moved 0) ∷ Some (mark.Asked 0) ∷ Some (mark.Answered 0)
+    ∷ Some (mark.Released 0) ∷ Some (mark.Took 1) ∷ []
+unfolding marks_of then_marks three edge first step turn heard
+pool_of_one = refl
+
+-- one failure reaches keep 1: the others are stopped, one of them at Take
+one_fails :
+    marks_of three (record { jobs = 4; keep = 1 }) first
+    (Start 0 ∷ Start 1 ∷ Stop 2 ∷ Step 0 ∷ Step 0 ∷ Step 0 ∷ Hear 0 (reply.Bytes []) ∷ Hear 0 (reply.Exit 2) ∷ Step 1 ∷ Stop 1 ∷ Start 2 ∷ Stop 2 ∷ [])
+    ≡ Some (mark.Started 0) ∷ Some (mark.Started 1) ∷ None ∷ Some (mark.Took 0) ∷ Some (mark.Moved 0) ∷ Some (mark.Asked 0) ∷ None ∷ Some (mark.Failed 0 (Exit 2))
+    ∷ None ∷ Some (mark.Stopped 1) ∷ Some (mark.Started 2) ∷ Some (mark.Stopped 2) ∷ []
+unfolding marks_of then_marks three edge first step turn heard
+one_fails = refl

@@ -1,0 +1,15 @@
+pub mod Limits
+pub mod State
+pub mod Places
+pub mod Step
+pub mod Depfile
+pub mod Wanted
+pub mod Walk
+pub mod Runs
+pub mod NeverWrong
+pub mod NeverStuck
+pub mod Orderly
+pub mod InBudget
+pub mod Standing
+pub mod Going
+pub mod Statuses

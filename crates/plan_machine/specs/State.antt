@@ -1,0 +1,67 @@
+-- The state of many edges at once: where each stands, and what each slot has.
+use Rattle.std.specs.Prelude.{ℕ, Bool, true, false, List, Option, Some, None, slice_get, slice_set}
+use Rattle.std.specs.List.{list_all}
+use Rattle.plan_verify.specs.Turn.{Slots, Local}
+use Rattle.plan_machine.specs.declared.mark.Outcome.{Outcome}
+use Rattle.plan_machine.specs.declared.mark.Outcome.TheVariants.{Clean, Ran, Failed, Skipped, Stopped}
+
+-- where an edge stands: not yet begun, under way, or with its outcome
+pub data Status : Type 0 where
+  Unbegun : Status
+  Active : Local → Status
+  Over : Outcome → Status
+
+-- by the numbers of edges and slots
+pub record State : Type 0 where
+  pub edges : List Status
+  pub slots : Slots
+
+-- ---- tests of where an edge stands
+
+-- it ended, and what waits for it may start
+abbrev pub is_well : Status → Bool
+is_well (Over Clean) = true
+is_well (Over Ran) = true
+is_well _ = false
+
+-- it has an outcome over which what waits for it is skipped
+abbrev pub is_ill : Status → Bool
+is_ill (Over (Failed cause)) = true
+is_ill (Over (Skipped w)) = true
+is_ill (Over Stopped) = true
+is_ill _ = false
+
+abbrev pub has_failed : Status → Bool
+has_failed (Over (Failed cause)) = true
+has_failed _ = false
+
+-- it holds a place
+abbrev pub is_holder : Status → Bool
+is_holder (Active l) = l.holding
+is_holder _ = false
+
+abbrev pub is_over : Status → Bool
+is_over (Over outcome) = true
+is_over _ = false
+
+abbrev pub passes : (Status → Bool) → Option Status → Bool
+passes test (Some status) = test status
+passes test None = false
+
+-- an edge of that number is in the image, and stands so
+abbrev pub stands : (Status → Bool) → State → ℕ → Bool
+stands test s e = passes test (slice_get s.edges e)
+
+-- ---- states
+
+-- one edge stands otherwise
+abbrev pub with_status : State → ℕ → Status → State
+with_status s e status = record { edges = slice_set s.edges e status; slots = s.slots }
+
+-- each edge of the image has an outcome
+abbrev pub has_ended : State → Bool
+has_ended s = list_all is_over s.edges
+
+abbrev pub outcome_at : Option Status → Option Outcome
+outcome_at (Some (Over outcome)) = Some outcome
+outcome_at _ = None

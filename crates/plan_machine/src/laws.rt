@@ -1,0 +1,70 @@
+//! Laws over the definitions: what holds of every well-shaped image, options, targets and events.
+
+ghost use Rattle.plan_machine.specs.Depfile.{depfile};
+ghost use Rattle.plan_machine.specs.InBudget.{StaysInBudget};
+ghost use Rattle.plan_machine.specs.NeverStuck.{NeverStuck};
+ghost use Rattle.plan_machine.specs.NeverWrong.{NeverWrong};
+ghost use Rattle.plan_machine.specs.Orderly.{MarksAreOrderly};
+ghost use Rattle.plan_verify.specs.Budget.{IsFrugal};
+
+use plan_depfile::paths_are_few;
+use plan_verify::{
+    all_turns_pay, instructions_fit, replies_are_safe, stays_typed, steps_are_safe,
+    tables_are_in_range,
+};
+
+/// No event of a reached state goes wrong.
+pub fn never_wrong()
+    ensures { NeverWrong }
+{
+    all_turns_pay();
+    instructions_fit();
+    steps_are_safe();
+    replies_are_safe();
+    stays_typed();
+    tables_are_in_range();
+}
+
+/// The marks of every run are orderly: an edge starts once, after all that it waits for ended well, and at each position
+/// no more edges hold a place than there are jobs, nor more of a pool than its depth.
+pub fn marks_are_orderly()
+    ensures { MarksAreOrderly }
+{
+    all_turns_pay();
+    instructions_fit();
+    steps_are_safe();
+    replies_are_safe();
+    stays_typed();
+    tables_are_in_range();
+}
+
+/// Each reached state has ended, can go on, or awaits a reply.
+pub fn never_stuck()
+    ensures { NeverStuck }
+{
+    all_turns_pay();
+    instructions_fit();
+    steps_are_safe();
+    replies_are_safe();
+    stays_typed();
+    tables_are_in_range();
+}
+
+/// A run has no more events than the image's budget and the bytes of dependencies that its replies bring.
+pub fn stays_in_budget()
+    ensures { StaysInBudget }
+{
+    all_turns_pay();
+    instructions_fit();
+    steps_are_safe();
+    replies_are_safe();
+    stays_typed();
+    tables_are_in_range();
+}
+
+/// A depfile has at least two bytes for each of its paths: what `stays_in_budget` asks of the meaning of depfiles.
+pub fn depfiles_are_frugal()
+    ensures { IsFrugal depfile }
+{
+    paths_are_few();
+}

@@ -1,0 +1,30 @@
+//! Many edges at once: which events are enabled in a state of an image, and what each does.
+//!
+//! - `Event`, `Reply`: what may happen next, and answers from outside. `Mark`: what an event did. `Outcome`: how an edge
+//!   came out. `Cause` (of plan_verify): why it failed.
+//! - `State`: where each edge of an image stands. `Refused`: why a call on it is refused.
+//! - `Options`: how many jobs there are, and how many failures are borne.
+//! - The laws say what holds of every run of an image that is well shaped: it never goes wrong (`never_wrong`), its marks
+//!   are orderly (`marks_are_orderly`), it never gets stuck (`never_stuck`), its events are bounded (`stays_in_budget`).
+#![tactic(auto)]
+
+mod activity;
+mod event;
+mod laws;
+mod mark;
+mod options;
+mod refused;
+mod state;
+mod status;
+mod wanted;
+
+pub use event::{Event, Reply};
+pub use laws::{depfiles_are_frugal, marks_are_orderly, never_stuck, never_wrong, stays_in_budget};
+pub use mark::{Mark, Outcome};
+pub use options::Options;
+pub use plan_verify::Cause;
+pub use refused::Refused;
+pub use state::State;
+
+#[cfg(test)]
+mod tests;

@@ -1,0 +1,36 @@
+//! Why a call is refused.
+
+use std::alloc::{AllocError, AllocFailed};
+
+/// Why an image wasn't opened, or an event not applied.
+#[derive(Clone, Copy, Debug, PartialEq, Eq)]
+pub enum Refused {
+    /// The event isn't enabled.
+    NotEnabled,
+    /// Memory ran out; nothing changed.
+    Memory,
+    /// A target is no edge of the image.
+    BadTarget,
+}
+
+impl From<AllocError> for Refused {
+    ghost use Rattle.std.specs.Prelude.{◌≡◌};
+    ghost use Rattle.plan_machine.specs.declared.refused.Refused.TheVariants.{Memory};
+
+    ghost from_gives = { λ _ e. e ≡ Memory };
+
+    fn from(_error: AllocError) -> Self {
+        Refused::Memory
+    }
+}
+
+impl<T: Drop> From<AllocFailed<T>> for Refused {
+    ghost use Rattle.std.specs.Prelude.{◌≡◌};
+    ghost use Rattle.plan_machine.specs.declared.refused.Refused.TheVariants.{Memory};
+
+    ghost from_gives = { λ _ e. e ≡ Memory };
+
+    fn from(_error: AllocFailed<T>) -> Self {
+        Refused::Memory
+    }
+}

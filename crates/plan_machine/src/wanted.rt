@@ -1,0 +1,140 @@
+//! Which edges are wanted: a walk along waits.
+
+ghost use Rattle.std.specs.Prelude.{◌≡◌, ℕ, ◌<◌, false, true, [], ◌∷◌, List, length, replicate, All, Some, IfOk, OnOk, slice_get, slice_set};
+ghost use Rattle.std.specs.List.{list_any};
+ghost use Rattle.plan_verify.specs.Tables.{waits_of};
+ghost use Rattle.plan_verify.specs.WellShaped.{IsWellShaped};
+ghost use Rattle.plan_machine.specs.Wanted.{AreWanted, any_outside, chosen};
+ghost use Rattle.plan_machine.specs.Walk.{IsNext, meet, meet_all};
+
+use plan_image::Parts;
+use plan_verify::tables_are_in_range;
+use std::alloc::{AllocError, Global};
+use std::marker::Model;
+
+/// For each edge whether it was met, and the edges that the walk hasn't gone on from.
+#[derive(Drop)]
+struct Walk {
+    met: Vec<bool>,
+    ahead: Vec<u32>,
+}
+
+impl Model for Walk {
+    ghost use Rattle.std.specs.Prelude.{reverse};
+    ghost use Rattle.plan_machine.specs.Walk.{Walked};
+
+    ghost Value = { Walked };
+
+    ghost view = { λ w. record { met = w.met.items; ahead = reverse w.ahead.items } };
+}
+
+impl Walk {
+    /// A walk that has met no edge.
+    fn start(alloc: Global, edges: usize) -> Result<Walk, AllocError>
+        ensures { IfOk result (λ w. w ≡ record { met = replicate edges false; ahead = [] }) }
+    {
+        Ok(Walk {
+            met: vec![in alloc; false; edges]?,
+            ahead: Vec::new(alloc),
+        })
+    }
+
+    /// Whether an edge was met.
+    fn is_met(&self, e: u32) -> bool
+        requires { e < length self.now.met }
+        ensures { slice_get self.now.met e ≡ Some result }
+    {
+        self.met[e as usize]
+    }
+
+    /// Meets an edge for the first time.
+    fn add(&mut self, e: u32) -> Result<(), AllocError>
+        requires { e < length self.old.met }
+        ensures { OnOk result (self.new ≡ record { met = slice_set self.old.met e true; ahead = e ∷ self.old.ahead }) }
+    {
+        self.ahead.push(e)?;
+        self.met[e as usize] = true;
+        Ok(())
+    }
+
+    /// Meets an edge.
+    #[tactic(auto, using(crate::proofs::WantedLemmas::meets_old, crate::proofs::WantedLemmas::meets_new))]
+    fn meet(&mut self, e: u32) -> Result<(), AllocError>
+        requires { e < length self.old.met }
+        ensures { OnOk result (self.new ≡ meet self.old e) }
+    {
+        if self.is_met(e) {
+            return Ok(());
+        }
+        self.add(e)
+    }
+
+    /// Meets some edges.
+    #[tactic(auto, using(crate::proofs::WantedLemmas::meet_long))]
+    fn meet_all(&mut self, edges: &[u32]) -> Result<(), AllocError>
+        requires { All (λ e. e < length self.old.met) edges.now }
+        ensures { OnOk result (self.new ≡ meet_all self.old edges.now) }
+    {
+        for e in edges {
+            self.meet(*e)?;
+        }
+        Ok(())
+    }
+
+    /// An edge to go on from, where there is one more.
+    fn next(&mut self) -> Option<u32>
+        ensures { IsNext self.old result self.new }
+    {
+        self.ahead.pop()
+    }
+
+    /// For each edge, whether it was met.
+    fn into_met(self) -> Vec<bool>
+        ensures { result.items ≡ self.met }
+    {
+        self.met
+    }
+}
+
+/// What an edge waits for.
+pub(crate) fn waits(parts: &Parts, e: u32) -> &[u32]
+    ensures { result.now ≡ waits_of parts.now e }
+{
+    match parts.edges.as_slice().get(e as usize) {
+        Some(edge) => edge.waits.as_slice(),
+        None => &[],
+    }
+}
+
+/// The targets, or where there are none the image's defaults.
+fn chosen<'a>(parts: &'a Parts, targets: &'a [u32]) -> &'a [u32]
+    ensures { result.now ≡ chosen parts.now targets.now }
+{
+    if targets.is_empty() {
+        return parts.defaults.as_slice();
+    }
+    targets
+}
+
+/// Whether one of these is no edge of the image.
+pub(crate) fn any_outside(parts: &Parts, targets: &[u32]) -> bool
+    ensures { result ≡ any_outside parts.now targets.now }
+{
+    let edges = parts.edges.len();
+    targets.iter().any(|e| edges <= *e as usize)
+}
+
+/// For each edge, whether it is wanted.
+pub(crate) fn wanted(alloc: Global, parts: &Parts, targets: &[u32]) -> Result<Vec<bool>, AllocError>
+    requires shaped { IsWellShaped parts.now }
+    requires inside { any_outside parts.now targets.now ≡ false }
+    ensures { IfOk result (λ w. AreWanted parts.now targets.now w.items) }
+{
+    tables_are_in_range();
+    let mut walk = Walk::start(alloc, parts.edges.len())?;
+    walk.meet_all(chosen(parts, targets))?;
+    while let Some(e) = walk.next() {
+        walk.meet_all(waits(parts, e))?;
+    }
+    Ok(walk.into_met())
+}

@@ -1,0 +1,5 @@
+use Rattle.plan_verify.proofs.Spending.{all_turns_pay}
+use Rattle.plan_verify.proofs.laws.all_turns_pay.Goals as goal
+
+pub returns : goal.returns
+returns c = all_turns_pay
