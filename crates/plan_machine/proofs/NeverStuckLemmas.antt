@@ -2,23 +2,21 @@
 use Rattle.std.proofs.Common.{◌≡◌, ◌≢◌, ℕ, zero, suc, ◌+◌, ◌<◌, ◌≤◌, Bool, true, false, not, cond, List, [], ◌∷◌, length, Option, Some, None, refl, sym, ap, ◌∙◌, subst, arith, inl, inr}
 use Rattle.std.specs.Prelude.{◌⊎◌, ◌&&◌, ◌||◌, ◌==◌, slice_get, if◌then◌else◌, nat_lt, count_by}
 use Rattle.std.specs.List.{list_all}
-use Rattle.std.proofs.lemmas.Bool.{cases_Bool, eq-eqb, ltb-false, ltb-true, and_from}
+use Rattle.std.proofs.lemmas.Bool.{cases_Bool, eq-eqb, ltb-false, and_from}
 use Rattle.std.proofs.lemmas.Option.{slice_get_within}
 use Rattle.std.proofs.lemmas.List.Sums.{sum_by-cons}
 use Rattle.plan_image.specs.declared.instr.Instr.{Instr}
 use Rattle.plan_image.specs.declared.instr.Instr.TheVariants as op
 use Rattle.plan_image.specs.declared.image.Pool.{Pool}
-use Rattle.plan_image.specs.declared.image.Edge.{Edge}
 use Rattle.plan_image.specs.declared.image.Parts.{Parts}
 use Rattle.plan_image.specs.Code.{code}
 use Rattle.plan_verify.specs.declared.shape.Shape.{Shape}
-use Rattle.plan_verify.specs.Tables.{waits_of, waits_in, pool_of}
+use Rattle.plan_verify.specs.Tables.{waits_of, pool_of}
 use Rattle.plan_verify.specs.Members.{is_member}
 use Rattle.plan_verify.specs.Turn.{Local, begun, Did, Turn, Goes, Sets, Asks, Ends, Fails, Wrong as Errs, Meaning, turn}
-use Rattle.plan_verify.specs.Shape.{ranks_below, table_checks, table_refusal, table_refusal_of}
 use Rattle.plan_verify.specs.WellShaped.{IsWellShaped}
 use Rattle.plan_verify.specs.Sound.{IsSafe}
-use Rattle.plan_machine.proofs.ListLemmas.{get_inside, when_true, when_false, and_both, or_right, not_false}
+use Rattle.plan_machine.proofs.ListLemmas.{get_inside, when_true, when_false, and_both, or_right}
 use Rattle.plan_machine.specs.Limits.{Limits}
 use Rattle.plan_machine.proofs.VerifyLaws.{VerifyLaws, rank_of, wait_below}
 use Rattle.plan_machine.specs.declared.event.Event.{Event}
@@ -31,7 +29,6 @@ use Rattle.plan_machine.specs.Step.{Stepped, Next, stepped, settles, starts, ski
 use Rattle.plan_machine.specs.Places.{is_pool, holders_from, allows, has_room, is_spent, is_free, is_take, at_take}
 use Rattle.plan_machine.specs.NeverStuck.{is_own, CanGo, Awaits, NeverStuck}
 use Rattle.plan_machine.specs.Standing.{IsUnderWay, Stands}
-use Rattle.plan_machine.proofs.ListLemmas.{all_member}
 use Rattle.plan_machine.proofs.StandingLemmas.{turn_safe}
 use Rattle.plan_machine.proofs.OpensLemmas.{reached_stands}
 

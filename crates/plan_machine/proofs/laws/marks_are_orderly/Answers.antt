@@ -1,4 +1,3 @@
-use Rattle.plan_machine.proofs.VerifyLaws.{VerifyLaws}
 use Rattle.plan_machine.proofs.OrderlyLemmas.{marks_are_orderly}
 use Rattle.plan_machine.proofs.laws.marks_are_orderly.Goals as goal
 

@@ -1,4 +1,3 @@
-use Rattle.plan_machine.proofs.VerifyLaws.{VerifyLaws}
 use Rattle.plan_machine.proofs.NeverStuckLemmas.{never_stuck}
 use Rattle.plan_machine.proofs.laws.never_stuck.Goals as goal
 

@@ -1,4 +1,3 @@
-use Rattle.plan_machine.proofs.VerifyLaws.{VerifyLaws}
 use Rattle.plan_machine.proofs.OpensLemmas.{never_wrong}
 use Rattle.plan_machine.proofs.laws.never_wrong.Goals as goal
 

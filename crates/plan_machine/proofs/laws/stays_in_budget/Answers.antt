@@ -1,4 +1,3 @@
-use Rattle.plan_machine.proofs.VerifyLaws.{VerifyLaws}
 use Rattle.plan_machine.proofs.InBudgetLemmas.{stays_in_budget}
 use Rattle.plan_machine.proofs.laws.stays_in_budget.Goals as goal
 
