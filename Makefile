@@ -7,7 +7,7 @@ SHELL = /bin/bash -o pipefail
 
 .PHONY: help
 help:
-	@echo "make          proves and builds the program ($(PROGRAM)); from nothing about 10 minutes on 4 cores"
+	@echo "make          proves and builds the program ($(PROGRAM)); from nothing 10 to 15 minutes on 4 cores"
 	@echo "make demo     runs the program, not yet proved, on examples/demo/build.ninja; from nothing about a minute"
 	@echo "make quick    proves one crate, or one module of it (CRATE=plan_text ONLY=path); 5 to 60 seconds for a module"
 	@echo "make rows     runs the rows of the built program, or some (NAMES='tab_* scopes/*'); half a minute"
@@ -38,7 +38,7 @@ built: python
 # Builds the proved program.
 .PHONY: all
 all: kit
-	@echo "proving and building: from nothing about 10 minutes on 4 cores, less where earlier checks are kept" >&2
+	@echo "proving and building: from nothing 10 to 15 minutes on 4 cores, less where earlier checks are kept" >&2
 	@cd crates/plan_ninja && rt run -- --help > /dev/null
 	@echo "built and proved: $(PROGRAM)"
 
