@@ -1,0 +1,386 @@
+-- The numbers of each edge are right in the image.
+use Rattle.std.proofs.Common.{◌≡◌, ℕ, zero, suc, ◌+◌, ◌<◌, ◌≤◌, Bool, true, false, List, [], ◌∷◌, ◌++◌, length, map, Option, Some, None, refl, sym, ap, subst, ◌∙◌, arith, inl, inr}
+use Rattle.std.specs.Prelude.{◌⊎◌, ◌||◌, ◌&&◌, ◌==◌, not, slice_get, if◌then◌else◌, nat_le, nat_lt, is_some, bytes_eq}
+use Rattle.std.specs.List.{list_any, list_all}
+use Rattle.std.proofs.lemmas.Bool.{eqb-true, eq-eqb, ltb-true, lt-leb}
+use Rattle.std.proofs.lemmas.Option.{slice_get_within}
+use Rattle.plan_image.specs.declared.instr.Kind.{Kind}
+use Rattle.plan_image.specs.declared.instr.Kind.TheVariants.{Stamp, Flag}
+use Rattle.plan_image.specs.declared.image.Slot.{Slot}
+use Rattle.plan_image.specs.declared.image.Edge.{Edge}
+use Rattle.plan_image.specs.declared.image.Parts.{Parts}
+use Rattle.plan_verify.specs.Members.{is_member}
+use Rattle.plan_verify.specs.Tables.{owned_by, kind_in, lent_by, waits_in, waits_of, own_slots, outputs_of, outputs_in, pool_in, is_outside, pool_outside}
+use Rattle.plan_compile.specs.declared.wiring.Input.{Input}
+use Rattle.plan_compile.specs.declared.wiring.Input.TheVariants.{File, Made}
+use Rattle.plan_compile.specs.declared.wiring.Output.{Output}
+use Rattle.plan_compile.specs.declared.wiring.Wiring.{Wiring}
+use Rattle.plan_compile.specs.declared.form.Form.{Form}
+use Rattle.plan_compile.specs.declared.form.Form.TheVariants.{OneFlag, OwnFlags, Gathers, Alone}
+use Rattle.plan_compile.specs.Builds.{Build, Builds}
+use Rattle.plan_compile.specs.Means.{text_in, text_at, IsFile, IsText, IsOwnOf, IsLentOf, AreInputs, AreSources, AreOutputs, flags_of, HaveFlags, HaveFlagSlots, slots_of, files_of, AreAllOwn, IsNoStamp, IsCommand, IsGather, IsAlone, IsWired}
+use Rattle.plan_compile.specs.Slots.{has_none, form_by, form_of, kinds_by, own_kinds, stamps, pairs, past_stamps, past_pairs, outputs_flagged, outputs_apart, outputs_sharing, outputs_by, made, newest_by, base, all_made, find, input_by, inputs_by, sources, with_flag, flags_from, flags_once}
+use Rattle.plan_compile.specs.Names.{Text, text_number, unless_empty, label_of, texts_by, texts_in, all_texts, depfile_number, pool_number, used_pools}
+use Rattle.plan_compile.specs.Names.{pool_in as pool_name}
+use Rattle.plan_compile.specs.Images.{is_blank, command_wiring, gather_wiring, wire_by, wire, image_of}
+use Rattle.plan_compile.specs.Faithful.{IsEdge, AreInside, HasPool, IsSound}
+use Rattle.plan_compile.proofs.ListLemmas.{some_is, bool_cases, or_cases, or_false, or_left, or_right}
+use Rattle.plan_compile.proofs.RunLemmas.{slot_at, IsSlotOf, slot_of, all_own}
+use Rattle.plan_compile.proofs.OutputLemmas.{Holds, Runs, first_run, rest_run, past_stamps_run, past_pairs_run, own_of_held, flagged_own, apart_own, flagged_past, flagged_apart, flagged_share, apart_past, apart_apart, apart_flags, sharing_share, files_flagged, files_apart, in_stamps, flag_among, in_pairs, find_split, IsOutput, found_by}
+use Rattle.plan_compile.proofs.EdgeLemmas.{image_edge, edge_in, text_found, has_pool}
+
+-- ---- whose output it is
+
+pub record IsMadeBy (b : ℕ) (xs : List Build) (f : ℕ) (o : Output) : Type 0 where
+  pub edge : ℕ
+  pub build : Build
+  pub here : slice_get xs edge ≡ Some build
+  pub found : find f (made (b + base xs edge) build) ≡ Some o
+
+pub maker : (b : ℕ) (xs : List Build) (f : ℕ) (o : Output) → find f (all_made b xs) ≡ Some o → IsMadeBy b xs f o
+maker b [] f o h = absurd cc
+maker b (x ∷ xs) f o h =
+    elim (find_split f (made b x) (all_made (b + length (own_kinds x)) xs) o h) as (λ c. IsMadeBy b (x ∷ xs) f o) [
+      | inl g ↦ let same : b ≡ b + zero = omega arith in record { edge = zero; build = x; here = refl; found = subst (λ (n : ℕ). find f (made n x) ≡ Some o) same g }
+      | inr g ↦
+          let r : IsMadeBy (b + length (own_kinds x)) xs f o = maker (b + length (own_kinds x)) xs f o g in
+          let same : b + length (own_kinds x) + base xs r.edge ≡ b + (length (own_kinds x) + base xs r.edge) = omega arith in
+          record { edge = suc r.edge; build = r.build; here = r.here; found = subst (λ (n : ℕ). find f (made n r.build) ≡ Some o) same r.found }
+    ]
+
+pub own_run : (t : Builds) (e : ℕ) (x : Build) → IsEdge t e x → Runs (image_of t) e (base t.edges e) (own_kinds x)
+own_run t e x at i k g = let same : zero + e ≡ e = omega arith in slot_at zero t.edges e x at i k g ∙ ap (λ (n : ℕ). Some (record { owner = n; kind = k })) same
+
+-- ---- what an edge makes is lent to its users
+
+module _ (t : Builds) (sound : IsSound t) (e : ℕ) (x : Build) (at : IsEdge t e x) where
+  pub apart : (w : ℕ) → is_member w x.waits ≡ true → (w == e) ≡ false
+  apart w waits =
+      elim (bool_cases (w == e)) as (λ c. (w == e) ≡ false) [
+        | inl same ↦
+            let r = sound.ranks e x w at waits in
+            let here : slice_get t.edges e ≡ Some r.0 = subst (λ (n : ℕ). slice_get t.edges n ≡ Some r.0) (eqb-true w e same) r.1 in
+            let it : r.0 ≡ x = some_is r.0 x (sym here ∙ at) in
+            let less : x.rank < x.rank = ltb-true x.rank x.rank (ap (λ (z : Build). nat_lt z.rank x.rank) (sym it) ∙ r.2) in
+            absurd (omega (arith, less))
+        | inr other ↦ other
+      ]
+
+  pub lent_slot : (w : ℕ) → is_member w x.waits ≡ true → (k : Kind) (s : ℕ) → Holds (image_of t) w k s → IsLentOf (image_of t) e k s
+  lent_slot w waits k s h =
+      let among : is_member w (waits_of (image_of t) e) ≡ true = ap (λ (o : Option Edge). is_member w (waits_in o)) (image_edge t e x at) ∙ waits in
+      (ap (owned_by e) h ∙ apart w waits, ap (lent_by (waits_of (image_of t) e)) h ∙ among, ap kind_in h)
+
+  pub lent : (f : ℕ) (o : Output) → is_member f x.named ≡ true → find f (all_made zero t.edges) ≡ Some o → IsLentOf (image_of t) e Stamp o.stamp × IsLentOf (image_of t) e Flag o.changed
+  lent f o named h =
+      let m : IsMadeBy zero t.edges f o = maker zero t.edges f o h in
+      let same : zero + base t.edges m.edge ≡ base t.edges m.edge = omega arith in
+      let out : IsOutput (image_of t) m.edge f m.build.outputs o =
+          found_by (image_of t) m.edge f o (form_of m.build) (base t.edges m.edge) m.build.outputs (own_run t m.edge m.build m.here)
+          (subst (λ (n : ℕ). find f (made n m.build) ≡ Some o) same m.found) in
+      let waits : is_member m.edge x.waits ≡ true = sound.waits e x m.edge m.build f at m.here named out.member in
+      (lent_slot m.edge waits Stamp o.stamp out.stamp, lent_slot m.edge waits Flag o.changed out.changed)
+
+  input_right : (f : ℕ) (o : Option Output) (is : List Input) → find f (all_made zero t.edges) ≡ o → is_member f x.named ≡ true → nat_le (length t.files) f ≡ false
+      → AreInputs (image_of t) e is → AreInputs (image_of t) e (input_by f o ∷ is)
+  input_right f (Some o) is h named inside rest = (lent f o named h, rest)
+  input_right f None is h named inside rest = (inside, rest)
+
+  pub inputs_right : (fs : List ℕ) → AreInside t fs → ((f : ℕ) → is_member f fs ≡ true → is_member f x.named ≡ true) → AreInputs (image_of t) e (inputs_by (all_made zero t.edges) fs)
+  inputs_right [] inside named = tt
+  inputs_right (f ∷ fs) inside named =
+      let o = or_false (nat_le (length t.files) f) (list_any (λ g. nat_le (length t.files) g) fs) inside in
+      input_right f (find f (all_made zero t.edges)) (inputs_by (all_made zero t.edges) fs) refl (named f (or_left (f == f) (is_member f fs) (eq-eqb f f refl))) o.0
+      (inputs_right fs o.1 (λ g m. named g (or_right (f == g) (is_member g fs) m)))
+
+pub sources_right : (t : Builds) (outputs : List Output) (named fs : List ℕ) → AreInside t fs → AreSources (image_of t) (sources outputs named fs)
+sources_right t outputs named [] inside = tt
+sources_right t outputs named (f ∷ fs) inside =
+    let o = or_false (nat_le (length t.files) f) (list_any (λ g. nat_le (length t.files) g) fs) inside in
+    elim (is_some (find f outputs) || is_member f named) as (λ b. AreSources (image_of t) (if b then sources outputs named fs else f ∷ sources outputs named fs))
+    [ true ↦ sources_right t outputs named fs o.1 | false ↦ (o.0, sources_right t outputs named fs o.1) ]
+
+-- ---- the flags of inputs, each once
+
+member_app : (s : ℕ) (xs : List ℕ) (y : ℕ) → is_member s (xs ++ y ∷ []) ≡ (is_member s xs || ((y == s) || false))
+member_app s [] y = refl
+member_app s (x ∷ xs) y =
+    elim (x == s) as (λ b. (b || is_member s (xs ++ y ∷ [])) ≡ ((b || is_member s xs) || ((y == s) || false))) [ true ↦ refl | false ↦ member_app s xs y ]
+
+or_same : (a b : Bool) → (b ≡ true → a ≡ true) → (a || (b || false)) ≡ a
+or_same true b h = refl
+or_same false true h = sym (h refl)
+or_same false false h = refl
+
+or_none : (a : Bool) → (a || false) ≡ a
+or_none true = refl
+or_none false = refl
+
+or_move : (a b c : Bool) → ((a || (b || false)) || c) ≡ (a || (b || c))
+or_move true b c = refl
+or_move false true c = refl
+or_move false false c = refl
+
+with_flag_member : (s c : ℕ) (flags : List ℕ) → is_member s (if is_member c flags then flags else flags ++ c ∷ []) ≡ (is_member s flags || ((c == s) || false))
+with_flag_member s c flags =
+    elim (bool_cases (is_member c flags)) as (λ o. is_member s (if is_member c flags then flags else flags ++ c ∷ []) ≡ (is_member s flags || ((c == s) || false))) [
+      | inl there ↦
+          ap (λ (b : Bool). is_member s (if b then flags else flags ++ c ∷ [])) there
+          ∙ sym (or_same (is_member s flags) (c == s) (λ is. subst (λ (n : ℕ). is_member n flags ≡ true) (eqb-true c s is) there))
+      | inr new ↦ ap (λ (b : Bool). is_member s (if b then flags else flags ++ c ∷ [])) new ∙ member_app s flags c
+    ]
+
+flags_are : (s : ℕ) (flags : List ℕ) (is : List Input) → is_member s (flags_from flags is) ≡ (is_member s flags || is_member s (flags_of is))
+flags_are s flags [] = sym (or_none (is_member s flags))
+flags_are s flags (File f ∷ is) = flags_are s flags is
+flags_are s flags (Made stamp c ∷ is) =
+    flags_are s (with_flag flags (Made stamp c)) is
+    ∙ ap (λ (b : Bool). b || is_member s (flags_of is)) (with_flag_member s c flags)
+    ∙ or_move (is_member s flags) (c == s) (is_member s (flags_of is))
+
+pub have_flags : (is : List Input) → HaveFlags is (flags_once is)
+have_flags is s = flags_are s [] is
+
+-- ---- own slots
+
+-- all own slots are among some, if each place of the edge's run is
+all_among : (t : Builds) (e : ℕ) (x : Build) → IsEdge t e x → (slots : List ℕ)
+    → ((i : ℕ) (k : Kind) → slice_get (own_kinds x) i ≡ Some k → is_member (base t.edges e + i) slots ≡ true) → AreAllOwn (image_of t) e slots
+all_among t e x at slots each =
+    all_own (λ s. is_member s slots) e 0 (image_of t).slots λ j s h mine.
+    let r : IsSlotOf zero t.edges j s = slot_of zero t.edges j s h in
+    let whose : s.owner ≡ zero + r.edge = r.owner in
+    let same : r.edge ≡ e = omega (arith, whose, mine) in
+    let it : r.source ≡ x = some_is r.source x (sym r.here ∙ ap (λ (n : ℕ). slice_get t.edges n) same ∙ at) in
+    let kind : slice_get (own_kinds x) r.place ≡ Some s.kind = subst (λ (z : Build). slice_get (own_kinds z) r.place ≡ Some s.kind) it r.kind in
+    let stands : j ≡ base t.edges e + r.place = r.stands ∙ ap (λ (n : ℕ). base t.edges n + r.place) same in
+    let place : 0 + j ≡ base t.edges e + r.place = omega (arith, stands) in
+    ap (λ (n : ℕ). is_member n slots) place ∙ each r.place s.kind kind
+
+one_flag_among : (b : ℕ) (fs : List ℕ) → (fs ≡ [] → ⊥) → (i : ℕ) (k : Kind) → slice_get (stamps fs (Flag ∷ Stamp ∷ [])) i ≡ Some k
+    → is_member (b + i) (suc (past_stamps b fs) ∷ slots_of (outputs_flagged b (past_stamps b fs) fs)) ≡ true
+one_flag_among b fs some i k g =
+    let c : ℕ = past_stamps b fs in
+    let own : List ℕ = slots_of (outputs_flagged b c fs) in
+    elim (in_stamps fs b c (Flag ∷ Stamp ∷ []) i k g) as (λ o. is_member (b + i) (suc c ∷ own) ≡ true) [
+      | inl m ↦ or_right (suc c == b + i) (is_member (b + i) own) m
+      | inr q ↦ ap (λ (n : ℕ). is_member n (suc c ∷ own)) q.1 ∙ past q.0 q.2
+    ]
+  where
+    past : (j : ℕ) → slice_get (Flag ∷ Stamp ∷ []) j ≡ Some k → is_member (past_stamps b fs + j) (suc (past_stamps b fs) ∷ slots_of (outputs_flagged b (past_stamps b fs) fs)) ≡ true
+    past zero h =
+        let same : past_stamps b fs ≡ past_stamps b fs + zero = omega arith in
+        or_right (suc (past_stamps b fs) == past_stamps b fs + zero) _
+        (subst (λ (n : ℕ). is_member n (slots_of (outputs_flagged b (past_stamps b fs) fs)) ≡ true) same (flag_among b (past_stamps b fs) fs some))
+    past (suc zero) h =
+        let same : suc (past_stamps b fs) ≡ past_stamps b fs + suc zero = omega arith in
+        or_left (suc (past_stamps b fs) == past_stamps b fs + suc zero) _ (eq-eqb (suc (past_stamps b fs)) (past_stamps b fs + suc zero) same)
+    past (suc (suc j)) h = absurd cc
+
+own_flags_among : (b : ℕ) (fs : List ℕ) (i : ℕ) (k : Kind) → slice_get (pairs fs (Stamp ∷ [])) i ≡ Some k → is_member (b + i) (past_pairs b fs ∷ slots_of (outputs_apart b fs)) ≡ true
+own_flags_among b fs i k g =
+    let n : ℕ = past_pairs b fs in
+    let own : List ℕ = slots_of (outputs_apart b fs) in
+    elim (in_pairs fs b (Stamp ∷ []) i k g) as (λ o. is_member (b + i) (n ∷ own) ≡ true) [
+      | inl m ↦ or_right (n == b + i) (is_member (b + i) own) m
+      | inr q ↦ ap (λ (s : ℕ). is_member s (n ∷ own)) q.1 ∙ past q.0 q.2
+    ]
+  where
+    past : (j : ℕ) → slice_get (Stamp ∷ []) j ≡ Some k → is_member (past_pairs b fs + j) (past_pairs b fs ∷ slots_of (outputs_apart b fs)) ≡ true
+    past zero h =
+        let same : past_pairs b fs ≡ past_pairs b fs + zero = omega arith in
+        or_left (past_pairs b fs == past_pairs b fs + zero) _ (eq-eqb (past_pairs b fs) (past_pairs b fs + zero) same)
+    past (suc j) h = absurd cc
+
+gathers_among : (b i : ℕ) (k : Kind) → slice_get (Stamp ∷ Flag ∷ []) i ≡ Some k → is_member (b + i) (b ∷ suc b ∷ []) ≡ true
+gathers_among b zero k g = let same : b ≡ b + zero = omega arith in or_left (b == b + zero) (is_member (b + zero) (suc b ∷ [])) (eq-eqb b (b + zero) same)
+gathers_among b (suc zero) k g =
+    let same : suc b ≡ b + suc zero = omega arith in
+    or_right (b == b + suc zero) (is_member (b + suc zero) (suc b ∷ [])) (or_left (suc b == b + suc zero) false (eq-eqb (suc b) (b + suc zero) same))
+gathers_among b (suc (suc i)) k g = absurd cc
+
+alone_among : (b : ℕ) (fs : List ℕ) (i : ℕ) (k : Kind) → slice_get (pairs fs []) i ≡ Some k → is_member (b + i) (slots_of (outputs_apart b fs)) ≡ true
+alone_among b fs i k g =
+    elim (in_pairs fs b [] i k g) as (λ o. is_member (b + i) (slots_of (outputs_apart b fs)) ≡ true) [ inl m ↦ m | inr q ↦ absurd (none_at q.0 q.2) ]
+  where
+    none_at : (j : ℕ) → slice_get [] j ≡ Some k → ⊥
+    none_at j h = absurd cc
+
+-- ---- texts and pools
+
+pub number_inside : (us : List Text) (t : Text) → slice_get us (text_number us t) ≡ Some t → nat_le (length us) (text_number us t) ≡ false
+number_inside us t at = lt-leb (length us) (text_number us t) (slice_get_within us (text_number us t) t at)
+
+pub command_found : (t : Builds) (e : ℕ) (x : Build) → IsEdge t e x → x.edge.phony ≡ false → slice_get (all_texts t.edges) (text_number (all_texts t.edges) x.edge.command) ≡ Some x.edge.command
+command_found t e x at command =
+    text_found t.edges e x at 1 x.edge.command (subst (λ (b : Bool). slice_get (texts_by b x) 0 ≡ Some x.edge.command) (sym command) refl)
+
+pub depfile_found : (t : Builds) (e : ℕ) (x : Build) → IsEdge t e x → x.edge.phony ≡ false → (k : ℕ) (d : Text) → slice_get (unless_empty x.edge.depfile) k ≡ Some d
+    → slice_get (all_texts t.edges) (text_number (all_texts t.edges) d) ≡ Some d
+depfile_found t e x at command k d h =
+    text_found t.edges e x at (suc (suc k)) d (subst (λ (b : Bool). slice_get (texts_by b x) (suc k) ≡ Some d) (sym command) h)
+
+unblank : (c : Text) → is_blank c ≡ false → c ≡ [] → ⊥
+unblank [] h none = absurd cc
+unblank (c ∷ cs) h none = absurd cc
+
+depfile_right : (p : Parts) (d : Text) → ((k : ℕ) (c : Text) → slice_get (unless_empty d) k ≡ Some c → slice_get p.texts (text_number p.texts c) ≡ Some c) → (n : ℕ)
+    → depfile_number p.texts d ≡ Some n → IsText p n × (text_at p n ≡ [] → ⊥)
+depfile_right p [] h n is = absurd cc
+depfile_right p (c ∷ cs) h n is =
+    let at : slice_get p.texts (text_number p.texts (c ∷ cs)) ≡ Some (c ∷ cs) = h zero (c ∷ cs) refl in
+    let text : text_at p (text_number p.texts (c ∷ cs)) ≡ c ∷ cs = ap text_in at in
+    subst (λ (m : ℕ). IsText p m × (text_at p m ≡ [] → ⊥)) (some_is (text_number p.texts (c ∷ cs)) n is) (number_inside p.texts (c ∷ cs) at, λ none. unblank (c ∷ cs) refl (sym text ∙ none))
+
+pool_inside : (p : Parts) (n : Option ℕ) (own : List Text) → HasPool p n own → is_outside p n ≡ false
+pool_inside p None [] h = refl
+pool_inside p None (name ∷ own) h = absurd h
+pool_inside p (Some n) [] h = absurd h
+pool_inside p (Some n) (name ∷ []) h = lt-leb (length p.pools) n (slice_get_within p.pools n h.0 h.1)
+pool_inside p (Some n) (name ∷ other ∷ own) h = absurd h
+
+pub pool_right : (t : Builds) (e : ℕ) (x : Build) → IsEdge t e x → is_outside (image_of t) (pool_number (used_pools t.edges) (pool_name x)) ≡ false
+pool_right t e x at = pool_inside (image_of t) (pool_number (used_pools t.edges) (pool_name x)) (pool_name x) (has_pool t e x at)
+
+-- ---- forms
+
+pub one_flag_is : (phony restat none : Bool) → form_by phony restat none ≡ OneFlag → (phony ≡ false) × (restat ≡ false)
+one_flag_is true restat true h = absurd cc
+one_flag_is true restat false h = absurd cc
+one_flag_is false true none h = absurd cc
+one_flag_is false false none h = (refl, refl)
+
+pub own_flags_is : (phony restat none : Bool) → form_by phony restat none ≡ OwnFlags → (phony ≡ false) × (restat ≡ true)
+own_flags_is true restat true h = absurd cc
+own_flags_is true restat false h = absurd cc
+own_flags_is false true none h = (refl, refl)
+own_flags_is false false none h = absurd cc
+
+pub gathers_is : (phony restat none : Bool) → form_by phony restat none ≡ Gathers → (phony ≡ true) × (none ≡ false)
+gathers_is true restat true h = absurd cc
+gathers_is true restat false h = (refl, refl)
+gathers_is false true none h = absurd cc
+gathers_is false false none h = absurd cc
+
+pub alone_is : (phony restat none : Bool) → form_by phony restat none ≡ Alone → (phony ≡ true) × (none ≡ true)
+alone_is true restat true h = (refl, refl)
+alone_is true restat false h = absurd cc
+alone_is false true none h = absurd cc
+alone_is false false none h = absurd cc
+
+-- ---- each edge
+
+module _ (t : Builds) (sound : IsSound t) (e : ℕ) (x : Build) (at : IsEdge t e x) where
+  abbrev none : Bool
+  none = has_none x.named && has_none x.order_only
+
+  -- what holds of a command edge of either form
+  command_right : (form : Form) → x.edge.phony ≡ false
+      → AreOutputs (image_of t) e (outputs_by form (base t.edges e) x.outputs) → files_of (outputs_by form (base t.edges e) x.outputs) ≡ x.outputs
+      → (outputs_by form (base t.edges e) x.outputs ≡ [] → ⊥) → Rattle.plan_compile.specs.Means.AreApart (outputs_by form (base t.edges e) x.outputs)
+      → HaveFlagSlots x.edge.restat (outputs_by form (base t.edges e) x.outputs)
+      → IsOwnOf (image_of t) e Stamp (newest_by form (base t.edges e) x.outputs) → IsNoStamp (newest_by form (base t.edges e) x.outputs) (outputs_by form (base t.edges e) x.outputs)
+      → AreAllOwn (image_of t) e (newest_by form (base t.edges e) x.outputs ∷ slots_of (outputs_by form (base t.edges e) x.outputs))
+      → IsCommand (image_of t) e (command_wiring (all_texts t.edges) (all_made zero t.edges) form (base t.edges e) x)
+  command_right form command outputs files some apart flags newest stamp own =
+      let found = command_found t e x at command in
+      record {
+        named = inputs_right t sound e x at x.named (sound.named e x at) (λ f m. m);
+        order_only = sources_right t (all_made zero t.edges) x.named x.order_only (sound.order_only e x at);
+        outputs = outputs;
+        files = ap outputs_in (image_edge t e x at) ∙ sym files;
+        some = some;
+        apart = apart;
+        changed = flags;
+        flags = have_flags (inputs_by (all_made zero t.edges) x.named);
+        newest = (newest, stamp);
+        own = own;
+        command = (number_inside (all_texts t.edges) x.edge.command found, λ not_blank none. unblank x.edge.command not_blank (sym (ap text_in found) ∙ none));
+        depfile = depfile_right (image_of t) x.edge.depfile (depfile_found t e x at command);
+        pool = ap (λ (o : Option Edge). is_outside (image_of t) (pool_in o)) (image_edge t e x at) ∙ pool_right t e x at;
+      }
+
+  flagged_some : (b c : ℕ) (fs : List ℕ) → (fs ≡ [] → ⊥) → outputs_flagged b c fs ≡ [] → ⊥
+  flagged_some b c [] some none = some refl
+  flagged_some b c (f ∷ fs) some none = absurd cc
+
+  apart_some : (b : ℕ) (fs : List ℕ) → (fs ≡ [] → ⊥) → outputs_apart b fs ≡ [] → ⊥
+  apart_some b [] some none = some refl
+  apart_some b (f ∷ fs) some none = absurd cc
+
+  share_first : (b c : ℕ) (fs : List ℕ) → HaveFlagSlots false (outputs_flagged b c fs)
+  share_first b c [] = tt
+  share_first b c (f ∷ fs) = flagged_share (suc b) c fs
+
+  kinds_are : (form : Form) → form_of x ≡ form → (i : ℕ) (k : Kind) → slice_get (own_kinds x) i ≡ Some k → slice_get (kinds_by form x.outputs) i ≡ Some k
+  kinds_are form is i k g = subst (λ (f : Form). slice_get (kinds_by f x.outputs) i ≡ Some k) is g
+
+  run_of : (form : Form) → form_of x ≡ form → Runs (image_of t) e (base t.edges e) (kinds_by form x.outputs)
+  run_of form is = subst (λ (f : Form). Runs (image_of t) e (base t.edges e) (kinds_by f x.outputs)) is (own_run t e x at)
+
+  one_flag_right : form_of x ≡ OneFlag → IsCommand (image_of t) e (command_wiring (all_texts t.edges) (all_made zero t.edges) OneFlag (base t.edges e) x)
+  one_flag_right is =
+      let p : Parts = image_of t in
+      let b : ℕ = base t.edges e in
+      let c : ℕ = past_stamps b x.outputs in
+      let run : Runs p e b (stamps x.outputs (Flag ∷ Stamp ∷ [])) = run_of OneFlag is in
+      let more : Runs p e c (Flag ∷ Stamp ∷ []) = past_stamps_run p e b x.outputs (Flag ∷ Stamp ∷ []) run in
+      let flag : Holds p e Flag c = first_run p e c Flag (Stamp ∷ []) more in
+      let newest : Holds p e Stamp (suc c) = first_run p e (suc c) Stamp [] (rest_run p e c Flag (Stamp ∷ []) more) in
+      let forms = one_flag_is x.edge.phony x.edge.restat none is in
+      let le : c ≤ suc c = omega arith in
+      command_right OneFlag forms.0 (flagged_own p e b c x.outputs (Flag ∷ Stamp ∷ []) run flag (sound.outputs e x at)) (files_flagged b c x.outputs)
+      (flagged_some b c x.outputs (sound.makes e x at)) (flagged_apart b c x.outputs)
+      (subst (λ (r : Bool). HaveFlagSlots r (outputs_flagged b c x.outputs)) (sym forms.1) (share_first b c x.outputs))
+      (own_of_held p e Stamp (suc c) newest) (flagged_past (suc c) b c x.outputs le)
+      (all_among t e x at (suc c ∷ slots_of (outputs_flagged b c x.outputs)) (λ i k g. one_flag_among b x.outputs (sound.makes e x at) i k (kinds_are OneFlag is i k g)))
+
+  own_flags_right : form_of x ≡ OwnFlags → IsCommand (image_of t) e (command_wiring (all_texts t.edges) (all_made zero t.edges) OwnFlags (base t.edges e) x)
+  own_flags_right is =
+      let p : Parts = image_of t in
+      let b : ℕ = base t.edges e in
+      let n : ℕ = past_pairs b x.outputs in
+      let run : Runs p e b (pairs x.outputs (Stamp ∷ [])) = run_of OwnFlags is in
+      let newest : Holds p e Stamp n = first_run p e n Stamp [] (past_pairs_run p e b x.outputs (Stamp ∷ []) run) in
+      let forms = own_flags_is x.edge.phony x.edge.restat none is in
+      let le : n ≤ n = omega arith in
+      command_right OwnFlags forms.0 (apart_own p e b x.outputs (Stamp ∷ []) run (sound.outputs e x at)) (files_apart b x.outputs)
+      (apart_some b x.outputs (sound.makes e x at)) (apart_apart b x.outputs)
+      (subst (λ (r : Bool). HaveFlagSlots r (outputs_apart b x.outputs)) (sym forms.1) (apart_flags b x.outputs))
+      (own_of_held p e Stamp n newest) (apart_past n b x.outputs le)
+      (all_among t e x at (n ∷ slots_of (outputs_apart b x.outputs)) (λ i k g. own_flags_among b x.outputs i k (kinds_are OwnFlags is i k g)))
+
+  gathers_right : form_of x ≡ Gathers → IsGather (image_of t) e (gather_wiring (all_made zero t.edges) (base t.edges e) x)
+  gathers_right is =
+      let p : Parts = image_of t in
+      let b : ℕ = base t.edges e in
+      let run : Runs p e b (Stamp ∷ Flag ∷ []) = run_of Gathers is in
+      record {
+        named = inputs_right t sound e x at x.named (sound.named e x at) (λ f m. m);
+        order_only = sources_right t (all_made zero t.edges) x.named x.order_only (sound.order_only e x at);
+        flags = have_flags (inputs_by (all_made zero t.edges) x.named);
+        share = sharing_share b (suc b) x.outputs;
+        stamp = own_of_held p e Stamp b (first_run p e b Stamp (Flag ∷ []) run);
+        changed = own_of_held p e Flag (suc b) (first_run p e (suc b) Flag [] (rest_run p e b Stamp (Flag ∷ []) run));
+        own = all_among t e x at (b ∷ suc b ∷ []) (λ i k g. gathers_among b i k (kinds_are Gathers is i k g));
+      }
+
+  alone_right : form_of x ≡ Alone → IsAlone (image_of t) e (outputs_apart (base t.edges e) x.outputs)
+  alone_right is =
+      let p : Parts = image_of t in
+      let b : ℕ = base t.edges e in
+      record {
+        outputs = apart_own p e b x.outputs [] (run_of Alone is) (sound.outputs e x at);
+        apart = apart_apart b x.outputs;
+        flags = apart_flags b x.outputs;
+        own = all_among t e x at (slots_of (outputs_apart b x.outputs)) (λ i k g. alone_among b x.outputs i k (kinds_are Alone is i k g));
+      }
+
+  wired_by : (form : Form) → form_of x ≡ form → IsWired (image_of t) e (wire_by form (all_texts t.edges) (all_made zero t.edges) (base t.edges e) x)
+  wired_by OneFlag is = one_flag_right is
+  wired_by OwnFlags is = own_flags_right is
+  wired_by Gathers is = gathers_right is
+  wired_by Alone is = alone_right is
+
+  pub wired : IsWired (image_of t) e (wire (all_texts t.edges) (all_made zero t.edges) (base t.edges e) x)
+  wired = wired_by (form_of x) refl

@@ -1,0 +1,57 @@
+-- The edges of a manifest, each with its files by their numbers.
+use Rattle.std.specs.Prelude.{ℕ, zero, suc, ◌+◌, Bool, true, false, not, ◌&&◌, List, [], ◌∷◌, length, map, take, drop, filter, get_or, if◌then◌else◌}
+use Rattle.plan_scope.specs.declared.manifest.Edge.{Edge as ManifestEdge}
+use Rattle.plan_scope.specs.declared.manifest.Pool.{Pool as ManifestPool}
+use Rattle.plan_scope.specs.declared.manifest.Manifest.{Manifest}
+use Rattle.plan_graph.specs.declared.graph_data.Graph.{Graph}
+use Rattle.plan_graph.specs.Files.{paths_in}
+use Rattle.plan_verify.specs.Members.{is_member}
+
+-- an edge: what its manifest says of it, the numbers of its files, the edges that it waits for, and its rank
+pub record Build : Type 0 where
+  pub edge : ManifestEdge
+  pub outputs : List ℕ
+  -- explicit and implicit inputs
+  pub named : List ℕ
+  pub order_only : List ℕ
+  pub waits : List ℕ
+  pub rank : ℕ
+
+-- a phony loses its own outputs from its inputs
+abbrev pub without_own : Bool → (outputs inputs : List ℕ) → List ℕ
+without_own true outputs inputs = filter (λ f. not (is_member f outputs)) inputs
+without_own false outputs inputs = inputs
+
+-- how many of an edge's inputs are explicit or implicit: they stand in front
+abbrev pub named_count : ManifestEdge → ℕ
+named_count e = length e.paths.inputs + length e.paths.implicit_inputs
+
+-- an edge with these rows of a graph
+abbrev pub build_of : ManifestEdge → (outputs inputs waits : List ℕ) → (rank : ℕ) → Build
+build_of e outputs inputs waits rank = record {
+  edge = e;
+  outputs = outputs;
+  named = without_own e.phony outputs (take (named_count e) inputs);
+  order_only = without_own e.phony outputs (drop (named_count e) inputs);
+  waits = waits;
+  rank = rank;
+}
+
+-- the edge of that number
+abbrev pub build_at : Graph → ℕ → ManifestEdge → Build
+build_at g n e = build_of e (get_or g.outputs n []) (get_or g.inputs n []) (get_or g.waits n []) (get_or g.ranks n 0)
+
+-- edges, the first of which has the number n
+abbrev pub builds_from : Graph → ℕ → List ManifestEdge → List Build
+builds_from g n [] = []
+builds_from g n (e ∷ es) = build_at g n e ∷ builds_from g (suc n) es
+
+-- what an image is made from
+pub record Builds : Type 0 where
+  pub files : List (List ℕ)
+  pub edges : List Build
+  pub pools : List ManifestPool
+  pub defaults : List ℕ
+
+abbrev pub builds : Manifest → Graph → Builds
+builds m g = record { files = paths_in g.files; edges = builds_from g 0 m.edges; pools = m.pools; defaults = g.defaults }

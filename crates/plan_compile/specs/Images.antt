@@ -1,0 +1,117 @@
+-- The image of a manifest.
+use Rattle.std.specs.Prelude.{ℕ, zero, suc, ◌+◌, Bool, true, false, not, List, [], ◌∷◌, ◌++◌, length, map, Option, Some, None, if◌then◌else◌, bytes_eq}
+use Rattle.plan_scope.specs.declared.manifest.Manifest.{Manifest}
+use Rattle.plan_graph.specs.declared.graph_data.Graph.{Graph}
+use Rattle.plan_image.specs.declared.instr.Instr.{Instr}
+use Rattle.plan_image.specs.declared.image.Sort.{Sort}
+use Rattle.plan_image.specs.declared.image.Sort.TheVariants.{Command, Phony}
+use Rattle.plan_image.specs.declared.image.EdgeCode.{EdgeCode}
+use Rattle.plan_image.specs.declared.image.EdgeCode.TheVariants.{Shared}
+use Rattle.plan_image.specs.declared.image.Edge.{Edge}
+use Rattle.plan_image.specs.declared.image.Parts.{Parts}
+use Rattle.plan_image.specs.Bodies.{body_of, operands_of}
+use Rattle.plan_compile.specs.declared.wiring.Output.{Output}
+use Rattle.plan_compile.specs.declared.wiring.CommandWiring.{CommandWiring}
+use Rattle.plan_compile.specs.declared.wiring.GatherWiring.{GatherWiring}
+use Rattle.plan_compile.specs.declared.wiring.Wiring.{Wiring}
+use Rattle.plan_compile.specs.declared.wiring.Wiring.TheVariants as wiring
+use Rattle.plan_compile.specs.declared.form.Form.{Form}
+use Rattle.plan_compile.specs.declared.form.Form.TheVariants.{OneFlag, OwnFlags, Gathers, Alone}
+use Rattle.plan_compile.specs.Emit.{code_of}
+use Rattle.plan_compile.specs.Builds.{Build, Builds, builds}
+use Rattle.plan_compile.specs.Slots.{form_of, outputs_by, made, newest_by, all_made, inputs_by, sources, flags_once, own_len, slots_from}
+use Rattle.plan_compile.specs.Numbering.{number, once}
+use Rattle.plan_compile.specs.BodyKeys.{Body, same_body}
+use Rattle.plan_compile.specs.Names.{Text, text_number, label_of, all_texts, depfile_number, pool_in, used_pools, pool_number, declared}
+
+-- ---- an edge by its numbers, its own slots being those from b on
+
+abbrev pub is_blank : Text → Bool
+is_blank [] = true
+is_blank (c ∷ cs) = false
+
+abbrev pub command_wiring : List Text → List Output → Form → ℕ → Build → CommandWiring
+command_wiring texts outputs form b x = record {
+  named = inputs_by outputs x.named;
+  order_only = sources outputs x.named x.order_only;
+  outputs = outputs_by form b x.outputs;
+  flags = flags_once (inputs_by outputs x.named);
+  newest = newest_by form b x.outputs;
+  command = text_number texts x.edge.command;
+  blank = is_blank x.edge.command;
+  depfile = depfile_number texts x.edge.depfile;
+  restat = x.edge.restat;
+  generator = x.edge.generator;
+}
+
+abbrev pub gather_wiring : List Output → ℕ → Build → GatherWiring
+gather_wiring outputs b x = record {
+  named = inputs_by outputs x.named;
+  order_only = sources outputs x.named x.order_only;
+  outputs = outputs_by Gathers b x.outputs;
+  flags = flags_once (inputs_by outputs x.named);
+  stamp = b;
+  changed = suc b;
+}
+
+abbrev pub wire_by : Form → List Text → List Output → ℕ → Build → Wiring
+wire_by Gathers texts outputs b x = wiring.Gather (gather_wiring outputs b x)
+wire_by Alone texts outputs b x = wiring.Alone (outputs_by Alone b x.outputs)
+wire_by form texts outputs b x = wiring.Command (command_wiring texts outputs form b x)
+
+abbrev pub wire : List Text → List Output → ℕ → Build → Wiring
+wire texts outputs b x = wire_by (form_of x) texts outputs b x
+
+-- the code of each of these edges, the own slots of the first being those from b on
+abbrev pub codes_from : List Text → List Output → ℕ → List Build → List (List Instr)
+codes_from texts outputs b [] = []
+codes_from texts outputs b (x ∷ xs) = code_of (wire texts outputs b x) ∷ codes_from texts outputs (b + own_len x) xs
+
+abbrev pub codes : List Build → List (List Instr)
+codes xs = codes_from (all_texts xs) (all_made zero xs) zero xs
+
+-- ---- bodies that edges share
+
+-- each body once, in the order of first use
+abbrev pub used_bodies : List (List Instr) → List Body
+used_bodies all = once same_body (map body_of all)
+
+abbrev pub shared : List Body → List Instr → EdgeCode
+shared bodies is = Shared (number same_body (body_of is) bodies) (operands_of is)
+
+-- ---- the image
+
+abbrev pub sort_of : (phony : Bool) → Sort
+sort_of true = Phony
+sort_of false = Command
+
+abbrev pub edge_of : (texts pools : List Text) → List Body → List Instr → Build → Edge
+edge_of texts pools bodies is x = record {
+  sort = sort_of x.edge.phony;
+  pool = pool_number pools (pool_in x);
+  rank = x.rank;
+  label = text_number texts (label_of x);
+  outputs = x.outputs;
+  waits = x.waits;
+  code = shared bodies is;
+}
+
+-- edges with their codes
+abbrev pub edges_of : (texts pools : List Text) → List Body → List (List Instr) → List Build → List Edge
+edges_of texts pools bodies (is ∷ others) (x ∷ xs) = edge_of texts pools bodies is x ∷ edges_of texts pools bodies others xs
+edges_of texts pools bodies _ _ = []
+
+abbrev pub image_of : Builds → Parts
+image_of t = record {
+  texts = all_texts t.edges;
+  files = t.files;
+  pools = map (declared t.pools) (used_pools t.edges);
+  slots = slots_from zero t.edges;
+  bodies = Some (used_bodies (codes t.edges));
+  edges = edges_of (all_texts t.edges) (used_pools t.edges) (used_bodies (codes t.edges)) (codes t.edges) t.edges;
+  defaults = t.defaults;
+}
+
+-- the image of a manifest with its graph
+abbrev pub compiled : Manifest → Graph → Parts
+compiled m g = image_of (builds m g)

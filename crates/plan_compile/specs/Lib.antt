@@ -1,0 +1,12 @@
+pub mod Talk
+pub mod Rule
+pub mod Emit
+pub mod Means
+pub mod Laws
+pub mod Builds
+pub mod Slots
+pub mod Numbering
+pub mod BodyKeys
+pub mod Names
+pub mod Images
+pub mod Faithful

@@ -1,0 +1,147 @@
+-- The slots of each edge, and where the stamp of each input comes from.
+use Rattle.std.specs.Prelude.{ℕ, zero, suc, ◌+◌, Bool, true, false, not, ◌||◌, ◌&&◌, ◌==◌, List, [], ◌∷◌, ◌++◌, length, Option, Some, None, is_some, if◌then◌else◌}
+use Rattle.plan_image.specs.declared.instr.Kind.{Kind}
+use Rattle.plan_image.specs.declared.instr.Kind.TheVariants.{Stamp, Flag}
+use Rattle.plan_image.specs.declared.image.Slot.{Slot}
+use Rattle.plan_verify.specs.Members.{is_member}
+use Rattle.plan_compile.specs.declared.wiring.Input.{Input}
+use Rattle.plan_compile.specs.declared.wiring.Input.TheVariants.{File, Made}
+use Rattle.plan_compile.specs.declared.wiring.Output.{Output}
+use Rattle.plan_compile.specs.declared.form.Form.{Form}
+use Rattle.plan_compile.specs.declared.form.Form.TheVariants.{OneFlag, OwnFlags, Gathers, Alone}
+use Rattle.plan_compile.specs.Builds.{Build}
+
+-- ---- the form of an edge
+
+abbrev pub has_none : List ℕ → Bool
+has_none [] = true
+has_none (f ∷ fs) = false
+
+abbrev pub form_by : (phony restat none : Bool) → Form
+form_by true restat true = Alone
+form_by true restat false = Gathers
+form_by false true none = OwnFlags
+form_by false false none = OneFlag
+
+-- the outputs of an edge without restat change together; a phony with inputs is as they are
+abbrev pub form_of : Build → Form
+form_of x = form_by x.edge.phony x.edge.restat (has_none x.named && has_none x.order_only)
+
+-- ---- the slots of an edge: one run of numbers
+
+abbrev pub stamps : List ℕ → List Kind → List Kind
+stamps [] rest = rest
+stamps (f ∷ fs) rest = Stamp ∷ stamps fs rest
+
+abbrev pub pairs : List ℕ → List Kind → List Kind
+pairs [] rest = rest
+pairs (f ∷ fs) rest = Stamp ∷ Flag ∷ pairs fs rest
+
+-- those of the outputs, and for an edge with a command one for the newest input's stamp
+abbrev pub kinds_by : Form → List ℕ → List Kind
+kinds_by OneFlag outputs = stamps outputs (Flag ∷ Stamp ∷ [])
+kinds_by OwnFlags outputs = pairs outputs (Stamp ∷ [])
+kinds_by Gathers outputs = Stamp ∷ Flag ∷ []
+kinds_by Alone outputs = pairs outputs []
+
+abbrev pub own_kinds : Build → List Kind
+own_kinds x = kinds_by (form_of x) x.outputs
+
+abbrev pub own_len : Build → ℕ
+own_len x = length (own_kinds x)
+
+-- ---- outputs with their slots
+
+-- the slot behind one for each of these, from the slot b on
+abbrev pub past_stamps : ℕ → List ℕ → ℕ
+past_stamps b [] = b
+past_stamps b (f ∷ fs) = past_stamps (suc b) fs
+
+abbrev pub past_pairs : ℕ → List ℕ → ℕ
+past_pairs b [] = b
+past_pairs b (f ∷ fs) = past_pairs (suc (suc b)) fs
+
+-- with a stamp slot each, and this flag slot
+abbrev pub outputs_flagged : (b changed : ℕ) → List ℕ → List Output
+outputs_flagged b changed [] = []
+outputs_flagged b changed (f ∷ fs) = record { file = f; stamp = b; changed = changed } ∷ outputs_flagged (suc b) changed fs
+
+-- with two slots each
+abbrev pub outputs_apart : (b : ℕ) → List ℕ → List Output
+outputs_apart b [] = []
+outputs_apart b (f ∷ fs) = record { file = f; stamp = b; changed = suc b } ∷ outputs_apart (suc (suc b)) fs
+
+-- with these two slots for all
+abbrev pub outputs_sharing : (stamp changed : ℕ) → List ℕ → List Output
+outputs_sharing stamp changed [] = []
+outputs_sharing stamp changed (f ∷ fs) = record { file = f; stamp = stamp; changed = changed } ∷ outputs_sharing stamp changed fs
+
+abbrev pub outputs_by : Form → ℕ → List ℕ → List Output
+outputs_by OneFlag b outputs = outputs_flagged b (past_stamps b outputs) outputs
+outputs_by OwnFlags b outputs = outputs_apart b outputs
+outputs_by Gathers b outputs = outputs_sharing b (suc b) outputs
+outputs_by Alone b outputs = outputs_apart b outputs
+
+-- an edge's outputs, its own slots being those from b on
+abbrev pub made : ℕ → Build → List Output
+made b x = outputs_by (form_of x) b x.outputs
+
+-- the slot for the newest input's stamp
+abbrev pub newest_by : Form → ℕ → List ℕ → ℕ
+newest_by OneFlag b outputs = suc (past_stamps b outputs)
+newest_by _ b outputs = past_pairs b outputs
+
+-- ---- all edges
+
+abbrev pub owned : ℕ → List Kind → List Slot
+owned e [] = []
+owned e (k ∷ ks) = record { owner = e; kind = k } ∷ owned e ks
+
+-- the slots of these edges, the first of which has the number e
+abbrev pub slots_from : ℕ → List Build → List Slot
+slots_from e [] = []
+slots_from e (x ∷ xs) = owned e (own_kinds x) ++ slots_from (suc e) xs
+
+-- the first own slot of the edge of this number
+abbrev pub base : List Build → ℕ → ℕ
+base [] e = zero
+base (x ∷ xs) zero = zero
+base (x ∷ xs) (suc e) = own_len x + base xs e
+
+-- the outputs of these edges, whose slots are those from b on
+abbrev pub all_made : ℕ → List Build → List Output
+all_made b [] = []
+all_made b (x ∷ xs) = made b x ++ all_made (b + own_len x) xs
+
+-- the output that is this file
+abbrev pub find : ℕ → List Output → Option Output
+find f [] = None
+find f (o ∷ os) = if o.file == f then Some o else find f os
+
+-- ---- inputs
+
+abbrev pub input_by : ℕ → Option Output → Input
+input_by f (Some o) = Made o.stamp o.changed
+input_by f None = File f
+
+-- what an edge makes has its maker's slots; any other file is asked for
+abbrev pub inputs_by : List Output → List ℕ → List Input
+inputs_by outputs [] = []
+inputs_by outputs (f ∷ fs) = input_by f (find f outputs) ∷ inputs_by outputs fs
+
+-- the order-only sources that aren't named too
+abbrev pub sources : List Output → (named : List ℕ) → List ℕ → List ℕ
+sources outputs named [] = []
+sources outputs named (f ∷ fs) = if is_some (find f outputs) || is_member f named then sources outputs named fs else f ∷ sources outputs named fs
+
+abbrev pub with_flag : List ℕ → Input → List ℕ
+with_flag flags (File f) = flags
+with_flag flags (Made stamp changed) = if is_member changed flags then flags else flags ++ changed ∷ []
+
+-- the flag slots of these inputs, each once, in the order in which they first stand, behind some
+abbrev pub flags_from : List ℕ → List Input → List ℕ
+flags_from flags [] = flags
+flags_from flags (i ∷ is) = flags_from (with_flag flags i) is
+
+abbrev pub flags_once : List Input → List ℕ
+flags_once inputs = flags_from [] inputs
