@@ -5,3 +5,7 @@ pub mod BodyKeyLemmas
 pub mod EdgeLemmas
 pub mod OutputLemmas
 pub mod WiringLemmas
+pub mod TableLemmas
+pub mod ToldLemmas
+pub mod LawLemmas
+pub mod OnceLemmas

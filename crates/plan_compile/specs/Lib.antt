@@ -10,3 +10,4 @@ pub mod BodyKeys
 pub mod Names
 pub mod Images
 pub mod Faithful
+pub mod Told

@@ -1,0 +1,54 @@
+-- What the rule is told of an edge of a manifest, and what is promised of the edge's code.
+use Rattle.std.specs.Prelude.{◌≡◌, ℕ, zero, Bool, true, false, List, map, Option, Some, None, slice_get, if◌then◌else◌}
+use Rattle.plan_verify.specs.Turn.{Slots, Meaning}
+use Rattle.plan_verify.specs.Alone.{at_begin}
+use Rattle.plan_verify.specs.Sound.{AreTyped, AreLentSet}
+use Rattle.plan_verify.specs.WellShaped.{IsWellShaped}
+use Rattle.plan_compile.specs.declared.wiring.Output.{Output}
+use Rattle.plan_compile.specs.Talk.{Talk, Obeys}
+use Rattle.plan_compile.specs.Rule.{Path, Given, Source, Command, does, does_phony}
+use Rattle.plan_compile.specs.Rule.{Made as MadeBy}
+use Rattle.plan_compile.specs.Means.{text_in, stamp_at, flag_at, Leaves}
+use Rattle.plan_compile.specs.Builds.{Build, Builds}
+use Rattle.plan_compile.specs.Slots.{base, made, all_made, find}
+use Rattle.plan_compile.specs.Images.{image_of}
+use Rattle.plan_compile.specs.Faithful.{IsEdge, IsSound}
+
+-- the path of a file
+abbrev pub path_in : Builds → ℕ → Path
+path_in t f = text_in (slice_get t.files f)
+
+abbrev pub told_by : Builds → Slots → ℕ → Option Output → Given
+told_by t slots f (Some o) = MadeBy (stamp_at slots o.stamp) (flag_at slots o.changed)
+told_by t slots f None = Source f (path_in t f)
+
+-- of an input: the stamp and the flag that its maker left, or the source's number and path
+abbrev pub told : Builds → Slots → ℕ → Given
+told t slots f = told_by t slots f (find f (all_made zero t.edges))
+
+-- of an edge: its inputs, and what the manifest says of it
+abbrev pub facts : Builds → Slots → Build → Command
+facts t slots x = record {
+  named = map (told t slots) x.named;
+  order_only = map (told t slots) x.order_only;
+  outputs = map (path_in t) x.outputs;
+  command = x.edge.command;
+  depfile = x.edge.depfile;
+  restat = x.edge.restat;
+  generator = x.edge.generator;
+}
+
+abbrev pub edge_does : (phony : Bool) → Meaning → Command → Talk
+edge_does true meaning c = does_phony c
+edge_does false meaning c = does meaning c
+
+-- Each edge, run alone with what its waits left, keeps to the rule, and leaves in its slots what the rule says.
+abbrev pub ImageMeans : Type 0
+ImageMeans =
+    (t : Builds) → IsSound t → (e : ℕ) (x : Build) → IsEdge t e x
+    → (meaning : Meaning) (slots : Slots) → AreTyped (image_of t) slots → AreLentSet (image_of t) e slots
+    → Obeys meaning (image_of t) e (Leaves (made (base t.edges e) x)) (at_begin slots) (edge_does x.edge.phony meaning (facts t slots x))
+
+-- the verifier accepts the image
+abbrev pub ImageIsShaped : Type 0
+ImageIsShaped = (t : Builds) → IsSound t → IsWellShaped (image_of t)
