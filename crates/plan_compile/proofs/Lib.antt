@@ -9,3 +9,5 @@ pub mod TableLemmas
 pub mod ToldLemmas
 pub mod LawLemmas
 pub mod OnceLemmas
+pub mod MemberLemmas
+pub mod SoundLemmas

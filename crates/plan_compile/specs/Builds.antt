@@ -1,5 +1,5 @@
 -- The edges of a manifest, each with its files by their numbers.
-use Rattle.std.specs.Prelude.{ℕ, zero, suc, ◌+◌, Bool, true, false, not, ◌&&◌, List, [], ◌∷◌, length, map, take, drop, filter, get_or, if◌then◌else◌}
+use Rattle.std.specs.Prelude.{ℕ, zero, suc, ◌+◌, Bool, true, false, not, ◌&&◌, List, [], ◌∷◌, length, map, take, drop, filter, get_or, slice_index, if◌then◌else◌}
 use Rattle.plan_scope.specs.declared.manifest.Edge.{Edge as ManifestEdge}
 use Rattle.plan_scope.specs.declared.manifest.Pool.{Pool as ManifestPool}
 use Rattle.plan_scope.specs.declared.manifest.Manifest.{Manifest}
@@ -39,7 +39,7 @@ build_of e outputs inputs waits rank = record {
 
 -- the edge of that number
 abbrev pub build_at : Graph → ℕ → ManifestEdge → Build
-build_at g n e = build_of e (get_or g.outputs n []) (get_or g.inputs n []) (get_or g.waits n []) (get_or g.ranks n 0)
+build_at g n e = build_of e (get_or g.outputs n []) (get_or g.inputs n []) (get_or g.waits n []) (slice_index g.ranks n)
 
 -- edges, the first of which has the number n
 abbrev pub builds_from : Graph → ℕ → List ManifestEdge → List Build

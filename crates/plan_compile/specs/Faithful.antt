@@ -1,12 +1,16 @@
 -- What the image of a manifest says, and what is asked of the manifest.
 use Rattle.std.specs.Prelude.{◌≡◌, ℕ, zero, ◌<◌, true, false, List, [], ◌∷◌, length, map, Option, Some, None, All, nat_lt, nat_le, slice_get}
 use Rattle.std.specs.List.{list_any}
+use Rattle.plan_scope.specs.declared.manifest.Manifest.{Manifest}
+use Rattle.plan_scope.specs.Sound.{IsSound as IsSoundManifest}
+use Rattle.plan_graph.specs.declared.graph_data.Graph.{Graph}
+use Rattle.plan_graph.specs.Graph.{IsGraph}
 use Rattle.plan_image.specs.declared.image.Edge.{Edge}
 use Rattle.plan_image.specs.declared.image.Pool.{Pool}
 use Rattle.plan_image.specs.declared.image.Parts.{Parts}
 use Rattle.plan_verify.specs.Members.{is_member}
 use Rattle.plan_compile.specs.declared.wiring.Output.{Output}
-use Rattle.plan_compile.specs.Builds.{Build, Builds}
+use Rattle.plan_compile.specs.Builds.{Build, Builds, builds}
 use Rattle.plan_compile.specs.Slots.{base, made, all_made, find}
 use Rattle.plan_compile.specs.Names.{label_of, pool_in, used_pools, declared}
 use Rattle.plan_compile.specs.Images.{sort_of, image_of}
@@ -63,3 +67,7 @@ abbrev pub OneAssignment : Type 0
 OneAssignment =
     (t : Builds) → IsSound t → (e : ℕ) (x : Build) (i : ℕ) (o : Output) → IsEdge t e x → slice_get (made (base t.edges e) x) i ≡ Some o
     → find o.file (all_made zero t.edges) ≡ Some o
+
+-- a manifest that has a graph is sound
+abbrev pub ManifestsAreSound : Type 0
+ManifestsAreSound = (m : Manifest) (g : Graph) → IsSoundManifest m → IsGraph m g → IsSound (builds m g)
