@@ -1,0 +1,219 @@
+-- The code of an edge, from one fragment for each part of the rule. What follows a fragment is its last argument where a
+-- jump leads past it.
+use Rattle.std.specs.Prelude.{ℕ, ◌+◌, Bool, true, false, not, ◌||◌, List, [], ◌∷◌, ◌++◌, length, Option, Some, None}
+use Rattle.plan_image.specs.declared.instr.Instr.{Instr}
+use Rattle.plan_image.specs.declared.instr.Instr.TheVariants as op
+use Rattle.plan_compile.specs.declared.wiring.Input.{Input}
+use Rattle.plan_compile.specs.declared.wiring.Input.TheVariants.{File, Made}
+use Rattle.plan_compile.specs.declared.wiring.Output.{Output}
+use Rattle.plan_compile.specs.declared.wiring.CommandWiring.{CommandWiring}
+use Rattle.plan_compile.specs.declared.wiring.GatherWiring.{GatherWiring}
+use Rattle.plan_compile.specs.declared.wiring.Wiring.{Wiring}
+use Rattle.plan_compile.specs.declared.wiring.Wiring.TheVariants.{Command, Gather, Alone}
+
+-- ---- inputs
+
+-- order-only sources have to be there, and no more
+abbrev pub order_code : List ℕ → List Instr
+order_code [] = []
+order_code (f ∷ fs) = op.Need f ∷ op.Drop ∷ order_code fs
+
+-- a source is asked for, what an edge makes has its stamp in a slot
+abbrev pub input_code : Input → Instr
+input_code (File f) = op.Need f
+input_code (Made stamp changed) = op.Load stamp
+
+-- the greatest of the stamp on the stack and the inputs' stamps
+abbrev pub newer_code : List Input → List Instr
+newer_code [] = []
+newer_code (i ∷ is) = input_code i ∷ op.Newer ∷ newer_code is
+
+-- the greatest stamp of the inputs
+abbrev pub newest_code : List Input → List Instr
+newest_code [] = op.Zero ∷ []
+newest_code (i ∷ is) = input_code i ∷ newer_code is
+
+-- whether the flag on the stack is set, or one of these
+abbrev pub or_code : List ℕ → List Instr
+or_code [] = []
+or_code (s ∷ ss) = op.Load s ∷ op.Or ∷ or_code ss
+
+-- whether one of these flags is set
+abbrev pub any_code : List ℕ → List Instr
+any_code [] = op.Flag false ∷ []
+any_code (s ∷ ss) = op.Load s ∷ or_code ss
+
+abbrev pub is_source : Input → Bool
+is_source (File f) = true
+is_source (Made stamp changed) = false
+
+abbrev pub has_source : List Input → Bool
+has_source [] = false
+has_source (i ∷ is) = is_source i || has_source is
+
+-- ---- outputs
+
+-- the stamps of the outputs' files, each in its slot
+abbrev pub stat_code : List Output → List Instr
+stat_code [] = []
+stat_code (o ∷ os) = op.Stat o.file ∷ op.Store o.stamp ∷ stat_code os
+
+-- the least of the stamp on the stack and the outputs' stamps
+abbrev pub older_code : List Output → List Instr
+older_code [] = []
+older_code (o ∷ os) = op.Load o.stamp ∷ op.Older ∷ older_code os
+
+-- the least stamp of the outputs
+abbrev pub oldest_code : List Output → List Instr
+oldest_code [] = op.Zero ∷ []
+oldest_code (o ∷ os) = op.Load o.stamp ∷ older_code os
+
+-- a flag for each of these outputs
+abbrev pub flag_code : Bool → List Output → List Instr
+flag_code b [] = []
+flag_code b (o ∷ os) = op.Flag b ∷ op.Store o.changed ∷ flag_code b os
+
+-- the outputs whose flag slots are set: the outputs of an edge that isn't restat share one
+abbrev pub holders : (restat : Bool) → List Output → List Output
+holders true os = os
+holders false [] = []
+holders false (o ∷ os) = o ∷ []
+
+-- the new stamps, and whether they differ from the old ones
+abbrev pub restat_code : List Output → List Instr
+restat_code [] = []
+restat_code (o ∷ os) =
+    op.Load o.stamp ∷ op.Stat o.file ∷ op.Store o.stamp ∷ op.Load o.stamp ∷ op.Same ∷ op.Not ∷ op.Store o.changed ∷ restat_code os
+
+-- the outputs after the command
+abbrev pub after_code : (restat : Bool) → List Output → List Instr → List Instr
+after_code true os rest = restat_code os ++ rest
+after_code false os rest = stat_code os ++ (flag_code true (holders false os) ++ rest)
+
+-- ---- a command edge up to its recorded entry
+
+-- Whether an output is missing or an input changed. The least stamp tells whether one is missing. It isn't looked at
+-- where the mark is the oldest output and a source is named: that source is newer than a missing output.
+abbrev pub alarm_code : (looks : Bool) → List Output → (flags : List ℕ) → List Instr
+alarm_code true os flags = oldest_code os ++ (op.IsMissing ∷ or_code flags)
+alarm_code false os flags = any_code flags
+
+-- What the sweep goes on from, where the edge isn't restat: the oldest output's stamp as the mark, the newest input's
+-- stamp, and the alarm.
+abbrev pub weighed_code : (restat : Bool) → CommandWiring → List Instr → List Instr
+weighed_code true w rest = rest
+weighed_code false w rest =
+    oldest_code w.outputs ++ (op.Load w.newest ∷ (alarm_code (not (has_source w.named)) w.outputs w.flags ++ rest))
+
+-- the questions up to the entry
+abbrev pub front : CommandWiring → List Instr → List Instr
+front w rest =
+    order_code w.order_only ++ (newest_code w.named ++ (op.Store w.newest ∷ (stat_code w.outputs ++ weighed_code w.restat w (op.Recall ∷ rest))))
+
+-- ---- a command edge from its recorded entry on
+
+-- Whether the recorded command is that text, from it and whether there is an entry. No entry gives the empty text,
+-- which no other command is.
+abbrev pub same_code : (blank : Bool) → ℕ → List Instr
+same_code true t = op.Not ∷ op.Swap ∷ op.Text t ∷ op.Equal ∷ op.Not ∷ op.Or ∷ op.Not ∷ []
+same_code false t = op.Drop ∷ op.Text t ∷ op.Equal ∷ []
+
+-- Makes ready for the sweep: the mark, the newest input's stamp, the alarm and the paths. The mark of a restat edge
+-- stands over the paths; the basis that another edge has there is dropped.
+abbrev pub ready_code : (restat : Bool) → CommandWiring → List Instr → List Instr
+ready_code true w rest = op.Swap ∷ op.Load w.newest ∷ op.Swap ∷ (alarm_code true w.outputs w.flags ++ (op.Swap ∷ rest))
+ready_code false w rest = op.Drop ∷ rest
+
+abbrev pub ready_len : CommandWiring → ℕ
+ready_len w = length (ready_code w.restat w [])
+
+-- the same where the edge is known to be dirty, with any stamp and any flag
+abbrev pub skip_code : (restat : Bool) → List Instr → List Instr
+skip_code true rest = op.Swap ∷ op.Zero ∷ op.Swap ∷ op.Flag false ∷ op.Swap ∷ rest
+skip_code false rest = op.Drop ∷ rest
+
+-- the depfile's paths, swept
+abbrev pub deps_code : Option ℕ → List Instr
+deps_code (Some t) = op.Flag false ∷ op.Text t ∷ op.Deps ∷ op.Sweep ∷ op.Swap ∷ op.Drop ∷ []
+deps_code None = op.NoPaths ∷ []
+
+-- from the place of the pool on
+abbrev pub run_code : CommandWiring → List Instr
+run_code w =
+    op.Take ∷ op.Text w.command ∷ op.Run ∷ op.Release ∷ op.Text w.command ∷ op.Load w.newest
+    ∷ (deps_code w.depfile ++ (op.Keep ∷ after_code w.restat w.outputs (op.End ∷ [])))
+
+-- the same from two values on
+abbrev pub dirty_code : CommandWiring → List Instr
+dirty_code w = op.Drop ∷ op.Drop ∷ run_code w
+
+-- the flags of a clean edge
+abbrev pub clean_code : CommandWiring → List Instr
+clean_code w = flag_code false (holders w.restat w.outputs)
+
+abbrev pub clean_len : CommandWiring → ℕ
+clean_len w = length (clean_code w)
+
+-- From the place at on: sweeps, compares, and ends where the edge is clean.
+abbrev pub judge_code : CommandWiring → (at : ℕ) → List Instr
+judge_code w at =
+    op.Sweep ∷ op.Drop ∷ op.JumpIf (at + 6 + clean_len w) ∷ op.Before ∷ op.JumpIf (at + 8 + clean_len w)
+    ∷ (clean_code w ++ (op.End ∷ dirty_code w))
+
+-- the same once it is known that the command is the recorded one
+abbrev pub judged_code : CommandWiring → (at : ℕ) → List Instr
+judged_code w at = ready_code w.restat w (judge_code w (at + ready_len w))
+
+-- where the dirty code stands then
+abbrev pub dirty_place : CommandWiring → (at : ℕ) → ℕ
+dirty_place w at = at + ready_len w + 6 + clean_len w
+
+-- where the recorded command is another, the paths are swept all the same
+abbrev pub other_code : CommandWiring → (dirty : ℕ) → List Instr → List Instr
+other_code w dirty rest = skip_code w.restat (op.Sweep ∷ op.Drop ∷ op.Drop ∷ op.Jump dirty ∷ rest)
+
+-- where the judging stands behind the comparison
+abbrev pub same_place : CommandWiring → (at : ℕ) → ℕ
+same_place w at = at + length (same_code w.blank w.command) + 1 + length (other_code w 0 [])
+
+abbrev pub compare_code : CommandWiring → (at : ℕ) → List Instr
+compare_code w at =
+    same_code w.blank w.command
+    ++ (op.JumpIf (same_place w at) ∷ other_code w (dirty_place w (same_place w at)) (judged_code w (same_place w at)))
+
+-- where the mark of a restat generator with an entry is known
+abbrev pub known_place : CommandWiring → (at : ℕ) → ℕ
+known_place w at = at + 4 + length (oldest_code w.outputs)
+
+-- a generator looks at no command; without an entry the mark is the oldest output
+abbrev pub pass_code : (restat : Bool) → CommandWiring → (at : ℕ) → List Instr
+pass_code true w at =
+    op.JumpIf (known_place w at) ∷ op.Drop ∷ op.Drop
+    ∷ (oldest_code w.outputs ++ (op.Jump (known_place w at + 1) ∷ op.Drop ∷ judged_code w (known_place w at + 1)))
+pass_code false w at = op.Drop ∷ op.Drop ∷ judged_code w (at + 2)
+
+abbrev pub recalled_code : (generator : Bool) → CommandWiring → (at : ℕ) → List Instr
+recalled_code true w at = pass_code w.restat w at
+recalled_code false w at = compare_code w at
+
+abbrev pub command_code : CommandWiring → List Instr
+command_code w = front w (recalled_code w.generator w (length (front w [])))
+
+-- ---- phonies
+
+-- without inputs each output is as its file is
+abbrev pub alone_code : List Output → List Instr
+alone_code [] = op.End ∷ []
+alone_code (o ∷ os) = op.Stat o.file ∷ op.Store o.stamp ∷ op.Load o.stamp ∷ op.IsMissing ∷ op.Store o.changed ∷ alone_code os
+
+-- with inputs all outputs are as the named ones are
+abbrev pub gather_code : GatherWiring → List Instr
+gather_code g =
+    order_code g.order_only ++ (newest_code g.named ++ (op.Store g.stamp ∷ (any_code g.flags ++ (op.Store g.changed ∷ op.End ∷ []))))
+
+-- ---- any edge
+
+abbrev pub code_of : Wiring → List Instr
+code_of (Command w) = command_code w
+code_of (Gather g) = gather_code g
+code_of (Alone outputs) = alone_code outputs

@@ -1,0 +1,5 @@
+pub mod Talk
+pub mod Rule
+pub mod Emit
+pub mod Means
+pub mod Laws

@@ -1,0 +1,196 @@
+-- When an edge is out of date, and what it does: by what comes in, what it asks, and what it leaves.
+use Rattle.std.specs.Prelude.{◌≡◌, ℕ, zero, suc, Bool, true, false, not, ◌||◌, ◌&&◌, Result, Ok, Err, List, [], ◌∷◌, ◌++◌, map, Option, Some, None, nat_lt, ◌==◌, if◌then◌else◌}
+use Rattle.plan_verify.specs.declared.value.Cause.{Cause}
+use Rattle.plan_verify.specs.declared.value.Cause.TheVariants.{MissingInput, StatFault, DepfileFault, DepfileMalformed, RecordFault}
+use Rattle.plan_verify.specs.declared.value.Cause.TheVariants as cause
+use Rattle.plan_verify.specs.Turn.{Request, Stat, Recall, Run, Deps, Keep, Reply, StampIs, Entry, Nothing, Exit, Signal, NotStarted, Bytes, Kept, Fault, Meaning, earlier, later, same_text}
+use Rattle.plan_compile.specs.Talk.{Left, Talk, Ask, Over, Fail}
+
+abbrev pub Path : Type 0
+Path = List ℕ
+
+-- an input: a source with its number and path, or what an edge makes, with that edge's stamp and changed flag
+pub data Given : Type 0 where
+  Source : (file : ℕ) (path : Path) → Given
+  Made : (stamp : ℕ) (changed : Bool) → Given
+
+pub record Command : Type 0 where
+  pub named : List Given
+  pub order_only : List Given
+  pub outputs : List Path
+  pub command : List ℕ
+  pub depfile : List ℕ
+  pub restat : Bool
+  pub generator : Bool
+
+-- what the record has of an edge
+pub record Recorded : Type 0 where
+  pub command : List ℕ
+  pub basis : ℕ
+  pub paths : List Path
+
+-- ---- questions
+
+-- a file that has to be there
+abbrev pub needed : ℕ → (ℕ → Talk) → Reply → Talk
+needed f go (StampIs zero) = Fail (MissingInput f)
+needed f go (StampIs (suc n)) = go (suc n)
+needed f go _ = Fail StatFault
+
+abbrev pub stamped : (ℕ → Talk) → Reply → Talk
+stamped go (StampIs n) = go n
+stamped go _ = Fail StatFault
+
+abbrev pub recalled : (Option Recorded → Talk) → Reply → Talk
+recalled go (Entry command basis paths) = go (Some (record { command = command; basis = basis; paths = paths }))
+recalled go Nothing = go None
+recalled go _ = Fail RecordFault
+
+abbrev pub exited : Talk → Reply → Talk
+exited go (Exit zero) = go
+exited go (Exit (suc n)) = Fail (cause.Exit (suc n))
+exited go Signal = Fail cause.Signal
+exited go _ = Fail cause.NotStarted
+
+abbrev pub told_paths : (List Path → Talk) → Result (List Path) (ℕ × ℕ) → Talk
+told_paths go (Ok paths) = go paths
+told_paths go (Err fault) = Fail (DepfileMalformed fault.0 fault.1)
+
+abbrev pub read : Meaning → (List Path → Talk) → Reply → Talk
+read meaning go (Bytes bytes) = told_paths go (meaning bytes)
+read meaning go Nothing = go []
+read meaning go _ = Fail DepfileFault
+
+abbrev pub kept : Talk → Reply → Talk
+kept go Kept = go
+kept go _ = Fail RecordFault
+
+-- the stamps of inputs: a source has to be there, what an edge makes isn't asked for
+abbrev pub inputs : List Given → (List ℕ → Talk) → Talk
+inputs [] go = go []
+inputs (Source f path ∷ others) go = Ask (Stat path) (needed f (λ t. inputs others (λ ts. go (t ∷ ts))))
+inputs (Made t changed ∷ others) go = inputs others (λ ts. go (t ∷ ts))
+
+-- the stamps of files, 0 where one is missing
+abbrev pub stamps : List Path → (List ℕ → Talk) → Talk
+stamps [] go = go []
+stamps (path ∷ others) go = Ask (Stat path) (stamped (λ t. stamps others (λ ts. go (t ∷ ts))))
+
+-- ---- what is asked of the inputs
+
+-- whether a source is among these inputs
+abbrev pub is_among : ℕ → List Given → Bool
+is_among f [] = false
+is_among f (Source g path ∷ others) = (f == g) || is_among f others
+is_among f (Made t changed ∷ others) = is_among f others
+
+-- the order-only inputs that are asked for: the sources that aren't named too
+abbrev pub asked : (named order_only : List Given) → List Given
+asked named [] = []
+asked named (Source f path ∷ others) = if is_among f named then asked named others else Source f path ∷ asked named others
+asked named (Made t changed ∷ others) = asked named others
+
+-- ---- what is compared
+
+abbrev pub greatest_from : ℕ → List ℕ → ℕ
+greatest_from n [] = n
+greatest_from n (t ∷ ts) = greatest_from (later n t) ts
+
+-- the greatest, and 0 of none
+abbrev pub greatest : List ℕ → ℕ
+greatest ts = greatest_from 0 ts
+
+abbrev pub least_from : ℕ → List ℕ → ℕ
+least_from n [] = n
+least_from n (t ∷ ts) = least_from (earlier n t) ts
+
+abbrev pub least : List ℕ → ℕ
+least [] = 0
+least (t ∷ ts) = least_from t ts
+
+abbrev pub some_missing : List ℕ → Bool
+some_missing [] = false
+some_missing (t ∷ ts) = (t == 0) || some_missing ts
+
+abbrev pub some_changed : List Given → Bool
+some_changed [] = false
+some_changed (Source f path ∷ others) = some_changed others
+some_changed (Made t changed ∷ others) = changed || some_changed others
+
+abbrev pub is_new : List ℕ → Option Recorded → Bool
+is_new command None = true
+is_new command (Some entry) = not (same_text entry.command command)
+
+abbrev pub mark : Bool → List ℕ → Option Recorded → ℕ
+mark true stamps (Some entry) = entry.basis
+mark _ stamps _ = least stamps
+
+abbrev pub paths_in : Option Recorded → List Path
+paths_in (Some entry) = entry.paths
+paths_in None = []
+
+abbrev pub is_dirty : Command → (named old : List ℕ) → Option Recorded → (swept : List ℕ) → Bool
+is_dirty c named old entry swept =
+    some_missing old
+    || some_changed c.named
+    || (not c.generator && is_new c.command entry)
+    || some_missing swept
+    || nat_lt (mark c.restat old entry) (greatest (named ++ swept))
+
+-- ---- a command edge
+
+abbrev pub first : List Path → Path
+first [] = []
+first (path ∷ others) = path
+
+abbrev pub name : Command → Path
+name c = first c.outputs
+
+-- outputs that keep their stamps
+abbrev pub unchanged : List ℕ → Left
+unchanged ts = map (λ t. (t, false)) ts
+
+-- outputs after the command
+abbrev pub changed : Bool → (old new : List ℕ) → Left
+changed restat (a ∷ old) (b ∷ new) = (b, not restat || not (a == b)) ∷ changed restat old new
+changed restat _ _ = []
+
+abbrev pub depfile : Meaning → List ℕ → (List Path → Talk) → Talk
+depfile meaning [] go = go []
+depfile meaning (c ∷ cs) go = Ask (Deps (c ∷ cs)) (read meaning go)
+
+-- a dirty edge, once it has its place
+abbrev pub runs : Meaning → Command → (named old : List ℕ) → Talk
+runs meaning c named old =
+    Ask (Run c.command c.outputs) (exited (
+    depfile meaning c.depfile λ paths.
+    stamps paths λ swept.
+    Ask (Keep (name c) c.command (greatest (named ++ swept)) paths) (kept (
+    stamps c.outputs λ new.
+    Over true (changed c.restat old new)))))
+
+abbrev pub does : Meaning → Command → Talk
+does meaning c =
+    inputs (asked c.named c.order_only) λ _.
+    inputs c.named λ named.
+    stamps c.outputs λ old.
+    Ask (Recall (name c)) (recalled λ entry.
+    stamps (paths_in entry) λ swept.
+    if is_dirty c named old entry swept then runs meaning c named old else Over false (unchanged old))
+
+-- ---- a phony edge
+
+abbrev pub has_none : List Given → Bool
+has_none [] = true
+has_none (i ∷ is) = false
+
+-- without any input each output is as its file is
+abbrev pub alone : List Path → Talk
+alone outputs = stamps outputs λ ts. Over false (map (λ t. (t, t == 0)) ts)
+
+-- with inputs all outputs are as the named ones are
+abbrev pub gathers : Command → Talk
+gathers c = inputs (asked c.named c.order_only) λ _. inputs c.named λ ts. Over false (map (λ path. (greatest ts, some_changed c.named)) c.outputs)
+
+abbrev pub does_phony : Command → Talk
+does_phony c = if has_none c.named && has_none c.order_only then alone c.outputs else gathers c

@@ -1,0 +1,34 @@
+-- What an edge asks and how it ends, as a tree: a question with what each reply leads to, or an end.
+use Rattle.std.specs.Prelude.{◌≡◌, ℕ, Bool, true, false, List, [], ◌∷◌, Some}
+use Rattle.plan_image.specs.declared.image.Parts.{Parts}
+use Rattle.plan_verify.specs.declared.value.Cause.{Cause}
+use Rattle.plan_verify.specs.Turn.{Slots, Local, Turn, Request, Reply, Meaning, turn, heard, question}
+use Rattle.plan_verify.specs.Alone.{Alone, Runs, Ended, Failed, after}
+
+-- the stamp and the changed flag of each output
+abbrev pub Left : Type 0
+Left = List (ℕ × Bool)
+
+pub data Talk : Type 0 where
+  Ask : Request → (Reply → Talk) → Talk
+  Over : (ran : Bool) → Left → Talk
+  Fail : Cause → Talk
+
+-- An edge run alone keeps to a talk. Its steps lead, after finitely many, to the question that the talk asks; after each
+-- reply that it hears it keeps to what that reply leads to; it ends and fails where the talk does, and in no other way.
+pub data Obeys (meaning : Meaning) (p : Parts) (e : ℕ) (Leaves : Slots → Left → Type 0) : Alone → Talk → Type 0 where
+  is_over : {ran : Bool} {slots : Slots} {left : Left} → Leaves slots left → Obeys meaning p e Leaves (record { stage = Ended ran; slots = slots }) (Over ran left)
+  has_failed : {cause : Cause} {slots : Slots} → Obeys meaning p e Leaves (record { stage = Failed cause; slots = slots }) (Fail cause)
+  moves : {l : Local} {slots : Slots} {talk : Talk} → l.asked ≡ false
+      → Obeys meaning p e Leaves (after l slots (turn p e slots l)) talk
+      → Obeys meaning p e Leaves (record { stage = Runs l; slots = slots }) talk
+  asks : {l : Local} {slots : Slots} {q : Request} {k : Reply → Talk} → l.asked ≡ true → question p e slots l ≡ Some q
+      → ((r : Reply) (t : Turn) → heard meaning p e l r ≡ Some t → Obeys meaning p e Leaves (after l slots t) (k r))
+      → Obeys meaning p e Leaves (record { stage = Runs l; slots = slots }) (Ask q k)
+
+-- these questions and replies lead from one talk to another
+abbrev pub Follows : Talk → List (Request × Reply) → Talk → Type 0
+Follows talk [] rest = talk ≡ rest
+Follows (Ask q k) (x ∷ told) rest = (x.0 ≡ q) × Follows (k x.1) told rest
+Follows (Over ran left) (x ∷ told) rest = ⊥
+Follows (Fail cause) (x ∷ told) rest = ⊥

@@ -1,0 +1,68 @@
+//! An edge by its numbers in the tables of an image.
+
+use plan_text::Items;
+
+/// Where an input's stamp comes from.
+#[derive(Clone, Copy, Debug, PartialEq, Eq)]
+pub enum Input {
+    /// A source, by the number of its file: it is asked for.
+    File(u32),
+    /// What an edge makes: the stamp slot and the flag slot that its maker sets.
+    Made(u32, u32),
+}
+
+/// An output: its file, and the slots of its stamp and of its changed flag.
+#[derive(Clone, Copy, Debug, PartialEq, Eq)]
+pub struct Output {
+    pub file: u32,
+    pub stamp: u32,
+    pub changed: u32,
+}
+
+/// An edge with a command.
+#[derive(Debug, Drop)]
+pub struct CommandWiring {
+    /// The explicit and the implicit inputs, in order.
+    pub named: Items<Input>,
+    /// The order-only sources that aren't named too.
+    pub order_only: Items<u32>,
+    /// At least one. Each has a stamp slot of its own; they share a flag slot unless the edge is restat.
+    pub outputs: Items<Output>,
+    /// The flag slots among the named inputs, each once, in any order.
+    pub flags: Items<u32>,
+    /// The slot for the greatest stamp of the named inputs.
+    pub newest: u32,
+    /// The command's text.
+    pub command: u32,
+    /// Whether the command may be the empty text.
+    pub blank: bool,
+    /// The text of the depfile's path, which isn't empty.
+    pub depfile: Option<u32>,
+    pub restat: bool,
+    pub generator: bool,
+}
+
+/// A phony with inputs of any sort: its outputs are as the named inputs are, and share two slots.
+#[derive(Debug, Drop)]
+pub struct GatherWiring {
+    pub named: Items<Input>,
+    /// The order-only sources that aren't named too.
+    pub order_only: Items<u32>,
+    pub outputs: Items<Output>,
+    /// The flag slots among the named inputs, each once, in any order.
+    pub flags: Items<u32>,
+    /// The stamp slot of all outputs.
+    pub stamp: u32,
+    /// The flag slot of all outputs.
+    pub changed: u32,
+}
+
+/// An edge of any sort.
+#[derive(Debug, Drop)]
+pub enum Wiring {
+    Command(CommandWiring),
+    /// A phony with inputs.
+    Gather(GatherWiring),
+    /// A phony without inputs, by its outputs: each is as its own file is, and has two slots of its own.
+    Alone(Items<Output>),
+}
