@@ -1,2 +1,5 @@
 mod Rows
 mod Wired
+mod Machine
+mod Running
+mod Folds
