@@ -3,3 +3,6 @@ mod Wired
 mod Machine
 mod Running
 mod Folds
+mod SlotFacts
+mod Judging
+mod Placed
