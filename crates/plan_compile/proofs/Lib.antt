@@ -6,3 +6,5 @@ mod Folds
 mod SlotFacts
 mod Judging
 mod Placed
+mod Placing
+mod Whole
