@@ -8,3 +8,4 @@ mod Judging
 mod Placed
 mod Placing
 mod Whole
+mod Edge
