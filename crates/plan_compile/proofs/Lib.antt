@@ -9,3 +9,6 @@ mod Placed
 mod Placing
 mod Whole
 mod Edge
+mod Scanning
+mod Shaping
+mod EdgeShapes
