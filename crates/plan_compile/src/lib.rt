@@ -10,6 +10,10 @@
 //! docs/COMPILER.md has it rule by rule.
 #![tactic(auto)]
 
+mod laws;
 mod wiring;
 
+pub use laws::{
+    command_means, command_shaped, phony_means, phony_shaped, runs_keep_to_rule,
+};
 pub use wiring::{CommandWiring, GatherWiring, Input, Output, Wiring};
