@@ -1,13 +1,27 @@
-pub mod ListLemmas
-pub mod RunLemmas
-pub mod NumberingLemmas
-pub mod BodyKeyLemmas
-pub mod EdgeLemmas
-pub mod OutputLemmas
-pub mod WiringLemmas
-pub mod TableLemmas
-pub mod ToldLemmas
-pub mod LawLemmas
-pub mod OnceLemmas
-pub mod MemberLemmas
-pub mod SoundLemmas
+mod Rows
+mod Wired
+mod Machine
+mod Running
+mod Folds
+mod SlotFacts
+mod Judging
+mod Placed
+mod Placing
+mod Whole
+mod Edge
+mod Scanning
+mod Shaping
+mod EdgeShapes
+mod ListLemmas
+mod RunLemmas
+mod NumberingLemmas
+mod BodyKeyLemmas
+mod EdgeLemmas
+mod OutputLemmas
+mod WiringLemmas
+mod TableLemmas
+mod ToldLemmas
+mod LawLemmas
+mod OnceLemmas
+mod MemberLemmas
+mod SoundLemmas

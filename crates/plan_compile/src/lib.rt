@@ -1,8 +1,25 @@
-//! The image of a manifest.
+//! The code of an edge: what a plan image asks, compares, runs and keeps of each edge of a manifest.
+//!
+//! - `Wiring`: an edge by its numbers in an image's tables, one form for each sort of edge: `CommandWiring`,
+//!   `GatherWiring`, or the outputs of a phony without inputs; `Input` and `Output` are what comes in and goes out.
+//! - `edge_code`: the code of an edge, or an `EmitFault`.
+//! - `command_means`, `phony_means`, `runs_keep_to_rule`, `command_shaped`, `phony_shaped`: what holds of the code of
+//!   every edge, for the proofs of what stands above: it keeps to the out-of-date rule, and the verifier accepts it.
+//!
+//! The rule is Ninja's, as far as the manual says it; the order of an edge's questions is this project's own.
+//! docs/COMPILER.md has it rule by rule.
 #![tactic(auto)]
 
 mod form;
+mod image_laws;
+mod laws;
 mod wiring;
 
 pub use form::Form;
+pub use image_laws::{
+    image_is_faithful, image_is_shaped, image_means, manifests_are_sound, one_assignment,
+};
+pub use laws::{
+    command_means, command_shaped, phony_means, phony_shaped, runs_keep_to_rule,
+};
 pub use wiring::{CommandWiring, GatherWiring, Input, Output, Wiring};

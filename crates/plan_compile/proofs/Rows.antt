@@ -1,0 +1,312 @@
+-- The rule and the code, computed on worked examples.
+use Rattle.std.proofs.Common.{◌≡◌, ℕ, Bool, true, false, List, [], ◌∷◌, length, Option, Some, None, refl, codes, subst, arith}
+use Rattle.std.specs.Prelude.{Result, Ok}
+use Rattle.plan_image.specs.declared.instr.Instr.{Instr}
+use Rattle.plan_image.specs.declared.instr.Instr.TheVariants as op
+use Rattle.plan_verify.specs.declared.value.Cause.TheVariants as cause
+use Rattle.plan_verify.specs.Turn.{Request, Stat, Recall, Run, Deps, Keep, Reply, StampIs, Entry, Nothing, Exit, Bytes, Kept, Meaning}
+use Rattle.plan_compile.specs.declared.wiring.Input.TheVariants.{File, Made}
+use Rattle.plan_compile.specs.declared.wiring.Output.{Output}
+use Rattle.plan_compile.specs.declared.wiring.CommandWiring.{CommandWiring}
+use Rattle.plan_compile.specs.declared.wiring.GatherWiring.{GatherWiring}
+use Rattle.plan_compile.specs.Talk.{Over, Fail, Follows}
+use Rattle.plan_compile.specs.Rule.{Path, Command, Source, runs, does, does_phony}
+use Rattle.plan_compile.specs.Rule.{Made as MadeBy}
+use Rattle.plan_compile.specs.Emit.{command_code, alone_code, gather_code}
+
+-- depfiles that say no path
+none_read : Meaning
+none_read bytes = Ok []
+
+-- ---- a restat chain: its first edge
+
+src : Path
+src = codes "src"
+
+mid : Path
+mid = codes "mid"
+
+gen : Command
+gen = record { named = Source 0 src ∷ []; order_only = []; outputs = mid ∷ []; command = codes "sh gen.sh"; depfile = []; restat = true; generator = false }
+
+-- it runs and leaves the old stamp: the output is unchanged, and the basis is the source's stamp
+gen_runs : Follows (does none_read gen)
+    ((Stat src, StampIs 50) ∷ (Stat mid, StampIs 30) ∷ (Recall mid, Entry (codes "sh gen.sh") 20 []) ∷ (Run (codes "sh gen.sh") (mid ∷ []), Exit 0)
+    ∷ (Keep mid (codes "sh gen.sh") 50 [], Kept) ∷ (Stat mid, StampIs 30) ∷ [])
+    (Over true ((30, false) ∷ []))
+unfolding gen none_read
+gen_runs = (refl, (refl, (refl, (refl, (refl, (refl, refl))))))
+
+-- its next run is clean
+gen_clean : Follows (does none_read gen) ((Stat src, StampIs 50) ∷ (Stat mid, StampIs 30) ∷ (Recall mid, Entry (codes "sh gen.sh") 50 []) ∷ []) (Over false ((30, false) ∷ []))
+unfolding gen none_read
+gen_clean = (refl, (refl, (refl, refl)))
+
+-- its user, with what it made unchanged, is clean
+chained : Command
+chained = record { named = MadeBy 30 false ∷ []; order_only = []; outputs = codes "out" ∷ []; command = codes "cp"; depfile = []; restat = false; generator = false }
+
+chained_clean : Follows (does none_read chained) ((Stat (codes "out"), StampIs 40) ∷ (Recall (codes "out"), Entry (codes "cp") 30 []) ∷ []) (Over false ((40, false) ∷ []))
+unfolding chained none_read
+chained_clean = (refl, (refl, refl))
+
+-- a missing source ends the questions
+gen_fails : Follows (does none_read gen) ((Stat src, StampIs 0) ∷ []) (Fail (cause.MissingInput 0))
+unfolding gen none_read
+gen_fails = (refl, refl)
+
+-- ---- the five causes, by an edge with a depfile that is clean otherwise
+
+c_file : Path
+c_file = codes "a.c"
+
+object : Path
+object = codes "a.o"
+
+header : Path
+header = codes "a.h"
+
+cc_command : List ℕ
+cc_command = codes "cc"
+
+compiles : Command
+compiles = record { named = Source 1 c_file ∷ []; order_only = []; outputs = object ∷ []; command = cc_command; depfile = codes "a.d"; restat = false; generator = false }
+
+clean : Follows (does none_read compiles) ((Stat c_file, StampIs 5) ∷ (Stat object, StampIs 9) ∷ (Recall object, Entry cc_command 5 (header ∷ [])) ∷ (Stat header, StampIs 9) ∷ []) (Over false ((9, false) ∷ []))
+unfolding compiles cc_command none_read
+clean = (refl, (refl, (refl, (refl, refl))))
+
+-- an output is missing
+output_missing : Follows (does none_read compiles) ((Stat c_file, StampIs 5) ∷ (Stat object, StampIs 0) ∷ (Recall object, Entry cc_command 5 (header ∷ [])) ∷ (Stat header, StampIs 9) ∷ []) (runs none_read compiles (5 ∷ []) (0 ∷ []))
+unfolding compiles cc_command none_read
+output_missing = (refl, (refl, (refl, (refl, refl))))
+
+-- there is no entry
+no_entry : Follows (does none_read compiles) ((Stat c_file, StampIs 5) ∷ (Stat object, StampIs 9) ∷ (Recall object, Nothing) ∷ []) (runs none_read compiles (5 ∷ []) (9 ∷ []))
+unfolding compiles cc_command none_read
+no_entry = (refl, (refl, (refl, refl)))
+
+-- the recorded command is another: the recorded paths are asked for all the same
+other_command : Follows (does none_read compiles) ((Stat c_file, StampIs 5) ∷ (Stat object, StampIs 9) ∷ (Recall object, Entry (codes "cd") 5 (header ∷ [])) ∷ (Stat header, StampIs 9) ∷ []) (runs none_read compiles (5 ∷ []) (9 ∷ []))
+unfolding compiles cc_command none_read
+other_command = (refl, (refl, (refl, (refl, refl))))
+
+-- a recorded path is missing
+path_missing : Follows (does none_read compiles) ((Stat c_file, StampIs 5) ∷ (Stat object, StampIs 9) ∷ (Recall object, Entry cc_command 5 (header ∷ [])) ∷ (Stat header, StampIs 0) ∷ []) (runs none_read compiles (5 ∷ []) (9 ∷ []))
+unfolding compiles cc_command none_read
+path_missing = (refl, (refl, (refl, (refl, refl))))
+
+-- a recorded path is later than the output
+path_later : Follows (does none_read compiles) ((Stat c_file, StampIs 5) ∷ (Stat object, StampIs 9) ∷ (Recall object, Entry cc_command 5 (header ∷ [])) ∷ (Stat header, StampIs 10) ∷ []) (runs none_read compiles (5 ∷ []) (9 ∷ []))
+unfolding compiles cc_command none_read
+path_later = (refl, (refl, (refl, (refl, refl))))
+
+-- so is the source
+source_later : Follows (does none_read compiles) ((Stat c_file, StampIs 10) ∷ (Stat object, StampIs 9) ∷ (Recall object, Entry cc_command 5 []) ∷ []) (runs none_read compiles (10 ∷ []) (9 ∷ []))
+unfolding compiles cc_command none_read
+source_later = (refl, (refl, (refl, refl)))
+
+-- an input is changed
+changes : Command
+changes = record { named = MadeBy 5 true ∷ []; order_only = []; outputs = object ∷ []; command = cc_command; depfile = []; restat = false; generator = false }
+
+input_changed : Follows (does none_read changes) ((Stat object, StampIs 9) ∷ (Recall object, Entry cc_command 5 []) ∷ []) (runs none_read changes (5 ∷ []) (9 ∷ []))
+unfolding changes cc_command none_read
+input_changed = (refl, (refl, refl))
+
+-- a generator looks at no command, and needs no entry
+generates : Command
+generates = record { named = Source 1 c_file ∷ []; order_only = []; outputs = object ∷ []; command = cc_command; depfile = []; restat = false; generator = true }
+
+generator_clean : Follows (does none_read generates) ((Stat c_file, StampIs 5) ∷ (Stat object, StampIs 9) ∷ (Recall object, Nothing) ∷ []) (Over false ((9, false) ∷ []))
+unfolding generates none_read
+generator_clean = (refl, (refl, (refl, refl)))
+
+-- after the command the depfile's paths are asked for, and kept with the greatest stamp before the run
+says_header : Meaning
+says_header bytes = Ok (codes "a.h" ∷ [])
+
+run_keeps : Follows (runs says_header compiles (5 ∷ []) (0 ∷ []))
+    ((Run cc_command (object ∷ []), Exit 0) ∷ (Deps (codes "a.d"), Bytes []) ∷ (Stat header, StampIs 7) ∷ (Keep object cc_command 7 (header ∷ []), Kept) ∷ (Stat object, StampIs 20) ∷ [])
+    (Over true ((20, true) ∷ []))
+unfolding compiles cc_command says_header header
+run_keeps = (refl, (refl, (refl, (refl, (refl, refl)))))
+
+-- a command that fails fails the edge
+run_fails : Follows (runs none_read compiles (5 ∷ []) (0 ∷ [])) ((Run cc_command (object ∷ []), Exit 3) ∷ []) (Fail (cause.Exit 3))
+unfolding compiles cc_command none_read
+run_fails = (refl, refl)
+
+-- ---- order-only inputs: what an edge makes isn't asked for, nor is a source that is named too
+
+ordered : Command
+ordered = record {
+  named = Source 1 c_file ∷ [];
+  order_only = MadeBy 8 true ∷ Source 1 c_file ∷ Source 2 header ∷ [];
+  outputs = object ∷ [];
+  command = cc_command;
+  depfile = [];
+  restat = false;
+  generator = false;
+}
+
+order_asks : Follows (does none_read ordered) ((Stat header, StampIs 99) ∷ (Stat c_file, StampIs 5) ∷ (Stat object, StampIs 9) ∷ (Recall object, Entry cc_command 5 []) ∷ []) (Over false ((9, false) ∷ []))
+unfolding ordered cc_command none_read
+order_asks = (refl, (refl, (refl, (refl, refl))))
+
+-- ---- phonies
+
+always : Command
+always = record { named = []; order_only = []; outputs = codes "always" ∷ []; command = []; depfile = []; restat = false; generator = false }
+
+-- one without inputs whose file is missing is changed
+always_changed : Follows (does_phony always) ((Stat (codes "always"), StampIs 0) ∷ []) (Over false ((0, true) ∷ []))
+unfolding always
+always_changed = (refl, refl)
+
+user : Command
+user = record { named = MadeBy 0 true ∷ []; order_only = []; outputs = codes "x" ∷ []; command = codes "true"; depfile = []; restat = false; generator = false }
+
+-- and so its user runs each time
+user_runs : Follows (does none_read user)
+    ((Stat (codes "x"), StampIs 9) ∷ (Recall (codes "x"), Entry (codes "true") 0 []) ∷ (Run (codes "true") (codes "x" ∷ []), Exit 0) ∷ (Keep (codes "x") (codes "true") 0 [], Kept) ∷ (Stat (codes "x"), StampIs 9) ∷ [])
+    (Over true ((9, true) ∷ []))
+unfolding user none_read
+user_runs = (refl, (refl, (refl, (refl, (refl, refl)))))
+
+-- one with inputs is as they are, and asks for none of its outputs
+gathers_both : Command
+gathers_both = record { named = MadeBy 8 true ∷ Source 1 c_file ∷ []; order_only = []; outputs = codes "all" ∷ []; command = []; depfile = []; restat = false; generator = false }
+
+gathered : Follows (does_phony gathers_both) ((Stat c_file, StampIs 5) ∷ []) (Over false ((8, true) ∷ []))
+unfolding gathers_both
+gathered = (refl, refl)
+
+-- one whose only input is an order-only one that an edge makes has an input
+only_ordered : Command
+only_ordered = record { named = []; order_only = MadeBy 8 true ∷ []; outputs = codes "all" ∷ []; command = []; depfile = []; restat = false; generator = false }
+
+ordered_gathers : Follows (does_phony only_ordered) [] (Over false ((0, false) ∷ []))
+unfolding only_ordered
+ordered_gathers = refl
+
+-- ---- code
+
+-- one source, one output, a depfile
+compiled : CommandWiring
+compiled = record {
+  named = File 1 ∷ [];
+  order_only = [];
+  outputs = record { file = 0; stamp = 0; changed = 1 } ∷ [];
+  flags = [];
+  newest = 2;
+  command = 0;
+  blank = false;
+  depfile = Some 1;
+  restat = false;
+  generator = false;
+}
+
+compiled_code : command_code compiled ≡
+    op.Need 1 ∷ op.Store 2 ∷ op.Stat 0 ∷ op.Store 0 ∷ op.Load 0 ∷ op.Load 2 ∷ op.Flag false ∷ op.Recall
+    ∷ op.Drop ∷ op.Text 0 ∷ op.Equal ∷ op.JumpIf 17 ∷ op.Drop ∷ op.Sweep ∷ op.Drop ∷ op.Drop ∷ op.Jump 26
+    ∷ op.Drop ∷ op.Sweep ∷ op.Drop ∷ op.JumpIf 26 ∷ op.Before ∷ op.JumpIf 28 ∷ op.Flag false ∷ op.Store 1 ∷ op.End
+    ∷ op.Drop ∷ op.Drop
+    ∷ op.Take ∷ op.Text 0 ∷ op.Run ∷ op.Release ∷ op.Text 0 ∷ op.Load 2 ∷ op.Flag false ∷ op.Text 1 ∷ op.Deps ∷ op.Sweep ∷ op.Swap ∷ op.Drop ∷ op.Keep
+    ∷ op.Stat 0 ∷ op.Store 0 ∷ op.Flag true ∷ op.Store 1 ∷ op.End ∷ []
+unfolding compiled
+compiled_code = refl
+
+-- two inputs of one maker, two outputs, an order-only source
+linked : CommandWiring
+linked = record {
+  named = Made 0 1 ∷ Made 2 1 ∷ [];
+  order_only = 4 ∷ [];
+  outputs = record { file = 0; stamp = 3; changed = 4 } ∷ record { file = 1; stamp = 5; changed = 4 } ∷ [];
+  flags = 1 ∷ [];
+  newest = 6;
+  command = 0;
+  blank = false;
+  depfile = None;
+  restat = false;
+  generator = false;
+}
+
+linked_code : command_code linked ≡
+    op.Need 4 ∷ op.Drop ∷ op.Load 0 ∷ op.Load 2 ∷ op.Newer ∷ op.Store 6 ∷ op.Stat 0 ∷ op.Store 3 ∷ op.Stat 1 ∷ op.Store 5
+    ∷ op.Load 3 ∷ op.Load 5 ∷ op.Older ∷ op.Load 6 ∷ op.Load 3 ∷ op.Load 5 ∷ op.Older ∷ op.IsMissing ∷ op.Load 1 ∷ op.Or ∷ op.Recall
+    ∷ op.Drop ∷ op.Text 0 ∷ op.Equal ∷ op.JumpIf 30 ∷ op.Drop ∷ op.Sweep ∷ op.Drop ∷ op.Drop ∷ op.Jump 39
+    ∷ op.Drop ∷ op.Sweep ∷ op.Drop ∷ op.JumpIf 39 ∷ op.Before ∷ op.JumpIf 41 ∷ op.Flag false ∷ op.Store 4 ∷ op.End
+    ∷ op.Drop ∷ op.Drop
+    ∷ op.Take ∷ op.Text 0 ∷ op.Run ∷ op.Release ∷ op.Text 0 ∷ op.Load 6 ∷ op.NoPaths ∷ op.Keep
+    ∷ op.Stat 0 ∷ op.Store 3 ∷ op.Stat 1 ∷ op.Store 5 ∷ op.Flag true ∷ op.Store 4 ∷ op.End ∷ []
+unfolding linked
+linked_code = refl
+
+-- a restat edge
+restated : CommandWiring
+restated = record {
+  named = File 1 ∷ [];
+  order_only = [];
+  outputs = record { file = 0; stamp = 0; changed = 1 } ∷ [];
+  flags = [];
+  newest = 2;
+  command = 0;
+  blank = false;
+  depfile = None;
+  restat = true;
+  generator = false;
+}
+
+restated_code : command_code restated ≡
+    op.Need 1 ∷ op.Store 2 ∷ op.Stat 0 ∷ op.Store 0 ∷ op.Recall ∷ op.Drop ∷ op.Text 0 ∷ op.Equal ∷ op.JumpIf 18
+    ∷ op.Swap ∷ op.Zero ∷ op.Swap ∷ op.Flag false ∷ op.Swap ∷ op.Sweep ∷ op.Drop ∷ op.Drop ∷ op.Jump 32
+    ∷ op.Swap ∷ op.Load 2 ∷ op.Swap ∷ op.Load 0 ∷ op.IsMissing ∷ op.Swap
+    ∷ op.Sweep ∷ op.Drop ∷ op.JumpIf 32 ∷ op.Before ∷ op.JumpIf 34 ∷ op.Flag false ∷ op.Store 1 ∷ op.End
+    ∷ op.Drop ∷ op.Drop ∷ op.Take ∷ op.Text 0 ∷ op.Run ∷ op.Release ∷ op.Text 0 ∷ op.Load 2 ∷ op.NoPaths ∷ op.Keep
+    ∷ op.Load 0 ∷ op.Stat 0 ∷ op.Store 0 ∷ op.Load 0 ∷ op.Same ∷ op.Not ∷ op.Store 1 ∷ op.End ∷ []
+unfolding restated
+restated_code = refl
+
+-- the same as a generator
+regenerated : CommandWiring
+regenerated = record {
+  named = File 1 ∷ [];
+  order_only = [];
+  outputs = record { file = 0; stamp = 0; changed = 1 } ∷ [];
+  flags = [];
+  newest = 2;
+  command = 0;
+  blank = true;
+  depfile = None;
+  restat = true;
+  generator = true;
+}
+
+regenerated_code : command_code regenerated ≡
+    op.Need 1 ∷ op.Store 2 ∷ op.Stat 0 ∷ op.Store 0 ∷ op.Recall
+    ∷ op.JumpIf 10 ∷ op.Drop ∷ op.Drop ∷ op.Load 0 ∷ op.Jump 11 ∷ op.Drop
+    ∷ op.Swap ∷ op.Load 2 ∷ op.Swap ∷ op.Load 0 ∷ op.IsMissing ∷ op.Swap
+    ∷ op.Sweep ∷ op.Drop ∷ op.JumpIf 25 ∷ op.Before ∷ op.JumpIf 27 ∷ op.Flag false ∷ op.Store 1 ∷ op.End
+    ∷ op.Drop ∷ op.Drop ∷ op.Take ∷ op.Text 0 ∷ op.Run ∷ op.Release ∷ op.Text 0 ∷ op.Load 2 ∷ op.NoPaths ∷ op.Keep
+    ∷ op.Load 0 ∷ op.Stat 0 ∷ op.Store 0 ∷ op.Load 0 ∷ op.Same ∷ op.Not ∷ op.Store 1 ∷ op.End ∷ []
+unfolding regenerated
+regenerated_code = refl
+
+-- phonies of each sort
+alone_row : alone_code (record { file = 7; stamp = 0; changed = 1 } ∷ []) ≡ op.Stat 7 ∷ op.Store 0 ∷ op.Load 0 ∷ op.IsMissing ∷ op.Store 1 ∷ op.End ∷ []
+alone_row = refl
+
+gathering : GatherWiring
+gathering = record { named = File 3 ∷ Made 0 1 ∷ []; order_only = 4 ∷ []; outputs = record { file = 7; stamp = 2; changed = 3 } ∷ []; flags = 1 ∷ []; stamp = 2; changed = 3 }
+
+gather_row : gather_code gathering ≡ op.Need 4 ∷ op.Drop ∷ op.Need 3 ∷ op.Load 0 ∷ op.Newer ∷ op.Store 2 ∷ op.Load 1 ∷ op.Store 3 ∷ op.End ∷ []
+unfolding gathering
+gather_row = refl
+
+ordering : GatherWiring
+ordering = record { named = []; order_only = []; outputs = record { file = 7; stamp = 2; changed = 3 } ∷ []; flags = []; stamp = 2; changed = 3 }
+
+ordering_row : gather_code ordering ≡ op.Zero ∷ op.Store 2 ∷ op.Flag false ∷ op.Store 3 ∷ op.End ∷ []
+unfolding ordering
+ordering_row = refl

@@ -1,0 +1,61 @@
+-- An edge that keeps to a talk, run alone: what it was told leads along the talk.
+use Rattle.std.proofs.Common.{◌≡◌, ℕ, zero, suc, Bool, true, false, List, [], ◌∷◌, Option, Some, None, refl, sym, ap, subst, ◌∙◌}
+use Rattle.std.specs.Prelude.{if◌then◌else◌, slice_get}
+use Rattle.plan_image.specs.declared.image.Parts.{Parts}
+use Rattle.plan_image.specs.Code.{code}
+use Rattle.plan_verify.specs.declared.value.Cause.{Cause}
+use Rattle.plan_verify.specs.Turn.{Slots, Request, Reply, Meaning, Local, Turn, turn, question, heard, replied_at}
+use Rattle.plan_verify.specs.Alone.{Stage, Runs, Ended, Failed, WentWrong, Alone, after, RunsAlone, rests, steps, hears}
+use Rattle.plan_compile.specs.Talk.{Left, Talk, Ask, Over, Fail, Obeys, is_over, has_failed, moves, asks, Follows}
+
+pub stage_is : (x y : Alone) → x ≡ y → x.stage ≡ y.stage
+stage_is x y e = ap (λ (a : Alone). a.stage) e
+
+pub same_local : (l m : Local) → ◌≡◌ {A = Stage} (Runs l) (Runs m) → l ≡ m
+same_local l m e = cc
+
+pub some_same : {A : Type 0} (x y : A) → ◌≡◌ {A = Option A} (Some x) (Some y) → x ≡ y
+some_same x y e = cc
+
+module _ (meaning : Meaning) (p : Parts) (e : ℕ) (Leaves : Slots → Left → Type 0) where
+  abbrev pub Leads : Alone → Talk → List (Request × Reply) → Alone → Type 0
+  Leads x talk told y = (rest : Talk) × Follows talk told rest × Obeys meaning p e Leaves y rest
+
+  pub by_step : (x : Alone) (talk : Talk) → Obeys meaning p e Leaves x talk → (l : Local) (slots : Slots) → x.stage ≡ Runs l → x.slots ≡ slots → l.asked ≡ false
+      → Obeys meaning p e Leaves (after l slots (turn p e slots l)) talk
+  by_step x talk (is_over h) l slots s t quiet = absurd cc
+  by_step x talk has_failed l slots s t quiet = absurd cc
+  by_step x talk (moves {l = m} {slots = old} q o) l slots s t quiet =
+      subst (λ (k : Local). Obeys meaning p e Leaves (after k slots (turn p e slots k)) talk) (same_local m l s)
+      (subst (λ (z : Slots). Obeys meaning p e Leaves (after m z (turn p e z m)) talk) t o)
+  by_step x talk (asks {l = m} loud q h) l slots s t quiet = let e : m ≡ l = same_local m l s in absurd (cc)
+
+  pub quiet_hears_none : (l : Local) (r : Reply) (t : Turn) → l.asked ≡ false → heard meaning p e l r ≡ Some t → ⊥
+  unfolding heard
+  quiet_hears_none l r t quiet is =
+      let none : heard meaning p e l r ≡ None = ap (λ (b : Bool). if b then replied_at meaning l (slice_get (code p e) l.place) r else None) quiet in
+      absurd (cc)
+
+  pub by_reply : (x : Alone) (talk : Talk) → Obeys meaning p e Leaves x talk → (l : Local) (slots : Slots) → x.stage ≡ Runs l → x.slots ≡ slots
+      → (q : Request) (r : Reply) (t : Turn) → question p e slots l ≡ Some q → heard meaning p e l r ≡ Some t
+      → (rest : List (Request × Reply)) (y : Alone) → ((next : Talk) → Obeys meaning p e Leaves (after l slots t) next → Leads (after l slots t) next rest y)
+      → Leads x talk ((q, r) ∷ rest) y
+  by_reply x talk (is_over h) l slots s z q r t asked is rest y go = absurd cc
+  by_reply x talk has_failed l slots s z q r t asked is rest y go = absurd cc
+  by_reply x talk (moves {l = m} quiet o) l slots s z q r t asked is rest y go =
+      let e : m ≡ l = same_local m l s in absurd (quiet_hears_none l r t (sym (ap (λ (k : Local). k.asked) e) ∙ quiet) is)
+  by_reply x talk (asks {l = m} {slots = old} {q = q2} {k = k} loud que h) l slots s z q r t asked is rest y go =
+      let same : m ≡ l = same_local m l s in
+      let que2 : question p e slots l ≡ Some q2 = subst (λ (i : Local). question p e slots i ≡ Some q2) same (subst (λ (w : Slots). question p e w m ≡ Some q2) z que) in
+      let h2 : (r : Reply) (t : Turn) → heard meaning p e l r ≡ Some t → Obeys meaning p e Leaves (after l slots t) (k r) =
+      subst (λ (i : Local). (r : Reply) (t : Turn) → heard meaning p e i r ≡ Some t → Obeys meaning p e Leaves (after i slots t) (k r)) same
+      (subst (λ (w : Slots). (r : Reply) (t : Turn) → heard meaning p e m r ≡ Some t → Obeys meaning p e Leaves (after m w t) (k r)) z h) in
+      let next = go (k r) (h2 r t is) in
+      (next.0, (some_same q q2 (sym asked ∙ que2), next.1), next.2)
+
+  -- what an edge that keeps to a talk was told leads along the talk, and it keeps to what is left of it
+  pub leads : (n : ℕ) (x y : Alone) (told : List (Request × Reply)) (talk : Talk) → Obeys meaning p e Leaves x talk → RunsAlone meaning p e n x told y → Leads x talk told y
+  leads n x y told talk o rests = (talk, refl, o)
+  leads (suc n) x y told talk o (steps {l = l} {slots = slots} quiet run) = leads n (after l slots (turn p e slots l)) y told talk (by_step x talk o l slots refl refl quiet) run
+  leads (suc n) x y told talk o (hears {l = l} {slots = slots} {q = q} {r = r} {t = t} {told = rest} asked is run) =
+      by_reply x talk o l slots refl refl q r t asked is rest y (λ next good. leads n (after l slots t) y rest next good run)

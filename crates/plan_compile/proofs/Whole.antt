@@ -1,0 +1,318 @@
+-- A command edge from its recorded entry on.
+use Rattle.std.proofs.Common.{◌≡◌, ℕ, zero, suc, ◌+◌, ◌<◌, ◌≤◌, Bool, true, false, List, [], ◌∷◌, ◌++◌, length, drop, map, Option, Some, None, refl, sym, ap, subst, ◌∙◌, arith, inl, inr, append_assoc, append-nil}
+use Rattle.std.specs.Prelude.{◌||◌, ◌&&◌, not, nat_lt, if◌then◌else◌, slice_get, slice_set, ◌==◌}
+use Rattle.std.specs.List.{list_all}
+use Rattle.std.proofs.lemmas.Bool.{le-ltb, ltb-false}
+use Rattle.plan_image.specs.declared.instr.Instr.{Instr}
+use Rattle.plan_image.specs.declared.instr.Instr.TheVariants as op
+use Rattle.plan_image.specs.declared.image.Parts.{Parts}
+use Rattle.plan_image.specs.Code.{code}
+use Rattle.plan_verify.specs.declared.value.Value.{Value}
+use Rattle.plan_verify.specs.declared.value.Value.TheVariants.{Stamp, Flag, Text, Paths, Swept}
+use Rattle.plan_verify.specs.Members.{is_member}
+use Rattle.plan_verify.specs.Tables.{own_slots, owned_by}
+use Rattle.plan_verify.specs.Turn.{Slots, is_set, Meaning, Request, Deps, same_text}
+use Rattle.plan_compile.specs.declared.wiring.Output.{Output}
+use Rattle.plan_compile.specs.declared.wiring.CommandWiring.{CommandWiring}
+use Rattle.plan_compile.specs.Talk.{Left, Talk, Ask, Over}
+use Rattle.plan_compile.specs.Rule.{Path, Given, Command, Recorded, greatest_from, greatest, least, some_missing, some_changed, is_new, mark, paths_in, is_dirty, name, unchanged, changed, depfile, read, stamps, runs, does}
+use Rattle.plan_compile.specs.Emit.{has_source, holders, alarm_code, deps_code, after_code, ready_code, ready_len, skip_code, clean_code, clean_len, flag_code, run_code, dirty_code, judge_code, judged_code, other_code, same_code, oldest_code}
+use Rattle.plan_compile.specs.Means.{path_at, text_at, given, output_path, depfile_text, command_of, Leaves, IsNoFlag, slots_of, HaveFlagSlots}
+use Rattle.plan_compile.proofs.Wired.{HasText, IsOwn, AreFlags, Wired, some_flag, or_cases}
+use Rattle.plan_compile.proofs.Machine.{From, plain, load, store, text, run, deps, keep, sweep_all, take_place, release_place, jump, jump_if, finish, missing_from, entry_values}
+use Rattle.plan_compile.proofs.Folds.{Hold, AreMatched, IsPositive, own_slot, stored, flagged, stat_all, flag_all, oldest_all, alarm_of, alarm_all}
+use Rattle.plan_compile.proofs.SlotFacts.{get_same, get_other, set_length, own_within, stored_length, stored_other, stored_hold, flagged_other, holders_leave, holders_writable, holders_no_flag, filled, left_set, all_set}
+use Rattle.plan_compile.proofs.Judging.{greatest_app, changed_plain, depfile_asks, basis_in, missing_least, dirty_is, dirty_new, dirty_unlooked}
+use Rattle.plan_compile.proofs.Placed.{placed, placed_other, placed_leaves, restat_all}
+
+-- a stack with room for six more
+abbrev pub IsRoomy : List Value → Type 0
+IsRoomy stack = nat_lt 64 (suc (suc (suc (suc (suc (suc (length stack))))))) ≡ false
+
+pub less : {k n : ℕ} → k ≤ n → nat_lt 64 n ≡ false → nat_lt 64 k ≡ false
+less {k = k} {n = n} le low = le-ltb 64 k (let h : n ≤ 64 = ltb-false 64 n low in omega (arith, h, le))
+
+pub app_long : (xs ys : List Instr) → length ys ≤ length (xs ++ ys)
+app_long [] ys = omega arith
+app_long (x ∷ xs) ys = let h : length ys ≤ length (xs ++ ys) = app_long xs ys in omega (arith, h)
+
+pub ready_long : (restat : Bool) (w : CommandWiring) (rest : List Instr) → length rest ≤ length (ready_code restat w rest)
+ready_long true w rest = let h : suc (length rest) ≤ length (alarm_code true w.outputs w.flags ++ (op.Swap ∷ rest)) = app_long (alarm_code true w.outputs w.flags) (op.Swap ∷ rest) in omega (arith, h)
+ready_long false w rest = omega arith
+
+pub hold_some : (slots : Slots) (os : List Output) (ts : List ℕ) → Hold slots os ts → (os ≡ [] → ⊥) → ts ≡ [] → ⊥
+hold_some slots [] ts hold some none = some refl
+hold_some slots (o ∷ os) [] hold some none = hold
+hold_some slots (o ∷ os) (t ∷ ts) hold some none = absurd cc
+
+module _ (meaning : Meaning) (p : Parts) (e : ℕ) (w : CommandWiring) (start : Slots) (order_only : List Given) (wired : Wired p e w start) where
+  abbrev pub L : Slots → Left → Type 0
+  L = Leaves w.outputs
+
+  abbrev pub c : Command
+  c = command_of p start w order_only
+
+  -- the slots after the questions before the command
+  pub record Ready (slots : Slots) (named : List ℕ) : Type 0 where
+    pub newest : slice_get slots w.newest ≡ Some (Some (Stamp (greatest named)))
+    pub table : length slots ≡ length p.slots
+    pub foreign : (s : ℕ) → owned_by e (slice_get p.slots s) ≡ false → slice_get slots s ≡ slice_get start s
+
+  pub all_own : (slots : Slots) (n : ℕ) (left : Left) → slice_get slots w.newest ≡ Some (Some (Stamp n)) → Leaves w.outputs slots left → list_all (is_set slots) (own_slots p e) ≡ true
+  all_own slots n left newest leaves =
+      all_set slots (λ s. is_member s (w.newest ∷ slots_of w.outputs)) (own_slots p e) (λ s h. elim (or_cases (w.newest == s) (is_member s (slots_of w.outputs)) h) [
+        | inl at ↦ filled slots w.newest s (Stamp n) newest at
+        | inr rest ↦ left_set w.outputs slots left s leaves rest
+      ]) wired.own
+
+  pub matched_of : (slots : Slots) (os : List Output) (ts : List ℕ) → Hold slots os ts → AreMatched os ts
+  matched_of slots [] [] h = tt
+  matched_of slots [] (t ∷ ts) h = h
+  matched_of slots (o ∷ os) [] h = h
+  matched_of slots (o ∷ os) (t ∷ ts) h = matched_of slots os ts h.1
+
+  -- ---- the command, and what follows it
+
+  pub deps_all : {rest : List Instr} {slots : Slots} (d : Option ℕ) (named : List ℕ) (k : List Path → List ℕ → Talk)
+      → ((t : ℕ) → d ≡ Some t → HasText p t × (text_at p t ≡ [] → ⊥))
+      → ((paths : List Path) (swept : List ℕ) → From meaning p e L rest (Swept paths ∷ Stamp (greatest (named ++ swept)) ∷ Text c.command ∷ []) slots false true (k paths swept))
+      → From meaning p e L (deps_code d ++ rest) (Stamp (greatest named) ∷ Text c.command ∷ []) slots false true (depfile meaning (depfile_text p d) (λ paths. stamps paths (λ swept. k paths swept)))
+  deps_all {rest = rest} {slots = slots} None named k has h =
+      plain meaning p e L op.NoPaths (Stamp (greatest named) ∷ Text c.command ∷ []) (Swept [] ∷ Stamp (greatest named) ∷ Text c.command ∷ []) (λ l. refl) refl refl
+      (subst (λ (ns : List ℕ). From meaning p e L rest (Swept [] ∷ Stamp (greatest ns) ∷ Text c.command ∷ []) slots false true (k [] [])) (append-nil named) (h [] []))
+  deps_all {rest = rest} {slots = slots} (Some t) named k has h =
+      let has_t = has t refl in
+      subst (λ (talk : Talk). From meaning p e L (deps_code (Some t) ++ rest) (Stamp (greatest named) ∷ Text c.command ∷ []) slots false true talk) (sym (depfile_asks meaning (text_at p t) (λ paths. stamps paths (λ swept. k paths swept)) has_t.1))
+      (plain meaning p e L (op.Flag false) (Stamp (greatest named) ∷ Text c.command ∷ []) (Flag false ∷ Stamp (greatest named) ∷ Text c.command ∷ []) (λ l. refl) refl refl
+      (text meaning p e L t (text_at p t) has_t.0 refl
+      (deps meaning p e L (text_at p t) refl λ ps.
+      sweep_all meaning p e L ps (λ swept. k ps swept) ps 0 false (greatest named) refl refl λ ts.
+      plain meaning p e L op.Swap (Swept ps ∷ Flag (missing_from false ts) ∷ Stamp (greatest_from (greatest named) ts) ∷ Text c.command ∷ []) (Flag (missing_from false ts) ∷ Swept ps ∷ Stamp (greatest_from (greatest named) ts) ∷ Text c.command ∷ []) (λ l. refl) refl refl
+      (plain meaning p e L op.Drop (Flag (missing_from false ts) ∷ Swept ps ∷ Stamp (greatest_from (greatest named) ts) ∷ Text c.command ∷ []) (Swept ps ∷ Stamp (greatest_from (greatest named) ts) ∷ Text c.command ∷ []) (λ l. refl) refl refl
+      (subst (λ (n : ℕ). From meaning p e L rest (Swept ps ∷ Stamp n ∷ Text c.command ∷ []) slots false true (k ps ts)) (greatest_app 0 named ts) (h ps ts))))))
+
+  -- the outputs after the command
+  pub outs_all : (r : Bool) → w.restat ≡ r → (slots : Slots) (named old : List ℕ) → Ready slots named → Hold slots w.outputs old
+      → From meaning p e L (after_code r w.outputs (op.End ∷ [])) [] slots false true (stamps (map (output_path p) w.outputs) (λ new. Over true (changed r old new)))
+  outs_all false is slots named old ready hold =
+      let have : HaveFlagSlots false w.outputs = subst (λ (r : Bool). HaveFlagSlots r w.outputs) is wired.changed in
+      stat_all meaning p e L w.outputs slots _ wired.outputs λ new m.
+      let left : Left = map (λ t. (t, true)) new in
+      let after : Slots = stored slots w.outputs new in
+      let last : Slots = flagged after true (holders false w.outputs) in
+      let table : length after ≡ length p.slots = stored_length slots w.outputs new ∙ ready.table in
+      let leaves : Leaves w.outputs last left = holders_leave p e false after true w.outputs new table wired.outputs wired.kinds have (stored_hold p e slots w.outputs new ready.table wired.outputs wired.apart m) in
+      let newest : slice_get last w.newest ≡ Some (Some (Stamp (greatest named))) =
+      flagged_other after true (holders false w.outputs) w.newest (holders_no_flag false w.newest w.outputs wired.newest_flag) ∙ (stored_other slots w.outputs new w.newest wired.newest_stamp ∙ ready.newest) in
+      flag_all meaning p e L true (holders false w.outputs) after (holders_writable p e false w.outputs wired.outputs)
+      (finish meaning p e L (all_own last (greatest named) left newest leaves)
+      (subst (λ (xs : Left). Leaves w.outputs last xs) (sym (changed_plain false w.outputs old new refl (matched_of slots w.outputs old hold) m)) leaves))
+  outs_all true is slots named old ready hold =
+      let have : HaveFlagSlots true w.outputs = subst (λ (r : Bool). HaveFlagSlots r w.outputs) is wired.changed in
+      restat_all meaning p e L w.outputs slots old _ ready.table wired.outputs wired.apart wired.kinds hold λ new m.
+      let after : Slots = placed slots w.outputs (changed true old new) in
+      let leaves : Leaves w.outputs after (changed true old new) = placed_leaves p e slots w.outputs (changed true old new) ready.table wired.outputs wired.apart wired.kinds have m in
+      finish meaning p e L (all_own after (greatest named) (changed true old new)
+      (placed_other slots w.outputs (changed true old new) w.newest wired.newest_stamp wired.newest_flag ∙ ready.newest) leaves) leaves
+
+  -- from the place of the pool on
+  pub runs_all : (slots : Slots) (named old : List ℕ) → Ready slots named → Hold slots w.outputs old → From meaning p e L (run_code w) [] slots false false (runs meaning c named old)
+  runs_all slots named old ready hold =
+      take_place meaning p e L wired.pool
+      (text meaning p e L w.command (text_at p w.command) wired.command refl
+      (run meaning p e L (text_at p w.command) (map (output_path p) w.outputs) wired.paths refl
+      (release_place meaning p e L
+      (text meaning p e L w.command (text_at p w.command) wired.command refl
+      (load meaning p e L w.newest (Stamp (greatest named)) ready.newest refl
+      (deps_all w.depfile named _ wired.depfile λ paths swept.
+      keep meaning p e L (name c) (text_at p w.command) (greatest (named ++ swept)) paths wired.name refl
+      (outs_all w.restat refl slots named old ready hold)))))))
+
+  abbrev pub ends_as : List ℕ → List ℕ → Bool → Talk
+  ends_as named old b = if b then runs meaning c named old else Over false (unchanged old)
+
+  pub dirty_all : (slots : Slots) (named old : List ℕ) (a b : ℕ) (dirty : Bool) → Ready slots named → Hold slots w.outputs old → dirty ≡ true
+      → From meaning p e L (dirty_code w) (Stamp a ∷ Stamp b ∷ []) slots false false (ends_as named old dirty)
+  dirty_all slots named old a b dirty ready hold is =
+      subst (λ (d : Bool). From meaning p e L (dirty_code w) (Stamp a ∷ Stamp b ∷ []) slots false false (ends_as named old d)) (sym is)
+      (plain meaning p e L op.Drop (Stamp a ∷ Stamp b ∷ []) (Stamp b ∷ []) (λ l. refl) refl refl
+      (plain meaning p e L op.Drop (Stamp b ∷ []) [] (λ l. refl) refl refl (runs_all slots named old ready hold)))
+
+  pub clean_all : (slots : Slots) (named old : List ℕ) (dirty : Bool) (rest : List Instr) → Ready slots named → Hold slots w.outputs old → dirty ≡ false
+      → From meaning p e L (clean_code w ++ (op.End ∷ rest)) [] slots false false (ends_as named old dirty)
+  clean_all slots named old dirty rest ready hold is =
+      let last : Slots = flagged slots false (holders w.restat w.outputs) in
+      let leaves : Leaves w.outputs last (unchanged old) = holders_leave p e w.restat slots false w.outputs old ready.table wired.outputs wired.kinds wired.changed hold in
+      subst (λ (d : Bool). From meaning p e L (clean_code w ++ (op.End ∷ rest)) [] slots false false (ends_as named old d)) (sym is)
+      (flag_all meaning p e L false (holders w.restat w.outputs) slots (holders_writable p e w.restat w.outputs wired.outputs)
+      (finish meaning p e L (all_own last (greatest named) (unchanged old)
+      (flagged_other slots false (holders w.restat w.outputs) w.newest (holders_no_flag w.restat w.newest w.outputs wired.newest_flag) ∙ ready.newest) leaves) leaves))
+
+  pub cons_long : (x : Instr) (xs : List Instr) → 0 < length (x ∷ xs)
+  cons_long x xs = omega arith
+
+  pub run_long : 0 < length (run_code w)
+  run_long = omega arith
+
+  -- ---- the sweep and the comparison
+
+  -- what makes the edge dirty once its entry was looked at: the alarm a, and the mark m
+  abbrev pub Weighs : List ℕ → List ℕ → Option Recorded → Bool → ℕ → Type 0
+  Weighs named old entry a m = (ts : List ℕ) → is_dirty c named old entry ts ≡ (missing_from a ts || nat_lt m (greatest_from (greatest named) ts))
+
+  pub judge_all : (at : ℕ) (slots : Slots) (named old : List ℕ) (entry : Option Recorded) (a : Bool) (m : ℕ) → Ready slots named → Hold slots w.outputs old → Weighs named old entry a m
+      → drop (at + 6 + clean_len w) (code p e) ≡ dirty_code w → drop (at + 8 + clean_len w) (code p e) ≡ run_code w
+      → From meaning p e L (judge_code w at) (Paths (paths_in entry) 0 ∷ Flag a ∷ Stamp (greatest named) ∷ Stamp m ∷ []) slots false false
+      (stamps (paths_in entry) (λ swept. ends_as named old (is_dirty c named old entry swept)))
+  judge_all at slots named old entry a m ready hold weighs dirty_at run_at =
+      let tail : List Instr = clean_code w ++ (op.End ∷ dirty_code w) in
+      let long : suc (length (dirty_code w)) ≤ length tail = app_long (clean_code w) (op.End ∷ dirty_code w) in
+      sweep_all meaning p e L (paths_in entry) _ (paths_in entry) 0 a (greatest named) refl refl λ ts.
+      let b : Bool = missing_from a ts in
+      let g : ℕ = greatest_from (greatest named) ts in
+      let x : Bool = nat_lt m g in
+      let is : is_dirty c named old entry ts ≡ (b || x) = weighs ts in
+      plain meaning p e L op.Drop (Swept (paths_in entry) ∷ Flag b ∷ Stamp g ∷ Stamp m ∷ []) (Flag b ∷ Stamp g ∷ Stamp m ∷ []) (λ l. refl) refl refl
+      (jump_if meaning p e L (at + 6 + clean_len w) (dirty_code w) b dirty_at (omega (arith, long)) (cons_long op.Drop (op.Drop ∷ run_code w)) refl
+      (λ on. dirty_all slots named old g m (is_dirty c named old entry ts) ready hold (is ∙ ap (λ (y : Bool). y || x) on))
+      (λ off. plain meaning p e L op.Before (Stamp g ∷ Stamp m ∷ []) (Flag x ∷ []) (λ l. refl) refl refl
+      (jump_if meaning p e L (at + 8 + clean_len w) (run_code w) x run_at (omega (arith, long)) run_long refl
+      (λ late. subst (λ (d : Bool). From meaning p e L (run_code w) [] slots false false (ends_as named old d)) (sym (is ∙ (ap (λ (y : Bool). y || x) off ∙ late))) (runs_all slots named old ready hold))
+      (λ early. clean_all slots named old (is_dirty c named old entry ts) (dirty_code w) ready hold (is ∙ (ap (λ (y : Bool). y || x) off ∙ early))))))
+
+  -- the alarm of the edge
+  abbrev pub looks : Bool → Bool
+  looks r = r || not (has_source w.named)
+
+  abbrev pub alarm : Bool → List ℕ → Bool
+  alarm r old = alarm_of meaning p e L (looks r) old (some_flag start w.flags)
+
+  -- with a look at the outputs
+  pub weighs_looked : (named old : List ℕ) (entry : Option Recorded) (a : Bool) (m : ℕ) → (old ≡ [] → ⊥) → (not c.generator && is_new c.command entry) ≡ false
+      → a ≡ ((least old == 0) || some_flag start w.flags) → m ≡ mark c.restat old entry → Weighs named old entry a m
+  weighs_looked named old entry a m some same alarm_is mark_is ts =
+      let g : ℕ = greatest_from (greatest named) ts in
+      let full : a ≡ (some_missing old || some_changed c.named) = alarm_is ∙ (ap (λ (b : Bool). b || some_flag start w.flags) (missing_least old some) ∙ ap (λ (b : Bool). some_missing old || b) wired.flags_are) in
+      dirty_is c named old entry ts same
+      ∙ (ap (λ (b : Bool). missing_from b ts || nat_lt (mark c.restat old entry) g) (sym full) ∙ ap (λ (n : ℕ). missing_from a ts || nat_lt n g) (sym mark_is))
+
+  -- without one
+  pub weighs_unlooked : (named old : List ℕ) (entry : Option Recorded) (a : Bool) (m : ℕ) → (old ≡ [] → ⊥) → (not c.generator && is_new c.command entry) ≡ false
+      → w.restat ≡ false → 0 < greatest named → a ≡ some_flag start w.flags → m ≡ mark c.restat old entry → Weighs named old entry a m
+  weighs_unlooked named old entry a m some same plain positive alarm_is mark_is ts =
+      let g : ℕ = greatest_from (greatest named) ts in
+      dirty_unlooked c named old entry ts same plain some positive
+      ∙ (ap (λ (b : Bool). missing_from b ts || nat_lt (mark c.restat old entry) g) (sym (alarm_is ∙ wired.flags_are)) ∙ ap (λ (n : ℕ). missing_from a ts || nat_lt n g) (sym mark_is))
+
+  pub weighs : (r h : Bool) → w.restat ≡ r → has_source w.named ≡ h → (named old : List ℕ) (entry : Option Recorded) (m : ℕ) → (old ≡ [] → ⊥) → (not c.generator && is_new c.command entry) ≡ false
+      → IsPositive w.named (greatest named) → m ≡ mark c.restat old entry → Weighs named old entry (alarm_of meaning p e L (r || not h) old (some_flag start w.flags)) m
+  weighs true h is has named old entry m some same positive mark_is = weighs_looked named old entry _ m some same refl mark_is
+  weighs false true is has named old entry m some same positive mark_is = weighs_unlooked named old entry _ m some same is (positive has) refl mark_is
+  weighs false false is has named old entry m some same positive mark_is = weighs_looked named old entry _ m some same refl mark_is
+
+  -- what stands below the recorded paths
+  abbrev pub below : Bool → List ℕ → ℕ → List Value
+  below true old n = []
+  below false old n = Flag (alarm false old) ∷ Stamp n ∷ Stamp (least old) ∷ []
+
+  pub below_roomy : (r : Bool) (old : List ℕ) (n : ℕ) → IsRoomy (below r old n)
+  below_roomy true old n = refl
+  below_roomy false old n = refl
+
+  -- from where the mark is known and the command isn't another
+  pub judged_by : (r : Bool) → w.restat ≡ r → (rest : List Instr) (talk : Talk) (slots : Slots) (named old : List ℕ) (entry : Option Recorded) (b : ℕ) → Ready slots named → Hold slots w.outputs old
+      → (r ≡ true → b ≡ mark c.restat old entry)
+      → ((m : ℕ) → m ≡ mark c.restat old entry → From meaning p e L rest (Paths (paths_in entry) 0 ∷ Flag (alarm r old) ∷ Stamp (greatest named) ∷ Stamp m ∷ []) slots false false talk)
+      → From meaning p e L (ready_code r w rest) (Stamp b ∷ Paths (paths_in entry) 0 ∷ below r old (greatest named)) slots false false talk
+  judged_by true is rest talk slots named old entry b ready hold known h =
+      let ps : List Path = paths_in entry in
+      let n : ℕ = greatest named in
+      plain meaning p e L op.Swap (Stamp b ∷ Paths ps 0 ∷ []) (Paths ps 0 ∷ Stamp b ∷ []) (λ l. refl) refl refl
+      (load meaning p e L w.newest (Stamp n) ready.newest refl
+      (plain meaning p e L op.Swap (Stamp n ∷ Paths ps 0 ∷ Stamp b ∷ []) (Paths ps 0 ∷ Stamp n ∷ Stamp b ∷ []) (λ l. refl) refl refl
+      (alarm_all meaning p e L true w.outputs old w.flags start (Paths ps 0 ∷ Stamp n ∷ Stamp b ∷ []) refl hold wired.flags ready.foreign
+      (plain meaning p e L op.Swap (Flag (alarm true old) ∷ Paths ps 0 ∷ Stamp n ∷ Stamp b ∷ []) (Paths ps 0 ∷ Flag (alarm true old) ∷ Stamp n ∷ Stamp b ∷ []) (λ l. refl) refl refl
+      (h b (known refl))))))
+  judged_by false is rest talk slots named old entry b ready hold known h =
+      plain meaning p e L op.Drop (Stamp b ∷ Paths (paths_in entry) 0 ∷ below false old (greatest named)) (Paths (paths_in entry) 0 ∷ below false old (greatest named)) (λ l. refl) refl refl
+      (h (least old) (sym (ap (λ (r : Bool). mark r old entry) is)))
+
+  -- where the recorded command is another, the paths are swept all the same
+  pub skip_all : (r : Bool) (rest : List Instr) (talk : Talk) (slots : Slots) (old : List ℕ) (ps : List Path) (b n : ℕ)
+      → ((a : Bool) (x y : ℕ) → From meaning p e L rest (Paths ps 0 ∷ Flag a ∷ Stamp x ∷ Stamp y ∷ []) slots false false talk)
+      → From meaning p e L (skip_code r rest) (Stamp b ∷ Paths ps 0 ∷ below r old n) slots false false talk
+  skip_all true rest talk slots old ps b n h =
+      plain meaning p e L op.Swap (Stamp b ∷ Paths ps 0 ∷ []) (Paths ps 0 ∷ Stamp b ∷ []) (λ l. refl) refl refl
+      (plain meaning p e L op.Zero (Paths ps 0 ∷ Stamp b ∷ []) (Stamp 0 ∷ Paths ps 0 ∷ Stamp b ∷ []) (λ l. refl) refl refl
+      (plain meaning p e L op.Swap (Stamp 0 ∷ Paths ps 0 ∷ Stamp b ∷ []) (Paths ps 0 ∷ Stamp 0 ∷ Stamp b ∷ []) (λ l. refl) refl refl
+      (plain meaning p e L (op.Flag false) (Paths ps 0 ∷ Stamp 0 ∷ Stamp b ∷ []) (Flag false ∷ Paths ps 0 ∷ Stamp 0 ∷ Stamp b ∷ []) (λ l. refl) refl refl
+      (plain meaning p e L op.Swap (Flag false ∷ Paths ps 0 ∷ Stamp 0 ∷ Stamp b ∷ []) (Paths ps 0 ∷ Flag false ∷ Stamp 0 ∷ Stamp b ∷ []) (λ l. refl) refl refl (h false 0 b)))))
+  skip_all false rest talk slots old ps b n h =
+      plain meaning p e L op.Drop (Stamp b ∷ Paths ps 0 ∷ below false old n) (Paths ps 0 ∷ below false old n) (λ l. refl) refl refl (h (alarm false old) n (least old))
+
+  pub other_all : (rest : List Instr) (d : ℕ) (slots : Slots) (named old : List ℕ) (entry : Option Recorded) (b n : ℕ) → Ready slots named → Hold slots w.outputs old
+      → (not c.generator && is_new c.command entry) ≡ true → drop d (code p e) ≡ dirty_code w → length (dirty_code w) ≤ length rest
+      → From meaning p e L (other_code w d rest) (Stamp b ∷ Paths (paths_in entry) 0 ∷ below w.restat old n) slots false false
+      (stamps (paths_in entry) (λ swept. ends_as named old (is_dirty c named old entry swept)))
+  other_all rest d slots named old entry b n ready hold fresh dirty_at le =
+      skip_all w.restat (op.Sweep ∷ op.Drop ∷ op.Drop ∷ op.Jump d ∷ rest) _ slots old (paths_in entry) b n λ a x y.
+      sweep_all meaning p e L (paths_in entry) _ (paths_in entry) 0 a x refl refl λ ts.
+      plain meaning p e L op.Drop (Swept (paths_in entry) ∷ Flag (missing_from a ts) ∷ Stamp (greatest_from x ts) ∷ Stamp y ∷ []) (Flag (missing_from a ts) ∷ Stamp (greatest_from x ts) ∷ Stamp y ∷ []) (λ l. refl) refl refl
+      (plain meaning p e L op.Drop (Flag (missing_from a ts) ∷ Stamp (greatest_from x ts) ∷ Stamp y ∷ []) (Stamp (greatest_from x ts) ∷ Stamp y ∷ []) (λ l. refl) refl refl
+      (jump meaning p e L d (dirty_code w) dirty_at le (cons_long op.Drop (op.Drop ∷ run_code w)) refl
+      (dirty_all slots named old (greatest_from x ts) y (is_dirty c named old entry ts) ready hold (dirty_new c named old entry ts fresh))))
+
+  -- ---- the comparison of the command, over any stack with room
+
+  pub same_by : {rest : List Instr} {slots : Slots} {talk : Talk} (deep : List Value) → IsRoomy deep → (b : Bool) (t : List ℕ) (basis : ℕ) (ps : List Path)
+      → From meaning p e L rest (Flag (not (not b || not (same_text t (text_at p w.command)))) ∷ Stamp basis ∷ Paths ps 0 ∷ deep) slots false false talk
+      → From meaning p e L (same_code true w.command ++ rest) (Flag b ∷ Text t ∷ Stamp basis ∷ Paths ps 0 ∷ deep) slots false false talk
+  same_by deep low b t basis ps h =
+      let under : List Value = Stamp basis ∷ Paths ps 0 ∷ deep in
+      let d : List ℕ = text_at p w.command in
+      plain meaning p e L op.Not (Flag b ∷ Text t ∷ under) (Flag (not b) ∷ Text t ∷ under) (λ l. refl) refl (less (omega arith) low)
+      (plain meaning p e L op.Swap (Flag (not b) ∷ Text t ∷ under) (Text t ∷ Flag (not b) ∷ under) (λ l. refl) refl (less (omega arith) low)
+      (text meaning p e L w.command d wired.command (less (omega arith) low)
+      (plain meaning p e L op.Equal (Text d ∷ Text t ∷ Flag (not b) ∷ under) (Flag (same_text t d) ∷ Flag (not b) ∷ under) (λ l. refl) refl (less (omega arith) low)
+      (plain meaning p e L op.Not (Flag (same_text t d) ∷ Flag (not b) ∷ under) (Flag (not (same_text t d)) ∷ Flag (not b) ∷ under) (λ l. refl) refl (less (omega arith) low)
+      (plain meaning p e L op.Or (Flag (not (same_text t d)) ∷ Flag (not b) ∷ under) (Flag (not b || not (same_text t d)) ∷ under) (λ l. refl) refl (less (omega arith) low)
+      (plain meaning p e L op.Not (Flag (not b || not (same_text t d)) ∷ under) (Flag (not (not b || not (same_text t d))) ∷ under) (λ l. refl) refl (less (omega arith) low) h))))))
+
+  pub no_text : (t : List ℕ) → (t ≡ [] → ⊥) → same_text [] t ≡ false
+  no_text [] some = absurd (some refl)
+  no_text (x ∷ xs) some = refl
+
+  pub not_not : (b : Bool) → not (not b) ≡ b
+  not_not true = refl
+  not_not false = refl
+
+  -- the shorter comparison
+  pub short_by : {rest : List Instr} {slots : Slots} {talk : Talk} (deep : List Value) → IsRoomy deep → (b : Bool) (t : List ℕ) (basis : ℕ) (ps : List Path)
+      → From meaning p e L rest (Flag (same_text t (text_at p w.command)) ∷ Stamp basis ∷ Paths ps 0 ∷ deep) slots false false talk
+      → From meaning p e L (same_code false w.command ++ rest) (Flag b ∷ Text t ∷ Stamp basis ∷ Paths ps 0 ∷ deep) slots false false talk
+  short_by deep low b t basis ps h =
+      let under : List Value = Stamp basis ∷ Paths ps 0 ∷ deep in
+      plain meaning p e L op.Drop (Flag b ∷ Text t ∷ under) (Text t ∷ under) (λ l. refl) refl (less (omega arith) low)
+      (text meaning p e L w.command (text_at p w.command) wired.command (less (omega arith) low)
+      (plain meaning p e L op.Equal (Text (text_at p w.command) ∷ Text t ∷ under) (Flag (same_text t (text_at p w.command)) ∷ under) (λ l. refl) refl (less (omega arith) low) h))
+
+  pub same_all : {rest : List Instr} {slots : Slots} {talk : Talk} (blank : Bool) → w.blank ≡ blank → (deep : List Value) → IsRoomy deep → (o : Option Recorded)
+      → From meaning p e L rest (Flag (not (is_new c.command o)) ∷ Stamp (basis_in o) ∷ Paths (paths_in o) 0 ∷ deep) slots false false talk
+      → From meaning p e L (same_code blank w.command ++ rest) (entry_values o deep) slots false false talk
+  same_all true is deep low (Some y) h = same_by deep low true y.command y.basis y.paths h
+  same_all true is deep low None h = same_by deep low false [] 0 [] h
+  same_all {rest = rest} {slots = slots} {talk = talk} false is deep low (Some y) h =
+      short_by deep low true y.command y.basis y.paths (subst (λ (b : Bool). From meaning p e L rest (Flag b ∷ Stamp y.basis ∷ Paths y.paths 0 ∷ deep) slots false false talk) (not_not (same_text y.command (text_at p w.command))) h)
+  same_all {rest = rest} {slots = slots} {talk = talk} false is deep low None h =
+      short_by deep low false [] 0 [] (subst (λ (b : Bool). From meaning p e L rest (Flag b ∷ Stamp 0 ∷ Paths [] 0 ∷ deep) slots false false talk) (sym (no_text (text_at p w.command) (wired.unblank is))) h)
+
+  -- ---- a generator looks at no command
+
+  pub drop_two : {rest : List Instr} {slots : Slots} {talk : Talk} (deep : List Value) → IsRoomy deep → (o : Option Recorded)
+      → From meaning p e L rest (Stamp (basis_in o) ∷ Paths (paths_in o) 0 ∷ deep) slots false false talk → From meaning p e L (op.Drop ∷ op.Drop ∷ rest) (entry_values o deep) slots false false talk
+  drop_two deep low (Some y) h =
+      plain meaning p e L op.Drop (entry_values (Some y) deep) (Text y.command ∷ Stamp y.basis ∷ Paths y.paths 0 ∷ deep) (λ l. refl) refl (less (omega arith) low)
+      (plain meaning p e L op.Drop (Text y.command ∷ Stamp y.basis ∷ Paths y.paths 0 ∷ deep) (Stamp y.basis ∷ Paths y.paths 0 ∷ deep) (λ l. refl) refl (less (omega arith) low) h)
+  drop_two deep low None h =
+      plain meaning p e L op.Drop (entry_values None deep) (Text [] ∷ Stamp 0 ∷ Paths [] 0 ∷ deep) (λ l. refl) refl (less (omega arith) low)
+      (plain meaning p e L op.Drop (Text [] ∷ Stamp 0 ∷ Paths [] 0 ∷ deep) (Stamp 0 ∷ Paths [] 0 ∷ deep) (λ l. refl) refl (less (omega arith) low) h)

@@ -1,0 +1,49 @@
+//! Laws of the images of all manifests.
+ghost use Rattle.plan_compile.specs.Faithful.{ImageIsFaithful, ManifestsAreSound, OneAssignment};
+ghost use Rattle.plan_compile.specs.Told.{ImageIsShaped, ImageMeans};
+
+use crate::laws::{command_means, command_shaped, phony_means, phony_shaped};
+use plan_graph::{
+    defaults_ascend, files_complete, producers_waited, ranks_rise, waits_ascend,
+};
+use plan_image::split_law;
+
+/// A manifest that has a graph is sound: the files of its edges are in the table, no file is made twice, and ranks rise
+/// along waits.
+pub fn manifests_are_sound()
+    ensures { ManifestsAreSound }
+{
+    files_complete();
+    producers_waited();
+    ranks_rise();
+    waits_ascend();
+    defaults_ascend();
+}
+
+/// The image has the manifest's edges with their labels, pools, waits and ranks, its files, and its defaults.
+pub fn image_is_faithful()
+    ensures { ImageIsFaithful }
+{}
+
+/// What an edge leaves for an output is what each user of that file reads.
+pub fn one_assignment()
+    ensures { OneAssignment }
+{}
+
+/// Each edge, run alone with what its waits left, keeps to the out-of-date rule, as it is told by the manifest.
+pub fn image_means()
+    ensures { ImageMeans }
+{
+    split_law();
+    command_means();
+    phony_means();
+}
+
+/// The image is well shaped: the verifier refuses it for no cause but want of memory.
+pub fn image_is_shaped()
+    ensures { ImageIsShaped }
+{
+    split_law();
+    command_shaped();
+    phony_shaped();
+}
