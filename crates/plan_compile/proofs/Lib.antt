@@ -25,3 +25,4 @@ mod LawLemmas
 mod OnceLemmas
 mod MemberLemmas
 mod SoundLemmas
+mod BuildLemmas

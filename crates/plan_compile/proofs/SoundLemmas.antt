@@ -1,5 +1,5 @@
 -- A manifest that has a graph is sound: its edges' files are in the table, ranks rise along waits, no file is made twice.
-use Rattle.std.proofs.Common.{◌≡◌, ℕ, zero, suc, ◌+◌, ◌<◌, ◌≤◌, Bool, true, false, List, [], ◌∷◌, ◌++◌, length, map, take, drop, Option, Some, None, refl, sym, ap, subst, ◌∙◌, arith, inl, inr}
+use Rattle.std.proofs.Common.{◌≡◌, ℕ, zero, suc, ◌+◌, ◌<◌, ◌≤◌, Bool, true, false, List, [], ◌∷◌, ◌++◌, length, map, take, drop, Option, Some, None, refl, sym, ap, subst, ◌∙◌, arith, cond, inl, inr}
 use Rattle.std.specs.Prelude.{◌⊎◌, ◌||◌, ◌==◌, not, slice_get, slice_index, get_or, nat_le, nat_lt, Contains, All, filter, flat_map, bytes_eq, if◌then◌else◌}
 use Rattle.std.specs.List.{list_any}
 use Rattle.std.proofs.lemmas.Bool.{eqb-true, eq-eqb, lt-leb, lt-ltb}
@@ -15,12 +15,12 @@ use Rattle.plan_graph.specs.declared.fault.GraphFault.{GraphFault}
 use Rattle.plan_graph.specs.declared.fault.GraphFault.TheVariants.{TwoProducers}
 use Rattle.plan_graph.specs.declared.graph_data.Graph.{Graph}
 use Rattle.plan_graph.specs.Cycles.{WaitsFor}
-use Rattle.plan_graph.specs.Files.{Path, number_of, paths_in}
-use Rattle.plan_graph.specs.Graph.{IsGraph, outputs_of, inputs_named, named_inputs_of, order_only_of, inputs_of, all_waits, files_of, rows_of, producer_of, second_producer, unknown_target, edge_limit, targets_above, fault_past, first_fault}
+use Rattle.plan_graph.specs.Files.{Path, number_of, paths_in, producer_at}
+use Rattle.plan_graph.specs.Graph.{IsGraph, outputs_of, inputs_named, named_inputs_of, order_only_of, inputs_of, all_waits, files_of, rows_of, producer_of, producer_from, second_producer, unknown_target, edge_limit, targets_above, fault_past, first_fault}
 use Rattle.plan_graph.specs.Graph.{without_own as without_own_paths}
-use Rattle.plan_graph.specs.Laws.{FilesComplete, ProducersWaited, RanksRise, WaitsAscend, DefaultsAscend}
+use Rattle.plan_graph.specs.Laws.{FilesComplete, ProducersNumbered, ProducersWaited, RanksRise, WaitsAscend, DefaultsAscend}
 use Rattle.plan_verify.specs.Members.{is_member}
-use Rattle.plan_compile.specs.Builds.{Build, Builds, without_own, named_count, build_at, builds_from, builds}
+use Rattle.plan_compile.specs.Builds.{Build, Builds, without_own, without_made, is_maker, named_count, build_at, builds_from, builds}
 use Rattle.plan_compile.specs.Faithful.{IsEdge, IsSound}
 use Rattle.plan_compile.proofs.ListLemmas.{some_is, bool_cases}
 use Rattle.plan_compile.proofs.MemberLemmas.{In, in_list, contained, in_get, get_in, member_in, in_member, in_take, in_drop, filter_in, in_filter, in_map, map_in, in_append, append_left, append_right, none_above, of_all, get_lt, row_of}
@@ -174,11 +174,11 @@ module _ (m : Manifest) (g : Graph) (graph : IsGraph m g) (complete : FilesCompl
 
   named_input : (n : ℕ) (e : ManifestEdge) (f : ℕ) → slice_get m.edges n ≡ Some e → In f (build_at g n e).named
       → (path : Path) × In path (inputs_named e) × (number_of table path ≡ f) × (e.phony ≡ true → is_member f (get_or g.outputs n []) ≡ false)
-  named_input n e f at there = kept_input n e f (take (named_count e) (get_or g.inputs n [])) at (λ k i. in_take (named_count e) (get_or g.inputs n []) k i) there
+  named_input n e f at there = kept_input n e f (take (named_count e (get_or g.inputs n [])) (get_or g.inputs n [])) at (λ k i. in_take (named_count e (get_or g.inputs n [])) (get_or g.inputs n []) k i) there
 
   ordered_input : (n : ℕ) (e : ManifestEdge) (f : ℕ) → slice_get m.edges n ≡ Some e → In f (build_at g n e).order_only
       → (path : Path) × In path (inputs_named e) × (number_of table path ≡ f) × (e.phony ≡ true → is_member f (get_or g.outputs n []) ≡ false)
-  ordered_input n e f at there = kept_input n e f (drop (named_count e) (get_or g.inputs n [])) at (λ k i. in_drop (named_count e) (get_or g.inputs n []) k i) there
+  ordered_input n e f at there = kept_input n e f (drop (named_count e (get_or g.inputs n [])) (get_or g.inputs n [])) at (λ k i. in_drop (named_count e (get_or g.inputs n [])) (get_or g.inputs n []) k i) there
 
   -- ---- inputs, as the graph speaks of them
 
@@ -220,10 +220,68 @@ module _ (m : Manifest) (g : Graph) (graph : IsGraph m g) (complete : FilesCompl
       by_part (inr i) = by_rest (in_append e.paths.implicit_inputs e.paths.order_only_inputs path i)
 
   -- two paths of one number are one
-  one_path : (n k : ℕ) (e d : ManifestEdge) (path other : Path) (f : ℕ) → slice_get m.edges n ≡ Some e → slice_get m.edges k ≡ Some d
+  pub one_path : (n k : ℕ) (e d : ManifestEdge) (path other : Path) (f : ℕ) → slice_get m.edges n ≡ Some e → slice_get m.edges k ≡ Some d
       → In path (outputs_of e ++ inputs_named e) → In other (outputs_of d ++ inputs_named d) → number_of table path ≡ f → number_of table other ≡ f → path ≡ other
   one_path n k e d path other f at there i j h l =
       some_is path other (sym (stands n e path at i) ∙ ap (λ (q : ℕ). slice_get table q) (h ∙ sym l) ∙ stands k d other there j)
+
+  -- ---- the files that an edge makes
+
+  producer_place : (k : ℕ) (es : List ManifestEdge) (path : Path) (n : ℕ) → producer_from k es path ≡ Some n
+      → (j : ℕ) × (d : ManifestEdge) × (n ≡ k + j) × (slice_get es j ≡ Some d) × (is_among (outputs_of d) path ≡ true)
+  producer_place k [] path n h = absurd cc
+  producer_place k (d ∷ es) path n h =
+      elim (bool_cases (is_among (outputs_of d) path)) as (λ c. (j : ℕ) × (x : ManifestEdge) × (n ≡ k + j) × (slice_get (d ∷ es) j ≡ Some x) × (is_among (outputs_of x) path ≡ true)) [
+        | inl makes ↦
+            let is : k ≡ n = some_is k n (subst (λ (b : Bool). (if b then Some k else producer_from (k + 1) es path) ≡ Some n) makes h) in
+            (0, d, omega (arith, is), refl, makes)
+        | inr other ↦
+            let r = producer_place (k + 1) es path n (subst (λ (b : Bool). (if b then Some k else producer_from (k + 1) es path) ≡ Some n) other h) in
+            (suc r.0, r.1, omega (arith, r.2), r.3, r.4)
+      ]
+
+  both_ways : (a b : Bool) → (a ≡ true → b ≡ true) → (b ≡ true → a ≡ true) → a ≡ b
+  both_ways true b f h = sym (f refl)
+  both_ways false true f h = h refl
+  both_ways false false f h = refl
+
+  -- an edge makes exactly its outputs
+  pub own_made : ProducersNumbered → (n : ℕ) (e : ManifestEdge) (f : ℕ) → slice_get m.edges n ≡ Some e → In f (get_or g.inputs n [])
+      → is_maker (producer_at g.files f) n ≡ is_member f (get_or g.outputs n [])
+  own_made numbered n e f at there =
+      let p = in_map (number_of table) (inputs_named e) f (subst (λ (fs : List ℕ). In f fs) (inputs_are n e at) there) in
+      let named : In p.0 (outputs_of e ++ inputs_named e) = append_right (outputs_of e) (inputs_named e) p.0 p.1 in
+      let maker : producer_at g.files f ≡ producer_of m.edges p.0 =
+          ap (λ (k : ℕ). producer_at g.files k) (sym p.2 ∙ ap (λ (ps : List Path). number_of ps p.0) (sym graph.files)) ∙ numbered g.files p.0 ∙ graph.producers p.0 in
+      both_ways (is_maker (producer_at g.files f) n) (is_member f (get_or g.outputs n []))
+      (λ h. makes_it p.0 (producer_of m.edges p.0) refl (ap (λ (o : Option ℕ). is_maker o n) (sym maker) ∙ h) p.2)
+      (λ h.
+          let q = in_map (number_of table) (outputs_of e) f (subst (λ (fs : List ℕ). In f fs) (outputs_are n e at) (member_in f (get_or g.outputs n []) h)) in
+          let same : p.0 ≡ q.0 = one_path n n e e p.0 q.0 f at at named (append_left (outputs_of e) (inputs_named e) q.0 q.1) p.2 q.2 in
+          let own : producer_of m.edges p.0 ≡ Some n = ap (λ (path : Path). producer_of m.edges path) same ∙ graph.own n e q.0 at (contained (outputs_of e) q.0 q.1) in
+          ap (λ (o : Option ℕ). is_maker o n) (maker ∙ own) ∙ eq-eqb n n refl)
+    where
+      makes_it : (path : Path) (o : Option ℕ) → producer_of m.edges path ≡ o → is_maker o n ≡ true → number_of table path ≡ f → is_member f (get_or g.outputs n []) ≡ true
+      makes_it path None is h number = absurd cc
+      makes_it path (Some k) is h number =
+          let r = producer_place 0 m.edges path k is in
+          let place : r.0 ≡ n = let eq : k ≡ n = eqb-true k n h in omega (arith, r.2, eq) in
+          let edge : r.1 ≡ e = some_is r.1 e (sym r.3 ∙ ap (λ (x : ℕ). slice_get m.edges x) place ∙ at) in
+          let own : In path (outputs_of e) = among_in (outputs_of e) path (ap (λ (d : ManifestEdge). is_among (outputs_of d) path) (sym edge) ∙ r.4) in
+          in_member f (get_or g.outputs n []) (subst (λ (x : ℕ). In x (get_or g.outputs n [])) number
+          (subst (λ (fs : List ℕ). In (number_of table path) fs) (sym (outputs_are n e at)) (map_in (number_of table) (outputs_of e) path own)))
+
+  filter_same : (a b : ℕ → Bool) (row : List ℕ) → ((f : ℕ) → In f row → a f ≡ b f) → filter (λ f. not (a f)) row ≡ filter (λ f. not (b f)) row
+  filter_same a b [] h = refl
+  filter_same a b (f ∷ row) h =
+      ap (λ (c : Bool). cond (not c) (f ∷ filter (λ k. not (a k)) row) (filter (λ k. not (a k)) row)) (h f (inl refl))
+      ∙ ap (λ (fs : List ℕ). cond (not (b f)) (f ∷ fs) fs) (filter_same a b row (λ k i. h k (inr i)))
+
+  pub without_same : ProducersNumbered → (n : ℕ) (e : ManifestEdge) (row : List ℕ) → slice_get m.edges n ≡ Some e → ((f : ℕ) → In f row → In f (get_or g.inputs n []))
+      → (phony : Bool) → without_made g.files n phony row ≡ without_own phony (get_or g.outputs n []) row
+  without_same numbered n e row at part true =
+      filter_same (λ f. is_maker (producer_at g.files f) n) (λ f. is_member f (get_or g.outputs n [])) row (λ f i. own_made numbered n e f at (part f i))
+  without_same numbered n e row at part false = refl
 
   -- ---- the record
 

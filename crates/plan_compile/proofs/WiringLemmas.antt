@@ -9,7 +9,7 @@ use Rattle.plan_image.specs.declared.instr.Kind.TheVariants.{Stamp, Flag}
 use Rattle.plan_image.specs.declared.image.Slot.{Slot}
 use Rattle.plan_image.specs.declared.image.Edge.{Edge}
 use Rattle.plan_image.specs.declared.image.Parts.{Parts}
-use Rattle.plan_verify.specs.Members.{is_member}
+use Rattle.plan_verify.specs.Members.{is_member, with_member}
 use Rattle.plan_verify.specs.Tables.{owned_by, kind_in, lent_by, waits_in, waits_of, own_slots, outputs_of, outputs_in, pool_in, is_outside, pool_outside}
 use Rattle.plan_compile.specs.declared.wiring.Input.{Input}
 use Rattle.plan_compile.specs.declared.wiring.Input.TheVariants.{File, Made}
@@ -102,32 +102,41 @@ sources_right t outputs named (f ∷ fs) inside =
 
 -- ---- the flags of inputs, each once
 
-member_app : (s : ℕ) (xs : List ℕ) (y : ℕ) → is_member s (xs ++ y ∷ []) ≡ (is_member s xs || ((y == s) || false))
-member_app s [] y = refl
-member_app s (x ∷ xs) y =
-    elim (x == s) as (λ b. (b || is_member s (xs ++ y ∷ [])) ≡ ((b || is_member s xs) || ((y == s) || false))) [ true ↦ refl | false ↦ member_app s xs y ]
-
-or_same : (a b : Bool) → (b ≡ true → a ≡ true) → (a || (b || false)) ≡ a
-or_same true b h = refl
-or_same false true h = sym (h refl)
-or_same false false h = refl
-
 or_none : (a : Bool) → (a || false) ≡ a
 or_none true = refl
 or_none false = refl
 
-or_move : (a b c : Bool) → ((a || (b || false)) || c) ≡ (a || (b || c))
-or_move true b c = refl
+or_move : (a b c : Bool) → ((b || a) || c) ≡ (a || (b || c))
+or_move true true c = refl
+or_move true false c = refl
 or_move false true c = refl
 or_move false false c = refl
 
-with_flag_member : (s c : ℕ) (flags : List ℕ) → is_member s (if is_member c flags then flags else flags ++ c ∷ []) ≡ (is_member s flags || ((c == s) || false))
-with_flag_member s c flags =
-    elim (bool_cases (is_member c flags)) as (λ o. is_member s (if is_member c flags then flags else flags ++ c ∷ []) ≡ (is_member s flags || ((c == s) || false))) [
-      | inl there ↦
-          ap (λ (b : Bool). is_member s (if b then flags else flags ++ c ∷ [])) there
-          ∙ sym (or_same (is_member s flags) (c == s) (λ is. subst (λ (n : ℕ). is_member n flags ≡ true) (eqb-true c s is) there))
-      | inr new ↦ ap (λ (b : Bool). is_member s (if b then flags else flags ++ c ∷ [])) new ∙ member_app s flags c
+or_swap : (a b c d : Bool) → a ≡ (b || c) → (d || a) ≡ (b || (d || c))
+or_swap a b c true h = sym (or_right b true refl)
+or_swap a b c false h = h
+
+-- an equal number is there already
+or_there : (n m s : ℕ) (rest : Bool) → n ≡ m → ((m == s) || rest) ≡ ((n == s) || ((m == s) || rest))
+or_there n m s rest is = subst (λ (k : ℕ). ((m == s) || rest) ≡ ((k == s) || ((m == s) || rest))) (sym is) (twice (m == s))
+  where
+    twice : (a : Bool) → (a || rest) ≡ (a || (a || rest))
+    twice true = refl
+    twice false = refl
+
+with_member_has : (s n : ℕ) (ms : List ℕ) → is_member s (with_member n ms) ≡ ((n == s) || is_member s ms)
+with_member_has s n [] = refl
+with_member_has s n (m ∷ ms) =
+    elim (bool_cases (nat_lt n m)) as (λ c. is_member s (if nat_lt n m then n ∷ m ∷ ms else if n == m then m ∷ ms else m ∷ with_member n ms) ≡ ((n == s) || ((m == s) || is_member s ms))) [
+      | inl less ↦ ap (λ (b : Bool). is_member s (if b then n ∷ m ∷ ms else if n == m then m ∷ ms else m ∷ with_member n ms)) less
+      | inr more ↦
+          ap (λ (b : Bool). is_member s (if b then n ∷ m ∷ ms else if n == m then m ∷ ms else m ∷ with_member n ms)) more
+          ∙ (elim (bool_cases (n == m)) as (λ c. is_member s (if n == m then m ∷ ms else m ∷ with_member n ms) ≡ ((n == s) || ((m == s) || is_member s ms))) [
+              | inl same ↦ ap (λ (b : Bool). is_member s (if b then m ∷ ms else m ∷ with_member n ms)) same ∙ or_there n m s (is_member s ms) (eqb-true n m same)
+              | inr other ↦
+                  ap (λ (b : Bool). is_member s (if b then m ∷ ms else m ∷ with_member n ms)) other
+                  ∙ or_swap (is_member s (with_member n ms)) (n == s) (is_member s ms) (m == s) (with_member_has s n ms)
+            ])
     ]
 
 flags_are : (s : ℕ) (flags : List ℕ) (is : List Input) → is_member s (flags_from flags is) ≡ (is_member s flags || is_member s (flags_of is))
@@ -135,7 +144,7 @@ flags_are s flags [] = sym (or_none (is_member s flags))
 flags_are s flags (File f ∷ is) = flags_are s flags is
 flags_are s flags (Made stamp c ∷ is) =
     flags_are s (with_flag flags (Made stamp c)) is
-    ∙ ap (λ (b : Bool). b || is_member s (flags_of is)) (with_flag_member s c flags)
+    ∙ ap (λ (b : Bool). b || is_member s (flags_of is)) (with_member_has s c flags)
     ∙ or_move (is_member s flags) (c == s) (is_member s (flags_of is))
 
 pub have_flags : (is : List Input) → HaveFlags is (flags_once is)

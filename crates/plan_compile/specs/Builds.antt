@@ -1,10 +1,10 @@
 -- The edges of a manifest, each with its files by their numbers.
-use Rattle.std.specs.Prelude.{ℕ, zero, suc, ◌+◌, Bool, true, false, not, ◌&&◌, List, [], ◌∷◌, length, map, take, drop, filter, get_or, slice_index, if◌then◌else◌}
+use Rattle.std.specs.Prelude.{ℕ, zero, suc, ◌-◌, ◌==◌, Bool, true, false, not, List, [], ◌∷◌, length, take, drop, filter, get_or, slice_index, Option, Some, None}
 use Rattle.plan_scope.specs.declared.manifest.Edge.{Edge as ManifestEdge}
 use Rattle.plan_scope.specs.declared.manifest.Pool.{Pool as ManifestPool}
 use Rattle.plan_scope.specs.declared.manifest.Manifest.{Manifest}
 use Rattle.plan_graph.specs.declared.graph_data.Graph.{Graph}
-use Rattle.plan_graph.specs.Files.{paths_in}
+use Rattle.plan_graph.specs.Files.{Table, paths_in, producer_at}
 use Rattle.plan_verify.specs.Members.{is_member}
 
 -- an edge: what its manifest says of it, the numbers of its files, the edges that it waits for, and its rank
@@ -22,17 +22,17 @@ abbrev pub without_own : Bool → (outputs inputs : List ℕ) → List ℕ
 without_own true outputs inputs = filter (λ f. not (is_member f outputs)) inputs
 without_own false outputs inputs = inputs
 
--- how many of an edge's inputs are explicit or implicit: they stand in front
-abbrev pub named_count : ManifestEdge → ℕ
-named_count e = length e.paths.inputs + length e.paths.implicit_inputs
+-- how many of an edge's inputs are explicit or implicit: the order-only ones stand last
+abbrev pub named_count : ManifestEdge → List ℕ → ℕ
+named_count e inputs = length inputs - length e.paths.order_only_inputs
 
 -- an edge with these rows of a graph
 abbrev pub build_of : ManifestEdge → (outputs inputs waits : List ℕ) → (rank : ℕ) → Build
 build_of e outputs inputs waits rank = record {
   edge = e;
   outputs = outputs;
-  named = without_own e.phony outputs (take (named_count e) inputs);
-  order_only = without_own e.phony outputs (drop (named_count e) inputs);
+  named = without_own e.phony outputs (take (named_count e inputs) inputs);
+  order_only = without_own e.phony outputs (drop (named_count e inputs) inputs);
   waits = waits;
   rank = rank;
 }
@@ -55,3 +55,13 @@ pub record Builds : Type 0 where
 
 abbrev pub builds : Manifest → Graph → Builds
 builds m g = record { files = paths_in g.files; edges = builds_from g 0 m.edges; pools = m.pools; defaults = g.defaults }
+
+-- the edge is the one that makes a file
+abbrev pub is_maker : Option ℕ → ℕ → Bool
+is_maker (Some producer) edge = producer == edge
+is_maker None edge = false
+
+-- numbers of files without those of files that the edge of that number makes, where it is a phony
+abbrev pub without_made : Table → ℕ → Bool → List ℕ → List ℕ
+without_made files edge true numbers = filter (λ f. not (is_maker (producer_at files f) edge)) numbers
+without_made files edge false numbers = numbers

@@ -11,3 +11,4 @@ pub mod Names
 pub mod Images
 pub mod Faithful
 pub mod Told
+pub mod Faults

@@ -3,7 +3,7 @@ use Rattle.std.specs.Prelude.{ℕ, zero, suc, ◌+◌, Bool, true, false, not, �
 use Rattle.plan_image.specs.declared.instr.Kind.{Kind}
 use Rattle.plan_image.specs.declared.instr.Kind.TheVariants.{Stamp, Flag}
 use Rattle.plan_image.specs.declared.image.Slot.{Slot}
-use Rattle.plan_verify.specs.Members.{is_member}
+use Rattle.plan_verify.specs.Members.{is_member, with_member}
 use Rattle.plan_compile.specs.declared.wiring.Input.{Input}
 use Rattle.plan_compile.specs.declared.wiring.Input.TheVariants.{File, Made}
 use Rattle.plan_compile.specs.declared.wiring.Output.{Output}
@@ -136,12 +136,12 @@ sources outputs named (f ∷ fs) = if is_some (find f outputs) || is_member f na
 
 abbrev pub with_flag : List ℕ → Input → List ℕ
 with_flag flags (File f) = flags
-with_flag flags (Made stamp changed) = if is_member changed flags then flags else flags ++ changed ∷ []
+with_flag flags (Made stamp changed) = with_member changed flags
 
--- the flag slots of these inputs, each once, in the order in which they first stand, behind some
 abbrev pub flags_from : List ℕ → List Input → List ℕ
 flags_from flags [] = flags
 flags_from flags (i ∷ is) = flags_from (with_flag flags i) is
 
+-- the flag slots of these inputs, each once, ascending
 abbrev pub flags_once : List Input → List ℕ
 flags_once inputs = flags_from [] inputs

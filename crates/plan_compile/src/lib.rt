@@ -10,11 +10,14 @@
 //! docs/COMPILER.md has it rule by rule.
 #![tactic(auto)]
 
+mod build;
+mod fault;
 mod form;
 mod image_laws;
 mod laws;
 mod wiring;
 
+pub use fault::CompileFault;
 pub use form::Form;
 pub use image_laws::{
     image_is_faithful, image_is_shaped, image_means, manifests_are_sound, one_assignment,

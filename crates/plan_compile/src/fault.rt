@@ -1,0 +1,44 @@
+//! Why a manifest has no image.
+
+ghost use Rattle.std.specs.Prelude.{◌≡◌};
+ghost use Rattle.plan_compile.specs.Faults.{number_of};
+ghost use Rattle.plan_compile.specs.declared.fault.CompileFault.TheVariants as fault;
+
+use std::alloc::{AllocError, AllocFailed};
+
+/// Why a manifest has no image.
+#[derive(Clone, Copy, Debug, PartialEq, Eq)]
+pub enum CompileFault {
+    /// The image would go past a limit of images; docs/IMAGE.md has them.
+    Limit,
+    /// Memory ran out.
+    Memory,
+}
+
+impl CompileFault {
+    /// The number under which the fault is printed.
+    pub fn number(&self) -> u8
+        ensures { result ≡ number_of self.now }
+    {
+        match self {
+            CompileFault::Limit => 100,
+            CompileFault::Memory => 101,
+        }
+    }
+}
+
+impl From<AllocError> for CompileFault {
+    ghost from_gives = { λ _ e. e ≡ fault.Memory };
+
+    fn from(_e: AllocError) -> CompileFault {
+        CompileFault::Memory
+    }
+}
+
+impl<T: Drop> From<AllocFailed<T>> for CompileFault {
+    ghost from_gives = { λ _ e. e ≡ fault.Memory };
+
+    fn from(_e: AllocFailed<T>) -> CompileFault {
+        CompileFault::Memory
+    }
+}
