@@ -13,7 +13,7 @@ use Rattle.plan_compile.specs.declared.wiring.Output.{Output}
 use Rattle.plan_compile.specs.declared.form.Form.{Form}
 use Rattle.plan_compile.specs.declared.form.Form.TheVariants.{OneFlag, OwnFlags, Gathers, Alone}
 use Rattle.plan_compile.specs.Means.{IsNoStamp, IsNoFlag, AreApart, HaveOwnFlags, ShareFlag, Share, slots_of, files_of, IsOwnOf, AreOutputs}
-use Rattle.plan_compile.specs.Slots.{stamps, pairs, kinds_by, past_stamps, past_pairs, outputs_flagged, outputs_apart, outputs_sharing, outputs_by, find}
+use Rattle.plan_compile.specs.Slots.{stamps, pairs, kinds_by, outputs_flagged, outputs_apart, outputs_sharing, outputs_by, find}
 use Rattle.plan_compile.proofs.ListLemmas.{some_is, bool_cases, or_cases, or_false, or_left, or_right}
 
 -- ---- slots from b on are of an edge and these kinds
@@ -37,47 +37,28 @@ module _ (p : Parts) (e : ℕ) where
   pub rest_run : (b : ℕ) (k : Kind) (ks : List Kind) → Runs p e b (k ∷ ks) → Runs p e (suc b) ks
   rest_run b k ks run i l g = let same : suc b + i ≡ b + suc i = omega arith in ap (λ (n : ℕ). slice_get p.slots n) same ∙ run (suc i) l g
 
-  pub past_stamps_run : (b : ℕ) (fs : List ℕ) (rest : List Kind) → Runs p e b (stamps fs rest) → Runs p e (past_stamps b fs) rest
-  past_stamps_run b [] rest run = run
-  past_stamps_run b (f ∷ fs) rest run = past_stamps_run (suc b) fs rest (rest_run b Stamp (stamps fs rest) run)
-
-  pub past_pairs_run : (b : ℕ) (fs : List ℕ) (rest : List Kind) → Runs p e b (pairs fs rest) → Runs p e (past_pairs b fs) rest
-  past_pairs_run b [] rest run = run
-  past_pairs_run b (f ∷ fs) rest run =
-      past_pairs_run (suc (suc b)) fs rest (rest_run (suc b) Flag (pairs fs rest) (rest_run b Stamp (Flag ∷ pairs fs rest) run))
-
   -- ---- the outputs' slots are the edge's own
 
-  pub flagged_own : (b c : ℕ) (fs : List ℕ) (rest : List Kind) → Runs p e b (stamps fs rest) → Holds p e Flag c → Inside p fs → AreOutputs p e (outputs_flagged b c fs)
-  flagged_own b c [] rest run flag inside = tt
-  flagged_own b c (f ∷ fs) rest run flag inside =
+  pub flagged_own : (b c : ℕ) (fs : List ℕ) → Runs p e b (stamps fs) → Holds p e Flag c → Inside p fs → AreOutputs p e (outputs_flagged b c fs)
+  flagged_own b c [] run flag inside = tt
+  flagged_own b c (f ∷ fs) run flag inside =
       let o = or_false (nat_le (length p.files) f) (list_any (λ g. nat_le (length p.files) g) fs) inside in
-      ((o.0, own_of_held p e Stamp b (first_run b Stamp (stamps fs rest) run), own_of_held p e Flag c flag),
-      flagged_own (suc b) c fs rest (rest_run b Stamp (stamps fs rest) run) flag o.1)
+      ((o.0, own_of_held p e Stamp b (first_run b Stamp (stamps fs) run), own_of_held p e Flag c flag),
+      flagged_own (suc b) c fs (rest_run b Stamp (stamps fs) run) flag o.1)
 
-  pub apart_own : (b : ℕ) (fs : List ℕ) (rest : List Kind) → Runs p e b (pairs fs rest) → Inside p fs → AreOutputs p e (outputs_apart b fs)
-  apart_own b [] rest run inside = tt
-  apart_own b (f ∷ fs) rest run inside =
+  pub apart_own : (b : ℕ) (fs : List ℕ) → Runs p e b (pairs fs) → Inside p fs → AreOutputs p e (outputs_apart b fs)
+  apart_own b [] run inside = tt
+  apart_own b (f ∷ fs) run inside =
       let o = or_false (nat_le (length p.files) f) (list_any (λ g. nat_le (length p.files) g) fs) inside in
-      let more : Runs p e (suc b) (Flag ∷ pairs fs rest) = rest_run b Stamp (Flag ∷ pairs fs rest) run in
-      ((o.0, own_of_held p e Stamp b (first_run b Stamp (Flag ∷ pairs fs rest) run), own_of_held p e Flag (suc b) (first_run (suc b) Flag (pairs fs rest) more)),
-      apart_own (suc (suc b)) fs rest (rest_run (suc b) Flag (pairs fs rest) more) o.1)
+      let more : Runs p e (suc b) (Flag ∷ pairs fs) = rest_run b Stamp (Flag ∷ pairs fs) run in
+      ((o.0, own_of_held p e Stamp b (first_run b Stamp (Flag ∷ pairs fs) run), own_of_held p e Flag (suc b) (first_run (suc b) Flag (pairs fs) more)),
+      apart_own (suc (suc b)) fs (rest_run (suc b) Flag (pairs fs) more) o.1)
 
 -- ---- apart by arithmetic
 
 pub flagged_below : (s b c : ℕ) (fs : List ℕ) → s < b → IsNoStamp s (outputs_flagged b c fs)
 flagged_below s b c [] lt = tt
 flagged_below s b c (f ∷ fs) lt = ((λ same. omega (arith, lt, same)), flagged_below s (suc b) c fs (omega (arith, lt)))
-
-pub past_stamps_least : (b : ℕ) (fs : List ℕ) → b ≤ past_stamps b fs
-past_stamps_least b [] = omega arith
-past_stamps_least b (f ∷ fs) = let h : suc b ≤ past_stamps (suc b) fs = past_stamps_least (suc b) fs in omega (arith, h)
-
-pub flagged_past : (s b c : ℕ) (fs : List ℕ) → past_stamps b fs ≤ s → IsNoStamp s (outputs_flagged b c fs)
-flagged_past s b c [] le = tt
-flagged_past s b c (f ∷ fs) le =
-    let h : suc b ≤ past_stamps (suc b) fs = past_stamps_least (suc b) fs in
-    ((λ same. omega (arith, le, h, same)), flagged_past s (suc b) c fs le)
 
 pub flagged_apart : (b c : ℕ) (fs : List ℕ) → AreApart (outputs_flagged b c fs)
 flagged_apart b c [] = tt
@@ -94,16 +75,6 @@ apart_below_stamps s b (f ∷ fs) lt = ((λ same. omega (arith, lt, same)), apar
 pub apart_below_flags : (s b : ℕ) (fs : List ℕ) → s < b → IsNoFlag s (outputs_apart b fs)
 apart_below_flags s b [] lt = tt
 apart_below_flags s b (f ∷ fs) lt = ((λ same. omega (arith, lt, same)), apart_below_flags s (suc (suc b)) fs (omega (arith, lt)))
-
-pub past_pairs_least : (b : ℕ) (fs : List ℕ) → b ≤ past_pairs b fs
-past_pairs_least b [] = omega arith
-past_pairs_least b (f ∷ fs) = let h : suc (suc b) ≤ past_pairs (suc (suc b)) fs = past_pairs_least (suc (suc b)) fs in omega (arith, h)
-
-pub apart_past : (s b : ℕ) (fs : List ℕ) → past_pairs b fs ≤ s → IsNoStamp s (outputs_apart b fs)
-apart_past s b [] le = tt
-apart_past s b (f ∷ fs) le =
-    let h : suc (suc b) ≤ past_pairs (suc (suc b)) fs = past_pairs_least (suc (suc b)) fs in
-    ((λ same. omega (arith, le, h, same)), apart_past s (suc (suc b)) fs le)
 
 pub apart_apart : (b : ℕ) (fs : List ℕ) → AreApart (outputs_apart b fs)
 apart_apart b [] = tt
@@ -132,31 +103,23 @@ files_sharing stamp changed [] = refl
 files_sharing stamp changed (f ∷ fs) = ap (λ (gs : List ℕ). f ∷ gs) (files_sharing stamp changed fs)
 
 pub files_made : (form : Form) (b : ℕ) (fs : List ℕ) → files_of (outputs_by form b fs) ≡ fs
-files_made OneFlag b fs = files_flagged b (past_stamps b fs) fs
-files_made OwnFlags b fs = files_apart b fs
+files_made OneFlag b fs = files_flagged (suc (suc b)) b fs
+files_made OwnFlags b fs = files_apart (suc b) fs
 files_made Gathers b fs = files_sharing b (suc b) fs
 files_made Alone b fs = files_apart b fs
 
--- ---- a place in the run is an output's slot, or past these
+-- ---- each place of the run is an output's slot
 
-abbrev PastOr : ℕ → List ℕ → ℕ → List Kind → Kind → Type 0
-PastOr s slots past rest k = (is_member s slots ≡ true) ⊎ ((j : ℕ) × (s ≡ past + j) × (slice_get rest j ≡ Some k))
-
-pub in_stamps : (fs : List ℕ) (b c : ℕ) (rest : List Kind) (i : ℕ) (k : Kind) → slice_get (stamps fs rest) i ≡ Some k
-    → PastOr (b + i) (slots_of (outputs_flagged b c fs)) (past_stamps b fs) rest k
-in_stamps [] b c rest i k g = inr (i, refl, g)
-in_stamps (f ∷ fs) b c rest zero k g =
+pub in_stamps : (fs : List ℕ) (b c i : ℕ) (k : Kind) → slice_get (stamps fs) i ≡ Some k → is_member (b + i) (slots_of (outputs_flagged b c fs)) ≡ true
+in_stamps [] b c i k g = absurd cc
+in_stamps (f ∷ fs) b c zero k g =
     let same : b ≡ b + zero = omega arith in
-    inl (or_left (b == b + zero) (is_member (b + zero) (c ∷ slots_of (outputs_flagged (suc b) c fs))) (eq-eqb b (b + zero) same))
-in_stamps (f ∷ fs) b c rest (suc i) k g =
+    or_left (b == b + zero) (is_member (b + zero) (c ∷ slots_of (outputs_flagged (suc b) c fs))) (eq-eqb b (b + zero) same)
+in_stamps (f ∷ fs) b c (suc i) k g =
     let same : b + suc i ≡ suc b + i = omega arith in
     let slots : List ℕ = slots_of (outputs_flagged (suc b) c fs) in
-    elim (in_stamps fs (suc b) c rest i k g) as (λ o. PastOr (b + suc i) (b ∷ c ∷ slots) (past_stamps (suc b) fs) rest k) [
-      | inl m ↦
-          inl (or_right (b == b + suc i) (is_member (b + suc i) (c ∷ slots))
-          (or_right (c == b + suc i) (is_member (b + suc i) slots) (ap (λ (n : ℕ). is_member n slots) same ∙ m)))
-      | inr q ↦ inr (q.0, same ∙ q.1, q.2)
-    ]
+    or_right (b == b + suc i) (is_member (b + suc i) (c ∷ slots))
+    (or_right (c == b + suc i) (is_member (b + suc i) slots) (ap (λ (n : ℕ). is_member n slots) same ∙ in_stamps fs (suc b) c i k g))
 
 pub flag_among : (b c : ℕ) (fs : List ℕ) → (fs ≡ [] → ⊥) → is_member c (slots_of (outputs_flagged b c fs)) ≡ true
 flag_among b c [] some = absurd (some refl)
@@ -164,25 +127,20 @@ flag_among b c (f ∷ fs) some =
     let slots : List ℕ = slots_of (outputs_flagged (suc b) c fs) in
     or_right (b == c) (is_member c (c ∷ slots)) (or_left (c == c) (is_member c slots) (eq-eqb c c refl))
 
-pub in_pairs : (fs : List ℕ) (b : ℕ) (rest : List Kind) (i : ℕ) (k : Kind) → slice_get (pairs fs rest) i ≡ Some k
-    → PastOr (b + i) (slots_of (outputs_apart b fs)) (past_pairs b fs) rest k
-in_pairs [] b rest i k g = inr (i, refl, g)
-in_pairs (f ∷ fs) b rest zero k g =
+pub in_pairs : (fs : List ℕ) (b i : ℕ) (k : Kind) → slice_get (pairs fs) i ≡ Some k → is_member (b + i) (slots_of (outputs_apart b fs)) ≡ true
+in_pairs [] b i k g = absurd cc
+in_pairs (f ∷ fs) b zero k g =
     let same : b ≡ b + zero = omega arith in
-    inl (or_left (b == b + zero) (is_member (b + zero) (suc b ∷ slots_of (outputs_apart (suc (suc b)) fs))) (eq-eqb b (b + zero) same))
-in_pairs (f ∷ fs) b rest (suc zero) k g =
+    or_left (b == b + zero) (is_member (b + zero) (suc b ∷ slots_of (outputs_apart (suc (suc b)) fs))) (eq-eqb b (b + zero) same)
+in_pairs (f ∷ fs) b (suc zero) k g =
     let same : suc b ≡ b + suc zero = omega arith in
     let slots : List ℕ = slots_of (outputs_apart (suc (suc b)) fs) in
-    inl (or_right (b == b + suc zero) (is_member (b + suc zero) (suc b ∷ slots)) (or_left (suc b == b + suc zero) (is_member (b + suc zero) slots) (eq-eqb (suc b) (b + suc zero) same)))
-in_pairs (f ∷ fs) b rest (suc (suc i)) k g =
+    or_right (b == b + suc zero) (is_member (b + suc zero) (suc b ∷ slots)) (or_left (suc b == b + suc zero) (is_member (b + suc zero) slots) (eq-eqb (suc b) (b + suc zero) same))
+in_pairs (f ∷ fs) b (suc (suc i)) k g =
     let same : b + suc (suc i) ≡ suc (suc b) + i = omega arith in
     let slots : List ℕ = slots_of (outputs_apart (suc (suc b)) fs) in
-    elim (in_pairs fs (suc (suc b)) rest i k g) as (λ o. PastOr (b + suc (suc i)) (b ∷ suc b ∷ slots) (past_pairs (suc (suc b)) fs) rest k) [
-      | inl m ↦
-          inl (or_right (b == b + suc (suc i)) (is_member (b + suc (suc i)) (suc b ∷ slots))
-          (or_right (suc b == b + suc (suc i)) (is_member (b + suc (suc i)) slots) (ap (λ (n : ℕ). is_member n slots) same ∙ m)))
-      | inr q ↦ inr (q.0, same ∙ q.1, q.2)
-    ]
+    or_right (b == b + suc (suc i)) (is_member (b + suc (suc i)) (suc b ∷ slots))
+    (or_right (suc b == b + suc (suc i)) (is_member (b + suc (suc i)) slots) (ap (λ (n : ℕ). is_member n slots) same ∙ in_pairs fs (suc (suc b)) i k g))
 
 -- ---- an output that is found by its file
 
@@ -216,18 +174,18 @@ found_first p w f fs first o os stamp changed others h =
     ]
 
 module _ (p : Parts) (w f : ℕ) (o : Output) where
-  pub found_flagged : (fs : List ℕ) (b c : ℕ) (rest : List Kind) → Runs p w b (stamps fs rest) → Holds p w Flag c → find f (outputs_flagged b c fs) ≡ Some o → IsOutput p w f fs o
-  found_flagged [] b c rest run flag h = absurd cc
-  found_flagged (g ∷ fs) b c rest run flag h =
-      found_first p w f fs (record { file = g; stamp = b; changed = c }) o (outputs_flagged (suc b) c fs) (first_run p w b Stamp (stamps fs rest) run) flag
-      (λ k. found_flagged fs (suc b) c rest (rest_run p w b Stamp (stamps fs rest) run) flag k) h
+  pub found_flagged : (fs : List ℕ) (b c : ℕ) → Runs p w b (stamps fs) → Holds p w Flag c → find f (outputs_flagged b c fs) ≡ Some o → IsOutput p w f fs o
+  found_flagged [] b c run flag h = absurd cc
+  found_flagged (g ∷ fs) b c run flag h =
+      found_first p w f fs (record { file = g; stamp = b; changed = c }) o (outputs_flagged (suc b) c fs) (first_run p w b Stamp (stamps fs) run) flag
+      (λ k. found_flagged fs (suc b) c (rest_run p w b Stamp (stamps fs) run) flag k) h
 
-  pub found_apart : (fs : List ℕ) (b : ℕ) (rest : List Kind) → Runs p w b (pairs fs rest) → find f (outputs_apart b fs) ≡ Some o → IsOutput p w f fs o
-  found_apart [] b rest run h = absurd cc
-  found_apart (g ∷ fs) b rest run h =
-      let more : Runs p w (suc b) (Flag ∷ pairs fs rest) = rest_run p w b Stamp (Flag ∷ pairs fs rest) run in
-      found_first p w f fs (record { file = g; stamp = b; changed = suc b }) o (outputs_apart (suc (suc b)) fs) (first_run p w b Stamp (Flag ∷ pairs fs rest) run)
-      (first_run p w (suc b) Flag (pairs fs rest) more) (λ k. found_apart fs (suc (suc b)) rest (rest_run p w (suc b) Flag (pairs fs rest) more) k) h
+  pub found_apart : (fs : List ℕ) (b : ℕ) → Runs p w b (pairs fs) → find f (outputs_apart b fs) ≡ Some o → IsOutput p w f fs o
+  found_apart [] b run h = absurd cc
+  found_apart (g ∷ fs) b run h =
+      let more : Runs p w (suc b) (Flag ∷ pairs fs) = rest_run p w b Stamp (Flag ∷ pairs fs) run in
+      found_first p w f fs (record { file = g; stamp = b; changed = suc b }) o (outputs_apart (suc (suc b)) fs) (first_run p w b Stamp (Flag ∷ pairs fs) run)
+      (first_run p w (suc b) Flag (pairs fs) more) (λ k. found_apart fs (suc (suc b)) (rest_run p w (suc b) Flag (pairs fs) more) k) h
 
   pub found_sharing : (fs : List ℕ) (stamp changed : ℕ) → Holds p w Stamp stamp → Holds p w Flag changed → find f (outputs_sharing stamp changed fs) ≡ Some o → IsOutput p w f fs o
   found_sharing [] stamp changed s c h = absurd cc
@@ -236,8 +194,8 @@ module _ (p : Parts) (w f : ℕ) (o : Output) where
 
   pub found_by : (form : Form) (b : ℕ) (fs : List ℕ) → Runs p w b (kinds_by form fs) → find f (outputs_by form b fs) ≡ Some o → IsOutput p w f fs o
   found_by OneFlag b fs run h =
-      found_flagged fs b (past_stamps b fs) (Flag ∷ Stamp ∷ []) run (first_run p w (past_stamps b fs) Flag (Stamp ∷ []) (past_stamps_run p w b fs (Flag ∷ Stamp ∷ []) run)) h
-  found_by OwnFlags b fs run h = found_apart fs b (Stamp ∷ []) run h
+      found_flagged fs (suc (suc b)) b (rest_run p w (suc b) Stamp (stamps fs) (rest_run p w b Flag (Stamp ∷ stamps fs) run)) (first_run p w b Flag (Stamp ∷ stamps fs) run) h
+  found_by OwnFlags b fs run h = found_apart fs (suc b) (rest_run p w b Stamp (pairs fs) run) h
   found_by Gathers b fs run h =
       found_sharing fs b (suc b) (first_run p w b Stamp (Flag ∷ []) run) (first_run p w (suc b) Flag [] (rest_run p w b Stamp (Flag ∷ []) run)) h
-  found_by Alone b fs run h = found_apart fs b [] run h
+  found_by Alone b fs run h = found_apart fs b run h

@@ -44,19 +44,19 @@ first_fits : (k : Kind) (ks : List Kind) → is_paths k ≡ false → NoPaths ks
 first_fits k ks h rest zero l g = ap is_paths (sym (some_is k l g)) ∙ h
 first_fits k ks h rest (suc i) l g = rest i l g
 
-stamps_fit : (fs : List ℕ) (rest : List Kind) → NoPaths rest → NoPaths (stamps fs rest)
-stamps_fit [] rest h = h
-stamps_fit (f ∷ fs) rest h = first_fits Stamp (stamps fs rest) refl (stamps_fit fs rest h)
+stamps_fit : (fs : List ℕ) → NoPaths (stamps fs)
+stamps_fit [] = no_more
+stamps_fit (f ∷ fs) = first_fits Stamp (stamps fs) refl (stamps_fit fs)
 
-pairs_fit : (fs : List ℕ) (rest : List Kind) → NoPaths rest → NoPaths (pairs fs rest)
-pairs_fit [] rest h = h
-pairs_fit (f ∷ fs) rest h = first_fits Stamp (Flag ∷ pairs fs rest) refl (first_fits Flag (pairs fs rest) refl (pairs_fit fs rest h))
+pairs_fit : (fs : List ℕ) → NoPaths (pairs fs)
+pairs_fit [] = no_more
+pairs_fit (f ∷ fs) = first_fits Stamp (Flag ∷ pairs fs) refl (first_fits Flag (pairs fs) refl (pairs_fit fs))
 
 kinds_fit : (form : Form) (fs : List ℕ) → NoPaths (kinds_by form fs)
-kinds_fit OneFlag fs = stamps_fit fs (Flag ∷ Stamp ∷ []) (first_fits Flag (Stamp ∷ []) refl (first_fits Stamp [] refl no_more))
-kinds_fit OwnFlags fs = pairs_fit fs (Stamp ∷ []) (first_fits Stamp [] refl no_more)
+kinds_fit OneFlag fs = first_fits Flag (Stamp ∷ stamps fs) refl (first_fits Stamp (stamps fs) refl (stamps_fit fs))
+kinds_fit OwnFlags fs = first_fits Stamp (pairs fs) refl (pairs_fit fs)
 kinds_fit Gathers fs = first_fits Stamp (Flag ∷ []) refl (first_fits Flag [] refl no_more)
-kinds_fit Alone fs = pairs_fit fs [] no_more
+kinds_fit Alone fs = pairs_fit fs
 
 no_paths : (t : Builds) (e : ℕ) → list_any (λ s. is_paths (slot_kind (image_of t) s)) (own_slots (image_of t) e) ≡ false
 no_paths t e =

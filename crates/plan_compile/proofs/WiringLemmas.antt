@@ -19,14 +19,14 @@ use Rattle.plan_compile.specs.declared.form.Form.{Form}
 use Rattle.plan_compile.specs.declared.form.Form.TheVariants.{OneFlag, OwnFlags, Gathers, Alone}
 use Rattle.plan_compile.specs.Builds.{Build, Builds}
 use Rattle.plan_compile.specs.Means.{text_in, text_at, IsFile, IsText, IsOwnOf, IsLentOf, AreInputs, AreSources, AreOutputs, flags_of, HaveFlags, HaveFlagSlots, slots_of, files_of, AreAllOwn, IsNoStamp, IsCommand, IsGather, IsAlone, IsWired}
-use Rattle.plan_compile.specs.Slots.{has_none, form_by, form_of, kinds_by, own_kinds, stamps, pairs, past_stamps, past_pairs, outputs_flagged, outputs_apart, outputs_sharing, outputs_by, made, newest_by, base, all_made, find, input_by, inputs_by, sources, with_flag, flags_from, flags_once}
+use Rattle.plan_compile.specs.Slots.{has_none, form_by, form_of, kinds_by, own_kinds, stamps, pairs, outputs_flagged, outputs_apart, outputs_sharing, outputs_by, made, newest_by, base, all_made, find, input_by, inputs_by, sources, with_flag, flags_from, flags_once}
 use Rattle.plan_compile.specs.Names.{Text, text_number, unless_empty, label_of, texts_by, texts_in, all_texts, depfile_number, pool_number, used_pools}
 use Rattle.plan_compile.specs.Names.{pool_in as pool_name}
 use Rattle.plan_compile.specs.Images.{is_blank, command_wiring, gather_wiring, wire_by, wire, image_of}
 use Rattle.plan_compile.specs.Faithful.{IsEdge, AreInside, HasPool, IsSound}
 use Rattle.plan_compile.proofs.ListLemmas.{some_is, bool_cases, or_cases, or_false, or_left, or_right}
 use Rattle.plan_compile.proofs.RunLemmas.{slot_at, IsSlotOf, slot_of, all_own}
-use Rattle.plan_compile.proofs.OutputLemmas.{Holds, Runs, first_run, rest_run, past_stamps_run, past_pairs_run, own_of_held, flagged_own, apart_own, flagged_past, flagged_apart, flagged_share, apart_past, apart_apart, apart_flags, sharing_share, files_flagged, files_apart, in_stamps, flag_among, in_pairs, find_split, IsOutput, found_by}
+use Rattle.plan_compile.proofs.OutputLemmas.{Holds, Runs, first_run, rest_run, own_of_held, flagged_own, apart_own, flagged_below, flagged_apart, flagged_share, apart_below_stamps, apart_apart, apart_flags, sharing_share, files_flagged, files_apart, in_stamps, flag_among, in_pairs, find_split, IsOutput, found_by}
 use Rattle.plan_compile.proofs.EdgeLemmas.{image_edge, edge_in, text_found, has_pool}
 
 -- ---- whose output it is
@@ -166,40 +166,23 @@ all_among t e x at slots each =
     let place : 0 + j ≡ base t.edges e + r.place = omega (arith, stands) in
     ap (λ (n : ℕ). is_member n slots) place ∙ each r.place s.kind kind
 
-one_flag_among : (b : ℕ) (fs : List ℕ) → (fs ≡ [] → ⊥) → (i : ℕ) (k : Kind) → slice_get (stamps fs (Flag ∷ Stamp ∷ [])) i ≡ Some k
-    → is_member (b + i) (suc (past_stamps b fs) ∷ slots_of (outputs_flagged b (past_stamps b fs) fs)) ≡ true
-one_flag_among b fs some i k g =
-    let c : ℕ = past_stamps b fs in
-    let own : List ℕ = slots_of (outputs_flagged b c fs) in
-    elim (in_stamps fs b c (Flag ∷ Stamp ∷ []) i k g) as (λ o. is_member (b + i) (suc c ∷ own) ≡ true) [
-      | inl m ↦ or_right (suc c == b + i) (is_member (b + i) own) m
-      | inr q ↦ ap (λ (n : ℕ). is_member n (suc c ∷ own)) q.1 ∙ past q.0 q.2
-    ]
-  where
-    past : (j : ℕ) → slice_get (Flag ∷ Stamp ∷ []) j ≡ Some k → is_member (past_stamps b fs + j) (suc (past_stamps b fs) ∷ slots_of (outputs_flagged b (past_stamps b fs) fs)) ≡ true
-    past zero h =
-        let same : past_stamps b fs ≡ past_stamps b fs + zero = omega arith in
-        or_right (suc (past_stamps b fs) == past_stamps b fs + zero) _
-        (subst (λ (n : ℕ). is_member n (slots_of (outputs_flagged b (past_stamps b fs) fs)) ≡ true) same (flag_among b (past_stamps b fs) fs some))
-    past (suc zero) h =
-        let same : suc (past_stamps b fs) ≡ past_stamps b fs + suc zero = omega arith in
-        or_left (suc (past_stamps b fs) == past_stamps b fs + suc zero) _ (eq-eqb (suc (past_stamps b fs)) (past_stamps b fs + suc zero) same)
-    past (suc (suc j)) h = absurd cc
+one_flag_among : (b : ℕ) (fs : List ℕ) → (fs ≡ [] → ⊥) → (i : ℕ) (k : Kind) → slice_get (Flag ∷ Stamp ∷ stamps fs) i ≡ Some k
+    → is_member (b + i) (suc b ∷ slots_of (outputs_flagged (suc (suc b)) b fs)) ≡ true
+one_flag_among b fs some zero k g =
+    let same : b ≡ b + zero = omega arith in
+    or_right (suc b == b + zero) _ (subst (λ (n : ℕ). is_member n (slots_of (outputs_flagged (suc (suc b)) b fs)) ≡ true) same (flag_among (suc (suc b)) b fs some))
+one_flag_among b fs some (suc zero) k g =
+    let same : suc b ≡ b + suc zero = omega arith in
+    or_left (suc b == b + suc zero) _ (eq-eqb (suc b) (b + suc zero) same)
+one_flag_among b fs some (suc (suc i)) k g =
+    let same : suc (suc b) + i ≡ b + suc (suc i) = omega arith in
+    or_right (suc b == b + suc (suc i)) _ (subst (λ (n : ℕ). is_member n (slots_of (outputs_flagged (suc (suc b)) b fs)) ≡ true) same (in_stamps fs (suc (suc b)) b i k g))
 
-own_flags_among : (b : ℕ) (fs : List ℕ) (i : ℕ) (k : Kind) → slice_get (pairs fs (Stamp ∷ [])) i ≡ Some k → is_member (b + i) (past_pairs b fs ∷ slots_of (outputs_apart b fs)) ≡ true
-own_flags_among b fs i k g =
-    let n : ℕ = past_pairs b fs in
-    let own : List ℕ = slots_of (outputs_apart b fs) in
-    elim (in_pairs fs b (Stamp ∷ []) i k g) as (λ o. is_member (b + i) (n ∷ own) ≡ true) [
-      | inl m ↦ or_right (n == b + i) (is_member (b + i) own) m
-      | inr q ↦ ap (λ (s : ℕ). is_member s (n ∷ own)) q.1 ∙ past q.0 q.2
-    ]
-  where
-    past : (j : ℕ) → slice_get (Stamp ∷ []) j ≡ Some k → is_member (past_pairs b fs + j) (past_pairs b fs ∷ slots_of (outputs_apart b fs)) ≡ true
-    past zero h =
-        let same : past_pairs b fs ≡ past_pairs b fs + zero = omega arith in
-        or_left (past_pairs b fs == past_pairs b fs + zero) _ (eq-eqb (past_pairs b fs) (past_pairs b fs + zero) same)
-    past (suc j) h = absurd cc
+own_flags_among : (b : ℕ) (fs : List ℕ) (i : ℕ) (k : Kind) → slice_get (Stamp ∷ pairs fs) i ≡ Some k → is_member (b + i) (b ∷ slots_of (outputs_apart (suc b) fs)) ≡ true
+own_flags_among b fs zero k g = let same : b ≡ b + zero = omega arith in or_left (b == b + zero) _ (eq-eqb b (b + zero) same)
+own_flags_among b fs (suc i) k g =
+    let same : suc b + i ≡ b + suc i = omega arith in
+    or_right (b == b + suc i) _ (subst (λ (n : ℕ). is_member n (slots_of (outputs_apart (suc b) fs)) ≡ true) same (in_pairs fs (suc b) i k g))
 
 gathers_among : (b i : ℕ) (k : Kind) → slice_get (Stamp ∷ Flag ∷ []) i ≡ Some k → is_member (b + i) (b ∷ suc b ∷ []) ≡ true
 gathers_among b zero k g = let same : b ≡ b + zero = omega arith in or_left (b == b + zero) (is_member (b + zero) (suc b ∷ [])) (eq-eqb b (b + zero) same)
@@ -208,12 +191,8 @@ gathers_among b (suc zero) k g =
     or_right (b == b + suc zero) (is_member (b + suc zero) (suc b ∷ [])) (or_left (suc b == b + suc zero) false (eq-eqb (suc b) (b + suc zero) same))
 gathers_among b (suc (suc i)) k g = absurd cc
 
-alone_among : (b : ℕ) (fs : List ℕ) (i : ℕ) (k : Kind) → slice_get (pairs fs []) i ≡ Some k → is_member (b + i) (slots_of (outputs_apart b fs)) ≡ true
-alone_among b fs i k g =
-    elim (in_pairs fs b [] i k g) as (λ o. is_member (b + i) (slots_of (outputs_apart b fs)) ≡ true) [ inl m ↦ m | inr q ↦ absurd (none_at q.0 q.2) ]
-  where
-    none_at : (j : ℕ) → slice_get [] j ≡ Some k → ⊥
-    none_at j h = absurd cc
+alone_among : (b : ℕ) (fs : List ℕ) (i : ℕ) (k : Kind) → slice_get (pairs fs) i ≡ Some k → is_member (b + i) (slots_of (outputs_apart b fs)) ≡ true
+alone_among b fs i k g = in_pairs fs b i k g
 
 -- ---- texts and pools
 
@@ -288,8 +267,8 @@ module _ (t : Builds) (sound : IsSound t) (e : ℕ) (x : Build) (at : IsEdge t e
       → AreOutputs (image_of t) e (outputs_by form (base t.edges e) x.outputs) → files_of (outputs_by form (base t.edges e) x.outputs) ≡ x.outputs
       → (outputs_by form (base t.edges e) x.outputs ≡ [] → ⊥) → Rattle.plan_compile.specs.Means.AreApart (outputs_by form (base t.edges e) x.outputs)
       → HaveFlagSlots x.edge.restat (outputs_by form (base t.edges e) x.outputs)
-      → IsOwnOf (image_of t) e Stamp (newest_by form (base t.edges e) x.outputs) → IsNoStamp (newest_by form (base t.edges e) x.outputs) (outputs_by form (base t.edges e) x.outputs)
-      → AreAllOwn (image_of t) e (newest_by form (base t.edges e) x.outputs ∷ slots_of (outputs_by form (base t.edges e) x.outputs))
+      → IsOwnOf (image_of t) e Stamp (newest_by form (base t.edges e)) → IsNoStamp (newest_by form (base t.edges e)) (outputs_by form (base t.edges e) x.outputs)
+      → AreAllOwn (image_of t) e (newest_by form (base t.edges e) ∷ slots_of (outputs_by form (base t.edges e) x.outputs))
       → IsCommand (image_of t) e (command_wiring (all_texts t.edges) (all_made zero t.edges) form (base t.edges e) x)
   command_right form command outputs files some apart flags newest stamp own =
       let found = command_found t e x at command in
@@ -331,33 +310,31 @@ module _ (t : Builds) (sound : IsSound t) (e : ℕ) (x : Build) (at : IsEdge t e
   one_flag_right is =
       let p : Parts = image_of t in
       let b : ℕ = base t.edges e in
-      let c : ℕ = past_stamps b x.outputs in
-      let run : Runs p e b (stamps x.outputs (Flag ∷ Stamp ∷ [])) = run_of OneFlag is in
-      let more : Runs p e c (Flag ∷ Stamp ∷ []) = past_stamps_run p e b x.outputs (Flag ∷ Stamp ∷ []) run in
-      let flag : Holds p e Flag c = first_run p e c Flag (Stamp ∷ []) more in
-      let newest : Holds p e Stamp (suc c) = first_run p e (suc c) Stamp [] (rest_run p e c Flag (Stamp ∷ []) more) in
+      let run : Runs p e b (Flag ∷ Stamp ∷ stamps x.outputs) = run_of OneFlag is in
+      let more : Runs p e (suc b) (Stamp ∷ stamps x.outputs) = rest_run p e b Flag (Stamp ∷ stamps x.outputs) run in
+      let flag : Holds p e Flag b = first_run p e b Flag (Stamp ∷ stamps x.outputs) run in
+      let newest : Holds p e Stamp (suc b) = first_run p e (suc b) Stamp (stamps x.outputs) more in
       let forms = one_flag_is x.edge.phony x.edge.restat none is in
-      let le : c ≤ suc c = omega arith in
-      command_right OneFlag forms.0 (flagged_own p e b c x.outputs (Flag ∷ Stamp ∷ []) run flag (sound.outputs e x at)) (files_flagged b c x.outputs)
-      (flagged_some b c x.outputs (sound.makes e x at)) (flagged_apart b c x.outputs)
-      (subst (λ (r : Bool). HaveFlagSlots r (outputs_flagged b c x.outputs)) (sym forms.1) (share_first b c x.outputs))
-      (own_of_held p e Stamp (suc c) newest) (flagged_past (suc c) b c x.outputs le)
-      (all_among t e x at (suc c ∷ slots_of (outputs_flagged b c x.outputs)) (λ i k g. one_flag_among b x.outputs (sound.makes e x at) i k (kinds_are OneFlag is i k g)))
+      let lt : suc b < suc (suc b) = omega arith in
+      command_right OneFlag forms.0 (flagged_own p e (suc (suc b)) b x.outputs (rest_run p e (suc b) Stamp (stamps x.outputs) more) flag (sound.outputs e x at))
+      (files_flagged (suc (suc b)) b x.outputs) (flagged_some (suc (suc b)) b x.outputs (sound.makes e x at)) (flagged_apart (suc (suc b)) b x.outputs)
+      (subst (λ (r : Bool). HaveFlagSlots r (outputs_flagged (suc (suc b)) b x.outputs)) (sym forms.1) (share_first (suc (suc b)) b x.outputs))
+      (own_of_held p e Stamp (suc b) newest) (flagged_below (suc b) (suc (suc b)) b x.outputs lt)
+      (all_among t e x at (suc b ∷ slots_of (outputs_flagged (suc (suc b)) b x.outputs)) (λ i k g. one_flag_among b x.outputs (sound.makes e x at) i k (kinds_are OneFlag is i k g)))
 
   own_flags_right : form_of x ≡ OwnFlags → IsCommand (image_of t) e (command_wiring (all_texts t.edges) (all_made zero t.edges) OwnFlags (base t.edges e) x)
   own_flags_right is =
       let p : Parts = image_of t in
       let b : ℕ = base t.edges e in
-      let n : ℕ = past_pairs b x.outputs in
-      let run : Runs p e b (pairs x.outputs (Stamp ∷ [])) = run_of OwnFlags is in
-      let newest : Holds p e Stamp n = first_run p e n Stamp [] (past_pairs_run p e b x.outputs (Stamp ∷ []) run) in
+      let run : Runs p e b (Stamp ∷ pairs x.outputs) = run_of OwnFlags is in
+      let newest : Holds p e Stamp b = first_run p e b Stamp (pairs x.outputs) run in
       let forms = own_flags_is x.edge.phony x.edge.restat none is in
-      let le : n ≤ n = omega arith in
-      command_right OwnFlags forms.0 (apart_own p e b x.outputs (Stamp ∷ []) run (sound.outputs e x at)) (files_apart b x.outputs)
-      (apart_some b x.outputs (sound.makes e x at)) (apart_apart b x.outputs)
-      (subst (λ (r : Bool). HaveFlagSlots r (outputs_apart b x.outputs)) (sym forms.1) (apart_flags b x.outputs))
-      (own_of_held p e Stamp n newest) (apart_past n b x.outputs le)
-      (all_among t e x at (n ∷ slots_of (outputs_apart b x.outputs)) (λ i k g. own_flags_among b x.outputs i k (kinds_are OwnFlags is i k g)))
+      let lt : b < suc b = omega arith in
+      command_right OwnFlags forms.0 (apart_own p e (suc b) x.outputs (rest_run p e b Stamp (pairs x.outputs) run) (sound.outputs e x at)) (files_apart (suc b) x.outputs)
+      (apart_some (suc b) x.outputs (sound.makes e x at)) (apart_apart (suc b) x.outputs)
+      (subst (λ (r : Bool). HaveFlagSlots r (outputs_apart (suc b) x.outputs)) (sym forms.1) (apart_flags (suc b) x.outputs))
+      (own_of_held p e Stamp b newest) (apart_below_stamps b (suc b) x.outputs lt)
+      (all_among t e x at (b ∷ slots_of (outputs_apart (suc b) x.outputs)) (λ i k g. own_flags_among b x.outputs i k (kinds_are OwnFlags is i k g)))
 
   gathers_right : form_of x ≡ Gathers → IsGather (image_of t) e (gather_wiring (all_made zero t.edges) (base t.edges e) x)
   gathers_right is =
@@ -379,7 +356,7 @@ module _ (t : Builds) (sound : IsSound t) (e : ℕ) (x : Build) (at : IsEdge t e
       let p : Parts = image_of t in
       let b : ℕ = base t.edges e in
       record {
-        outputs = apart_own p e b x.outputs [] (run_of Alone is) (sound.outputs e x at);
+        outputs = apart_own p e b x.outputs (run_of Alone is) (sound.outputs e x at);
         apart = apart_apart b x.outputs;
         flags = apart_flags b x.outputs;
         own = all_among t e x at (slots_of (outputs_apart b x.outputs)) (λ i k g. alone_among b x.outputs i k (kinds_are Alone is i k g));

@@ -10,5 +10,6 @@ pub mod BodyKeys
 pub mod Names
 pub mod Images
 pub mod Faithful
+pub mod OutputTable
 pub mod Told
 pub mod Faults

@@ -29,20 +29,20 @@ form_of x = form_by x.edge.phony x.edge.restat (has_none x.named && has_none x.o
 
 -- ---- the slots of an edge: one run of numbers
 
-abbrev pub stamps : List ℕ → List Kind → List Kind
-stamps [] rest = rest
-stamps (f ∷ fs) rest = Stamp ∷ stamps fs rest
+abbrev pub stamps : List ℕ → List Kind
+stamps [] = []
+stamps (f ∷ fs) = Stamp ∷ stamps fs
 
-abbrev pub pairs : List ℕ → List Kind → List Kind
-pairs [] rest = rest
-pairs (f ∷ fs) rest = Stamp ∷ Flag ∷ pairs fs rest
+abbrev pub pairs : List ℕ → List Kind
+pairs [] = []
+pairs (f ∷ fs) = Stamp ∷ Flag ∷ pairs fs
 
--- those of the outputs, and for an edge with a command one for the newest input's stamp
+-- those of the outputs; an edge with a command has one for the newest input's stamp too
 abbrev pub kinds_by : Form → List ℕ → List Kind
-kinds_by OneFlag outputs = stamps outputs (Flag ∷ Stamp ∷ [])
-kinds_by OwnFlags outputs = pairs outputs (Stamp ∷ [])
+kinds_by OneFlag outputs = Flag ∷ Stamp ∷ stamps outputs
+kinds_by OwnFlags outputs = Stamp ∷ pairs outputs
 kinds_by Gathers outputs = Stamp ∷ Flag ∷ []
-kinds_by Alone outputs = pairs outputs []
+kinds_by Alone outputs = pairs outputs
 
 abbrev pub own_kinds : Build → List Kind
 own_kinds x = kinds_by (form_of x) x.outputs
@@ -51,15 +51,6 @@ abbrev pub own_len : Build → ℕ
 own_len x = length (own_kinds x)
 
 -- ---- outputs with their slots
-
--- the slot behind one for each of these, from the slot b on
-abbrev pub past_stamps : ℕ → List ℕ → ℕ
-past_stamps b [] = b
-past_stamps b (f ∷ fs) = past_stamps (suc b) fs
-
-abbrev pub past_pairs : ℕ → List ℕ → ℕ
-past_pairs b [] = b
-past_pairs b (f ∷ fs) = past_pairs (suc (suc b)) fs
 
 -- with a stamp slot each, and this flag slot
 abbrev pub outputs_flagged : (b changed : ℕ) → List ℕ → List Output
@@ -77,8 +68,8 @@ outputs_sharing stamp changed [] = []
 outputs_sharing stamp changed (f ∷ fs) = record { file = f; stamp = stamp; changed = changed } ∷ outputs_sharing stamp changed fs
 
 abbrev pub outputs_by : Form → ℕ → List ℕ → List Output
-outputs_by OneFlag b outputs = outputs_flagged b (past_stamps b outputs) outputs
-outputs_by OwnFlags b outputs = outputs_apart b outputs
+outputs_by OneFlag b outputs = outputs_flagged (suc (suc b)) b outputs
+outputs_by OwnFlags b outputs = outputs_apart (suc b) outputs
 outputs_by Gathers b outputs = outputs_sharing b (suc b) outputs
 outputs_by Alone b outputs = outputs_apart b outputs
 
@@ -87,9 +78,9 @@ abbrev pub made : ℕ → Build → List Output
 made b x = outputs_by (form_of x) b x.outputs
 
 -- the slot for the newest input's stamp
-abbrev pub newest_by : Form → ℕ → List ℕ → ℕ
-newest_by OneFlag b outputs = suc (past_stamps b outputs)
-newest_by _ b outputs = past_pairs b outputs
+abbrev pub newest_by : Form → ℕ → ℕ
+newest_by OneFlag b = suc b
+newest_by _ b = b
 
 -- ---- all edges
 

@@ -79,7 +79,7 @@ impl<'a> Build<'a> {
 }
 
 /// A number, where it fits in 32 bits.
-fn word(number: usize) -> Result<u32, CompileFault>
+pub(crate) fn word(number: usize) -> Result<u32, CompileFault>
     ensures { IfOk result (λ w. w ≡ number) }
 {
     match u32::try_from(number) {

@@ -15,6 +15,7 @@ mod fault;
 mod form;
 mod image_laws;
 mod laws;
+mod slots;
 mod wiring;
 
 pub use fault::CompileFault;

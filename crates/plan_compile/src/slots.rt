@@ -1,0 +1,210 @@
+//! The slots of all edges, and which of them each output has.
+
+ghost use Rattle.std.specs.Prelude.{◌≡◌, ◌++◌, ◌∷◌, [], length, replicate, None, IfOk, OnOk, zero};
+ghost use Rattle.plan_compile.specs.declared.form.Form.TheVariants as form;
+ghost use Rattle.plan_compile.specs.OutputTable.{filled, found, put};
+ghost use Rattle.plan_compile.specs.Slots.{all_made, form_by, input_by, kinds_by, made, outputs_apart, outputs_by, outputs_flagged, outputs_sharing, own_kinds, owned, pairs, slots_from, stamps};
+
+use crate::build::{Build, word};
+use crate::fault::CompileFault;
+use crate::form::Form;
+use crate::wiring::{Input, Output};
+use plan_image::{Kind, Slot};
+use std::alloc::{AllocError, Global};
+
+/// The form of an edge.
+fn form_by(phony: bool, restat: bool, none: bool) -> Form
+    ensures { result ≡ form_by phony restat none }
+{
+    match (phony, restat, none) {
+        (true, _, true) => Form::Alone,
+        (true, _, false) => Form::Gathers,
+        (false, true, _) => Form::OwnFlags,
+        (false, false, _) => Form::OneFlag,
+    }
+}
+
+/// The form of an edge.
+pub(crate) fn form_of<'a>(build: &Build<'a>) -> Form
+    ensures { result ≡ Rattle.plan_compile.specs.Slots.form_of build.now }
+{
+    let edge = build.edge();
+    let none = build.named().is_empty() && build.order_only().is_empty();
+    form_by(edge.phony, edge.restat, none)
+}
+
+/// Puts an output to its file, unless one is there.
+fn put(table: &mut Vec<Option<Output>>, output: Output)
+    ensures { table.new.items ≡ put table.old.items output }
+{
+    let at = output.file as usize;
+    match table.as_slice().get(at) {
+        Some(Some(_)) => {}
+        Some(None) => table[at] = Some(output),
+        None => {}
+    }
+}
+
+/// One slot more, and its number.
+fn slot(slots: &mut Vec<Slot>, owner: u32, kind: Kind) -> Result<u32, CompileFault>
+    ensures number { IfOk result (λ n. n ≡ length slots.old.items) }
+    ensures slots { OnOk result (slots.new.items ≡ slots.old.items ++ owned owner (kind ∷ [])) }
+{
+    let number = word(slots.len())?;
+    slots.push(Slot { owner, kind })?;
+    Ok(number)
+}
+
+/// A stamp slot for each of these outputs, which share a flag slot.
+fn lay_flagged(
+    slots: &mut Vec<Slot>,
+    table: &mut Vec<Option<Output>>,
+    owner: u32,
+    changed: u32,
+    files: &[u32],
+) -> Result<(), CompileFault>
+    ensures slots { OnOk result (slots.new.items ≡ slots.old.items ++ owned owner (stamps files.now)) }
+    ensures table { OnOk result (table.new.items ≡ filled table.old.items (outputs_flagged (length slots.old.items) changed files.now)) }
+{
+    for file in files {
+        let stamp = slot(slots, owner, Kind::Stamp)?;
+        put(
+            table,
+            Output {
+                file: *file,
+                stamp,
+                changed,
+            },
+        );
+    }
+    Ok(())
+}
+
+/// A stamp slot and a flag slot for each of these outputs.
+fn lay_apart(
+    slots: &mut Vec<Slot>,
+    table: &mut Vec<Option<Output>>,
+    owner: u32,
+    files: &[u32],
+) -> Result<(), CompileFault>
+    ensures slots { OnOk result (slots.new.items ≡ slots.old.items ++ owned owner (pairs files.now)) }
+    ensures table { OnOk result (table.new.items ≡ filled table.old.items (outputs_apart (length slots.old.items) files.now)) }
+{
+    for file in files {
+        let stamp = slot(slots, owner, Kind::Stamp)?;
+        let changed = slot(slots, owner, Kind::Flag)?;
+        put(
+            table,
+            Output {
+                file: *file,
+                stamp,
+                changed,
+            },
+        );
+    }
+    Ok(())
+}
+
+/// These two slots for all of these outputs.
+fn put_sharing(table: &mut Vec<Option<Output>>, stamp: u32, changed: u32, files: &[u32])
+    ensures { table.new.items ≡ filled table.old.items (outputs_sharing stamp changed files.now) }
+{
+    for file in files {
+        put(
+            table,
+            Output {
+                file: *file,
+                stamp,
+                changed,
+            },
+        );
+    }
+}
+
+/// The slots of an edge with a command that isn't restat.
+fn lay_one_flag(
+    slots: &mut Vec<Slot>,
+    table: &mut Vec<Option<Output>>,
+    owner: u32,
+    files: &[u32],
+) -> Result<(), CompileFault>
+    ensures slots { OnOk result (slots.new.items ≡ slots.old.items ++ owned owner (kinds_by form.OneFlag files.now)) }
+    ensures table { OnOk result (table.new.items ≡ filled table.old.items (outputs_by form.OneFlag (length slots.old.items) files.now)) }
+{
+    let changed = slot(slots, owner, Kind::Flag)?;
+    slot(slots, owner, Kind::Stamp)?;
+    lay_flagged(slots, table, owner, changed, files)
+}
+
+/// The slots of a restat edge.
+fn lay_own_flags(
+    slots: &mut Vec<Slot>,
+    table: &mut Vec<Option<Output>>,
+    owner: u32,
+    files: &[u32],
+) -> Result<(), CompileFault>
+    ensures slots { OnOk result (slots.new.items ≡ slots.old.items ++ owned owner (kinds_by form.OwnFlags files.now)) }
+    ensures table { OnOk result (table.new.items ≡ filled table.old.items (outputs_by form.OwnFlags (length slots.old.items) files.now)) }
+{
+    slot(slots, owner, Kind::Stamp)?;
+    lay_apart(slots, table, owner, files)
+}
+
+/// The slots of a phony with inputs.
+fn lay_gathers(
+    slots: &mut Vec<Slot>,
+    table: &mut Vec<Option<Output>>,
+    owner: u32,
+    files: &[u32],
+) -> Result<(), CompileFault>
+    ensures slots { OnOk result (slots.new.items ≡ slots.old.items ++ owned owner (kinds_by form.Gathers files.now)) }
+    ensures table { OnOk result (table.new.items ≡ filled table.old.items (outputs_by form.Gathers (length slots.old.items) files.now)) }
+{
+    let stamp = slot(slots, owner, Kind::Stamp)?;
+    let changed = slot(slots, owner, Kind::Flag)?;
+    put_sharing(table, stamp, changed, files);
+    Ok(())
+}
+
+/// The slots of an edge, and its outputs by file.
+fn lay(
+    slots: &mut Vec<Slot>,
+    table: &mut Vec<Option<Output>>,
+    owner: u32,
+    form: Form,
+    files: &[u32],
+) -> Result<(), CompileFault>
+    ensures slots { OnOk result (slots.new.items ≡ slots.old.items ++ owned owner (kinds_by form files.now)) }
+    ensures table { OnOk result (table.new.items ≡ filled table.old.items (outputs_by form (length slots.old.items) files.now)) }
+{
+    match form {
+        Form::OneFlag => lay_one_flag(slots, table, owner, files),
+        Form::OwnFlags => lay_own_flags(slots, table, owner, files),
+        Form::Gathers => lay_gathers(slots, table, owner, files),
+        Form::Alone => lay_apart(slots, table, owner, files),
+    }
+}
+
+/// The slots of all edges, and the outputs by file, in a table with room for so many files.
+pub(crate) fn planned<'a>(
+    alloc: Global,
+    files: usize,
+    builds: &[Build<'a>],
+) -> Result<(Vec<Slot>, Vec<Option<Output>>), CompileFault>
+    ensures slots { IfOk result (λ r. r.0.items ≡ slots_from zero builds.now) }
+    ensures table { IfOk result (λ r. r.1.items ≡ filled (replicate files None) (all_made zero builds.now)) }
+{
+    let mut slots = Vec::new(alloc);
+    let mut table = vec![in alloc; None; files]?;
+    for number in 0..builds.len() {
+        let build = &builds[number];
+        lay(
+            &mut slots,
+            &mut table,
+            word(number)?,
+            form_of(build),
+            build.outputs(),
+        )?;
+    }
+    Ok((slots, table))
+}
