@@ -26,3 +26,4 @@ mod OnceLemmas
 mod MemberLemmas
 mod SoundLemmas
 mod BuildLemmas
+mod PlanLemmas

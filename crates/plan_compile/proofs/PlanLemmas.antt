@@ -1,0 +1,36 @@
+-- The slots and the table of outputs, as the code makes them.
+use Rattle.std.proofs.Common.{◌≡◌, ℕ, zero, suc, ◌+◌, Bool, true, false, List, [], ◌∷◌, ◌++◌, length, drop, Option, Some, None, refl, sym, ap, subst, ◌∙◌, arith, length-append}
+use Rattle.std.specs.Prelude.{slice_get}
+use Rattle.std.proofs.lemmas.List.{append_assoc}
+use Rattle.plan_image.specs.declared.image.Slot.{Slot}
+use Rattle.plan_compile.specs.declared.wiring.Output.{Output}
+use Rattle.plan_compile.specs.Builds.{Build}
+use Rattle.plan_compile.specs.OutputTable.{Table, put, filled}
+use Rattle.plan_compile.specs.Slots.{own_kinds, own_len, owned, slots_from, made, all_made}
+use Rattle.plan_compile.proofs.BuildLemmas.{drop_here}
+use Rattle.plan_compile.proofs.RunLemmas.{owned_length}
+
+pub filled_app : (table : Table) (os ps : List Output) → filled table (os ++ ps) ≡ filled (filled table os) ps
+filled_app table [] ps = refl
+filled_app table (o ∷ os) ps = filled_app (put table o) os ps
+
+own_length : (old new : List Slot) (e : ℕ) (x : Build) → new ≡ old ++ owned e (own_kinds x) → length new ≡ length old + own_len x
+own_length old new e x h =
+    ap (λ (ss : List Slot). length ss) h ∙ length-append old (owned e (own_kinds x)) ∙ ap (λ (n : ℕ). length old + n) (owned_length e (own_kinds x))
+
+pub slots_step : (xs : List Build) (n e : ℕ) (x : Build) (old new whole : List Slot) → slice_get xs n ≡ Some x → e ≡ n → new ≡ old ++ owned e (own_kinds x)
+    → old ++ slots_from n (drop n xs) ≡ whole → new ++ slots_from (n + 1) (drop (n + 1) xs) ≡ whole
+slots_step xs n e x old new whole at same grown h =
+    let next : n + 1 ≡ suc n = omega arith in
+    ap (λ (k : ℕ). new ++ slots_from k (drop (n + 1) xs)) next
+    ∙ ap (λ (ss : List Slot). ss ++ slots_from (suc n) (drop (n + 1) xs)) (grown ∙ ap (λ (k : ℕ). old ++ owned k (own_kinds x)) same)
+    ∙ append_assoc old (owned n (own_kinds x)) (slots_from (suc n) (drop (n + 1) xs))
+    ∙ ap (λ (ys : List Build). old ++ slots_from n ys) (sym (drop_here xs n x at)) ∙ h
+
+pub table_step : (xs : List Build) (n e : ℕ) (x : Build) (old new : List Slot) (table next whole : Table) → slice_get xs n ≡ Some x → new ≡ old ++ owned e (own_kinds x)
+    → next ≡ filled table (made (length old) x) → filled table (all_made (length old) (drop n xs)) ≡ whole → filled next (all_made (length new) (drop (n + 1) xs)) ≡ whole
+table_step xs n e x old new table next whole at grown laid h =
+    ap (λ (k : ℕ). filled next (all_made k (drop (n + 1) xs))) (own_length old new e x grown)
+    ∙ ap (λ (t : Table). filled t (all_made (length old + own_len x) (drop (n + 1) xs))) laid
+    ∙ sym (filled_app table (made (length old) x) (all_made (length old + own_len x) (drop (n + 1) xs)))
+    ∙ ap (λ (ys : List Build). filled table (all_made (length old) ys)) (sym (drop_here xs n x at)) ∙ h
