@@ -12,3 +12,4 @@ mod Edge
 mod Scanning
 mod Shaping
 mod EdgeShapes
+mod Lengths

@@ -10,9 +10,14 @@
 //! docs/COMPILER.md has it rule by rule.
 #![tactic(auto)]
 
+mod command;
+mod fault;
+mod inputs;
 mod laws;
+mod outputs;
 mod wiring;
 
+pub use fault::EmitFault;
 pub use laws::{
     command_means, command_shaped, phony_means, phony_shaped, runs_keep_to_rule,
 };
