@@ -57,7 +57,7 @@ fn push_asked(code: &mut Vec<Instr>, wiring: &CommandWiring) -> Result<(), Alloc
 }
 
 /// The questions up to the recorded entry.
-fn push_front(code: &mut Vec<Instr>, wiring: &CommandWiring) -> Result<(), AllocError>
+pub(crate) fn push_front(code: &mut Vec<Instr>, wiring: &CommandWiring) -> Result<(), AllocError>
     ensures { OnOk result (code.new.items ≡ code.old.items ++ front wiring.now []) }
 {
     push_order(code, wiring.order_only.as_slice())?;
@@ -346,7 +346,7 @@ fn push_passed(code: &mut Vec<Instr>, wiring: &CommandWiring, at: u32) -> Result
 }
 
 /// From the recorded entry on; the code begins at that place.
-fn push_recalled(code: &mut Vec<Instr>, wiring: &CommandWiring, at: u32) -> Result<(), AllocError>
+pub(crate) fn push_recalled(code: &mut Vec<Instr>, wiring: &CommandWiring, at: u32) -> Result<(), AllocError>
     requires place { at ≤ 2 ^ 20 }
     requires few { length wiring.now.outputs ≤ 2 ^ 16 }
     requires few_flags { length wiring.now.flags ≤ 2 ^ 16 }

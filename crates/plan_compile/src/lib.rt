@@ -11,12 +11,14 @@
 #![tactic(auto)]
 
 mod command;
+mod emitting;
 mod fault;
 mod inputs;
 mod laws;
 mod outputs;
 mod wiring;
 
+pub use emitting::edge_code;
 pub use fault::EmitFault;
 pub use laws::{
     command_means, command_shaped, phony_means, phony_shaped, runs_keep_to_rule,
