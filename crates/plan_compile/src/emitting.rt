@@ -16,6 +16,9 @@ use std::alloc::{AllocError, Global};
 /// No body of an image has more instructions.
 const MOST: usize = 65536;
 
+/// Room for the code of most edges.
+const ROOM: usize = 64;
+
 /// Code, unless it has too many places.
 fn limited(code: Vec<Instr>) -> Result<Vec<Instr>, EmitFault>
     ensures { Meets EmitFault.Memory (λ v. v.items) result (emitted code.items) }
@@ -29,7 +32,7 @@ fn limited(code: Vec<Instr>) -> Result<Vec<Instr>, EmitFault>
 fn command_edge(alloc: Global, wiring: &CommandWiring) -> Result<Vec<Instr>, EmitFault>
     ensures { Meets EmitFault.Memory (λ v. v.items) result (emitted (command_code wiring.now)) }
 {
-    let mut code = Vec::new(alloc);
+    let mut code = Vec::with_capacity(alloc, ROOM)?;
     push_front(&mut code, wiring)?;
     if code.len() > MOST {
         return Err(EmitFault::Limit);
@@ -60,7 +63,7 @@ fn push_gather(code: &mut Vec<Instr>, wiring: &GatherWiring) -> Result<(), Alloc
 fn gather_edge(alloc: Global, wiring: &GatherWiring) -> Result<Vec<Instr>, EmitFault>
     ensures { Meets EmitFault.Memory (λ v. v.items) result (emitted (gather_code wiring.now)) }
 {
-    let mut code = Vec::new(alloc);
+    let mut code = Vec::with_capacity(alloc, ROOM)?;
     push_gather(&mut code, wiring)?;
     limited(code)
 }
@@ -68,7 +71,7 @@ fn gather_edge(alloc: Global, wiring: &GatherWiring) -> Result<Vec<Instr>, EmitF
 fn alone_edge(alloc: Global, outputs: &[Output]) -> Result<Vec<Instr>, EmitFault>
     ensures { Meets EmitFault.Memory (λ v. v.items) result (emitted (alone_code outputs.now)) }
 {
-    let mut code = Vec::new(alloc);
+    let mut code = Vec::with_capacity(alloc, ROOM)?;
     push_alone(&mut code, outputs)?;
     limited(code)
 }
