@@ -24,3 +24,6 @@ pub use laws::{
     command_means, command_shaped, phony_means, phony_shaped, runs_keep_to_rule,
 };
 pub use wiring::{CommandWiring, GatherWiring, Input, Output, Wiring};
+
+#[cfg(test)]
+mod tests;
