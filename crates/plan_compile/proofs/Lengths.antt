@@ -1,13 +1,13 @@
 -- How long parts of the code are.
-use Rattle.std.proofs.Common.{◌≡◌, ℕ, zero, suc, ◌+◌, ◌*◌, ◌-◌, ◌<◌, ◌≤◌, Bool, true, false, List, [], ◌∷◌, ◌++◌, length, refl, sym, ap, subst, ◌∙◌, arith, length-append}
-use Rattle.std.specs.Prelude.{not, nat_lt, if◌then◌else◌, Result, Ok, Err}
+use Rattle.std.proofs.Common.{◌≡◌, ℕ, suc, ◌+◌, ◌*◌, ◌-◌, ◌<◌, ◌≤◌, Bool, true, false, List, [], ◌∷◌, ◌++◌, length, refl, sym, ap, subst, ◌∙◌, arith, length-append}
+use Rattle.std.specs.Prelude.{not, if◌then◌else◌, Ok, Err}
 use Rattle.std.proofs.lemmas.Bool.{lt-ltb}
 use Rattle.plan_compile.specs.declared.fault.EmitFault.TheVariants.{Limit}
 use Rattle.plan_image.specs.declared.instr.Instr.{Instr}
 use Rattle.plan_image.specs.declared.instr.Instr.TheVariants as op
 use Rattle.plan_compile.specs.declared.wiring.Output.{Output}
 use Rattle.plan_compile.specs.declared.wiring.CommandWiring.{CommandWiring}
-use Rattle.plan_compile.specs.Emit.{has_source, order_code, newest_code, or_code, any_code, stat_code, older_code, oldest_code, flag_code, holders, alarm_code, weighed_code, front, same_code, ready_code, ready_len, clean_code, clean_len, judge_code, judged_code, dirty_place, other_code, same_place, known_place, pass_code, recalled_code, command_code, emitted}
+use Rattle.plan_compile.specs.Emit.{has_source, order_code, newest_code, or_code, any_code, stat_code, older_code, oldest_code, flag_code, holders, alarm_code, weighed_code, front, same_code, ready_code, ready_len, clean_len, judge_code, judged_code, dirty_place, other_code, same_place, known_place, pass_code, recalled_code, command_code, emitted}
 use Rattle.plan_compile.proofs.Placing.{front_app}
 use Rattle.plan_compile.proofs.Edge.{skip_long}
 

@@ -223,7 +223,12 @@ fn push_judged(code: &mut Vec<Instr>, wiring: &CommandWiring, at: u32) -> Result
         code.push(Instr::Swap)?;
         code.push(Instr::Load(wiring.newest))?;
         code.push(Instr::Swap)?;
-        push_alarm(code, true, wiring.outputs.as_slice(), wiring.flags.as_slice())?;
+        push_alarm(
+            code,
+            true,
+            wiring.outputs.as_slice(),
+            wiring.flags.as_slice(),
+        )?;
         code.push(Instr::Swap)?;
         push_judge(code, wiring, judge)
     } else {
@@ -346,7 +351,11 @@ fn push_passed(code: &mut Vec<Instr>, wiring: &CommandWiring, at: u32) -> Result
 }
 
 /// From the recorded entry on; the code begins at that place.
-pub(crate) fn push_recalled(code: &mut Vec<Instr>, wiring: &CommandWiring, at: u32) -> Result<(), AllocError>
+pub(crate) fn push_recalled(
+    code: &mut Vec<Instr>,
+    wiring: &CommandWiring,
+    at: u32,
+) -> Result<(), AllocError>
     requires place { at ≤ 2 ^ 20 }
     requires few { length wiring.now.outputs ≤ 2 ^ 16 }
     requires few_flags { length wiring.now.flags ≤ 2 ^ 16 }

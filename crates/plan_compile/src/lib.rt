@@ -20,9 +20,7 @@ mod wiring;
 
 pub use emitting::edge_code;
 pub use fault::EmitFault;
-pub use laws::{
-    command_means, command_shaped, phony_means, phony_shaped, runs_keep_to_rule,
-};
+pub use laws::{command_means, command_shaped, phony_means, phony_shaped, runs_keep_to_rule};
 pub use wiring::{CommandWiring, GatherWiring, Input, Output, Wiring};
 
 #[cfg(test)]

@@ -107,7 +107,10 @@ fn source_and_depfile(rt: HostRuntime) -> Result<(), AllocError> {
         Instr::End,
     ];
     let wiring = compiled(rt.alloc())?;
-    assert_eq!(rt; is_command_code(rt.alloc(), wiring, expected.as_slice()), Ok(true));
+    assert_eq!(rt;
+        is_command_code(rt.alloc(), wiring, expected.as_slice()),
+        Ok(true)
+    );
     Ok(())
 }
 
@@ -183,7 +186,10 @@ fn made_inputs(rt: HostRuntime) -> Result<(), AllocError> {
         Instr::End,
     ];
     let wiring = linked(rt.alloc())?;
-    assert_eq!(rt; is_command_code(rt.alloc(), wiring, expected.as_slice()), Ok(true));
+    assert_eq!(rt;
+        is_command_code(rt.alloc(), wiring, expected.as_slice()),
+        Ok(true)
+    );
     Ok(())
 }
 
@@ -242,7 +248,10 @@ fn restat_edge(rt: HostRuntime) -> Result<(), AllocError> {
         Instr::End,
     ];
     let wiring = command(rt.alloc(), true, false)?;
-    assert_eq!(rt; is_command_code(rt.alloc(), wiring, expected.as_slice()), Ok(true));
+    assert_eq!(rt;
+        is_command_code(rt.alloc(), wiring, expected.as_slice()),
+        Ok(true)
+    );
     Ok(())
 }
 
@@ -257,7 +266,10 @@ fn phonies(rt: HostRuntime) -> Result<(), AllocError> {
         Instr::Store(1),
         Instr::End,
     ];
-    assert_eq!(rt; is_code(rt.alloc(), &Wiring::Alone(outputs), alone.as_slice()), Ok(true));
+    assert_eq!(rt;
+        is_code(rt.alloc(), &Wiring::Alone(outputs), alone.as_slice()),
+        Ok(true)
+    );
     let wiring = GatherWiring {
         named: items(rt.alloc(), [Input::File(3), Input::Made(0, 1)].as_slice())?,
         order_only: items(rt.alloc(), [4].as_slice())?,
@@ -277,7 +289,10 @@ fn phonies(rt: HostRuntime) -> Result<(), AllocError> {
         Instr::Store(3),
         Instr::End,
     ];
-    assert_eq!(rt; is_code(rt.alloc(), &Wiring::Gather(wiring), gathered.as_slice()), Ok(true));
+    assert_eq!(rt;
+        is_code(rt.alloc(), &Wiring::Gather(wiring), gathered.as_slice()),
+        Ok(true)
+    );
     Ok(())
 }
 
@@ -376,16 +391,28 @@ fn verdict(alloc: Global, wiring: &Wiring, slots: &[Kind]) -> Result<u64, Verify
 fn verified(rt: HostRuntime) -> Result<(), AllocError> {
     let three = [Kind::Stamp, Kind::Flag, Kind::Stamp];
     let wiring = Wiring::Command(compiled(rt.alloc())?);
-    assert_eq!(rt; verdict(rt.alloc(), &wiring, three.as_slice()).is_ok(), true);
+    assert_eq!(rt;
+        verdict(rt.alloc(), &wiring, three.as_slice()).is_ok(),
+        true
+    );
     for (restat, generator) in [(true, false), (false, true), (true, true)] {
         let wiring = Wiring::Command(command(rt.alloc(), restat, generator)?);
-        assert_eq!(rt; verdict(rt.alloc(), &wiring, three.as_slice()).is_ok(), true);
+        assert_eq!(rt;
+            verdict(rt.alloc(), &wiring, three.as_slice()).is_ok(),
+            true
+        );
     }
     let mut blank = command(rt.alloc(), false, false)?;
     blank.blank = true;
-    assert_eq!(rt; verdict(rt.alloc(), &Wiring::Command(blank), three.as_slice()).is_ok(), true);
+    assert_eq!(rt;
+        verdict(rt.alloc(), &Wiring::Command(blank), three.as_slice()).is_ok(),
+        true
+    );
     let outputs = items(rt.alloc(), [output(0, 0, 1)].as_slice())?;
     let two = [Kind::Stamp, Kind::Flag];
-    assert_eq!(rt; verdict(rt.alloc(), &Wiring::Alone(outputs), two.as_slice()).is_ok(), true);
+    assert_eq!(rt;
+        verdict(rt.alloc(), &Wiring::Alone(outputs), two.as_slice()).is_ok(),
+        true
+    );
     Ok(())
 }

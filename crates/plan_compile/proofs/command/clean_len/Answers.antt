@@ -1,4 +1,4 @@
-use Rattle.std.proofs.Common.{◌≡◌, ◌*◌, sym, ap, ◌∙◌}
+use Rattle.std.proofs.Common.{◌*◌, sym, ap, ◌∙◌}
 use Rattle.plan_compile.proofs.Lengths.{clean_restat}
 use Rattle.plan_compile.proofs.command.clean_len.Goals as goal
 

@@ -1,4 +1,4 @@
-use Rattle.std.proofs.Common.{◌≡◌, ◌<◌, length, sym, arith}
+use Rattle.std.proofs.Common.{sym, arith}
 use Rattle.plan_compile.proofs.Lengths.{oldest_length}
 use Rattle.plan_compile.proofs.command.oldest_len.Goals as goal
 

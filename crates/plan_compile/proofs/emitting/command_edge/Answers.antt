@@ -1,4 +1,4 @@
-use Rattle.std.proofs.Common.{◌<◌, length, arith}
+use Rattle.std.proofs.Common.{length, arith}
 use Rattle.plan_compile.specs.Emit.{command_code}
 use Rattle.plan_compile.proofs.Lengths.{emitted_over, flags_within, outputs_within}
 use Rattle.plan_compile.proofs.emitting.command_edge.Goals as goal
