@@ -22,7 +22,7 @@ sys.path.insert(0, str(ROOT / "tests" / "images"))
 
 import cases
 
-PAGES = ("MANIFEST.md", "DEPFILE.md", "RECORD.md", "IMAGE.md", "VERIFIER.md", "MACHINE.md")
+PAGES = ("MANIFEST.md", "DEPFILE.md", "RECORD.md", "IMAGE.md", "VERIFIER.md", "MACHINE.md", "COMPILER.md")
 KEYS = {"manual", "defined", "done", "offered", "rows", "cases", "tests", "examples", "texts", "edits"}
 
 

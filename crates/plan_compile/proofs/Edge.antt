@@ -1,34 +1,33 @@
 -- The code of an edge means the rule.
-use Rattle.std.proofs.Common.{◌≡◌, ℕ, zero, suc, ◌+◌, ◌<◌, ◌≤◌, Bool, true, false, List, [], ◌∷◌, ◌++◌, length, drop, map, Option, Some, None, refl, sym, ap, subst, ◌∙◌, arith, inl, inr}
-use Rattle.std.specs.Prelude.{◌||◌, ◌&&◌, not, nat_lt, if◌then◌else◌, slice_get, slice_set, ◌==◌}
+use Rattle.std.proofs.Common.{◌≡◌, ℕ, suc, ◌+◌, ◌<◌, ◌≤◌, Bool, true, false, List, [], ◌∷◌, ◌++◌, length, drop, map, Option, Some, None, refl, sym, ap, subst, ◌∙◌, arith}
+use Rattle.std.specs.Prelude.{◌&&◌, not, nat_lt, if◌then◌else◌, slice_get, slice_set}
 use Rattle.plan_image.specs.declared.instr.Instr.{Instr}
 use Rattle.plan_image.specs.declared.instr.Instr.TheVariants as op
 use Rattle.plan_image.specs.declared.image.Parts.{Parts}
 use Rattle.plan_image.specs.Code.{code}
 use Rattle.plan_verify.specs.declared.value.Value.{Value}
-use Rattle.plan_verify.specs.declared.value.Value.TheVariants.{Stamp, Flag, Text, Paths, Swept}
+use Rattle.plan_verify.specs.declared.value.Value.TheVariants.{Stamp, Text, Paths}
 use Rattle.plan_verify.specs.Tables.{owned_by}
 use Rattle.plan_verify.specs.Turn.{Slots, Meaning, Recall}
 use Rattle.plan_verify.specs.Alone.{at_begin}
-use Rattle.plan_verify.specs.Sound.{AreTyped, AreLentSet}
 use Rattle.plan_compile.specs.declared.wiring.Output.{Output}
 use Rattle.plan_compile.specs.declared.wiring.CommandWiring.{CommandWiring}
 use Rattle.plan_compile.specs.declared.wiring.GatherWiring.{GatherWiring}
 use Rattle.plan_compile.specs.declared.wiring.Wiring.{Wiring}
 use Rattle.plan_compile.specs.declared.wiring.Wiring.TheVariants as wiring
 use Rattle.plan_compile.specs.Talk.{Left, Talk, Ask, Over, Obeys}
-use Rattle.plan_compile.specs.Rule.{Given, Command, Recorded, asked, inputs, greatest, least, some_changed, is_new, mark, paths_in, is_dirty, name, recalled, stamps, alone, gathers, has_none, does, does_phony}
-use Rattle.plan_compile.specs.Emit.{has_source, weighed_code, front, stat_code, order_code, newest_code, oldest_code, ready_code, ready_len, skip_code, clean_code, dirty_code, judge_code, judged_code, dirty_place, other_code, same_code, same_place, compare_code, known_place, pass_code, recalled_code, command_code, alone_code, gather_code, code_of}
-use Rattle.plan_compile.specs.Means.{command_of, phony_of, flag_at, flags_of, given, source, output_path, outputs_in, rule_of, Leaves, Share, IsCommand, IsGather, IsAlone, IsWired, AreGiven, CodeMeans}
+use Rattle.plan_compile.specs.Rule.{Given, Command, Recorded, asked, inputs, greatest, least, some_changed, is_new, mark, paths_in, is_dirty, name, recalled, stamps, alone, gathers, does, does_phony}
+use Rattle.plan_compile.specs.Emit.{has_source, weighed_code, front, oldest_code, ready_code, ready_len, skip_code, clean_code, dirty_code, judge_code, judged_code, dirty_place, other_code, same_place, compare_code, known_place, pass_code, recalled_code, alone_code, gather_code, code_of}
+use Rattle.plan_compile.specs.Means.{command_of, phony_of, flag_at, flags_of, given, source, Leaves, IsGather, IsAlone, IsWired, CodeMeans}
 use Rattle.plan_compile.specs.Laws.{CommandMeans, PhonyMeans}
 use Rattle.plan_compile.proofs.Wired.{Wired, wired, files, readable, writable, of_two_kinds, flags_readable, flags_lent, any_same, changed_is, kinds_differ}
 use Rattle.plan_compile.proofs.Machine.{From, plain, load, store, recall, jump, jump_if, entry_values}
-use Rattle.plan_compile.proofs.Folds.{Hold, AreMatched, IsPositive, stored, own_slot, order_all, newest_all, stat_all, oldest_all, alarm_all}
+use Rattle.plan_compile.proofs.Folds.{Hold, IsPositive, stored, own_slot, order_all, newest_all, stat_all, oldest_all, alarm_all}
 use Rattle.plan_compile.proofs.SlotFacts.{get_same, get_other, set_length, stored_length, stored_other, stored_hold, foreign_no_stamp, own_within}
 use Rattle.plan_compile.proofs.Judging.{basis_in}
-use Rattle.plan_compile.proofs.Placed.{as_files, placed_leaves, alone_means, gather_means}
+use Rattle.plan_compile.proofs.Placed.{alone_means, gather_means}
 use Rattle.plan_compile.proofs.Placing.{recalled_stands, judge_stands, same_stands, known_stands, marked_stands, passed_stands, dirty_stands, run_stands}
-use Rattle.plan_compile.proofs.Whole.{app_long, ready_long, hold_some, IsRoomy, Ready, alarm, below, below_roomy, judge_all, judged_by, weighs, other_all, same_all, drop_two, ends_as}
+use Rattle.plan_compile.proofs.Whole.{app_long, ready_long, hold_some, Ready, below, below_roomy, judge_all, judged_by, weighs, other_all, same_all, drop_two, ends_as}
 
 pub not_true : (b : Bool) → not b ≡ true → b ≡ false
 not_true true h = absurd cc

@@ -1,7 +1,7 @@
 -- The code of an edge is well shaped.
-use Rattle.std.proofs.Common.{◌≡◌, ℕ, zero, suc, ◌+◌, ◌-◌, ◌<◌, ◌≤◌, Bool, true, false, List, [], ◌∷◌, ◌++◌, length, drop, map, Option, Some, None, refl, sym, ap, subst, ◌∙◌, arith, inl, inr, append_assoc}
-use Rattle.std.specs.Prelude.{◌||◌, ◌&&◌, ◌⊎◌, not, nat_le, nat_lt, ◌==◌, if◌then◌else◌}
-use Rattle.std.specs.List.{list_all, list_any}
+use Rattle.std.proofs.Common.{◌≡◌, ℕ, zero, suc, ◌+◌, ◌-◌, ◌<◌, ◌≤◌, Bool, true, false, List, [], ◌∷◌, ◌++◌, length, drop, Option, Some, None, refl, sym, ap, subst, ◌∙◌, arith, inl, inr, append_assoc}
+use Rattle.std.specs.Prelude.{◌||◌, ◌&&◌, not, nat_le, nat_lt, ◌==◌, if◌then◌else◌}
+use Rattle.std.specs.List.{list_all}
 use Rattle.std.proofs.lemmas.Bool.{eqb-true, eq-eqb, le-ltb}
 use Rattle.plan_image.specs.declared.instr.Kind.{Kind}
 use Rattle.plan_image.specs.declared.instr.Kind.TheVariants.{Stamp, Flag, Text, Paths, Swept}
@@ -11,17 +11,17 @@ use Rattle.plan_image.specs.declared.image.Parts.{Parts}
 use Rattle.plan_image.specs.Code.{code}
 use Rattle.plan_verify.specs.declared.shape.Shape.{Shape}
 use Rattle.plan_verify.specs.Members.{is_member, with_member}
-use Rattle.plan_verify.specs.Tables.{owns, is_lent, slot_kind, own_slots}
-use Rattle.plan_verify.specs.Shape.{left, targets, refused, bad_slot, bad_jump, takes, is_wanted, wrong_kind, unset_slot, kinds_after, falls_off, table_refusal}
-use Rattle.plan_verify.specs.WellShaped.{at_start, begins, AreShapes, AreAllShapes, IsShapedEdge}
+use Rattle.plan_verify.specs.Tables.{is_lent, own_slots}
+use Rattle.plan_verify.specs.Shape.{left, targets, refused, bad_jump, is_wanted, falls_off, table_refusal}
+use Rattle.plan_verify.specs.WellShaped.{at_start, begins, IsShapedEdge}
 use Rattle.plan_compile.specs.Laws.{CommandShaped, PhonyShaped}
 use Rattle.plan_compile.specs.declared.wiring.Input.{Input}
 use Rattle.plan_compile.specs.declared.wiring.Input.TheVariants.{File, Made}
 use Rattle.plan_compile.specs.declared.wiring.Output.{Output}
 use Rattle.plan_compile.specs.declared.wiring.CommandWiring.{CommandWiring}
 use Rattle.plan_compile.specs.declared.wiring.GatherWiring.{GatherWiring}
-use Rattle.plan_compile.specs.Emit.{has_source, order_code, newer_code, newest_code, or_code, any_code, stat_code, older_code, oldest_code, alarm_code, weighed_code, front, flag_code, holders, restat_code, after_code, same_code, ready_code, ready_len, skip_code, clean_code, clean_len, deps_code, run_code, dirty_code, judge_code, judged_code, dirty_place, other_code, same_place, compare_code, known_place, pass_code, recalled_code, command_code, alone_code, gather_code}
-use Rattle.plan_compile.specs.Means.{IsFile, IsText, IsOwnOf, IsLentOf, AreInputs, AreSources, AreOutputs, ShareFlag, HaveFlagSlots, slots_of, AreAllOwn, IsCommand, IsGather, IsAlone}
+use Rattle.plan_compile.specs.Emit.{has_source, order_code, newer_code, newest_code, or_code, any_code, stat_code, older_code, oldest_code, alarm_code, weighed_code, front, flag_code, holders, restat_code, after_code, same_code, ready_code, ready_len, skip_code, clean_code, clean_len, deps_code, run_code, dirty_code, judge_code, judged_code, dirty_place, other_code, same_place, compare_code, known_place, pass_code, recalled_code, alone_code, gather_code}
+use Rattle.plan_compile.specs.Means.{IsText, IsOwnOf, IsLentOf, AreInputs, AreSources, AreOutputs, ShareFlag, HaveFlagSlots, slots_of, IsCommand, IsGather, IsAlone}
 use Rattle.plan_compile.proofs.Wired.{or_cases, or_right, flags_lent}
 use Rattle.plan_compile.proofs.Machine.{drop_length}
 use Rattle.plan_compile.proofs.SlotFacts.{and_both}
@@ -29,7 +29,7 @@ use Rattle.plan_compile.proofs.Placing.{recalled_stands, judge_stands, same_stan
 use Rattle.plan_compile.proofs.Whole.{less, app_long, ready_long}
 use Rattle.plan_compile.proofs.Edge.{skip_long, ready_some}
 use Rattle.plan_compile.proofs.Scanning.{Good, good_long, are_shapes}
-use Rattle.plan_compile.proofs.Shaping.{Fit, Arrives, AreAhead, IsEasy, pass, branch, jump_land, end_land, end_land_twice, join, last, none_refused, one_arrives}
+use Rattle.plan_compile.proofs.Shaping.{Fit, AreAhead, IsEasy, pass, branch, jump_land, end_land, end_land_twice, join, last, none_refused, one_arrives}
 
 abbrev pub sh : List Kind → Bool → List ℕ → Shape
 sh kinds held set = record { kinds = kinds; holding = held; set = set }

@@ -1,6 +1,6 @@
 -- Fragments that go over a list.
-use Rattle.std.proofs.Common.{◌≡◌, ℕ, zero, suc, ◌+◌, ◌<◌, ◌≤◌, Bool, true, false, List, [], ◌∷◌, ◌++◌, length, drop, map, Option, Some, None, refl, sym, ap, subst, ◌∙◌, arith, inl, inr, append_assoc}
-use Rattle.std.specs.Prelude.{◌||◌, ◌⊎◌, not, nat_lt, nat_le, if◌then◌else◌, slice_get, slice_set, ◌==◌}
+use Rattle.std.proofs.Common.{◌≡◌, ℕ, suc, ◌<◌, ◌≤◌, Bool, true, false, List, [], ◌∷◌, ◌++◌, length, map, Option, Some, None, refl, sym, ap, subst, ◌∙◌, arith, inl, inr, append_assoc}
+use Rattle.std.specs.Prelude.{◌||◌, ◌⊎◌, nat_lt, nat_le, if◌then◌else◌, slice_get, slice_set, ◌==◌}
 use Rattle.std.proofs.Math.Dec.{leb-zero}
 use Rattle.std.proofs.lemmas.Bool.{le-ltb, ltb-false, leb-true, leb-false}
 use Rattle.plan_image.specs.declared.instr.Instr.{Instr}
@@ -8,7 +8,7 @@ use Rattle.plan_image.specs.declared.instr.Instr.TheVariants as op
 use Rattle.plan_image.specs.declared.image.Slot.{Slot}
 use Rattle.plan_image.specs.declared.image.Parts.{Parts}
 use Rattle.plan_verify.specs.declared.value.Value.{Value}
-use Rattle.plan_verify.specs.declared.value.Value.TheVariants.{Stamp, Flag, Text, Paths, Swept}
+use Rattle.plan_verify.specs.declared.value.Value.TheVariants.{Stamp, Flag}
 use Rattle.plan_verify.specs.Tables.{owned_by}
 use Rattle.plan_verify.specs.Turn.{Slots, Meaning, earlier, later}
 use Rattle.plan_compile.specs.declared.wiring.Input.{Input}
@@ -18,7 +18,7 @@ use Rattle.plan_compile.specs.Talk.{Left, Talk}
 use Rattle.plan_compile.specs.Rule.{inputs, stamps, greatest_from, greatest, least_from, least}
 use Rattle.plan_compile.specs.Emit.{has_source, order_code, newer_code, newest_code, or_code, any_code, stat_code, older_code, oldest_code, alarm_code, flag_code}
 use Rattle.plan_compile.specs.Means.{path_at, stamp_at, flag_at, given, source, output_path}
-use Rattle.plan_compile.proofs.Wired.{HasStamp, HasFlag, IsOwn, AreReadable, AreFlags, AreFiles, AreWritable, some_flag}
+use Rattle.plan_compile.proofs.Wired.{AreReadable, AreFlags, AreFiles, AreWritable, some_flag}
 use Rattle.plan_compile.proofs.Machine.{From, need, stat, load, store, plain}
 
 -- a stack with room for a few more
@@ -97,7 +97,7 @@ module _ (meaning : Meaning) (p : Parts) (e : ℕ) (L : Slots → Left → Type 
   pub newer_all : {rest : List Instr} {slots : Slots} {holding ran : Bool} (is : List Input) (a : ℕ) (k : List ℕ → Talk) → AreReadable p e slots is
       → ((ts : List ℕ) → ((0 < a) ⊎ (has_source is ≡ true) → 0 < greatest_from a ts) → From meaning p e L rest (Stamp (greatest_from a ts) ∷ []) slots holding ran (k ts))
       → From meaning p e L (newer_code is ++ rest) (Stamp a ∷ []) slots holding ran (inputs (map (given p slots) is) k)
-  newer_all [] a k readable h = h [] (λ c. elim c [ | inl lt ↦ lt | inr none ↦ absurd cc ])
+  newer_all [] a k readable h = h [] (λ c. elim c [ inl lt ↦ lt | inr none ↦ absurd cc ])
   newer_all {slots = slots} (File f ∷ is) a k readable h =
       need meaning p e L f (path_at p f) (λ t. inputs (map (given p slots) is) (λ ts. k (t ∷ ts))) readable.0 (λ n. refl) λ n.
       plain meaning p e L op.Newer (Stamp (suc n) ∷ Stamp a ∷ []) (Stamp (later a (suc n)) ∷ []) (λ l. refl) refl refl

@@ -27,3 +27,4 @@ mod MemberLemmas
 mod SoundLemmas
 mod BuildLemmas
 mod PlanLemmas
+mod Lengths

@@ -1,8 +1,8 @@
 -- One instruction of the code that is left: what it leaves to show.
-use Rattle.std.proofs.Common.{◌≡◌, ℕ, zero, suc, ◌+◌, ◌-◌, ◌<◌, ◌≤◌, Bool, true, false, cond, List, [], ◌∷◌, ◌++◌, length, drop, Option, Some, None, refl, sym, ap, subst, ◌∙◌, arith, add-one}
+use Rattle.std.proofs.Common.{◌≡◌, ℕ, zero, suc, ◌+◌, ◌-◌, ◌<◌, ◌≤◌, Bool, true, false, List, [], ◌∷◌, length, drop, Option, Some, None, refl, sym, ap, subst, ◌∙◌, arith}
 use Rattle.std.specs.Prelude.{◌||◌, not, Result, Ok, Err, nat_lt, nat_le, if◌then◌else◌, slice_get, slice_set, ◌==◌}
 use Rattle.std.specs.List.{list_all}
-use Rattle.std.proofs.lemmas.Bool.{le-ltb, lt-leb}
+use Rattle.std.proofs.lemmas.Bool.{lt-leb}
 use Rattle.plan_image.specs.declared.instr.Instr.{Instr}
 use Rattle.plan_image.specs.declared.instr.Instr.TheVariants as op
 use Rattle.plan_image.specs.declared.image.Slot.{Slot}
@@ -10,12 +10,11 @@ use Rattle.plan_image.specs.declared.image.Parts.{Parts}
 use Rattle.plan_image.specs.Code.{code}
 use Rattle.plan_verify.specs.declared.value.Value.{Value}
 use Rattle.plan_verify.specs.declared.value.Value.TheVariants.{Stamp, Flag, Text, Paths, Swept}
-use Rattle.plan_verify.specs.declared.value.Cause.{Cause}
 use Rattle.plan_verify.specs.declared.value.Cause.TheVariants as cause
 use Rattle.plan_verify.specs.Tables.{own_slots, path_of, paths_of, outputs_of, first_output, pool_outside}
-use Rattle.plan_verify.specs.Turn.{Slots, is_set, Request, Stat, Recall, Run, Deps, Keep, Reply, StampIs, Entry, Nothing, Exit, Signal, NotStarted, Bytes, Kept, Fault, Meaning, Local, Turn, Goes, Sets, Asks, Ends, Fails, Wrong, Did, Moved, Took, Released, TooDeep, JumpBack, PlaceOutside, SlotForeign, PlaceHeld, PoolOutside, PlaceNotHeld, SlotsLeft, ValuesLeft, Calculated, On, calculate, calculated, later, goes, next, holds, jumps, asks_of, ends, loads, stores, writes, sweeps, sweep, branches, runs, reads, keeps, act, act_at, turn, request_of, question, merged, found, ran, replied, replied_at, heard}
+use Rattle.plan_verify.specs.Turn.{Slots, is_set, Request, Stat, Recall, Run, Deps, Keep, Reply, StampIs, Entry, Nothing, Exit, Signal, NotStarted, Bytes, Kept, Fault, Meaning, Local, Turn, Goes, Sets, Asks, Ends, Wrong, Moved, Took, TooDeep, JumpBack, PlaceOutside, SlotForeign, PoolOutside, SlotsLeft, Calculated, On, calculate, calculated, later, goes, next, holds, jumps, asks_of, loads, stores, writes, sweeps, runs, keeps, act, act_at, turn, request_of, found, ran, replied, replied_at, heard}
 use Rattle.plan_verify.specs.Sound.{asking}
-use Rattle.plan_verify.specs.Alone.{Alone, Runs, Ended, Failed, after}
+use Rattle.plan_verify.specs.Alone.{Runs, after}
 use Rattle.plan_compile.specs.Talk.{Left, Talk, Ask, Over, Fail, Obeys, is_over, has_failed, moves, asks}
 use Rattle.plan_compile.specs.Rule.{Path, Recorded, needed, stamped, recalled, exited, told_paths, read, kept, stamps, greatest_from}
 

@@ -1,27 +1,25 @@
 -- Outputs with a flag each: a restat edge's after its command, and a phony's.
-use Rattle.std.proofs.Common.{◌≡◌, ℕ, zero, suc, ◌+◌, ◌<◌, ◌≤◌, Bool, true, false, List, [], ◌∷◌, ◌++◌, length, map, Option, Some, None, refl, sym, ap, subst, ◌∙◌, arith, inl, inr}
-use Rattle.std.specs.Prelude.{◌||◌, ◌&&◌, not, nat_lt, if◌then◌else◌, slice_get, slice_set, ◌==◌}
+use Rattle.std.proofs.Common.{◌≡◌, ℕ, Bool, true, false, List, [], ◌∷◌, ◌++◌, length, map, Some, refl, sym, ap, subst, ◌∙◌, inl, inr}
+use Rattle.std.specs.Prelude.{◌||◌, not, slice_get, slice_set, ◌==◌}
 use Rattle.std.specs.List.{list_all}
 use Rattle.plan_image.specs.declared.instr.Instr.{Instr}
 use Rattle.plan_image.specs.declared.instr.Instr.TheVariants as op
 use Rattle.plan_image.specs.declared.image.Parts.{Parts}
 use Rattle.plan_image.specs.Code.{code}
-use Rattle.plan_verify.specs.declared.value.Value.{Value}
 use Rattle.plan_verify.specs.declared.value.Value.TheVariants.{Stamp, Flag}
 use Rattle.plan_verify.specs.Members.{is_member}
 use Rattle.plan_verify.specs.Tables.{owned_by, own_slots}
-use Rattle.plan_verify.specs.Turn.{Slots, is_set, Meaning}
+use Rattle.plan_verify.specs.Turn.{Slots, Meaning}
 use Rattle.plan_verify.specs.Alone.{at_begin}
-use Rattle.plan_compile.specs.declared.wiring.Input.{Input}
 use Rattle.plan_compile.specs.declared.wiring.Output.{Output}
 use Rattle.plan_compile.specs.Talk.{Left, Talk, Over, Obeys}
-use Rattle.plan_compile.specs.Rule.{Given, Path, inputs, stamps, greatest, some_changed, changed, alone}
+use Rattle.plan_compile.specs.Rule.{inputs, stamps, greatest, some_changed, changed, alone}
 use Rattle.plan_compile.specs.declared.wiring.GatherWiring.{GatherWiring}
-use Rattle.plan_compile.specs.Emit.{order_code, newest_code, any_code, restat_code, alone_code, gather_code}
+use Rattle.plan_compile.specs.Emit.{restat_code, alone_code, gather_code}
 use Rattle.plan_compile.specs.Means.{given, source, output_path, Leaves, IsNoStamp, IsNoFlag, AreApart, HaveOwnFlags, Share, slots_of}
 use Rattle.plan_compile.proofs.Wired.{IsOwn, AreReadable, AreFlags, AreFiles, AreWritable, AreOfTwoKinds, some_flag, or_cases}
 use Rattle.plan_compile.proofs.Machine.{From, plain, load, stat, store, finish}
-use Rattle.plan_compile.proofs.Folds.{Hold, AreMatched, own_slot, order_all, newest_all, any_all}
+use Rattle.plan_compile.proofs.Folds.{Hold, own_slot, order_all, newest_all, any_all}
 use Rattle.plan_compile.proofs.SlotFacts.{get_same, get_other, set_length, own_within, hold_set, left_set, all_set, filled}
 
 -- each output's stamp and flag, stored one after the other

@@ -1,10 +1,18 @@
 -- The rule and the code, computed on worked examples.
-use Rattle.std.proofs.Common.{◌≡◌, ℕ, Bool, true, false, List, [], ◌∷◌, length, Option, Some, None, refl, codes, subst, arith}
-use Rattle.std.specs.Prelude.{Result, Ok}
-use Rattle.plan_image.specs.declared.instr.Instr.{Instr}
+use Rattle.std.proofs.Common.{◌≡◌, ℕ, Bool, true, false, List, [], ◌∷◌, Some, None, refl, codes, subst, arith}
+use Rattle.std.specs.Prelude.{Ok, ◌||◌, ◌==◌}
+use Rattle.plan_image.specs.declared.instr.Kind.{Kind}
+use Rattle.plan_image.specs.declared.instr.Kind.TheVariants as kind
+use Rattle.plan_image.specs.declared.image.Sort.TheVariants as sort
+use Rattle.plan_image.specs.declared.image.Slot.{Slot}
+use Rattle.plan_image.specs.declared.image.EdgeCode.TheVariants as form
+use Rattle.plan_image.specs.declared.image.Parts.{Parts}
+use Rattle.plan_image.specs.Code.{code}
+use Rattle.plan_verify.specs.Shape.{table_refusal}
+use Rattle.plan_verify.specs.WellShaped.{IsShapedEdge}
 use Rattle.plan_image.specs.declared.instr.Instr.TheVariants as op
 use Rattle.plan_verify.specs.declared.value.Cause.TheVariants as cause
-use Rattle.plan_verify.specs.Turn.{Request, Stat, Recall, Run, Deps, Keep, Reply, StampIs, Entry, Nothing, Exit, Bytes, Kept, Meaning}
+use Rattle.plan_verify.specs.Turn.{Stat, Recall, Run, Deps, Keep, StampIs, Entry, Nothing, Exit, Bytes, Kept, Meaning}
 use Rattle.plan_compile.specs.declared.wiring.Input.TheVariants.{File, Made}
 use Rattle.plan_compile.specs.declared.wiring.Output.{Output}
 use Rattle.plan_compile.specs.declared.wiring.CommandWiring.{CommandWiring}
@@ -13,6 +21,10 @@ use Rattle.plan_compile.specs.Talk.{Over, Fail, Follows}
 use Rattle.plan_compile.specs.Rule.{Path, Command, Source, runs, does, does_phony}
 use Rattle.plan_compile.specs.Rule.{Made as MadeBy}
 use Rattle.plan_compile.specs.Emit.{command_code, alone_code, gather_code}
+use Rattle.plan_compile.specs.declared.wiring.Wiring.TheVariants as wiring
+use Rattle.plan_compile.specs.Means.{IsText, text_at, IsCommand, IsGather, IsAlone, CodeMeans}
+use Rattle.plan_compile.proofs.Edge.{command_means, phony_means}
+use Rattle.plan_compile.proofs.EdgeShapes.{command_shaped, phony_shaped}
 
 -- depfiles that say no path
 none_read : Meaning
@@ -310,3 +322,96 @@ ordering = record { named = []; order_only = []; outputs = record { file = 7; st
 ordering_row : gather_code ordering ≡ op.Zero ∷ op.Store 2 ∷ op.Flag false ∷ op.Store 3 ∷ op.End ∷ []
 unfolding ordering
 ordering_row = refl
+
+-- ---- an image with an edge of each sort: what the laws ask of an edge can be met
+
+outputs_alone : List Output
+outputs_alone = record { file = 2; stamp = 3; changed = 4 } ∷ []
+
+gathers_all : GatherWiring
+gathers_all = record { named = Made 0 1 ∷ File 1 ∷ Made 3 4 ∷ []; order_only = []; outputs = record { file = 3; stamp = 5; changed = 6 } ∷ []; flags = 4 ∷ 1 ∷ []; stamp = 5; changed = 6 }
+
+slot_of : ℕ → Kind → Slot
+slot_of e k = record { owner = e; kind = k }
+
+image : Parts
+image = record {
+  texts = codes "cc" ∷ codes "d" ∷ [];
+  files = codes "o" ∷ codes "s" ∷ codes "force" ∷ codes "all" ∷ [];
+  pools = [];
+  slots = slot_of 0 kind.Stamp ∷ slot_of 0 kind.Flag ∷ slot_of 0 kind.Stamp ∷ slot_of 1 kind.Stamp ∷ slot_of 1 kind.Flag ∷ slot_of 2 kind.Stamp ∷ slot_of 2 kind.Flag ∷ [];
+  bodies = None;
+  edges = record { sort = sort.Command; pool = None; rank = 0; label = 0; outputs = 0 ∷ []; waits = []; code = form.Own (command_code compiled) }
+      ∷ record { sort = sort.Phony; pool = None; rank = 0; label = 0; outputs = 2 ∷ []; waits = []; code = form.Own (alone_code outputs_alone) }
+      ∷ record { sort = sort.Phony; pool = None; rank = 1; label = 0; outputs = 3 ∷ []; waits = 0 ∷ 1 ∷ []; code = form.Own (gather_code gathers_all) } ∷ [];
+  defaults = 2 ∷ [];
+}
+
+compiled_wired : IsCommand image 0 compiled
+unfolding image compiled slot_of
+compiled_wired = record {
+  named = (refl, tt);
+  order_only = tt;
+  outputs = ((refl, (refl, refl), (refl, refl)), tt);
+  files = refl;
+  some = λ none. absurd cc;
+  apart = (tt, tt);
+  changed = tt;
+  flags = λ s. refl;
+  newest = ((refl, refl), ((λ e. omega (arith, e)), tt));
+  own = refl;
+  command = (refl, λ is none. absurd cc);
+  depfile = λ t h. let e : 1 ≡ t = cc in subst (λ (n : ℕ). IsText image n × (text_at image n ≡ [] → ⊥)) e (refl, λ none. absurd cc);
+  pool = refl;
+}
+
+alone_wired : IsAlone image 1 outputs_alone
+unfolding image outputs_alone slot_of
+alone_wired = record { outputs = ((refl, (refl, refl), (refl, refl)), tt); apart = (tt, tt); flags = (tt, tt); own = refl }
+
+gather_wired : IsGather image 2 gathers_all
+unfolding image gathers_all slot_of
+gather_wired = record {
+  named = (((refl, refl, refl), (refl, refl, refl)), (refl, (((refl, refl, refl), (refl, refl, refl)), tt)));
+  order_only = tt;
+  flags = λ s. turned (4 == s) (1 == s);
+  share = (refl, refl, tt);
+  stamp = (refl, refl);
+  changed = (refl, refl);
+  own = refl;
+} where
+  turned : (a b : Bool) → (a || (b || false)) ≡ (b || (a || false))
+  turned true true = refl
+  turned true false = refl
+  turned false b = refl
+
+compiled_code_is : code image 0 ≡ command_code compiled
+unfolding image
+compiled_code_is = refl
+
+alone_code_is : code image 1 ≡ alone_code outputs_alone
+unfolding image
+alone_code_is = refl
+
+gather_code_is : code image 2 ≡ gather_code gathers_all
+unfolding image
+gather_code_is = refl
+
+tables_right : (table_refusal image 0 ≡ None) × (table_refusal image 1 ≡ None) × (table_refusal image 2 ≡ None)
+unfolding table_refusal image slot_of
+tables_right = (refl, refl, refl)
+
+-- so the verifier accepts it
+all_shaped : IsShapedEdge image 0 × IsShapedEdge image 1 × IsShapedEdge image 2
+all_shaped = (
+  command_shaped image 0 compiled compiled_code_is compiled_wired tables_right.0,
+  phony_shaped.alone image 1 outputs_alone alone_code_is alone_wired tables_right.1,
+  phony_shaped.gather image 2 gathers_all gather_code_is gather_wired tables_right.2,
+)
+
+-- and its edges keep to the rule
+compiled_means : CodeMeans image 0 (wiring.Command compiled)
+compiled_means = command_means image 0 compiled compiled_code_is compiled_wired
+
+gathered_means : CodeMeans image 2 (wiring.Gather gathers_all)
+gathered_means = phony_means.gather image 2 gathers_all gather_code_is gather_wired

@@ -1,12 +1,11 @@
 -- An edge that keeps to a talk, run alone: what it was told leads along the talk.
-use Rattle.std.proofs.Common.{◌≡◌, ℕ, zero, suc, Bool, true, false, List, [], ◌∷◌, Option, Some, None, refl, sym, ap, subst, ◌∙◌}
+use Rattle.std.proofs.Common.{◌≡◌, ℕ, suc, Bool, false, List, ◌∷◌, Option, Some, None, refl, sym, ap, subst, ◌∙◌}
 use Rattle.std.specs.Prelude.{if◌then◌else◌, slice_get}
 use Rattle.plan_image.specs.declared.image.Parts.{Parts}
 use Rattle.plan_image.specs.Code.{code}
-use Rattle.plan_verify.specs.declared.value.Cause.{Cause}
 use Rattle.plan_verify.specs.Turn.{Slots, Request, Reply, Meaning, Local, Turn, turn, question, heard, replied_at}
-use Rattle.plan_verify.specs.Alone.{Stage, Runs, Ended, Failed, WentWrong, Alone, after, RunsAlone, rests, steps, hears}
-use Rattle.plan_compile.specs.Talk.{Left, Talk, Ask, Over, Fail, Obeys, is_over, has_failed, moves, asks, Follows}
+use Rattle.plan_verify.specs.Alone.{Stage, Runs, Alone, after, RunsAlone, rests, steps, hears}
+use Rattle.plan_compile.specs.Talk.{Left, Talk, Obeys, is_over, has_failed, moves, asks, Follows}
 
 pub stage_is : (x y : Alone) → x ≡ y → x.stage ≡ y.stage
 stage_is x y e = ap (λ (a : Alone). a.stage) e

@@ -1,10 +1,8 @@
 -- Shapes of code, put together from left to right.
-use Rattle.std.proofs.Common.{◌≡◌, ℕ, zero, suc, ◌+◌, ◌-◌, ◌<◌, ◌≤◌, Bool, true, false, List, [], ◌∷◌, ◌++◌, length, drop, Option, Some, None, refl, sym, ap, subst, ◌∙◌, arith, inl, inr, append_assoc, append-nil}
-use Rattle.std.specs.Prelude.{◌||◌, ◌⊎◌, not, nat_le, nat_lt, ◌==◌, if◌then◌else◌, slice_get, Contains, All}
+use Rattle.std.proofs.Common.{◌≡◌, ℕ, zero, suc, ◌+◌, ◌<◌, ◌≤◌, Bool, true, false, List, [], ◌∷◌, ◌++◌, length, Some, None, refl, sym, ap, subst, ◌∙◌, arith, append_assoc, append-nil}
+use Rattle.std.specs.Prelude.{◌||◌, nat_le, if◌then◌else◌, slice_get}
 use Rattle.std.specs.List.{AllByRecursion}
-use Rattle.std.proofs.lemmas.Bool.{cases_eq, eq-eqb, ne_eqb, leb-false, lt-leb}
-use Rattle.plan_image.specs.declared.instr.Kind.{Kind}
-use Rattle.plan_image.specs.declared.instr.Kind.TheVariants as kind
+use Rattle.std.proofs.lemmas.Bool.{ne_eqb, leb-false}
 use Rattle.plan_image.specs.declared.instr.Instr.{Instr}
 use Rattle.plan_image.specs.declared.instr.Instr.TheVariants as op
 use Rattle.plan_image.specs.declared.image.Parts.{Parts}
@@ -12,8 +10,7 @@ use Rattle.plan_image.specs.Code.{code}
 use Rattle.plan_verify.specs.declared.shape.Shape.{Shape}
 use Rattle.plan_verify.specs.declared.fault.Refusal.{Refusal}
 use Rattle.plan_verify.specs.Shape.{left, targets, refused, first_of, checks, bad_jump}
-use Rattle.plan_verify.specs.WellShaped.{at_start, toward, arriving_from, begins, arriving, IsShapeAmong, AreShapes}
-use Rattle.plan_compile.proofs.Machine.{drop_past, drop_length}
+use Rattle.plan_verify.specs.WellShaped.{toward, arriving_from, begins, arriving, IsShapeAmong, AreShapes}
 
 pub or_false : (a b : Bool) → (a || b) ≡ false → (a ≡ false) × (b ≡ false)
 or_false true b h = absurd cc

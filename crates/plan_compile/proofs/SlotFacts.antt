@@ -1,10 +1,9 @@
 -- What lies in the slots after stores.
-use Rattle.std.proofs.Common.{◌≡◌, ℕ, zero, suc, ◌<◌, ◌≤◌, Bool, true, false, List, [], ◌∷◌, length, map, Option, Some, None, refl, sym, ap, subst, ◌∙◌, arith, inl, inr}
-use Rattle.std.specs.Prelude.{◌||◌, ◌&&◌, ◌⊎◌, not, slice_get, slice_set, ◌==◌}
-use Rattle.std.specs.List.{list_all, list_any}
+use Rattle.std.proofs.Common.{◌≡◌, ℕ, zero, suc, ◌<◌, Bool, true, false, List, [], ◌∷◌, length, map, Option, Some, refl, sym, ap, subst, ◌∙◌, arith, inl, inr}
+use Rattle.std.specs.Prelude.{◌||◌, ◌&&◌, slice_get, slice_set, ◌==◌}
+use Rattle.std.specs.List.{list_all}
 use Rattle.std.proofs.lemmas.Bool.{cases_eq, eqb-true}
 use Rattle.std.proofs.lemmas.Option.{slice_get_within}
-use Rattle.plan_image.specs.declared.image.Slot.{Slot}
 use Rattle.plan_image.specs.declared.image.Parts.{Parts}
 use Rattle.plan_verify.specs.declared.value.Value.{Value}
 use Rattle.plan_verify.specs.declared.value.Value.TheVariants.{Stamp, Flag}
@@ -14,7 +13,7 @@ use Rattle.plan_verify.specs.Turn.{Slots, is_set, is_filled}
 use Rattle.plan_compile.specs.declared.wiring.Output.{Output}
 use Rattle.plan_compile.specs.Talk.{Left}
 use Rattle.plan_compile.specs.Emit.{holders}
-use Rattle.plan_compile.specs.Means.{Leaves, IsNoStamp, IsNoFlag, AreApart, HaveOwnFlags, ShareFlag, ShareFirstFlag, HaveFlagSlots, slots_of}
+use Rattle.plan_compile.specs.Means.{Leaves, IsNoStamp, IsNoFlag, AreApart, ShareFlag, HaveFlagSlots, slots_of}
 use Rattle.plan_compile.proofs.Wired.{IsOwn, AreWritable, AreOfTwoKinds, or_cases}
 use Rattle.plan_compile.proofs.Folds.{stored, flagged, AreMatched, Hold, own_slot}
 

@@ -1,6 +1,6 @@
 -- A command edge from its recorded entry on.
-use Rattle.std.proofs.Common.{◌≡◌, ℕ, zero, suc, ◌+◌, ◌<◌, ◌≤◌, Bool, true, false, List, [], ◌∷◌, ◌++◌, length, drop, map, Option, Some, None, refl, sym, ap, subst, ◌∙◌, arith, inl, inr, append_assoc, append-nil}
-use Rattle.std.specs.Prelude.{◌||◌, ◌&&◌, not, nat_lt, if◌then◌else◌, slice_get, slice_set, ◌==◌}
+use Rattle.std.proofs.Common.{◌≡◌, ℕ, suc, ◌+◌, ◌<◌, ◌≤◌, Bool, true, false, List, [], ◌∷◌, ◌++◌, length, drop, map, Option, Some, None, refl, sym, ap, subst, ◌∙◌, arith, inl, inr, append-nil}
+use Rattle.std.specs.Prelude.{◌||◌, ◌&&◌, not, nat_lt, if◌then◌else◌, slice_get, ◌==◌}
 use Rattle.std.specs.List.{list_all}
 use Rattle.std.proofs.lemmas.Bool.{le-ltb, ltb-false}
 use Rattle.plan_image.specs.declared.instr.Instr.{Instr}
@@ -11,17 +11,17 @@ use Rattle.plan_verify.specs.declared.value.Value.{Value}
 use Rattle.plan_verify.specs.declared.value.Value.TheVariants.{Stamp, Flag, Text, Paths, Swept}
 use Rattle.plan_verify.specs.Members.{is_member}
 use Rattle.plan_verify.specs.Tables.{own_slots, owned_by}
-use Rattle.plan_verify.specs.Turn.{Slots, is_set, Meaning, Request, Deps, same_text}
+use Rattle.plan_verify.specs.Turn.{Slots, is_set, Meaning, same_text}
 use Rattle.plan_compile.specs.declared.wiring.Output.{Output}
 use Rattle.plan_compile.specs.declared.wiring.CommandWiring.{CommandWiring}
-use Rattle.plan_compile.specs.Talk.{Left, Talk, Ask, Over}
-use Rattle.plan_compile.specs.Rule.{Path, Given, Command, Recorded, greatest_from, greatest, least, some_missing, some_changed, is_new, mark, paths_in, is_dirty, name, unchanged, changed, depfile, read, stamps, runs, does}
-use Rattle.plan_compile.specs.Emit.{has_source, holders, alarm_code, deps_code, after_code, ready_code, ready_len, skip_code, clean_code, clean_len, flag_code, run_code, dirty_code, judge_code, judged_code, other_code, same_code, oldest_code}
-use Rattle.plan_compile.specs.Means.{path_at, text_at, given, output_path, depfile_text, command_of, Leaves, IsNoFlag, slots_of, HaveFlagSlots}
-use Rattle.plan_compile.proofs.Wired.{HasText, IsOwn, AreFlags, Wired, some_flag, or_cases}
-use Rattle.plan_compile.proofs.Machine.{From, plain, load, store, text, run, deps, keep, sweep_all, take_place, release_place, jump, jump_if, finish, missing_from, entry_values}
-use Rattle.plan_compile.proofs.Folds.{Hold, AreMatched, IsPositive, own_slot, stored, flagged, stat_all, flag_all, oldest_all, alarm_of, alarm_all}
-use Rattle.plan_compile.proofs.SlotFacts.{get_same, get_other, set_length, own_within, stored_length, stored_other, stored_hold, flagged_other, holders_leave, holders_writable, holders_no_flag, filled, left_set, all_set}
+use Rattle.plan_compile.specs.Talk.{Left, Talk, Over}
+use Rattle.plan_compile.specs.Rule.{Path, Given, Command, Recorded, greatest_from, greatest, least, some_missing, some_changed, is_new, mark, paths_in, is_dirty, name, unchanged, changed, depfile, stamps, runs}
+use Rattle.plan_compile.specs.Emit.{has_source, holders, alarm_code, deps_code, after_code, ready_code, skip_code, clean_code, clean_len, run_code, dirty_code, judge_code, other_code, same_code}
+use Rattle.plan_compile.specs.Means.{text_at, output_path, depfile_text, command_of, Leaves, slots_of, HaveFlagSlots}
+use Rattle.plan_compile.proofs.Wired.{HasText, Wired, some_flag, or_cases}
+use Rattle.plan_compile.proofs.Machine.{From, plain, load, text, run, deps, keep, sweep_all, take_place, release_place, jump, jump_if, finish, missing_from, entry_values}
+use Rattle.plan_compile.proofs.Folds.{Hold, AreMatched, IsPositive, stored, flagged, stat_all, flag_all, alarm_of, alarm_all}
+use Rattle.plan_compile.proofs.SlotFacts.{stored_length, stored_other, stored_hold, flagged_other, holders_leave, holders_writable, holders_no_flag, filled, left_set, all_set}
 use Rattle.plan_compile.proofs.Judging.{greatest_app, changed_plain, depfile_asks, basis_in, missing_least, dirty_is, dirty_new, dirty_unlooked}
 use Rattle.plan_compile.proofs.Placed.{placed, placed_other, placed_leaves, restat_all}
 

@@ -1,23 +1,22 @@
 -- An edge whose numbers are right, with slots that are typed and set where they are lent: what it may load and store.
-use Rattle.std.proofs.Common.{◌≡◌, ℕ, zero, suc, ◌<◌, ◌≤◌, Bool, true, false, List, [], ◌∷◌, length, map, Option, Some, None, refl, sym, ap, subst, ◌∙◌, arith, inl, inr}
-use Rattle.std.specs.Prelude.{◌||◌, ◌⊎◌, nat_le, slice_get, ◌==◌}
+use Rattle.std.proofs.Common.{◌≡◌, ℕ, zero, suc, ◌<◌, Bool, true, false, List, [], ◌∷◌, length, map, Option, Some, None, refl, sym, ap, subst, ◌∙◌, arith, inl, inr}
+use Rattle.std.specs.Prelude.{◌||◌, ◌⊎◌, slice_get, ◌==◌}
 use Rattle.std.specs.List.{list_any}
 use Rattle.std.proofs.lemmas.Bool.{leb-false, eqb-true, eq-eqb}
-use Rattle.plan_image.specs.declared.instr.Kind.{Kind}
 use Rattle.plan_image.specs.declared.instr.Kind.TheVariants as kind
 use Rattle.plan_image.specs.declared.image.Parts.{Parts}
 use Rattle.plan_verify.specs.declared.value.Value.{Value}
 use Rattle.plan_verify.specs.declared.value.Value.TheVariants.{Stamp, Flag, Text, Paths, Swept}
 use Rattle.plan_verify.specs.Members.{is_member}
-use Rattle.plan_verify.specs.Tables.{owns, owned_by, is_lent, slot_kind, path_of, paths_of, with_path, first_path, first_output, outputs_of, pool_outside}
-use Rattle.plan_verify.specs.Turn.{Slots, kind_of, is_filled, is_set}
+use Rattle.plan_verify.specs.Tables.{owned_by, slot_kind, path_of, paths_of, with_path, first_path, first_output, outputs_of, pool_outside}
+use Rattle.plan_verify.specs.Turn.{Slots, kind_of, is_filled}
 use Rattle.plan_verify.specs.Sound.{AreTyped, AreLentSet}
 use Rattle.plan_compile.specs.declared.wiring.Input.{Input}
 use Rattle.plan_compile.specs.declared.wiring.Input.TheVariants.{File, Made}
 use Rattle.plan_compile.specs.declared.wiring.Output.{Output}
 use Rattle.plan_compile.specs.declared.wiring.CommandWiring.{CommandWiring}
 use Rattle.plan_compile.specs.Rule.{Path, some_changed, first}
-use Rattle.plan_compile.specs.Means.{text_in, path_at, text_at, stamp_in, stamp_at, flag_in, flag_at, given, output_path, IsFile, IsText, IsOwnOf, IsLentOf, AreInputs, AreSources, AreOutputs, flags_of, HaveFlags, IsNoStamp, IsNoFlag, AreApart, HaveFlagSlots, slots_of, files_of, AreAllOwn, IsCommand}
+use Rattle.plan_compile.specs.Means.{text_in, path_at, text_at, stamp_in, stamp_at, flag_in, flag_at, given, output_path, IsFile, IsText, IsLentOf, AreInputs, AreSources, AreOutputs, flags_of, HaveFlags, IsNoStamp, IsNoFlag, AreApart, HaveFlagSlots, slots_of, files_of, AreAllOwn, IsCommand}
 
 -- ---- what is known of numbers
 

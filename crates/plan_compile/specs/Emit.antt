@@ -1,8 +1,10 @@
 -- The code of an edge, from one fragment for each part of the rule. What follows a fragment is its last argument where a
 -- jump leads past it.
-use Rattle.std.specs.Prelude.{ℕ, ◌+◌, Bool, true, false, not, ◌||◌, List, [], ◌∷◌, ◌++◌, length, Option, Some, None}
+use Rattle.std.specs.Prelude.{ℕ, ◌+◌, Bool, true, false, not, ◌||◌, List, [], ◌∷◌, ◌++◌, length, Option, Some, None, Result, Ok, Err, nat_lt, if◌then◌else◌}
 use Rattle.plan_image.specs.declared.instr.Instr.{Instr}
 use Rattle.plan_image.specs.declared.instr.Instr.TheVariants as op
+use Rattle.plan_compile.specs.declared.fault.CompileFault.{CompileFault}
+use Rattle.plan_compile.specs.declared.fault.CompileFault.TheVariants.{Limit}
 use Rattle.plan_compile.specs.declared.wiring.Input.{Input}
 use Rattle.plan_compile.specs.declared.wiring.Input.TheVariants.{File, Made}
 use Rattle.plan_compile.specs.declared.wiring.Output.{Output}
@@ -217,3 +219,7 @@ abbrev pub code_of : Wiring → List Instr
 code_of (Command w) = command_code w
 code_of (Gather g) = gather_code g
 code_of (Alone outputs) = alone_code outputs
+
+-- code, unless it has more places than a body of an image may have
+abbrev pub emitted : List Instr → Result (List Instr) CompileFault
+emitted is = if nat_lt 65536 (length is) then Err Limit else Ok is

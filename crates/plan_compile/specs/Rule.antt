@@ -1,9 +1,8 @@
 -- When an edge is out of date, and what it does: by what comes in, what it asks, and what it leaves.
-use Rattle.std.specs.Prelude.{◌≡◌, ℕ, zero, suc, Bool, true, false, not, ◌||◌, ◌&&◌, Result, Ok, Err, List, [], ◌∷◌, ◌++◌, map, Option, Some, None, nat_lt, ◌==◌, if◌then◌else◌}
-use Rattle.plan_verify.specs.declared.value.Cause.{Cause}
+use Rattle.std.specs.Prelude.{ℕ, zero, suc, Bool, true, false, not, ◌||◌, ◌&&◌, Result, Ok, Err, List, [], ◌∷◌, ◌++◌, map, Option, Some, None, nat_lt, ◌==◌, if◌then◌else◌}
 use Rattle.plan_verify.specs.declared.value.Cause.TheVariants.{MissingInput, StatFault, DepfileFault, DepfileMalformed, RecordFault}
 use Rattle.plan_verify.specs.declared.value.Cause.TheVariants as cause
-use Rattle.plan_verify.specs.Turn.{Request, Stat, Recall, Run, Deps, Keep, Reply, StampIs, Entry, Nothing, Exit, Signal, NotStarted, Bytes, Kept, Fault, Meaning, earlier, later, same_text}
+use Rattle.plan_verify.specs.Turn.{Stat, Recall, Run, Deps, Keep, Reply, StampIs, Entry, Nothing, Exit, Signal, Bytes, Kept, Meaning, earlier, later, same_text}
 use Rattle.plan_compile.specs.Talk.{Left, Talk, Ask, Over, Fail}
 
 abbrev pub Path : Type 0

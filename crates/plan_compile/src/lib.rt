@@ -2,7 +2,7 @@
 //!
 //! - `Wiring`: an edge by its numbers in an image's tables, one form for each sort of edge: `CommandWiring`,
 //!   `GatherWiring`, or the outputs of a phony without inputs; `Input` and `Output` are what comes in and goes out.
-//! - `edge_code`: the code of an edge, or an `EmitFault`.
+//! - `edge_code`: the code of an edge, or an `CompileFault`.
 //! - `command_means`, `phony_means`, `runs_keep_to_rule`, `command_shaped`, `phony_shaped`: what holds of the code of
 //!   every edge, for the proofs of what stands above: it keeps to the out-of-date rule, and the verifier accepts it.
 //!
@@ -11,19 +11,25 @@
 #![tactic(auto)]
 
 mod build;
+mod command;
+mod emitting;
 mod fault;
 mod form;
 mod image_laws;
+mod inputs;
 mod laws;
+mod outputs;
 mod slots;
 mod wiring;
 
+pub use emitting::edge_code;
 pub use fault::CompileFault;
 pub use form::Form;
 pub use image_laws::{
     image_is_faithful, image_is_shaped, image_means, manifests_are_sound, one_assignment,
 };
-pub use laws::{
-    command_means, command_shaped, phony_means, phony_shaped, runs_keep_to_rule,
-};
+pub use laws::{command_means, command_shaped, phony_means, phony_shaped, runs_keep_to_rule};
 pub use wiring::{CommandWiring, GatherWiring, Input, Output, Wiring};
+
+#[cfg(test)]
+mod tests;

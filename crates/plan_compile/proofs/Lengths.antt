@@ -1,0 +1,163 @@
+-- How long parts of the code are.
+use Rattle.std.proofs.Common.{◌≡◌, ℕ, suc, ◌+◌, ◌*◌, ◌-◌, ◌<◌, ◌≤◌, Bool, true, false, List, [], ◌∷◌, ◌++◌, length, refl, sym, ap, subst, ◌∙◌, arith, length-append}
+use Rattle.std.specs.Prelude.{not, if◌then◌else◌, Ok, Err}
+use Rattle.std.proofs.lemmas.Bool.{lt-ltb}
+use Rattle.plan_compile.specs.declared.fault.CompileFault.TheVariants.{Limit}
+use Rattle.plan_image.specs.declared.instr.Instr.{Instr}
+use Rattle.plan_image.specs.declared.instr.Instr.TheVariants as op
+use Rattle.plan_compile.specs.declared.wiring.Output.{Output}
+use Rattle.plan_compile.specs.declared.wiring.CommandWiring.{CommandWiring}
+use Rattle.plan_compile.specs.Emit.{has_source, order_code, newest_code, or_code, any_code, stat_code, older_code, oldest_code, flag_code, holders, alarm_code, weighed_code, front, same_code, ready_code, ready_len, clean_len, judge_code, judged_code, dirty_place, other_code, same_place, known_place, pass_code, recalled_code, command_code, emitted}
+use Rattle.plan_compile.proofs.Placing.{front_app}
+use Rattle.plan_compile.proofs.Edge.{skip_long}
+
+pub older_length : (os : List Output) → length (older_code os) ≡ 2 * length os
+older_length [] = refl
+older_length (o ∷ os) = let h : length (older_code os) ≡ 2 * length os = older_length os in omega (arith, h)
+
+pub oldest_length : (os : List Output) → 0 < length os → length (oldest_code os) ≡ 2 * length os - 1
+oldest_length [] some = absurd (omega (arith, some))
+oldest_length (o ∷ os) some = let h : length (older_code os) ≡ 2 * length os = older_length os in omega (arith, h)
+
+pub oldest_none : (os : List Output) → length os ≡ 0 → length (oldest_code os) ≡ 1
+oldest_none [] none = refl
+oldest_none (o ∷ os) none = absurd (omega (arith, none))
+
+pub or_length : (flags : List ℕ) → length (or_code flags) ≡ 2 * length flags
+or_length [] = refl
+or_length (s ∷ ss) = let h : length (or_code ss) ≡ 2 * length ss = or_length ss in omega (arith, h)
+
+pub flag_length : (b : Bool) (os : List Output) → length (flag_code b os) ≡ 2 * length os
+flag_length b [] = refl
+flag_length b (o ∷ os) = let h : length (flag_code b os) ≡ 2 * length os = flag_length b os in omega (arith, h)
+
+pub shared_length : (b : Bool) (os : List Output) → 0 < length os → length (flag_code b (holders false os)) ≡ 2
+shared_length b [] some = absurd (omega (arith, some))
+shared_length b (o ∷ os) some = refl
+
+pub shared_none : (b : Bool) (os : List Output) → length os ≡ 0 → length (flag_code b (holders false os)) ≡ 0
+shared_none b [] none = refl
+shared_none b (o ∷ os) none = absurd (omega (arith, none))
+
+-- the flags of a clean edge, by whether it is restat
+pub clean_restat : (w : CommandWiring) → w.restat ≡ true → clean_len w ≡ 2 * length w.outputs
+clean_restat w is = ap (λ (r : Bool). length (flag_code false (holders r w.outputs))) is ∙ flag_length false w.outputs
+
+pub clean_shared : (w : CommandWiring) → w.restat ≡ false → 0 < length w.outputs → clean_len w ≡ 2
+clean_shared w is some = ap (λ (r : Bool). length (flag_code false (holders r w.outputs))) is ∙ shared_length false w.outputs some
+
+pub clean_none : (w : CommandWiring) → w.restat ≡ false → length w.outputs ≡ 0 → clean_len w ≡ 0
+clean_none w is none = ap (λ (r : Bool). length (flag_code false (holders r w.outputs))) is ∙ shared_none false w.outputs none
+
+-- what makes ready for the sweep
+pub ready_restat : (w : CommandWiring) → w.restat ≡ true → ready_len w ≡ 5 + length (oldest_code w.outputs) + 2 * length w.flags
+ready_restat w is =
+    let oldest : List Instr = oldest_code w.outputs in
+    let flags : List Instr = or_code w.flags in
+    let a : length (oldest ++ (op.IsMissing ∷ flags)) ≡ length oldest + suc (length flags) = length-append oldest (op.IsMissing ∷ flags) in
+    let b : length ((oldest ++ (op.IsMissing ∷ flags)) ++ (op.Swap ∷ [])) ≡ length (oldest ++ (op.IsMissing ∷ flags)) + 1 = length-append (oldest ++ (op.IsMissing ∷ flags)) (op.Swap ∷ []) in
+    let c : length flags ≡ 2 * length w.flags = or_length w.flags in
+    let whole : length (ready_code true w []) ≡ 5 + length oldest + 2 * length w.flags = omega (arith, a, b, c) in
+    ap (λ (r : Bool). length (ready_code r w [])) is ∙ whole
+
+pub ready_plain : (w : CommandWiring) → w.restat ≡ false → ready_len w ≡ 1
+ready_plain w is = ap (λ (r : Bool). length (ready_code r w [])) is
+
+-- ---- what the whole code is longer than
+
+pub longer_front : (xs ys : List Instr) → length xs ≤ length (xs ++ ys)
+longer_front xs ys = let a : length (xs ++ ys) ≡ length xs + length ys = length-append xs ys in omega (arith, a)
+
+pub longer_back : (xs ys : List Instr) → length ys ≤ length (xs ++ ys)
+longer_back xs ys = let a : length (xs ++ ys) ≡ length xs + length ys = length-append xs ys in omega (arith, a)
+
+pub stat_length : (os : List Output) → length (stat_code os) ≡ 2 * length os
+stat_length [] = refl
+stat_length (o ∷ os) = let h : length (stat_code os) ≡ 2 * length os = stat_length os in omega (arith, h)
+
+pub any_longer : (flags : List ℕ) → length flags ≤ length (any_code flags)
+any_longer [] = omega arith
+any_longer (s ∷ ss) = let h : length (or_code ss) ≡ 2 * length ss = or_length ss in omega (arith, h)
+
+pub alarm_longer : (looks : Bool) (os : List Output) (flags : List ℕ) → length flags ≤ length (alarm_code looks os flags)
+alarm_longer true os flags =
+    let h : length (or_code flags) ≡ 2 * length flags = or_length flags in
+    let l : length (op.IsMissing ∷ or_code flags) ≤ length (oldest_code os ++ (op.IsMissing ∷ or_code flags)) = longer_back (oldest_code os) (op.IsMissing ∷ or_code flags) in
+    omega (arith, h, l)
+alarm_longer false os flags = any_longer flags
+
+module _ (w : CommandWiring) where
+  abbrev pub behind_front : List Instr
+  behind_front = recalled_code w.generator w (length (front w []))
+
+  -- the front begins the code
+  pub front_begins : length (front w []) ≤ length (command_code w)
+  front_begins = let l : length (front w []) ≤ length (front w [] ++ behind_front) = longer_front (front w []) behind_front in omega (arith, l, ap (λ (xs : List Instr). length xs) (front_app w behind_front))
+
+  pub recalled_within : length behind_front ≤ length (command_code w)
+  recalled_within = let l : length behind_front ≤ length (front w [] ++ behind_front) = longer_back (front w []) behind_front in omega (arith, l, ap (λ (xs : List Instr). length xs) (front_app w behind_front))
+
+  pub asked_within : (rest : List Instr) → length (stat_code w.outputs ++ weighed_code w.restat w (op.Recall ∷ rest)) ≤ length (front w rest)
+  asked_within rest =
+      let asked : List Instr = stat_code w.outputs ++ weighed_code w.restat w (op.Recall ∷ rest) in
+      let a : length (op.Store w.newest ∷ asked) ≤ length (newest_code w.named ++ (op.Store w.newest ∷ asked)) = longer_back (newest_code w.named) (op.Store w.newest ∷ asked) in
+      let b : length (newest_code w.named ++ (op.Store w.newest ∷ asked)) ≤ length (front w rest) = longer_back (order_code w.order_only) (newest_code w.named ++ (op.Store w.newest ∷ asked)) in
+      omega (arith, a, b)
+
+  pub outputs_within : length w.outputs ≤ length (command_code w)
+  outputs_within =
+      let a : length (stat_code w.outputs) ≡ 2 * length w.outputs = stat_length w.outputs in
+      let b : length (stat_code w.outputs) ≤ length (stat_code w.outputs ++ weighed_code w.restat w (op.Recall ∷ behind_front)) = longer_front (stat_code w.outputs) (weighed_code w.restat w (op.Recall ∷ behind_front)) in
+      let c : length (stat_code w.outputs ++ weighed_code w.restat w (op.Recall ∷ behind_front)) ≤ length (command_code w) = asked_within behind_front in
+      omega (arith, a, b, c)
+
+  -- the flags are among what is weighed
+  pub weighed_flags : (rest : List Instr) → length w.flags ≤ length (weighed_code false w rest)
+  weighed_flags rest =
+      let alarm : List Instr = alarm_code (not (has_source w.named)) w.outputs w.flags in
+      let a : length w.flags ≤ length alarm = alarm_longer (not (has_source w.named)) w.outputs w.flags in
+      let b : length alarm ≤ length (alarm ++ rest) = longer_front alarm rest in
+      let c : length (op.Load w.newest ∷ (alarm ++ rest)) ≤ length (oldest_code w.outputs ++ (op.Load w.newest ∷ (alarm ++ rest))) = longer_back (oldest_code w.outputs) (op.Load w.newest ∷ (alarm ++ rest)) in
+      omega (arith, a, b, c)
+
+  -- or among what makes ready for the sweep
+  pub ready_flags : (rest : List Instr) → length w.flags ≤ length (ready_code true w rest)
+  ready_flags rest =
+      let alarm : List Instr = alarm_code true w.outputs w.flags in
+      let a : length w.flags ≤ length alarm = alarm_longer true w.outputs w.flags in
+      let b : length alarm ≤ length (alarm ++ (op.Swap ∷ rest)) = longer_front alarm (op.Swap ∷ rest) in
+      omega (arith, a, b)
+
+  pub judged_within : (g : Bool) (at : ℕ) → (place : ℕ) × (length (judged_code w place) ≤ length (recalled_code g w at))
+  judged_within true at = by_restat w.restat where
+    by_restat : (r : Bool) → (place : ℕ) × (length (judged_code w place) ≤ length (pass_code r w at))
+    by_restat true =
+        let tail : List Instr = op.Jump (known_place w at + 1) ∷ op.Drop ∷ judged_code w (known_place w at + 1) in
+        let l : length tail ≤ length (oldest_code w.outputs ++ tail) = longer_back (oldest_code w.outputs) tail in (known_place w at + 1, omega (arith, l))
+    by_restat false = (at + 2, omega arith)
+  judged_within false at =
+      let place : ℕ = same_place w at in
+      let other : List Instr = other_code w (dirty_place w place) (judged_code w place) in
+      let l : length (op.JumpIf place ∷ other) ≤ length (same_code w.blank w.command ++ (op.JumpIf place ∷ other)) = longer_back (same_code w.blank w.command) (op.JumpIf place ∷ other) in
+      let s : suc (suc (suc (suc (length (judged_code w place))))) < length other = skip_long w.restat (op.Sweep ∷ op.Drop ∷ op.Drop ∷ op.Jump (dirty_place w place) ∷ judged_code w place) in
+      (place, omega (arith, l, s))
+
+  pub flags_within : length w.flags ≤ length (command_code w)
+  flags_within = by_restat w.restat refl where
+    by_restat : (r : Bool) → w.restat ≡ r → length w.flags ≤ length (command_code w)
+    by_restat true is =
+        let j = judged_within w.generator (length (front w [])) in
+        let a : length w.flags ≤ length (judged_code w j.0) = subst (λ (r : Bool). length w.flags ≤ length (ready_code r w (judge_code w (j.0 + ready_len w)))) (sym is) (ready_flags (judge_code w (j.0 + ready_len w))) in
+        let b : length (judged_code w j.0) ≤ length behind_front = j.1 in
+        let c : length behind_front ≤ length (command_code w) = recalled_within in
+        omega (arith, a, b, c)
+    by_restat false is =
+        let rest : List Instr = op.Recall ∷ behind_front in
+        let a : length w.flags ≤ length (weighed_code w.restat w rest) = subst (λ (r : Bool). length w.flags ≤ length (weighed_code r w rest)) (sym is) (weighed_flags rest) in
+        let b : length (weighed_code w.restat w rest) ≤ length (stat_code w.outputs ++ weighed_code w.restat w rest) = longer_back (stat_code w.outputs) (weighed_code w.restat w rest) in
+        let c : length (stat_code w.outputs ++ weighed_code w.restat w rest) ≤ length (command_code w) = asked_within behind_front in
+        omega (arith, a, b, c)
+
+-- code that is longer than a body may be
+pub emitted_over : (is : List Instr) (n : ℕ) → 65536 < n → n ≤ length is → emitted is ≡ Err Limit
+emitted_over is n over within = ap (λ (b : Bool). if b then Err Limit else Ok is) (lt-ltb 65536 (length is) (omega (arith, over, within)))

@@ -1,0 +1,369 @@
+//! The code of a command edge, appended to what is there.
+
+ghost use Rattle.std.specs.Prelude.{◌≡◌, ◌≤◌, ◌^◌, true, false, ◌++◌, ◌+◌, ◌∷◌, [], length, nat_lt, OnOk};
+ghost use Rattle.plan_compile.specs.Emit.{after_code, alarm_code, clean_code, clean_len, command_code, compare_code, deps_code, dirty_code, dirty_place, front, holders, judge_code, judged_code, known_place, oldest_code, other_code, pass_code, ready_len, recalled_code, run_code, same_code, same_place, stat_code, weighed_code};
+ghost use Rattle.plan_image.specs.declared.instr.Instr.TheVariants as op;
+
+use crate::inputs::{has_source, push_any, push_newest, push_or, push_order};
+use crate::outputs::{push_held, push_oldest, push_restat, push_stats};
+use crate::wiring::{CommandWiring, Output};
+use plan_image::Instr;
+use std::alloc::AllocError;
+
+// ---- up to the recorded entry
+
+/// Whether an output is missing or an input changed; the outputs are looked at where `looks` says so.
+fn push_alarm(
+    code: &mut Vec<Instr>,
+    looks: bool,
+    outputs: &[Output],
+    flags: &[u32],
+) -> Result<(), AllocError>
+    ensures { OnOk result (code.new.items ≡ code.old.items ++ alarm_code looks outputs.now flags.now) }
+{
+    if looks {
+        push_oldest(code, outputs)?;
+        code.push(Instr::IsMissing)?;
+        push_or(code, flags)
+    } else {
+        push_any(code, flags)
+    }
+}
+
+/// What the sweep goes on from, and the recorded entry.
+fn push_weighed(code: &mut Vec<Instr>, wiring: &CommandWiring) -> Result<(), AllocError>
+    ensures { OnOk result (code.new.items ≡ code.old.items ++ weighed_code wiring.now.restat wiring.now (op.Recall ∷ [])) }
+{
+    let outputs = wiring.outputs.as_slice();
+    if wiring.restat {
+        code.push(Instr::Recall)?;
+        Ok(())
+    } else {
+        let looks = !has_source(wiring.named.as_slice());
+        push_oldest(code, outputs)?;
+        code.push(Instr::Load(wiring.newest))?;
+        push_alarm(code, looks, outputs, wiring.flags.as_slice())?;
+        code.push(Instr::Recall)?;
+        Ok(())
+    }
+}
+
+/// The outputs' stamps, and what the sweep goes on from.
+fn push_asked(code: &mut Vec<Instr>, wiring: &CommandWiring) -> Result<(), AllocError>
+    ensures { OnOk result (code.new.items ≡ code.old.items ++ (stat_code wiring.now.outputs ++ weighed_code wiring.now.restat wiring.now (op.Recall ∷ []))) }
+{
+    push_stats(code, wiring.outputs.as_slice())?;
+    push_weighed(code, wiring)
+}
+
+/// The questions up to the recorded entry.
+pub(crate) fn push_front(code: &mut Vec<Instr>, wiring: &CommandWiring) -> Result<(), AllocError>
+    ensures { OnOk result (code.new.items ≡ code.old.items ++ front wiring.now []) }
+{
+    push_order(code, wiring.order_only.as_slice())?;
+    push_newest(code, wiring.named.as_slice())?;
+    code.push(Instr::Store(wiring.newest))?;
+    push_asked(code, wiring)
+}
+
+// ---- from the command on
+
+/// Reads the depfile and sweeps its paths.
+fn push_deps(code: &mut Vec<Instr>, depfile: Option<u32>) -> Result<(), AllocError>
+    ensures { OnOk result (code.new.items ≡ code.old.items ++ deps_code depfile) }
+{
+    match depfile {
+        Some(text) => {
+            code.push(Instr::Flag(false))?;
+            code.push(Instr::Text(text))?;
+            code.push(Instr::Deps)?;
+            code.push(Instr::Sweep)?;
+            code.push(Instr::Swap)?;
+            code.push(Instr::Drop)?;
+            Ok(())
+        }
+        None => {
+            code.push(Instr::NoPaths)?;
+            Ok(())
+        }
+    }
+}
+
+/// The outputs after the command, and the end.
+fn push_after(code: &mut Vec<Instr>, restat: bool, outputs: &[Output]) -> Result<(), AllocError>
+    ensures { OnOk result (code.new.items ≡ code.old.items ++ after_code restat outputs.now (op.End ∷ [])) }
+{
+    if restat {
+        push_restat(code, outputs)?;
+        code.push(Instr::End)?;
+        Ok(())
+    } else {
+        push_stats(code, outputs)?;
+        push_held(code, true, false, outputs)?;
+        code.push(Instr::End)?;
+        Ok(())
+    }
+}
+
+/// From the place of the pool on.
+fn push_run(code: &mut Vec<Instr>, wiring: &CommandWiring) -> Result<(), AllocError>
+    ensures { OnOk result (code.new.items ≡ code.old.items ++ run_code wiring.now) }
+{
+    code.push(Instr::Take)?;
+    code.push(Instr::Text(wiring.command))?;
+    code.push(Instr::Run)?;
+    code.push(Instr::Release)?;
+    code.push(Instr::Text(wiring.command))?;
+    code.push(Instr::Load(wiring.newest))?;
+    push_deps(code, wiring.depfile)?;
+    code.push(Instr::Keep)?;
+    push_after(code, wiring.restat, wiring.outputs.as_slice())
+}
+
+/// From where the edge is known to be dirty.
+fn push_dirty(code: &mut Vec<Instr>, wiring: &CommandWiring) -> Result<(), AllocError>
+    ensures { OnOk result (code.new.items ≡ code.old.items ++ dirty_code wiring.now) }
+{
+    code.push(Instr::Drop)?;
+    code.push(Instr::Drop)?;
+    push_run(code, wiring)
+}
+
+// ---- how long parts are
+
+/// How many instructions look for the least stamp of the outputs.
+fn oldest_len(outputs: &[Output]) -> u32
+    requires few { length outputs.now ≤ 2 ^ 16 }
+    ensures len { result ≡ length (oldest_code outputs.now) }
+    ensures short { result ≤ 2 ^ 18 }
+{
+    let count = outputs.len() as u32;
+    if count == 0 { 1 } else { 2 * count - 1 }
+}
+
+/// How many store the flags of a clean edge.
+fn clean_len(wiring: &CommandWiring) -> u32
+    requires few { length wiring.now.outputs ≤ 2 ^ 16 }
+    ensures len { result ≡ Rattle.plan_compile.specs.Emit.clean_len wiring.now }
+    ensures short { result ≤ 2 ^ 18 }
+{
+    let count = wiring.outputs.len() as u32;
+    if wiring.restat {
+        2 * count
+    } else if count == 0 {
+        0
+    } else {
+        2
+    }
+}
+
+/// How many make ready for the sweep.
+fn ready_len(wiring: &CommandWiring) -> u32
+    requires few { length wiring.now.outputs ≤ 2 ^ 16 }
+    requires few_flags { length wiring.now.flags ≤ 2 ^ 16 }
+    ensures len { result ≡ Rattle.plan_compile.specs.Emit.ready_len wiring.now }
+    ensures short { result ≤ 2 ^ 20 }
+{
+    let oldest = oldest_len(wiring.outputs.as_slice());
+    let flags = 2 * wiring.flags.len() as u32;
+    if wiring.restat { 5 + oldest + flags } else { 1 }
+}
+
+/// How many compare the command.
+fn same_len(wiring: &CommandWiring) -> u32
+    ensures len { result ≡ length (same_code wiring.now.blank wiring.now.command) }
+    ensures short { result ≤ 7 }
+{
+    if wiring.blank { 7 } else { 3 }
+}
+
+/// How many sweep where the command is another.
+fn other_len(wiring: &CommandWiring) -> u32
+    ensures len { result ≡ length (other_code wiring.now 0 []) }
+    ensures short { result ≤ 9 }
+{
+    if wiring.restat { 9 } else { 5 }
+}
+
+// ---- from the recorded entry on
+
+/// The flags and the end of a clean edge, and the dirty code.
+fn push_settled(code: &mut Vec<Instr>, wiring: &CommandWiring) -> Result<(), AllocError>
+    ensures { OnOk result (code.new.items ≡ code.old.items ++ (clean_code wiring.now ++ (op.End ∷ dirty_code wiring.now))) }
+{
+    push_held(code, false, wiring.restat, wiring.outputs.as_slice())?;
+    code.push(Instr::End)?;
+    push_dirty(code, wiring)
+}
+
+/// Sweeps, compares, and ends where the edge is clean; the code begins at that place.
+fn push_judge(code: &mut Vec<Instr>, wiring: &CommandWiring, at: u32) -> Result<(), AllocError>
+    requires place { at ≤ 2 ^ 25 }
+    requires few { length wiring.now.outputs ≤ 2 ^ 16 }
+    ensures { OnOk result (code.new.items ≡ code.old.items ++ judge_code wiring.now at) }
+{
+    let clean = clean_len(wiring);
+    code.push(Instr::Sweep)?;
+    code.push(Instr::Drop)?;
+    code.push(Instr::JumpIf(at + 6 + clean))?;
+    code.push(Instr::Before)?;
+    code.push(Instr::JumpIf(at + 8 + clean))?;
+    push_settled(code, wiring)
+}
+
+/// Makes ready for the sweep, and judges; the code begins at that place.
+fn push_judged(code: &mut Vec<Instr>, wiring: &CommandWiring, at: u32) -> Result<(), AllocError>
+    requires place { at ≤ 2 ^ 24 }
+    requires few { length wiring.now.outputs ≤ 2 ^ 16 }
+    requires few_flags { length wiring.now.flags ≤ 2 ^ 16 }
+    ensures { OnOk result (code.new.items ≡ code.old.items ++ judged_code wiring.now at) }
+{
+    let judge = at + ready_len(wiring);
+    if wiring.restat {
+        code.push(Instr::Swap)?;
+        code.push(Instr::Load(wiring.newest))?;
+        code.push(Instr::Swap)?;
+        push_alarm(
+            code,
+            true,
+            wiring.outputs.as_slice(),
+            wiring.flags.as_slice(),
+        )?;
+        code.push(Instr::Swap)?;
+        push_judge(code, wiring, judge)
+    } else {
+        code.push(Instr::Drop)?;
+        push_judge(code, wiring, judge)
+    }
+}
+
+/// Where the dirty code stands, the judging being at that place.
+fn dirty_place(wiring: &CommandWiring, at: u32) -> u32
+    requires place { at ≤ 2 ^ 24 }
+    requires few { length wiring.now.outputs ≤ 2 ^ 16 }
+    requires few_flags { length wiring.now.flags ≤ 2 ^ 16 }
+    ensures { result ≡ Rattle.plan_compile.specs.Emit.dirty_place wiring.now at }
+{
+    at + ready_len(wiring) + 6 + clean_len(wiring)
+}
+
+/// Sweeps all the same and goes to the dirty code; the judging stands behind it, at that place.
+fn push_swept(code: &mut Vec<Instr>, wiring: &CommandWiring, judged: u32) -> Result<(), AllocError>
+    requires place { judged ≤ 2 ^ 24 }
+    requires few { length wiring.now.outputs ≤ 2 ^ 16 }
+    requires few_flags { length wiring.now.flags ≤ 2 ^ 16 }
+    ensures { OnOk result (code.new.items ≡ code.old.items ++ (op.Sweep ∷ op.Drop ∷ op.Drop ∷ op.Jump (dirty_place wiring.now judged) ∷ judged_code wiring.now judged)) }
+{
+    let dirty = dirty_place(wiring, judged);
+    code.push(Instr::Sweep)?;
+    code.push(Instr::Drop)?;
+    code.push(Instr::Drop)?;
+    code.push(Instr::Jump(dirty))?;
+    push_judged(code, wiring, judged)
+}
+
+/// Where the recorded command is another, and behind it the judging, at that place.
+fn push_other(code: &mut Vec<Instr>, wiring: &CommandWiring, judged: u32) -> Result<(), AllocError>
+    requires place { judged ≤ 2 ^ 24 }
+    requires few { length wiring.now.outputs ≤ 2 ^ 16 }
+    requires few_flags { length wiring.now.flags ≤ 2 ^ 16 }
+    ensures { OnOk result (code.new.items ≡ code.old.items ++ other_code wiring.now (dirty_place wiring.now judged) (judged_code wiring.now judged)) }
+{
+    if wiring.restat {
+        code.push(Instr::Swap)?;
+        code.push(Instr::Zero)?;
+        code.push(Instr::Swap)?;
+        code.push(Instr::Flag(false))?;
+        code.push(Instr::Swap)?;
+        push_swept(code, wiring, judged)
+    } else {
+        code.push(Instr::Drop)?;
+        push_swept(code, wiring, judged)
+    }
+}
+
+/// Whether the recorded command is the edge's.
+fn push_same(code: &mut Vec<Instr>, blank: bool, command: u32) -> Result<(), AllocError>
+    ensures { OnOk result (code.new.items ≡ code.old.items ++ same_code blank command) }
+{
+    if blank {
+        code.push(Instr::Not)?;
+        code.push(Instr::Swap)?;
+        code.push(Instr::Text(command))?;
+        code.push(Instr::Equal)?;
+        code.push(Instr::Not)?;
+        code.push(Instr::Or)?;
+        code.push(Instr::Not)?;
+        Ok(())
+    } else {
+        code.push(Instr::Drop)?;
+        code.push(Instr::Text(command))?;
+        code.push(Instr::Equal)?;
+        Ok(())
+    }
+}
+
+/// Compares the recorded command; the code begins at that place.
+fn push_compare(code: &mut Vec<Instr>, wiring: &CommandWiring, at: u32) -> Result<(), AllocError>
+    requires place { at ≤ 2 ^ 20 }
+    requires few { length wiring.now.outputs ≤ 2 ^ 16 }
+    requires few_flags { length wiring.now.flags ≤ 2 ^ 16 }
+    ensures { OnOk result (code.new.items ≡ code.old.items ++ compare_code wiring.now at) }
+{
+    let judged = at + same_len(wiring) + 1 + other_len(wiring);
+    push_same(code, wiring.blank, wiring.command)?;
+    code.push(Instr::JumpIf(judged))?;
+    push_other(code, wiring, judged)
+}
+
+/// Looks for the mark of a restat generator; the code begins at that place.
+fn push_marked(code: &mut Vec<Instr>, wiring: &CommandWiring, at: u32) -> Result<(), AllocError>
+    requires place { at ≤ 2 ^ 20 }
+    requires few { length wiring.now.outputs ≤ 2 ^ 16 }
+    requires few_flags { length wiring.now.flags ≤ 2 ^ 16 }
+    ensures { OnOk result (code.new.items ≡ code.old.items ++ pass_code true wiring.now at) }
+{
+    let outputs = wiring.outputs.as_slice();
+    let known = at + 4 + oldest_len(outputs);
+    code.push(Instr::JumpIf(known))?;
+    code.push(Instr::Drop)?;
+    code.push(Instr::Drop)?;
+    push_oldest(code, outputs)?;
+    code.push(Instr::Jump(known + 1))?;
+    code.push(Instr::Drop)?;
+    push_judged(code, wiring, known + 1)
+}
+
+/// A generator compares no command; the code begins at that place.
+fn push_passed(code: &mut Vec<Instr>, wiring: &CommandWiring, at: u32) -> Result<(), AllocError>
+    requires place { at ≤ 2 ^ 20 }
+    requires few { length wiring.now.outputs ≤ 2 ^ 16 }
+    requires few_flags { length wiring.now.flags ≤ 2 ^ 16 }
+    ensures { OnOk result (code.new.items ≡ code.old.items ++ pass_code wiring.now.restat wiring.now at) }
+{
+    if wiring.restat {
+        push_marked(code, wiring, at)
+    } else {
+        code.push(Instr::Drop)?;
+        code.push(Instr::Drop)?;
+        push_judged(code, wiring, at + 2)
+    }
+}
+
+/// From the recorded entry on; the code begins at that place.
+pub(crate) fn push_recalled(
+    code: &mut Vec<Instr>,
+    wiring: &CommandWiring,
+    at: u32,
+) -> Result<(), AllocError>
+    requires place { at ≤ 2 ^ 20 }
+    requires few { length wiring.now.outputs ≤ 2 ^ 16 }
+    requires few_flags { length wiring.now.flags ≤ 2 ^ 16 }
+    ensures { OnOk result (code.new.items ≡ code.old.items ++ recalled_code wiring.now.generator wiring.now at) }
+{
+    if wiring.generator {
+        push_passed(code, wiring, at)
+    } else {
+        push_compare(code, wiring, at)
+    }
+}

@@ -1,0 +1,110 @@
+//! Code over the inputs of an edge, appended to what is there.
+
+ghost use Rattle.std.specs.Prelude.{◌≡◌, ◌++◌, OnOk};
+ghost use Rattle.plan_compile.specs.Emit.{any_code, input_code, newer_code, newest_code, or_code, order_code};
+
+use crate::wiring::Input;
+use plan_image::Instr;
+use std::alloc::AllocError;
+
+/// Order-only sources have to be there.
+pub(crate) fn push_order(code: &mut Vec<Instr>, files: &[u32]) -> Result<(), AllocError>
+    ensures { OnOk result (code.new.items ≡ code.old.items ++ order_code files.now) }
+{
+    for file in files {
+        code.push(Instr::Need(*file))?;
+        code.push(Instr::Drop)?;
+    }
+    Ok(())
+}
+
+/// Asks for an input's stamp, or loads it.
+fn stamp_of(input: Input) -> Instr
+    ensures { result ≡ input_code input }
+{
+    match input {
+        Input::File(file) => Instr::Need(file),
+        Input::Made(stamp, _changed) => Instr::Load(stamp),
+    }
+}
+
+/// The greatest of the stamp on the stack and the inputs' stamps.
+fn push_newer(code: &mut Vec<Instr>, inputs: &[Input]) -> Result<(), AllocError>
+    ensures { OnOk result (code.new.items ≡ code.old.items ++ newer_code inputs.now) }
+{
+    for input in inputs {
+        code.push(stamp_of(*input))?;
+        code.push(Instr::Newer)?;
+    }
+    Ok(())
+}
+
+/// The greatest stamp of the inputs.
+pub(crate) fn push_newest(code: &mut Vec<Instr>, inputs: &[Input]) -> Result<(), AllocError>
+    ensures { OnOk result (code.new.items ≡ code.old.items ++ newest_code inputs.now) }
+{
+    match inputs {
+        [] => {
+            code.push(Instr::Zero)?;
+            Ok(())
+        }
+        [first, others @ ..] => {
+            code.push(stamp_of(*first))?;
+            push_newer(code, others)
+        }
+    }
+}
+
+/// Whether the flag on the stack is set, or one of these.
+pub(crate) fn push_or(code: &mut Vec<Instr>, flags: &[u32]) -> Result<(), AllocError>
+    ensures { OnOk result (code.new.items ≡ code.old.items ++ or_code flags.now) }
+{
+    for flag in flags {
+        code.push(Instr::Load(*flag))?;
+        code.push(Instr::Or)?;
+    }
+    Ok(())
+}
+
+/// Whether one of these flags is set.
+pub(crate) fn push_any(code: &mut Vec<Instr>, flags: &[u32]) -> Result<(), AllocError>
+    ensures { OnOk result (code.new.items ≡ code.old.items ++ any_code flags.now) }
+{
+    match flags {
+        [] => {
+            code.push(Instr::Flag(false))?;
+            Ok(())
+        }
+        [first, others @ ..] => {
+            code.push(Instr::Load(*first))?;
+            push_or(code, others)
+        }
+    }
+}
+
+impl Input {
+    ghost use Rattle.std.specs.Prelude.{◌≡◌};
+    ghost use Rattle.plan_compile.specs.Emit.{is_source};
+
+    /// Whether it is a source.
+    fn is_source(self) -> bool
+        ensures { result ≡ is_source self }
+    {
+        match self {
+            Input::File(_file) => true,
+            Input::Made(_stamp, _changed) => false,
+        }
+    }
+}
+
+/// Whether a source is among the inputs.
+pub(crate) fn has_source(inputs: &[Input]) -> bool
+    ensures { result ≡ Rattle.plan_compile.specs.Emit.has_source inputs.now }
+{
+    for input in inputs {
+        if input.is_source() {
+            return true;
+        }
+    }
+    false
+}

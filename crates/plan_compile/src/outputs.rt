@@ -1,0 +1,118 @@
+//! Code over the outputs of an edge, appended to what is there.
+
+ghost use Rattle.std.specs.Prelude.{◌≡◌, ◌++◌, false, OnOk};
+ghost use Rattle.plan_compile.specs.Emit.{alone_code, flag_code, holders, older_code, oldest_code, restat_code, stat_code};
+
+use crate::wiring::Output;
+use plan_image::Instr;
+use std::alloc::AllocError;
+
+/// Asks for the outputs' stamps and stores them.
+pub(crate) fn push_stats(code: &mut Vec<Instr>, outputs: &[Output]) -> Result<(), AllocError>
+    ensures { OnOk result (code.new.items ≡ code.old.items ++ stat_code outputs.now) }
+{
+    for output in outputs {
+        code.push(Instr::Stat(output.file))?;
+        code.push(Instr::Store(output.stamp))?;
+    }
+    Ok(())
+}
+
+/// The least of the stamp on the stack and the outputs' stamps.
+fn push_older(code: &mut Vec<Instr>, outputs: &[Output]) -> Result<(), AllocError>
+    ensures { OnOk result (code.new.items ≡ code.old.items ++ older_code outputs.now) }
+{
+    for output in outputs {
+        code.push(Instr::Load(output.stamp))?;
+        code.push(Instr::Older)?;
+    }
+    Ok(())
+}
+
+/// The least stamp of the outputs.
+pub(crate) fn push_oldest(code: &mut Vec<Instr>, outputs: &[Output]) -> Result<(), AllocError>
+    ensures { OnOk result (code.new.items ≡ code.old.items ++ oldest_code outputs.now) }
+{
+    match outputs {
+        [] => {
+            code.push(Instr::Zero)?;
+            Ok(())
+        }
+        [first, others @ ..] => {
+            code.push(Instr::Load(first.stamp))?;
+            push_older(code, others)
+        }
+    }
+}
+
+/// Stores a flag for each output.
+fn push_flags(code: &mut Vec<Instr>, on: bool, outputs: &[Output]) -> Result<(), AllocError>
+    ensures { OnOk result (code.new.items ≡ code.old.items ++ flag_code on outputs.now) }
+{
+    for output in outputs {
+        code.push(Instr::Flag(on))?;
+        code.push(Instr::Store(output.changed))?;
+    }
+    Ok(())
+}
+
+/// Stores a flag once, for outputs that share its slot.
+fn push_shared(code: &mut Vec<Instr>, on: bool, outputs: &[Output]) -> Result<(), AllocError>
+    ensures { OnOk result (code.new.items ≡ code.old.items ++ flag_code on (holders false outputs.now)) }
+{
+    match outputs {
+        [] => Ok(()),
+        [first, ..] => {
+            code.push(Instr::Flag(on))?;
+            code.push(Instr::Store(first.changed))?;
+            Ok(())
+        }
+    }
+}
+
+/// Stores a flag in each flag slot of the outputs.
+pub(crate) fn push_held(
+    code: &mut Vec<Instr>,
+    on: bool,
+    restat: bool,
+    outputs: &[Output],
+) -> Result<(), AllocError>
+    ensures { OnOk result (code.new.items ≡ code.old.items ++ flag_code on (holders restat outputs.now)) }
+{
+    if restat {
+        push_flags(code, on, outputs)
+    } else {
+        push_shared(code, on, outputs)
+    }
+}
+
+/// The new stamps, and whether they differ from the old ones.
+pub(crate) fn push_restat(code: &mut Vec<Instr>, outputs: &[Output]) -> Result<(), AllocError>
+    ensures { OnOk result (code.new.items ≡ code.old.items ++ restat_code outputs.now) }
+{
+    for output in outputs {
+        code.push(Instr::Load(output.stamp))?;
+        code.push(Instr::Stat(output.file))?;
+        code.push(Instr::Store(output.stamp))?;
+        code.push(Instr::Load(output.stamp))?;
+        code.push(Instr::Same)?;
+        code.push(Instr::Not)?;
+        code.push(Instr::Store(output.changed))?;
+    }
+    Ok(())
+}
+
+/// Each output is as its file is, and that is all.
+pub(crate) fn push_alone(code: &mut Vec<Instr>, outputs: &[Output]) -> Result<(), AllocError>
+    ensures { OnOk result (code.new.items ≡ code.old.items ++ alone_code outputs.now) }
+{
+    for output in outputs {
+        code.push(Instr::Stat(output.file))?;
+        code.push(Instr::Store(output.stamp))?;
+        code.push(Instr::Load(output.stamp))?;
+        code.push(Instr::IsMissing)?;
+        code.push(Instr::Store(output.changed))?;
+    }
+    code.push(Instr::End)?;
+    Ok(())
+}

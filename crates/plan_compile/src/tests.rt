@@ -1,0 +1,418 @@
+//! Each public function once, on edges made by hand.
+
+use super::*;
+use plan_image::{Edge, EdgeCode, Image, Instr, Kind, Parts, Slot, Sort, split};
+use plan_text::{Items, RowList};
+use plan_verify::{VerifyFault, verify};
+use std::alloc::{AllocError, Global};
+
+fn items<T: Copy>(alloc: Global, values: &[T]) -> Result<Items<T>, AllocError> {
+    Ok(Items::new(Vec::from_slice(alloc, values)?))
+}
+
+/// An output with slots of its own.
+fn output(file: u32, stamp: u32, changed: u32) -> Output {
+    Output {
+        file,
+        stamp,
+        changed,
+    }
+}
+
+/// A command edge that makes file 0 of file 1, with slots 0 to 2 and text 0.
+fn command(alloc: Global, restat: bool, generator: bool) -> Result<CommandWiring, AllocError> {
+    Ok(CommandWiring {
+        named: items(alloc, [Input::File(1)].as_slice())?,
+        order_only: Items::empty(alloc),
+        outputs: items(alloc, [output(0, 0, 1)].as_slice())?,
+        flags: Items::empty(alloc),
+        newest: 2,
+        command: 0,
+        blank: false,
+        depfile: None,
+        restat,
+        generator,
+    })
+}
+
+/// Whether the edge has this code.
+fn is_code(alloc: Global, wiring: &Wiring, expected: &[Instr]) -> Result<bool, CompileFault> {
+    let code = edge_code(alloc, wiring)?;
+    Ok(code.as_slice() == expected)
+}
+
+fn is_command_code(
+    alloc: Global,
+    wiring: CommandWiring,
+    expected: &[Instr],
+) -> Result<bool, CompileFault> {
+    is_code(alloc, &Wiring::Command(wiring), expected)
+}
+
+/// One source, one output, a depfile.
+fn compiled(alloc: Global) -> Result<CommandWiring, AllocError> {
+    let mut wiring = command(alloc, false, false)?;
+    wiring.depfile = Some(1);
+    Ok(wiring)
+}
+
+#[test]
+fn source_and_depfile(rt: HostRuntime) -> Result<(), AllocError> {
+    let expected = [
+        Instr::Need(1),
+        Instr::Store(2),
+        Instr::Stat(0),
+        Instr::Store(0),
+        Instr::Load(0),
+        Instr::Load(2),
+        Instr::Flag(false),
+        Instr::Recall,
+        Instr::Drop,
+        Instr::Text(0),
+        Instr::Equal,
+        Instr::JumpIf(17),
+        Instr::Drop,
+        Instr::Sweep,
+        Instr::Drop,
+        Instr::Drop,
+        Instr::Jump(26),
+        Instr::Drop,
+        Instr::Sweep,
+        Instr::Drop,
+        Instr::JumpIf(26),
+        Instr::Before,
+        Instr::JumpIf(28),
+        Instr::Flag(false),
+        Instr::Store(1),
+        Instr::End,
+        Instr::Drop,
+        Instr::Drop,
+        Instr::Take,
+        Instr::Text(0),
+        Instr::Run,
+        Instr::Release,
+        Instr::Text(0),
+        Instr::Load(2),
+        Instr::Flag(false),
+        Instr::Text(1),
+        Instr::Deps,
+        Instr::Sweep,
+        Instr::Swap,
+        Instr::Drop,
+        Instr::Keep,
+        Instr::Stat(0),
+        Instr::Store(0),
+        Instr::Flag(true),
+        Instr::Store(1),
+        Instr::End,
+    ];
+    let wiring = compiled(rt.alloc())?;
+    assert_eq!(rt;
+        is_command_code(rt.alloc(), wiring, expected.as_slice()),
+        Ok(true)
+    );
+    Ok(())
+}
+
+/// Two inputs of one maker, two outputs, an order-only source.
+fn linked(alloc: Global) -> Result<CommandWiring, AllocError> {
+    let mut wiring = command(alloc, false, false)?;
+    wiring.named = items(alloc, [Input::Made(0, 1), Input::Made(2, 1)].as_slice())?;
+    wiring.order_only = items(alloc, [4].as_slice())?;
+    wiring.outputs = items(alloc, [output(0, 3, 4), output(1, 5, 4)].as_slice())?;
+    wiring.flags = items(alloc, [1].as_slice())?;
+    wiring.newest = 6;
+    Ok(wiring)
+}
+
+#[test]
+fn made_inputs(rt: HostRuntime) -> Result<(), AllocError> {
+    let expected = [
+        Instr::Need(4),
+        Instr::Drop,
+        Instr::Load(0),
+        Instr::Load(2),
+        Instr::Newer,
+        Instr::Store(6),
+        Instr::Stat(0),
+        Instr::Store(3),
+        Instr::Stat(1),
+        Instr::Store(5),
+        Instr::Load(3),
+        Instr::Load(5),
+        Instr::Older,
+        Instr::Load(6),
+        Instr::Load(3),
+        Instr::Load(5),
+        Instr::Older,
+        Instr::IsMissing,
+        Instr::Load(1),
+        Instr::Or,
+        Instr::Recall,
+        Instr::Drop,
+        Instr::Text(0),
+        Instr::Equal,
+        Instr::JumpIf(30),
+        Instr::Drop,
+        Instr::Sweep,
+        Instr::Drop,
+        Instr::Drop,
+        Instr::Jump(39),
+        Instr::Drop,
+        Instr::Sweep,
+        Instr::Drop,
+        Instr::JumpIf(39),
+        Instr::Before,
+        Instr::JumpIf(41),
+        Instr::Flag(false),
+        Instr::Store(4),
+        Instr::End,
+        Instr::Drop,
+        Instr::Drop,
+        Instr::Take,
+        Instr::Text(0),
+        Instr::Run,
+        Instr::Release,
+        Instr::Text(0),
+        Instr::Load(6),
+        Instr::NoPaths,
+        Instr::Keep,
+        Instr::Stat(0),
+        Instr::Store(3),
+        Instr::Stat(1),
+        Instr::Store(5),
+        Instr::Flag(true),
+        Instr::Store(4),
+        Instr::End,
+    ];
+    let wiring = linked(rt.alloc())?;
+    assert_eq!(rt;
+        is_command_code(rt.alloc(), wiring, expected.as_slice()),
+        Ok(true)
+    );
+    Ok(())
+}
+
+#[test]
+fn restat_edge(rt: HostRuntime) -> Result<(), AllocError> {
+    let expected = [
+        Instr::Need(1),
+        Instr::Store(2),
+        Instr::Stat(0),
+        Instr::Store(0),
+        Instr::Recall,
+        Instr::Drop,
+        Instr::Text(0),
+        Instr::Equal,
+        Instr::JumpIf(18),
+        Instr::Swap,
+        Instr::Zero,
+        Instr::Swap,
+        Instr::Flag(false),
+        Instr::Swap,
+        Instr::Sweep,
+        Instr::Drop,
+        Instr::Drop,
+        Instr::Jump(32),
+        Instr::Swap,
+        Instr::Load(2),
+        Instr::Swap,
+        Instr::Load(0),
+        Instr::IsMissing,
+        Instr::Swap,
+        Instr::Sweep,
+        Instr::Drop,
+        Instr::JumpIf(32),
+        Instr::Before,
+        Instr::JumpIf(34),
+        Instr::Flag(false),
+        Instr::Store(1),
+        Instr::End,
+        Instr::Drop,
+        Instr::Drop,
+        Instr::Take,
+        Instr::Text(0),
+        Instr::Run,
+        Instr::Release,
+        Instr::Text(0),
+        Instr::Load(2),
+        Instr::NoPaths,
+        Instr::Keep,
+        Instr::Load(0),
+        Instr::Stat(0),
+        Instr::Store(0),
+        Instr::Load(0),
+        Instr::Same,
+        Instr::Not,
+        Instr::Store(1),
+        Instr::End,
+    ];
+    let wiring = command(rt.alloc(), true, false)?;
+    assert_eq!(rt;
+        is_command_code(rt.alloc(), wiring, expected.as_slice()),
+        Ok(true)
+    );
+    Ok(())
+}
+
+#[test]
+fn phonies(rt: HostRuntime) -> Result<(), AllocError> {
+    let outputs = items(rt.alloc(), [output(7, 0, 1)].as_slice())?;
+    let alone = [
+        Instr::Stat(7),
+        Instr::Store(0),
+        Instr::Load(0),
+        Instr::IsMissing,
+        Instr::Store(1),
+        Instr::End,
+    ];
+    assert_eq!(rt;
+        is_code(rt.alloc(), &Wiring::Alone(outputs), alone.as_slice()),
+        Ok(true)
+    );
+    let wiring = GatherWiring {
+        named: items(rt.alloc(), [Input::File(3), Input::Made(0, 1)].as_slice())?,
+        order_only: items(rt.alloc(), [4].as_slice())?,
+        outputs: items(rt.alloc(), [output(7, 2, 3)].as_slice())?,
+        flags: items(rt.alloc(), [1].as_slice())?,
+        stamp: 2,
+        changed: 3,
+    };
+    let gathered = [
+        Instr::Need(4),
+        Instr::Drop,
+        Instr::Need(3),
+        Instr::Load(0),
+        Instr::Newer,
+        Instr::Store(2),
+        Instr::Load(1),
+        Instr::Store(3),
+        Instr::End,
+    ];
+    assert_eq!(rt;
+        is_code(rt.alloc(), &Wiring::Gather(wiring), gathered.as_slice()),
+        Ok(true)
+    );
+    Ok(())
+}
+
+/// So many outputs.
+fn many(alloc: Global, count: u32) -> Result<Items<Output>, AllocError> {
+    let mut outputs = Vec::new(alloc);
+    for file in 0..count {
+        outputs.push(output(file, file, file))?;
+    }
+    Ok(Items::new(outputs))
+}
+
+/// How long the code of a phony with so many outputs is, at five places an output.
+fn len_alone(alloc: Global, count: u32) -> Result<usize, CompileFault> {
+    let outputs = many(alloc, count)?;
+    let code = edge_code(alloc, &Wiring::Alone(outputs))?;
+    Ok(code.len())
+}
+
+/// So many numbers, from 0 on.
+fn numbers(alloc: Global, count: u32) -> Result<Items<u32>, AllocError> {
+    let mut found = Vec::new(alloc);
+    for number in 0..count {
+        found.push(number)?;
+    }
+    Ok(Items::new(found))
+}
+
+/// How long the code of a command edge with so many order-only sources is.
+fn len_ordered(alloc: Global, count: u32) -> Result<usize, CompileFault> {
+    let mut wiring = command(alloc, false, false)?;
+    wiring.order_only = numbers(alloc, count)?;
+    let code = edge_code(alloc, &Wiring::Command(wiring))?;
+    Ok(code.len())
+}
+
+#[test]
+fn places(rt: HostRuntime) {
+    assert_eq!(rt; len_alone(rt.alloc(), 13_107), Ok(65_536));
+    assert_eq!(rt; len_alone(rt.alloc(), 13_108), Err(CompileFault::Limit));
+    assert_eq!(rt; len_ordered(rt.alloc(), 0), Ok(41));
+    assert_eq!(rt; len_ordered(rt.alloc(), 32_747), Ok(65_535));
+    assert_eq!(rt; len_ordered(rt.alloc(), 32_748), Err(CompileFault::Limit));
+    assert_eq!(rt; len_ordered(rt.alloc(), 40_000), Err(CompileFault::Limit));
+}
+
+/// What the verifier says of an image with one edge of this wiring: the number of events that it may take.
+fn verdict(alloc: Global, wiring: &Wiring, slots: &[Kind]) -> Result<u64, VerifyFault> {
+    let Ok(code) = edge_code(alloc, wiring) else {
+        return Err(VerifyFault::Memory);
+    };
+    let Ok((body, operands)) = split(alloc, code.as_slice()) else {
+        return Err(VerifyFault::Memory);
+    };
+    let mut bodies = Vec::new(alloc);
+    bodies.push(body)?;
+    let mut edges = Vec::new(alloc);
+    edges.push(Edge {
+        sort: Sort::Command,
+        pool: None,
+        rank: 0,
+        label: 0,
+        outputs: items(alloc, [0].as_slice())?,
+        waits: Items::empty(alloc),
+        code: EdgeCode::Shared(0, operands),
+    })?;
+    let mut texts = RowList::new(alloc);
+    texts.push(b"cc")?;
+    texts.push(b"a.d")?;
+    let mut files = RowList::new(alloc);
+    files.push(b"a.o")?;
+    files.push(b"a.c")?;
+    let mut owned = Vec::new(alloc);
+    for &kind in slots {
+        owned.push(Slot { owner: 0, kind })?;
+    }
+    let parts = Parts {
+        texts,
+        files,
+        pools: Items::empty(alloc),
+        slots: Items::new(owned),
+        bodies: Some(Items::new(bodies)),
+        edges: Items::new(edges),
+        defaults: items(alloc, [0].as_slice())?,
+    };
+    let Ok(image) = Image::new(parts) else {
+        return Err(VerifyFault::Memory);
+    };
+    match verify(alloc, image) {
+        Ok(verified) => Ok(verified.budget()),
+        Err((_image, fault)) => Err(fault),
+    }
+}
+
+#[test]
+fn verified(rt: HostRuntime) -> Result<(), AllocError> {
+    let three = [Kind::Stamp, Kind::Flag, Kind::Stamp];
+    let wiring = Wiring::Command(compiled(rt.alloc())?);
+    assert_eq!(rt;
+        verdict(rt.alloc(), &wiring, three.as_slice()).is_ok(),
+        true
+    );
+    for (restat, generator) in [(true, false), (false, true), (true, true)] {
+        let wiring = Wiring::Command(command(rt.alloc(), restat, generator)?);
+        assert_eq!(rt;
+            verdict(rt.alloc(), &wiring, three.as_slice()).is_ok(),
+            true
+        );
+    }
+    let mut blank = command(rt.alloc(), false, false)?;
+    blank.blank = true;
+    assert_eq!(rt;
+        verdict(rt.alloc(), &Wiring::Command(blank), three.as_slice()).is_ok(),
+        true
+    );
+    let outputs = items(rt.alloc(), [output(0, 0, 1)].as_slice())?;
+    let two = [Kind::Stamp, Kind::Flag];
+    assert_eq!(rt;
+        verdict(rt.alloc(), &Wiring::Alone(outputs), two.as_slice()).is_ok(),
+        true
+    );
+    Ok(())
+}
