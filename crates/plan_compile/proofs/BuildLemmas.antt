@@ -30,3 +30,9 @@ builds_step g es n e old new whole at pushed h =
     ∙ append_assoc old (build_at g n e ∷ []) (builds_from g (suc n) (drop (n + 1) es))
     ∙ ap (λ (xs : List ManifestEdge). old ++ builds_from g n xs) (sym (drop_here es n e at))
     ∙ h
+
+-- one item more of a list that is copied
+pub copied_step : {A : Type 0} (xs : List A) (n : ℕ) (x : A) (old new whole : List A) → slice_get xs n ≡ Some x → new ≡ old ++ x ∷ [] → old ++ drop n xs ≡ whole
+    → new ++ drop (n + 1) xs ≡ whole
+copied_step {A = A} xs n x old new whole at pushed h =
+    ap (λ (ys : List A). ys ++ drop (n + 1) xs) pushed ∙ append_assoc old (x ∷ []) (drop (n + 1) xs) ∙ ap (λ (ys : List A). old ++ ys) (sym (drop_here xs n x at)) ∙ h

@@ -28,3 +28,4 @@ mod SoundLemmas
 mod BuildLemmas
 mod PlanLemmas
 mod Lengths
+mod TextLemmas

@@ -18,6 +18,7 @@ mod form;
 mod image_laws;
 mod inputs;
 mod laws;
+mod names;
 mod outputs;
 mod slots;
 mod wiring;
