@@ -1,5 +1,5 @@
 -- An edge with its numbers, put together.
-use Rattle.std.proofs.Common.{◌≡◌, ◌++◌, ◌∷◌, [], ℕ, zero, suc, ◌+◌, ◌<◌, List, length, drop, Some, refl, sym, ap, ◌∙◌, arith}
+use Rattle.std.proofs.Common.{◌≡◌, ◌++◌, ◌∷◌, [], ℕ, zero, suc, ◌+◌, ◌<◌, List, length, drop, map, Some, refl, sym, ap, ◌∙◌, arith}
 use Rattle.std.specs.Prelude.{slice_get}
 use Rattle.std.proofs.lemmas.List.{append_assoc}
 use Rattle.plan_scope.specs.declared.manifest.Edge.{Edge as ManifestEdge}
@@ -36,3 +36,9 @@ pub copied_step : {A : Type 0} (xs : List A) (n : ℕ) (x : A) (old new whole : 
     → new ++ drop (n + 1) xs ≡ whole
 copied_step {A = A} xs n x old new whole at pushed h =
     ap (λ (ys : List A). ys ++ drop (n + 1) xs) pushed ∙ append_assoc old (x ∷ []) (drop (n + 1) xs) ∙ ap (λ (ys : List A). old ++ ys) (sym (drop_here xs n x at)) ∙ h
+
+-- the same of what a function gives of each item
+pub mapped_step : {A B : Type 0} (f : A → B) (xs : List A) (n : ℕ) (x : A) (old new whole : List B) → slice_get xs n ≡ Some x → new ≡ old ++ f x ∷ [] → old ++ map f (drop n xs) ≡ whole
+    → new ++ map f (drop (n + 1) xs) ≡ whole
+mapped_step {A = A} {B = B} f xs n x old new whole at pushed h =
+    ap (λ (ys : List B). ys ++ map f (drop (n + 1) xs)) pushed ∙ append_assoc old (f x ∷ []) (map f (drop (n + 1) xs)) ∙ ap (λ (ys : List A). old ++ map f ys) (sym (drop_here xs n x at)) ∙ h
