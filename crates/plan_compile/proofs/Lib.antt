@@ -29,3 +29,5 @@ mod BuildLemmas
 mod PlanLemmas
 mod Lengths
 mod TextLemmas
+mod AscendLemmas
+mod LookupLemmas

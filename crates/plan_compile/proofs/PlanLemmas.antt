@@ -6,7 +6,7 @@ use Rattle.plan_image.specs.declared.image.Slot.{Slot}
 use Rattle.plan_compile.specs.declared.wiring.Output.{Output}
 use Rattle.plan_compile.specs.Builds.{Build}
 use Rattle.plan_compile.specs.OutputTable.{Table, put, filled}
-use Rattle.plan_compile.specs.Slots.{own_kinds, own_len, owned, slots_from, made, all_made}
+use Rattle.plan_compile.specs.Slots.{own_kinds, own_len, owned, slots_from, form_of, newest_by, newest_from, made, all_made}
 use Rattle.plan_compile.proofs.BuildLemmas.{drop_here}
 use Rattle.plan_compile.proofs.RunLemmas.{owned_length}
 
@@ -34,3 +34,13 @@ table_step xs n e x old new table next whole at grown laid h =
     ∙ ap (λ (t : Table). filled t (all_made (length old + own_len x) (drop (n + 1) xs))) laid
     ∙ sym (filled_app table (made (length old) x) (all_made (length old + own_len x) (drop (n + 1) xs)))
     ∙ ap (λ (ys : List Build). filled table (all_made (length old) ys)) (sym (drop_here xs n x at)) ∙ h
+
+pub newest_step : (xs : List Build) (n e : ℕ) (x : Build) (old new : List Slot) (olds news whole : List ℕ) → slice_get xs n ≡ Some x → new ≡ old ++ owned e (own_kinds x)
+    → news ≡ olds ++ newest_by (form_of x) (length old) ∷ [] → olds ++ newest_from (length old) (drop n xs) ≡ whole → news ++ newest_from (length new) (drop (n + 1) xs) ≡ whole
+newest_step xs n e x old new olds news whole at grown pushed h =
+    let first : ℕ = newest_by (form_of x) (length old) in
+    let rest : List ℕ = newest_from (length old + own_len x) (drop (n + 1) xs) in
+    ap (λ (k : ℕ). news ++ newest_from k (drop (n + 1) xs)) (own_length old new e x grown)
+    ∙ ap (λ (ns : List ℕ). ns ++ rest) pushed
+    ∙ append_assoc olds (first ∷ []) rest
+    ∙ ap (λ (ys : List Build). olds ++ newest_from (length old) ys) (sym (drop_here xs n x at)) ∙ h

@@ -124,7 +124,7 @@ or_there n m s rest is = subst (λ (k : ℕ). ((m == s) || rest) ≡ ((k == s) |
     twice true = refl
     twice false = refl
 
-with_member_has : (s n : ℕ) (ms : List ℕ) → is_member s (with_member n ms) ≡ ((n == s) || is_member s ms)
+pub with_member_has : (s n : ℕ) (ms : List ℕ) → is_member s (with_member n ms) ≡ ((n == s) || is_member s ms)
 with_member_has s n [] = refl
 with_member_has s n (m ∷ ms) =
     elim (bool_cases (nat_lt n m)) as (λ c. is_member s (if nat_lt n m then n ∷ m ∷ ms else if n == m then m ∷ ms else m ∷ with_member n ms) ≡ ((n == s) || ((m == s) || is_member s ms))) [

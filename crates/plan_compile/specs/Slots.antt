@@ -84,6 +84,11 @@ newest_by _ b = b
 
 -- ---- all edges
 
+-- the newest input's slot of each of these edges, whose slots are those from b on
+abbrev pub newest_from : ℕ → List Build → List ℕ
+newest_from b [] = []
+newest_from b (x ∷ xs) = newest_by (form_of x) b ∷ newest_from (b + own_len x) xs
+
 abbrev pub owned : ℕ → List Kind → List Slot
 owned e [] = []
 owned e (k ∷ ks) = record { owner = e; kind = k } ∷ owned e ks
@@ -124,6 +129,11 @@ inputs_by outputs (f ∷ fs) = input_by f (find f outputs) ∷ inputs_by outputs
 abbrev pub sources : List Output → (named : List ℕ) → List ℕ → List ℕ
 sources outputs named [] = []
 sources outputs named (f ∷ fs) = if is_some (find f outputs) || is_member f named then sources outputs named fs else f ∷ sources outputs named fs
+
+-- these numbers and some more, each once, ascending
+abbrev pub members_from : List ℕ → List ℕ → List ℕ
+members_from ms [] = ms
+members_from ms (n ∷ ns) = members_from (with_member n ms) ns
 
 abbrev pub with_flag : List ℕ → Input → List ℕ
 with_flag flags (File f) = flags

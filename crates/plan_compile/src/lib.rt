@@ -21,6 +21,7 @@ mod laws;
 mod names;
 mod outputs;
 mod slots;
+mod lookups;
 mod wiring;
 
 pub use emitting::edge_code;

@@ -3,7 +3,7 @@
 ghost use Rattle.std.specs.Prelude.{◌≡◌, ◌++◌, ◌∷◌, [], length, replicate, None, IfOk, OnOk, zero};
 ghost use Rattle.plan_compile.specs.declared.form.Form.TheVariants as form;
 ghost use Rattle.plan_compile.specs.OutputTable.{filled, found, put};
-ghost use Rattle.plan_compile.specs.Slots.{all_made, form_by, input_by, kinds_by, made, outputs_apart, outputs_by, outputs_flagged, outputs_sharing, own_kinds, owned, pairs, slots_from, stamps};
+ghost use Rattle.plan_compile.specs.Slots.{all_made, form_by, input_by, kinds_by, newest_by, newest_from, outputs_apart, outputs_by, outputs_flagged, outputs_sharing, own_kinds, owned, pairs, slots_from, stamps};
 
 use crate::build::{Build, word};
 use crate::fault::CompileFault;
@@ -121,59 +121,81 @@ fn put_sharing(table: &mut Vec<Option<Output>>, stamp: u32, changed: u32, files:
     }
 }
 
-/// The slots of an edge with a command that isn't restat.
+/// The slots of an edge with a command that isn't restat; and the newest input's.
 fn lay_one_flag(
     slots: &mut Vec<Slot>,
     table: &mut Vec<Option<Output>>,
     owner: u32,
     files: &[u32],
-) -> Result<(), CompileFault>
+) -> Result<u32, CompileFault>
+    ensures newest { IfOk result (λ n. n ≡ newest_by form.OneFlag (length slots.old.items)) }
     ensures slots { OnOk result (slots.new.items ≡ slots.old.items ++ owned owner (kinds_by form.OneFlag files.now)) }
     ensures table { OnOk result (table.new.items ≡ filled table.old.items (outputs_by form.OneFlag (length slots.old.items) files.now)) }
 {
     let changed = slot(slots, owner, Kind::Flag)?;
-    slot(slots, owner, Kind::Stamp)?;
-    lay_flagged(slots, table, owner, changed, files)
+    let newest = slot(slots, owner, Kind::Stamp)?;
+    lay_flagged(slots, table, owner, changed, files)?;
+    Ok(newest)
 }
 
-/// The slots of a restat edge.
+/// The slots of a restat edge; and the newest input's.
 fn lay_own_flags(
     slots: &mut Vec<Slot>,
     table: &mut Vec<Option<Output>>,
     owner: u32,
     files: &[u32],
-) -> Result<(), CompileFault>
+) -> Result<u32, CompileFault>
+    ensures newest { IfOk result (λ n. n ≡ newest_by form.OwnFlags (length slots.old.items)) }
     ensures slots { OnOk result (slots.new.items ≡ slots.old.items ++ owned owner (kinds_by form.OwnFlags files.now)) }
     ensures table { OnOk result (table.new.items ≡ filled table.old.items (outputs_by form.OwnFlags (length slots.old.items) files.now)) }
 {
-    slot(slots, owner, Kind::Stamp)?;
-    lay_apart(slots, table, owner, files)
+    let newest = slot(slots, owner, Kind::Stamp)?;
+    lay_apart(slots, table, owner, files)?;
+    Ok(newest)
 }
 
-/// The slots of a phony with inputs.
+/// The slots of a phony with inputs; and the newest input's, which all outputs have.
 fn lay_gathers(
     slots: &mut Vec<Slot>,
     table: &mut Vec<Option<Output>>,
     owner: u32,
     files: &[u32],
-) -> Result<(), CompileFault>
+) -> Result<u32, CompileFault>
+    ensures newest { IfOk result (λ n. n ≡ newest_by form.Gathers (length slots.old.items)) }
     ensures slots { OnOk result (slots.new.items ≡ slots.old.items ++ owned owner (kinds_by form.Gathers files.now)) }
     ensures table { OnOk result (table.new.items ≡ filled table.old.items (outputs_by form.Gathers (length slots.old.items) files.now)) }
 {
     let stamp = slot(slots, owner, Kind::Stamp)?;
     let changed = slot(slots, owner, Kind::Flag)?;
     put_sharing(table, stamp, changed, files);
-    Ok(())
+    Ok(stamp)
 }
 
-/// The slots of an edge, and its outputs by file.
+/// The slots of a phony without inputs; and the first one's number.
+fn lay_alone(
+    slots: &mut Vec<Slot>,
+    table: &mut Vec<Option<Output>>,
+    owner: u32,
+    files: &[u32],
+) -> Result<u32, CompileFault>
+    ensures newest { IfOk result (λ n. n ≡ newest_by form.Alone (length slots.old.items)) }
+    ensures slots { OnOk result (slots.new.items ≡ slots.old.items ++ owned owner (kinds_by form.Alone files.now)) }
+    ensures table { OnOk result (table.new.items ≡ filled table.old.items (outputs_by form.Alone (length slots.old.items) files.now)) }
+{
+    let first = word(slots.len())?;
+    lay_apart(slots, table, owner, files)?;
+    Ok(first)
+}
+
+/// The slots of an edge, and its outputs by file; and the newest input's slot.
 fn lay(
     slots: &mut Vec<Slot>,
     table: &mut Vec<Option<Output>>,
     owner: u32,
     form: Form,
     files: &[u32],
-) -> Result<(), CompileFault>
+) -> Result<u32, CompileFault>
+    ensures newest { IfOk result (λ n. n ≡ newest_by form (length slots.old.items)) }
     ensures slots { OnOk result (slots.new.items ≡ slots.old.items ++ owned owner (kinds_by form files.now)) }
     ensures table { OnOk result (table.new.items ≡ filled table.old.items (outputs_by form (length slots.old.items) files.now)) }
 {
@@ -181,30 +203,47 @@ fn lay(
         Form::OneFlag => lay_one_flag(slots, table, owner, files),
         Form::OwnFlags => lay_own_flags(slots, table, owner, files),
         Form::Gathers => lay_gathers(slots, table, owner, files),
-        Form::Alone => lay_apart(slots, table, owner, files),
+        Form::Alone => lay_alone(slots, table, owner, files),
     }
 }
 
-/// The slots of all edges, and the outputs by file, in a table with room for so many files.
+/// The slots of all edges.
+#[derive(Drop)]
+pub(crate) struct Plan {
+    pub(crate) slots: Vec<Slot>,
+    /// The outputs by file.
+    pub(crate) table: Vec<Option<Output>>,
+    /// Of each edge the slot for the newest input's stamp.
+    pub(crate) newest: Vec<u32>,
+}
+
+/// The slots of all edges, where there are so many files.
 pub(crate) fn planned<'a>(
     alloc: Global,
     files: usize,
     builds: &[Build<'a>],
-) -> Result<(Vec<Slot>, Vec<Option<Output>>), CompileFault>
-    ensures slots { IfOk result (λ r. r.0.items ≡ slots_from zero builds.now) }
-    ensures table { IfOk result (λ r. r.1.items ≡ filled (replicate files None) (all_made zero builds.now)) }
+) -> Result<Plan, CompileFault>
+    ensures slots { IfOk result (λ p. p.slots.items ≡ slots_from zero builds.now) }
+    ensures table { IfOk result (λ p. p.table.items ≡ filled (replicate files None) (all_made zero builds.now)) }
+    ensures newest { IfOk result (λ p. p.newest.items ≡ newest_from zero builds.now) }
 {
     let mut slots = Vec::new(alloc);
     let mut table = vec![in alloc; None; files]?;
+    let mut newest = Vec::with_capacity(alloc, builds.len())?;
     for number in 0..builds.len() {
         let build = &builds[number];
-        lay(
+        let slot = lay(
             &mut slots,
             &mut table,
             word(number)?,
             form_of(build),
             build.outputs(),
         )?;
+        newest.push(slot)?;
     }
-    Ok((slots, table))
+    Ok(Plan {
+        slots,
+        table,
+        newest,
+    })
 }

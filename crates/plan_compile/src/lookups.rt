@@ -1,0 +1,136 @@
+//! Where the stamps of an edge's inputs come from.
+
+ghost use Rattle.std.specs.Prelude.{◌≡◌, ◌++◌, [], IfOk, OnOk, slice_get};
+ghost use Rattle.plan_image.specs.Spelling.{AscendsFrom};
+ghost use Rattle.plan_verify.specs.Members.{is_member};
+ghost use Rattle.plan_compile.specs.Means.{flags_of};
+ghost use Rattle.plan_compile.specs.OutputTable.{found, inputs_in, sources_in};
+ghost use Rattle.plan_compile.specs.Slots.{flags_once, input_by, members_from};
+
+use crate::fault::CompileFault;
+use crate::wiring::{Input, Output};
+use plan_text::Items;
+use std::alloc::{AllocError, Global};
+
+/// Where the stamp of a file comes from.
+fn input(file: u32, output: Option<Output>) -> Input
+    ensures { result ≡ input_by file output }
+{
+    match output {
+        Some(output) => Input::Made(output.stamp, output.changed),
+        None => Input::File(file),
+    }
+}
+
+/// The output that is this file.
+fn look(table: &[Option<Output>], file: u32) -> Option<Output>
+    ensures { result ≡ found (slice_get table.now file) }
+{
+    match table.get(file as usize) {
+        Some(output) => *output,
+        None => None,
+    }
+}
+
+/// Where the stamps of inputs come from.
+pub(crate) fn inputs(
+    alloc: Global,
+    table: &[Option<Output>],
+    files: &[u32],
+) -> Result<Items<Input>, CompileFault>
+    ensures { IfOk result (λ inputs. inputs ≡ inputs_in table.now files.now) }
+{
+    let mut inputs = Vec::with_capacity(alloc, files.len())?;
+    for file in files {
+        inputs.push(input(*file, look(table, *file)))?;
+    }
+    Ok(Items::new(inputs))
+}
+
+/// These numbers, each once, ascending.
+fn ascending(mut numbers: Vec<u32>) -> Vec<u32>
+    ensures { result.items ≡ members_from [] numbers.items }
+{
+    numbers.sort_unstable();
+    numbers.dedup();
+    numbers
+}
+
+/// Whether a number is among ascending ones.
+fn has_number(numbers: &[u32], number: u32) -> bool
+    requires { AscendsFrom 0 numbers.now }
+    ensures { result ≡ is_member number numbers.now }
+{
+    match numbers.binary_search(&number) {
+        Ok(_) => true,
+        Err(_) => false,
+    }
+}
+
+/// The flag slots of inputs.
+fn all_flags(alloc: Global, inputs: &[Input]) -> Result<Vec<u32>, AllocError>
+    ensures { IfOk result (λ flags. flags.items ≡ flags_of inputs.now) }
+{
+    let mut flags = Vec::new(alloc);
+    for input in inputs {
+        match *input {
+            Input::Made(_stamp, changed) => flags.push(changed)?,
+            Input::File(_file) => {}
+        }
+    }
+    Ok(flags)
+}
+
+/// The flag slots of inputs, each once.
+pub(crate) fn flags(alloc: Global, inputs: &[Input]) -> Result<Items<u32>, CompileFault>
+    ensures { IfOk result (λ flags. flags ≡ flags_once inputs.now) }
+{
+    let flags = all_flags(alloc, inputs)?;
+    Ok(Items::new(ascending(flags)))
+}
+
+/// Whether a file is a source that isn't among ascending numbers.
+fn is_other_source(table: &[Option<Output>], named: &[u32], file: u32) -> bool
+    requires { AscendsFrom 0 named.now }
+    ensures { result ≡ Rattle.plan_compile.specs.OutputTable.is_other_source table.now named.now file }
+{
+    match look(table, file) {
+        Some(_output) => false,
+        None => !has_number(named, file),
+    }
+}
+
+/// The order-only sources that aren't named too, the named ones ascending.
+fn other_sources(
+    alloc: Global,
+    table: &[Option<Output>],
+    named: &[u32],
+    order_only: &[u32],
+) -> Result<Items<u32>, CompileFault>
+    requires { AscendsFrom 0 named.now }
+    ensures { IfOk result (λ files. files ≡ sources_in table.now named.now order_only.now) }
+{
+    let mut files = Vec::new(alloc);
+    for file in order_only {
+        if is_other_source(table, named, *file) {
+            files.push(*file)?;
+        }
+    }
+    Ok(Items::new(files))
+}
+
+/// The order-only sources that aren't named too.
+pub(crate) fn sources(
+    alloc: Global,
+    table: &[Option<Output>],
+    named: &[u32],
+    order_only: &[u32],
+) -> Result<Items<u32>, CompileFault>
+    ensures { IfOk result (λ files. files ≡ sources_in table.now named.now order_only.now) }
+{
+    if order_only.is_empty() {
+        return Ok(Items::empty(alloc));
+    }
+    let named = ascending(Vec::from_slice(alloc, named)?);
+    other_sources(alloc, table, &named, order_only)
+}
