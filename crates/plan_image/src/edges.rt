@@ -35,7 +35,7 @@ impl Model for Edges {
     ghost invariant = { λ e. (length e.heads.items ≤ length e.outputs) × (length e.heads.items ≤ length e.waits) × (length e.heads.items ≤ length e.opcodes) × (length e.heads.items ≤ length e.operands) };
 }
 
-/// The row of that number is this one, and there is none behind it.
+/// Makes this the row of that number, and the last one. A refusal keeps the rows before it.
 fn put_row<T: Copy>(rows: &mut RowList<T>, number: usize, row: &[T]) -> Result<(), AllocError>
     requires { number ≤ length rows.old }
     ensures put { OnOk result (get_or rows.new number [] ≡ row.now) }

@@ -280,6 +280,11 @@ fn lent_edges(rt: HostRuntime) -> Result<(), Fail> {
     let image = read_image(rt.alloc(), OPEN.as_slice())?;
     let edges = &image.parts().edges;
     assert_eq!(rt; edges.len(), 2);
+    let mut rank = None;
+    for number in 0..edges.len() {
+        rank = Some(edges.edge(number).rank);
+    }
+    assert_eq!(rt; rank, Some(8));
     assert!(rt; edges.get(2).is_none());
     assert_eq!(rt; edges.rank(0), Some(7));
     assert_eq!(rt; edges.rank(2), None);
@@ -306,16 +311,20 @@ fn lent_instructions(rt: HostRuntime) -> Result<(), Fail> {
     let code = [Instr::Stat(4_294_967_295), Instr::Flag(true), Instr::End];
     let own = EdgeCode::Own(Items::new(Vec::from_slice(rt.alloc(), code.as_slice())?));
     let parts = tables(rt.alloc(), own, [].as_slice())?;
-    let edge = parts.edges.edge(0);
-    match edge.code {
-        CodeRef::Own(instrs) => {
-            assert_eq!(rt; instrs.len(), 3);
-            for (place, instr) in code.iter().enumerate() {
-                assert!(rt; instrs.get(place) == Some(*instr) && instrs.instr(place) == *instr);
-            }
-            assert!(rt; instrs.get(3) == None);
-        }
-        CodeRef::Shared(_, _) => return Err(Fail::new("another code")),
+    let Some(CodeRef::Own(instrs)) = parts.edges.code(0) else {
+        return Err(Fail::new("another code"));
+    };
+    assert_eq!(rt; instrs.len(), 3);
+    for (place, instr) in code.iter().enumerate() {
+        assert!(rt; instrs.get(place) == Some(*instr));
     }
+    assert!(rt; instrs.get(3) == None);
+    let mut end = None;
+    for place in 0..instrs.len() {
+        if instrs.instr(place) == Instr::End {
+            end = Some(place);
+        }
+    }
+    assert_eq!(rt; end, Some(2));
     Ok(())
 }

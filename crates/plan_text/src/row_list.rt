@@ -72,13 +72,6 @@ impl<T: Copy> RowList<T> {
         self.ends.reserve(rows)
     }
 
-    /// Makes room for so many items more, in whatever rows. A refusal changes nothing.
-    pub fn reserve_items(&mut self, items: usize) -> Result<(), AllocError>
-        ensures { self.new ≡ self.old }
-    {
-        self.items.reserve_exact(items)
-    }
-
     /// Appends a row. A refusal changes nothing.
     pub fn push(&mut self, row: &[T]) -> Result<(), AllocError>
         ensures more { OnOk result (self.new ≡ self.old ++ row.now ∷ []) }

@@ -1,6 +1,6 @@
-use Rattle.std.proofs.Common.{◌≡◌, ◌≤◌, ◌∷◌, ◌∙◌, List, ℕ, ap, arith, get_or, length, subst, sym, take, length-take-le}
-use Rattle.plan_text.specs.RowLists.{AreEnds, rows_from}
-use Rattle.plan_text.proofs.RowListLemmas.{begins_within, ends_take, length_rows, rows_all, rows_take}
+use Rattle.std.proofs.Common.{◌≡◌, ◌≤◌, ◌∷◌, ◌∙◌, List, ℕ, ap, arith, get_or, length, sym, take, length-take-le}
+use Rattle.plan_text.specs.RowLists.{rows_from}
+use Rattle.plan_text.proofs.RowListLemmas.{begins_within, ends_take, length_rows, rows_take}
 use Rattle.plan_text.proofs.row_list.RowList.truncate.Goals as goal
 
 pub start_of-end-requires : goal.start_of-end-requires
