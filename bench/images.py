@@ -3,8 +3,9 @@
 
 The edges are commands with a depfile, as a compiler of C has them: two order-only sources, one to three named inputs,
 an entry of the record, the five causes, the command, its depfile; the last is a phony that waits for 30,000 of them.
-The image is written in both versions. Printed are the sizes, the median wall time of five runs, the peak memory, and
-its ratio to the file's size. It is no test and asserts nothing.
+The image is written in both versions. Printed are the sizes, what each part takes, the median wall time of five runs,
+the peak memory, and its ratio to the file's size; and version 2's size beside version 1's, also where texts are short.
+It is no test and asserts nothing.
 """
 import pathlib
 import statistics
@@ -93,6 +94,23 @@ def generated(count: int) -> Image:
     return Image(texts, files, [], slots, [*map(edge, range(count)), phony], [count])
 
 
+def with_short_texts(made: Image) -> Image:
+    """The same edges, with commands of some 20 bytes and short depfiles."""
+    texts = [text for number in range(len(made.texts) // 2) for text in (b"cc -c src/%d.c" % number, b"%d.d" % number)]
+    return made._replace(texts=texts)
+
+
+def parts_of(made: Image, size: int) -> str:
+    """How many bytes an edge each part takes."""
+    left = {name: size - len(image.spelled(made._replace(**{name: []}))) for name in ("texts", "files", "slots")}
+    left["edges"] = size - sum(left.values())
+    return ", ".join(f"{name} {taken / len(made.edges):.0f}" for name, taken in left.items())
+
+
+def ratio(made: Image) -> float:
+    return len(image.spelled(image.shared(made))) / len(image.spelled(made))
+
+
 def shown(word: str, size: int, runs: list[Run]) -> str:
     seconds, mebibytes = statistics.median(run.seconds for run in runs), max(run.mebibytes for run in runs)
     if any(run.status for run in runs):
@@ -110,10 +128,12 @@ def main() -> None:
         for version, of_version in ((1, made), (2, image.shared(made))):
             data = image.spelled(of_version)
             (folder / "plan.img").write_bytes(data)
-            print(f"version {version}: {len(data) / 2**20:.1f} MiB", flush=True)
+            taken = parts_of(of_version, len(data))
+            print(f"version {version}: {len(data) / 2**20:.1f} MiB; bytes an edge: {taken}", flush=True)
             for word in ("verify", "dump"):
                 runs = [measured([program, word, "plan.img"], folder) for _ in range(RUNS)]
                 print(shown(word, len(data), runs), flush=True)
+    print(f"version 2 has {ratio(made):.2f} of version 1's bytes, {ratio(with_short_texts(made)):.2f} with short texts")
 
 
 if __name__ == "__main__":

@@ -1,9 +1,10 @@
 -- A code is its body with its numbers put in, and what stands at a place of it.
 use Rattle.std.proofs.Common.{◌≡◌, ℕ, zero, suc, ◌+◌, List, [], ◌∷◌, ◌++◌, length, get_or, drop, Option, Some, refl, sym, ap, ◌∙◌, arith}
-use Rattle.std.specs.Prelude.{slice_get, Result, Ok, Err, IfOk, ◌≤◌, ◌<◌}
-use Rattle.plan_image.specs.declared.image.EdgeCode.{EdgeCode}
-use Rattle.plan_image.specs.declared.image.EdgeCode.TheVariants as code_form
-use Rattle.plan_image.specs.Code.{body, instrs_of, IsShared}
+use Rattle.std.specs.Prelude.{slice_get, ◌≤◌, ◌^◌, None}
+use Rattle.plan_image.specs.Code.{body, instrs_of}
+use Rattle.plan_image.specs.Columns.{code_by, instr_with, instrs_by}
+use Rattle.plan_image.specs.Spelling.{most_code}
+use Rattle.plan_image.proofs.ColumnLemmas.{length_by}
 use Rattle.std.proofs.lemmas.List.{get_or-drop}
 use Rattle.plan_image.specs.declared.instr.Instr.{Instr}
 use Rattle.plan_image.specs.declared.instr.Instr.TheVariants as op
@@ -108,21 +109,22 @@ pub instr_is_found : (is : List BodyInstr) (ns : List ℕ) (place : ℕ) (o : Op
     → result ≡ instr_with_rank ns o rank → o ≡ slice_get is place → rank ≡ get_or ranks place 0 → ranks ≡ ranks_from 0 is → result ≡ slice_get (with_operands is ns) place
 instr_is_found is ns place o ranks rank result e eo er ek = e ∙ rw (eo, er, ek) (sym (seen_at ns is place 0))
 
-instr_count : (bs : List (List BodyInstr)) (n : ℕ) (b : List BodyInstr) (c : EdgeCode) → IsShared n c → slice_get bs n ≡ Some b → length (instrs_of (Some bs) c) ≡ length b
-instr_count bs n b (code_form.Own is) h e = absurd h
-instr_count bs n b (code_form.Shared m ns) h e =
-    let same : body (Some bs) m ≡ b = rw (h, e) refl in
-    filled_len (body (Some bs) m) ns ∙ ap (λ (y : List BodyInstr). length y) same
+-- what a code of its own, and one of a body, has at most
+pub own_most : (bs : Option (List (List BodyInstr))) (used : ℕ) (os ns : List ℕ) → bs ≡ None → used + length os ≤ 2 ^ 24 → used + length (instrs_by os ns) ≤ most_code bs
+own_most None used os ns is h = omega (arith, h, length_by (instr_with ns) 0 os)
+own_most (Some bs) used os ns is h = absurd cc
 
-pub most_of : {R E : Type 0} (bs : List (List BodyInstr)) (n : ℕ) (b : List BodyInstr) (used most : ℕ) (r : Result (EdgeCode × R) E)
-    → IfOk r (λ x. used + length b ≤ most) → IfOk r (λ x. IsShared n x.0) → slice_get bs n ≡ Some b → IfOk r (λ x. used + length (instrs_of (Some bs) x.0) ≤ most)
-most_of bs n b used most (Ok x) le h e = omega (arith, le, instr_count bs n b x.0 h e)
-most_of bs n b used most (Err y) le h e = tt
+pub shared_most : (bs : Option (List (List BodyInstr))) (those : List (List BodyInstr)) (used n : ℕ) (os ns : List ℕ) → bs ≡ Some those → used + length (body (Some those) n) ≤ 2 ^ 26
+    → used + length (instrs_of bs (code_by (Some n) os ns)) ≤ most_code bs
+shared_most None those used n os ns is h = absurd cc
+shared_most (Some bs) those used n os ns is h =
+    let same : bs ≡ those = cc in
+    let long : length (with_operands (body (Some bs) n) ns) ≡ length (body (Some those) n) = filled_len (body (Some bs) n) ns ∙ ap (λ (ys : List (List BodyInstr)). length (body (Some ys) n)) same in
+    omega (arith, h, long)
 
-pub body_is_found : (bs : List (List BodyInstr)) (n : ℕ) (b : List BodyInstr) → n < length bs → b ≡ get_or bs n b → slice_get bs n ≡ Some b
-body_is_found [] n b lt e = absurd (omega (arith, lt))
-body_is_found (x ∷ bs) zero b lt e = ap (λ (y : List BodyInstr). Some y) (sym e)
-body_is_found (x ∷ bs) (suc n) b lt e = body_is_found bs n b (omega (arith, lt)) e
+pub most_small : (bs : Option (List (List BodyInstr))) → most_code bs ≤ 2 ^ 26
+most_small None = omega arith
+most_small (Some bs) = omega arith
 
 one_fits : (i : Instr) → InstrFits i → BodyInstrFits (leave_open i)
 one_fits op.End fits = (refl, fits)

@@ -13,6 +13,11 @@ one_more {X = X} lines xs i d x done is lt so_far =
     = append_assoc done (lines i (get_or xs i d)) (numbered lines (i + 1) (drop (i + 1) xs)) ∙ (ap (λ ys. done ++ numbered lines i ys) (sym (drop_more xs i d lt)) ∙ so_far) in
     subst (λ (y : X). (done ++ lines i y) ++ numbered lines (i + 1) (drop (i + 1) xs) ≡ numbered lines 0 xs) (sym is) there
 
+-- one item more is written, where it is the first of those that are left
+pub one_on : {X : Type 0} (lines : ℕ → X → List ℕ) (i : ℕ) (x : X) (left rest : List X) (done total : List ℕ) → left ≡ x ∷ rest → done ++ numbered lines i left ≡ total
+    → (done ++ lines i x) ++ numbered lines (i + 1) rest ≡ total
+one_on lines i x left rest done total is so_far = append_assoc done (lines i x) (numbered lines (i + 1) rest) ∙ (ap (λ ys. done ++ numbered lines i ys) (sym is) ∙ so_far)
+
 -- texts that don't depend on the number
 without_numbers : {X : Type 0} (text : X → List ℕ) (xs : List X) (n : ℕ) → numbered (λ _ x. text x) n xs ≡ concat (map text xs)
 without_numbers text [] n = refl

@@ -1,5 +1,5 @@
 -- Worked images.
-use Rattle.std.proofs.Common.{◌≡◌, ℕ, List, [], ◌∷◌, ◌++◌, take, Some, None, Ok, Err, refl}
+use Rattle.std.proofs.Common.{◌≡◌, ℕ, List, [], ◌∷◌, ◌++◌, take, true, Some, None, Ok, Err, refl}
 use Rattle.plan_image.specs.declared.fault.ImageFault.TheVariants as fault
 use Rattle.plan_image.specs.declared.instr.Instr.TheVariants as op
 use Rattle.plan_image.specs.declared.image.Sort.TheVariants as sort
@@ -10,6 +10,8 @@ use Rattle.plan_image.specs.declared.instr.Opening.TheVariants as opening
 use Rattle.plan_image.specs.declared.instr.Instr.{Instr}
 use Rattle.plan_image.specs.Bodies.{with_operands, body_of, operands_of}
 use Rattle.plan_image.specs.Code.{code}
+use Rattle.plan_image.specs.Columns.{by_place, edge_with}
+use Rattle.plan_image.specs.declared.edge_ref.Head.{Head}
 use Rattle.plan_image.specs.declared.image.Edge.{Edge}
 use Rattle.plan_image.specs.declared.image.Parts.{Parts}
 use Rattle.plan_image.specs.Spelling.{spelling}
@@ -165,3 +167,18 @@ sharing_shown = refl
 pub operands_shown : listing_of two_edges ≡ codes "body 0\n  0 Text _\n  1 Load _\n  2 End\nedge 0 phony rank 0 pool - label 0 outputs - waits - body 0 operands 7 9\ndefault -\n"
 unfolding digits
 operands_shown = refl
+
+-- ---- columns
+
+abbrev heads : List Head
+heads = record { sort = sort.Phony; pool = Some 4; rank = 8; label = 9; body = Some 0 } ∷ record { sort = sort.Command; pool = None; rank = 0; label = 0; body = None } ∷ []
+
+-- the rows of two edges: the first has a body and operands, the second instructions of its own
+pub in_columns : by_place (edge_with ((5 ∷ 6 ∷ []) ∷ (0 ∷ []) ∷ []) ((1 ∷ []) ∷ [] ∷ []) ([] ∷ (12 ∷ 1 ∷ 0 ∷ []) ∷ []) ((2 ∷ 3 ∷ []) ∷ (1 ∷ 7 ∷ 0 ∷ []) ∷ [])) 0 heads
+    ≡ record { sort = sort.Phony; pool = Some 4; rank = 8; label = 9; outputs = 5 ∷ 6 ∷ []; waits = 1 ∷ []; code = code_form.Shared 0 (2 ∷ 3 ∷ []) }
+    ∷ record { sort = sort.Command; pool = None; rank = 0; label = 0; outputs = 0 ∷ []; waits = []; code = code_form.Own (op.Flag true ∷ op.Stat 7 ∷ op.End ∷ []) } ∷ []
+in_columns = refl
+
+-- a row behind those of the last edge changes nothing
+pub row_left_over : by_place (edge_with ((0 ∷ []) ∷ (9 ∷ []) ∷ []) ([] ∷ []) ((0 ∷ []) ∷ []) ((0 ∷ []) ∷ [])) 0 (record { sort = sort.Command; pool = None; rank = 0; label = 0; body = None } ∷ []) ≡ one_edge ∷ []
+row_left_over = refl

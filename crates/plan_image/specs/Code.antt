@@ -36,8 +36,3 @@ HasBody None (code_form.Own is) = Unit {0}
 HasBody None (code_form.Shared n ns) = ⊥
 HasBody (Some bs) (code_form.Own is) = ⊥
 HasBody (Some bs) (code_form.Shared n ns) = (n < length bs) × (length ns ≡ opens (body (Some bs) n))
-
--- numbers for the body of that number
-abbrev pub IsShared : ℕ → EdgeCode → Type 0
-IsShared n (code_form.Own is) = ⊥
-IsShared n (code_form.Shared m ns) = m ≡ n

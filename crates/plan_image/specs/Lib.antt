@@ -1,5 +1,6 @@
 pub mod Bodies
 pub mod Code
+pub mod Columns
 pub mod Spelling
 pub mod Reading
 pub mod Faults

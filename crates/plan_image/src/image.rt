@@ -3,14 +3,20 @@
 ghost use Rattle.std.specs.Prelude.{◌≡◌, ◌↔◌, IsTrue, IsOk, IfOk, IfErr, length, slice_get};
 ghost use Rattle.plan_image.specs.Bodies.{with_operands};
 ghost use Rattle.plan_image.specs.Code.{instrs_of, body};
+ghost use Rattle.plan_image.specs.Columns.{lent_code};
 ghost use Rattle.plan_image.specs.Spelling.{HasSpelling, IsPrefixFree};
 
 use crate::body::Body;
+use crate::edge_ref::CodeRef;
+use crate::edges::Edges;
 use crate::fault::ImageFault;
 use crate::instr::{Instr, Kind};
 use crate::limits::{is_filled, is_in_order, is_within_limits};
 use plan_text::{Items, RowList};
 use std::marker::Model;
+
+/// The most bytes of an image: 256 MiB.
+pub const MAX_IMAGE: usize = 268_435_456;
 
 /// What an edge is.
 #[derive(Clone, Copy, Debug, PartialEq, Eq)]
@@ -75,7 +81,7 @@ pub struct Parts {
     pub slots: Items<Slot>,
     /// The bodies that edges share, where the version is two.
     pub bodies: Option<Items<Body>>,
-    pub edges: Items<Edge>,
+    pub edges: Edges,
     pub defaults: Items<u32>,
 }
 
@@ -95,12 +101,12 @@ impl Parts {
 }
 
 /// The number of instructions that an edge's code stands for.
-pub(crate) fn instr_count(bodies: &Option<Items<Body>>, code: &EdgeCode) -> usize
-    ensures { result ≡ length (instrs_of bodies.now code.now) }
+pub(crate) fn instr_count(bodies: &Option<Items<Body>>, code: CodeRef<'_>) -> usize
+    ensures { result ≡ length (instrs_of bodies.now (lent_code code.entry)) }
 {
     match code {
-        EdgeCode::Own(instrs) => instrs.len(),
-        EdgeCode::Shared(number, numbers) => filled_len(bodies, *number, numbers.as_slice()),
+        CodeRef::Own(instrs) => instrs.len(),
+        CodeRef::Shared(number, numbers) => filled_len(bodies, number, numbers),
     }
 }
 
@@ -117,17 +123,12 @@ fn filled_len(bodies: &Option<Items<Body>>, number: u32, numbers: &[u32]) -> usi
 }
 
 /// The instruction at a place of an edge's code.
-fn instr_of(bodies: &Option<Items<Body>>, code: &EdgeCode, place: usize) -> Option<Instr>
-    ensures { result ≡ slice_get (instrs_of bodies.now code.now) place }
+fn instr_of(bodies: &Option<Items<Body>>, code: CodeRef<'_>, place: usize) -> Option<Instr>
+    ensures { result ≡ slice_get (instrs_of bodies.now (lent_code code.entry)) place }
 {
     match code {
-        EdgeCode::Own(instrs) => instrs.as_slice().get(place).copied(),
-        EdgeCode::Shared(number, numbers) => filled_instr(
-            bodies,
-            *number,
-            numbers.as_slice(),
-            place,
-        ),
+        CodeRef::Own(instrs) => instrs.get(place),
+        CodeRef::Shared(number, numbers) => filled_instr(bodies, number, numbers, place),
     }
 }
 
@@ -212,8 +213,8 @@ impl Image {
     pub fn code_len(&self, edge: u32) -> usize
         ensures { result ≡ length (code self.now edge) }
     {
-        match self.parts.edges.as_slice().get(edge as usize) {
-            Some(edge) => instr_count(&self.parts.bodies, &edge.code),
+        match self.parts.edges.code(edge as usize) {
+            Some(code) => instr_count(&self.parts.bodies, code),
             None => 0,
         }
     }
@@ -222,8 +223,8 @@ impl Image {
     pub fn instr(&self, edge: u32, place: u32) -> Option<Instr>
         ensures { result ≡ slice_get (code self.now edge) place }
     {
-        match self.parts.edges.as_slice().get(edge as usize) {
-            Some(edge) => instr_of(&self.parts.bodies, &edge.code, place as usize),
+        match self.parts.edges.code(edge as usize) {
+            Some(code) => instr_of(&self.parts.bodies, code, place as usize),
             None => None,
         }
     }

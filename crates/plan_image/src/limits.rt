@@ -5,10 +5,13 @@ ghost use Rattle.std.specs.Prelude.{Option, Some, None, IfSome};
 ghost use Rattle.std.specs.List.{AllByRecursion};
 ghost use Rattle.plan_image.specs.Bodies.{opening_of, opens};
 ghost use Rattle.plan_image.specs.Code.{HasBody, body};
-ghost use Rattle.plan_image.specs.Spelling.{IsWord, AreWords, CodeFits, IsWithinLimits, CountsFit, ItemsFit, IsInOrder, RoomAfter, spelling, IsText, IsFileName, SlotFits, EdgeFits, PoolFits, instructions, pool_number, AscendsFrom, body_instructions, BodiesFit, IsFilled};
+ghost use Rattle.plan_image.specs.Columns.{lent, lent_code, lent_instrs};
+ghost use Rattle.plan_image.specs.Spelling.{IsWord, AreWords, CodeFits, IsWithinLimits, CountsFit, ItemsFit, IsInOrder, RoomAfter, spelling, IsText, IsFileName, SlotFits, EdgeFits, PoolFits, instructions, InstrFits, pool_number, AscendsFrom, body_instructions, BodiesFit, IsFilled};
 
 use crate::body::Body;
-use crate::image::{Edge, EdgeCode, Parts, Pool, Slot, instr_count};
+use crate::edge_ref::{CodeRef, EdgeRef, InstrsRef};
+use crate::edges::Edges;
+use crate::image::{MAX_IMAGE, Parts, Pool, Slot, instr_count};
 use crate::instr::{BodyInstr, Instr};
 use crate::sizes::parts_room;
 use plan_text::{Items, RowList};
@@ -148,19 +151,29 @@ impl Test for InstrTest {
     }
 }
 
-fn are_words(items: &Items<u32>) -> bool
+fn are_words(items: &[u32]) -> bool
     ensures { IsTrue result ↔ AreWords items.now }
 {
-    items.len() < 4_294_967_296 && all::<WordTest>(items.as_slice())
+    items.len() < 4_294_967_296 && all::<WordTest>(items)
 }
 
-fn code_fits(code: &EdgeCode) -> bool
-    ensures { IsTrue result ↔ CodeFits code.now }
+fn all_instrs(instrs: InstrsRef<'_>) -> bool
+    ensures { IsTrue result ↔ AllByRecursion InstrFits (lent_instrs instrs.entry) }
+{
+    for place in 0..instrs.len() {
+        if !InstrTest::test(&instrs.instr(place)) {
+            return false;
+        }
+    }
+    true
+}
+
+fn code_fits(code: CodeRef<'_>) -> bool
+    ensures { IsTrue result ↔ CodeFits (lent_code code.entry) }
 {
     match code {
-        EdgeCode::Own(instrs) => instrs.len() < 4_294_967_296
-            && all::<InstrTest>(instrs.as_slice()),
-        EdgeCode::Shared(number, numbers) => shared_fits(*number, numbers.as_slice()),
+        CodeRef::Own(instrs) => instrs.len() < 4_294_967_296 && all_instrs(instrs),
+        CodeRef::Shared(number, numbers) => shared_fits(number, numbers),
     }
 }
 
@@ -254,17 +267,17 @@ pub(crate) fn most_code(bodies: &Option<Items<Body>>) -> u64
 }
 
 /// Whether the code has the form of the version, and a number for each open instruction.
-fn has_body(bodies: &Option<Items<Body>>, code: &EdgeCode) -> bool
-    ensures { IsTrue result ↔ HasBody bodies.now code.now }
+fn has_body(bodies: &Option<Items<Body>>, code: CodeRef<'_>) -> bool
+    ensures { IsTrue result ↔ HasBody bodies.now (lent_code code.entry) }
 {
     match bodies {
         None => match code {
-            EdgeCode::Own(_instrs) => true,
-            EdgeCode::Shared(_number, _numbers) => false,
+            CodeRef::Own(_instrs) => true,
+            CodeRef::Shared(_number, _numbers) => false,
         },
         Some(bodies) => match code {
-            EdgeCode::Own(_instrs) => false,
-            EdgeCode::Shared(number, numbers) => fills(bodies.as_slice(), *number, numbers.len()),
+            CodeRef::Own(_instrs) => false,
+            CodeRef::Shared(number, numbers) => fills(bodies.as_slice(), number, numbers.len()),
         },
     }
 }
@@ -281,14 +294,14 @@ fn fills(bodies: &[Body], number: u32, count: usize) -> bool
 pub(crate) fn is_filled(parts: &Parts) -> bool
     ensures { IsTrue result ↔ IsFilled parts.now }
 {
-    all_filled(&parts.bodies, parts.edges.as_slice())
+    all_filled(&parts.bodies, &parts.edges)
 }
 
-fn all_filled(bodies: &Option<Items<Body>>, edges: &[Edge]) -> bool
+fn all_filled(bodies: &Option<Items<Body>>, edges: &Edges) -> bool
     ensures { IsTrue result ↔ AllByRecursion (λ x. HasBody bodies.now x.code) edges.now }
 {
-    for edge in edges {
-        if !has_body(bodies, &edge.code) {
+    for number in 0..edges.len() {
+        if !has_body(bodies, edges.edge(number).code) {
             return false;
         }
     }
@@ -304,22 +317,43 @@ fn pool_fits(pool: Option<u32>) -> bool
     }
 }
 
-struct EdgeTest;
+/// What must hold of each edge.
+trait EdgeTest {
+    ghost use Rattle.std.specs.Prelude.{IsTrue, ◌↔◌};
+    ghost use Rattle.plan_image.specs.declared.image.Edge.{Edge};
+    ghost use Rattle.plan_image.specs.Columns.{lent};
 
-impl Test for EdgeTest {
+    ghost holds: { Edge → Type 0 };
+
+    fn test(edge: EdgeRef<'_>) -> bool
+        ensures { IsTrue result ↔ holds (lent edge.entry) };
+}
+
+fn all_edges<T: EdgeTest>(edges: &Edges) -> bool
+    ensures { IsTrue result ↔ AllByRecursion T.holds edges.now }
+{
+    for number in 0..edges.len() {
+        if !T::test(edges.edge(number)) {
+            return false;
+        }
+    }
+    true
+}
+
+struct FitTest;
+
+impl EdgeTest for FitTest {
     ghost use Rattle.plan_image.specs.Spelling.{EdgeFits};
-
-    type Item = Edge;
 
     ghost holds = { EdgeFits };
 
-    fn test(item: &Edge) -> bool {
-        let _rank = item.rank;
-        let _label = item.label;
-        pool_fits(item.pool)
-            && are_words(&item.outputs)
-            && are_words(&item.waits)
-            && code_fits(&item.code)
+    fn test(edge: EdgeRef<'_>) -> bool {
+        let _rank = edge.rank;
+        let _label = edge.label;
+        pool_fits(edge.pool)
+            && are_words(edge.outputs)
+            && are_words(edge.waits)
+            && code_fits(edge.code)
     }
 }
 
@@ -339,31 +373,29 @@ fn ascends(items: &[u32]) -> bool
 
 struct OrderTest;
 
-impl Test for OrderTest {
+impl EdgeTest for OrderTest {
     ghost use Rattle.plan_image.specs.Spelling.{AscendsFrom};
-
-    type Item = Edge;
 
     ghost holds = { λ x. AscendsFrom 0 x.waits };
 
-    fn test(item: &Edge) -> bool {
-        ascends(item.waits.as_slice())
+    fn test(edge: EdgeRef<'_>) -> bool {
+        ascends(edge.waits)
     }
 }
 
 pub(crate) fn is_in_order(parts: &Parts) -> bool
     ensures { IsTrue result ↔ IsInOrder parts.now }
 {
-    all::<OrderTest>(parts.edges.as_slice()) && ascends(parts.defaults.as_slice())
+    all_edges::<OrderTest>(&parts.edges) && ascends(parts.defaults.as_slice())
 }
 
 /// Whether the edges have at most so many instructions.
-fn instructions_within(bodies: &Option<Items<Body>>, edges: &[Edge], most: u64) -> bool
+fn instructions_within(bodies: &Option<Items<Body>>, edges: &Edges, most: u64) -> bool
     ensures { IsTrue result ↔ (instructions bodies.now edges.now ≤ most) }
 {
     let mut left = most;
-    for edge in edges {
-        match left.checked_sub(instr_count(bodies, &edge.code) as u64) {
+    for number in 0..edges.len() {
+        match left.checked_sub(instr_count(bodies, edges.edge(number).code) as u64) {
             Some(rest) => left = rest,
             None => return false,
         }
@@ -390,14 +422,14 @@ fn items_fit(parts: &Parts) -> bool
         && all_rows::<FileTest>(&parts.files)
         && all::<PoolTest>(parts.pools.as_slice())
         && all::<SlotTest>(parts.slots.as_slice())
-        && all::<EdgeTest>(parts.edges.as_slice())
-        && are_words(&parts.defaults)
+        && all_edges::<FitTest>(&parts.edges)
+        && are_words(parts.defaults.as_slice())
 }
 
 fn fits_room(parts: &Parts) -> bool
     ensures { IsTrue result ↔ (length (spelling parts.now) ≤ 268435456) }
 {
-    match parts_room(parts, 268_435_456) {
+    match parts_room(parts, MAX_IMAGE as u64) {
         Some(_room) => true,
         None => false,
     }
@@ -410,10 +442,6 @@ pub(crate) fn is_within_limits(parts: &Parts) -> bool
     counts_fit(parts)
         && items_fit(parts)
         && bodies_fit(&parts.bodies)
-        && instructions_within(
-            &parts.bodies,
-            parts.edges.as_slice(),
-            most_code(&parts.bodies),
-        )
+        && instructions_within(&parts.bodies, &parts.edges, most_code(&parts.bodies))
         && fits_room(parts)
 }

@@ -10,8 +10,10 @@ mod part;
 mod value;
 
 use crate::body::Body;
+use crate::edges::Edges;
 use crate::image::Image;
 use crate::lister::each::{Each, write_texts};
+use crate::lister::line::write_edges;
 use crate::lister::part::{Line, Part, Spaced, Word};
 use crate::lister::value::Members;
 pub use part::WriteFault;
@@ -48,6 +50,20 @@ impl<'a> Part for Bodies<'a> {
     }
 }
 
+/// The edges.
+#[derive(Drop)]
+struct EachEdge<'a>(&'a Edges);
+
+impl<'a> Part for EachEdge<'a> {
+    ghost use Rattle.plan_image.specs.Listing.{edge_lines, numbered};
+
+    ghost text = { λ e. numbered edge_lines 0 e.0.now };
+
+    fn write<W: Sink>(&self, out: &mut W) -> Result<(), WriteFault> {
+        write_edges(self.0, out)
+    }
+}
+
 /// Writes an image as text, one line an item, in the order of the image. At the first failed write it stops, and the
 /// sink took the bytes in front of it. It holds no more of the text than a number.
 pub fn listing<W: Sink>(image: &Image, out: &mut W) -> Result<(), WriteFault>
@@ -55,7 +71,7 @@ pub fn listing<W: Sink>(image: &Image, out: &mut W) -> Result<(), WriteFault>
 {
     let parts = image.parts();
     let defaults = Line(Spaced(Word(b"default"), Members(parts.defaults.as_slice())));
-    let edges = (Each(parts.edges.as_slice()), defaults);
+    let edges = (EachEdge(&parts.edges), defaults);
     let bodies = (Bodies(&parts.bodies), edges);
     let slots = (Each(parts.slots.as_slice()), bodies);
     let pools = (Each(parts.pools.as_slice()), slots);

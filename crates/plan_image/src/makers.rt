@@ -1,9 +1,11 @@
 //! Which edge makes a path.
 
 ghost use Rattle.std.specs.Prelude.{◌≡◌};
+ghost use Rattle.plan_image.specs.Columns.{lent};
 ghost use Rattle.plan_image.specs.Makers.{first_maker};
 
-use crate::image::{Edge, Image, Parts};
+use crate::edge_ref::EdgeRef;
+use crate::image::{Image, Parts};
 
 fn is_named(parts: &Parts, path: &[u8], file: u32) -> bool
     ensures { result ≡ Rattle.plan_image.specs.Makers.is_named parts.now path.now file }
@@ -14,10 +16,10 @@ fn is_named(parts: &Parts, path: &[u8], file: u32) -> bool
     }
 }
 
-fn makes(parts: &Parts, path: &[u8], edge: &Edge) -> bool
-    ensures { result ≡ Rattle.plan_image.specs.Makers.makes parts.now path.now edge.now }
+fn makes(parts: &Parts, path: &[u8], edge: EdgeRef<'_>) -> bool
+    ensures { result ≡ Rattle.plan_image.specs.Makers.makes parts.now path.now (lent edge.entry) }
 {
-    for &file in edge.outputs.as_slice() {
+    for &file in edge.outputs {
         if is_named(parts, path, file) {
             return true;
         }
@@ -30,12 +32,10 @@ pub fn edge_of(image: &Image, path: &[u8]) -> Option<u32>
     ensures { result ≡ first_maker image.now path.now 0 image.now.edges }
 {
     let parts = image.parts();
-    let mut number = 0u32;
-    for edge in parts.edges.as_slice() {
-        if makes(parts, path, edge) {
-            return Some(number);
+    for number in 0..parts.edges.len() {
+        if makes(parts, path, parts.edges.edge(number)) {
+            return Some(number as u32);
         }
-        number += 1;
     }
     None
 }

@@ -15,7 +15,7 @@ mod tables;
 mod texts;
 
 use crate::fault::ImageFault;
-use crate::image::{Image, Parts};
+use crate::image::{Image, MAX_IMAGE, Parts};
 use crate::reading::stop::ReadFault;
 use crate::reading::tables::read_whole;
 use std::alloc::Global;
@@ -24,7 +24,7 @@ use std::alloc::Global;
 fn read_within_limit(alloc: Global, bytes: &[u8]) -> Result<Parts, ImageFault>
     ensures { Meets ImageFault.Memory (λ x. x) result (read_of bytes.now) }
 {
-    if bytes.len() > 268_435_456 {
+    if bytes.len() > MAX_IMAGE {
         return Err(ImageFault::Limit(0));
     }
     match read_whole(alloc, bytes) {

@@ -2,10 +2,13 @@
 
 ghost use Rattle.std.specs.Prelude.{◌≡◌, ◌++◌, ℕ, length};
 ghost use Rattle.std.specs.List.{flat_map};
-ghost use Rattle.plan_image.specs.Spelling.{counted, number, spelling, edge_code, RoomAfter};
+ghost use Rattle.plan_image.specs.Columns.{lent, lent_code, lent_instrs};
+ghost use Rattle.plan_image.specs.Spelling.{counted, edge, instr, number, spelling, edge_code, RoomAfter};
 
 use crate::body::Body;
-use crate::image::{Edge, EdgeCode, Parts, Pool, Slot};
+use crate::edge_ref::{CodeRef, EdgeRef, InstrsRef};
+use crate::edges::Edges;
+use crate::image::{Parts, Pool, Slot};
 use crate::instr::{BodyInstr, Instr};
 use plan_text::{Items, RowList};
 
@@ -35,11 +38,11 @@ fn items_room<M: Measured>(items: &[M::Item], room: u64) -> Option<u64>
     Some(left)
 }
 
-fn counted_room<M: Measured>(items: &Items<M::Item>, room: u64) -> Option<u64>
+fn counted_room<M: Measured>(items: &[M::Item], room: u64) -> Option<u64>
     ensures { RoomAfter result (length (counted M.spell items.now)) room }
 {
     let room = room.checked_sub(4)?;
-    items_room::<M>(items.as_slice(), room)
+    items_room::<M>(items, room)
 }
 
 struct Word;
@@ -142,20 +145,6 @@ impl Measured for SlotRoom {
     }
 }
 
-struct InstrRoom;
-
-impl Measured for InstrRoom {
-    ghost use Rattle.plan_image.specs.Spelling.{instr};
-
-    type Item = Instr;
-
-    ghost spell = { instr };
-
-    fn room_after(item: &Instr, room: u64) -> Option<u64> {
-        room.checked_sub(instr_size(*item))
-    }
-}
-
 const fn instr_size(instr: Instr) -> u64
     ensures { result ≡ length (Rattle.plan_image.specs.Spelling.instr instr) }
 {
@@ -209,16 +198,37 @@ fn bodies_room(bodies: &Option<Items<Body>>, room: u64) -> Option<u64>
 {
     match bodies {
         None => Some(room),
-        Some(bodies) => counted_room::<BodyRoom>(bodies, room),
+        Some(bodies) => counted_room::<BodyRoom>(bodies.as_slice(), room),
     }
 }
 
-fn code_room(code: &EdgeCode, room: u64) -> Option<u64>
-    ensures { RoomAfter result (length (edge_code code.now)) room }
+/// What room is left behind instructions.
+fn instrs_room(instrs: InstrsRef<'_>, room: u64) -> Option<u64>
+    ensures { RoomAfter result (length (flat_map instr (lent_instrs instrs.entry))) room }
+{
+    let mut left = room;
+    for place in 0..instrs.len() {
+        match left.checked_sub(instr_size(instrs.instr(place))) {
+            Some(rest) => left = rest,
+            None => return None,
+        }
+    }
+    Some(left)
+}
+
+fn own_room(instrs: InstrsRef<'_>, room: u64) -> Option<u64>
+    ensures { RoomAfter result (length (counted instr (lent_instrs instrs.entry))) room }
+{
+    let room = room.checked_sub(4)?;
+    instrs_room(instrs, room)
+}
+
+fn code_room(code: CodeRef<'_>, room: u64) -> Option<u64>
+    ensures { RoomAfter result (length (edge_code (lent_code code.entry))) room }
 {
     match code {
-        EdgeCode::Own(instrs) => counted_room::<InstrRoom>(instrs, room),
-        EdgeCode::Shared(number, numbers) => shared_room(*number, numbers.as_slice(), room),
+        CodeRef::Own(instrs) => own_room(instrs, room),
+        CodeRef::Shared(number, numbers) => shared_room(number, numbers, room),
     }
 }
 
@@ -229,21 +239,34 @@ fn shared_room(_number: u32, numbers: &[u32], room: u64) -> Option<u64>
     items_room::<Word>(numbers, room)
 }
 
-struct EdgeRoom;
+fn edge_room(x: EdgeRef<'_>, room: u64) -> Option<u64>
+    ensures { RoomAfter result (length (edge (lent x.entry))) room }
+{
+    let room = room.checked_sub(13)?;
+    let room = counted_room::<Word>(x.outputs, room)?;
+    let room = counted_room::<Word>(x.waits, room)?;
+    code_room(x.code, room)
+}
 
-impl Measured for EdgeRoom {
-    ghost use Rattle.plan_image.specs.Spelling.{edge};
-
-    type Item = Edge;
-
-    ghost spell = { edge };
-
-    fn room_after(item: &Edge, room: u64) -> Option<u64> {
-        let room = room.checked_sub(13)?;
-        let room = counted_room::<Word>(&item.outputs, room)?;
-        let room = counted_room::<Word>(&item.waits, room)?;
-        code_room(&item.code, room)
+/// What room is left behind edges.
+fn each_edge_room(edges: &Edges, room: u64) -> Option<u64>
+    ensures { RoomAfter result (length (flat_map edge edges.now)) room }
+{
+    let mut left = room;
+    for number in 0..edges.len() {
+        match edge_room(edges.edge(number), left) {
+            Some(rest) => left = rest,
+            None => return None,
+        }
     }
+    Some(left)
+}
+
+fn edges_room(edges: &Edges, room: u64) -> Option<u64>
+    ensures { RoomAfter result (length (counted edge edges.now)) room }
+{
+    let room = room.checked_sub(4)?;
+    each_edge_room(edges, room)
 }
 
 #[tactic(auto, unfolding(crate::specs::Spelling::spelling))]
@@ -253,9 +276,9 @@ pub(crate) fn parts_room(parts: &Parts, room: u64) -> Option<u64>
     let room = room.checked_sub(8)?;
     let room = texts_room::<LongText>(&parts.texts, room)?;
     let room = texts_room::<ShortText>(&parts.files, room)?;
-    let room = counted_room::<PoolRoom>(&parts.pools, room)?;
-    let room = counted_room::<SlotRoom>(&parts.slots, room)?;
+    let room = counted_room::<PoolRoom>(parts.pools.as_slice(), room)?;
+    let room = counted_room::<SlotRoom>(parts.slots.as_slice(), room)?;
     let room = bodies_room(&parts.bodies, room)?;
-    let room = counted_room::<EdgeRoom>(&parts.edges, room)?;
-    counted_room::<Word>(&parts.defaults, room)
+    let room = edges_room(&parts.edges, room)?;
+    counted_room::<Word>(parts.defaults.as_slice(), room)
 }

@@ -156,8 +156,8 @@ fn refused_counts(rt: HostRuntime) {
 
 /// Tables of one edge without outputs, and these defaults.
 fn tables(alloc: Global, code: EdgeCode, defaults: &[u32]) -> Result<Parts, Fail> {
-    let mut edges = Vec::new(alloc);
-    edges.push(Edge {
+    let mut edges = Edges::new(alloc);
+    let edge = Edge {
         sort: Sort::Phony,
         pool: None,
         rank: 0,
@@ -165,14 +165,15 @@ fn tables(alloc: Global, code: EdgeCode, defaults: &[u32]) -> Result<Parts, Fail
         outputs: Items::empty(alloc),
         waits: Items::empty(alloc),
         code,
-    })?;
+    };
+    edges.push(alloc, &edge)?;
     Ok(Parts {
         texts: RowList::new(alloc),
         files: RowList::new(alloc),
         pools: Items::empty(alloc),
         slots: Items::empty(alloc),
         bodies: None,
-        edges: Items::new(edges),
+        edges,
         defaults: Items::new(Vec::from_slice(alloc, defaults)?),
     })
 }
@@ -275,6 +276,55 @@ fn failed_writes(rt: HostRuntime) -> Result<(), Fail> {
 }
 
 #[test]
-fn instructions_are_short(rt: HostRuntime) {
-    assert_eq!(rt; std::mem::size_of::<Instr>(), 8);
+fn lent_edges(rt: HostRuntime) -> Result<(), Fail> {
+    let image = read_image(rt.alloc(), OPEN.as_slice())?;
+    let edges = &image.parts().edges;
+    assert_eq!(rt; edges.len(), 2);
+    let mut rank = None;
+    for number in 0..edges.len() {
+        rank = Some(edges.edge(number).rank);
+    }
+    assert_eq!(rt; rank, Some(8));
+    assert!(rt; edges.get(2).is_none());
+    assert_eq!(rt; edges.rank(0), Some(7));
+    assert_eq!(rt; edges.rank(2), None);
+    assert!(rt; edges.waits(2).is_none());
+    let Some(edge) = edges.get(1) else {
+        return Err(Fail::new("another edge"));
+    };
+    assert!(rt; edge.sort == Sort::Phony && edge.pool == None);
+    assert_eq!(rt; (edge.rank, edge.label), (8, 9));
+    assert_eq!(rt; edge.outputs.len(), 0);
+    assert_eq!(rt; edge.waits, [0].as_slice());
+    match edges.code(1) {
+        Some(CodeRef::Shared(body, operands)) => {
+            assert_eq!(rt; body, 0);
+            assert_eq!(rt; operands, [1, 2, 3].as_slice());
+        }
+        _ => return Err(Fail::new("another code")),
+    }
+    Ok(())
+}
+
+#[test]
+fn lent_instructions(rt: HostRuntime) -> Result<(), Fail> {
+    let code = [Instr::Stat(4_294_967_295), Instr::Flag(true), Instr::End];
+    let own = EdgeCode::Own(Items::new(Vec::from_slice(rt.alloc(), code.as_slice())?));
+    let parts = tables(rt.alloc(), own, [].as_slice())?;
+    let Some(CodeRef::Own(instrs)) = parts.edges.code(0) else {
+        return Err(Fail::new("another code"));
+    };
+    assert_eq!(rt; instrs.len(), 3);
+    for (place, instr) in code.iter().enumerate() {
+        assert!(rt; instrs.get(place) == Some(*instr));
+    }
+    assert!(rt; instrs.get(3) == None);
+    let mut end = None;
+    for place in 0..instrs.len() {
+        if instrs.instr(place) == Instr::End {
+            end = Some(place);
+        }
+    }
+    assert_eq!(rt; end, Some(2));
+    Ok(())
 }

@@ -2,10 +2,13 @@
 
 ghost use Rattle.std.specs.Prelude.{◌≡◌, ◌<◌, ◌≤◌, ◌^◌, ◌++◌, ◌∷◌, [], length, OnOk, IfOk, IfErr, IfSome};
 ghost use Rattle.std.specs.List.{flat_map, AllByRecursion};
-ghost use Rattle.plan_image.specs.Spelling.{number, counted, flag_byte, IsWord, edge_head, EdgeFits, HasSpelling, magic, spelling, edge_code, CodeFits, BodiesFit};
+ghost use Rattle.plan_image.specs.Columns.{lent, lent_code, lent_instrs};
+ghost use Rattle.plan_image.specs.Spelling.{number, counted, edge, flag_byte, instr, IsWord, edge_head, EdgeFits, HasSpelling, magic, spelling, edge_code, CodeFits, BodiesFit};
 
 use crate::body::Body;
-use crate::image::{Edge, EdgeCode, Image, Parts, Pool, Slot, Sort, Version};
+use crate::edge_ref::{CodeRef, EdgeRef, InstrsRef};
+use crate::edges::Edges;
+use crate::image::{Image, Parts, Pool, Slot, Sort, Version};
 use crate::instr::{BodyInstr, Instr, Kind, Opening};
 use plan_text::{Items, Memory, RowList};
 use std::alloc::{AllocError, Global};
@@ -56,14 +59,14 @@ fn put_number(out: &mut Vec<u8>, n: u32) -> Result<(), AllocError>
 fn put_counted<S: Speller>(
     out: &mut Vec<u8>,
     speller: &S,
-    items: &Items<S::Item>,
+    items: &[S::Item],
 ) -> Result<(), AllocError>
     requires len { length items.now < 2 ^ 32 }
     requires fits { AllByRecursion S.fits items.now }
     ensures { OnOk result (out.new.items ≡ out.old.items ++ counted (S.spell speller.now) items.now) }
 {
     put_number(out, items.len() as u32)?;
-    put_items(out, speller, items.as_slice())
+    put_items(out, speller, items)
 }
 
 /// A number.
@@ -311,17 +314,35 @@ fn put_bodies(out: &mut Vec<u8>, bodies: &Option<Items<Body>>) -> Result<(), All
 {
     match bodies {
         None => Ok(()),
-        Some(bodies) => put_counted(out, &BodySpeller, bodies),
+        Some(bodies) => put_counted(out, &BodySpeller, bodies.as_slice()),
     }
 }
 
-fn put_code(out: &mut Vec<u8>, code: &EdgeCode) -> Result<(), AllocError>
-    requires { CodeFits code.now }
-    ensures { OnOk result (out.new.items ≡ out.old.items ++ edge_code code.now) }
+/// Instructions, one behind the other.
+fn put_instrs(out: &mut Vec<u8>, instrs: InstrsRef<'_>) -> Result<(), AllocError>
+    ensures { OnOk result (out.new.items ≡ out.old.items ++ flat_map instr (lent_instrs instrs.entry)) }
+{
+    for place in 0..instrs.len() {
+        InstrSpeller.put(out, &instrs.instr(place))?;
+    }
+    Ok(())
+}
+
+fn put_own(out: &mut Vec<u8>, instrs: InstrsRef<'_>) -> Result<(), AllocError>
+    requires { length (lent_instrs instrs) < 2 ^ 32 }
+    ensures { OnOk result (out.new.items ≡ out.old.items ++ counted instr (lent_instrs instrs.entry)) }
+{
+    put_number(out, instrs.len() as u32)?;
+    put_instrs(out, instrs)
+}
+
+fn put_code(out: &mut Vec<u8>, code: CodeRef<'_>) -> Result<(), AllocError>
+    requires { CodeFits (lent_code code) }
+    ensures { OnOk result (out.new.items ≡ out.old.items ++ edge_code (lent_code code.entry)) }
 {
     match code {
-        EdgeCode::Own(instrs) => put_counted(out, &InstrSpeller, instrs),
-        EdgeCode::Shared(number, numbers) => put_shared(out, *number, numbers.as_slice()),
+        CodeRef::Own(instrs) => put_own(out, instrs),
+        CodeRef::Shared(number, numbers) => put_shared(out, number, numbers),
     }
 }
 
@@ -333,34 +354,47 @@ fn put_shared(out: &mut Vec<u8>, number: u32, numbers: &[u32]) -> Result<(), All
     put_items(out, &Word, numbers)
 }
 
-struct EdgeSpeller;
-
-impl Speller for EdgeSpeller {
-    ghost use Rattle.plan_image.specs.Spelling.{edge, EdgeFits};
-
-    type Item = Edge;
-
-    ghost spell = { λ _. edge };
-
-    ghost fits = { EdgeFits };
-
-    fn put(&self, out: &mut Vec<u8>, item: &Edge) -> Result<(), AllocError> {
-        put_head(out, item)?;
-        put_counted(out, &Word, &item.outputs)?;
-        put_counted(out, &Word, &item.waits)?;
-        put_code(out, &item.code)
-    }
+fn put_edge(out: &mut Vec<u8>, x: EdgeRef<'_>) -> Result<(), AllocError>
+    requires { EdgeFits (lent x) }
+    ensures { OnOk result (out.new.items ≡ out.old.items ++ edge (lent x.entry)) }
+{
+    put_head(out, x)?;
+    put_counted(out, &Word, x.outputs)?;
+    put_counted(out, &Word, x.waits)?;
+    put_code(out, x.code)?;
+    Ok(())
 }
 
 /// What stands before the lists of an edge.
-fn put_head(out: &mut Vec<u8>, x: &Edge) -> Result<(), AllocError>
-    requires { EdgeFits x.now }
-    ensures { OnOk result (out.new.items ≡ out.old.items ++ edge_head x.now) }
+fn put_head(out: &mut Vec<u8>, x: EdgeRef<'_>) -> Result<(), AllocError>
+    requires { EdgeFits (lent x) }
+    ensures { OnOk result (out.new.items ≡ out.old.items ++ edge_head (lent x.entry)) }
 {
     put_byte(out, sort_byte(x.sort))?;
     put_number(out, pool_number(x.pool))?;
     put_number(out, x.rank)?;
-    put_number(out, x.label)
+    put_number(out, x.label)?;
+    Ok(())
+}
+
+/// Edges, one behind the other.
+fn put_each_edge(out: &mut Vec<u8>, edges: &Edges) -> Result<(), AllocError>
+    requires { AllByRecursion EdgeFits edges.now }
+    ensures { OnOk result (out.new.items ≡ out.old.items ++ flat_map edge edges.now) }
+{
+    for number in 0..edges.len() {
+        put_edge(out, edges.edge(number))?;
+    }
+    Ok(())
+}
+
+fn put_edges(out: &mut Vec<u8>, edges: &Edges) -> Result<(), AllocError>
+    requires len { length edges.now < 2 ^ 32 }
+    requires fits { AllByRecursion EdgeFits edges.now }
+    ensures { OnOk result (out.new.items ≡ out.old.items ++ counted edge edges.now) }
+{
+    put_number(out, edges.len() as u32)?;
+    put_each_edge(out, edges)
 }
 
 const fn pool_number(pool: Option<u32>) -> u32
@@ -405,11 +439,11 @@ fn put_parts(out: &mut Vec<u8>, parts: &Parts) -> Result<(), AllocError>
     put_magic(out, parts.version())?;
     put_texts::<LongText>(out, &parts.texts)?;
     put_texts::<ShortText>(out, &parts.files)?;
-    put_counted(out, &PoolSpeller, &parts.pools)?;
-    put_counted(out, &SlotSpeller, &parts.slots)?;
+    put_counted(out, &PoolSpeller, parts.pools.as_slice())?;
+    put_counted(out, &SlotSpeller, parts.slots.as_slice())?;
     put_bodies(out, &parts.bodies)?;
-    put_counted(out, &EdgeSpeller, &parts.edges)?;
-    put_counted(out, &Word, &parts.defaults)?;
+    put_edges(out, &parts.edges)?;
+    put_counted(out, &Word, parts.defaults.as_slice())?;
     Ok(())
 }
 

@@ -1,7 +1,7 @@
 //! Each public function once, on an image made by hand.
 
 use super::*;
-use plan_image::{Edge, EdgeCode, Image, Instr, Parts, Sort};
+use plan_image::{Edge, EdgeCode, Edges, Image, Instr, Parts, Sort};
 use plan_text::{Items, RowList};
 use plan_verify::{Verified, verify};
 use std::alloc::{AllocError, Global};
@@ -27,17 +27,17 @@ fn parts_of(alloc: Global, defaults: &[u32]) -> Result<Parts, AllocError> {
     files.push(b"a")?;
     files.push(b"b")?;
     files.push(b"c")?;
-    let mut edges = Vec::new(alloc);
-    edges.push(edge(alloc, 0, &[])?)?;
-    edges.push(edge(alloc, 1, &[0])?)?;
-    edges.push(edge(alloc, 2, &[])?)?;
+    let mut edges = Edges::new(alloc);
+    edges.push(alloc, &edge(alloc, 0, &[])?)?;
+    edges.push(alloc, &edge(alloc, 1, &[0])?)?;
+    edges.push(alloc, &edge(alloc, 2, &[])?)?;
     Ok(Parts {
         texts,
         files,
         pools: Items::empty(alloc),
         slots: Items::empty(alloc),
         bodies: None,
-        edges: Items::new(edges),
+        edges,
         defaults: Items::new(Vec::from_slice(alloc, defaults)?),
     })
 }

@@ -100,8 +100,8 @@ impl Walk {
 pub(crate) fn waits(parts: &Parts, e: u32) -> &[u32]
     ensures { result.now ≡ waits_of parts.now e }
 {
-    match parts.edges.as_slice().get(e as usize) {
-        Some(edge) => edge.waits.as_slice(),
+    match parts.edges.waits(e as usize) {
+        Some(waits) => waits,
         None => &[],
     }
 }

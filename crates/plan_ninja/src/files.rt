@@ -2,6 +2,7 @@
 
 ghost use Rattle.std.specs.Prelude.{◌≡◌};
 
+use plan_image::MAX_IMAGE;
 use plan_scope::{Source, SourceFault};
 use plan_text::{MAX_SOURCE, Tally};
 use std::alloc::Global;
@@ -12,8 +13,8 @@ use std::{fs, io, str};
 /// One byte more than a manifest may have, so that one which is too long is seen to be.
 pub const MANIFEST_BYTES: u64 = MAX_SOURCE as u64 + 1;
 
-/// One byte more than an image may have.
-pub const IMAGE_BYTES: u64 = 268_435_457;
+/// One byte more than an image may have, so that one which is too long is seen to be.
+pub const IMAGE_BYTES: u64 = MAX_IMAGE as u64 + 1;
 
 /// The files that lie in the system, by their paths.
 #[derive(Drop)]

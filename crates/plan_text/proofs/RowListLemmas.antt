@@ -1,8 +1,8 @@
 -- Rows of items that are held one behind the other. Serves src/row_list.rt.
-use Rattle.std.proofs.Common.{◌≡◌, ℕ, zero, suc, ◌+◌, ◌-◌, ◌<◌, ◌≤◌, List, [], ◌∷◌, ◌++◌, length, refl, ◌∙◌, ap, arith, get_or, length-append, take, drop}
+use Rattle.std.proofs.Common.{◌≡◌, ℕ, zero, suc, ◌+◌, ◌-◌, ◌<◌, ◌≤◌, List, [], ◌∷◌, ◌++◌, length, refl, sym, ◌∙◌, ap, arith, get_or, length-append, take, drop}
 use Rattle.std.specs.Prelude.{Some, None, slice_get, slice_range}
 use Rattle.std.proofs.Math.Seq.{drop-append_seam, take-length}
-use Rattle.std.proofs.lemmas.List.{drop-append-le, get_or_past, length-drop, take-append-le}
+use Rattle.std.proofs.lemmas.List.{drop-append-le, drop-take, get_or_past, length-drop, take-append-le, take-take, take_all}
 use Rattle.plan_text.specs.RowLists.{AreEnds, rows_from}
 
 -- there are as many rows as ends
@@ -65,3 +65,41 @@ pub item_missing : {X : Type 0} (xs : List X) (n : ℕ) → length xs ≤ n → 
 item_missing [] n h = refl
 item_missing (y ∷ xs) zero h = absurd (omega (arith, h))
 item_missing (y ∷ xs) (suc n) h = item_missing xs n (omega (arith, h))
+
+-- no row begins before the first one
+rises : (start : ℕ) (ends : List ℕ) (len n : ℕ) → AreEnds start ends len → n ≤ length ends → start ≤ get_or (start ∷ ends) n 0
+rises start ends len zero a h = omega arith
+rises start [] len (suc n) a h = absurd (omega (arith, h))
+rises start (e ∷ es) len (suc n) a h = let rest : e ≤ get_or (e ∷ es) n 0 = rises e es len n a.1 (omega (arith, h)) in omega (arith, a.0, rest)
+
+-- a row begins within the items
+pub begins_within : (start : ℕ) (ends : List ℕ) (len n : ℕ) → AreEnds start ends len → n ≤ length ends → get_or (start ∷ ends) n 0 ≤ len
+begins_within start ends len zero a h = start_within start ends len a
+begins_within start [] len (suc n) a h = absurd (omega (arith, h))
+begins_within start (e ∷ es) len (suc n) a h = begins_within e es len n a.1 (omega (arith, h))
+
+-- the ends of the first rows
+pub ends_take : (start : ℕ) (ends : List ℕ) (len n : ℕ) → AreEnds start ends len → n ≤ length ends → AreEnds start (take n ends) (get_or (start ∷ ends) n 0)
+ends_take start ends len zero a h = refl
+ends_take start [] len (suc n) a h = absurd (omega (arith, h))
+ends_take start (e ∷ es) len (suc n) a h = (a.0, ends_take e es len n a.1 (omega (arith, h)))
+
+range_take : {X : Type 0} (items : List X) (start end len : ℕ) → start ≤ end → end ≤ len → slice_range (take len items) start end ≡ slice_range items start end
+range_take items start end len h g =
+    let rest : len ≡ start + (len - start) = omega (arith, h, g) in
+    ap (λ n. take (end - start) (drop start (take n items))) rest
+    ∙ (ap (take (end - start)) (drop-take start (len - start) items) ∙ take-take (end - start) (len - start) (drop start items) (omega (arith, g)))
+
+-- the first rows
+pub rows_take : {X : Type 0} (start : ℕ) (items : List X) (ends : List ℕ) (n : ℕ) → AreEnds start ends (length items) → n ≤ length ends
+    → rows_from start (take (get_or (start ∷ ends) n 0) items) (take n ends) ≡ take n (rows_from start items ends)
+rows_take start items ends zero a h = refl
+rows_take start items [] (suc n) a h = absurd (omega (arith, h))
+rows_take {X = X} start items (e ∷ es) (suc n) a h =
+    let less : n ≤ length es = omega (arith, h) in
+    ap (λ (r : List X). r ∷ rows_from e (take (get_or (e ∷ es) n 0) items) (take n es)) (range_take items start e (get_or (e ∷ es) n 0) a.0 (rises e es (length items) n a.1 less))
+    ∙ ap (λ (rs : List (List X)). slice_range items start e ∷ rs) (rows_take e items es n a.1 less)
+
+-- as many rows as there are, or more
+pub rows_all : {X : Type 0} (start : ℕ) (items : List X) (ends : List ℕ) (n : ℕ) → length ends ≤ n → rows_from start items ends ≡ take n (rows_from start items ends)
+rows_all start items ends n h = let long = length_rows start items ends in sym (take_all n (rows_from start items ends) (omega (arith, h, long)))

@@ -1,17 +1,17 @@
 //! Rows of items.
 
-ghost use Rattle.std.specs.Prelude.{◌≡◌, ◌≤◌, [], ◌∷◌, ◌++◌, OnOk, IfOk, get_or, length, option_map, slice_get, slice_range};
+ghost use Rattle.std.specs.Prelude.{◌≡◌, ◌≤◌, ◌+◌, [], ◌∷◌, ◌++◌, OnOk, OnErr, IfOk, get_or, length, option_map, slice_get, slice_range, take};
 
 use std::alloc::{AllocError, Global};
 use std::marker::Model;
 
 /// Rows of items, which a contract sees as a list of lists. They are held one behind the other: a row takes its items
-/// and one number.
+/// and four bytes. There are at most 4,294,967,295 items in all.
 #[derive(Debug, Drop)]
 pub struct RowList<T> {
     items: Vec<T>,
     /// Where each row ends.
-    ends: Vec<usize>,
+    ends: Vec<u32>,
 }
 
 impl<T> Model for RowList<T> {
@@ -26,14 +26,24 @@ impl<T> Model for RowList<T> {
 }
 
 /// Where the row of this number begins.
-fn start_of(ends: &[usize], number: usize) -> usize
+fn start_of(ends: &[u32], number: usize) -> usize
     requires { number ≤ length ends.now }
     ensures { result ≡ get_or (0 ∷ ends.now) number 0 }
 {
     if number == 0 {
         return 0;
     }
-    ends[number - 1]
+    ends[number - 1] as usize
+}
+
+/// The place behind so many items and so many more, where four bytes can tell it.
+fn end_behind(len: usize, more: usize) -> Result<u32, AllocError>
+    ensures { IfOk result (λ end. end ≡ len + more) }
+{
+    if len > 4_294_967_295 || more > 4_294_967_295 - len {
+        return Err(AllocError);
+    }
+    Ok((len + more) as u32)
 }
 
 /// The items from a place on, up to another.
@@ -62,14 +72,28 @@ impl<T: Copy> RowList<T> {
         self.ends.reserve(rows)
     }
 
-    /// Appends a row.
+    /// Appends a row. A refusal changes nothing.
     pub fn push(&mut self, row: &[T]) -> Result<(), AllocError>
-        ensures { OnOk result (self.new ≡ self.old ++ row.now ∷ []) }
+        ensures more { OnOk result (self.new ≡ self.old ++ row.now ∷ []) }
+        ensures refused { OnErr result (self.new ≡ self.old) }
     {
+        let end = end_behind(self.items.len(), row.len())?;
         self.ends.reserve(1)?;
         self.items.extend_from_slice(row)?;
-        self.ends.push(self.items.len())?;
+        self.ends.push(end)?;
         Ok(())
+    }
+
+    /// Keeps the first rows, so many, and drops the others.
+    pub fn truncate(&mut self, rows: usize)
+        ensures { self.new ≡ take rows self.old }
+    {
+        if rows >= self.len() {
+            return;
+        }
+        let end = start_of(&self.ends, rows);
+        self.ends.truncate(rows);
+        self.items.truncate(end);
     }
 
     /// How many rows there are.
@@ -87,7 +111,7 @@ impl<T: Copy> RowList<T> {
             return &[];
         }
         let start = start_of(&self.ends, number);
-        cut(&self.items, start, self.ends[number])
+        cut(&self.items, start, self.ends[number] as usize)
     }
 
     /// The row of this number, counted from 0, where there are as many.

@@ -31,8 +31,8 @@ fn waits(parts: &Parts, edge: u32) -> &[u32]
     ensures waits { result.now ≡ waits_of parts.now edge }
     ensures order { Rattle.plan_image.specs.Spelling.AscendsFrom 0 result.now }
 {
-    match parts.edges.as_slice().get(edge as usize) {
-        Some(found) => found.waits.as_slice(),
+    match parts.edges.waits(edge as usize) {
+        Some(waits) => waits,
         None => &[],
     }
 }

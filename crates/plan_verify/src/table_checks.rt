@@ -2,20 +2,21 @@
 
 ghost use Rattle.std.specs.Prelude.{◌≡◌, length, nat_le, Some, slice_get};
 ghost use Rattle.std.specs.List.{list_all, list_any};
+ghost use Rattle.plan_image.specs.Columns.{lent};
 ghost use Rattle.plan_image.specs.declared.image.Slot.{Slot};
 ghost use Rattle.plan_verify.specs.Tables.{own_slots, slot_kind, is_outside};
 ghost use Rattle.plan_verify.specs.Shape.{ranks_below, lacks_outputs, is_paths, table_refusal_of, image_refusal};
 
 use crate::fault::Refusal;
 use crate::own_slots::OwnSlots;
-use plan_image::{Edge, Parts};
+use plan_image::{EdgeRef, Parts};
 
 /// Whether an edge is in the table and has a lesser rank.
 fn is_ranked_below(parts: &Parts, edge: u32, rank: u32) -> bool
     ensures { result ≡ ranks_below (slice_get parts.now.edges edge) rank }
 {
-    match parts.edges.as_slice().get(edge as usize) {
-        Some(maker) => maker.rank < rank,
+    match parts.edges.rank(edge as usize) {
+        Some(lesser) => lesser < rank,
         None => false,
     }
 }
@@ -58,14 +59,14 @@ fn has_file_outside(parts: &Parts, files: &[u32]) -> bool
 pub(crate) fn table_refusal(
     parts: &Parts,
     edge: u32,
-    entry: &Edge,
+    entry: EdgeRef<'_>,
     own: OwnSlots,
 ) -> Option<Refusal>
     requires own { own.has_paths ≡ list_any (λ s. is_paths (slot_kind parts.now s)) (own_slots parts.now edge) }
-    ensures { result ≡ table_refusal_of parts.now edge (Some entry.now) }
+    ensures { result ≡ table_refusal_of parts.now edge (Some (lent entry.entry)) }
 {
     let _ = edge;
-    if !are_ranked_below(parts, entry.waits.as_slice(), entry.rank) {
+    if !are_ranked_below(parts, entry.waits, entry.rank) {
         return Some(Refusal::BadWait);
     }
     if is_pool_outside(parts, entry.pool) {
@@ -74,7 +75,7 @@ pub(crate) fn table_refusal(
     if parts.texts.len() <= entry.label as usize {
         return Some(Refusal::BadText);
     }
-    if has_bad_outputs(parts, entry.outputs.as_slice()) {
+    if has_bad_outputs(parts, entry.outputs) {
         return Some(Refusal::BadFile);
     }
     if own.has_paths {

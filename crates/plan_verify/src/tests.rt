@@ -1,7 +1,9 @@
 //! Each public function once, on images made by hand.
 
 use super::*;
-use plan_image::{Edge, EdgeCode, Image, Instr, Kind, Parts, Pool, Slot, Sort, split, write_image};
+use plan_image::{
+    Edge, EdgeCode, Edges, Image, Instr, Kind, Parts, Pool, Slot, Sort, split, write_image,
+};
 use plan_text::{Items, Memory, RowList};
 use std::alloc::{AllocError, Global};
 use std::test::Fail;
@@ -20,7 +22,7 @@ fn edge(alloc: Global, rank: u32, waits: &[u32], code: EdgeCode) -> Result<Edge,
 }
 
 /// The tables of these edges: text 0 is `x`, file 0 is `a`, edge 0 is built by default.
-fn parts_of(alloc: Global, slots: &[Slot], edges: Vec<Edge>) -> Result<Parts, AllocError> {
+fn parts_of(alloc: Global, slots: &[Slot], edges: Edges) -> Result<Parts, AllocError> {
     let mut texts = RowList::new(alloc);
     texts.push(b"x")?;
     let mut files = RowList::new(alloc);
@@ -31,7 +33,7 @@ fn parts_of(alloc: Global, slots: &[Slot], edges: Vec<Edge>) -> Result<Parts, Al
         pools: Items::empty(alloc),
         slots: Items::new(Vec::from_slice(alloc, slots)?),
         bodies: None,
-        edges: Items::new(edges),
+        edges,
         defaults: Items::new(Vec::from_slice(alloc, [0].as_slice())?),
     })
 }
@@ -50,8 +52,8 @@ fn verdict_on(alloc: Global, parts: Parts) -> Result<u64, VerifyFault> {
 /// What the verifier says of one edge's code in version 1.
 fn verdict(alloc: Global, code: &[Instr], slots: &[Slot]) -> Result<u64, VerifyFault> {
     let own = EdgeCode::Own(Items::new(Vec::from_slice(alloc, code)?));
-    let mut edges = Vec::new(alloc);
-    edges.push(edge(alloc, 0, &[], own)?)?;
+    let mut edges = Edges::new(alloc);
+    edges.push(alloc, &edge(alloc, 0, &[], own)?)?;
     verdict_on(alloc, parts_of(alloc, slots, edges)?)
 }
 
@@ -62,8 +64,8 @@ fn verdict_on_body(alloc: Global, code: &[Instr], slots: &[Slot]) -> Result<u64,
     };
     let mut bodies = Vec::new(alloc);
     bodies.push(body)?;
-    let mut edges = Vec::new(alloc);
-    edges.push(edge(alloc, 0, &[], EdgeCode::Shared(0, operands))?)?;
+    let mut edges = Edges::new(alloc);
+    edges.push(alloc, &edge(alloc, 0, &[], EdgeCode::Shared(0, operands))?)?;
     let mut parts = parts_of(alloc, slots, edges)?;
     parts.bodies = Some(Items::new(bodies));
     verdict_on(alloc, parts)
@@ -226,11 +228,11 @@ fn stack_of_65(rt: HostRuntime) -> Result<(), Fail> {
 fn verdict_on_two(alloc: Global, rank: u32, waits: &[u32]) -> Result<u64, VerifyFault> {
     let store = [Instr::Zero, Instr::Store(0), Instr::End];
     let load = [Instr::Load(0), Instr::Drop, Instr::End];
-    let mut edges = Vec::new(alloc);
+    let mut edges = Edges::new(alloc);
     let own = EdgeCode::Own(Items::new(Vec::from_slice(alloc, store.as_slice())?));
-    edges.push(edge(alloc, 0, &[], own)?)?;
+    edges.push(alloc, &edge(alloc, 0, &[], own)?)?;
     let own = EdgeCode::Own(Items::new(Vec::from_slice(alloc, load.as_slice())?));
-    edges.push(edge(alloc, rank, waits, own)?)?;
+    edges.push(alloc, &edge(alloc, rank, waits, own)?)?;
     let slots = [Slot {
         owner: 0,
         kind: Kind::Stamp,
@@ -258,8 +260,8 @@ fn slots_of_waits(rt: HostRuntime) {
 /// The tables of one edge whose code is `End`.
 fn plain_parts(alloc: Global) -> Result<Parts, AllocError> {
     let own = EdgeCode::Own(Items::new(Vec::from_slice(alloc, [Instr::End].as_slice())?));
-    let mut edges = Vec::new(alloc);
-    edges.push(edge(alloc, 0, &[], own)?)?;
+    let mut edges = Edges::new(alloc);
+    edges.push(alloc, &edge(alloc, 0, &[], own)?)?;
     parts_of(alloc, &[], edges)
 }
 
@@ -295,12 +297,12 @@ fn pooled_parts(alloc: Global, pools: Vec<Pool>) -> Result<Parts, AllocError> {
         Instr::Release,
         Instr::End,
     ];
-    let mut edges = Vec::new(alloc);
+    let mut edges = Edges::new(alloc);
     for _ in 0..3 {
         let own = EdgeCode::Own(Items::new(Vec::from_slice(alloc, code.as_slice())?));
         let mut one = edge(alloc, 0, &[], own)?;
         one.pool = Some(0);
-        edges.push(one)?;
+        edges.push(alloc, &one)?;
     }
     let mut parts = parts_of(alloc, &[], edges)?;
     parts.pools = Items::new(pools);

@@ -1,6 +1,7 @@
 //! Images that are well shaped.
 
 ghost use Rattle.std.specs.Prelude.{◌≡◌, ◌≢◌, ◌<◌, ◌≤◌, ◌^◌, IfOk, OnOk, IfErr, IsOk, length};
+ghost use Rattle.plan_image.specs.Columns.{lent};
 ghost use Rattle.plan_verify.specs.OwnSlots.{AreOwnSlots};
 ghost use Rattle.plan_verify.specs.WellShaped.{IsShapedEdge, IsWellShaped};
 ghost use Rattle.plan_verify.specs.Budget.{edge_budget, image_budget};
@@ -10,7 +11,7 @@ use crate::fault::{CodeFault, VerifyFault};
 use crate::own_slots::{OwnSlots, own_slots_of_all};
 use crate::pass::pass_code;
 use crate::table_checks::{refusal_of_all, table_refusal};
-use plan_image::{Edge, Image};
+use plan_image::{EdgeRef, Image};
 use std::alloc::Global;
 use std::marker::Model;
 
@@ -66,10 +67,10 @@ fn verify_edge(
     alloc: Global,
     image: &Image,
     edge: u32,
-    entry: &Edge,
+    entry: EdgeRef<'_>,
     own: OwnSlots,
 ) -> Result<u64, VerifyFault>
-    requires entry { Rattle.std.specs.Prelude.slice_get image.now.edges edge ≡ Rattle.std.specs.Prelude.Some entry.now }
+    requires entry { Rattle.std.specs.Prelude.slice_get image.now.edges edge ≡ Rattle.std.specs.Prelude.Some (lent entry) }
     requires own { Rattle.plan_verify.specs.OwnSlots.IsOwn image.now edge own }
     ensures ok { OnOk result (IsShapedEdge image.now edge) }
     ensures budget { IfOk result (λ b. b ≡ edge_budget image.now edge) }
@@ -94,7 +95,8 @@ fn verify_all(alloc: Global, image: &Image) -> Result<u64, VerifyFault>
     let parts = image.parts();
     let owns = own_slots_of_all(alloc, parts)?;
     let mut budget = 0u64;
-    for (number, entry) in parts.edges.as_slice().iter().enumerate() {
+    for number in 0..parts.edges.len() {
+        let entry = parts.edges.edge(number);
         match verify_edge(alloc, image, number as u32, entry, owns[number]) {
             Ok(more) => budget += more,
             Err(fault) => return Err(fault),

@@ -2,17 +2,20 @@
 
 ghost use Rattle.std.specs.Prelude.{is_ok};
 ghost use Rattle.plan_text.specs.Sinks.{Writes};
-ghost use Rattle.plan_image.specs.Listing.{instr_line, open_line, shared_words};
+ghost use Rattle.plan_image.specs.Columns.{lent, lent_instrs};
+ghost use Rattle.plan_image.specs.Listing.{edge_lines, instr_line, numbered, open_line, shared_words};
 
 use crate::body::{Body, with_number};
-use crate::image::{Edge, EdgeCode, Pool, Slot};
+use crate::edge_ref::{CodeRef, EdgeRef, InstrsRef};
+use crate::edges::Edges;
+use crate::image::{Pool, Slot};
 use crate::instr::{BodyInstr, Instr, Opening};
 use crate::lister::each::{Each, Listed};
 use crate::lister::part::{Line, Number, Part, Spaced, Word, WriteFault, write_behind_space};
 use crate::lister::value::{
     Hex, Members, Operand, PoolNumber, letter_of, name_of, operand_of, word_of,
 };
-use plan_text::Sink;
+use plan_text::{Sink, writes_join};
 
 /// `pool N HEX depth D`
 impl Listed for Pool {
@@ -40,17 +43,7 @@ impl Listed for Slot {
     }
 }
 
-/// An instruction's place, name and operand.
-impl Listed for Instr {
-    ghost use Rattle.plan_image.specs.Listing.{instr_line};
-
-    ghost lines = { instr_line };
-
-    fn write<W: Sink>(&self, number: usize, out: &mut W) -> Result<(), WriteFault> {
-        write_instr(number, *self, out)
-    }
-}
-
+/// Writes an instruction's place, name and operand.
 fn write_instr<W: Sink>(place: usize, instr: Instr, out: &mut W) -> Result<(), WriteFault>
     ensures { Writes (is_ok result) (W.failures out.old, W.taken out.old) (W.failures out.new, W.taken out.new) (instr_line place instr) }
 {
@@ -91,45 +84,79 @@ impl Listed for Body {
     }
 }
 
-/// An edge, and its own instructions.
-impl Listed for Edge {
-    ghost use Rattle.plan_image.specs.Listing.{edge_lines};
-
-    ghost lines = { edge_lines };
-
-    fn write<W: Sink>(&self, number: usize, out: &mut W) -> Result<(), WriteFault> {
-        let waits = Spaced(Word(b"waits"), Members(self.waits.as_slice()));
-        let outputs = Spaced(
-            Word(b"outputs"),
-            Spaced(Members(self.outputs.as_slice()), waits),
-        );
-        let label = Spaced(
-            Word(b"label"),
-            Spaced(Number(u64::from(self.label)), outputs),
-        );
-        let pool = Spaced(Word(b"pool"), Spaced(PoolNumber(self.pool), label));
-        let rank = Spaced(Word(b"rank"), Spaced(Number(u64::from(self.rank)), pool));
-        let sort = Spaced(Word(word_of(self.sort)), rank);
-        let head = Spaced(Word(b"edge"), Spaced(Number(number as u64), sort));
-        (head, Code(&self.code)).write(out)
-    }
+/// Writes an edge, and its own instructions.
+pub(crate) fn write_edge<W: Sink>(
+    number: usize,
+    edge: EdgeRef<'_>,
+    out: &mut W,
+) -> Result<(), WriteFault>
+    ensures { Writes (is_ok result) (W.failures out.old, W.taken out.old) (W.failures out.new, W.taken out.new) (edge_lines number (lent edge.entry)) }
+{
+    let waits = Spaced(Word(b"waits"), Members(edge.waits));
+    let outputs = Spaced(Word(b"outputs"), Spaced(Members(edge.outputs), waits));
+    let label = Spaced(
+        Word(b"label"),
+        Spaced(Number(u64::from(edge.label)), outputs),
+    );
+    let pool = Spaced(Word(b"pool"), Spaced(PoolNumber(edge.pool), label));
+    let rank = Spaced(Word(b"rank"), Spaced(Number(u64::from(edge.rank)), pool));
+    let sort = Spaced(Word(word_of(edge.sort)), rank);
+    let head = Spaced(Word(b"edge"), Spaced(Number(number as u64), sort));
+    (head, Code(edge.code)).write(out)
 }
 
 /// What an edge line ends with, and the lines below it.
 #[derive(Drop)]
-struct Code<'a>(&'a EdgeCode);
+struct Code<'a>(CodeRef<'a>);
 
 impl<'a> Part for Code<'a> {
+    ghost use Rattle.plan_image.specs.Columns.{lent_code};
     ghost use Rattle.plan_image.specs.Listing.{code_words};
 
-    ghost text = { λ c. code_words c.0.now };
+    ghost text = { λ c. code_words (lent_code c.0) };
 
     fn write<W: Sink>(&self, out: &mut W) -> Result<(), WriteFault> {
         match self.0 {
-            EdgeCode::Own(instrs) => (Word(b"\n"), Each(instrs.as_slice())).write(out),
-            EdgeCode::Shared(number, operands) => write_shared(*number, operands.as_slice(), out),
+            CodeRef::Own(instrs) => (Word(b"\n"), EachInstr(instrs)).write(out),
+            CodeRef::Shared(number, operands) => write_shared(number, operands, out),
         }
     }
+}
+
+/// The lines of instructions.
+#[derive(Drop)]
+struct EachInstr<'a>(InstrsRef<'a>);
+
+impl<'a> Part for EachInstr<'a> {
+    ghost use Rattle.plan_image.specs.Columns.{lent_instrs};
+    ghost use Rattle.plan_image.specs.Listing.{instr_line, numbered};
+
+    ghost text = { λ e. numbered instr_line 0 (lent_instrs e.0) };
+
+    fn write<W: Sink>(&self, out: &mut W) -> Result<(), WriteFault> {
+        write_instrs(self.0, out)
+    }
+}
+
+fn write_instrs<W: Sink>(instrs: InstrsRef<'_>, out: &mut W) -> Result<(), WriteFault>
+    ensures { Writes (is_ok result) (W.failures out.old, W.taken out.old) (W.failures out.new, W.taken out.new) (numbered instr_line 0 (lent_instrs instrs.entry)) }
+{
+    writes_join();
+    for place in 0..instrs.len() {
+        write_instr(place, instrs.instr(place), out)?;
+    }
+    Ok(())
+}
+
+/// Writes the lines of each edge.
+pub(crate) fn write_edges<W: Sink>(edges: &Edges, out: &mut W) -> Result<(), WriteFault>
+    ensures { Writes (is_ok result) (W.failures out.old, W.taken out.old) (W.failures out.new, W.taken out.new) (numbered edge_lines 0 edges.now) }
+{
+    writes_join();
+    for number in 0..edges.len() {
+        write_edge(number, edges.edge(number), out)?;
+    }
+    Ok(())
 }
 
 fn write_shared<W: Sink>(number: u32, operands: &[u32], out: &mut W) -> Result<(), WriteFault>

@@ -1,70 +1,145 @@
 //! Edges and their code, read.
 
-ghost use Rattle.plan_image.specs.Code.{instrs_of, IsShared};
-ghost use Rattle.plan_image.specs.Reading.{Gives, own_code_at, numbers_for, shared_code_at, code_at, edge_at, edges_at};
+ghost use Rattle.plan_image.specs.Code.{body, instrs_of};
+ghost use Rattle.plan_image.specs.Columns.{code_by, edge_by, instrs_by, lent};
+ghost use Rattle.plan_image.specs.Reading.{Gives, items_at, instr_at, own_code_at, numbers_for, shared_code_at, code_at, edge_at, edges_at, used_after};
 ghost use Rattle.plan_image.specs.Spelling.{most_code};
-ghost use Rattle.std.specs.Prelude.{◌+◌, ◌^◌, ◌≤◌, length, IfOk, Some, None};
+ghost use Rattle.std.specs.Prelude.{◌≡◌, ◌+◌, ◌^◌, ◌≤◌, [], length, IfOk, OnOk, Some, None};
 
 use crate::body::Body;
+use crate::edge_ref::{CodeRef, EdgeRef, Head, InstrsRef};
+use crate::edges::Edges;
 use crate::fault::Cause;
-use crate::image::{Edge, EdgeCode, instr_count};
+use crate::image::instr_count;
+use crate::opcode::push_instr;
 use crate::reading::fields::{read_sort, read_u32, read_u32_up_to};
-use crate::reading::items::{InTurn, read_ascending, read_in_turn, read_items, read_numbers};
+use crate::reading::instrs::read_instr;
+use crate::reading::items::{fill_ascending, fill_items, fill_numbers, room};
 use crate::reading::stop::{ReadFault, stop_at};
 use plan_text::Items;
 use std::alloc::Global;
 
+/// The lists of one edge, that of the edge before it overwritten.
+#[derive(Drop)]
+struct Lists {
+    outputs: Vec<u32>,
+    waits: Vec<u32>,
+    opcodes: Vec<u8>,
+    operands: Vec<u32>,
+}
+
+impl Lists {
+    ghost use Rattle.std.specs.Prelude.{◌≡◌};
+    ghost use Rattle.plan_image.specs.Columns.{edge_by, lent};
+
+    fn new(alloc: Global) -> Lists {
+        Lists {
+            outputs: Vec::new(alloc),
+            waits: Vec::new(alloc),
+            opcodes: Vec::new(alloc),
+            operands: Vec::new(alloc),
+        }
+    }
+
+    /// The edge with this head and these lists.
+    fn edge(&self, head: Head) -> EdgeRef<'_>
+        ensures { lent result ≡ edge_by head self.now.outputs.items self.now.waits.items self.now.opcodes.items self.now.operands.items }
+    {
+        let code = match head.body {
+            None => CodeRef::Own(InstrsRef {
+                opcodes: &self.opcodes,
+                operands: &self.operands,
+            }),
+            Some(body) => CodeRef::Shared(body, &self.operands),
+        };
+        EdgeRef {
+            sort: head.sort,
+            pool: head.pool,
+            rank: head.rank,
+            label: head.label,
+            outputs: &self.outputs,
+            waits: &self.waits,
+            code,
+        }
+    }
+}
+
+/// So many instructions, as opcodes and operands, in place of those that were there.
+fn fill_instrs<'a>(
+    count: usize,
+    opcodes: &mut Vec<u8>,
+    operands: &mut Vec<u32>,
+    bytes: &'a [u8],
+) -> Result<&'a [u8], ReadFault>
+    ensures instrs { Gives (λ rest. (instrs_by opcodes.new.items operands.new.items, rest.now)) result (items_at (λ (s : Unit {0}). instr_at) (λ s x. s) tt count bytes.now) }
+    ensures len { OnOk result (length opcodes.new.items ≡ count) }
+{
+    opcodes.clear();
+    operands.clear();
+    opcodes.reserve(room(count, bytes, 1))?;
+    operands.reserve(room(count, bytes, 1))?;
+    let mut rest = bytes;
+    for _ in 0..count {
+        let (instr, after) = read_instr(rest)?;
+        push_instr(opcodes, operands, instr)?;
+        rest = after;
+    }
+    Ok(rest)
+}
+
 /// Instructions that stand in the edge itself.
 #[tactic(auto, unfolding(crate::specs::Reading::own_code_at))]
-pub(crate) fn read_own_code(
-    alloc: Global,
+fn read_own_code<'a>(
     used: u64,
-    bytes: &[u8],
-) -> Result<(EdgeCode, &[u8]), ReadFault>
+    opcodes: &mut Vec<u8>,
+    operands: &mut Vec<u32>,
+    bytes: &'a [u8],
+) -> Result<&'a [u8], ReadFault>
     requires { used ≤ 2 ^ 24 }
-    ensures code { Gives (λ x. (x.0, x.1.now)) result (own_code_at used bytes.now) }
-    ensures most { IfOk result (λ x. used + length (instrs_of None x.0) ≤ 2 ^ 24) }
+    ensures code { Gives (λ rest. (code_by None opcodes.new.items operands.new.items, rest.now)) result (own_code_at used bytes.now) }
+    ensures most { OnOk result (used + length opcodes.new.items ≤ 2 ^ 24) }
 {
     let most = 16_777_216 - used as u32;
     let (count, rest) = read_u32_up_to(most, bytes)?;
-    let (instrs, rest) = read_items(alloc, count as usize, rest)?;
-    Ok((EdgeCode::Own(instrs), rest))
+    fill_instrs(count as usize, opcodes, operands, rest)
 }
 
 /// The numbers for the open instructions of a body.
-pub(crate) fn read_operands<'a>(
+fn read_operands<'a>(
     alloc: Global,
     used: u64,
     number: u32,
     len: usize,
     count: usize,
+    operands: &mut Vec<u32>,
     bytes: &[u8],
     rest: &'a [u8],
-) -> Result<(EdgeCode, &'a [u8]), ReadFault>
+) -> Result<(u32, &'a [u8]), ReadFault>
     requires { used ≤ 2 ^ 26 }
-    ensures code { Gives (λ x. (x.0, x.1.now)) result (numbers_for used number len count bytes.now rest.now) }
-    ensures most { IfOk result (λ x. used + len ≤ 2 ^ 26) }
-    ensures number { IfOk result (λ x. IsShared number x.0) }
+    ensures code { Gives (λ x. (code_by (Some x.0) [] operands.new.items, x.1.now)) result (numbers_for used number len count bytes.now rest.now) }
+    ensures most { OnOk result (used + len ≤ 2 ^ 26) }
+    ensures number { IfOk result (λ x. x.0 ≡ number) }
 {
     let left = 67_108_864 - used;
     if left < len as u64 {
         return Err(stop_at(Cause::Limit, bytes));
     }
-    let (numbers, rest) = read_items(alloc, count, rest)?;
-    Ok((EdgeCode::Shared(number, numbers), rest))
+    let rest = fill_items(alloc, count, operands, rest)?;
+    Ok((number, rest))
 }
 
 /// The number of a body, and the numbers for its open instructions.
 #[tactic(auto, unfolding(crate::specs::Reading::shared_code_at))]
-pub(crate) fn read_shared_code<'a>(
+fn read_shared_code<'a>(
     alloc: Global,
     bodies: &[Body],
     used: u64,
+    operands: &mut Vec<u32>,
     bytes: &'a [u8],
-) -> Result<(EdgeCode, &'a [u8]), ReadFault>
+) -> Result<(u32, &'a [u8]), ReadFault>
     requires { used ≤ 2 ^ 26 }
-    ensures code { Gives (λ x. (x.0, x.1.now)) result (shared_code_at bodies.now used bytes.now) }
-    ensures most { IfOk result (λ x. used + length (instrs_of (Some bodies.now) x.0) ≤ 2 ^ 26) }
+    ensures code { Gives (λ x. (code_by (Some x.0) [] operands.new.items, x.1.now)) result (shared_code_at bodies.now used bytes.now) }
+    ensures most { IfOk result (λ x. used + length (body (Some bodies.now) x.0) ≤ 2 ^ 26) }
 {
     let (number, rest) = read_u32(bytes)?;
     match bodies.get(number as usize) {
@@ -75,6 +150,7 @@ pub(crate) fn read_shared_code<'a>(
             number,
             body.len(),
             body.open_count(),
+            operands,
             bytes,
             rest,
         ),
@@ -82,98 +158,101 @@ pub(crate) fn read_shared_code<'a>(
 }
 
 /// The code of an edge, as the version says.
-pub(crate) fn read_code<'a>(
+fn read_code<'a>(
     alloc: Global,
     bodies: &Option<Items<Body>>,
     used: u64,
+    opcodes: &mut Vec<u8>,
+    operands: &mut Vec<u32>,
     bytes: &'a [u8],
-) -> Result<(EdgeCode, &'a [u8]), ReadFault>
+) -> Result<(Option<u32>, &'a [u8]), ReadFault>
     requires { used ≤ most_code bodies.now }
-    ensures code { Gives (λ x. (x.0, x.1.now)) result (code_at bodies.now used bytes.now) }
-    ensures most { IfOk result (λ x. used + length (instrs_of bodies.now x.0) ≤ most_code bodies.now) }
+    ensures code { Gives (λ x. (code_by x.0 opcodes.new.items operands.new.items, x.1.now)) result (code_at bodies.now used bytes.now) }
+    ensures most { IfOk result (λ x. used + length (instrs_of bodies.now (code_by x.0 opcodes.new.items operands.new.items)) ≤ most_code bodies.now) }
 {
     match bodies {
-        None => read_own_code(alloc, used, bytes),
-        Some(bodies) => read_shared_code(alloc, bodies.as_slice(), used, bytes),
+        None => {
+            let rest = read_own_code(used, opcodes, operands, bytes)?;
+            Ok((None, rest))
+        }
+        Some(bodies) => {
+            let (body, rest) = read_shared_code(alloc, bodies.as_slice(), used, operands, bytes)?;
+            Ok((Some(body), rest))
+        }
     }
 }
 
 #[tactic(auto, unfolding(crate::specs::Reading::edge_at))]
-pub(crate) fn read_edge<'a>(
+fn read_edge<'a>(
     alloc: Global,
     bodies: &Option<Items<Body>>,
     used: u64,
+    lists: &mut Lists,
     bytes: &'a [u8],
-) -> Result<(Edge, &'a [u8]), ReadFault>
+) -> Result<(Head, &'a [u8]), ReadFault>
     requires { used ≤ most_code bodies.now }
-    ensures edge { Gives (λ x. (x.0, x.1.now)) result (edge_at bodies.now used bytes.now) }
-    ensures most { IfOk result (λ x. used + length (instrs_of bodies.now x.0.code) ≤ most_code bodies.now) }
+    ensures edge { Gives (λ x. (edge_by x.0 lists.new.outputs.items lists.new.waits.items lists.new.opcodes.items lists.new.operands.items, x.1.now)) result (edge_at bodies.now used bytes.now) }
+    ensures most { IfOk result (λ x. used + length (instrs_of bodies.now (code_by x.0.body lists.new.opcodes.items lists.new.operands.items)) ≤ most_code bodies.now) }
 {
     let (sort, rest) = read_sort(bytes)?;
     let (pool, rest) = read_u32(rest)?;
     let (rank, rest) = read_u32(rest)?;
     let (label, rest) = read_u32(rest)?;
-    let (outputs, rest) = read_numbers(alloc, rest)?;
-    let (waits, rest) = read_ascending(alloc, rest)?;
-    let (code, rest) = read_code(alloc, bodies, used, rest)?;
+    let rest = fill_numbers(alloc, &mut lists.outputs, rest)?;
+    let rest = fill_ascending(alloc, &mut lists.waits, rest)?;
+    let (body, rest) = read_code(
+        alloc,
+        bodies,
+        used,
+        &mut lists.opcodes,
+        &mut lists.operands,
+        rest,
+    )?;
     let pool = pool.checked_sub(1);
     Ok((
-        Edge {
+        Head {
             sort,
             pool,
             rank,
             label,
-            outputs,
-            waits,
-            code,
+            body,
         },
         rest,
     ))
 }
 
-/// Edges, whose code may stand in these bodies.
-#[derive(Drop)]
-pub(crate) struct Edges {
-    pub bodies: Option<Items<Body>>,
-}
-
-impl InTurn for Edges {
-    ghost use Rattle.std.specs.Prelude.{◌+◌, ◌^◌, length};
-    ghost use Rattle.plan_image.specs.Spelling.{most_code};
-    ghost use Rattle.plan_image.specs.Reading.{edge_at, used_after};
-
-    type Item = Edge;
-
-    ghost item_at = { λ r. edge_at r.bodies };
-
-    ghost next = { λ r. used_after r.bodies };
-
-    ghost most = { λ r. most_code r.bodies };
-
-    fn shortest(&self) -> usize {
-        25
+/// So many edges, whose code may stand in these bodies.
+fn read_each_edge<'a>(
+    alloc: Global,
+    bodies: &Option<Items<Body>>,
+    count: u32,
+    bytes: &'a [u8],
+) -> Result<(Edges, &'a [u8]), ReadFault>
+    ensures { Gives (λ x. (x.0, x.1.now)) result (items_at (edge_at bodies.now) (used_after bodies.now) 0 count bytes.now) }
+{
+    let mut edges = Edges::new(alloc);
+    edges.reserve(room(count as usize, bytes, 25))?;
+    let mut lists = Lists::new(alloc);
+    let mut rest = bytes;
+    let mut used = 0u64;
+    for _ in 0..count {
+        let (head, after) = read_edge(alloc, bodies, used, &mut lists, rest)?;
+        let edge = lists.edge(head);
+        edges.push_ref(edge)?;
+        used += instr_count(bodies, edge.code) as u64;
+        rest = after;
     }
-
-    fn read<'a>(
-        &self,
-        alloc: Global,
-        before: u64,
-        bytes: &'a [u8],
-    ) -> Result<(Edge, u64, &'a [u8]), ReadFault> {
-        let (edge, rest) = read_edge(alloc, &self.bodies, before, bytes)?;
-        let next = before + instr_count(&self.bodies, &edge.code) as u64;
-        Ok((edge, next, rest))
-    }
+    Ok((edges, rest))
 }
 
 #[tactic(auto, unfolding(crate::specs::Reading::edges_at))]
 pub(crate) fn read_edges<'a>(
     alloc: Global,
-    reader: &Edges,
+    bodies: &Option<Items<Body>>,
     bytes: &'a [u8],
-) -> Result<(Items<Edge>, &'a [u8]), ReadFault>
-    ensures { Gives (λ x. (x.0, x.1.now)) result (edges_at reader.now.bodies bytes.now) }
+) -> Result<(Edges, &'a [u8]), ReadFault>
+    ensures { Gives (λ x. (x.0, x.1.now)) result (edges_at bodies.now bytes.now) }
 {
     let (count, rest) = read_u32_up_to(1_048_576, bytes)?;
-    read_in_turn(alloc, reader, 0, count, rest)
+    read_each_edge(alloc, bodies, count, rest)
 }

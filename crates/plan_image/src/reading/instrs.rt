@@ -60,20 +60,6 @@ pub(crate) fn read_operand(opcode: u8, rest: &[u8]) -> Result<(Instr, &[u8]), Re
     Ok((instr, rest))
 }
 
-impl Spelled for Instr {
-    ghost use Rattle.plan_image.specs.Reading.{instr_at};
-
-    ghost read_at = { instr_at };
-
-    fn shortest() -> usize {
-        1
-    }
-
-    fn read(_alloc: Global, bytes: &[u8]) -> Result<(Instr, &[u8]), ReadFault> {
-        read_instr(bytes)
-    }
-}
-
 #[tactic(auto, unfolding(crate::specs::Reading::body_instr_at))]
 pub(crate) fn read_body_instr(bytes: &[u8]) -> Result<(BodyInstr, &[u8]), ReadFault>
     ensures { Gives (λ x. (x.0, x.1.now)) result (body_instr_at bytes.now) }

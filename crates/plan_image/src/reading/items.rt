@@ -1,7 +1,7 @@
 //! Items of one kind, read one after the other.
 
 ghost use Rattle.plan_image.specs.Reading.{Gives, items_at, table_at, ascending_at, numbers_at};
-ghost use Rattle.std.specs.Prelude.{◌≡◌, ◌+◌, ◌^◌, ◌<◌, ◌≤◌, length, IfOk};
+ghost use Rattle.std.specs.Prelude.{◌≡◌, ◌+◌, ◌^◌, ◌<◌, ◌≤◌, length, IfOk, OnOk};
 
 use crate::fault::Cause;
 use crate::reading::fields::{read_u32, read_u32_up_to};
@@ -94,6 +94,27 @@ pub(crate) fn room(count: usize, rest: &[u8], shortest: usize) -> usize
     count.min(rest.len() / shortest)
 }
 
+/// So many items, in place of those that were there.
+pub(crate) fn fill_items<'a, T: Spelled>(
+    alloc: Global,
+    count: usize,
+    items: &mut Vec<T>,
+    bytes: &'a [u8],
+) -> Result<&'a [u8], ReadFault>
+    ensures items { Gives (λ rest. (items.new.items, rest.now)) result (items_at (λ (s : Unit {0}). T.read_at) (λ s x. s) tt count bytes.now) }
+    ensures len { OnOk result (length items.new.items ≡ count) }
+{
+    items.clear();
+    items.reserve(room(count, bytes, T::shortest()))?;
+    let mut rest = bytes;
+    for _ in 0..count {
+        let (item, after) = T::read(alloc, rest)?;
+        items.push(item)?;
+        rest = after;
+    }
+    Ok(rest)
+}
+
 pub(crate) fn read_items<T: Spelled>(
     alloc: Global,
     count: usize,
@@ -102,14 +123,34 @@ pub(crate) fn read_items<T: Spelled>(
     ensures items { Gives (λ x. (x.0, x.1.now)) result (items_at (λ (s : Unit {0}). T.read_at) (λ s x. s) tt count bytes.now) }
     ensures len { IfOk result (λ x. length x.0 ≡ count) }
 {
-    let mut items = Vec::with_capacity(alloc, room(count, bytes, T::shortest()))?;
+    let mut items = Vec::new(alloc);
+    let rest = fill_items(alloc, count, &mut items, bytes)?;
+    Ok((Items::new(items), rest))
+}
+
+/// So many items in turn, in place of those that were there.
+pub(crate) fn fill_in_turn<'a, R: InTurn>(
+    alloc: Global,
+    reader: &R,
+    start: u64,
+    count: u32,
+    items: &mut Vec<R::Item>,
+    bytes: &'a [u8],
+) -> Result<&'a [u8], ReadFault>
+    requires { start ≤ R.most reader.now }
+    ensures { Gives (λ rest. (items.new.items, rest.now)) result (items_at (R.item_at reader.now) (R.next reader.now) start count bytes.now) }
+{
+    items.clear();
+    items.reserve(room(count as usize, bytes, reader.shortest()))?;
     let mut rest = bytes;
+    let mut before = start;
     for _ in 0..count {
-        let (item, after) = T::read(alloc, rest)?;
+        let (item, next, after) = reader.read(alloc, before, rest)?;
         items.push(item)?;
         rest = after;
+        before = next;
     }
-    Ok((Items::new(items), rest))
+    Ok(rest)
 }
 
 pub(crate) fn read_in_turn<'a, R: InTurn>(
@@ -122,15 +163,8 @@ pub(crate) fn read_in_turn<'a, R: InTurn>(
     requires { start ≤ R.most reader.now }
     ensures { Gives (λ x. (x.0, x.1.now)) result (items_at (R.item_at reader.now) (R.next reader.now) start count bytes.now) }
 {
-    let mut items = Vec::with_capacity(alloc, room(count as usize, bytes, reader.shortest()))?;
-    let mut rest = bytes;
-    let mut before = start;
-    for _ in 0..count {
-        let (item, next, after) = reader.read(alloc, before, rest)?;
-        items.push(item)?;
-        rest = after;
-        before = next;
-    }
+    let mut items = Vec::new(alloc);
+    let rest = fill_in_turn(alloc, reader, start, count, &mut items, bytes)?;
     Ok((Items::new(items), rest))
 }
 
@@ -161,19 +195,36 @@ impl Spelled for u32 {
     }
 }
 
-/// Any numbers.
+/// Any numbers, in place of those that were there.
 #[tactic(auto, unfolding(crate::specs::Reading::numbers_at))]
-pub(crate) fn read_numbers(alloc: Global, bytes: &[u8]) -> Result<(Items<u32>, &[u8]), ReadFault>
-    ensures { Gives (λ x. (x.0, x.1.now)) result (numbers_at bytes.now) }
+pub(crate) fn fill_numbers<'a>(
+    alloc: Global,
+    numbers: &mut Vec<u32>,
+    bytes: &'a [u8],
+) -> Result<&'a [u8], ReadFault>
+    ensures { Gives (λ rest. (numbers.new.items, rest.now)) result (numbers_at bytes.now) }
 {
     let (count, rest) = read_u32(bytes)?;
-    read_items(alloc, count as usize, rest)
+    fill_items(alloc, count as usize, numbers, rest)
 }
 
+/// Numbers that ascend, in place of those that were there.
 #[tactic(auto, unfolding(crate::specs::Reading::ascending_at))]
+pub(crate) fn fill_ascending<'a>(
+    alloc: Global,
+    numbers: &mut Vec<u32>,
+    bytes: &'a [u8],
+) -> Result<&'a [u8], ReadFault>
+    ensures { Gives (λ rest. (numbers.new.items, rest.now)) result (ascending_at bytes.now) }
+{
+    let (count, rest) = read_u32(bytes)?;
+    fill_in_turn(alloc, &Ascending, 0, count, numbers, rest)
+}
+
 pub(crate) fn read_ascending(alloc: Global, bytes: &[u8]) -> Result<(Items<u32>, &[u8]), ReadFault>
     ensures { Gives (λ x. (x.0, x.1.now)) result (ascending_at bytes.now) }
 {
-    let (count, rest) = read_u32(bytes)?;
-    read_in_turn(alloc, &Ascending, 0, count, rest)
+    let mut numbers = Vec::new(alloc);
+    let rest = fill_ascending(alloc, &mut numbers, bytes)?;
+    Ok((Items::new(numbers), rest))
 }

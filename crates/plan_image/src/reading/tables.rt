@@ -5,7 +5,7 @@ ghost use Rattle.plan_image.specs.Reading.{Gives, pool_at, version_at, head_at, 
 use crate::fault::Cause;
 use crate::image::{Parts, Pool, Slot, Version};
 use crate::reading::bodies::read_bodies;
-use crate::reading::edges::{Edges, read_edges};
+use crate::reading::edges::read_edges;
 use crate::reading::fields::{
     read_byte, read_bytes, read_kind, read_u16, read_u32, read_u32_up_to,
 };
@@ -96,8 +96,7 @@ pub(crate) fn read_parts(alloc: Global, bytes: &[u8]) -> Result<(Parts, &[u8]), 
     let (pools, rest) = read_table(alloc, 4096, rest)?;
     let (slots, rest) = read_table(alloc, 16_777_216, rest)?;
     let (bodies, rest) = read_bodies(alloc, version, rest)?;
-    let reader = Edges { bodies };
-    let (edges, rest) = read_edges(alloc, &reader, rest)?;
+    let (edges, rest) = read_edges(alloc, &bodies, rest)?;
     let (defaults, rest) = read_ascending(alloc, rest)?;
     Ok((
         Parts {
@@ -105,7 +104,7 @@ pub(crate) fn read_parts(alloc: Global, bytes: &[u8]) -> Result<(Parts, &[u8]), 
             files,
             pools,
             slots,
-            bodies: reader.bodies,
+            bodies,
             edges,
             defaults,
         },

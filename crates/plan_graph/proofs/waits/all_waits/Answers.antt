@@ -17,7 +17,7 @@ loop-edge-preserved c =
     let number : c.loop-edge.number ≡ i = inv.0 in
     let here : slice_get edges c.loop-edge.number ≡ Some e = ap (slice_get edges) number ∙ slice_get_read edges (length edges) i e refl lt c.edge-item.is in
     let is = row_is (waits_of edges e) row (c.in_ok-waits_of.ensures edges c.requires.fits here) in
-    let pushed : c.push.new.self ≡ c.loop-edge.waits ++ row ∷ [] = c.in_ok-push.ensures ∙ ap (λ (r : List ℕ). c.loop-edge.waits ++ r ∷ []) c.deref.ensures.value in (
+    let pushed : c.push.new.self ≡ c.loop-edge.waits ++ row ∷ [] = c.in_ok-push.ensures.more ∙ ap (λ (r : List ℕ). c.loop-edge.waits ++ r ∷ []) c.deref.ensures.value in (
       omega (arith, number),
       subst (λ (x : List (List ℕ)). x ++ map (waits_of edges) (drop (i + 1) edges) ≡ all_waits edges) (sym pushed) (next_waits edges i e c.loop-edge.waits row (all_waits edges) lt c.edge-item.is is inv.1),
     )

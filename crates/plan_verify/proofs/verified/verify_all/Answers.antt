@@ -10,7 +10,7 @@ use Rattle.plan_verify.proofs.verified.verify_all.Goals as goal
 pub returns-in-Err-clause-err : goal.returns-in-Err-clause-err
 returns-in-Err-clause-err c =
     let lt = c.loop-number-test.true in
-    let long : length c.as_slice-entry-items.result.now ≡ length c.args.image.now.edges = ap length c.as_slice-entry-items.ensures ∙ ap (λ (p : Parts). length p.edges) c.parts-parts.ensures.tables in
+    let long : c.len-number-end.result ≡ length c.args.image.now.edges = c.len-number-end.ensures ∙ ap (λ (p : Parts). length p.edges) c.parts-parts.ensures.tables in
     edge_fault c.args.image.now c.loop-number.number c.in-Err.fault (omega (arith, lt, long)) c.loop-number.invariant.shaped c.in-Err.ensures.err
 
 pub loop-number-preserved : goal.loop-number-preserved
@@ -29,5 +29,5 @@ loop-number-preserved c =
 pub returns-clause-err : goal.returns-clause-err
 returns-clause-err c =
     let done = c.loop-number-test.false in
-    let long : length c.as_slice-entry-items.result.now ≡ length c.args.image.now.edges = ap length c.as_slice-entry-items.ensures ∙ ap (λ (p : Parts). length p.edges) c.parts-parts.ensures.tables in
+    let long : c.len-number-end.result ≡ length c.args.image.now.edges = c.len-number-end.ensures ∙ ap (λ (p : Parts). length p.edges) c.parts-parts.ensures.tables in
     all_fail (λ d lt. c.loop-number.invariant.shaped d (omega (arith, lt, done, long))) (ap image_refusal (sym c.parts-parts.ensures.tables) ∙ sym c.in-Some.ensures)

@@ -12,7 +12,7 @@ returns-in_err-row g c =
 pub loop-preserved : goal.loop-preserved
 loop-preserved g c =
     let item = g.F.TextField.read_at in
-    rw c.in_ok-push.ensures (goes_on (λ (s : Unit {0}). item) (λ s x. s) tt c.loop.rows c.args.count c.loop.counter c.loop.rest.now c.in_ok-row.row.now c.in_ok-row.after.now (items_at (λ (s : Unit {0}). item) (λ s x. s) tt c.args.count c.args.bytes.now) c.loop-test.true c.in_ok-row.ensures c.loop.invariant)
+    rw c.in_ok-push.ensures.more (goes_on (λ (s : Unit {0}). item) (λ s x. s) tt c.loop.rows c.args.count c.loop.counter c.loop.rest.now c.in_ok-row.row.now c.in_ok-row.after.now (items_at (λ (s : Unit {0}). item) (λ s x. s) tt c.args.count c.args.bytes.now) c.loop-test.true c.in_ok-row.ensures c.loop.invariant)
 
 pub returns : goal.returns
 returns g c =

@@ -3,7 +3,7 @@ use Rattle.std.proofs.lemmas.List.{length-append}
 use Rattle.std.proofs.lemmas.Result.{err_from_is_err_and}
 use Rattle.plan_image.specs.Reading.{items_at}
 use Rattle.plan_image.proofs.LoopLemmas.{goes_on, ends, is_done}
-use Rattle.plan_image.proofs.reading.items.read_items.Goals as goal
+use Rattle.plan_image.proofs.reading.items.fill_items.Goals as goal
 
 pub returns-in_err-item-clause-items : goal.returns-in_err-item-clause-items
 returns-in_err-item-clause-items g c =
@@ -22,4 +22,4 @@ loop-preserved g c =
 pub returns-clause-items : goal.returns-clause-items
 returns-clause-items g c =
     let item = g.T.Spelled.read_at in
-    rw c.new.ensures (is_done (λ (s : Unit {0}). item) (λ s x. s) tt c.loop.items.items c.args.count c.loop.counter c.loop.rest.now (items_at (λ (s : Unit {0}). item) (λ s x. s) tt c.args.count c.args.bytes.now) c.loop-test.false c.loop.invariant.read)
+    (is_done (λ (s : Unit {0}). item) (λ s x. s) tt c.loop.items.items c.args.count c.loop.counter c.loop.rest.now (items_at (λ (s : Unit {0}). item) (λ s x. s) tt c.args.count c.args.bytes.now) c.loop-test.false c.loop.invariant.read)

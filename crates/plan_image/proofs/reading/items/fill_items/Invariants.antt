@@ -1,7 +1,7 @@
 use Rattle.std.proofs.Common.{◌≡◌, ◌-◌, length}
 use Rattle.plan_image.specs.Reading.{items_at}
 use Rattle.plan_image.proofs.LoopLemmas.{with_front}
-use Rattle.plan_image.proofs.reading.items.read_items.Given as goal
+use Rattle.plan_image.proofs.reading.items.fill_items.Given as goal
 
 abbrev pub invariant-loop : goal.invariant-loop
 invariant-loop g l =

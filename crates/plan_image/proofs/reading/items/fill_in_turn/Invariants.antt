@@ -1,7 +1,7 @@
 use Rattle.std.proofs.Common.{◌≡◌, ◌-◌, ◌≤◌}
 use Rattle.plan_image.specs.Reading.{items_at}
 use Rattle.plan_image.proofs.LoopLemmas.{with_front}
-use Rattle.plan_image.proofs.reading.items.read_in_turn.Given as goal
+use Rattle.plan_image.proofs.reading.items.fill_in_turn.Given as goal
 
 abbrev pub invariant-loop : goal.invariant-loop
 invariant-loop g l =

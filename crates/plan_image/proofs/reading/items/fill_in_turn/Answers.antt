@@ -1,7 +1,7 @@
 use Rattle.std.proofs.lemmas.Result.{err_from_is_err_and}
 use Rattle.plan_image.specs.Reading.{items_at}
 use Rattle.plan_image.proofs.LoopLemmas.{goes_on, ends, is_done}
-use Rattle.plan_image.proofs.reading.items.read_in_turn.Goals as goal
+use Rattle.plan_image.proofs.reading.items.fill_in_turn.Goals as goal
 
 pub returns-in_err-item : goal.returns-in_err-item
 returns-in_err-item g c =
@@ -23,4 +23,4 @@ pub returns : goal.returns
 returns g c =
     let item = g.R.InTurn.item_at c.args.reader.now in
     let next = g.R.InTurn.next c.args.reader.now in
-    rw c.new.ensures (is_done item next c.loop.before c.loop.items.items c.args.count c.loop.counter c.loop.rest.now (items_at item next c.args.start c.args.count c.args.bytes.now) c.loop-test.false c.loop.invariant.read)
+    (is_done item next c.loop.before c.loop.items.items c.args.count c.loop.counter c.loop.rest.now (items_at item next c.args.start c.args.count c.args.bytes.now) c.loop-test.false c.loop.invariant.read)

@@ -1,0 +1,94 @@
+-- Edges and instructions in columns: what stands at one place of each column makes one edge or one instruction.
+use Rattle.std.specs.Prelude.{◌≡◌, ◌<◌, ℕ, ◌+◌, List, [], ◌∷◌, Option, Some, None, get_or, ◌==◌, if◌then◌else◌}
+use Rattle.plan_image.specs.declared.instr.Instr.{Instr}
+use Rattle.plan_image.specs.declared.instr.Instr.TheVariants as op
+use Rattle.plan_image.specs.declared.image.Edge.{Edge}
+use Rattle.plan_image.specs.declared.image.EdgeCode.{EdgeCode}
+use Rattle.plan_image.specs.declared.image.EdgeCode.TheVariants as code_form
+use Rattle.plan_image.specs.declared.edge_ref.Head.{Head}
+use Rattle.plan_image.specs.declared.edge_ref.InstrsRef.{InstrsRef}
+use Rattle.plan_image.specs.declared.edge_ref.CodeRef.{CodeRef}
+use Rattle.plan_image.specs.declared.edge_ref.CodeRef.TheVariants as lent_form
+use Rattle.plan_image.specs.declared.edge_ref.EdgeRef.{EdgeRef}
+
+-- f of each item and its place, where the first one stands at n
+abbrev pub by_place : {X Y : Type 0} → (ℕ → X → Y) → ℕ → List X → List Y
+by_place f n [] = []
+by_place f n (x ∷ xs) = f n x ∷ by_place f (n + 1) xs
+
+-- ---- instructions
+
+-- the instruction of an opcode, with this operand; of Flag it is 1 for true
+abbrev pub instr_by : ℕ → ℕ → Instr
+instr_by o n =
+    if o == 1 then op.Stat n
+    else if o == 2 then op.Need n
+    else if o == 3 then op.Load n
+    else if o == 4 then op.Store n
+    else if o == 5 then op.Older
+    else if o == 6 then op.Newer
+    else if o == 7 then op.Before
+    else if o == 8 then op.Same
+    else if o == 9 then op.IsMissing
+    else if o == 10 then op.Or
+    else if o == 11 then op.Not
+    else if o == 12 then op.Flag (n == 1)
+    else if o == 13 then op.Zero
+    else if o == 14 then op.NoPaths
+    else if o == 15 then op.Text n
+    else if o == 16 then op.Join
+    else if o == 17 then op.Equal
+    else if o == 18 then op.Recall
+    else if o == 19 then op.Sweep
+    else if o == 20 then op.Jump n
+    else if o == 21 then op.JumpIf n
+    else if o == 22 then op.Take
+    else if o == 23 then op.Release
+    else if o == 24 then op.Run
+    else if o == 25 then op.Deps
+    else if o == 26 then op.Keep
+    else if o == 27 then op.Drop
+    else if o == 28 then op.Swap
+    else op.End
+
+-- the instruction of an opcode at this place, where these are the operands
+abbrev pub instr_with : List ℕ → ℕ → ℕ → Instr
+instr_with ns place o = instr_by o (get_or ns place 0)
+
+-- the instructions of two columns
+abbrev pub instrs_by : List ℕ → List ℕ → List Instr
+instrs_by os ns = by_place (instr_with ns) 0 os
+
+-- ---- edges
+
+-- with a body its number and the operands, else its own instructions
+abbrev pub code_by : Option ℕ → List ℕ → List ℕ → EdgeCode
+code_by None os ns = code_form.Own (instrs_by os ns)
+code_by (Some b) os ns = code_form.Shared b ns
+
+abbrev pub edge_by : Head → List ℕ → List ℕ → List ℕ → List ℕ → Edge
+edge_by h outputs waits os ns =
+    record { sort = h.sort; pool = h.pool; rank = h.rank; label = h.label; outputs = outputs; waits = waits; code = code_by h.body os ns }
+
+-- the edge of this number, where these are the columns
+abbrev pub edge_with : List (List ℕ) → List (List ℕ) → List (List ℕ) → List (List ℕ) → ℕ → Head → Edge
+edge_with outputs waits opcodes operands e h =
+    edge_by h (get_or outputs e []) (get_or waits e []) (get_or opcodes e []) (get_or operands e [])
+
+-- the first n rows are the same
+abbrev pub AreSameBelow : {X : Type 0} → ℕ → List (List X) → List (List X) → Type 0
+AreSameBelow n xs ys = (i : ℕ) → i < n → get_or ys i [] ≡ get_or xs i []
+
+-- ---- edges that are lent
+
+abbrev pub lent_instrs : InstrsRef → List Instr
+lent_instrs is = instrs_by is.opcodes.now is.operands.now
+
+abbrev pub lent_code : CodeRef → EdgeCode
+lent_code (lent_form.Own is) = code_form.Own (lent_instrs is)
+lent_code (lent_form.Shared b ns) = code_form.Shared b ns.now
+
+-- the edge that a lent one shows
+abbrev pub lent : EdgeRef → Edge
+lent x =
+    record { sort = x.sort; pool = x.pool; rank = x.rank; label = x.label; outputs = x.outputs.now; waits = x.waits.now; code = lent_code x.code }
