@@ -31,3 +31,4 @@ mod Lengths
 mod TextLemmas
 mod AscendLemmas
 mod LookupLemmas
+mod BodyTableLemmas

@@ -86,3 +86,13 @@ module _ {A : Type 0} (same : A → A → Bool) (decides : Decides same) where
   pub items_join : (xs ys zs : List A) → with_items same xs (ys ++ zs) ≡ with_items same (with_items same xs ys) zs
   items_join xs [] zs = refl
   items_join xs (y ∷ ys) zs = items_join (with_item same xs y) ys zs
+
+  -- ---- an item keeps its number when it is put
+
+  number_last : (xs : List A) (x : A) → number same x (xs ++ x ∷ []) ≡ number same x xs
+  number_last [] x = ap (λ (b : Bool). if b then zero else suc zero) (decides.self x)
+  number_last (y ∷ xs) x =
+      elim (same x y) as (λ b. (if b then zero else suc (number same x (xs ++ x ∷ []))) ≡ (if b then zero else suc (number same x xs))) [ true ↦ refl | false ↦ ap suc (number_last xs x) ]
+
+  pub number_put : (xs : List A) (x : A) → number same x xs ≡ number same x (with_item same xs x)
+  number_put xs x = elim (has same xs x) as (λ b. number same x xs ≡ number same x (if b then xs else xs ++ x ∷ [])) [ true ↦ refl | false ↦ sym (number_last xs x) ]

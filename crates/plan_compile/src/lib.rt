@@ -10,6 +10,7 @@
 //! docs/COMPILER.md has it rule by rule.
 #![tactic(auto)]
 
+mod bodies;
 mod build;
 mod command;
 mod emitting;
