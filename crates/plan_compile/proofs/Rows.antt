@@ -18,7 +18,7 @@ use Rattle.plan_compile.specs.declared.wiring.Output.{Output}
 use Rattle.plan_compile.specs.declared.wiring.CommandWiring.{CommandWiring}
 use Rattle.plan_compile.specs.declared.wiring.GatherWiring.{GatherWiring}
 use Rattle.plan_compile.specs.Talk.{Over, Fail, Follows}
-use Rattle.plan_compile.specs.Rule.{Path, Command, Source, runs, does, does_phony}
+use Rattle.plan_compile.specs.Rule.{Path, Command, SourceFile, runs, does, does_phony}
 use Rattle.plan_compile.specs.Rule.{Made as MadeBy}
 use Rattle.plan_compile.specs.Emit.{command_code, alone_code, gather_code}
 use Rattle.plan_compile.specs.declared.wiring.Wiring.TheVariants as wiring
@@ -39,9 +39,9 @@ mid : Path
 mid = codes "mid"
 
 gen : Command
-gen = record { named = Source 0 src ∷ []; order_only = []; outputs = mid ∷ []; command = codes "sh gen.sh"; depfile = []; restat = true; generator = false }
+gen = record { named = SourceFile 0 src ∷ []; order_only = []; outputs = mid ∷ []; command = codes "sh gen.sh"; depfile = []; restat = true; generator = false }
 
--- it runs and leaves the old stamp: the output is unchanged, and the basis is the source's stamp
+-- it runs and leaves the old stamp: the output is unchanged, and the basis is the source file's stamp
 gen_runs : Follows (does none_read gen)
     ((Stat src, StampIs 50) ∷ (Stat mid, StampIs 30) ∷ (Recall mid, Entry (codes "sh gen.sh") 20 []) ∷ (Run (codes "sh gen.sh") (mid ∷ []), Exit 0)
     ∷ (Keep mid (codes "sh gen.sh") 50 [], Kept) ∷ (Stat mid, StampIs 30) ∷ [])
@@ -62,7 +62,7 @@ chained_clean : Follows (does none_read chained) ((Stat (codes "out"), StampIs 4
 unfolding chained none_read
 chained_clean = (refl, (refl, refl))
 
--- a missing source ends the questions
+-- a missing source file ends the questions
 gen_fails : Follows (does none_read gen) ((Stat src, StampIs 0) ∷ []) (Fail (cause.MissingInput 0))
 unfolding gen none_read
 gen_fails = (refl, refl)
@@ -82,7 +82,7 @@ cc_command : List ℕ
 cc_command = codes "cc"
 
 compiles : Command
-compiles = record { named = Source 1 c_file ∷ []; order_only = []; outputs = object ∷ []; command = cc_command; depfile = codes "a.d"; restat = false; generator = false }
+compiles = record { named = SourceFile 1 c_file ∷ []; order_only = []; outputs = object ∷ []; command = cc_command; depfile = codes "a.d"; restat = false; generator = false }
 
 clean : Follows (does none_read compiles) ((Stat c_file, StampIs 5) ∷ (Stat object, StampIs 9) ∷ (Recall object, Entry cc_command 5 (header ∷ [])) ∷ (Stat header, StampIs 9) ∷ []) (Over false ((9, false) ∷ []))
 unfolding compiles cc_command none_read
@@ -113,7 +113,7 @@ path_later : Follows (does none_read compiles) ((Stat c_file, StampIs 5) ∷ (St
 unfolding compiles cc_command none_read
 path_later = (refl, (refl, (refl, (refl, refl))))
 
--- so is the source
+-- so is the source file
 source_later : Follows (does none_read compiles) ((Stat c_file, StampIs 10) ∷ (Stat object, StampIs 9) ∷ (Recall object, Entry cc_command 5 []) ∷ []) (runs none_read compiles (10 ∷ []) (9 ∷ []))
 unfolding compiles cc_command none_read
 source_later = (refl, (refl, (refl, refl)))
@@ -128,7 +128,7 @@ input_changed = (refl, (refl, refl))
 
 -- a generator looks at no command, and needs no entry
 generates : Command
-generates = record { named = Source 1 c_file ∷ []; order_only = []; outputs = object ∷ []; command = cc_command; depfile = []; restat = false; generator = true }
+generates = record { named = SourceFile 1 c_file ∷ []; order_only = []; outputs = object ∷ []; command = cc_command; depfile = []; restat = false; generator = true }
 
 generator_clean : Follows (does none_read generates) ((Stat c_file, StampIs 5) ∷ (Stat object, StampIs 9) ∷ (Recall object, Nothing) ∷ []) (Over false ((9, false) ∷ []))
 unfolding generates none_read
@@ -149,12 +149,12 @@ run_fails : Follows (runs none_read compiles (5 ∷ []) (0 ∷ [])) ((Run cc_com
 unfolding compiles cc_command none_read
 run_fails = (refl, refl)
 
--- ---- order-only inputs: what an edge makes isn't asked for, nor is a source that is named too
+-- ---- order-only inputs: what an edge makes isn't asked for, nor is a source file that is named too
 
 ordered : Command
 ordered = record {
-  named = Source 1 c_file ∷ [];
-  order_only = MadeBy 8 true ∷ Source 1 c_file ∷ Source 2 header ∷ [];
+  named = SourceFile 1 c_file ∷ [];
+  order_only = MadeBy 8 true ∷ SourceFile 1 c_file ∷ SourceFile 2 header ∷ [];
   outputs = object ∷ [];
   command = cc_command;
   depfile = [];
@@ -188,7 +188,7 @@ user_runs = (refl, (refl, (refl, (refl, (refl, refl)))))
 
 -- one with inputs is as they are, and asks for none of its outputs
 gathers_both : Command
-gathers_both = record { named = MadeBy 8 true ∷ Source 1 c_file ∷ []; order_only = []; outputs = codes "all" ∷ []; command = []; depfile = []; restat = false; generator = false }
+gathers_both = record { named = MadeBy 8 true ∷ SourceFile 1 c_file ∷ []; order_only = []; outputs = codes "all" ∷ []; command = []; depfile = []; restat = false; generator = false }
 
 gathered : Follows (does_phony gathers_both) ((Stat c_file, StampIs 5) ∷ []) (Over false ((8, true) ∷ []))
 unfolding gathers_both
@@ -204,7 +204,7 @@ ordered_gathers = refl
 
 -- ---- code
 
--- one source, one output, a depfile
+-- one source file, one output, a depfile
 compiled : CommandWiring
 compiled = record {
   named = File 1 ∷ [];
@@ -229,7 +229,7 @@ compiled_code : command_code compiled ≡
 unfolding compiled
 compiled_code = refl
 
--- two inputs of one maker, two outputs, an order-only source
+-- two inputs of one maker, two outputs, an order-only source file
 linked : CommandWiring
 linked = record {
   named = Made 0 1 ∷ Made 2 1 ∷ [];

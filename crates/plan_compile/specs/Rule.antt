@@ -8,9 +8,9 @@ use Rattle.plan_compile.specs.Talk.{Left, Talk, Ask, Over, Fail}
 abbrev pub Path : Type 0
 Path = List ℕ
 
--- an input: a source with its number and path, or what an edge makes, with that edge's stamp and changed flag
+-- an input: a source file with its number and path, or what an edge makes, with that edge's stamp and changed flag
 pub data Given : Type 0 where
-  Source : (file : ℕ) (path : Path) → Given
+  SourceFile : (file : ℕ) (path : Path) → Given
   Made : (stamp : ℕ) (changed : Bool) → Given
 
 pub record Command : Type 0 where
@@ -64,10 +64,10 @@ abbrev pub kept : Talk → Reply → Talk
 kept go Kept = go
 kept go _ = Fail RecordFault
 
--- the stamps of inputs: a source has to be there, what an edge makes isn't asked for
+-- the stamps of inputs: a source file has to be there, what an edge makes isn't asked for
 abbrev pub inputs : List Given → (List ℕ → Talk) → Talk
 inputs [] go = go []
-inputs (Source f path ∷ others) go = Ask (Stat path) (needed f (λ t. inputs others (λ ts. go (t ∷ ts))))
+inputs (SourceFile f path ∷ others) go = Ask (Stat path) (needed f (λ t. inputs others (λ ts. go (t ∷ ts))))
 inputs (Made t changed ∷ others) go = inputs others (λ ts. go (t ∷ ts))
 
 -- the stamps of files, 0 where one is missing
@@ -77,16 +77,16 @@ stamps (path ∷ others) go = Ask (Stat path) (stamped (λ t. stamps others (λ 
 
 -- ---- what is asked of the inputs
 
--- whether a source is among these inputs
+-- whether a source file is among these inputs
 abbrev pub is_among : ℕ → List Given → Bool
 is_among f [] = false
-is_among f (Source g path ∷ others) = (f == g) || is_among f others
+is_among f (SourceFile g path ∷ others) = (f == g) || is_among f others
 is_among f (Made t changed ∷ others) = is_among f others
 
--- the order-only inputs that are asked for: the sources that aren't named too
+-- the order-only inputs that are asked for: the source files that aren't named too
 abbrev pub asked : (named order_only : List Given) → List Given
 asked named [] = []
-asked named (Source f path ∷ others) = if is_among f named then asked named others else Source f path ∷ asked named others
+asked named (SourceFile f path ∷ others) = if is_among f named then asked named others else SourceFile f path ∷ asked named others
 asked named (Made t changed ∷ others) = asked named others
 
 -- ---- what is compared
@@ -113,16 +113,16 @@ some_missing (t ∷ ts) = (t == 0) || some_missing ts
 
 abbrev pub some_changed : List Given → Bool
 some_changed [] = false
-some_changed (Source f path ∷ others) = some_changed others
+some_changed (SourceFile f path ∷ others) = some_changed others
 some_changed (Made t changed ∷ others) = changed || some_changed others
 
 abbrev pub is_new : List ℕ → Option Recorded → Bool
 is_new command None = true
 is_new command (Some entry) = not (same_text entry.command command)
 
-abbrev pub mark : Bool → List ℕ → Option Recorded → ℕ
-mark true stamps (Some entry) = entry.basis
-mark _ stamps _ = least stamps
+abbrev pub baseline : Bool → List ℕ → Option Recorded → ℕ
+baseline true stamps (Some entry) = entry.basis
+baseline _ stamps _ = least stamps
 
 abbrev pub paths_in : Option Recorded → List Path
 paths_in (Some entry) = entry.paths
@@ -134,7 +134,7 @@ is_dirty c named old entry swept =
     || some_changed c.named
     || (not c.generator && is_new c.command entry)
     || some_missing swept
-    || nat_lt (mark c.restat old entry) (greatest (named ++ swept))
+    || nat_lt (baseline c.restat old entry) (greatest (named ++ swept))
 
 -- ---- a command edge
 
