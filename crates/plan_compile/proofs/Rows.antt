@@ -1,6 +1,6 @@
 -- The rule and the code, computed on worked examples.
-use Rattle.std.proofs.Common.{◌≡◌, ℕ, Bool, true, false, List, [], ◌∷◌, Some, None, refl, codes, subst, arith}
-use Rattle.std.specs.Prelude.{Ok, ◌||◌, ◌==◌}
+use Rattle.std.proofs.Common.{◌≡◌, ℕ, zero, suc, Bool, true, false, List, [], ◌∷◌, Option, Some, None, refl, codes, subst, arith}
+use Rattle.std.specs.Prelude.{Ok, ◌||◌, ◌==◌, slice_get}
 use Rattle.plan_image.specs.declared.instr.Kind.{Kind}
 use Rattle.plan_image.specs.declared.instr.Kind.TheVariants as kind
 use Rattle.plan_image.specs.declared.image.Sort.TheVariants as sort
@@ -12,17 +12,21 @@ use Rattle.plan_verify.specs.Shape.{table_refusal}
 use Rattle.plan_verify.specs.WellShaped.{IsShapedEdge}
 use Rattle.plan_image.specs.declared.instr.Instr.TheVariants as op
 use Rattle.plan_verify.specs.declared.value.Cause.TheVariants as cause
-use Rattle.plan_verify.specs.Turn.{Stat, Recall, Run, Deps, Keep, StampIs, Entry, Nothing, Exit, Bytes, Kept, Meaning}
+use Rattle.plan_verify.specs.declared.value.Value.{Value}
+use Rattle.plan_verify.specs.Tables.{lent_by}
+use Rattle.plan_verify.specs.Alone.{at_begin}
+use Rattle.plan_verify.specs.Sound.{AreTyped, AreLentSet}
+use Rattle.plan_verify.specs.Turn.{Slots, Stat, Recall, Run, Deps, Keep, StampIs, Entry, Nothing, Exit, Bytes, Kept, Meaning}
 use Rattle.plan_compile.specs.declared.wiring.Input.TheVariants.{File, Made}
 use Rattle.plan_compile.specs.declared.wiring.Output.{Output}
 use Rattle.plan_compile.specs.declared.wiring.CommandWiring.{CommandWiring}
 use Rattle.plan_compile.specs.declared.wiring.GatherWiring.{GatherWiring}
-use Rattle.plan_compile.specs.Talk.{Over, Fail, Follows}
+use Rattle.plan_compile.specs.Talk.{Over, Fail, Follows, Obeys}
 use Rattle.plan_compile.specs.Rule.{Path, Command, SourceFile, runs, does, does_phony}
 use Rattle.plan_compile.specs.Rule.{Made as MadeBy}
 use Rattle.plan_compile.specs.Emit.{command_code, alone_code, gather_code}
 use Rattle.plan_compile.specs.declared.wiring.Wiring.TheVariants as wiring
-use Rattle.plan_compile.specs.Means.{IsText, text_at, IsCommand, IsGather, IsAlone, CodeMeans}
+use Rattle.plan_compile.specs.Means.{IsText, text_at, IsCommand, IsGather, IsAlone, CodeMeans, Leaves, command_of}
 use Rattle.plan_compile.proofs.Edge.{command_means, phony_means}
 use Rattle.plan_compile.proofs.EdgeShapes.{command_shaped, phony_shaped}
 
@@ -415,3 +419,29 @@ compiled_means = command_means image 0 compiled compiled_code_is compiled_wired
 
 gathered_means : CodeMeans image 2 (wiring.Gather gathers_all)
 gathered_means = phony_means.gather image 2 gathers_all gather_code_is gather_wired
+
+-- with no slot set, as at the first edge's begin
+abbrev unset : ℕ → Slots
+unset zero = []
+unset (suc n) = None ∷ unset n
+
+none_is_set : (n s : ℕ) (v : Value) → slice_get (unset n) s ≡ Some (Some v) → ⊥
+none_is_set zero s v h = absurd cc
+none_is_set (suc n) zero v h = absurd cc
+none_is_set (suc n) (suc s) v h = none_is_set n s v h
+
+unset_typed : AreTyped image (unset 7)
+unfolding image
+unset_typed = record { table = refl; kinds = λ s v h. absurd (none_is_set 7 s v h) }
+
+none_lent : (o : Option Slot) → lent_by [] o ≡ true → ⊥
+none_lent (Some slot) h = absurd cc
+none_lent None h = absurd cc
+
+unset_lent : AreLentSet image 0 (unset 7)
+unfolding image
+unset_lent s h = absurd (none_lent (slice_get image.slots s) h)
+
+compiled_keeps : Obeys none_read image 0 (Leaves compiled.outputs) (at_begin (unset 7)) (does none_read (command_of image (unset 7) compiled []))
+unfolding compiled
+compiled_keeps = compiled_means none_read (unset 7) [] unset_typed unset_lent refl
