@@ -16,9 +16,9 @@ use Rattle.plan_compile.specs.declared.wiring.GatherWiring.{GatherWiring}
 use Rattle.plan_compile.specs.declared.wiring.Wiring.{Wiring}
 use Rattle.plan_compile.specs.declared.wiring.Wiring.TheVariants as wiring
 use Rattle.plan_compile.specs.Talk.{Left, Talk, Ask, Over, Obeys}
-use Rattle.plan_compile.specs.Rule.{Given, Command, Recorded, asked, inputs, greatest, least, some_changed, is_new, mark, paths_in, is_dirty, name, recalled, stamps, alone, gathers, does, does_phony}
-use Rattle.plan_compile.specs.Emit.{has_source, weighed_code, front, oldest_code, ready_code, ready_len, skip_code, clean_code, dirty_code, judge_code, judged_code, dirty_place, other_code, same_place, compare_code, known_place, pass_code, recalled_code, alone_code, gather_code, code_of}
-use Rattle.plan_compile.specs.Means.{command_of, phony_of, flag_at, flags_of, given, source, Leaves, IsGather, IsAlone, IsWired, CodeMeans}
+use Rattle.plan_compile.specs.Rule.{Given, Command, Recorded, asked, inputs, greatest, least, some_changed, is_new, baseline, paths_in, is_dirty, name, recalled, stamps, alone, gathers, does, does_phony}
+use Rattle.plan_compile.specs.Emit.{has_source_file, weighed_code, front, oldest_code, ready_code, ready_len, skip_code, clean_code, dirty_code, judge_code, judged_code, dirty_place, other_code, same_place, compare_code, known_place, pass_code, recalled_code, alone_code, gather_code, code_of}
+use Rattle.plan_compile.specs.Means.{command_of, phony_of, flag_at, flags_of, given, source_file, Leaves, IsGather, IsAlone, IsWired, CodeMeans}
 use Rattle.plan_compile.specs.Laws.{CommandMeans, PhonyMeans}
 use Rattle.plan_compile.proofs.Wired.{Wired, wired, files, readable, writable, of_two_kinds, flags_readable, flags_lent, any_same, changed_is, kinds_differ}
 use Rattle.plan_compile.proofs.Machine.{From, plain, load, store, recall, jump, jump_if, entry_values}
@@ -26,7 +26,7 @@ use Rattle.plan_compile.proofs.Folds.{Hold, IsPositive, stored, own_slot, order_
 use Rattle.plan_compile.proofs.SlotFacts.{get_same, get_other, set_length, stored_length, stored_other, stored_hold, foreign_no_stamp, own_within}
 use Rattle.plan_compile.proofs.Judging.{basis_in}
 use Rattle.plan_compile.proofs.Placed.{alone_means, gather_means}
-use Rattle.plan_compile.proofs.Placing.{recalled_stands, judge_stands, same_stands, known_stands, marked_stands, passed_stands, dirty_stands, run_stands}
+use Rattle.plan_compile.proofs.Placing.{recalled_stands, judge_stands, same_stands, known_stands, baseline_stands, passed_stands, dirty_stands, run_stands}
 use Rattle.plan_compile.proofs.Whole.{app_long, ready_long, hold_some, Ready, below, below_roomy, judge_all, judged_by, weighs, other_all, same_all, drop_two, ends_as}
 
 pub not_true : (b : Bool) → not b ≡ true → b ≡ false
@@ -70,9 +70,9 @@ module _ (meaning : Meaning) (p : Parts) (e : ℕ) (w : CommandWiring) (start : 
   weighed_all false rest talk slots named old ready hold h =
       oldest_all meaning p e M w.outputs old [] refl hold
       (load meaning p e M w.newest (Stamp (greatest named)) ready.newest refl
-      (alarm_all meaning p e M (not (has_source w.named)) w.outputs old w.flags start (Stamp (greatest named) ∷ Stamp (least old) ∷ []) refl hold wired.flags ready.foreign h))
+      (alarm_all meaning p e M (not (has_source_file w.named)) w.outputs old w.flags start (Stamp (greatest named) ∷ Stamp (least old) ∷ []) refl hold wired.flags ready.foreign h))
 
-  pub front_all : asked (map (given p start) w.named) order_only ≡ map (source p) w.order_only → (rest : List Instr)
+  pub front_all : asked (map (given p start) w.named) order_only ≡ map (source_file p) w.order_only → (rest : List Instr)
       → ((named old : List ℕ) (slots : Slots) (o : Option Recorded) → IsPositive w.named (greatest named) → Settled slots named → Hold slots w.outputs old
       → From meaning p e M rest (entry_values o (under w.restat old (greatest named))) slots false false (talk_after named old o))
       → From meaning p e M (front w rest) [] start false false (does meaning d)
@@ -104,21 +104,21 @@ module _ (meaning : Meaning) (p : Parts) (e : ℕ) (w : CommandWiring) (start : 
   -- ---- from the entry on
 
   pub judged_all : (at : ℕ) → drop at (code p e) ≡ judged_code w at → (slots : Slots) (named old : List ℕ) (o : Option Recorded) (b : ℕ) → IsPositive w.named (greatest named) → Settled slots named → Hold slots w.outputs old
-      → (not d.generator && is_new d.command o) ≡ false → (w.restat ≡ true → b ≡ mark d.restat old o)
+      → (not d.generator && is_new d.command o) ≡ false → (w.restat ≡ true → b ≡ baseline d.restat old o)
       → From meaning p e M (judged_code w at) (Stamp b ∷ Paths (paths_in o) 0 ∷ under w.restat old (greatest named)) slots false false (talk_after named old o)
   judged_all at stands slots named old o b positive ready hold same known =
       let place : ℕ = at + ready_len w in
       let judge : drop place (code p e) ≡ judge_code w place = judge_stands (code p e) w at stands in
-      judged_by meaning p e w start order_only wired w.restat refl (judge_code w place) (talk_after named old o) slots named old o b ready hold known λ m mark_is.
+      judged_by meaning p e w start order_only wired w.restat refl (judge_code w place) (talk_after named old o) slots named old o b ready hold known λ m baseline_is.
       judge_all meaning p e w start order_only wired place slots named old o _ m ready hold
-      (weighs meaning p e w start order_only wired w.restat (has_source w.named) refl refl named old o m (hold_some slots w.outputs old hold wired.some) same positive mark_is)
+      (weighs meaning p e w start order_only wired w.restat (has_source_file w.named) refl refl named old o m (hold_some slots w.outputs old hold wired.some) same positive baseline_is)
       (dirty_stands (code p e) w place judge) (run_stands (code p e) w place judge)
 
   -- a command that isn't another was recorded
-  pub mark_known : (r : Bool) (old : List ℕ) (o : Option Recorded) → is_new d.command o ≡ false → r ≡ true → basis_in o ≡ mark r old o
-  mark_known true old (Some y) same is = refl
-  mark_known true old None same is = absurd cc
-  mark_known false old o same is = absurd cc
+  pub baseline_known : (r : Bool) (old : List ℕ) (o : Option Recorded) → is_new d.command o ≡ false → r ≡ true → basis_in o ≡ baseline r old o
+  baseline_known true old (Some y) same is = refl
+  baseline_known true old None same is = absurd cc
+  baseline_known false old o same is = absurd cc
 
   pub compare_all : w.generator ≡ false → (at : ℕ) → drop at (code p e) ≡ compare_code w at
       → (slots : Slots) (named old : List ℕ) (o : Option Recorded) → IsPositive w.named (greatest named) → Settled slots named → Hold slots w.outputs old
@@ -137,7 +137,7 @@ module _ (meaning : Meaning) (p : Parts) (e : ℕ) (w : CommandWiring) (start : 
       same_all meaning p e w start order_only wired w.blank refl deep (below_roomy meaning p e w start order_only wired w.restat old (greatest named)) o
       (jump_if meaning p e M place judged (not (is_new d.command o)) judged_at (omega (arith, skip)) (ready_some w.restat w (judge_code w (place + ready_len w))) (low w.restat old (greatest named) (basis_in o) (paths_in o))
       (λ same. judged_all place judged_at slots named old o (basis_in o) positive ready hold
-      (ap (λ (b : Bool). not b && is_new d.command o) plain ∙ not_true (is_new d.command o) same) (mark_known w.restat old o (not_true (is_new d.command o) same)))
+      (ap (λ (b : Bool). not b && is_new d.command o) plain ∙ not_true (is_new d.command o) same) (baseline_known w.restat old o (not_true (is_new d.command o) same)))
       (λ other. other_all meaning p e w start order_only wired judged dirty slots named old o (basis_in o) (greatest named) ready hold
       (ap (λ (b : Bool). not b && is_new d.command o) plain ∙ not_false (is_new d.command o) other) (dirty_stands (code p e) w (place + ready_len w) judge) (omega (arith, long, longer))))
     where
@@ -145,13 +145,13 @@ module _ (meaning : Meaning) (p : Parts) (e : ℕ) (w : CommandWiring) (start : 
       low true old n b ps = refl
       low false old n b ps = refl
 
-  -- a restat generator, once its mark stands over the paths
-  pub by_mark : (at : ℕ) → drop at (code p e) ≡ judged_code w at → (slots : Slots) (named old : List ℕ) (o : Option Recorded) (b : ℕ) → IsPositive w.named (greatest named) → Settled slots named → Hold slots w.outputs old
-      → w.restat ≡ true → w.generator ≡ true → b ≡ mark true old o
+  -- a restat generator, once its baseline stands over the paths
+  pub by_baseline : (at : ℕ) → drop at (code p e) ≡ judged_code w at → (slots : Slots) (named old : List ℕ) (o : Option Recorded) (b : ℕ) → IsPositive w.named (greatest named) → Settled slots named → Hold slots w.outputs old
+      → w.restat ≡ true → w.generator ≡ true → b ≡ baseline true old o
       → From meaning p e M (judged_code w at) (Stamp b ∷ Paths (paths_in o) 0 ∷ []) slots false false (talk_after named old o)
-  by_mark at stands slots named old o b positive ready hold is gen known =
+  by_baseline at stands slots named old o b positive ready hold is gen known =
       subst (λ (r : Bool). From meaning p e M (judged_code w at) (Stamp b ∷ Paths (paths_in o) 0 ∷ under r old (greatest named)) slots false false (talk_after named old o)) is
-      (judged_all at stands slots named old o b positive ready hold (ap (λ (x : Bool). not x && is_new d.command o) gen) (λ restat. known ∙ ap (λ (r : Bool). mark r old o) (sym is)))
+      (judged_all at stands slots named old o b positive ready hold (ap (λ (x : Bool). not x && is_new d.command o) gen) (λ restat. known ∙ ap (λ (r : Bool). baseline r old o) (sym is)))
 
   pub pass_all : (r : Bool) → w.restat ≡ r → w.generator ≡ true → (at : ℕ) → drop at (code p e) ≡ pass_code r w at
       → (slots : Slots) (named old : List ℕ) (o : Option Recorded) → IsPositive w.named (greatest named) → Settled slots named → Hold slots w.outputs old
@@ -168,7 +168,7 @@ module _ (meaning : Meaning) (p : Parts) (e : ℕ) (w : CommandWiring) (start : 
       let long : length (op.Jump (place + 1) ∷ op.Drop ∷ judged) ≤ length (oldest ++ (op.Jump (place + 1) ∷ op.Drop ∷ judged)) = app_long oldest (op.Jump (place + 1) ∷ op.Drop ∷ judged) in
       jump_if meaning p e M place (op.Drop ∷ judged) true (known_stands (code p e) w at stands) (omega (arith, long)) (omega arith) refl
       (λ entry. plain meaning p e M op.Drop (Text y.command ∷ Stamp y.basis ∷ Paths y.paths 0 ∷ []) (Stamp y.basis ∷ Paths y.paths 0 ∷ []) (λ l. refl) refl refl
-      (by_mark (place + 1) (marked_stands (code p e) w at stands) slots named old (Some y) y.basis positive ready hold is gen refl))
+      (by_baseline (place + 1) (baseline_stands (code p e) w at stands) slots named old (Some y) y.basis positive ready hold is gen refl))
       (λ none. absurd cc)
   pass_all true is gen at stands slots named old None positive ready hold =
       let place : ℕ = known_place w at in
@@ -180,8 +180,8 @@ module _ (meaning : Meaning) (p : Parts) (e : ℕ) (w : CommandWiring) (start : 
       (λ no_entry. plain meaning p e M op.Drop (Text [] ∷ Stamp 0 ∷ Paths [] 0 ∷ []) (Stamp 0 ∷ Paths [] 0 ∷ []) (λ l. refl) refl refl
       (plain meaning p e M op.Drop (Stamp 0 ∷ Paths [] 0 ∷ []) (Paths [] 0 ∷ []) (λ l. refl) refl refl
       (oldest_all meaning p e M w.outputs old (Paths [] 0 ∷ []) refl hold
-      (jump meaning p e M (place + 1) judged (marked_stands (code p e) w at stands) (omega arith) (ready_some w.restat w (judge_code w (place + 1 + ready_len w))) refl
-      (by_mark (place + 1) (marked_stands (code p e) w at stands) slots named old None (least old) positive ready hold is gen refl)))))
+      (jump meaning p e M (place + 1) judged (baseline_stands (code p e) w at stands) (omega arith) (ready_some w.restat w (judge_code w (place + 1 + ready_len w))) refl
+      (by_baseline (place + 1) (baseline_stands (code p e) w at stands) slots named old None (least old) positive ready hold is gen refl)))))
 
   pub recalled_all : (g : Bool) → w.generator ≡ g → (at : ℕ) → drop at (code p e) ≡ recalled_code g w at
       → (slots : Slots) (named old : List ℕ) (o : Option Recorded) → IsPositive w.named (greatest named) → Settled slots named → Hold slots w.outputs old

@@ -20,12 +20,12 @@ use Rattle.plan_compile.specs.declared.wiring.Input.TheVariants.{File, Made}
 use Rattle.plan_compile.specs.declared.wiring.Output.{Output}
 use Rattle.plan_compile.specs.declared.wiring.CommandWiring.{CommandWiring}
 use Rattle.plan_compile.specs.declared.wiring.GatherWiring.{GatherWiring}
-use Rattle.plan_compile.specs.Emit.{has_source, order_code, newer_code, newest_code, or_code, any_code, stat_code, older_code, oldest_code, alarm_code, weighed_code, front, flag_code, holders, restat_code, after_code, same_code, ready_code, ready_len, skip_code, clean_code, clean_len, deps_code, run_code, dirty_code, judge_code, judged_code, dirty_place, other_code, same_place, compare_code, known_place, pass_code, recalled_code, alone_code, gather_code}
-use Rattle.plan_compile.specs.Means.{IsText, IsOwnOf, IsLentOf, AreInputs, AreSources, AreOutputs, ShareFlag, HaveFlagSlots, slots_of, IsCommand, IsGather, IsAlone}
+use Rattle.plan_compile.specs.Emit.{has_source_file, order_code, newer_code, newest_code, or_code, any_code, stat_code, older_code, oldest_code, alarm_code, weighed_code, front, flag_code, holders, restat_code, after_code, same_code, ready_code, ready_len, skip_code, clean_code, clean_len, deps_code, run_code, dirty_code, judge_code, judged_code, dirty_place, other_code, same_place, compare_code, known_place, pass_code, recalled_code, alone_code, gather_code}
+use Rattle.plan_compile.specs.Means.{IsText, IsOwnOf, IsLentOf, AreInputs, AreSourceFiles, AreOutputs, ShareFlag, HaveFlagSlots, slots_of, IsCommand, IsGather, IsAlone}
 use Rattle.plan_compile.proofs.Wired.{or_cases, or_right, flags_lent}
 use Rattle.plan_compile.proofs.Machine.{drop_length}
 use Rattle.plan_compile.proofs.SlotFacts.{and_both}
-use Rattle.plan_compile.proofs.Placing.{recalled_stands, judge_stands, same_stands, known_stands, marked_stands, passed_stands, dirty_stands, run_stands}
+use Rattle.plan_compile.proofs.Placing.{recalled_stands, judge_stands, same_stands, known_stands, baseline_stands, passed_stands, dirty_stands, run_stands}
 use Rattle.plan_compile.proofs.Whole.{less, app_long, ready_long}
 use Rattle.plan_compile.proofs.Edge.{skip_long, ready_some}
 use Rattle.plan_compile.proofs.Scanning.{Good, good_long, are_shapes}
@@ -191,7 +191,7 @@ module _ (p : Parts) (e : ℕ) where
 
   -- ---- fragments before the entry
 
-  pub order_fit : (fs : List ℕ) (rest : List Instr) (set : List ℕ) → AreSources p fs → 0 < length rest → Fit p e rest (sh [] false set) [] → Fit p e (order_code fs ++ rest) (sh [] false set) []
+  pub order_fit : (fs : List ℕ) (rest : List Instr) (set : List ℕ) → AreSourceFiles p fs → 0 < length rest → Fit p e rest (sh [] false set) [] → Fit p e (order_code fs ++ rest) (sh [] false set) []
   unfolding left
   order_fit [] rest set files some f = f
   order_fit (x ∷ xs) rest set files some f =
@@ -571,9 +571,9 @@ module _ (p : Parts) (e : ℕ) where
         let place : ℕ = known_place w at in
         let judged : List Instr = judged_code w (place + 1) in
         let known : drop place (code p e) ≡ op.Drop ∷ judged = known_stands (code p e) w at stands in
-        let marked : drop (place + 1) (code p e) ≡ judged = marked_stands (code p e) w at stands in
+        let based : drop (place + 1) (code p e) ≡ judged = baseline_stands (code p e) w at stands in
         let k_long : length (op.Drop ∷ judged) ≡ length (code p e) - place = sym (ap length known) ∙ drop_length (code p e) place in
-        let m_long : length judged ≡ length (code p e) - (place + 1) = sym (ap length marked) ∙ drop_length (code p e) (place + 1) in
+        let m_long : length judged ≡ length (code p e) - (place + 1) = sym (ap length based) ∙ drop_length (code p e) (place + 1) in
         let some : 0 < length judged = ready_some w.restat w (judge_code w (place + 1 + ready_len w)) in
         let sk : Shape = sh (Text ∷ Stamp ∷ Paths ∷ []) false set in
         let sj : Shape = sh (Stamp ∷ Paths ∷ []) false set in
@@ -587,9 +587,9 @@ module _ (p : Parts) (e : ℕ) where
         (oldest_fit w.outputs back set (Paths ∷ []) ((place, sk) ∷ []) refl right.outputs ready.1 (λ xs le. (omega (arith, k_long, le), tt)) (omega arith)
         (jump_land p e (place + 1) place (op.Drop ∷ judged) sj sk refl known (omega (arith, m_long)) (omega (arith, m_long, some))
         (λ here a b. none_refused p e here (op.Jump (place + 1)) sj (refl, refl, refl, refl, refl, refl, refl, refl, refl, refl) (ap (λ (x : Bool). x || nat_le (length (code p e)) (place + 1)) a ∙ b) refl)
-        (join p e op.Drop (place + 1) judged sk sj refl (λ at. refl) marked some
+        (join p e op.Drop (place + 1) judged sk sj refl (λ at. refl) based some
         (λ here off. none_refused p e here op.Drop sk (refl, refl, refl, refl, refl, refl, refl, refl, refl, refl) refl off)
-        (judged_fit true is (place + 1) set ready marked))))))
+        (judged_fit true is (place + 1) set ready based))))))
 
     -- what follows the entry
     pub recalled_fit : (g : Bool) (at : ℕ) (set : List ℕ) → IsReady set → drop at (code p e) ≡ recalled_code g w at → Fit p e (recalled_code g w at) (sh (Flag ∷ Text ∷ Stamp ∷ Paths ∷ under w.restat) false set) []
@@ -598,15 +598,15 @@ module _ (p : Parts) (e : ℕ) where
 
     pub weighed_some : (r : Bool) (rest : List Instr) → 0 < length rest → 0 < length (weighed_code r w rest)
     weighed_some true rest some = some
-    weighed_some false rest some = some_app (oldest_code w.outputs) (op.Load w.newest ∷ (alarm_code (not (has_source w.named)) w.outputs w.flags ++ rest)) (omega arith)
+    weighed_some false rest some = some_app (oldest_code w.outputs) (op.Load w.newest ∷ (alarm_code (not (has_source_file w.named)) w.outputs w.flags ++ rest)) (omega arith)
 
     pub weighed_fit : (r : Bool) (rest : List Instr) (set : List ℕ) → IsReady set → 0 < length rest → Fit p e rest (sh (under r) false set) [] → Fit p e (weighed_code r w rest) (sh [] false set) []
     weighed_fit true rest set ready some f = f
     weighed_fit false rest set ready some f =
-        let alarm : List Instr = alarm_code (not (has_source w.named)) w.outputs w.flags in
+        let alarm : List Instr = alarm_code (not (has_source_file w.named)) w.outputs w.flags in
         oldest_fit w.outputs (op.Load w.newest ∷ (alarm ++ rest)) set [] [] refl right.outputs ready.1 (λ xs le. tt) (omega arith)
         (load_own w.newest Stamp right.newest.0 ready.0 refl tt (some_app alarm rest some)
-        (alarm_fit (not (has_source w.named)) w.outputs w.flags rest set (Stamp ∷ Stamp ∷ []) [] refl right.outputs ready.1 lent (λ xs le. tt) some f))
+        (alarm_fit (not (has_source_file w.named)) w.outputs w.flags rest set (Stamp ∷ Stamp ∷ []) [] refl right.outputs ready.1 lent (λ xs le. tt) some f))
 
     pub front_fit : (rest : List Instr) → 0 < length rest → ((set : List ℕ) → IsReady set → Fit p e rest (sh (Flag ∷ Text ∷ Stamp ∷ Paths ∷ under w.restat) false set) []) → Fit p e (front w rest) at_start []
     unfolding left

@@ -16,8 +16,8 @@ use Rattle.plan_compile.specs.declared.wiring.Input.TheVariants.{File, Made}
 use Rattle.plan_compile.specs.declared.wiring.Output.{Output}
 use Rattle.plan_compile.specs.Talk.{Left, Talk}
 use Rattle.plan_compile.specs.Rule.{inputs, stamps, greatest_from, greatest, least_from, least}
-use Rattle.plan_compile.specs.Emit.{has_source, order_code, newer_code, newest_code, or_code, any_code, stat_code, older_code, oldest_code, alarm_code, flag_code}
-use Rattle.plan_compile.specs.Means.{path_at, stamp_at, flag_at, given, source, output_path}
+use Rattle.plan_compile.specs.Emit.{has_source_file, order_code, newer_code, newest_code, or_code, any_code, stat_code, older_code, oldest_code, alarm_code, flag_code}
+use Rattle.plan_compile.specs.Means.{path_at, stamp_at, flag_at, given, source_file, output_path}
 use Rattle.plan_compile.proofs.Wired.{AreReadable, AreFlags, AreFiles, AreWritable, some_flag}
 use Rattle.plan_compile.proofs.Machine.{From, need, stat, load, store, plain}
 
@@ -69,9 +69,9 @@ Hold slots [] [] = Unit {0}
 Hold slots (o ∷ os) (t ∷ ts) = (slice_get slots o.stamp ≡ Some (Some (Stamp t))) × Hold slots os ts
 Hold slots _ _ = ⊥
 
--- a source among the inputs has a stamp, and so their greatest isn't 0
+-- a source file among the inputs has a stamp, and so their greatest isn't 0
 abbrev pub IsPositive : List Input → ℕ → Type 0
-IsPositive is n = has_source is ≡ true → 0 < n
+IsPositive is n = has_source_file is ≡ true → 0 < n
 
 -- the slot of an own number
 pub own_slot : (e : ℕ) (o : Option Slot) → owned_by e o ≡ true → (slot : Slot) × (o ≡ Some slot) × ((slot.owner == e) ≡ true)
@@ -88,14 +88,14 @@ or_false_right false = refl
 
 module _ (meaning : Meaning) (p : Parts) (e : ℕ) (L : Slots → Left → Type 0) where
   pub order_all : {rest : List Instr} {slots : Slots} {holding ran : Bool} (fs : List ℕ) (k : List ℕ → Talk) → AreFiles p fs
-      → ((ts : List ℕ) → From meaning p e L rest [] slots holding ran (k ts)) → From meaning p e L (order_code fs ++ rest) [] slots holding ran (inputs (map (source p) fs) k)
+      → ((ts : List ℕ) → From meaning p e L rest [] slots holding ran (k ts)) → From meaning p e L (order_code fs ++ rest) [] slots holding ran (inputs (map (source_file p) fs) k)
   order_all [] k files h = h []
   order_all (f ∷ fs) k files h =
-      need meaning p e L f (path_at p f) (λ t. inputs (map (source p) fs) (λ ts. k (t ∷ ts))) files.0 (λ n. refl) λ n.
+      need meaning p e L f (path_at p f) (λ t. inputs (map (source_file p) fs) (λ ts. k (t ∷ ts))) files.0 (λ n. refl) λ n.
       plain meaning p e L op.Drop (Stamp (suc n) ∷ []) [] (λ l. refl) refl refl (order_all fs (λ ts. k (suc n ∷ ts)) files.1 (λ ts. h (suc n ∷ ts)))
 
   pub newer_all : {rest : List Instr} {slots : Slots} {holding ran : Bool} (is : List Input) (a : ℕ) (k : List ℕ → Talk) → AreReadable p e slots is
-      → ((ts : List ℕ) → ((0 < a) ⊎ (has_source is ≡ true) → 0 < greatest_from a ts) → From meaning p e L rest (Stamp (greatest_from a ts) ∷ []) slots holding ran (k ts))
+      → ((ts : List ℕ) → ((0 < a) ⊎ (has_source_file is ≡ true) → 0 < greatest_from a ts) → From meaning p e L rest (Stamp (greatest_from a ts) ∷ []) slots holding ran (k ts))
       → From meaning p e L (newer_code is ++ rest) (Stamp a ∷ []) slots holding ran (inputs (map (given p slots) is) k)
   newer_all [] a k readable h = h [] (λ c. elim c [ inl lt ↦ lt | inr none ↦ absurd cc ])
   newer_all {slots = slots} (File f ∷ is) a k readable h =

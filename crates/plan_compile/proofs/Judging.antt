@@ -5,7 +5,7 @@ use Rattle.std.proofs.lemmas.Bool.{eqb-true, eq-eqb, ne_eqb, lt-ltb, leb-true, l
 use Rattle.plan_verify.specs.Turn.{Meaning, earlier, later, Deps}
 use Rattle.plan_compile.specs.Talk.{Talk, Ask, Left}
 use Rattle.plan_compile.specs.declared.wiring.Output.{Output}
-use Rattle.plan_compile.specs.Rule.{Path, Command, Recorded, greatest_from, greatest, least_from, least, some_missing, some_changed, is_new, mark, is_dirty, changed, depfile, read}
+use Rattle.plan_compile.specs.Rule.{Path, Command, Recorded, greatest_from, greatest, least_from, least, some_missing, some_changed, is_new, baseline, is_dirty, changed, depfile, read}
 use Rattle.plan_compile.proofs.Machine.{missing_from}
 use Rattle.plan_compile.proofs.Folds.{AreMatched, later_left, or_assoc, or_false_right}
 
@@ -80,30 +80,30 @@ module _ (c : Command) (named old : List ℕ) (entry : Option Recorded) where
   missing_is b [] = sym (or_false_right b)
   missing_is b (t ∷ ts) = missing_is (b || (t == 0)) ts ∙ or_assoc b (t == 0) (some_missing ts)
 
-  -- The edge is dirty by the alarm that the sweep goes on with, or by its mark, where its command isn't another.
+  -- The edge is dirty by the alarm that the sweep goes on with, or by its baseline, where its command isn't another.
   pub dirty_is : (swept : List ℕ) → (not c.generator && is_new c.command entry) ≡ false
-      → is_dirty c named old entry swept ≡ (missing_from (some_missing old || some_changed c.named) swept || nat_lt (mark c.restat old entry) (greatest_from (greatest named) swept))
+      → is_dirty c named old entry swept ≡ (missing_from (some_missing old || some_changed c.named) swept || nat_lt (baseline c.restat old entry) (greatest_from (greatest named) swept))
   dirty_is swept same =
-      or_chain (some_missing old) (some_changed c.named) (not c.generator && is_new c.command entry) (some_missing swept) (nat_lt (mark c.restat old entry) (greatest (named ++ swept))) same
-      ∙ (ap (λ (b : Bool). b || nat_lt (mark c.restat old entry) (greatest (named ++ swept))) (sym (missing_is (some_missing old || some_changed c.named) swept))
-      ∙ ap (λ (n : ℕ). missing_from (some_missing old || some_changed c.named) swept || nat_lt (mark c.restat old entry) n) (greatest_app 0 named swept))
+      or_chain (some_missing old) (some_changed c.named) (not c.generator && is_new c.command entry) (some_missing swept) (nat_lt (baseline c.restat old entry) (greatest (named ++ swept))) same
+      ∙ (ap (λ (b : Bool). b || nat_lt (baseline c.restat old entry) (greatest (named ++ swept))) (sym (missing_is (some_missing old || some_changed c.named) swept))
+      ∙ ap (λ (n : ℕ). missing_from (some_missing old || some_changed c.named) swept || nat_lt (baseline c.restat old entry) n) (greatest_app 0 named swept))
 
   pub dirty_new : (swept : List ℕ) → (not c.generator && is_new c.command entry) ≡ true → is_dirty c named old entry swept ≡ true
-  dirty_new swept fresh = new_chain (some_missing old) (some_changed c.named) (not c.generator && is_new c.command entry) (some_missing swept) (nat_lt (mark c.restat old entry) (greatest (named ++ swept))) fresh
+  dirty_new swept fresh = new_chain (some_missing old) (some_changed c.named) (not c.generator && is_new c.command entry) (some_missing swept) (nat_lt (baseline c.restat old entry) (greatest (named ++ swept))) fresh
 
   -- a missing output is older than any input that is there
-  pub dirty_later : (swept : List ℕ) → c.restat ≡ false → (old ≡ [] → ⊥) → 0 < greatest named → some_missing old ≡ true → nat_lt (mark c.restat old entry) (greatest_from (greatest named) swept) ≡ true
+  pub dirty_later : (swept : List ℕ) → c.restat ≡ false → (old ≡ [] → ⊥) → 0 < greatest named → some_missing old ≡ true → nat_lt (baseline c.restat old entry) (greatest_from (greatest named) swept) ≡ true
   dirty_later swept plain some positive missing =
       let zero_is : least old ≡ 0 = eqb-true (least old) 0 (missing_least old some ∙ missing) in
-      let mark_is : mark c.restat old entry ≡ 0 = ap (λ (r : Bool). mark r old entry) plain ∙ zero_is in
+      let baseline_is : baseline c.restat old entry ≡ 0 = ap (λ (r : Bool). baseline r old entry) plain ∙ zero_is in
       let more : greatest named ≤ greatest_from (greatest named) swept = greatest_more (greatest named) swept in
-      ap (λ (n : ℕ). nat_lt n (greatest_from (greatest named) swept)) mark_is ∙ lt-ltb 0 (greatest_from (greatest named) swept) (omega (arith, more, positive))
+      ap (λ (n : ℕ). nat_lt n (greatest_from (greatest named) swept)) baseline_is ∙ lt-ltb 0 (greatest_from (greatest named) swept) (omega (arith, more, positive))
 
   -- the same without a look at the outputs
   pub dirty_unlooked : (swept : List ℕ) → (not c.generator && is_new c.command entry) ≡ false → c.restat ≡ false → (old ≡ [] → ⊥) → 0 < greatest named
-      → is_dirty c named old entry swept ≡ (missing_from (some_changed c.named) swept || nat_lt (mark c.restat old entry) (greatest_from (greatest named) swept))
+      → is_dirty c named old entry swept ≡ (missing_from (some_changed c.named) swept || nat_lt (baseline c.restat old entry) (greatest_from (greatest named) swept))
   dirty_unlooked swept same plain some positive =
-      let x : Bool = nat_lt (mark c.restat old entry) (greatest_from (greatest named) swept) in
+      let x : Bool = nat_lt (baseline c.restat old entry) (greatest_from (greatest named) swept) in
       dirty_is swept same
       ∙ (ap (λ (b : Bool). b || x) (missing_is (some_missing old || some_changed c.named) swept ∙ or_assoc (some_missing old) (some_changed c.named) (some_missing swept))
       ∙ (sym (or_swallows (some_missing old) (some_changed c.named || some_missing swept) x (dirty_later swept plain some positive))

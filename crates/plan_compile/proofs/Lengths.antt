@@ -7,7 +7,7 @@ use Rattle.plan_image.specs.declared.instr.Instr.{Instr}
 use Rattle.plan_image.specs.declared.instr.Instr.TheVariants as op
 use Rattle.plan_compile.specs.declared.wiring.Output.{Output}
 use Rattle.plan_compile.specs.declared.wiring.CommandWiring.{CommandWiring}
-use Rattle.plan_compile.specs.Emit.{has_source, order_code, newest_code, or_code, any_code, stat_code, older_code, oldest_code, flag_code, holders, alarm_code, weighed_code, front, same_code, ready_code, ready_len, clean_len, judge_code, judged_code, dirty_place, other_code, same_place, known_place, pass_code, recalled_code, command_code, emitted}
+use Rattle.plan_compile.specs.Emit.{has_source_file, order_code, newest_code, or_code, any_code, stat_code, older_code, oldest_code, flag_code, holders, alarm_code, weighed_code, front, same_code, ready_code, ready_len, clean_len, judge_code, judged_code, dirty_place, other_code, same_place, known_place, pass_code, recalled_code, command_code, emitted}
 use Rattle.plan_compile.proofs.Placing.{front_app}
 use Rattle.plan_compile.proofs.Edge.{skip_long}
 
@@ -114,8 +114,8 @@ module _ (w : CommandWiring) where
   -- the flags are among what is weighed
   pub weighed_flags : (rest : List Instr) → length w.flags ≤ length (weighed_code false w rest)
   weighed_flags rest =
-      let alarm : List Instr = alarm_code (not (has_source w.named)) w.outputs w.flags in
-      let a : length w.flags ≤ length alarm = alarm_longer (not (has_source w.named)) w.outputs w.flags in
+      let alarm : List Instr = alarm_code (not (has_source_file w.named)) w.outputs w.flags in
+      let a : length w.flags ≤ length alarm = alarm_longer (not (has_source_file w.named)) w.outputs w.flags in
       let b : length alarm ≤ length (alarm ++ rest) = longer_front alarm rest in
       let c : length (op.Load w.newest ∷ (alarm ++ rest)) ≤ length (oldest_code w.outputs ++ (op.Load w.newest ∷ (alarm ++ rest))) = longer_back (oldest_code w.outputs) (op.Load w.newest ∷ (alarm ++ rest)) in
       omega (arith, a, b, c)

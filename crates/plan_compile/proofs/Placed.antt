@@ -16,7 +16,7 @@ use Rattle.plan_compile.specs.Talk.{Left, Talk, Over, Obeys}
 use Rattle.plan_compile.specs.Rule.{inputs, stamps, greatest, some_changed, changed, alone}
 use Rattle.plan_compile.specs.declared.wiring.GatherWiring.{GatherWiring}
 use Rattle.plan_compile.specs.Emit.{restat_code, alone_code, gather_code}
-use Rattle.plan_compile.specs.Means.{given, source, output_path, Leaves, IsNoStamp, IsNoFlag, AreApart, HaveOwnFlags, Share, slots_of}
+use Rattle.plan_compile.specs.Means.{given, source_file, output_path, Leaves, IsNoStamp, IsNoFlag, AreApart, HaveOwnFlags, Share, slots_of}
 use Rattle.plan_compile.proofs.Wired.{IsOwn, AreReadable, AreFlags, AreFiles, AreWritable, AreOfTwoKinds, some_flag, or_cases}
 use Rattle.plan_compile.proofs.Machine.{From, plain, load, stat, store, finish}
 use Rattle.plan_compile.proofs.Folds.{Hold, own_slot, order_all, newest_all, any_all}
@@ -121,7 +121,7 @@ module _ (meaning : Meaning) (p : Parts) (e : ℕ) (g : GatherWiring) where
       → AreReadable p e start g.named → AreFlags p e start g.flags → some_flag start g.flags ≡ some_changed (map (given p start) g.named) → AreFiles p g.order_only
       → Share g.stamp g.changed g.outputs → IsOwn p e g.stamp → IsOwn p e g.changed → (g.stamp ≡ g.changed → ⊥)
       → Obeys meaning p e (Leaves g.outputs) (at_begin start)
-      (inputs (map (source p) g.order_only) (λ ignored. inputs (map (given p start) g.named) (λ ts. Over false (map (λ path. (greatest ts, some_changed (map (given p start) g.named))) (map (output_path p) g.outputs)))))
+      (inputs (map (source_file p) g.order_only) (λ ignored. inputs (map (given p start) g.named) (λ ts. Over false (map (λ path. (greatest ts, some_changed (map (given p start) g.named))) (map (output_path p) g.outputs)))))
   gather_means start is table own readable flags flags_are files share own_st own_ch apart =
       (order_all meaning p e (Leaves g.outputs) g.order_only _ files λ ignored.
       newest_all meaning p e (Leaves g.outputs) g.named _ readable λ ts positive.

@@ -4,7 +4,7 @@ use Rattle.std.specs.Prelude.{not}
 use Rattle.plan_image.specs.declared.instr.Instr.{Instr}
 use Rattle.plan_image.specs.declared.instr.Instr.TheVariants as op
 use Rattle.plan_compile.specs.declared.wiring.CommandWiring.{CommandWiring}
-use Rattle.plan_compile.specs.Emit.{has_source, order_code, newest_code, stat_code, oldest_code, alarm_code, weighed_code, front, same_code, ready_code, ready_len, skip_code, clean_code, clean_len, run_code, dirty_code, judge_code, judged_code, dirty_place, other_code, same_place, compare_code, known_place, pass_code, recalled_code, command_code}
+use Rattle.plan_compile.specs.Emit.{has_source_file, order_code, newest_code, stat_code, oldest_code, alarm_code, weighed_code, front, same_code, ready_code, ready_len, skip_code, clean_code, clean_len, run_code, dirty_code, judge_code, judged_code, dirty_place, other_code, same_place, compare_code, known_place, pass_code, recalled_code, command_code}
 
 pub drop_twice : {I : Type 0} (code : List I) (a b : ℕ) → drop a (drop b code) ≡ drop (b + a) code
 drop_twice code a zero = let e : 0 + a ≡ a = omega arith in ap (λ n. drop n code) (sym e)
@@ -25,7 +25,7 @@ behind code at xs ys h = sym (drop_twice code (length xs) at) ∙ (ap (λ (zs : 
 pub weighed_app : (restat : Bool) (w : CommandWiring) (xs rest : List Instr) → weighed_code restat w (xs ++ rest) ≡ weighed_code restat w xs ++ rest
 weighed_app true w xs rest = refl
 weighed_app false w xs rest =
-    let alarm : List Instr = alarm_code (not (has_source w.named)) w.outputs w.flags in
+    let alarm : List Instr = alarm_code (not (has_source_file w.named)) w.outputs w.flags in
     ap (λ (ys : List Instr). oldest_code w.outputs ++ (op.Load w.newest ∷ ys)) (sym (append_assoc alarm xs rest))
     ∙ sym (append_assoc (oldest_code w.outputs) (op.Load w.newest ∷ (alarm ++ xs)) rest)
 
@@ -91,7 +91,7 @@ module _ (code : List Instr) (w : CommandWiring) where
       ∙ behind code (at + length same + 1) (other_code w dirty []) (judged_code w place)
       (other ∙ skip_app w.restat (op.Sweep ∷ op.Drop ∷ op.Drop ∷ op.Jump dirty ∷ []) (judged_code w place))
 
-  -- where the mark of a restat generator is known
+  -- where the baseline of a restat generator is known
   pub known_stands : (at : ℕ) → drop at code ≡ pass_code true w at → drop (known_place w at) code ≡ op.Drop ∷ judged_code w (known_place w at + 1)
   known_stands at h =
       let oldest : List Instr = oldest_code w.outputs in
@@ -102,8 +102,8 @@ module _ (code : List Instr) (w : CommandWiring) where
       let e : known_place w at ≡ at + 3 + length oldest + 1 = omega arith in
       ap (λ (n : ℕ). drop n code) e ∙ behind code (at + 3 + length oldest) (op.Jump (known_place w at + 1) ∷ []) tail jump
 
-  pub marked_stands : (at : ℕ) → drop at code ≡ pass_code true w at → drop (known_place w at + 1) code ≡ judged_code w (known_place w at + 1)
-  marked_stands at h = behind code (known_place w at) (op.Drop ∷ []) (judged_code w (known_place w at + 1)) (known_stands at h)
+  pub baseline_stands : (at : ℕ) → drop at code ≡ pass_code true w at → drop (known_place w at + 1) code ≡ judged_code w (known_place w at + 1)
+  baseline_stands at h = behind code (known_place w at) (op.Drop ∷ []) (judged_code w (known_place w at + 1)) (known_stands at h)
 
   pub passed_stands : (at : ℕ) → drop at code ≡ pass_code false w at → drop (at + 2) code ≡ judged_code w (at + 2)
   passed_stands at h = behind code at (op.Drop ∷ op.Drop ∷ []) (judged_code w (at + 2)) h

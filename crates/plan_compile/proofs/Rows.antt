@@ -1,6 +1,6 @@
 -- The rule and the code, computed on worked examples.
-use Rattle.std.proofs.Common.{◌≡◌, ℕ, Bool, true, false, List, [], ◌∷◌, Some, None, refl, codes, subst, arith}
-use Rattle.std.specs.Prelude.{Ok, ◌||◌, ◌==◌}
+use Rattle.std.proofs.Common.{◌≡◌, ℕ, zero, suc, Bool, true, false, List, [], ◌∷◌, Option, Some, None, refl, codes, subst, arith}
+use Rattle.std.specs.Prelude.{Ok, ◌||◌, ◌==◌, slice_get}
 use Rattle.plan_image.specs.declared.instr.Kind.{Kind}
 use Rattle.plan_image.specs.declared.instr.Kind.TheVariants as kind
 use Rattle.plan_image.specs.declared.image.Sort.TheVariants as sort
@@ -12,17 +12,21 @@ use Rattle.plan_verify.specs.Shape.{table_refusal}
 use Rattle.plan_verify.specs.WellShaped.{IsShapedEdge}
 use Rattle.plan_image.specs.declared.instr.Instr.TheVariants as op
 use Rattle.plan_verify.specs.declared.value.Cause.TheVariants as cause
-use Rattle.plan_verify.specs.Turn.{Stat, Recall, Run, Deps, Keep, StampIs, Entry, Nothing, Exit, Bytes, Kept, Meaning}
+use Rattle.plan_verify.specs.declared.value.Value.{Value}
+use Rattle.plan_verify.specs.Tables.{lent_by}
+use Rattle.plan_verify.specs.Alone.{at_begin}
+use Rattle.plan_verify.specs.Sound.{AreTyped, AreLentSet}
+use Rattle.plan_verify.specs.Turn.{Slots, Stat, Recall, Run, Deps, Keep, StampIs, Entry, Nothing, Exit, Bytes, Kept, Meaning}
 use Rattle.plan_compile.specs.declared.wiring.Input.TheVariants.{File, Made}
 use Rattle.plan_compile.specs.declared.wiring.Output.{Output}
 use Rattle.plan_compile.specs.declared.wiring.CommandWiring.{CommandWiring}
 use Rattle.plan_compile.specs.declared.wiring.GatherWiring.{GatherWiring}
-use Rattle.plan_compile.specs.Talk.{Over, Fail, Follows}
-use Rattle.plan_compile.specs.Rule.{Path, Command, Source, runs, does, does_phony}
+use Rattle.plan_compile.specs.Talk.{Over, Fail, Follows, Obeys}
+use Rattle.plan_compile.specs.Rule.{Path, Command, SourceFile, runs, does, does_phony}
 use Rattle.plan_compile.specs.Rule.{Made as MadeBy}
 use Rattle.plan_compile.specs.Emit.{command_code, alone_code, gather_code}
 use Rattle.plan_compile.specs.declared.wiring.Wiring.TheVariants as wiring
-use Rattle.plan_compile.specs.Means.{IsText, text_at, IsCommand, IsGather, IsAlone, CodeMeans}
+use Rattle.plan_compile.specs.Means.{IsText, text_at, IsCommand, IsGather, IsAlone, CodeMeans, Leaves, command_of}
 use Rattle.plan_compile.proofs.Edge.{command_means, phony_means}
 use Rattle.plan_compile.proofs.EdgeShapes.{command_shaped, phony_shaped}
 
@@ -39,9 +43,9 @@ mid : Path
 mid = codes "mid"
 
 gen : Command
-gen = record { named = Source 0 src ∷ []; order_only = []; outputs = mid ∷ []; command = codes "sh gen.sh"; depfile = []; restat = true; generator = false }
+gen = record { named = SourceFile 0 src ∷ []; order_only = []; outputs = mid ∷ []; command = codes "sh gen.sh"; depfile = []; restat = true; generator = false }
 
--- it runs and leaves the old stamp: the output is unchanged, and the basis is the source's stamp
+-- it runs and leaves the old stamp: the output is unchanged, and the basis is the source file's stamp
 gen_runs : Follows (does none_read gen)
     ((Stat src, StampIs 50) ∷ (Stat mid, StampIs 30) ∷ (Recall mid, Entry (codes "sh gen.sh") 20 []) ∷ (Run (codes "sh gen.sh") (mid ∷ []), Exit 0)
     ∷ (Keep mid (codes "sh gen.sh") 50 [], Kept) ∷ (Stat mid, StampIs 30) ∷ [])
@@ -62,7 +66,7 @@ chained_clean : Follows (does none_read chained) ((Stat (codes "out"), StampIs 4
 unfolding chained none_read
 chained_clean = (refl, (refl, refl))
 
--- a missing source ends the questions
+-- a missing source file ends the questions
 gen_fails : Follows (does none_read gen) ((Stat src, StampIs 0) ∷ []) (Fail (cause.MissingInput 0))
 unfolding gen none_read
 gen_fails = (refl, refl)
@@ -82,7 +86,7 @@ cc_command : List ℕ
 cc_command = codes "cc"
 
 compiles : Command
-compiles = record { named = Source 1 c_file ∷ []; order_only = []; outputs = object ∷ []; command = cc_command; depfile = codes "a.d"; restat = false; generator = false }
+compiles = record { named = SourceFile 1 c_file ∷ []; order_only = []; outputs = object ∷ []; command = cc_command; depfile = codes "a.d"; restat = false; generator = false }
 
 clean : Follows (does none_read compiles) ((Stat c_file, StampIs 5) ∷ (Stat object, StampIs 9) ∷ (Recall object, Entry cc_command 5 (header ∷ [])) ∷ (Stat header, StampIs 9) ∷ []) (Over false ((9, false) ∷ []))
 unfolding compiles cc_command none_read
@@ -113,7 +117,7 @@ path_later : Follows (does none_read compiles) ((Stat c_file, StampIs 5) ∷ (St
 unfolding compiles cc_command none_read
 path_later = (refl, (refl, (refl, (refl, refl))))
 
--- so is the source
+-- so is the source file
 source_later : Follows (does none_read compiles) ((Stat c_file, StampIs 10) ∷ (Stat object, StampIs 9) ∷ (Recall object, Entry cc_command 5 []) ∷ []) (runs none_read compiles (10 ∷ []) (9 ∷ []))
 unfolding compiles cc_command none_read
 source_later = (refl, (refl, (refl, refl)))
@@ -128,7 +132,7 @@ input_changed = (refl, (refl, refl))
 
 -- a generator looks at no command, and needs no entry
 generates : Command
-generates = record { named = Source 1 c_file ∷ []; order_only = []; outputs = object ∷ []; command = cc_command; depfile = []; restat = false; generator = true }
+generates = record { named = SourceFile 1 c_file ∷ []; order_only = []; outputs = object ∷ []; command = cc_command; depfile = []; restat = false; generator = true }
 
 generator_clean : Follows (does none_read generates) ((Stat c_file, StampIs 5) ∷ (Stat object, StampIs 9) ∷ (Recall object, Nothing) ∷ []) (Over false ((9, false) ∷ []))
 unfolding generates none_read
@@ -149,12 +153,12 @@ run_fails : Follows (runs none_read compiles (5 ∷ []) (0 ∷ [])) ((Run cc_com
 unfolding compiles cc_command none_read
 run_fails = (refl, refl)
 
--- ---- order-only inputs: what an edge makes isn't asked for, nor is a source that is named too
+-- ---- order-only inputs: what an edge makes isn't asked for, nor is a source file that is named too
 
 ordered : Command
 ordered = record {
-  named = Source 1 c_file ∷ [];
-  order_only = MadeBy 8 true ∷ Source 1 c_file ∷ Source 2 header ∷ [];
+  named = SourceFile 1 c_file ∷ [];
+  order_only = MadeBy 8 true ∷ SourceFile 1 c_file ∷ SourceFile 2 header ∷ [];
   outputs = object ∷ [];
   command = cc_command;
   depfile = [];
@@ -188,7 +192,7 @@ user_runs = (refl, (refl, (refl, (refl, (refl, refl)))))
 
 -- one with inputs is as they are, and asks for none of its outputs
 gathers_both : Command
-gathers_both = record { named = MadeBy 8 true ∷ Source 1 c_file ∷ []; order_only = []; outputs = codes "all" ∷ []; command = []; depfile = []; restat = false; generator = false }
+gathers_both = record { named = MadeBy 8 true ∷ SourceFile 1 c_file ∷ []; order_only = []; outputs = codes "all" ∷ []; command = []; depfile = []; restat = false; generator = false }
 
 gathered : Follows (does_phony gathers_both) ((Stat c_file, StampIs 5) ∷ []) (Over false ((8, true) ∷ []))
 unfolding gathers_both
@@ -204,7 +208,7 @@ ordered_gathers = refl
 
 -- ---- code
 
--- one source, one output, a depfile
+-- one source file, one output, a depfile
 compiled : CommandWiring
 compiled = record {
   named = File 1 ∷ [];
@@ -229,7 +233,7 @@ compiled_code : command_code compiled ≡
 unfolding compiled
 compiled_code = refl
 
--- two inputs of one maker, two outputs, an order-only source
+-- two inputs of one maker, two outputs, an order-only source file
 linked : CommandWiring
 linked = record {
   named = Made 0 1 ∷ Made 2 1 ∷ [];
@@ -415,3 +419,29 @@ compiled_means = command_means image 0 compiled compiled_code_is compiled_wired
 
 gathered_means : CodeMeans image 2 (wiring.Gather gathers_all)
 gathered_means = phony_means.gather image 2 gathers_all gather_code_is gather_wired
+
+-- with no slot set, as at the first edge's begin
+abbrev unset : ℕ → Slots
+unset zero = []
+unset (suc n) = None ∷ unset n
+
+none_is_set : (n s : ℕ) (v : Value) → slice_get (unset n) s ≡ Some (Some v) → ⊥
+none_is_set zero s v h = absurd cc
+none_is_set (suc n) zero v h = absurd cc
+none_is_set (suc n) (suc s) v h = none_is_set n s v h
+
+unset_typed : AreTyped image (unset 7)
+unfolding image
+unset_typed = record { table = refl; kinds = λ s v h. absurd (none_is_set 7 s v h) }
+
+none_lent : (o : Option Slot) → lent_by [] o ≡ true → ⊥
+none_lent (Some slot) h = absurd cc
+none_lent None h = absurd cc
+
+unset_lent : AreLentSet image 0 (unset 7)
+unfolding image
+unset_lent s h = absurd (none_lent (slice_get image.slots s) h)
+
+compiled_keeps : Obeys none_read image 0 (Leaves compiled.outputs) (at_begin (unset 7)) (does none_read (command_of image (unset 7) compiled []))
+unfolding compiled
+compiled_keeps = compiled_means none_read (unset 7) [] unset_typed unset_lent refl

@@ -12,9 +12,9 @@ use Rattle.plan_compile.specs.declared.wiring.Output.{Output}
 use Rattle.plan_compile.specs.declared.form.Form.{Form}
 use Rattle.plan_compile.specs.declared.form.Form.TheVariants.{OneFlag, OwnFlags, Gathers, Alone}
 use Rattle.plan_compile.specs.Talk.{Talk}
-use Rattle.plan_compile.specs.Rule.{Path, Given, Source, Command, is_among, asked, does, does_phony}
+use Rattle.plan_compile.specs.Rule.{Path, Given, SourceFile, Command, is_among, asked, does, does_phony}
 use Rattle.plan_compile.specs.Rule.{Made as MadeBy, has_none as has_none_given}
-use Rattle.plan_compile.specs.Means.{text_in, text_at, path_at, given, source, output_path, depfile_text, files_of, command_of, phony_of, rule_of, AreGiven}
+use Rattle.plan_compile.specs.Means.{text_in, text_at, path_at, given, source_file, output_path, depfile_text, files_of, command_of, phony_of, rule_of, AreGiven}
 use Rattle.plan_compile.specs.Builds.{Build, Builds}
 use Rattle.plan_compile.specs.Slots.{has_none, form_of, base, outputs_by, all_made, find, input_by, inputs_by, sources}
 use Rattle.plan_compile.specs.Names.{Text, text_number, unless_empty, all_texts, depfile_number}
@@ -63,20 +63,20 @@ module _ (t : Builds) (slots : Slots) where
   among_named f (g ∷ fs) none = among_by f g (find g (all_made zero t.edges)) (map (told t slots) fs) (is_member f fs) none refl (among_named f fs none)
 
   asked_by : (f : ℕ) (named fs : List ℕ) (o : Option Output) → find f (all_made zero t.edges) ≡ o
-      → asked (map (told t slots) named) (map (told t slots) fs) ≡ map (source (image_of t)) (sources (all_made zero t.edges) named fs)
+      → asked (map (told t slots) named) (map (told t slots) fs) ≡ map (source_file (image_of t)) (sources (all_made zero t.edges) named fs)
       → asked (map (told t slots) named) (told_by t slots f o ∷ map (told t slots) fs)
-        ≡ map (source (image_of t)) (if is_some o || is_member f named then sources (all_made zero t.edges) named fs else f ∷ sources (all_made zero t.edges) named fs)
+        ≡ map (source_file (image_of t)) (if is_some o || is_member f named then sources (all_made zero t.edges) named fs else f ∷ sources (all_made zero t.edges) named fs)
   asked_by f named fs (Some o) is rest = rest
   asked_by f named fs None is rest =
       let among : is_among f (map (told t slots) named) ≡ is_member f named = among_named f named is in
       let others : List ℕ = sources (all_made zero t.edges) named fs in
-      ap (λ (b : Bool). if b then asked (map (told t slots) named) (map (told t slots) fs) else Source f (path_in t f) ∷ asked (map (told t slots) named) (map (told t slots) fs)) among
+      ap (λ (b : Bool). if b then asked (map (told t slots) named) (map (told t slots) fs) else SourceFile f (path_in t f) ∷ asked (map (told t slots) named) (map (told t slots) fs)) among
       ∙ (elim (is_member f named)
-        as (λ b. (if b then asked (map (told t slots) named) (map (told t slots) fs) else Source f (path_in t f) ∷ asked (map (told t slots) named) (map (told t slots) fs))
-          ≡ map (source (image_of t)) (if b then others else f ∷ others))
-        [ true ↦ rest | false ↦ ap (λ (gs : List Given). Source f (path_in t f) ∷ gs) rest ])
+        as (λ b. (if b then asked (map (told t slots) named) (map (told t slots) fs) else SourceFile f (path_in t f) ∷ asked (map (told t slots) named) (map (told t slots) fs))
+          ≡ map (source_file (image_of t)) (if b then others else f ∷ others))
+        [ true ↦ rest | false ↦ ap (λ (gs : List Given). SourceFile f (path_in t f) ∷ gs) rest ])
 
-  pub asked_are : (named fs : List ℕ) → asked (map (told t slots) named) (map (told t slots) fs) ≡ map (source (image_of t)) (sources (all_made zero t.edges) named fs)
+  pub asked_are : (named fs : List ℕ) → asked (map (told t slots) named) (map (told t slots) fs) ≡ map (source_file (image_of t)) (sources (all_made zero t.edges) named fs)
   asked_are named [] = refl
   asked_are named (f ∷ fs) = asked_by f named fs (find f (all_made zero t.edges)) refl (asked_are named fs)
 

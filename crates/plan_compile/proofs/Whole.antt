@@ -15,8 +15,8 @@ use Rattle.plan_verify.specs.Turn.{Slots, is_set, Meaning, same_text}
 use Rattle.plan_compile.specs.declared.wiring.Output.{Output}
 use Rattle.plan_compile.specs.declared.wiring.CommandWiring.{CommandWiring}
 use Rattle.plan_compile.specs.Talk.{Left, Talk, Over}
-use Rattle.plan_compile.specs.Rule.{Path, Given, Command, Recorded, greatest_from, greatest, least, some_missing, some_changed, is_new, mark, paths_in, is_dirty, name, unchanged, changed, depfile, stamps, runs}
-use Rattle.plan_compile.specs.Emit.{has_source, holders, alarm_code, deps_code, after_code, ready_code, skip_code, clean_code, clean_len, run_code, dirty_code, judge_code, other_code, same_code}
+use Rattle.plan_compile.specs.Rule.{Path, Given, Command, Recorded, greatest_from, greatest, least, some_missing, some_changed, is_new, baseline, paths_in, is_dirty, name, unchanged, changed, depfile, stamps, runs}
+use Rattle.plan_compile.specs.Emit.{has_source_file, holders, alarm_code, deps_code, after_code, ready_code, skip_code, clean_code, clean_len, run_code, dirty_code, judge_code, other_code, same_code}
 use Rattle.plan_compile.specs.Means.{text_at, output_path, depfile_text, command_of, Leaves, slots_of, HaveFlagSlots}
 use Rattle.plan_compile.proofs.Wired.{HasText, Wired, some_flag, or_cases}
 use Rattle.plan_compile.proofs.Machine.{From, plain, load, text, run, deps, keep, sweep_all, take_place, release_place, jump, jump_if, finish, missing_from, entry_values}
@@ -156,7 +156,7 @@ module _ (meaning : Meaning) (p : Parts) (e : ℕ) (w : CommandWiring) (start : 
 
   -- ---- the sweep and the comparison
 
-  -- what makes the edge dirty once its entry was looked at: the alarm a, and the mark m
+  -- what makes the edge dirty once its entry was looked at: the alarm a, and the baseline m
   abbrev pub Weighs : List ℕ → List ℕ → Option Recorded → Bool → ℕ → Type 0
   Weighs named old entry a m = (ts : List ℕ) → is_dirty c named old entry ts ≡ (missing_from a ts || nat_lt m (greatest_from (greatest named) ts))
 
@@ -182,33 +182,33 @@ module _ (meaning : Meaning) (p : Parts) (e : ℕ) (w : CommandWiring) (start : 
 
   -- the alarm of the edge
   abbrev pub looks : Bool → Bool
-  looks r = r || not (has_source w.named)
+  looks r = r || not (has_source_file w.named)
 
   abbrev pub alarm : Bool → List ℕ → Bool
   alarm r old = alarm_of meaning p e L (looks r) old (some_flag start w.flags)
 
   -- with a look at the outputs
   pub weighs_looked : (named old : List ℕ) (entry : Option Recorded) (a : Bool) (m : ℕ) → (old ≡ [] → ⊥) → (not c.generator && is_new c.command entry) ≡ false
-      → a ≡ ((least old == 0) || some_flag start w.flags) → m ≡ mark c.restat old entry → Weighs named old entry a m
-  weighs_looked named old entry a m some same alarm_is mark_is ts =
+      → a ≡ ((least old == 0) || some_flag start w.flags) → m ≡ baseline c.restat old entry → Weighs named old entry a m
+  weighs_looked named old entry a m some same alarm_is baseline_is ts =
       let g : ℕ = greatest_from (greatest named) ts in
       let full : a ≡ (some_missing old || some_changed c.named) = alarm_is ∙ (ap (λ (b : Bool). b || some_flag start w.flags) (missing_least old some) ∙ ap (λ (b : Bool). some_missing old || b) wired.flags_are) in
       dirty_is c named old entry ts same
-      ∙ (ap (λ (b : Bool). missing_from b ts || nat_lt (mark c.restat old entry) g) (sym full) ∙ ap (λ (n : ℕ). missing_from a ts || nat_lt n g) (sym mark_is))
+      ∙ (ap (λ (b : Bool). missing_from b ts || nat_lt (baseline c.restat old entry) g) (sym full) ∙ ap (λ (n : ℕ). missing_from a ts || nat_lt n g) (sym baseline_is))
 
   -- without one
   pub weighs_unlooked : (named old : List ℕ) (entry : Option Recorded) (a : Bool) (m : ℕ) → (old ≡ [] → ⊥) → (not c.generator && is_new c.command entry) ≡ false
-      → w.restat ≡ false → 0 < greatest named → a ≡ some_flag start w.flags → m ≡ mark c.restat old entry → Weighs named old entry a m
-  weighs_unlooked named old entry a m some same plain positive alarm_is mark_is ts =
+      → w.restat ≡ false → 0 < greatest named → a ≡ some_flag start w.flags → m ≡ baseline c.restat old entry → Weighs named old entry a m
+  weighs_unlooked named old entry a m some same plain positive alarm_is baseline_is ts =
       let g : ℕ = greatest_from (greatest named) ts in
       dirty_unlooked c named old entry ts same plain some positive
-      ∙ (ap (λ (b : Bool). missing_from b ts || nat_lt (mark c.restat old entry) g) (sym (alarm_is ∙ wired.flags_are)) ∙ ap (λ (n : ℕ). missing_from a ts || nat_lt n g) (sym mark_is))
+      ∙ (ap (λ (b : Bool). missing_from b ts || nat_lt (baseline c.restat old entry) g) (sym (alarm_is ∙ wired.flags_are)) ∙ ap (λ (n : ℕ). missing_from a ts || nat_lt n g) (sym baseline_is))
 
-  pub weighs : (r h : Bool) → w.restat ≡ r → has_source w.named ≡ h → (named old : List ℕ) (entry : Option Recorded) (m : ℕ) → (old ≡ [] → ⊥) → (not c.generator && is_new c.command entry) ≡ false
-      → IsPositive w.named (greatest named) → m ≡ mark c.restat old entry → Weighs named old entry (alarm_of meaning p e L (r || not h) old (some_flag start w.flags)) m
-  weighs true h is has named old entry m some same positive mark_is = weighs_looked named old entry _ m some same refl mark_is
-  weighs false true is has named old entry m some same positive mark_is = weighs_unlooked named old entry _ m some same is (positive has) refl mark_is
-  weighs false false is has named old entry m some same positive mark_is = weighs_looked named old entry _ m some same refl mark_is
+  pub weighs : (r h : Bool) → w.restat ≡ r → has_source_file w.named ≡ h → (named old : List ℕ) (entry : Option Recorded) (m : ℕ) → (old ≡ [] → ⊥) → (not c.generator && is_new c.command entry) ≡ false
+      → IsPositive w.named (greatest named) → m ≡ baseline c.restat old entry → Weighs named old entry (alarm_of meaning p e L (r || not h) old (some_flag start w.flags)) m
+  weighs true h is has named old entry m some same positive baseline_is = weighs_looked named old entry _ m some same refl baseline_is
+  weighs false true is has named old entry m some same positive baseline_is = weighs_unlooked named old entry _ m some same is (positive has) refl baseline_is
+  weighs false false is has named old entry m some same positive baseline_is = weighs_looked named old entry _ m some same refl baseline_is
 
   -- what stands below the recorded paths
   abbrev pub below : Bool → List ℕ → ℕ → List Value
@@ -219,10 +219,10 @@ module _ (meaning : Meaning) (p : Parts) (e : ℕ) (w : CommandWiring) (start : 
   below_roomy true old n = refl
   below_roomy false old n = refl
 
-  -- from where the mark is known and the command isn't another
+  -- from where the baseline is known and the command isn't another
   pub judged_by : (r : Bool) → w.restat ≡ r → (rest : List Instr) (talk : Talk) (slots : Slots) (named old : List ℕ) (entry : Option Recorded) (b : ℕ) → Ready slots named → Hold slots w.outputs old
-      → (r ≡ true → b ≡ mark c.restat old entry)
-      → ((m : ℕ) → m ≡ mark c.restat old entry → From meaning p e L rest (Paths (paths_in entry) 0 ∷ Flag (alarm r old) ∷ Stamp (greatest named) ∷ Stamp m ∷ []) slots false false talk)
+      → (r ≡ true → b ≡ baseline c.restat old entry)
+      → ((m : ℕ) → m ≡ baseline c.restat old entry → From meaning p e L rest (Paths (paths_in entry) 0 ∷ Flag (alarm r old) ∷ Stamp (greatest named) ∷ Stamp m ∷ []) slots false false talk)
       → From meaning p e L (ready_code r w rest) (Stamp b ∷ Paths (paths_in entry) 0 ∷ below r old (greatest named)) slots false false talk
   judged_by true is rest talk slots named old entry b ready hold known h =
       let ps : List Path = paths_in entry in
@@ -235,7 +235,7 @@ module _ (meaning : Meaning) (p : Parts) (e : ℕ) (w : CommandWiring) (start : 
       (h b (known refl))))))
   judged_by false is rest talk slots named old entry b ready hold known h =
       plain meaning p e L op.Drop (Stamp b ∷ Paths (paths_in entry) 0 ∷ below false old (greatest named)) (Paths (paths_in entry) 0 ∷ below false old (greatest named)) (λ l. refl) refl refl
-      (h (least old) (sym (ap (λ (r : Bool). mark r old entry) is)))
+      (h (least old) (sym (ap (λ (r : Bool). baseline r old entry) is)))
 
   -- where the recorded command is another, the paths are swept all the same
   pub skip_all : (r : Bool) (rest : List Instr) (talk : Talk) (slots : Slots) (old : List ℕ) (ps : List Path) (b n : ℕ)

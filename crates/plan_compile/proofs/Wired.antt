@@ -16,7 +16,7 @@ use Rattle.plan_compile.specs.declared.wiring.Input.TheVariants.{File, Made}
 use Rattle.plan_compile.specs.declared.wiring.Output.{Output}
 use Rattle.plan_compile.specs.declared.wiring.CommandWiring.{CommandWiring}
 use Rattle.plan_compile.specs.Rule.{Path, some_changed, first}
-use Rattle.plan_compile.specs.Means.{text_in, path_at, text_at, stamp_in, stamp_at, flag_in, flag_at, given, output_path, IsFile, IsText, IsLentOf, AreInputs, AreSources, AreOutputs, flags_of, HaveFlags, IsNoStamp, IsNoFlag, AreApart, HaveFlagSlots, slots_of, files_of, AreAllOwn, IsCommand}
+use Rattle.plan_compile.specs.Means.{text_in, path_at, text_at, stamp_in, stamp_at, flag_in, flag_at, given, output_path, IsFile, IsText, IsLentOf, AreInputs, AreSourceFiles, AreOutputs, flags_of, HaveFlags, IsNoStamp, IsNoFlag, AreApart, HaveFlagSlots, slots_of, files_of, AreAllOwn, IsCommand}
 
 -- ---- what is known of numbers
 
@@ -180,7 +180,7 @@ module _ (p : Parts) (e : ℕ) where
       let x = get_inside p.texts t (leb-false (length p.texts) t inside) in
       x.1 ∙ ap (λ (o : Option (List ℕ)). Some (text_in o)) (sym x.1)
 
-  pub files : (fs : List ℕ) → AreSources p fs → AreFiles p fs
+  pub files : (fs : List ℕ) → AreSourceFiles p fs → AreFiles p fs
   files [] h = tt
   files (f ∷ fs) h = (has_path f h.0, files fs h.1)
 

@@ -18,7 +18,7 @@ use Rattle.plan_compile.specs.declared.wiring.Wiring.{Wiring}
 use Rattle.plan_compile.specs.declared.form.Form.{Form}
 use Rattle.plan_compile.specs.declared.form.Form.TheVariants.{OneFlag, OwnFlags, Gathers, Alone}
 use Rattle.plan_compile.specs.Builds.{Build, Builds}
-use Rattle.plan_compile.specs.Means.{text_in, text_at, IsFile, IsText, IsOwnOf, IsLentOf, AreInputs, AreSources, AreOutputs, flags_of, HaveFlags, HaveFlagSlots, slots_of, files_of, AreAllOwn, IsNoStamp, IsCommand, IsGather, IsAlone, IsWired}
+use Rattle.plan_compile.specs.Means.{text_in, text_at, IsFile, IsText, IsOwnOf, IsLentOf, AreInputs, AreSourceFiles, AreOutputs, flags_of, HaveFlags, HaveFlagSlots, slots_of, files_of, AreAllOwn, IsNoStamp, IsCommand, IsGather, IsAlone, IsWired}
 use Rattle.plan_compile.specs.Slots.{has_none, form_by, form_of, kinds_by, own_kinds, stamps, pairs, outputs_flagged, outputs_apart, outputs_sharing, outputs_by, made, newest_by, base, all_made, find, input_by, inputs_by, sources, with_flag, flags_from, flags_once}
 use Rattle.plan_compile.specs.Names.{Text, text_number, unless_empty, label_of, texts_by, texts_in, all_texts, depfile_number, pool_number, used_pools}
 use Rattle.plan_compile.specs.Names.{pool_in as pool_name}
@@ -93,11 +93,11 @@ module _ (t : Builds) (sound : IsSound t) (e : ℕ) (x : Build) (at : IsEdge t e
       input_right f (find f (all_made zero t.edges)) (inputs_by (all_made zero t.edges) fs) refl (named f (or_left (f == f) (is_member f fs) (eq-eqb f f refl))) o.0
       (inputs_right fs o.1 (λ g m. named g (or_right (f == g) (is_member g fs) m)))
 
-pub sources_right : (t : Builds) (outputs : List Output) (named fs : List ℕ) → AreInside t fs → AreSources (image_of t) (sources outputs named fs)
+pub sources_right : (t : Builds) (outputs : List Output) (named fs : List ℕ) → AreInside t fs → AreSourceFiles (image_of t) (sources outputs named fs)
 sources_right t outputs named [] inside = tt
 sources_right t outputs named (f ∷ fs) inside =
     let o = or_false (nat_le (length t.files) f) (list_any (λ g. nat_le (length t.files) g) fs) inside in
-    elim (is_some (find f outputs) || is_member f named) as (λ b. AreSources (image_of t) (if b then sources outputs named fs else f ∷ sources outputs named fs))
+    elim (is_some (find f outputs) || is_member f named) as (λ b. AreSourceFiles (image_of t) (if b then sources outputs named fs else f ∷ sources outputs named fs))
     [ true ↦ sources_right t outputs named fs o.1 | false ↦ (o.0, sources_right t outputs named fs o.1) ]
 
 -- ---- the flags of inputs, each once

@@ -15,12 +15,12 @@ use Rattle.plan_compile.specs.declared.wiring.Wiring.TheVariants.{Command, Gathe
 
 -- ---- inputs
 
--- order-only sources have to be there, and no more
+-- order-only source files have to be there, and no more
 abbrev pub order_code : List ℕ → List Instr
 order_code [] = []
 order_code (f ∷ fs) = op.Need f ∷ op.Drop ∷ order_code fs
 
--- a source is asked for, what an edge makes has its stamp in a slot
+-- a source file is asked for, what an edge makes has its stamp in a slot
 abbrev pub input_code : Input → Instr
 input_code (File f) = op.Need f
 input_code (Made stamp changed) = op.Load stamp
@@ -45,13 +45,13 @@ abbrev pub any_code : List ℕ → List Instr
 any_code [] = op.Flag false ∷ []
 any_code (s ∷ ss) = op.Load s ∷ or_code ss
 
-abbrev pub is_source : Input → Bool
-is_source (File f) = true
-is_source (Made stamp changed) = false
+abbrev pub is_source_file : Input → Bool
+is_source_file (File f) = true
+is_source_file (Made stamp changed) = false
 
-abbrev pub has_source : List Input → Bool
-has_source [] = false
-has_source (i ∷ is) = is_source i || has_source is
+abbrev pub has_source_file : List Input → Bool
+has_source_file [] = false
+has_source_file (i ∷ is) = is_source_file i || has_source_file is
 
 -- ---- outputs
 
@@ -95,17 +95,17 @@ after_code false os rest = stat_code os ++ (flag_code true (holders false os) ++
 -- ---- a command edge up to its recorded entry
 
 -- Whether an output is missing or an input changed. The least stamp tells whether one is missing. It isn't looked at
--- where the mark is the oldest output and a source is named: that source is newer than a missing output.
+-- where the baseline is the oldest output and a source file is named: that source file is newer than a missing output.
 abbrev pub alarm_code : (looks : Bool) → List Output → (flags : List ℕ) → List Instr
 alarm_code true os flags = oldest_code os ++ (op.IsMissing ∷ or_code flags)
 alarm_code false os flags = any_code flags
 
--- What the sweep goes on from, where the edge isn't restat: the oldest output's stamp as the mark, the newest input's
+-- What the sweep goes on from, where the edge isn't restat: the oldest output's stamp as the baseline, the newest input's
 -- stamp, and the alarm.
 abbrev pub weighed_code : (restat : Bool) → CommandWiring → List Instr → List Instr
 weighed_code true w rest = rest
 weighed_code false w rest =
-    oldest_code w.outputs ++ (op.Load w.newest ∷ (alarm_code (not (has_source w.named)) w.outputs w.flags ++ rest))
+    oldest_code w.outputs ++ (op.Load w.newest ∷ (alarm_code (not (has_source_file w.named)) w.outputs w.flags ++ rest))
 
 -- the questions up to the entry
 abbrev pub front : CommandWiring → List Instr → List Instr
@@ -120,7 +120,7 @@ abbrev pub same_code : (blank : Bool) → ℕ → List Instr
 same_code true t = op.Not ∷ op.Swap ∷ op.Text t ∷ op.Equal ∷ op.Not ∷ op.Or ∷ op.Not ∷ []
 same_code false t = op.Drop ∷ op.Text t ∷ op.Equal ∷ []
 
--- Makes ready for the sweep: the mark, the newest input's stamp, the alarm and the paths. The mark of a restat edge
+-- Makes ready for the sweep: the baseline, the newest input's stamp, the alarm and the paths. The baseline of a restat edge
 -- stands over the paths; the basis that another edge has there is dropped.
 abbrev pub ready_code : (restat : Bool) → CommandWiring → List Instr → List Instr
 ready_code true w rest = op.Swap ∷ op.Load w.newest ∷ op.Swap ∷ (alarm_code true w.outputs w.flags ++ (op.Swap ∷ rest))
@@ -183,11 +183,11 @@ compare_code w at =
     same_code w.blank w.command
     ++ (op.JumpIf (same_place w at) ∷ other_code w (dirty_place w (same_place w at)) (judged_code w (same_place w at)))
 
--- where the mark of a restat generator with an entry is known
+-- where the baseline of a restat generator with an entry is known
 abbrev pub known_place : CommandWiring → (at : ℕ) → ℕ
 known_place w at = at + 4 + length (oldest_code w.outputs)
 
--- a generator looks at no command; without an entry the mark is the oldest output
+-- a generator looks at no command; without an entry the baseline is the oldest output
 abbrev pub pass_code : (restat : Bool) → CommandWiring → (at : ℕ) → List Instr
 pass_code true w at =
     op.JumpIf (known_place w at) ∷ op.Drop ∷ op.Drop

@@ -19,7 +19,7 @@ use Rattle.plan_compile.specs.declared.wiring.GatherWiring.{GatherWiring}
 use Rattle.plan_compile.specs.declared.wiring.Wiring.{Wiring}
 use Rattle.plan_compile.specs.declared.wiring.Wiring.TheVariants as wiring
 use Rattle.plan_compile.specs.Talk.{Left, Talk, Obeys}
-use Rattle.plan_compile.specs.Rule.{Path, Given, Source, Command, asked, has_none, does, does_phony}
+use Rattle.plan_compile.specs.Rule.{Path, Given, SourceFile, Command, asked, has_none, does, does_phony}
 use Rattle.plan_compile.specs.Rule.{Made as MadeBy}
 
 -- ---- look-ups; outside the tables the answers don't matter
@@ -51,11 +51,11 @@ flag_at slots s = flag_in (slice_get slots s)
 -- ---- an edge by what its numbers stand for
 
 abbrev pub given : Parts → Slots → Input → Given
-given p slots (File f) = Source f (path_at p f)
+given p slots (File f) = SourceFile f (path_at p f)
 given p slots (Made stamp changed) = MadeBy (stamp_at slots stamp) (flag_at slots changed)
 
-abbrev pub source : Parts → ℕ → Given
-source p f = Source f (path_at p f)
+abbrev pub source_file : Parts → ℕ → Given
+source_file p f = SourceFile f (path_at p f)
 
 abbrev pub output_path : Parts → Output → Path
 output_path p o = path_at p o.file
@@ -127,9 +127,9 @@ AreInputs p e [] = Unit {0}
 AreInputs p e (File f ∷ is) = IsFile p f × AreInputs p e is
 AreInputs p e (Made stamp changed ∷ is) = (IsLentOf p e kind.Stamp stamp × IsLentOf p e kind.Flag changed) × AreInputs p e is
 
-abbrev pub AreSources : Parts → List ℕ → Type 0
-AreSources p [] = Unit {0}
-AreSources p (f ∷ fs) = IsFile p f × AreSources p fs
+abbrev pub AreSourceFiles : Parts → List ℕ → Type 0
+AreSourceFiles p [] = Unit {0}
+AreSourceFiles p (f ∷ fs) = IsFile p f × AreSourceFiles p fs
 
 abbrev pub AreOutputs : Parts → ℕ → List Output → Type 0
 AreOutputs p e [] = Unit {0}
@@ -197,7 +197,7 @@ AreAllOwn p e slots = list_all (λ s. is_member s slots) (own_slots p e) ≡ tru
 -- The numbers of a command edge are right in an image.
 pub record IsCommand (p : Parts) (e : ℕ) (w : CommandWiring) : Type 0 where
   pub named : AreInputs p e w.named
-  pub order_only : AreSources p w.order_only
+  pub order_only : AreSourceFiles p w.order_only
   pub outputs : AreOutputs p e w.outputs
   pub files : outputs_of p e ≡ files_of w.outputs
   pub some : w.outputs ≡ [] → ⊥
@@ -213,7 +213,7 @@ pub record IsCommand (p : Parts) (e : ℕ) (w : CommandWiring) : Type 0 where
 -- The numbers of a phony with inputs are right.
 pub record IsGather (p : Parts) (e : ℕ) (g : GatherWiring) : Type 0 where
   pub named : AreInputs p e g.named
-  pub order_only : AreSources p g.order_only
+  pub order_only : AreSourceFiles p g.order_only
   pub flags : HaveFlags g.named g.flags
   pub share : Share g.stamp g.changed g.outputs
   pub stamp : IsOwnOf p e kind.Stamp g.stamp
@@ -235,9 +235,9 @@ IsWired p e (wiring.Alone outputs) = IsAlone p e outputs
 
 -- Its order-only inputs, as they are given, are those that the code asks for, and none where it is a phony alone.
 abbrev pub AreGiven : Parts → Slots → List Given → Wiring → Type 0
-AreGiven p slots order_only (wiring.Command w) = asked (map (given p slots) w.named) order_only ≡ map (source p) w.order_only
+AreGiven p slots order_only (wiring.Command w) = asked (map (given p slots) w.named) order_only ≡ map (source_file p) w.order_only
 AreGiven p slots order_only (wiring.Gather g) =
-    (asked (map (given p slots) g.named) order_only ≡ map (source p) g.order_only) × ((has_none (map (given p slots) g.named) && has_none order_only) ≡ false)
+    (asked (map (given p slots) g.named) order_only ≡ map (source_file p) g.order_only) × ((has_none (map (given p slots) g.named) && has_none order_only) ≡ false)
 AreGiven p slots order_only (wiring.Alone outputs) = order_only ≡ []
 
 -- ---- what the code of an edge means

@@ -8,9 +8,9 @@ use Rattle.plan_compile.specs.Talk.{Left, Talk, Ask, Over, Fail}
 abbrev pub Path : Type 0
 Path = List ℕ
 
--- an input: a source with its number and path, or what an edge makes, with that edge's stamp and changed flag
+-- an input: a source file with its number and path, or what an edge makes, with that edge's stamp and changed flag
 pub data Given : Type 0 where
-  Source : (file : ℕ) (path : Path) → Given
+  SourceFile : (file : ℕ) (path : Path) → Given
   Made : (stamp : ℕ) (changed : Bool) → Given
 
 pub record Command : Type 0 where
@@ -64,10 +64,10 @@ abbrev pub kept : Talk → Reply → Talk
 kept go Kept = go
 kept go _ = Fail RecordFault
 
--- the stamps of inputs: a source has to be there, what an edge makes isn't asked for
+-- the stamps of inputs: a source file has to be there, what an edge makes isn't asked for
 abbrev pub inputs : List Given → (List ℕ → Talk) → Talk
 inputs [] go = go []
-inputs (Source f path ∷ others) go = Ask (Stat path) (needed f (λ t. inputs others (λ ts. go (t ∷ ts))))
+inputs (SourceFile f path ∷ others) go = Ask (Stat path) (needed f (λ t. inputs others (λ ts. go (t ∷ ts))))
 inputs (Made t changed ∷ others) go = inputs others (λ ts. go (t ∷ ts))
 
 -- the stamps of files, 0 where one is missing
@@ -77,20 +77,21 @@ stamps (path ∷ others) go = Ask (Stat path) (stamped (λ t. stamps others (λ 
 
 -- ---- what is asked of the inputs
 
--- whether a source is among these inputs
+-- whether a source file is among these inputs
 abbrev pub is_among : ℕ → List Given → Bool
 is_among f [] = false
-is_among f (Source g path ∷ others) = (f == g) || is_among f others
+is_among f (SourceFile g path ∷ others) = (f == g) || is_among f others
 is_among f (Made t changed ∷ others) = is_among f others
 
--- the order-only inputs that are asked for: the sources that aren't named too
+-- the order-only inputs that are asked for: the source files that aren't named too
 abbrev pub asked : (named order_only : List Given) → List Given
 asked named [] = []
-asked named (Source f path ∷ others) = if is_among f named then asked named others else Source f path ∷ asked named others
+asked named (SourceFile f path ∷ others) = if is_among f named then asked named others else SourceFile f path ∷ asked named others
 asked named (Made t changed ∷ others) = asked named others
 
 -- ---- what is compared
 
+-- the greatest of a stamp and these
 abbrev pub greatest_from : ℕ → List ℕ → ℕ
 greatest_from n [] = n
 greatest_from n (t ∷ ts) = greatest_from (later n t) ts
@@ -99,42 +100,52 @@ greatest_from n (t ∷ ts) = greatest_from (later n t) ts
 abbrev pub greatest : List ℕ → ℕ
 greatest ts = greatest_from 0 ts
 
+-- the least of a stamp and these
 abbrev pub least_from : ℕ → List ℕ → ℕ
 least_from n [] = n
 least_from n (t ∷ ts) = least_from (earlier n t) ts
 
+-- the least, and 0 of none
 abbrev pub least : List ℕ → ℕ
 least [] = 0
 least (t ∷ ts) = least_from t ts
 
+-- whether one is the stamp of a missing file
 abbrev pub some_missing : List ℕ → Bool
 some_missing [] = false
 some_missing (t ∷ ts) = (t == 0) || some_missing ts
 
+-- whether an edge that makes one of them says that it changed
 abbrev pub some_changed : List Given → Bool
 some_changed [] = false
-some_changed (Source f path ∷ others) = some_changed others
+some_changed (SourceFile f path ∷ others) = some_changed others
 some_changed (Made t changed ∷ others) = changed || some_changed others
 
+-- whether there is no entry, or one with another command
 abbrev pub is_new : List ℕ → Option Recorded → Bool
 is_new command None = true
 is_new command (Some entry) = not (same_text entry.command command)
 
-abbrev pub mark : Bool → List ℕ → Option Recorded → ℕ
-mark true stamps (Some entry) = entry.basis
-mark _ stamps _ = least stamps
+-- The stamp that the newest input must not pass: of a restat edge with an entry the recorded basis, else the oldest
+-- output's stamp.
+abbrev pub baseline : (restat : Bool) → List ℕ → Option Recorded → ℕ
+baseline true stamps (Some entry) = entry.basis
+baseline _ stamps _ = least stamps
 
+-- the recorded paths
 abbrev pub paths_in : Option Recorded → List Path
 paths_in (Some entry) = entry.paths
 paths_in None = []
 
+-- An edge is dirty where an output is missing, a named input changed, the command is new and the edge no generator, a
+-- recorded path is missing, or the newest of the named inputs and the recorded paths is later than the baseline.
 abbrev pub is_dirty : Command → (named old : List ℕ) → Option Recorded → (swept : List ℕ) → Bool
 is_dirty c named old entry swept =
     some_missing old
     || some_changed c.named
     || (not c.generator && is_new c.command entry)
     || some_missing swept
-    || nat_lt (mark c.restat old entry) (greatest (named ++ swept))
+    || nat_lt (baseline c.restat old entry) (greatest (named ++ swept))
 
 -- ---- a command edge
 
@@ -142,6 +153,7 @@ abbrev pub first : List Path → Path
 first [] = []
 first (path ∷ others) = path
 
+-- an edge's name in the record
 abbrev pub name : Command → Path
 name c = first c.outputs
 
@@ -149,16 +161,18 @@ name c = first c.outputs
 abbrev pub unchanged : List ℕ → Left
 unchanged ts = map (λ t. (t, false)) ts
 
--- outputs after the command
-abbrev pub changed : Bool → (old new : List ℕ) → Left
+-- outputs after the command: those of a restat edge are changed where their stamps are
+abbrev pub changed : (restat : Bool) → (old new : List ℕ) → Left
 changed restat (a ∷ old) (b ∷ new) = (b, not restat || not (a == b)) ∷ changed restat old new
 changed restat _ _ = []
 
+-- the paths of the depfile, none where the edge has no depfile
 abbrev pub depfile : Meaning → List ℕ → (List Path → Talk) → Talk
 depfile meaning [] go = go []
 depfile meaning (c ∷ cs) go = Ask (Deps (c ∷ cs)) (read meaning go)
 
--- a dirty edge, once it has its place
+-- A dirty edge, once it has its place: it runs its command, asks for the depfile and for its paths, keeps an entry whose
+-- basis is the newest of what it read, and asks for its outputs again.
 abbrev pub runs : Meaning → Command → (named old : List ℕ) → Talk
 runs meaning c named old =
     Ask (Run c.command c.outputs) (exited (
@@ -168,6 +182,8 @@ runs meaning c named old =
     stamps c.outputs λ new.
     Over true (changed c.restat old new)))))
 
+-- A command edge asks for its order-only and its named source files, its outputs, its entry, and the recorded paths. Then
+-- it is dirty, or it is clean and over.
 abbrev pub does : Meaning → Command → Talk
 does meaning c =
     inputs (asked c.named c.order_only) λ _.
@@ -191,5 +207,6 @@ alone outputs = stamps outputs λ ts. Over false (map (λ t. (t, t == 0)) ts)
 abbrev pub gathers : Command → Talk
 gathers c = inputs (asked c.named c.order_only) λ _. inputs c.named λ ts. Over false (map (λ path. (greatest ts, some_changed c.named)) c.outputs)
 
+-- whether it has inputs is asked of the inputs as they are given
 abbrev pub does_phony : Command → Talk
 does_phony c = if has_none c.named && has_none c.order_only then alone c.outputs else gathers c

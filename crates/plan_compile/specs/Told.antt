@@ -6,7 +6,7 @@ use Rattle.plan_verify.specs.Sound.{AreTyped, AreLentSet}
 use Rattle.plan_verify.specs.WellShaped.{IsWellShaped}
 use Rattle.plan_compile.specs.declared.wiring.Output.{Output}
 use Rattle.plan_compile.specs.Talk.{Talk, Obeys}
-use Rattle.plan_compile.specs.Rule.{Path, Given, Source, Command, does, does_phony}
+use Rattle.plan_compile.specs.Rule.{Path, Given, SourceFile, Command, does, does_phony}
 use Rattle.plan_compile.specs.Rule.{Made as MadeBy}
 use Rattle.plan_compile.specs.Means.{text_in, stamp_at, flag_at, Leaves}
 use Rattle.plan_compile.specs.Builds.{Build, Builds}
@@ -20,7 +20,7 @@ path_in t f = text_in (slice_get t.files f)
 
 abbrev pub told_by : Builds → Slots → ℕ → Option Output → Given
 told_by t slots f (Some o) = MadeBy (stamp_at slots o.stamp) (flag_at slots o.changed)
-told_by t slots f None = Source f (path_in t f)
+told_by t slots f None = SourceFile f (path_in t f)
 
 -- of an input: the stamp and the flag that its maker left, or the source's number and path
 abbrev pub told : Builds → Slots → ℕ → Given

@@ -4,7 +4,7 @@ ghost use Rattle.std.specs.Prelude.{◌≡◌, ◌≤◌, ◌^◌, true, false, 
 ghost use Rattle.plan_compile.specs.Emit.{after_code, alarm_code, clean_code, clean_len, command_code, compare_code, deps_code, dirty_code, dirty_place, front, holders, judge_code, judged_code, known_place, oldest_code, other_code, pass_code, ready_len, recalled_code, run_code, same_code, same_place, stat_code, weighed_code};
 ghost use Rattle.plan_image.specs.declared.instr.Instr.TheVariants as op;
 
-use crate::inputs::{has_source, push_any, push_newest, push_or, push_order};
+use crate::inputs::{has_source_file, push_any, push_newest, push_or, push_order};
 use crate::outputs::{push_held, push_oldest, push_restat, push_stats};
 use crate::wiring::{CommandWiring, Output};
 use plan_image::Instr;
@@ -39,7 +39,7 @@ fn push_weighed(code: &mut Vec<Instr>, wiring: &CommandWiring) -> Result<(), All
         code.push(Instr::Recall)?;
         Ok(())
     } else {
-        let looks = !has_source(wiring.named.as_slice());
+        let looks = !has_source_file(wiring.named.as_slice());
         push_oldest(code, outputs)?;
         code.push(Instr::Load(wiring.newest))?;
         push_alarm(code, looks, outputs, wiring.flags.as_slice())?;
@@ -316,8 +316,8 @@ fn push_compare(code: &mut Vec<Instr>, wiring: &CommandWiring, at: u32) -> Resul
     push_other(code, wiring, judged)
 }
 
-/// Looks for the mark of a restat generator; the code begins at that place.
-fn push_marked(code: &mut Vec<Instr>, wiring: &CommandWiring, at: u32) -> Result<(), AllocError>
+/// Looks for the baseline of a restat generator; the code begins at that place.
+fn push_baseline(code: &mut Vec<Instr>, wiring: &CommandWiring, at: u32) -> Result<(), AllocError>
     requires place { at ≤ 2 ^ 20 }
     requires few { length wiring.now.outputs ≤ 2 ^ 16 }
     requires few_flags { length wiring.now.flags ≤ 2 ^ 16 }
@@ -342,7 +342,7 @@ fn push_passed(code: &mut Vec<Instr>, wiring: &CommandWiring, at: u32) -> Result
     ensures { OnOk result (code.new.items ≡ code.old.items ++ pass_code wiring.now.restat wiring.now at) }
 {
     if wiring.restat {
-        push_marked(code, wiring, at)
+        push_baseline(code, wiring, at)
     } else {
         code.push(Instr::Drop)?;
         code.push(Instr::Drop)?;

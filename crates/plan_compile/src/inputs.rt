@@ -7,7 +7,7 @@ use crate::wiring::Input;
 use plan_image::Instr;
 use std::alloc::AllocError;
 
-/// Order-only sources have to be there.
+/// Order-only source files have to be there.
 pub(crate) fn push_order(code: &mut Vec<Instr>, files: &[u32]) -> Result<(), AllocError>
     ensures { OnOk result (code.new.items ≡ code.old.items ++ order_code files.now) }
 {
@@ -84,11 +84,11 @@ pub(crate) fn push_any(code: &mut Vec<Instr>, flags: &[u32]) -> Result<(), Alloc
 
 impl Input {
     ghost use Rattle.std.specs.Prelude.{◌≡◌};
-    ghost use Rattle.plan_compile.specs.Emit.{is_source};
+    ghost use Rattle.plan_compile.specs.Emit.{is_source_file};
 
-    /// Whether it is a source.
-    fn is_source(self) -> bool
-        ensures { result ≡ is_source self }
+    /// Whether it is a source file.
+    fn is_source_file(self) -> bool
+        ensures { result ≡ is_source_file self }
     {
         match self {
             Input::File(_file) => true,
@@ -97,12 +97,12 @@ impl Input {
     }
 }
 
-/// Whether a source is among the inputs.
-pub(crate) fn has_source(inputs: &[Input]) -> bool
-    ensures { result ≡ Rattle.plan_compile.specs.Emit.has_source inputs.now }
+/// Whether a source file is among the inputs.
+pub(crate) fn has_source_file(inputs: &[Input]) -> bool
+    ensures { result ≡ Rattle.plan_compile.specs.Emit.has_source_file inputs.now }
 {
     for input in inputs {
-        if input.is_source() {
+        if input.is_source_file() {
             return true;
         }
     }

@@ -13,6 +13,7 @@
 mod bodies;
 mod build;
 mod command;
+mod compiling;
 mod emitting;
 mod fault;
 mod form;
@@ -25,6 +26,7 @@ mod slots;
 mod lookups;
 mod wiring;
 
+pub use compiling::compile;
 pub use emitting::edge_code;
 pub use fault::CompileFault;
 pub use form::Form;

@@ -49,7 +49,7 @@ fn is_command_code(
     is_code(alloc, &Wiring::Command(wiring), expected)
 }
 
-/// One source, one output, a depfile.
+/// One source file, one output, a depfile.
 fn compiled(alloc: Global) -> Result<CommandWiring, AllocError> {
     let mut wiring = command(alloc, false, false)?;
     wiring.depfile = Some(1);
@@ -114,7 +114,7 @@ fn source_and_depfile(rt: HostRuntime) -> Result<(), AllocError> {
     Ok(())
 }
 
-/// Two inputs of one maker, two outputs, an order-only source.
+/// Two inputs of one maker, two outputs, an order-only source file.
 fn linked(alloc: Global) -> Result<CommandWiring, AllocError> {
     let mut wiring = command(alloc, false, false)?;
     wiring.named = items(alloc, [Input::Made(0, 1), Input::Made(2, 1)].as_slice())?;
@@ -321,7 +321,7 @@ fn numbers(alloc: Global, count: u32) -> Result<Items<u32>, AllocError> {
     Ok(Items::new(found))
 }
 
-/// How long the code of a command edge with so many order-only sources is.
+/// How long the code of a command edge with so many order-only source files is.
 fn len_ordered(alloc: Global, count: u32) -> Result<usize, CompileFault> {
     let mut wiring = command(alloc, false, false)?;
     wiring.order_only = numbers(alloc, count)?;

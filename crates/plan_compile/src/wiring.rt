@@ -5,7 +5,7 @@ use plan_text::Items;
 /// Where an input's stamp comes from.
 #[derive(Clone, Copy, Debug, PartialEq, Eq)]
 pub enum Input {
-    /// A source, by the number of its file: it is asked for.
+    /// A source file, by the number of its file: it is asked for.
     File(u32),
     /// What an edge makes: the stamp slot and the flag slot that its maker sets.
     Made(u32, u32),
@@ -24,7 +24,7 @@ pub struct Output {
 pub struct CommandWiring {
     /// The explicit and the implicit inputs, in order.
     pub named: Items<Input>,
-    /// The order-only sources that aren't named too.
+    /// The order-only source files that aren't named too.
     pub order_only: Items<u32>,
     /// At least one. Each has a stamp slot of its own; they share a flag slot unless the edge is restat.
     pub outputs: Items<Output>,
@@ -46,7 +46,7 @@ pub struct CommandWiring {
 #[derive(Debug, Drop)]
 pub struct GatherWiring {
     pub named: Items<Input>,
-    /// The order-only sources that aren't named too.
+    /// The order-only source files that aren't named too.
     pub order_only: Items<u32>,
     pub outputs: Items<Output>,
     /// The flag slots among the named inputs, each once, in any order.
