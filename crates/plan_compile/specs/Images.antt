@@ -85,16 +85,20 @@ abbrev pub sort_of : (phony : Bool) → Sort
 sort_of true = Phony
 sort_of false = Command
 
-abbrev pub edge_of : (texts pools : List Text) → List Body → List Instr → Build → Edge
-edge_of texts pools bodies is x = record {
+-- an edge with this code
+abbrev pub edge_by : (texts pools : List Text) → EdgeCode → Build → Edge
+edge_by texts pools code x = record {
   sort = sort_of x.edge.phony;
   pool = pool_number pools (pool_in x);
   rank = x.rank;
   label = text_number texts (label_of x);
   outputs = x.outputs;
   waits = x.waits;
-  code = shared bodies is;
+  code = code;
 }
+
+abbrev pub edge_of : (texts pools : List Text) → List Body → List Instr → Build → Edge
+edge_of texts pools bodies is x = edge_by texts pools (shared bodies is) x
 
 -- edges with their codes
 abbrev pub edges_of : (texts pools : List Text) → List Body → List (List Instr) → List Build → List Edge

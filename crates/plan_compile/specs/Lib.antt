@@ -11,5 +11,6 @@ pub mod Names
 pub mod Images
 pub mod Faithful
 pub mod OutputTable
+pub mod Assembling
 pub mod Told
 pub mod Faults

@@ -4,6 +4,7 @@ ghost use Rattle.std.specs.Prelude.{◌≡◌};
 ghost use Rattle.plan_compile.specs.Faults.{number_of};
 ghost use Rattle.plan_compile.specs.declared.fault.CompileFault.TheVariants as fault;
 
+use plan_text::Memory;
 use std::alloc::{AllocError, AllocFailed};
 
 /// Why a manifest has no image.
@@ -39,6 +40,14 @@ impl<T: Drop> From<AllocFailed<T>> for CompileFault {
     ghost from_gives = { λ _ e. e ≡ fault.Memory };
 
     fn from(_e: AllocFailed<T>) -> CompileFault {
+        CompileFault::Memory
+    }
+}
+
+impl From<Memory> for CompileFault {
+    ghost from_gives = { λ _ e. e ≡ fault.Memory };
+
+    fn from(_e: Memory) -> CompileFault {
         CompileFault::Memory
     }
 }

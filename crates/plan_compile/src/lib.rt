@@ -14,6 +14,8 @@ mod bodies;
 mod build;
 mod command;
 mod compiling;
+mod edge_wiring;
+mod edges;
 mod emitting;
 mod fault;
 mod form;

@@ -4,7 +4,7 @@ ghost use Rattle.std.specs.Prelude.{◌≡◌, ◌++◌, [], IfOk, OnOk, slice_g
 ghost use Rattle.plan_image.specs.Spelling.{AscendsFrom};
 ghost use Rattle.plan_verify.specs.Members.{is_member};
 ghost use Rattle.plan_compile.specs.Means.{flags_of};
-ghost use Rattle.plan_compile.specs.OutputTable.{found, inputs_in, sources_in};
+ghost use Rattle.plan_compile.specs.OutputTable.{found, inputs_in, outputs_in, sources_in};
 ghost use Rattle.plan_compile.specs.Slots.{flags_once, input_by, members_from};
 
 use crate::fault::CompileFault;
@@ -133,4 +133,22 @@ pub(crate) fn sources(
     }
     let named = ascending(Vec::from_slice(alloc, named)?);
     other_sources(alloc, table, &named, order_only)
+}
+
+/// The outputs that are these files.
+pub(crate) fn outputs(
+    alloc: Global,
+    table: &[Option<Output>],
+    files: &[u32],
+) -> Result<Items<Output>, CompileFault>
+    ensures { IfOk result (λ outputs. outputs ≡ outputs_in table.now files.now) }
+{
+    let mut outputs = Vec::with_capacity(alloc, files.len())?;
+    for file in files {
+        match look(table, *file) {
+            Some(output) => outputs.push(output)?,
+            None => {}
+        }
+    }
+    Ok(Items::new(outputs))
 }
