@@ -32,3 +32,4 @@ mod TextLemmas
 mod AscendLemmas
 mod LookupLemmas
 mod BodyTableLemmas
+mod AssembleLemmas

@@ -68,7 +68,7 @@ find_is f (o ∷ os) q h =
           (suc r.0, r.1, r.2)
     ]
 
-file_at : (b : ℕ) (x : Build) (i : ℕ) (o : Output) → slice_get (made b x) i ≡ Some o → slice_get x.outputs i ≡ Some o.file
+pub file_at : (b : ℕ) (x : Build) (i : ℕ) (o : Output) → slice_get (made b x) i ≡ Some o → slice_get x.outputs i ≡ Some o.file
 file_at b x i o h =
     ap (λ (fs : List ℕ). slice_get fs i) (sym (files_made (form_of x) b x.outputs))
     ∙ slice_get-map (λ (q : Output). q.file) (made b x) i ∙ ap (option_map (λ (q : Output). q.file)) h

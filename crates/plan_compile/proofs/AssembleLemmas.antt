@@ -1,0 +1,142 @@
+-- The edges and the bodies of an image, as the code makes them, are what is meant.
+use Rattle.std.proofs.Common.{◌≡◌, ℕ, zero, suc, ◌+◌, Bool, true, false, List, [], ◌∷◌, ◌++◌, length, drop, map, Option, Some, None, refl, sym, ap, subst, ◌∙◌, arith, inl, inr}
+use Rattle.std.specs.Prelude.{◌||◌, ◌==◌, slice_get, nat_le}
+use Rattle.std.proofs.lemmas.Bool.{eqb-true}
+use Rattle.std.specs.List.{list_any}
+use Rattle.std.proofs.lemmas.List.{append_assoc}
+use Rattle.plan_image.specs.declared.instr.Instr.{Instr}
+use Rattle.plan_image.specs.declared.image.Edge.{Edge}
+use Rattle.plan_image.specs.Bodies.{body_of, operands_of}
+use Rattle.plan_image.specs.declared.image.EdgeCode.TheVariants.{Shared}
+use Rattle.plan_verify.specs.Members.{is_member}
+use Rattle.plan_compile.specs.declared.wiring.Output.{Output}
+use Rattle.plan_compile.specs.declared.wiring.Wiring.{Wiring}
+use Rattle.plan_compile.specs.declared.wiring.Wiring.TheVariants as wiring
+use Rattle.plan_compile.specs.declared.form.Form.{Form}
+use Rattle.plan_compile.specs.declared.form.Form.TheVariants.{OneFlag, OwnFlags, Gathers, Alone}
+use Rattle.plan_compile.specs.Assembling.{command_in, first_changed, gather_in, wire_in, codes_in}
+use Rattle.plan_compile.specs.BodyKeys.{Body, same_body}
+use Rattle.plan_compile.specs.Builds.{Build, Builds}
+use Rattle.plan_compile.specs.Emit.{code_of}
+use Rattle.plan_compile.specs.Faithful.{IsEdge, IsSound}
+use Rattle.plan_compile.specs.Images.{command_wiring, gather_wiring, wire_by, wire, codes_from, codes, edge_by, edge_of, edges_of}
+use Rattle.plan_compile.specs.Means.{files_of}
+use Rattle.plan_compile.specs.Names.{Text, all_texts}
+use Rattle.plan_compile.specs.Numbering.{has, number, with_item, with_items}
+use Rattle.plan_compile.specs.OutputTable.{Table, found, inputs_in, outputs_in, sources_in}
+use Rattle.plan_compile.specs.Slots.{form_of, own_len, outputs_by, outputs_sharing, made, base, newest_by, newest_from, all_made, find, inputs_by, sources, flags_once}
+use Rattle.plan_compile.proofs.BodyKeyLemmas.{bodies_decide}
+use Rattle.plan_compile.proofs.BuildLemmas.{drop_here}
+use Rattle.plan_compile.proofs.ListLemmas.{some_is, bool_cases, or_false}
+use Rattle.plan_compile.proofs.LookupLemmas.{table_of, found_is, inputs_meant, sources_meant, found_outputs}
+use Rattle.plan_compile.proofs.MemberLemmas.{in_get, in_member}
+use Rattle.plan_compile.proofs.NumberingLemmas.{IsKept, items_keep, item_has}
+use Rattle.plan_compile.proofs.OnceLemmas.{file_at, one_assignment}
+use Rattle.plan_compile.proofs.OutputLemmas.{files_made}
+
+-- ---- the loop
+
+module _ (texts pools : List Text) (table : Table) where
+  left_here : (ns : List ℕ) (xs : List Build) (n slot : ℕ) (x : Build) → slice_get ns n ≡ Some slot → slice_get xs n ≡ Some x
+      → codes_in texts table (drop n ns) (drop n xs) ≡ code_of (wire_in (form_of x) texts table slot x) ∷ codes_in texts table (drop (n + 1) ns) (drop (n + 1) xs)
+  left_here ns xs n slot x at here =
+      ap (λ (ms : List ℕ). codes_in texts table ms (drop n xs)) (drop_here ns n slot at) ∙ ap (λ (ys : List Build). codes_in texts table (slot ∷ drop (n + 1) ns) ys) (drop_here xs n x here)
+
+  pub bodies_step : (ns : List ℕ) (xs : List Build) (n slot : ℕ) (x : Build) (code : List Instr) (old new final : List Body) → slice_get ns n ≡ Some slot → slice_get xs n ≡ Some x
+      → code ≡ code_of (wire_in (form_of x) texts table slot x) → new ≡ with_item same_body old (body_of code)
+      → with_items same_body old (map body_of (codes_in texts table (drop n ns) (drop n xs))) ≡ final
+      → with_items same_body new (map body_of (codes_in texts table (drop (n + 1) ns) (drop (n + 1) xs))) ≡ final
+  bodies_step ns xs n slot x code old new final at here is put h =
+      let rest : List (List Instr) = codes_in texts table (drop (n + 1) ns) (drop (n + 1) xs) in
+      ap (λ (bs : List Body). with_items same_body bs (map body_of rest)) put
+      ∙ ap (λ (c : List Instr). with_items same_body old (map body_of (c ∷ rest))) is
+      ∙ ap (λ (cs : List (List Instr)). with_items same_body old (map body_of cs)) (sym (left_here ns xs n slot x at here))
+      ∙ h
+
+  pub edges_step : (ns : List ℕ) (xs : List Build) (n slot : ℕ) (x : Build) (code : List Instr) (old new final : List Body) (some more whole : List Edge) → slice_get ns n ≡ Some slot → slice_get xs n ≡ Some x
+      → code ≡ code_of (wire_in (form_of x) texts table slot x) → new ≡ with_item same_body old (body_of code) → more ≡ some ++ edge_of texts pools new code x ∷ []
+      → with_items same_body new (map body_of (codes_in texts table (drop (n + 1) ns) (drop (n + 1) xs))) ≡ final
+      → some ++ edges_of texts pools final (codes_in texts table (drop n ns) (drop n xs)) (drop n xs) ≡ whole
+      → more ++ edges_of texts pools final (codes_in texts table (drop (n + 1) ns) (drop (n + 1) xs)) (drop (n + 1) xs) ≡ whole
+  edges_step ns xs n slot x code old new final some more whole at here is put pushed ends h =
+      let rest : List (List Instr) = codes_in texts table (drop (n + 1) ns) (drop (n + 1) xs) in
+      let b : Body = body_of code in
+      let kept = items_keep same_body bodies_decide new (map body_of rest) b (subst (λ (bs : List Body). has same_body bs b ≡ true) (sym put) (item_has same_body bodies_decide old b)) in
+      let stays : number same_body b new ≡ number same_body b final = sym kept.stays ∙ ap (λ (bs : List Body). number same_body b bs) ends in
+      ap (λ (es : List Edge). es ++ edges_of texts pools final rest (drop (n + 1) xs)) pushed
+      ∙ append_assoc some (edge_of texts pools new code x ∷ []) (edges_of texts pools final rest (drop (n + 1) xs))
+      ∙ ap (λ (k : ℕ). some ++ edge_by texts pools (Shared k (operands_of code)) x ∷ edges_of texts pools final rest (drop (n + 1) xs)) stays
+      ∙ ap (λ (c : List Instr). some ++ edge_of texts pools final c x ∷ edges_of texts pools final rest (drop (n + 1) xs)) is
+      ∙ ap (λ (ys : List Build). some ++ edges_of texts pools final (code_of (wire_in (form_of x) texts table slot x) ∷ rest) ys) (sym (drop_here xs n x here))
+      ∙ ap (λ (cs : List (List Instr)). some ++ edges_of texts pools final cs (drop n xs)) (sym (left_here ns xs n slot x at here))
+      ∙ h
+
+-- ---- the wiring of each edge
+
+module _ (t : Builds) (sound : IsSound t) where
+  abbrev outs : List Output
+  outs = all_made zero t.edges
+
+  abbrev files : ℕ
+  files = length t.files
+
+  abbrev table : Table
+  table = table_of files outs
+
+  module _ (e : ℕ) (x : Build) (at : IsEdge t e x) where
+    abbrev b : ℕ
+    b = base t.edges e
+
+    named_is : inputs_in table x.named ≡ inputs_by outs x.named
+    named_is = inputs_meant files outs x.named (sound.named e x at)
+
+    sources_are : sources_in table x.named x.order_only ≡ sources outs x.named x.order_only
+    sources_are = sources_meant files outs x.named x.order_only (sound.order_only e x at)
+
+    member_inside : (fs : List ℕ) (f : ℕ) → list_any (λ g. nat_le files g) fs ≡ false → is_member f fs ≡ true → nat_le files f ≡ false
+    member_inside [] f inside m = absurd cc
+    member_inside (g ∷ fs) f inside m =
+        let o = or_false (nat_le files g) (list_any (λ h. nat_le files h) fs) inside in
+        elim (bool_cases (g == f)) as (λ c. nat_le files f ≡ false) [
+          | inl is ↦ subst (λ (k : ℕ). nat_le files k ≡ false) (eqb-true g f is) o.0
+          | inr other ↦ member_inside fs f o.1 (ap (λ (c : Bool). c || is_member f fs) (sym other) ∙ m)
+        ]
+
+    outputs_are : outputs_in table x.outputs ≡ made b x
+    outputs_are =
+        ap (λ (fs : List ℕ). outputs_in table fs) (sym (files_made (form_of x) b x.outputs))
+        ∙ found_outputs table (made b x) each
+      where
+        each : (i : ℕ) (o : Output) → slice_get (made b x) i ≡ Some o → found (slice_get table o.file) ≡ Some o
+        each i o here =
+            let there : slice_get x.outputs i ≡ Some o.file = file_at b x i o here in
+            let inside : nat_le files o.file ≡ false = member_inside x.outputs o.file (sound.outputs e x at) (in_member o.file x.outputs (in_get x.outputs i o.file there)) in
+            found_is files outs o.file inside ∙ one_assignment t sound e x i o at here
+
+    changed_is : (fs : List ℕ) → (fs ≡ [] → ⊥) → first_changed (outputs_sharing b (suc b) fs) ≡ suc b
+    changed_is [] some = absurd (some refl)
+    changed_is (f ∷ fs) some = refl
+
+    command_is : (form : Form) (newest : ℕ) → form_of x ≡ form → newest ≡ newest_by form b
+        → command_in (all_texts t.edges) table newest x ≡ command_wiring (all_texts t.edges) outs form b x
+    command_is form newest is slot =
+        let named = named_is in
+        let others = sources_are in
+        let outputs : outputs_in table x.outputs ≡ outputs_by form b x.outputs = outputs_are ∙ ap (λ (f : Form). outputs_by f b x.outputs) is in
+        cc
+
+    wire_is : (form : Form) (newest : ℕ) → form_of x ≡ form → newest ≡ newest_by form b
+        → wire_in form (all_texts t.edges) table newest x ≡ wire_by form (all_texts t.edges) outs b x
+    wire_is OneFlag newest is slot = ap (λ w. wiring.Command w) (command_is OneFlag newest is slot)
+    wire_is OwnFlags newest is slot = ap (λ w. wiring.Command w) (command_is OwnFlags newest is slot)
+    wire_is Gathers newest is slot =
+        let named = named_is in
+        let others = sources_are in
+        let outputs : outputs_in table x.outputs ≡ outputs_sharing b (suc b) x.outputs = outputs_are ∙ ap (λ (f : Form). outputs_by f b x.outputs) is in
+        let changed : first_changed (outputs_in table x.outputs) ≡ suc b = ap first_changed outputs ∙ changed_is x.outputs (sound.makes e x at) in
+        cc
+    wire_is Alone newest is slot =
+        ap (λ os. wiring.Alone os) (outputs_are ∙ ap (λ (f : Form). outputs_by f b x.outputs) is)
+
+    pub code_is : (newest : ℕ) → newest ≡ newest_by (form_of x) b → code_of (wire_in (form_of x) (all_texts t.edges) table newest x) ≡ code_of (wire (all_texts t.edges) outs b x)
+    code_is newest slot = ap code_of (wire_is (form_of x) newest refl slot)
