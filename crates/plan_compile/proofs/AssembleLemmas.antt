@@ -6,6 +6,9 @@ use Rattle.std.specs.List.{list_any}
 use Rattle.std.proofs.lemmas.List.{append_assoc}
 use Rattle.plan_image.specs.declared.instr.Instr.{Instr}
 use Rattle.plan_image.specs.declared.image.Edge.{Edge}
+use Rattle.plan_image.specs.declared.image.Pool.{Pool}
+use Rattle.plan_image.specs.declared.image.Slot.{Slot}
+use Rattle.plan_image.specs.declared.image.Parts.{Parts}
 use Rattle.plan_image.specs.Bodies.{body_of, operands_of}
 use Rattle.plan_image.specs.declared.image.EdgeCode.TheVariants.{Shared}
 use Rattle.plan_verify.specs.Members.{is_member}
@@ -19,12 +22,12 @@ use Rattle.plan_compile.specs.BodyKeys.{Body, same_body}
 use Rattle.plan_compile.specs.Builds.{Build, Builds}
 use Rattle.plan_compile.specs.Emit.{code_of}
 use Rattle.plan_compile.specs.Faithful.{IsEdge, IsSound}
-use Rattle.plan_compile.specs.Images.{command_wiring, gather_wiring, wire_by, wire, codes_from, codes, edge_by, edge_of, edges_of}
+use Rattle.plan_compile.specs.Images.{command_wiring, gather_wiring, wire_by, wire, codes_from, codes, used_bodies, edge_by, edge_of, edges_of, image_of}
 use Rattle.plan_compile.specs.Means.{files_of}
-use Rattle.plan_compile.specs.Names.{Text, all_texts}
+use Rattle.plan_compile.specs.Names.{Text, all_texts, declared, used_pools}
 use Rattle.plan_compile.specs.Numbering.{has, number, with_item, with_items}
 use Rattle.plan_compile.specs.OutputTable.{Table, found, inputs_in, outputs_in, sources_in}
-use Rattle.plan_compile.specs.Slots.{form_of, own_len, outputs_by, outputs_sharing, made, base, newest_by, newest_from, all_made, find, inputs_by, sources, flags_once}
+use Rattle.plan_compile.specs.Slots.{form_of, own_len, outputs_by, outputs_sharing, made, base, newest_by, newest_from, slots_from, all_made, find, inputs_by, sources, flags_once}
 use Rattle.plan_compile.proofs.BodyKeyLemmas.{bodies_decide}
 use Rattle.plan_compile.proofs.BuildLemmas.{drop_here}
 use Rattle.plan_compile.proofs.ListLemmas.{some_is, bool_cases, or_false}
@@ -140,3 +143,46 @@ module _ (t : Builds) (sound : IsSound t) where
 
     pub code_is : (newest : ℕ) → newest ≡ newest_by (form_of x) b → code_of (wire_in (form_of x) (all_texts t.edges) table newest x) ≡ code_of (wire (all_texts t.edges) outs b x)
     code_is newest slot = ap code_of (wire_is (form_of x) newest refl slot)
+
+-- ---- all codes
+
+codes_by : (texts : List Text) (table : Table) (outputs : List Output) (b : ℕ) (xs : List Build)
+    → ((j : ℕ) (x : Build) → slice_get xs j ≡ Some x → code_of (wire_in (form_of x) texts table (newest_by (form_of x) (b + base xs j)) x) ≡ code_of (wire texts outputs (b + base xs j) x))
+    → codes_in texts table (newest_from b xs) xs ≡ codes_from texts outputs b xs
+codes_by texts table outputs b [] h = refl
+codes_by texts table outputs b (x ∷ xs) h =
+    let same : b + zero ≡ b = omega arith in
+    ap (λ (is : List Instr). is ∷ codes_in texts table (newest_from (b + own_len x) xs) xs)
+      (ap (λ (k : ℕ). code_of (wire_in (form_of x) texts table (newest_by (form_of x) k) x)) (sym same) ∙ h zero x refl ∙ ap (λ (k : ℕ). code_of (wire texts outputs k x)) same)
+    ∙ ap (λ (cs : List (List Instr)). code_of (wire texts outputs b x) ∷ cs)
+      (codes_by texts table outputs (b + own_len x) xs λ j y at.
+        let place : b + own_len x + base xs j ≡ b + (own_len x + base xs j) = omega arith in
+        ap (λ (k : ℕ). code_of (wire_in (form_of y) texts table (newest_by (form_of y) k) y)) place ∙ h (suc j) y at ∙ ap (λ (k : ℕ). code_of (wire texts outputs k y)) (sym place))
+
+pub codes_are : (t : Builds) → IsSound t → codes_in (all_texts t.edges) (table_of (length t.files) (all_made zero t.edges)) (newest_from zero t.edges) t.edges ≡ codes t.edges
+codes_are t sound =
+    codes_by (all_texts t.edges) (table_of (length t.files) (all_made zero t.edges)) (all_made zero t.edges) zero t.edges λ e x at.
+    let same : zero + base t.edges e ≡ base t.edges e = omega arith in
+    code_is t sound e x at (newest_by (form_of x) (zero + base t.edges e)) (ap (λ (k : ℕ). newest_by (form_of x) k) same) ∙ ap (λ (k : ℕ). code_of (wire (all_texts t.edges) (all_made zero t.edges) k x)) (sym same)
+
+pub newest_length : (b : ℕ) (xs : List Build) → length (newest_from b xs) ≡ length xs
+newest_length b [] = refl
+newest_length b (x ∷ xs) = ap suc (newest_length (b + own_len x) xs)
+
+-- ---- the tables
+
+pub image_is : (t : Builds) → IsSound t → (n : ℕ) (texts files : List Text) (pools : List Pool) (slots : List Slot) (table : Table) (newest : List ℕ) (bodies : List Body) (edges : List Edge) (defaults : List ℕ)
+    → n ≡ length t.files → texts ≡ all_texts t.edges → files ≡ t.files → pools ≡ map (declared t.pools) (used_pools t.edges) → slots ≡ slots_from zero t.edges
+    → table ≡ table_of n (all_made zero t.edges) → newest ≡ newest_from zero t.edges
+    → bodies ≡ used_bodies (codes_in texts table newest t.edges) → edges ≡ edges_of texts (used_pools t.edges) (used_bodies (codes_in texts table newest t.edges)) (codes_in texts table newest t.edges) t.edges
+    → defaults ≡ t.defaults
+    → ◌≡◌ {A = Parts} (record { texts = texts; files = files; pools = pools; slots = slots; bodies = Some bodies; edges = edges; defaults = defaults }) (image_of t)
+image_is t sound n texts files pools slots table newest bodies edges defaults hn ht hf hp hs hm hw hb he hd =
+    let all : codes_in texts table newest t.edges ≡ codes t.edges =
+        ap (λ (us : List Text). codes_in us table newest t.edges) ht ∙ ap (λ (q : Table). codes_in (all_texts t.edges) q newest t.edges) (hm ∙ ap (λ (k : ℕ). table_of k (all_made zero t.edges)) hn)
+        ∙ ap (λ (ns : List ℕ). codes_in (all_texts t.edges) (table_of (length t.files) (all_made zero t.edges)) ns t.edges) hw ∙ codes_are t sound in
+    let same_bodies : bodies ≡ used_bodies (codes t.edges) = hb ∙ ap used_bodies all in
+    let same_edges : edges ≡ edges_of (all_texts t.edges) (used_pools t.edges) (used_bodies (codes t.edges)) (codes t.edges) t.edges =
+        he ∙ ap (λ (cs : List (List Instr)). edges_of texts (used_pools t.edges) (used_bodies cs) cs t.edges) all
+        ∙ ap (λ (us : List Text). edges_of us (used_pools t.edges) (used_bodies (codes t.edges)) (codes t.edges) t.edges) ht in
+    cc

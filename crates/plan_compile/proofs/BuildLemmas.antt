@@ -42,3 +42,7 @@ pub mapped_step : {A B : Type 0} (f : A → B) (xs : List A) (n : ℕ) (x : A) (
     → new ++ map f (drop (n + 1) xs) ≡ whole
 mapped_step {A = A} {B = B} f xs n x old new whole at pushed h =
     ap (λ (ys : List B). ys ++ map f (drop (n + 1) xs)) pushed ∙ append_assoc old (f x ∷ []) (map f (drop (n + 1) xs)) ∙ ap (λ (ys : List A). old ++ map f ys) (sym (drop_here xs n x at)) ∙ h
+
+pub map_long : {A B : Type 0} (f : A → B) (xs : List A) → length (map f xs) ≡ length xs
+map_long f [] = refl
+map_long f (x ∷ xs) = ap suc (map_long f xs)
