@@ -6,7 +6,7 @@ use std::alloc::{AllocError, Global};
 use std::marker::Model;
 
 /// Rows of items, which a contract sees as a list of lists. They are held one behind the other: a row takes its items
-/// and four bytes. There are at most 4,294,967,295 items in all.
+/// and four bytes. A row that would bring all items above 4,294,967,295 is refused as where memory runs out.
 #[derive(Debug, Drop)]
 pub struct RowList<T> {
     items: Vec<T>,

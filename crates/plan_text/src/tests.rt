@@ -335,3 +335,22 @@ fn sinks(rt: HostRuntime) -> Result<(), Fail> {
     assert_eq!(rt; sink.into_writer().taken.as_slice(), b"abcdxyz".as_slice());
     Ok(())
 }
+
+#[test]
+fn rows_of_items(rt: HostRuntime) -> Result<(), Fail> {
+    let mut rows = RowList::new(rt.alloc());
+    rows.push(b"ab".as_slice())?;
+    rows.push(b"".as_slice())?;
+    rows.push(b"c".as_slice())?;
+    rows.truncate(2);
+    rows.push(b"de".as_slice())?;
+    rows.truncate(9);
+    assert_eq!(rt; rows.len(), 3);
+    assert_eq!(rt; rows.row(0), b"ab".as_slice());
+    assert_eq!(rt; rows.row(1), b"".as_slice());
+    assert_eq!(rt; rows.row(2), b"de".as_slice());
+    assert!(rt; rows.get(3).is_none());
+    let same = rows.copy(rt.alloc())?;
+    assert_eq!(rt; same.row(2), b"de".as_slice());
+    Ok(())
+}
