@@ -8,3 +8,4 @@ pub mod KeepLemmas
 pub mod WaitLemmas
 pub mod PickLemmas
 pub mod OpenLemmas
+pub mod PhaseLemmas

@@ -56,4 +56,27 @@ impl Books {
             self.accuse(plan, *user, edge);
         }
     }
+
+    /// An edge without an outcome comes to any phase.
+    #[tactic(auto, using(crate::proofs::PhaseLemmas::not_well))]
+    pub fn change(&mut self, plan: &Plan, edge: u32, next: Phase)
+        requires plan { IsPlan plan.now }
+        requires here { edge < edges_of plan.now }
+        requires books { AreBooks plan.now self.old }
+        requires well { is_well (phase_at self.old.phases.items edge) ≡ false }
+        requires ill { is_ill (phase_at self.old.phases.items edge) ≡ false }
+        ensures books { AreBooks plan.now self.new }
+        ensures phases { self.new.phases.items ≡ slice_set self.old.phases.items edge next }
+    {
+        match next {
+            Phase::Well => self.end_well(plan, edge),
+            _ => {
+                if next.is_ill() {
+                    self.end_ill(plan, edge, next);
+                } else {
+                    self.go(plan, edge, next);
+                }
+            }
+        }
+    }
 }

@@ -1,7 +1,7 @@
 //! Where an edge stands.
 
 ghost use Rattle.std.specs.Prelude.{◌≡◌};
-ghost use Rattle.plan_books.specs.Phases.{has_failed, holds, is_open};
+ghost use Rattle.plan_books.specs.Phases.{has_failed, holds, is_ill, is_open};
 
 /// Where an edge stands, as far as the books need it. A flag says whether it holds a place.
 #[derive(Clone, Copy, Debug, PartialEq, Eq)]
@@ -50,5 +50,12 @@ impl Phase {
             self,
             Phase::Unbegun | Phase::Going(_) | Phase::AtTake(_) | Phase::Asked(_)
         )
+    }
+
+    /// It ended ill.
+    pub fn is_ill(self) -> bool
+        ensures { result ≡ is_ill self }
+    {
+        matches!(self, Phase::Failed | Phase::Ill)
     }
 }

@@ -9,3 +9,10 @@ pub mod OrderlyLemmas
 pub mod InBudgetLemmas
 pub mod Rows
 pub mod WantedLemmas
+pub mod Applies
+pub mod AskingLemmas
+pub mod HearingLemmas
+pub mod StateLemmas
+pub mod KeptLemmas
+pub mod PhaseLemmas
+pub mod PlanLemmas

@@ -8,7 +8,7 @@ use Rattle.plan_image.specs.declared.image.Parts.{Parts}
 use Rattle.plan_verify.specs.Turn.{turn, heard}
 use Rattle.plan_verify.specs.declared.value.Cause.TheVariants.{Exit}
 use Rattle.plan_machine.specs.Limits.{Limits}
-use Rattle.plan_machine.specs.declared.event.Reply.TheVariants as reply
+use Rattle.plan_machine.specs.declared.reply.Reply.TheVariants as reply
 use Rattle.plan_machine.specs.declared.event.Event.{Event}
 use Rattle.plan_machine.specs.declared.event.Event.TheVariants.{Start, Stop, Step, Reply as Hear}
 use Rattle.plan_machine.specs.declared.mark.Mark.{Mark}

@@ -9,21 +9,32 @@
 #![tactic(auto)]
 
 mod activity;
+
+mod edges;
 mod event;
 mod laws;
+mod machine;
 mod mark;
 mod options;
+mod plan;
 mod refused;
+mod replies;
+mod reply;
+mod slot;
+mod stack;
 mod state;
 mod status;
+mod turned;
+mod turns;
 mod wanted;
 
-pub use event::{Event, Reply};
+pub use event::Event;
 pub use laws::{depfiles_are_frugal, marks_are_orderly, never_stuck, never_wrong, stays_in_budget};
 pub use mark::{Mark, Outcome};
 pub use options::Options;
 pub use plan_verify::Cause;
 pub use refused::Refused;
+pub use reply::{Depfile, Recorded, Reply};
 pub use state::State;
 
 #[cfg(test)]

@@ -1,0 +1,9 @@
+use Rattle.std.proofs.Common.{◌≡◌, ◌∷◌, map, take}
+use Rattle.plan_image.specs.declared.image.Pool.{Pool}
+use Rattle.plan_image.specs.Spelling.{pool_number}
+use Rattle.plan_verify.specs.Tables.{pool_of, waits_of}
+use Rattle.plan_machine.specs.Firsts.{first_of}
+use Rattle.plan_machine.proofs.plan.all_waits.Given as goal
+
+abbrev pub invariant-loop-edge : goal.invariant-loop-edge
+invariant-loop-edge l = l.rows.items ≡ first_of (waits_of l.parts) l.edge

@@ -1,0 +1,43 @@
+//! What the machine reads of an image's edges, by their numbers.
+
+ghost use Rattle.std.specs.Prelude.{◌≡◌, length};
+ghost use Rattle.plan_verify.specs.Tables.{outputs_of, pool_of, waits_of};
+
+use plan_image::Parts;
+
+/// How many edges there are.
+pub(crate) fn edge_count(parts: &Parts) -> usize
+    ensures { result ≡ length parts.now.edges }
+{
+    parts.edges.len()
+}
+
+/// What an edge waits for.
+pub(crate) fn waits(parts: &Parts, edge: u32) -> &[u32]
+    ensures { result.now ≡ waits_of parts.now edge }
+{
+    match parts.edges.as_slice().get(edge as usize) {
+        Some(edge) => edge.waits.as_slice(),
+        None => &[],
+    }
+}
+
+/// The pool of an edge.
+pub(crate) fn pool(parts: &Parts, edge: u32) -> Option<u32>
+    ensures { result ≡ pool_of parts.now edge }
+{
+    match parts.edges.as_slice().get(edge as usize) {
+        Some(edge) => edge.pool,
+        None => None,
+    }
+}
+
+/// The files that an edge makes.
+pub(crate) fn outputs(parts: &Parts, edge: u32) -> &[u32]
+    ensures { result.now ≡ outputs_of parts.now edge }
+{
+    match parts.edges.as_slice().get(edge as usize) {
+        Some(edge) => edge.outputs.as_slice(),
+        None => &[],
+    }
+}
