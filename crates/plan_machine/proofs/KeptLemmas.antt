@@ -42,7 +42,7 @@ holds_active true taking holding = refl
 holds_active false true holding = refl
 holds_active false false holding = refl
 
-holds_is : (p : Parts) (e : ℕ) (status : Status) → holds (phase_of p e status) ≡ is_holder status
+pub holds_is : (p : Parts) (e : ℕ) (status : Status) → holds (phase_of p e status) ≡ is_holder status
 holds_is p e Unbegun = refl
 holds_is p e (Active l) = holds_active l.asked (at_take p e l) l.holding
 holds_is p e (Over outcome) = holds_over outcome
@@ -62,7 +62,7 @@ failed_over (Skipped w) = refl
 failed_over Stopped = refl
 failed_over NotWanted = refl
 
-failed_is : (p : Parts) (e : ℕ) (status : Status) → phase_failed (phase_of p e status) ≡ has_failed status
+pub failed_is : (p : Parts) (e : ℕ) (status : Status) → phase_failed (phase_of p e status) ≡ has_failed status
 failed_is p e Unbegun = refl
 failed_is p e (Active l) = never_active phase_failed (λ h. refl) (λ h. refl) (λ h. refl) l.asked (at_take p e l) l.holding
 failed_is p e (Over outcome) = failed_over outcome

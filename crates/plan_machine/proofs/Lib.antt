@@ -16,3 +16,6 @@ pub mod StateLemmas
 pub mod KeptLemmas
 pub mod PhaseLemmas
 pub mod PlanLemmas
+pub mod PickLemmas
+pub mod ReplayLemmas
+pub mod RequestLemmas

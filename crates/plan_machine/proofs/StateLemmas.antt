@@ -1,7 +1,8 @@
 -- What a reached state gives to the code of an event, and that the next one is reached too.
-use Rattle.std.proofs.Common.{◌≡◌, ℕ, ◌<◌, Bool, true, false, List, [], ◌∷◌, ◌++◌, length, Option, Some, None, refl, sym, ap, ◌∙◌, subst}
+use Rattle.std.proofs.Common.{◌≡◌, ℕ, zero, suc, ◌<◌, Bool, true, false, List, [], ◌∷◌, ◌++◌, length, Option, Some, None, refl, sym, ap, ◌∙◌, subst, inl, inr}
 use Rattle.std.specs.Prelude.{◌||◌, ◌&&◌, not, slice_get, slice_set, Result, Ok, Err, IfSome, IsSome, if◌then◌else◌}
 use Rattle.std.specs.List.{list_all}
+use Rattle.std.proofs.lemmas.Bool.{cases_eq}
 use Rattle.std.proofs.lemmas.Option.{slice_get_within}
 use Rattle.plan_image.specs.declared.image.Parts.{Parts}
 use Rattle.plan_image.specs.Code.{code}
@@ -21,7 +22,7 @@ use Rattle.plan_machine.specs.declared.mark.Mark.{Mark}
 use Rattle.plan_machine.specs.declared.mark.Outcome.TheVariants.{Failed, Skipped, Stopped}
 use Rattle.plan_machine.specs.declared.refused.Refused.{Refused}
 use Rattle.plan_machine.specs.declared.refused.Refused.TheVariants as refused
-use Rattle.plan_machine.specs.State.{Status, Unbegun, Active, Over, State, is_well, is_ill, is_over, stands}
+use Rattle.plan_machine.specs.State.{Status, Unbegun, Active, Over, State, is_well, is_ill, is_over, passes, stands}
 use Rattle.plan_machine.specs.Places.{is_spent, is_free, at_take}
 use Rattle.plan_machine.specs.Step.{Stepped, Next, Wrong, NotEnabled, stepped, answered, ended, settles, hears_by, starts, skips, stops, steps, hears, answer_of, step}
 use Rattle.plan_machine.specs.Going.{Going}
@@ -32,8 +33,9 @@ use Rattle.plan_machine.specs.Working.{Works}
 use Rattle.plan_machine.specs.Applying.{Applied, CanTurn}
 use Rattle.plan_machine.specs.Hearing.{CanHear}
 use Rattle.plan_machine.specs.Edges.{edge_of}
+use Rattle.plan_machine.specs.Total.{commands_among, is_wanted, total_of}
 use Rattle.plan_machine.specs.Kept.{Running, AreKept, IsBehind, IsStateOf, Changed}
-use Rattle.plan_machine.proofs.ListLemmas.{is_some_of, when_either}
+use Rattle.plan_machine.proofs.ListLemmas.{get_other, get_same, is_some_of, when_either}
 use Rattle.plan_machine.proofs.VerifyLaws.{VerifyLaws}
 use Rattle.plan_machine.proofs.StandingLemmas.{turn_safe}
 use Rattle.plan_machine.proofs.OpensLemmas.{reached_stands}
@@ -93,32 +95,36 @@ module _ (meaning : Meaning) (p : Parts) (limits : Limits) (s : State) where
   Changes e (Wrong flaw) = Unit {0}
   Changes e NotEnabled = Unit {0}
 
+  ended_wanted : (ran : Bool) → is_wanted (Over (ended ran)) ≡ true
+  ended_wanted true = refl
+  ended_wanted false = refl
+
   settles_changes : (e : ℕ) (l : Local) (told : Did → Mark) (t : Turn) → slice_get s.edges e ≡ Some (Active l) → Changes e (settles s e l told t)
-  settles_changes e l told (Goes did m) now = record { before = Active l; after = Active m; now = now; was_open = refl; left = refl }
-  settles_changes e l told (Sets k v m) now = record { before = Active l; after = Active m; now = now; was_open = refl; left = refl }
-  settles_changes e l told (Asks q) now = record { before = Active l; after = Active (asking l); now = now; was_open = refl; left = refl }
-  settles_changes e l told Ends now = record { before = Active l; after = Over (ended l.ran); now = now; was_open = refl; left = refl }
-  settles_changes e l told (Fails cause) now = record { before = Active l; after = Over (Failed cause); now = now; was_open = refl; left = refl }
+  settles_changes e l told (Goes did m) now = record { before = Active l; after = Active m; now = now; was_open = refl; still_wanted = refl; left = refl }
+  settles_changes e l told (Sets k v m) now = record { before = Active l; after = Active m; now = now; was_open = refl; still_wanted = refl; left = refl }
+  settles_changes e l told (Asks q) now = record { before = Active l; after = Active (asking l); now = now; was_open = refl; still_wanted = refl; left = refl }
+  settles_changes e l told Ends now = record { before = Active l; after = Over (ended l.ran); now = now; was_open = refl; still_wanted = ended_wanted l.ran; left = refl }
+  settles_changes e l told (Fails cause) now = record { before = Active l; after = Over (Failed cause); now = now; was_open = refl; still_wanted = refl; left = refl }
   settles_changes e l told (Errs flaw) now = tt
 
   starts_changes : (e : ℕ) (o : Option Status) → slice_get s.edges e ≡ o → Changes e (starts p s e o)
   starts_changes e (Some Unbegun) now =
-      when_either (Changes e) (list_all (stands is_well s) (waits_of p e)) _ _ (λ h. record { before = Unbegun; after = Active begun; now = now; was_open = refl; left = refl }) (λ h. tt)
+      when_either (Changes e) (list_all (stands is_well s) (waits_of p e)) _ _ (λ h. record { before = Unbegun; after = Active begun; now = now; was_open = refl; still_wanted = refl; left = refl }) (λ h. tt)
   starts_changes e None now = tt
   starts_changes e (Some (Active l)) now = tt
   starts_changes e (Some (Over outcome)) now = tt
 
   skips_changes : (e w : ℕ) (o : Option Status) → slice_get s.edges e ≡ o → Changes e (skips p s e w o)
   skips_changes e w (Some Unbegun) now =
-      when_either (Changes e) (is_member w (waits_of p e) && stands is_ill s w) _ _ (λ h. record { before = Unbegun; after = Over (Skipped w); now = now; was_open = refl; left = refl }) (λ h. tt)
+      when_either (Changes e) (is_member w (waits_of p e) && stands is_ill s w) _ _ (λ h. record { before = Unbegun; after = Over (Skipped w); now = now; was_open = refl; still_wanted = refl; left = refl }) (λ h. tt)
   skips_changes e w None now = tt
   skips_changes e w (Some (Active l)) now = tt
   skips_changes e w (Some (Over outcome)) now = tt
 
   stops_changes : (e : ℕ) (o : Option Status) → slice_get s.edges e ≡ o → Changes e (stops p limits s e o)
-  stops_changes e (Some Unbegun) now = when_either (Changes e) (is_spent limits s) _ _ (λ h. record { before = Unbegun; after = Over Stopped; now = now; was_open = refl; left = refl }) (λ h. tt)
+  stops_changes e (Some Unbegun) now = when_either (Changes e) (is_spent limits s) _ _ (λ h. record { before = Unbegun; after = Over Stopped; now = now; was_open = refl; still_wanted = refl; left = refl }) (λ h. tt)
   stops_changes e (Some (Active l)) now =
-      when_either (Changes e) (is_spent limits s && at_take p e l) _ _ (λ h. record { before = Active l; after = Over Stopped; now = now; was_open = refl; left = refl }) (λ h. tt)
+      when_either (Changes e) (is_spent limits s && at_take p e l) _ _ (λ h. record { before = Active l; after = Over Stopped; now = now; was_open = refl; still_wanted = refl; left = refl }) (λ h. tt)
   stops_changes e None now = tt
   stops_changes e (Some (Over outcome)) now = tt
 
@@ -150,6 +156,32 @@ module _ (meaning : Meaning) (p : Parts) (limits : Limits) (s : State) where
   pub changed : (mid : State) (event : Event) (told : Mark) → step meaning p limits s event ≡ Next mid told → Changed s mid (edge_of event)
   changed mid event told is = let it : Changes (edge_of event) (Next mid told) = subst (Changes (edge_of event)) is (step_changes event) in it
 
+-- ---- commands that a run may have
+
+same_commands : (p : Parts) (s new : State) → ((e : ℕ) → stands is_wanted new e ≡ stands is_wanted s e) → (n : ℕ) → commands_among p new n ≡ commands_among p s n
+same_commands p s new same zero = refl
+same_commands p s new same (suc n) = rw (same n, same_commands p s new same n) refl
+
+open_wanted : (st : Status) → is_over st ≡ false → is_wanted st ≡ true
+open_wanted Unbegun h = refl
+open_wanted (Active l) h = refl
+open_wanted (Over outcome) h = absurd cc
+
+pub same_total : (p : Parts) (s new : State) (e : ℕ) → Changed s new e → total_of p new ≡ total_of p s
+same_total p s new e c = same_commands p s new each (length p.edges)
+  where
+    within : e < length s.edges
+    within = slice_get_within s.edges e c.before c.now
+
+    each : (k : ℕ) → stands is_wanted new k ≡ stands is_wanted s k
+    each k = elim (cases_eq e k) [
+      | inl same ↦
+          ap (λ (l : List Status). passes is_wanted (slice_get l k)) c.left
+          ∙ ap (λ (n : ℕ). passes is_wanted (slice_get (slice_set s.edges e c.after) n)) (sym same) ∙ ap (passes is_wanted) (get_same s.edges e c.after within)
+          ∙ c.still_wanted ∙ sym (open_wanted c.before c.was_open) ∙ sym (ap (passes is_wanted) c.now) ∙ ap (λ (n : ℕ). stands is_wanted s n) same
+      | inr ne ↦ ap (λ (l : List Status). passes is_wanted (slice_get l k)) c.left ∙ ap (passes is_wanted) (get_other s.edges e k c.after ne)
+    ]
+
 -- an applied event leads to a reached state
 pub still_reached : (p : Parts) (old new : Going) (targets : List ℕ) (events : List Event) (marks : List Mark) (event : Event) (told : Mark)
     → Reached depfile p old.limits targets events marks old.now → Applied p old event (Ok told) new
@@ -169,9 +201,9 @@ left_behind p old new event told e kept applied plan books is =
     }
 
 -- an applied event leads to a state of the image, once the books fit
-pub next_state : (p : Parts) (old mid new : Running) (event : Event) (told : Mark) → IsStateOf p old → Applied p old.going event (Ok told) mid.going → new.going ≡ mid.going
+pub next_state : (p : Parts) (old mid new : Running) (event : Event) (told : Mark) → IsStateOf p old → Applied p old.going event (Ok told) mid.going → new.going ≡ mid.going → new.total ≡ old.total
     → AreKept p new.going.now new.plan new.books → IsStateOf p new
-next_state p old mid new event told is applied same kept =
+next_state p old mid new event told is applied same total kept =
     record {
       targets = is.targets;
       events = is.events ++ event ∷ [];
@@ -179,7 +211,9 @@ next_state p old mid new event told is applied same kept =
       reached = subst (λ (g : Going). Reached depfile p g.limits is.targets (is.events ++ event ∷ []) (is.marks ++ told ∷ []) g.now) (sym same)
           (still_reached p old.going mid.going is.targets is.events is.marks event told is.reached applied);
       kept = kept;
+      counted = total ∙ is.counted
+          ∙ sym (ap (λ (g : Going). total_of p g.now) same ∙ same_total p old.going.now mid.going.now (edge_of event) (changed depfile p old.going.limits old.going.now mid.going.now event told applied.0));
     }
 
-pub first_state : (p : Parts) (targets : List ℕ) (r : Running) → Opens p targets r.going.now → AreKept p r.going.now r.plan r.books → IsStateOf p r
-first_state p targets r opens kept = record { targets = targets; events = []; marks = []; reached = record { start = r.going.now; opens = opens; run = refl }; kept = kept }
+pub first_state : (p : Parts) (targets : List ℕ) (r : Running) → Opens p targets r.going.now → AreKept p r.going.now r.plan r.books → r.total ≡ total_of p r.going.now → IsStateOf p r
+first_state p targets r opens kept counted = record { targets = targets; events = []; marks = []; reached = record { start = r.going.now; opens = opens; run = refl }; kept = kept; counted = counted }

@@ -19,12 +19,14 @@ use Rattle.plan_machine.specs.Places.{at_take}
 use Rattle.plan_machine.specs.Going.{Going}
 use Rattle.plan_machine.specs.Runs.{Reached}
 use Rattle.plan_machine.specs.Depfile.{depfile}
+use Rattle.plan_machine.specs.Total.{is_wanted, total_of}
 
--- a running image with its books
+-- a running image with its books, and how many commands it may run
 pub record Running : Type 0 where
   pub going : Going
   pub plan : Plan
   pub books : Books
+  pub total : ℕ
 
 -- ---- phases
 
@@ -90,6 +92,7 @@ pub record IsStateOf (p : Parts) (r : Running) : Type 0 where
   pub marks : List Mark
   pub reached : Reached depfile p r.going.limits targets events marks r.going.now
   pub kept : AreKept p r.going.now r.plan r.books
+  pub counted : r.total ≡ total_of p r.going.now
 
 -- one edge, which had no outcome, stands otherwise
 pub record Changed (s new : State) (e : ℕ) : Type 0 where
@@ -97,6 +100,7 @@ pub record Changed (s new : State) (e : ℕ) : Type 0 where
   pub after : Status
   pub now : slice_get s.edges e ≡ Some before
   pub was_open : is_over before ≡ false
+  pub still_wanted : is_wanted after ≡ true
   pub left : new.edges ≡ slice_set s.edges e after
 
 -- the books fit a state before this one, where one edge stood otherwise

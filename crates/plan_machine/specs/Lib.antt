@@ -20,5 +20,10 @@ pub mod Statuses
 pub mod Applying
 pub mod Hearing
 pub mod Edges
+pub mod Total
 pub mod Firsts
 pub mod Kept
+pub mod Picking
+pub mod Lent
+pub mod Requests
+pub mod Replaying

@@ -2,8 +2,9 @@
 
 ghost use Rattle.std.specs.Prelude.{◌≡◌, length};
 ghost use Rattle.plan_verify.specs.Tables.{outputs_of, pool_of, waits_of};
+ghost use Rattle.plan_machine.specs.Total.{has_command};
 
-use plan_image::Parts;
+use plan_image::{Parts, Sort};
 
 /// How many edges there are.
 pub(crate) fn edge_count(parts: &Parts) -> usize
@@ -39,5 +40,15 @@ pub(crate) fn outputs(parts: &Parts, edge: u32) -> &[u32]
     match parts.edges.as_slice().get(edge as usize) {
         Some(edge) => edge.outputs.as_slice(),
         None => &[],
+    }
+}
+
+/// Whether an edge has a command.
+pub(crate) fn has_command(parts: &Parts, edge: u32) -> bool
+    ensures { result ≡ has_command parts.now edge }
+{
+    match parts.edges.as_slice().get(edge as usize) {
+        Some(edge) => matches!(edge.sort, Sort::Command),
+        None => false,
     }
 }

@@ -9,6 +9,7 @@
 #![tactic(auto)]
 
 mod activity;
+mod asking;
 
 mod edges;
 mod event;
@@ -16,10 +17,13 @@ mod laws;
 mod machine;
 mod mark;
 mod options;
+mod picking;
 mod plan;
 mod refused;
 mod replies;
+mod replaying;
 mod reply;
+mod request;
 mod slot;
 mod stack;
 mod state;
@@ -34,7 +38,9 @@ pub use mark::{Mark, Outcome};
 pub use options::Options;
 pub use plan_verify::Cause;
 pub use refused::Refused;
+pub use replaying::replay;
 pub use reply::{Depfile, Recorded, Reply};
+pub use request::{Outputs, Request};
 pub use state::State;
 
 #[cfg(test)]

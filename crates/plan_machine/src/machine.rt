@@ -1,11 +1,11 @@
 //! Where each edge stands and what each slot has, without the books that are kept of it.
 
-ghost use Rattle.std.specs.Prelude.{◌≡◌, ◌≢◌, ◌<◌, ◌^◌, ◌&&◌, Err, IfOk, None, OnErr, Option, Some, length, map, replicate, slice_get};
+ghost use Rattle.std.specs.Prelude.{◌≡◌, ◌≢◌, ◌<◌, ◌^◌, ◌&&◌, Err, IfOk, None, OnErr, Option, Some, length, map, option_map, replicate, slice_get};
 ghost use Rattle.std.specs.List.{list_all};
 ghost use Rattle.plan_image.specs.Code.{code};
 ghost use Rattle.plan_verify.specs.Members.{is_member};
 ghost use Rattle.plan_verify.specs.Tables.{waits_of};
-ghost use Rattle.plan_verify.specs.Turn.{Local};
+ghost use Rattle.plan_verify.specs.Turn.{Local, turn};
 ghost use Rattle.plan_verify.specs.declared.value.Value.{Value as Item};
 ghost use Rattle.plan_machine.specs.declared.event.Event.TheVariants.{Reply as Hear, Skip, Start, Step, Stop};
 ghost use Rattle.plan_machine.specs.declared.turned.Turned.TheVariants as turned;
@@ -13,20 +13,25 @@ ghost use Rattle.plan_machine.specs.Applying.{Applied, CanTurn, HasTurned, Settl
 ghost use Rattle.plan_machine.specs.Hearing.{CanHear, HasHeard, SettlesReply};
 ghost use Rattle.plan_machine.specs.Kept.{phase_in};
 ghost use Rattle.plan_machine.specs.Places.{is_spent};
+ghost use Rattle.plan_machine.specs.Requests.{asked_at, shown, step_asks};
 ghost use Rattle.plan_machine.specs.Runs.{at_first};
 ghost use Rattle.plan_machine.specs.State.{Active, is_ill, is_well, outcome_at, passes, stands, with_status};
 ghost use Rattle.plan_machine.specs.Step.{answer_of};
+ghost use Rattle.plan_machine.specs.Total.{is_wanted, total_of};
+ghost use Rattle.plan_machine.specs.Working.{Works};
 
 use crate::activity::Activity;
+use crate::edges::{edge_count, has_command};
 use crate::mark::{Mark, Outcome};
 use crate::options::Options;
 use crate::refused::Refused;
 use crate::reply::Reply;
+use crate::request::Request;
 use crate::slot::Slot;
 use crate::status::Status;
 use crate::turned::{Heard, Turned};
 use plan_books::Phase;
-use plan_image::Image;
+use plan_image::{Image, Parts};
 use std::alloc::{AllocError, Global};
 use std::marker::Model;
 
@@ -85,6 +90,21 @@ impl Machine {
         })
     }
 
+    /// How many edges may hold a place at once.
+    pub(crate) fn jobs(&self) -> u32
+        ensures same { result ≡ self.now.limits.jobs }
+        ensures some { 0 < result }
+    {
+        self.options.jobs() as u32
+    }
+
+    /// How many edges may fail before no more are begun; 0 stands for any number.
+    pub(crate) fn keep(&self) -> u32
+        ensures { result ≡ self.now.limits.keep }
+    {
+        self.options.keep()
+    }
+
     /// Whether an edge hasn't begun.
     pub(crate) fn is_unbegun(&self, edge: u32) -> bool
         ensures { result ≡ passes is_unbegun (slice_get self.now.now.edges edge) }
@@ -125,12 +145,58 @@ impl Machine {
         }
     }
 
+    /// Whether a target needs an edge.
+    fn is_wanted(&self, edge: u32) -> bool
+        ensures { result ≡ stands is_wanted self.now.now edge }
+    {
+        match self.edges.as_slice().get(edge as usize) {
+            Some(status) => status.is_wanted(),
+            None => false,
+        }
+    }
+
+    /// How many edges have a command and are wanted.
+    pub(crate) fn total(&self, parts: &Parts) -> u64
+        requires { length parts.now.edges < 2 ^ 32 }
+        ensures { result ≡ total_of parts.now self.now.now }
+    {
+        let mut total = 0u64;
+        for edge in 0..edge_count(parts) as u32 {
+            if has_command(parts, edge) & self.is_wanted(edge) {
+                total += 1;
+            }
+        }
+        total
+    }
+
     /// How an edge came out, where it has an outcome.
     pub(crate) fn outcome(&self, edge: u32) -> Option<Outcome>
         ensures { result ≡ outcome_at (slice_get self.now.now.edges edge) }
     {
         match self.edges.as_slice().get(edge as usize) {
             Some(status) => status.outcome(),
+            None => None,
+        }
+    }
+
+    /// What an edge asked that awaits a reply.
+    pub(crate) fn asked<'a>(&'a self, image: &'a Image, edge: u32) -> Option<Request<'a>>
+        requires { (l : Local) → slice_get self.now.now.edges edge ≡ Some (Active l) → Works (turn image.now edge self.now.now.slots l) }
+        ensures { option_map shown result ≡ asked_at image.now self.now.now edge }
+    {
+        match self.edges.as_slice().get(edge as usize) {
+            Some(status) => status.asked(image, edge, &self.slots),
+            None => None,
+        }
+    }
+
+    /// What an edge's next step asks.
+    pub(crate) fn step_request<'a>(&'a self, image: &'a Image, edge: u32) -> Option<Request<'a>>
+        requires { (l : Local) → slice_get self.now.now.edges edge ≡ Some (Active l) → Works (turn image.now edge self.now.now.slots l) }
+        ensures { option_map shown result ≡ step_asks image.now edge self.now.now.slots (slice_get self.now.now.edges edge) }
+    {
+        match self.edges.as_slice().get(edge as usize) {
+            Some(status) => status.step_request(image, edge, &self.slots),
             None => None,
         }
     }

@@ -1,8 +1,9 @@
 //! A stack of values, whose kinds the verifier knows.
 
-ghost use Rattle.std.specs.Prelude.{◌≡◌, ◌<◌, ◌≤◌, ◌∷◌, [], IfOk, length, drop, Some};
+ghost use Rattle.std.specs.Prelude.{◌≡◌, ◌<◌, ◌≤◌, ◌∷◌, [], IfOk, Some, drop, length, slice_get};
 ghost use Rattle.plan_image.specs.declared.instr.Instr.TheVariants as op;
 ghost use Rattle.plan_verify.specs.Turn.{calculate, same_text, On};
+ghost use Rattle.plan_machine.specs.Requests.{HasPathsAt, HasStampAt, HasSweptAt, HasTextAt};
 ghost use Rattle.plan_machine.specs.Working.{Computes, HasFlag, HasPaths, HasStamp, HasText, IsPlain, IsShallow};
 
 use arrayvec::ArrayVec;
@@ -184,6 +185,59 @@ impl Stack {
                 self.push(last);
                 self.push(first);
             }
+            _ => unreachable!(),
+        }
+    }
+
+    /// The value at a depth, the topmost at 0.
+    fn peek(&self, depth: usize) -> &Value
+        requires { depth < length self.now }
+        ensures { slice_get self.now depth ≡ Some result.now }
+    {
+        let values = self.values.as_slice();
+        &values[values.len() - 1 - depth]
+    }
+
+    /// The text at a depth.
+    pub(crate) fn text_at(&self, depth: usize) -> &[u8]
+        requires { HasTextAt depth self.now }
+        ensures { slice_get self.now depth ≡ Some (Value.Text result.now) }
+    {
+        match self.peek(depth) {
+            Value::Text(text) => text.as_slice(),
+            _ => unreachable!(),
+        }
+    }
+
+    /// The stamp at a depth.
+    pub(crate) fn stamp_at(&self, depth: usize) -> u64
+        requires { HasStampAt depth self.now }
+        ensures { slice_get self.now depth ≡ Some (Value.Stamp result) }
+    {
+        match self.peek(depth) {
+            Value::Stamp(stamp) => *stamp,
+            _ => unreachable!(),
+        }
+    }
+
+    /// The topmost paths, with how many were swept.
+    pub(crate) fn paths_at(&self) -> (u32, &PathList)
+        requires { HasPathsAt self.now }
+        ensures { slice_get self.now 0 ≡ Some (Value.Paths result.0 result.1.now) }
+    {
+        match self.peek(0) {
+            Value::Paths(swept, paths) => (*swept, paths),
+            _ => unreachable!(),
+        }
+    }
+
+    /// The topmost swept paths.
+    pub(crate) fn swept_at(&self) -> &PathList
+        requires { HasSweptAt self.now }
+        ensures { slice_get self.now 0 ≡ Some (Value.Swept result.now) }
+    {
+        match self.peek(0) {
+            Value::Swept(paths) => paths,
             _ => unreachable!(),
         }
     }

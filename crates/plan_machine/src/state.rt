@@ -2,6 +2,7 @@
 
 ghost use Rattle.std.specs.Prelude.{◌≡◌, ◌≢◌, ◌<◌, ◌^◌, ◌&&◌, ◌⊎◌, ℕ, Err, IfErr, IfOk, OnErr, Some, count_by, false, length, slice_get, true};
 ghost use Rattle.std.specs.List.{list_all};
+ghost use Rattle.plan_image.specs.declared.image.Parts.{Parts};
 ghost use Rattle.plan_image.specs.Code.{code};
 ghost use Rattle.plan_verify.specs.Members.{is_member};
 ghost use Rattle.plan_verify.specs.Tables.{waits_of};
@@ -12,6 +13,7 @@ ghost use Rattle.plan_machine.specs.Kept.{AreKept, IsBehind, IsStateOf};
 ghost use Rattle.plan_machine.specs.Places.{has_room, holders_from, is_free, is_spent};
 ghost use Rattle.plan_machine.specs.Runs.{Opens};
 ghost use Rattle.plan_machine.specs.State.{Active, has_ended, has_failed, is_holder, is_ill, is_well, outcome_at, passes, stands};
+ghost use Rattle.plan_machine.specs.Total.{total_of};
 ghost use Rattle.plan_machine.specs.Wanted.{any_outside};
 
 use crate::edges::{pool, waits};
@@ -39,6 +41,8 @@ pub struct State {
     pub(crate) machine: Machine,
     pub(crate) plan: Plan,
     pub(crate) books: Books,
+    /// How many edges have a command and are wanted.
+    pub(crate) total: u64,
 }
 
 impl Model for State {
@@ -47,7 +51,7 @@ ghost use Rattle.plan_machine.specs.Kept.{Running};
 
     ghost Value = { Running };
 
-    ghost view = { λ s. record { going = s.machine; plan = s.plan; books = s.books } };
+    ghost view = { λ s. record { going = s.machine; plan = s.plan; books = s.books; total = s.total } };
 }
 
 /// Whether an edge is among these.
@@ -79,11 +83,13 @@ impl State {
         let plan = image_plan(alloc, parts)?;
         let books = plan_books::open(alloc, &plan, &wanted)?;
         let machine = Machine::open(alloc, options, &wanted, parts.slots.len())?;
+        let total = machine.total(parts);
         Ok(State {
             alloc,
             machine,
             plan,
             books,
+            total,
         })
     }
 
@@ -95,11 +101,17 @@ impl State {
     }
 
     /// Whether each edge has an outcome.
-    pub fn ended(&self, _image: &Verified) -> bool
-        requires { IsStateOf _image.now self.now }
-        ensures { result ≡ has_ended self.now.going.now }
+    pub fn ended(&self) -> bool
+        ensures { (p : Parts) → IsStateOf p self.now → result ≡ has_ended self.now.going.now }
     {
         self.books.counts.open_edges == 0
+    }
+
+    /// How many edges have a command and are wanted.
+    pub fn total(&self) -> u64
+        ensures { (p : Parts) → IsStateOf p self.now → result ≡ total_of p self.now.going.now }
+    {
+        self.total
     }
 
     /// How many edges failed.
@@ -141,7 +153,7 @@ impl State {
         requires { AreKept image.now self.now.going.now self.now.plan self.now.books }
         ensures { result ≡ is_spent self.now.going.limits self.now.going.now }
     {
-        let keep = self.machine.options.keep();
+        let keep = self.machine.keep();
         keep > 0 && keep <= self.failures(image)
     }
 
@@ -165,7 +177,7 @@ impl State {
         ensures { result ≡ is_free image.now self.now.going.limits self.now.going.now edge }
     {
         self.has_room(image, pool(image.parts(), edge))
-            && self.holders(image) < self.machine.options.jobs() as u32
+            && self.holders(image) < self.machine.jobs()
             && !self.is_spent(image)
     }
 
@@ -195,7 +207,7 @@ impl State {
     }
 
     /// Whether an edge may make a step.
-    fn can_step(&self, image: &Image, edge: u32) -> bool
+    pub(crate) fn can_step(&self, image: &Image, edge: u32) -> bool
         requires { AreKept image.now self.now.going.now self.now.plan self.now.books }
         ensures { result ≡ may_step_by image.now self.now.going.limits self.now.going.now edge (slice_get self.now.going.now.edges edge) }
     {
@@ -215,6 +227,7 @@ impl State {
         ensures applied { Applied image.now self.old.going event result self.new.going }
         ensures plan { self.new.plan ≡ self.old.plan }
         ensures books { self.new.books ≡ self.old.books }
+        ensures total { self.new.total ≡ self.old.total }
         ensures frugal { is_frugal event ≡ true → result ≢ Err Refused.Memory }
     {
         match event {
@@ -242,6 +255,7 @@ impl State {
     fn note(&mut self, image: &Image, edge: u32)
         requires { IsBehind image.now self.old edge }
         ensures going { self.new.going ≡ self.old.going }
+        ensures total { self.new.total ≡ self.old.total }
         ensures kept { AreKept image.now self.new.going.now self.new.plan self.new.books }
     {
         let phase = self.machine.phase(image, edge);

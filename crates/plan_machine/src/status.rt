@@ -1,18 +1,22 @@
 //! Where an edge stands.
 
-ghost use Rattle.std.specs.Prelude.{◌≡◌, ◌<◌, ◌^◌, IfOk, OnErr, Some, length};
+ghost use Rattle.std.specs.Prelude.{◌≡◌, ◌<◌, ◌^◌, IfOk, OnErr, Some, length, option_map};
 ghost use Rattle.plan_image.specs.Code.{code};
-ghost use Rattle.plan_verify.specs.Turn.{Local};
+ghost use Rattle.plan_verify.specs.Turn.{Local, turn};
 ghost use Rattle.plan_machine.specs.Applying.{CanTurn, HasStepped, is_active, is_unbegun, may_stop_by};
 ghost use Rattle.plan_machine.specs.Hearing.{CanHear, HasAnswered};
 ghost use Rattle.plan_machine.specs.Kept.{phase_of};
+ghost use Rattle.plan_machine.specs.Requests.{asked_by, shown, step_asks};
 ghost use Rattle.plan_machine.specs.Runs.{at_first};
 ghost use Rattle.plan_machine.specs.State.{Active, Over, is_ill, outcome_at};
 ghost use Rattle.plan_machine.specs.Step.{answer_of};
+ghost use Rattle.plan_machine.specs.Total.{is_wanted};
+ghost use Rattle.plan_machine.specs.Working.{Works};
 
 use crate::activity::Activity;
 use crate::mark::Outcome;
 use crate::reply::Reply;
+use crate::request::Request;
 use crate::slot::Slot;
 use crate::turned::{Heard, Turned};
 use plan_books::Phase;
@@ -118,6 +122,16 @@ impl Status {
         }
     }
 
+    /// Whether a target needs it.
+    pub(crate) fn is_wanted(&self) -> bool
+        ensures { result ≡ is_wanted self.now }
+    {
+        match &self.stage {
+            Stage::Over(Outcome::NotWanted) => false,
+            _ => true,
+        }
+    }
+
     /// Whether its command ran, where it is under way.
     pub(crate) fn has_run(&self) -> bool
         ensures { (l : Local) → self.now ≡ Active l → result ≡ l.ran }
@@ -185,6 +199,43 @@ impl Status {
         match &mut self.stage {
             Stage::Active(activity) => activity.hear(alloc, image, edge, reply),
             _ => unreachable!(),
+        }
+    }
+
+    /// What the edge asked, where it awaits a reply.
+    pub(crate) fn asked<'a>(
+        &'a self,
+        image: &'a Image,
+        edge: u32,
+        slots: &[Slot],
+    ) -> Option<Request<'a>>
+        requires { (l : Local) → self.now ≡ Active l → Works (turn image.now edge slots.now l) }
+        ensures { option_map shown result ≡ asked_by image.now edge slots.now (Some self.now) }
+    {
+        match &self.stage {
+            Stage::Active(activity) => {
+                if !activity.asked {
+                    return None;
+                }
+                activity.request(image, edge, slots)
+            }
+            _ => None,
+        }
+    }
+
+    /// What the edge's next step asks, where it is under way.
+    pub(crate) fn step_request<'a>(
+        &'a self,
+        image: &'a Image,
+        edge: u32,
+        slots: &[Slot],
+    ) -> Option<Request<'a>>
+        requires { (l : Local) → self.now ≡ Active l → Works (turn image.now edge slots.now l) }
+        ensures { option_map shown result ≡ step_asks image.now edge slots.now (Some self.now) }
+    {
+        match &self.stage {
+            Stage::Active(activity) => activity.request(image, edge, slots),
+            _ => None,
         }
     }
 }

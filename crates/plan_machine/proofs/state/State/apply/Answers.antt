@@ -1,4 +1,4 @@
-use Rattle.std.proofs.Common.{◌≡◌, sym, subst}
+use Rattle.std.proofs.Common.{◌≡◌, ◌∙◌, sym, subst}
 use Rattle.std.specs.Prelude.{Ok}
 use Rattle.plan_image.specs.declared.image.Parts.{Parts}
 use Rattle.plan_machine.specs.Applying.{Applied, CanTurn}
@@ -51,5 +51,5 @@ returns-clause-state c =
     let p = c.args.image.now in
     let applied : Applied p r.going c.args.event (Ok c.in_ok-mark.mark) c.change.new.self.going =
         subst (λ (x : Parts). Applied x r.going c.args.event (Ok c.in_ok-mark.mark) c.change.new.self.going) c.image-tables.ensures.same c.in_ok-mark.ensures.applied in
-    next_state p r c.change.new.self new c.args.event c.in_ok-mark.mark c.requires applied c.note.ensures.going
+    next_state p r c.change.new.self new c.args.event c.in_ok-mark.mark c.requires applied c.note.ensures.going (c.note.ensures.total ∙ c.in_ok-mark.ensures.total)
         (subst (λ (x : Parts). AreKept x new.going.now new.plan new.books) c.image-tables.ensures.same c.note.ensures.kept)

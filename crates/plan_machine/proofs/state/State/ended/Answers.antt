@@ -5,6 +5,6 @@ use Rattle.plan_machine.proofs.KeptLemmas.{ended_is}
 use Rattle.plan_machine.proofs.state.State.ended.Goals as goal
 
 pub returns : goal.returns
-returns c =
+returns c p is =
     let r = c.args.self.now in
-    ap (λ (x : Running). x.books.counts.open_edges == 0) c.self.view_is ∙ ended_is c.args._image.now r.going.now r.plan r.books c.requires.kept
+    ap (λ (x : Running). x.books.counts.open_edges == 0) c.self.view_is ∙ ended_is p r.going.now r.plan r.books is.kept

@@ -5,7 +5,7 @@ use Rattle.plan_machine.proofs.state.State.note.Goals as goal
 
 pub change-requires : goal.change-requires
 change-requires c =
-    let r : Running = record { going = c.self.inside.machine; plan = c.self.inside.plan; books = c.self.inside.books } in
+    let r : Running = record { going = c.self.inside.machine; plan = c.self.inside.plan; books = c.self.inside.books; total = c.self.inside.total } in
     let behind : IsBehind c.args.image.now r c.args.edge = subst (λ (x : Running). IsBehind c.args.image.now x c.args.edge) (sym c.self.view_is) c.requires in
     record {
       plan = behind.kept.plan_is.good;
@@ -17,6 +17,6 @@ change-requires c =
 
 pub returns-clause-kept : goal.returns-clause-kept
 returns-clause-kept c =
-    let r : Running = record { going = c.self.inside.machine; plan = c.self.inside.plan; books = c.self.inside.books } in
+    let r : Running = record { going = c.self.inside.machine; plan = c.self.inside.plan; books = c.self.inside.books; total = c.self.inside.total } in
     let behind : IsBehind c.args.image.now r c.args.edge = subst (λ (x : Running). IsBehind c.args.image.now x c.args.edge) (sym c.self.view_is) c.requires in
     caught_up c.args.image.now r c.args.edge behind c.change.new.self c.phase-phase.result c.change.ensures.books c.change.ensures.phases c.phase-phase.ensures

@@ -1,11 +1,11 @@
 use Rattle.std.proofs.Common.{◌≡◌, ℕ, Bool, List, None, Option, length, map, replicate, ap, refl, sym, ◌∙◌, subst}
 use Rattle.plan_image.specs.declared.image.Parts.{Parts}
-use Rattle.plan_image.specs.declared.image.Slot.{Slot}
 use Rattle.plan_verify.specs.declared.value.Value.{Value}
 use Rattle.plan_books.specs.Opening.{opening_phase}
 use Rattle.plan_machine.specs.Going.{Going}
 use Rattle.plan_machine.specs.Kept.{AreKept, IsPlanOf, Running}
 use Rattle.plan_machine.specs.Runs.{Opens, at_first}
+use Rattle.plan_machine.specs.Total.{total_of}
 use Rattle.plan_machine.specs.Wanted.{AreWanted}
 use Rattle.plan_machine.proofs.KeptLemmas.{opens_kept}
 use Rattle.plan_machine.proofs.StateLemmas.{first_state}
@@ -24,5 +24,6 @@ returns-clause-state c =
         ap (λ (g : Going). g.now.slots) c.in_ok-machine.ensures ∙ ap (λ (n : ℕ). replicate {A = Option Value} n None) (c.len.ensures ∙ ap (λ (x : Parts). length x.slots) tables) in
     let opens : Opens p c.args.targets.now machine.now = record { wanted = wanted; are = are; edges = edges; slots = slots } in
     let phases = c.in_ok-books.ensures.phases ∙ ap (λ (l : List Bool). map opening_phase l) c.deref.ensures.value in
-    first_state p c.args.targets.now (record { going = machine; plan = c.in_ok-plan.plan; books = c.in_ok-books.books }) opens
+    first_state p c.args.targets.now (record { going = machine; plan = c.in_ok-plan.plan; books = c.in_ok-books.books; total = c.total-total.result }) opens
         (opens_kept p machine.now c.in_ok-plan.plan c.in_ok-books.books wanted plan edges are.long c.in_ok-books.ensures.books phases)
+        (c.total-total.ensures ∙ ap (λ (x : Parts). total_of x machine.now) tables)
