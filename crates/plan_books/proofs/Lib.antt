@@ -9,3 +9,4 @@ pub mod WaitLemmas
 pub mod PickLemmas
 pub mod OpenLemmas
 pub mod PhaseLemmas
+mod Rows

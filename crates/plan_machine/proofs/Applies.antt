@@ -172,9 +172,11 @@ module _ (p : Parts) (e : ℕ) (old mid new : Going) (r : Turned) (told : Mark) 
           (ap (settles old.now e h.before (stepped e)) m.0.1 ∙ ap (λ (l : Local). Next (with_status old.now e (Active l)) (mark.Asked e)) (sym m.0.2))
       by turned.Ended t m s =
           let both = s h.after here in
-          let left = over (Over (ended h.after.ran)) both.1 m.1 in
-          (ap (settles old.now e h.before (stepped e)) m.0.0 ∙ ap (λ (l : Local). Next (with_status old.now e (Over (ended l.ran))) (mark.Ended e l.ran)) (sym m.0.1)
-            ∙ ap (λ (x : Mark). Next (with_status old.now e (Over (ended h.after.ran))) x) (sym both.0) ∙ ap (λ (g : Going). Next g.now told) (sym left), ap (λ (g : Going). g.limits) left)
+          let left = over (Over (ended h.after.ran)) both.1 m.1 in (
+            ap (settles old.now e h.before (stepped e)) m.0.0 ∙ ap (λ (l : Local). Next (with_status old.now e (Over (ended l.ran))) (mark.Ended e l.ran)) (sym m.0.1)
+                ∙ ap (λ (x : Mark). Next (with_status old.now e (Over (ended h.after.ran))) x) (sym both.0) ∙ ap (λ (g : Going). Next g.now told) (sym left),
+            ap (λ (g : Going). g.limits) left,
+          )
       by (turned.Failed cause) t m s =
           let left = over (Over (Failed cause)) s.1 m.1 in
           (ap (settles old.now e h.before (stepped e)) m.0 ∙ ap (λ (x : Mark). Next (with_status old.now e (Over (Failed cause))) x) (sym s.0) ∙ ap (λ (g : Going). Next g.now told) (sym left), ap (λ (g : Going). g.limits) left)

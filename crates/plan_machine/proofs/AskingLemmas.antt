@@ -106,8 +106,8 @@ pub join_is : (l new : Local) (a b : List ℕ) (below : List Value) → l.stack 
 join_is l new a b below is short room same =
     ap (λ (x : List Value). calculated l (calculate op.Join x)) is
     ∙ when_false (λ (c : Calculated). calculated l c ≡ Goes Moved new) (nat_lt 1048576 (length a + length b)) _ _ short
-      (when_false (λ (t : Turn). t ≡ Goes Moved new) (nat_lt 64 (length (Text (a ++ b) ∷ below))) _ _ (le-ltb 64 (length (Text (a ++ b) ∷ below)) (omega (arith, room)))
-      (ap (λ (k : Local). Goes Moved k) (sym same)))
+    (when_false (λ (t : Turn). t ≡ Goes Moved new) (nat_lt 64 (length (Text (a ++ b) ∷ below))) _ _ (le-ltb 64 (length (Text (a ++ b) ∷ below)) (omega (arith, room)))
+    (ap (λ (k : Local). Goes Moved k) (sym same)))
 
 -- a Join that isn't wrong finds two texts
 pub join_first : (l : Local) (stack : List Value) → Works (calculated l (calculate op.Join stack)) → HasText stack

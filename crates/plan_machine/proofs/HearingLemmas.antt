@@ -66,12 +66,12 @@ module _ (p : Parts) (e : ℕ) (a : Answer) (old mid : Going) (r : Heard) (h : H
       (ap (hears_by old.now e h.before) made ∙ ap (λ (g : Going). Next g.now (mark.Answered e)) (sym left), ap (λ (g : Going). g.limits) left)
   by_hearing (hearing.Failed cause) t told new made s =
       let left = s.1 ∙ ap (λ (g : Going). record { limits = g.limits; now = with_status g.now e (Over (Failed cause)) }) h.left
-          ∙ ap (λ (l : List Status). record { limits = old.limits; now = record { edges = l; slots = old.now.slots } }) (set_again old.now.edges e (Active h.after) (Over (Failed cause))) in
+      ∙ ap (λ (l : List Status). record { limits = old.limits; now = record { edges = l; slots = old.now.slots } }) (set_again old.now.edges e (Active h.after) (Over (Failed cause))) in
       subst (λ (x : Result Mark Refused). Answers x new (hears_by old.now e h.before t)) (sym s.0)
       (ap (hears_by old.now e h.before) made ∙ ap (λ (g : Going). Next g.now (mark.Failed e cause)) (sym left), ap (λ (g : Going). g.limits) left)
   by_hearing hearing.Unfit t told new made s =
       let left = s.1 ∙ h.left ∙ ap (λ (l : List Status). record { limits = old.limits; now = record { edges = l; slots = old.now.slots } })
-          (ap (λ (l : Local). slice_set old.now.edges e (Active l)) made.1 ∙ set_same old.now.edges e (Active h.before) h.now) in
+      (ap (λ (l : Local). slice_set old.now.edges e (Active l)) made.1 ∙ set_same old.now.edges e (Active h.before) h.now) in
       subst (λ (x : Result Mark Refused). Answers x new (hears_by old.now e h.before t)) (sym s.0)
       (ap (hears_by old.now e h.before) made.0, left)
 
@@ -79,7 +79,7 @@ module _ (p : Parts) (e : ℕ) (a : Answer) (old mid : Going) (r : Heard) (h : H
   unfolding step
   hear_is reply told new same s =
       let is : hears depfile p old.now e (answer_of reply) (slice_get old.now.edges e) ≡ hears_by old.now e h.before (heard depfile p e h.before a) =
-          ap (λ (x : Answer). hears depfile p old.now e x (slice_get old.now.edges e)) (sym same) ∙ ap (hears depfile p old.now e a) h.now in
+      ap (λ (x : Answer). hears depfile p old.now e x (slice_get old.now.edges e)) (sym same) ∙ ap (hears depfile p old.now e a) h.now in
       whole told (subst (Answers told new) (sym is) (by_hearing r (heard depfile p e h.before a) told new h.made s))
     where
       whole : (told : Result Mark Refused) → Answers told new (hears depfile p old.now e (answer_of reply) (slice_get old.now.edges e)) → Applied p old (Hear e reply) told new

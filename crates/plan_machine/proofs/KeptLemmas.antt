@@ -178,9 +178,9 @@ holders_same p q e (n ∷ pools) (st ∷ l) long each =
     let first : n ≡ pool_number (pool_of p e) = each 0 (omega arith) ∙ ap (λ (k : ℕ). pool_number (pool_of p k)) (zero_more e) in
     let pool : (n == q + 1) ≡ is_pool q (pool_of p e) = ap (λ (k : ℕ). k == q + 1) first ∙ pool_is (pool_of p e) q in
     let here : one ((n == q + 1) && holds (phase_of p e st)) ≡ (if is_pool q (pool_of p e) && is_holder st then 1 else 0) =
-        ap (λ (b : Bool). one (b && holds (phase_of p e st))) pool ∙ ap (λ (b : Bool). one (is_pool q (pool_of p e) && b)) (holds_is p e st) ∙ one_if (is_pool q (pool_of p e) && is_holder st) in
+    ap (λ (b : Bool). one (b && holds (phase_of p e st))) pool ∙ ap (λ (b : Bool). one (is_pool q (pool_of p e) && b)) (holds_is p e st) ∙ one_if (is_pool q (pool_of p e) && is_holder st) in
     let rest : holders_of (q + 1) pools (phases_from p (e + 1) l) ≡ holders_from p q (e + 1) l =
-        holders_same p q (e + 1) pools l (omega (arith, long)) (λ k h. each (suc k) (omega (arith, h)) ∙ ap (λ (m : ℕ). pool_number (pool_of p m)) (one_more e k)) in
+    holders_same p q (e + 1) pools l (omega (arith, long)) (λ k h. each (suc k) (omega (arith, h)) ∙ ap (λ (m : ℕ). pool_number (pool_of p m)) (one_more e k)) in
     omega (arith, here, rest)
 
 -- ---- edges that all ended well

@@ -19,3 +19,4 @@ pub mod PlanLemmas
 pub mod PickLemmas
 pub mod ReplayLemmas
 pub mod RequestLemmas
+pub mod AsksLemmas

@@ -137,7 +137,7 @@ asked_off p s e l u loud = elim (cases_Bool (at_take p e l)) [
   | inr off ↦ off
   | inl take ↦
       let is : request_of (turn p e s.slots l) ≡ None =
-          ap (λ (o : Option Instr). request_of (act_at p e s.slots l o)) (is_take_at (slice_get (code p e) l.place) take) ∙ take_asks l.holding (pool_outside p e) l in
+      ap (λ (o : Option Instr). request_of (act_at p e s.slots l o)) (is_take_at (slice_get (code p e) l.place) take) ∙ take_asks l.holding (pool_outside p e) l in
       absurd (let none : IsSome (request_of Ends) = subst (λ (o : Option Request). IsSome o) is (u.typed.awaits loud) in cc)
 ]
 
@@ -166,7 +166,7 @@ module _ (p : Parts) (g : Going) (plan : Plan) (books : Books) (kept : AreKept p
       ap (λ (l : List ℕ). (slice_index l 0 == 0) || nat_lt (holders_of 0 plan.pools.items books.phases.items) (slice_index l 0)) kept.plan_is.depths
   room_by (Some q) =
       let next : slice_index plan.depths.items (q + 1) ≡ slice_index (map (λ (pool : Pool). pool.depth) p.pools) q =
-          ap (λ (l : List ℕ). slice_index l (q + 1)) kept.plan_is.depths ∙ behind_first (map (λ (pool : Pool). pool.depth) p.pools) q in
+      ap (λ (l : List ℕ). slice_index l (q + 1)) kept.plan_is.depths ∙ behind_first (map (λ (pool : Pool). pool.depth) p.pools) q in
       ap (λ (d : ℕ). (d == 0) || nat_lt (holders_of (q + 1) plan.pools.items books.phases.items) d) next
       ∙ ap (λ (h : ℕ). (slice_index (map (λ (pool : Pool). pool.depth) p.pools) q == 0) || nat_lt h (slice_index (map (λ (pool : Pool). pool.depth) p.pools) q)) (holders_of_are p g.now plan books kept q)
       ∙ depth_at p.pools q (holders_from p q 0 g.now.edges)
@@ -198,7 +198,7 @@ module _ (p : Parts) (g : Going) (plan : Plan) (books : Books) (kept : AreKept p
         let u = sound.active e l now in
         let n = settles_next laws depfile p shaped g.limits some_jobs g.now sound e l (stepped e) u.shapes (turn p e g.now.slots l) (turn_safe laws depfile p shaped g.limits g.now sound e l u) in
         let is : steps p g.limits g.now e (Some (Active l)) ≡ Next n.0 n.1 =
-            when_false (λ (o : Stepped). o ≡ Next n.0 n.1) (l.asked || (at_take p e l && not (is_free p g.limits g.now e))) _ _ (ap (λ (b : Bool). b || (at_take p e l && not (is_free p g.limits g.now e))) quiet ∙ free) n.2 in
+        when_false (λ (o : Stepped). o ≡ Next n.0 n.1) (l.asked || (at_take p e l && not (is_free p g.limits g.now e))) _ _ (ap (λ (b : Bool). b || (at_take p e l && not (is_free p g.limits g.now e))) quiet ∙ free) n.2 in
         record { after = n.0; mark = n.1; next = ap (λ (o : Option Status). steps p g.limits g.now e o) now ∙ is }
 
     pub picked : (x : Pick) → CanPick plan books.phases.items g.limits.jobs g.limits.keep x → IsEnabled p g (event_of x)
@@ -208,7 +208,8 @@ module _ (p : Parts) (g : Going) (plan : Plan) (books : Books) (kept : AreKept p
         let at : slice_get g.now.edges e ≡ Some Unbegun = st.1 ∙ ap Some (unbegun_is p e st.0 (sym st.2 ∙ is)) in
         let well = all_listed (stands is_well g.now) (λ w. phase_well (phase_at books.phases.items w) ≡ true) (λ w h. sym (well_at p g.now plan books kept w) ∙ h) (waits_by plan e) all in
         record {
-          after = with_status g.now e (Active begun); mark = mark.Started e;
+          after = with_status g.now e (Active begun);
+          mark = mark.Started e;
           next = ap (λ (o : Option Status). starts p g.now e o) at
               ∙ when_true (λ (o : Stepped). o ≡ Next (with_status g.now e (Active begun)) (mark.Started e)) (list_all (stands is_well g.now) (waits_of p e)) _ _ (ap (list_all (stands is_well g.now)) (sym (kept.plan_is.waits e)) ∙ well) refl;
         }
@@ -217,16 +218,18 @@ module _ (p : Parts) (g : Going) (plan : Plan) (books : Books) (kept : AreKept p
         let at : slice_get g.now.edges e ≡ Some Unbegun = st.1 ∙ ap Some (unbegun_is p e st.0 (sym st.2 ∙ is)) in
         let member : is_member w (waits_of p e) ≡ true = ap (is_member w) (sym (kept.plan_is.waits e)) ∙ contained_member w (waits_by plan e) wait in
         record {
-          after = with_status g.now e (Over (Skipped w)); mark = mark.Skipped e w;
+          after = with_status g.now e (Over (Skipped w));
+          mark = mark.Skipped e w;
           next = ap (λ (o : Option Status). skips p g.now e w o) at
               ∙ when_true (λ (o : Stepped). o ≡ Next (with_status g.now e (Over (Skipped w))) (mark.Skipped e w)) (is_member w (waits_of p e) && stands is_ill g.now w) _ _
-                (and_from _ _ member (sym (ill_at p g.now plan books kept w) ∙ ill)) refl;
+              (and_from _ _ member (sym (ill_at p g.now plan books kept w) ∙ ill)) refl;
         }
     picked (pick.Stop e) (here, spent, inl is) =
         let st = status_at e here in
         let at : slice_get g.now.edges e ≡ Some Unbegun = st.1 ∙ ap Some (unbegun_is p e st.0 (sym st.2 ∙ is)) in
         record {
-          after = with_status g.now e (Over Stopped); mark = mark.Stopped e;
+          after = with_status g.now e (Over Stopped);
+          mark = mark.Stopped e;
           next = ap (λ (o : Option Status). stops p g.limits g.now e o) at
               ∙ when_true (λ (o : Stepped). o ≡ Next (with_status g.now e (Over Stopped)) (mark.Stopped e)) (is_spent g.limits g.now) _ _ (sym spent_is ∙ spent) refl;
         }
@@ -235,7 +238,8 @@ module _ (p : Parts) (g : Going) (plan : Plan) (books : Books) (kept : AreKept p
         let l = taking_is p e st.0 is.0 (sym st.2 ∙ is.1) in
         let at : slice_get g.now.edges e ≡ Some (Active l.0) = st.1 ∙ ap Some l.1 in
         record {
-          after = with_status g.now e (Over Stopped); mark = mark.Stopped e;
+          after = with_status g.now e (Over Stopped);
+          mark = mark.Stopped e;
           next = ap (λ (o : Option Status). stops p g.limits g.now e o) at
               ∙ when_true (λ (o : Stepped). o ≡ Next (with_status g.now e (Over Stopped)) (mark.Stopped e)) (is_spent g.limits g.now && at_take p e l.0) _ _ (and_from _ _ (sym spent_is ∙ spent) l.3) refl;
         }
@@ -268,9 +272,12 @@ module _ (p : Parts) (g : Going) (plan : Plan) (books : Books) (kept : AreKept p
     start_picks : (e : ℕ) (o : Option Status) → slice_get g.now.edges e ≡ o → Picks (Start e) (starts p g.now e o)
     start_picks e (Some Unbegun) at =
         either_way (Picks (Start e)) (list_all (stands is_well g.now) (waits_of p e)) _ _
-        (λ all. (in_plan e Unbegun at, phase_is e Unbegun at,
+        (λ all. (
+          in_plan e Unbegun at,
+          phase_is e Unbegun at,
           subst (All (λ w. phase_well (phase_at books.phases.items w) ≡ true)) (sym (kept.plan_is.waits e))
-          (listed_all (stands is_well g.now) (λ w. phase_well (phase_at books.phases.items w) ≡ true) (λ w h. well_at p g.now plan books kept w ∙ h) (waits_of p e) all))) tt
+              (listed_all (stands is_well g.now) (λ w. phase_well (phase_at books.phases.items w) ≡ true) (λ w h. well_at p g.now plan books kept w ∙ h) (waits_of p e) all),
+        )) tt
     start_picks e None at = tt
     start_picks e (Some (Active l)) at = tt
     start_picks e (Some (Over outcome)) at = tt
@@ -279,7 +286,7 @@ module _ (p : Parts) (g : Going) (plan : Plan) (books : Books) (kept : AreKept p
     skip_picks e w (Some Unbegun) at =
         either_way (Picks (Skip e w)) (is_member w (waits_of p e) && stands is_ill g.now w) _ _
         (λ h. let b = and_both (is_member w (waits_of p e)) (stands is_ill g.now w) h in
-          (in_plan e Unbegun at, phase_is e Unbegun at, member_contained w (waits_by plan e) (ap (is_member w) (kept.plan_is.waits e) ∙ b.0), ill_at p g.now plan books kept w ∙ b.1)) tt
+        (in_plan e Unbegun at, phase_is e Unbegun at, member_contained w (waits_by plan e) (ap (is_member w) (kept.plan_is.waits e) ∙ b.0), ill_at p g.now plan books kept w ∙ b.1)) tt
     skip_picks e w None at = tt
     skip_picks e w (Some (Active l)) at = tt
     skip_picks e w (Some (Over outcome)) at = tt
@@ -289,7 +296,7 @@ module _ (p : Parts) (g : Going) (plan : Plan) (books : Books) (kept : AreKept p
     stop_picks e (Some (Active l)) at =
         either_way (Picks (Stop e)) (is_spent g.limits g.now && at_take p e l) _ _
         (λ h. let b = and_both (is_spent g.limits g.now) (at_take p e l) h in
-          (in_plan e (Active l) at, spent_is ∙ b.0, inr (l.holding, phase_is e (Active l) at ∙ phase_taking l.asked (at_take p e l) l.holding (quiet_at b.1) b.1))) tt
+        (in_plan e (Active l) at, spent_is ∙ b.0, inr (l.holding, phase_is e (Active l) at ∙ phase_taking l.asked (at_take p e l) l.holding (quiet_at b.1) b.1))) tt
       where
         quiet_at : at_take p e l ≡ true → l.asked ≡ false
         quiet_at take = elim (cases_Bool l.asked) [
@@ -318,9 +325,13 @@ module _ (p : Parts) (g : Going) (plan : Plan) (books : Books) (kept : AreKept p
         taking quiet take free =
             let outer = and_both (has_room p g.now (pool_of p e) && nat_lt (count_by is_holder g.now.edges) g.limits.jobs) (not (is_spent g.limits g.now)) free in
             let inner = and_both (has_room p g.now (pool_of p e)) (nat_lt (count_by is_holder g.now.edges) g.limits.jobs) outer.0 in
-            let here = in_plan e (Active l) at in
-            (here, inr ((l.holding, phase_is e (Active l) at ∙ phase_taking l.asked (at_take p e l) l.holding quiet take),
-              (room_is e (omega (arith, here, kept.plan_is.edges)) ∙ inner.0, (let lt = ltb-true (count_by is_holder g.now.edges) g.limits.jobs inner.1 in omega (arith, lt, holds_are)), spent_is ∙ unspent (is_spent g.limits g.now) outer.1)))
+            let here = in_plan e (Active l) at in (
+              here,
+              inr (
+                (l.holding, phase_is e (Active l) at ∙ phase_taking l.asked (at_take p e l) l.holding quiet take),
+                (room_is e (omega (arith, here, kept.plan_is.edges)) ∙ inner.0, (let lt = ltb-true (count_by is_holder g.now.edges) g.limits.jobs inner.1 in omega (arith, lt, holds_are)), spent_is ∙ unspent (is_spent g.limits g.now) outer.1),
+              ),
+            )
           where
             unspent : (b : Bool) → not b ≡ true → b ≡ false
             unspent true h = absurd cc

@@ -22,7 +22,7 @@ use Rattle.plan_machine.proofs.ListLemmas.{some_is, when_either, when_true}
 
 -- ---- instructions that ask nothing
 
-goes_quiet : (l : Local) (to : ℕ) (stack : List Value) → request_of (goes l to stack) ≡ None
+pub goes_quiet : (l : Local) (to : ℕ) (stack : List Value) → request_of (goes l to stack) ≡ None
 goes_quiet l to stack = when_either (λ (t : Turn). request_of t ≡ None) (nat_lt 64 (length stack)) _ _ (λ h. refl) (λ h. refl)
 
 calculated_quiet : (l : Local) (c : Calculated) → request_of (calculated l c) ≡ None
@@ -61,7 +61,7 @@ ends_quiet : (p : Parts) (e : ℕ) (slots : Slots) (l : Local) → request_of (e
 ends_quiet p e slots l =
     when_either (λ (t : Turn). request_of t ≡ None) l.holding _ _ (λ h. refl)
     (λ h. when_either (λ (t : Turn). request_of t ≡ None) (not (list_all (is_set slots) (own_slots p e))) _ _ (λ k. refl)
-      (λ k. when_either (λ (t : Turn). request_of t ≡ None) (nat_lt 0 (length l.stack)) _ _ (λ m. refl) (λ m. refl)))
+    (λ k. when_either (λ (t : Turn). request_of t ≡ None) (nat_lt 0 (length l.stack)) _ _ (λ m. refl) (λ m. refl)))
 
 pub silent : (p : Parts) (e : ℕ) (slots : Slots) (l : Local) (i : Instr) → is_asking i ≡ false → None ≡ request_of (act p e slots l i)
 silent p e slots l op.End h = sym (ends_quiet p e slots l)

@@ -27,3 +27,4 @@ pub mod Picking
 pub mod Lent
 pub mod Requests
 pub mod Replaying
+pub mod Faults

@@ -12,6 +12,10 @@ use Rattle.plan_machine.specs.declared.request.Request.TheVariants as request
 use Rattle.plan_machine.specs.declared.event.Event.{Event}
 use Rattle.plan_machine.specs.declared.event.Event.TheVariants.{Step}
 use Rattle.plan_machine.specs.State.{Status, Active, State}
+use Rattle.plan_machine.specs.declared.mark.Mark.TheVariants as mark
+use Rattle.plan_machine.specs.Going.{Going}
+use Rattle.plan_machine.specs.Step.{Next, step}
+use Rattle.plan_machine.specs.Depfile.{depfile}
 use Rattle.plan_machine.specs.Applying.{may_step_by}
 
 -- a request, as one edge's step speaks of it
@@ -38,6 +42,17 @@ step_asks p e slots _ = None
 abbrev pub asks_by : Parts → Limits → State → Event → Option Question
 asks_by p limits s (Step e) = if may_step_by p limits s e (slice_get s.edges e) then step_asks p e s.slots (slice_get s.edges e) else None
 asks_by p limits s event = None
+
+-- an event is enabled and asks: its mark says so, and its edge asked that
+pub record Asks (p : Parts) (g : Going) (event : Event) (q : Question) : Type 0 where
+  pub edge : ℕ
+  pub after : State
+  pub next : step depfile p g.limits g.now event ≡ Next after (mark.Asked edge)
+  pub asked : asked_at p after edge ≡ Some q
+
+-- an event isn't enabled, or doesn't ask
+abbrev pub AsksNothing : Parts → Going → Event → Type 0
+AsksNothing p g event = (edge : ℕ) (after : State) → step depfile p g.limits g.now event ≡ Next after (mark.Asked edge) → ⊥
 
 -- ---- parts of it
 

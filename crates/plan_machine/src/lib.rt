@@ -10,7 +10,6 @@
 
 mod activity;
 mod asking;
-
 mod edges;
 mod event;
 mod laws;
@@ -20,8 +19,8 @@ mod options;
 mod picking;
 mod plan;
 mod refused;
-mod replies;
 mod replaying;
+mod replies;
 mod reply;
 mod request;
 mod slot;

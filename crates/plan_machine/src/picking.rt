@@ -1,17 +1,19 @@
 //! What can happen next: without a reply, or by one.
 
-ghost use Rattle.std.specs.Prelude.{◌≡◌, ◌⊎◌, IfNone, IfSome, IsSome, Some, option_map, slice_get, true};
+ghost use Rattle.std.specs.Prelude.{◌≡◌, ◌⊎◌, ℕ, IfNone, IfSome, IsSome, Some, option_map, slice_get, true};
 ghost use Rattle.plan_verify.specs.Turn.{Local};
-ghost use Rattle.plan_machine.specs.Kept.{IsStateOf};
+ghost use Rattle.plan_machine.specs.Applying.{CanTurn};
+ghost use Rattle.plan_machine.specs.Kept.{AreKept, IsStateOf};
 ghost use Rattle.plan_machine.specs.NeverStuck.{Awaits, is_own};
 ghost use Rattle.plan_machine.specs.Picking.{IsEnabled, event_of};
-ghost use Rattle.plan_machine.specs.Requests.{asked_at, asks_by, shown};
+ghost use Rattle.plan_machine.specs.Requests.{Asks, AsksNothing, asked_at, asks_by, shown};
 ghost use Rattle.plan_machine.specs.State.{Active, has_ended};
 
 use crate::event::Event;
 use crate::request::Request;
 use crate::state::State;
 use plan_books::Pick;
+use plan_image::Image;
 use plan_verify::{
     Verified, all_turns_pay, instructions_fit, replies_are_safe, stays_typed, steps_are_safe,
     tables_are_in_range,
@@ -70,10 +72,28 @@ impl State {
         self.machine.asked(tables, edge)
     }
 
+    /// What an event would ask, by where its edge stands.
+    fn asked_by<'a>(&'a self, image: &'a Image, event: &Event) -> Option<Request<'a>>
+        requires kept { AreKept image.now self.now.going.now self.now.plan self.now.books }
+        requires turns { (e : ℕ) (l : Local) → slice_get self.now.going.now.edges e ≡ Some (Active l) → CanTurn image.now self.now.going.now.slots e l }
+        ensures { option_map shown result ≡ asks_by image.now self.now.going.limits self.now.going.now event.now }
+    {
+        match event {
+            Event::Step(edge) => {
+                if !self.can_step(image, *edge) {
+                    return None;
+                }
+                self.machine.step_request(image, *edge)
+            }
+            _ => None,
+        }
+    }
+
     /// What an event would ask, exactly where it is enabled and asks; steps alone do. It takes no memory.
     pub fn asks<'a>(&'a self, image: &'a Verified, event: &Event) -> Option<Request<'a>>
         requires { IsStateOf image.now self.now }
-        ensures { option_map shown result ≡ asks_by image.now self.now.going.limits self.now.going.now event.now }
+        ensures asks { IfSome result (λ r. Asks image.now self.now.going event.now (shown r)) }
+        ensures none { IfNone result (AsksNothing image.now self.now.going event.now) }
     {
         all_turns_pay();
         instructions_fit();
@@ -82,14 +102,6 @@ impl State {
         steps_are_safe();
         tables_are_in_range();
         let tables = image.image();
-        match event {
-            Event::Step(edge) => {
-                if !self.can_step(tables, *edge) {
-                    return None;
-                }
-                self.machine.step_request(tables, *edge)
-            }
-            _ => None,
-        }
+        self.asked_by(tables, event)
     }
 }

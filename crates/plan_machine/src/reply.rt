@@ -41,7 +41,14 @@ impl Recorded {
     ) -> Result<Recorded, AllocError>
         ensures { IfOk result (λ r. r ≡ record { command = command; basis = basis; paths = paths }) }
     {
-        let parts = Arc::new(alloc, RecordedParts { command, basis, paths })?;
+        let parts = Arc::new(
+            alloc,
+            RecordedParts {
+                command,
+                basis,
+                paths,
+            },
+        )?;
         Ok(Recorded { parts })
     }
 

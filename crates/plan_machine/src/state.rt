@@ -47,7 +47,7 @@ pub struct State {
 
 impl Model for State {
     ghost use Rattle.plan_machine.specs.Hearing.{CanHear};
-ghost use Rattle.plan_machine.specs.Kept.{Running};
+    ghost use Rattle.plan_machine.specs.Kept.{Running};
 
     ghost Value = { Running };
 

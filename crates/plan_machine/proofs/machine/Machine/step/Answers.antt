@@ -14,4 +14,4 @@ settle-requires c =
 pub returns : goal.returns
 returns c =
     step_is c.args.image.now c.args.edge c.args.self.now c.make_turn.new.self c.settle.new.self c.in_ok-turned.turned c.settle.result c.in_ok-turned.ensures.ok
-        c.args.may c.requires.may c.if-not-may.false c.settle.ensures
+    c.args.may c.requires.may c.if-not-may.false c.settle.ensures

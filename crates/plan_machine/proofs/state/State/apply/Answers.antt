@@ -50,6 +50,6 @@ returns-clause-state c =
     let new = c.note.new.self in
     let p = c.args.image.now in
     let applied : Applied p r.going c.args.event (Ok c.in_ok-mark.mark) c.change.new.self.going =
-        subst (λ (x : Parts). Applied x r.going c.args.event (Ok c.in_ok-mark.mark) c.change.new.self.going) c.image-tables.ensures.same c.in_ok-mark.ensures.applied in
+    subst (λ (x : Parts). Applied x r.going c.args.event (Ok c.in_ok-mark.mark) c.change.new.self.going) c.image-tables.ensures.same c.in_ok-mark.ensures.applied in
     next_state p r c.change.new.self new c.args.event c.in_ok-mark.mark c.requires applied c.note.ensures.going (c.note.ensures.total ∙ c.in_ok-mark.ensures.total)
-        (subst (λ (x : Parts). AreKept x new.going.now new.plan new.books) c.image-tables.ensures.same c.note.ensures.kept)
+    (subst (λ (x : Parts). AreKept x new.going.now new.plan new.books) c.image-tables.ensures.same c.note.ensures.kept)

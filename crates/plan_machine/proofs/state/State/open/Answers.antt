@@ -21,9 +21,9 @@ returns-clause-state c =
     let machine = c.in_ok-machine.machine in
     let edges : machine.now.edges ≡ map at_first wanted = ap (λ (g : Going). g.now.edges) c.in_ok-machine.ensures ∙ ap (λ (l : List Bool). map at_first l) c.deref-2.ensures.value in
     let slots : machine.now.slots ≡ replicate {A = Option Value} (length p.slots) None =
-        ap (λ (g : Going). g.now.slots) c.in_ok-machine.ensures ∙ ap (λ (n : ℕ). replicate {A = Option Value} n None) (c.len.ensures ∙ ap (λ (x : Parts). length x.slots) tables) in
+    ap (λ (g : Going). g.now.slots) c.in_ok-machine.ensures ∙ ap (λ (n : ℕ). replicate {A = Option Value} n None) (c.len.ensures ∙ ap (λ (x : Parts). length x.slots) tables) in
     let opens : Opens p c.args.targets.now machine.now = record { wanted = wanted; are = are; edges = edges; slots = slots } in
     let phases = c.in_ok-books.ensures.phases ∙ ap (λ (l : List Bool). map opening_phase l) c.deref.ensures.value in
     first_state p c.args.targets.now (record { going = machine; plan = c.in_ok-plan.plan; books = c.in_ok-books.books; total = c.total-total.result }) opens
-        (opens_kept p machine.now c.in_ok-plan.plan c.in_ok-books.books wanted plan edges are.long c.in_ok-books.ensures.books phases)
-        (c.total-total.ensures ∙ ap (λ (x : Parts). total_of x machine.now) tables)
+    (opens_kept p machine.now c.in_ok-plan.plan c.in_ok-books.books wanted plan edges are.long c.in_ok-books.ensures.books phases)
+    (c.total-total.ensures ∙ ap (λ (x : Parts). total_of x machine.now) tables)

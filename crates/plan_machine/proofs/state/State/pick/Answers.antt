@@ -33,7 +33,7 @@ returns-in-Some-clause-enabled c =
     let x = c.in-Some.pick in
     let phases = r.books.phases.items in
     let can : CanPick r.plan phases r.going.limits.jobs r.going.limits.keep x =
-        subst (λ (n : ℕ). CanPick r.plan phases n r.going.limits.keep x) c.jobs-jobs.ensures.same (subst (λ (n : ℕ). CanPick r.plan phases c.jobs-jobs.result n x) c.keep-keep.ensures c.in-Some.ensures.some) in
+    subst (λ (n : ℕ). CanPick r.plan phases n r.going.limits.keep x) c.jobs-jobs.ensures.same (subst (λ (n : ℕ). CanPick r.plan phases c.jobs-jobs.result n x) c.keep-keep.ensures c.in-Some.ensures.some) in
     subst (λ (g : Running). IsEnabled p g.going c.event_of.result) c.self.view_is
     (subst (IsEnabled p r.going) (sym c.event_of.ensures) (picked p r.going r.plan r.books is.kept laws shaped jobs stands x can))
 
@@ -55,8 +55,8 @@ returns-in-None-clause-none c =
     let jobs : 0 < r.going.limits.jobs = omega (arith, c.jobs-jobs.ensures.some, c.jobs-jobs.ensures.same) in
     let phases = r.books.phases.items in
     let none : (x : Pick) → CanPick r.plan phases r.going.limits.jobs r.going.limits.keep x → ⊥ =
-        subst (λ (n : ℕ). (x : Pick) → CanPick r.plan phases n r.going.limits.keep x → ⊥) c.jobs-jobs.ensures.same
-        (subst (λ (n : ℕ). (x : Pick) → CanPick r.plan phases c.jobs-jobs.result n x → ⊥) c.keep-keep.ensures c.in-None.ensures.none) in
+    subst (λ (n : ℕ). (x : Pick) → CanPick r.plan phases n r.going.limits.keep x → ⊥) c.jobs-jobs.ensures.same
+    (subst (λ (n : ℕ). (x : Pick) → CanPick r.plan phases c.jobs-jobs.result n x → ⊥) c.keep-keep.ensures c.in-None.ensures.none) in
     subst (λ (g : Running). (event : Event) → is_own event ≡ true → IsEnabled p g.going event → ⊥) c.self.view_is
     (none_picked p r.going r.plan r.books is.kept laws shaped jobs stands none)
 
@@ -78,8 +78,8 @@ returns-in-None-clause-waits c =
     let jobs : 0 < r.going.limits.jobs = omega (arith, c.jobs-jobs.ensures.some, c.jobs-jobs.ensures.same) in
     let phases = r.books.phases.items in
     let none : (x : Pick) → CanPick r.plan phases r.going.limits.jobs r.going.limits.keep x → ⊥ =
-        subst (λ (n : ℕ). (x : Pick) → CanPick r.plan phases n r.going.limits.keep x → ⊥) c.jobs-jobs.ensures.same
-        (subst (λ (n : ℕ). (x : Pick) → CanPick r.plan phases c.jobs-jobs.result n x → ⊥) c.keep-keep.ensures c.in-None.ensures.none) in
+    subst (λ (n : ℕ). (x : Pick) → CanPick r.plan phases n r.going.limits.keep x → ⊥) c.jobs-jobs.ensures.same
+    (subst (λ (n : ℕ). (x : Pick) → CanPick r.plan phases c.jobs-jobs.result n x → ⊥) c.keep-keep.ensures c.in-None.ensures.none) in
     subst (λ (g : Running). (has_ended g.going.now ≡ true) ⊎ Awaits g.going.now) c.self.view_is
     (none_stuck p r.going (none_picked p r.going r.plan r.books is.kept laws shaped jobs stands none)
-      (never_stuck laws depfile p shaped r.going.limits jobs is.targets is.events is.marks r.going.now is.reached))
+    (never_stuck laws depfile p shaped r.going.limits jobs is.targets is.events is.marks r.going.now is.reached))

@@ -41,5 +41,5 @@ returns-clause-some c l at loud =
     let is : IsStateOf p r = subst (IsStateOf p) (sym c.self.view_is) c.requires in
     let stands = state_stands laws p c.image-tables.ensures.shaped c.args.self.now c.requires in
     some_shown c.asked.result (asked_at p c.args.self.now.going.now c.args.edge)
-        (c.asked.ensures ∙ ap (λ (x : Parts). asked_at x r.going.now c.args.edge) c.image-tables.ensures.same ∙ ap (λ (x : Running). asked_at p x.going.now c.args.edge) c.self.view_is)
-        (asked_is p c.args.self.now.going.now c.args.edge l stands at loud)
+    (c.asked.ensures ∙ ap (λ (x : Parts). asked_at x r.going.now c.args.edge) c.image-tables.ensures.same ∙ ap (λ (x : Running). asked_at p x.going.now c.args.edge) c.self.view_is)
+    (asked_is p c.args.self.now.going.now c.args.edge l stands at loud)
