@@ -58,7 +58,7 @@ impl Books {
     }
 
     /// An edge without an outcome comes to any phase.
-    #[tactic(auto, using(crate::proofs::PhaseLemmas::not_well))]
+    #[tactic(auto, using(crate::proofs::PhaseLemmas::not_well, crate::proofs::PhaseLemmas::stays))]
     pub fn change(&mut self, plan: &Plan, edge: u32, next: Phase)
         requires plan { IsPlan plan.now }
         requires here { edge < edges_of plan.now }
@@ -68,6 +68,9 @@ impl Books {
         ensures books { AreBooks plan.now self.new }
         ensures phases { self.new.phases.items ≡ slice_set self.old.phases.items edge next }
     {
+        if self.phases[edge as usize] == next {
+            return;
+        }
         match next {
             Phase::Well => self.end_well(plan, edge),
             _ => {

@@ -329,14 +329,22 @@ fn swept(alloc: Global, bytes: &[u8]) -> Result<(u64, usize, Option<Outcome>), R
         return Err(Refused::Memory);
     };
     let mut state = State::open(alloc, &image, options, &[])?;
+    let count = go_on(alloc, &mut state, &image, bytes)?;
+    Ok((image.budget(), count, state.outcome(0)))
+}
+
+/// Applies what is picked, and replies for edge 0, until there is none.
+fn go_on(alloc: Global, state: &mut State, image: &Verified, bytes: &[u8]) -> Result<usize, Refused>
+    requires { IsStateOf image.now state.old }
+{
     let mut count = 0usize;
-    for _i in 0..20 {
-        match next(alloc, &state, &image, bytes)? {
+    for _i in 0..20usize {
+        match next(alloc, state, image, bytes)? {
             Some(event) => {
-                let _ = state.apply(&image, event)?;
+                let _ = state.apply(image, event)?;
                 count += 1;
             }
-            None => return Ok((image.budget(), count, state.outcome(0))),
+            None => return Ok(count),
         }
     }
     Err(Refused::NotEnabled)
@@ -370,6 +378,24 @@ fn sweep(rt: HostRuntime) {
     assert_eq!(rt; swept(rt.alloc(), b""), Ok((11, 11, Some(Outcome::Clean))));
 }
 
+/// Applies what is picked, and counts it.
+fn pick_all(state: &mut State, image: &Verified) -> Result<usize, Refused>
+    requires { IsStateOf image.now state.old }
+    ensures { IsStateOf image.now state.new }
+{
+    let mut count = 0usize;
+    for _i in 0..20usize {
+        match state.pick(image) {
+            Some(event) => {
+                let _ = state.apply(image, event)?;
+                count += 1;
+            }
+            None => {}
+        }
+    }
+    Ok(count)
+}
+
 /// How many events can be picked of three edges of a pool, how many edges await a reply then, and the total.
 fn picked(alloc: Global, jobs: u8) -> Result<(usize, usize, u64), Refused> {
     let image = three(alloc)?;
@@ -377,16 +403,7 @@ fn picked(alloc: Global, jobs: u8) -> Result<(usize, usize, u64), Refused> {
         return Err(Refused::Memory);
     };
     let mut state = State::open(alloc, &image, options, &[])?;
-    let mut count = 0usize;
-    for _i in 0..20 {
-        match state.pick(&image) {
-            Some(event) => {
-                let _ = state.apply(&image, event)?;
-                count += 1;
-            }
-            None => {}
-        }
-    }
+    let count = pick_all(&mut state, &image)?;
     let asking = state.request(&image, 0).is_some() as usize
         + state.request(&image, 1).is_some() as usize
         + state.request(&image, 2).is_some() as usize;
