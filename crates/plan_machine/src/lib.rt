@@ -1,11 +1,15 @@
 //! Many edges at once: which events are enabled in a state of an image, and what each does.
 //!
-//! - `Event`, `Reply`: what may happen next, and answers from outside. `Mark`: what an event did. `Outcome`: how an edge
-//!   came out. `Cause` (of plan_verify): why it failed.
-//! - `State`: where each edge of an image stands. `Refused`: why a call on it is refused.
+//! - `State`: where each edge of an image stands, with books of what can happen next. `open` makes one, `apply` applies an
+//!   `Event`, `pick` finds one that needs no reply, `request` and `asks` tell what is asked, a `Request`; `outcome`,
+//!   `ended`, `total`. `Refused`: why a call on it is refused. `replay`: a whole run in one call.
+//! - `Event`, `Reply` with `Recorded` and `Depfile`: what may happen next, and answers from outside. `Mark`: what an event
+//!   did. `Outcome`: how an edge came out. `Cause` (of plan_verify): why it failed.
 //! - `Options`: how many jobs there are, and how many failures are borne.
 //! - The laws say what holds of every run of an image that is well shaped: it never goes wrong (`never_wrong`), its marks
 //!   are orderly (`marks_are_orderly`), it never gets stuck (`never_stuck`), its events are bounded (`stays_in_budget`).
+//!
+//! docs/MACHINE.md has the rules one by one.
 #![tactic(auto)]
 
 mod activity;
