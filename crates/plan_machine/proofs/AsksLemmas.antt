@@ -1,6 +1,6 @@
 -- Which events ask, by the table.
-use Rattle.std.proofs.Common.{◌≡◌, ℕ, zero, suc, ◌+◌, ◌<◌, Bool, true, false, not, List, [], ◌∷◌, length, Option, Some, None, refl, sym, ap, ◌∙◌, subst, inl, inr}
-use Rattle.std.specs.Prelude.{◌||◌, ◌&&◌, ◌==◌, IfNone, IfSome, Result, Ok, Err, drop, if◌then◌else◌, nat_lt, option_map, slice_get, slice_set}
+use Rattle.std.proofs.Common.{◌≡◌, ℕ, zero, suc, ◌+◌, Bool, true, false, not, List, [], ◌∷◌, length, Option, Some, None, refl, sym, ap, ◌∙◌, subst, inl, inr}
+use Rattle.std.specs.Prelude.{◌||◌, ◌&&◌, IfNone, IfSome, Result, Ok, Err, drop, if◌then◌else◌, nat_lt, option_map, slice_get}
 use Rattle.std.specs.List.{list_all}
 use Rattle.std.proofs.lemmas.Bool.{cases_Bool}
 use Rattle.std.proofs.lemmas.Option.{slice_get_within}
@@ -16,18 +16,16 @@ use Rattle.plan_verify.specs.Turn.{Slots, Local, Request as Question, Did, Moved
 use Rattle.plan_verify.specs.Sound.{asking}
 use Rattle.plan_machine.specs.declared.event.Event.{Event}
 use Rattle.plan_machine.specs.declared.event.Event.TheVariants.{Start, Skip, Stop, Step, Reply as Hear}
-use Rattle.plan_machine.specs.declared.mark.Mark.{Mark}
 use Rattle.plan_machine.specs.declared.mark.Mark.TheVariants as mark
 use Rattle.plan_machine.specs.declared.request.Request.{Request}
-use Rattle.plan_machine.specs.Limits.{Limits}
 use Rattle.plan_machine.specs.State.{Status, Unbegun, Active, Over, State, is_ill, is_well, stands, with_status}
 use Rattle.plan_machine.specs.Places.{at_take, is_free, is_spent}
 use Rattle.plan_machine.specs.Going.{Going}
-use Rattle.plan_machine.specs.Step.{Stepped, Next, Wrong, NotEnabled, answer_of, answered, hears, hears_by, settles, skips, starts, step, stepped, steps, stops}
+use Rattle.plan_machine.specs.Step.{Stepped, Next, answer_of, answered, hears, hears_by, settles, skips, starts, step, stepped, steps, stops}
 use Rattle.plan_machine.specs.Depfile.{depfile}
 use Rattle.plan_machine.specs.Applying.{may_step_by}
-use Rattle.plan_machine.specs.Requests.{Asks, AsksNothing, asked_at, asked_by, asks_by, is_asking, shown, step_asks}
-use Rattle.plan_machine.proofs.ListLemmas.{get_same, some_is, when_either, when_false, when_true}
+use Rattle.plan_machine.specs.Requests.{Asks, AsksNothing, asked_by, asks_by, is_asking, shown, step_asks}
+use Rattle.plan_machine.proofs.ListLemmas.{get_same, some_is, when_either, when_false}
 use Rattle.plan_machine.proofs.RequestLemmas.{goes_quiet, silent}
 
 -- ---- what an edge asked is what it asks

@@ -1,30 +1,27 @@
 -- What the books say of a state that they fit.
-use Rattle.std.proofs.Common.{◌≡◌, ◌≢◌, ℕ, zero, suc, ◌+◌, ◌<◌, ◌≤◌, Bool, true, false, not, eqb, List, [], ◌∷◌, length, map, get_or, Option, Some, None, refl, sym, ap, ◌∙◌, subst, arith, inl, inr, cond}
-use Rattle.std.specs.Prelude.{◌⊎◌, ◌&&◌, ◌==◌, slice_get, slice_set, slice_index, count_by, if◌then◌else◌, Contains}
+use Rattle.std.proofs.Common.{◌≡◌, ℕ, zero, suc, ◌+◌, ◌<◌, Bool, true, false, not, List, [], ◌∷◌, length, map, Option, Some, None, refl, sym, ap, ◌∙◌, arith, inl, inr, cond}
+use Rattle.std.specs.Prelude.{◌&&◌, ◌==◌, slice_get, slice_set, slice_index, count_by, if◌then◌else◌}
 use Rattle.std.specs.List.{list_all}
 use Rattle.std.proofs.lemmas.Bool.{cases_eq, cases_Bool, eq-eqb, ne_eqb}
 use Rattle.std.proofs.lemmas.Option.{slice_get_within}
 use Rattle.std.proofs.lemmas.List.Sums.{sum_by-cons}
-use Rattle.plan_image.specs.declared.image.Pool.{Pool}
 use Rattle.plan_image.specs.declared.image.Parts.{Parts}
 use Rattle.plan_image.specs.Spelling.{pool_number}
-use Rattle.plan_verify.specs.Members.{is_member}
 use Rattle.plan_verify.specs.Tables.{pool_of, waits_of}
-use Rattle.plan_verify.specs.Turn.{Local}
 use Rattle.plan_books.specs.declared.phase.Phase.{Phase}
 use Rattle.plan_books.specs.declared.phase.Phase.TheVariants as phase
 use Rattle.plan_books.specs.declared.plan.Plan.{Plan}
 use Rattle.plan_books.specs.declared.keeping.Books.{Books}
 use Rattle.plan_books.specs.Phases.{holds, has_failed as phase_failed, is_open, is_well as phase_well, is_ill as phase_ill, phase_at}
 use Rattle.plan_books.specs.Counts.{one, holders_of}
-use Rattle.plan_books.specs.Booking.{AreBooks, edges_of, unwell, waits_of as waits_by}
+use Rattle.plan_books.specs.Booking.{AreBooks, edges_of, unwell}
 use Rattle.plan_machine.specs.declared.mark.Outcome.{Outcome}
 use Rattle.plan_machine.specs.declared.mark.Outcome.TheVariants.{Clean, Ran, Failed, Skipped, Stopped, NotWanted}
 use Rattle.plan_machine.specs.State.{Status, Unbegun, Active, Over, State, is_well, is_ill, is_over, has_failed, is_holder, passes, stands, has_ended}
 use Rattle.plan_machine.specs.Places.{is_pool, holders_from, at_take}
 use Rattle.plan_books.specs.Opening.{opening_phase}
 use Rattle.plan_machine.specs.Runs.{at_first}
-use Rattle.plan_machine.specs.Kept.{Running, phase_over, phase_going, phase_active, phase_of, phase_in, phases_from, IsPlanOf, AreKept, IsBehind}
+use Rattle.plan_machine.specs.Kept.{Running, phase_over, phase_active, phase_of, phase_in, phases_from, IsPlanOf, AreKept, IsBehind}
 use Rattle.plan_machine.proofs.ListLemmas.{get_same, map_length, set_length}
 
 -- ---- tests of phases

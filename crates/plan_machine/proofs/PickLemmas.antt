@@ -1,19 +1,18 @@
 -- What the books pick is enabled, and what is enabled can be picked.
-use Rattle.std.proofs.Common.{◌≡◌, ◌≢◌, ℕ, zero, suc, ◌+◌, ◌<◌, ◌≤◌, Bool, true, false, not, eqb, List, [], ◌∷◌, length, map, get_or, Option, Some, None, refl, sym, ap, ◌∙◌, subst, arith, inl, inr}
-use Rattle.std.specs.Prelude.{◌⊎◌, ◌&&◌, ◌||◌, ◌==◌, slice_get, slice_index, slice_index_or, count_by, nat_lt, nat_le, if◌then◌else◌, All, Contains, IfNone, IsSome}
+use Rattle.std.proofs.Common.{◌≡◌, ℕ, zero, suc, ◌+◌, ◌<◌, Bool, true, false, not, eqb, List, [], ◌∷◌, length, map, Option, Some, None, refl, sym, ap, ◌∙◌, subst, arith, inl, inr}
+use Rattle.std.specs.Prelude.{◌⊎◌, ◌&&◌, ◌||◌, ◌==◌, slice_get, slice_index, count_by, nat_lt, nat_le, if◌then◌else◌, All, Contains, IsSome}
 use Rattle.std.specs.List.{list_all}
-use Rattle.std.proofs.lemmas.Bool.{cases_eq, cases_Bool, eqb-true, eq-eqb, and_from, le-ltb, ltb-false, lt-ltb, ltb-true}
+use Rattle.std.proofs.lemmas.Bool.{cases_Bool, eq-eqb, and_from, lt-ltb, ltb-true}
 use Rattle.std.proofs.lemmas.Option.{slice_get_within}
 use Rattle.std.proofs.lemmas.List.Elements.{All-head, All-tail}
 use Rattle.plan_image.specs.declared.instr.Instr.{Instr}
-use Rattle.plan_image.specs.declared.instr.Instr.TheVariants as op
 use Rattle.plan_image.specs.declared.image.Pool.{Pool}
 use Rattle.plan_image.specs.declared.image.Parts.{Parts}
 use Rattle.plan_image.specs.Code.{code}
 use Rattle.plan_image.specs.Spelling.{pool_number}
 use Rattle.plan_verify.specs.Members.{is_member}
 use Rattle.plan_verify.specs.Tables.{pool_of, waits_of, pool_outside}
-use Rattle.plan_verify.specs.Turn.{Slots, Local, begun, Request, Took, PlaceHeld, PoolOutside, Turn, Ends, Wrong as Errs, act_at, holds as holding_turn, turn, request_of}
+use Rattle.plan_verify.specs.Turn.{Local, begun, Request, Took, PlaceHeld, PoolOutside, Ends, Wrong as Errs, act_at, holds as holding_turn, turn, request_of}
 use Rattle.plan_verify.specs.WellShaped.{IsWellShaped}
 use Rattle.plan_books.specs.declared.phase.Phase.{Phase}
 use Rattle.plan_books.specs.declared.phase.Phase.TheVariants as phase
@@ -21,26 +20,25 @@ use Rattle.plan_books.specs.declared.plan.Plan.{Plan}
 use Rattle.plan_books.specs.declared.keeping.Books.{Books}
 use Rattle.plan_books.specs.declared.picking.Pick.{Pick}
 use Rattle.plan_books.specs.declared.picking.Pick.TheVariants as pick
-use Rattle.plan_books.specs.Phases.{holds, has_failed as phase_failed, is_well as phase_well, is_ill as phase_ill, phase_at}
+use Rattle.plan_books.specs.Phases.{holds, has_failed as phase_failed, is_well as phase_well, phase_at}
 use Rattle.plan_books.specs.Counts.{holders_of}
 use Rattle.plan_books.specs.Booking.{edges_of, waits_of as waits_by}
-use Rattle.plan_books.specs.Picking.{IsEnabled as CanPick, MayTake, has_room as pool_room, is_spent as spent_by}
+use Rattle.plan_books.specs.Picking.{IsEnabled as CanPick, has_room as pool_room, is_spent as spent_by}
 use Rattle.plan_machine.specs.declared.event.Event.{Event}
 use Rattle.plan_machine.specs.declared.event.Event.TheVariants.{Start, Skip, Stop, Step, Reply as Hear}
-use Rattle.plan_machine.specs.declared.mark.Mark.{Mark}
 use Rattle.plan_machine.specs.declared.mark.Mark.TheVariants as mark
 use Rattle.plan_machine.specs.declared.mark.Outcome.{Outcome}
 use Rattle.plan_machine.specs.declared.mark.Outcome.TheVariants.{Clean, Ran, Failed, Skipped, Stopped, NotWanted}
-use Rattle.plan_machine.specs.State.{Status, Unbegun, Active, Over, State, is_well, is_ill, is_holder, has_failed, passes, stands, with_status, has_ended}
-use Rattle.plan_machine.specs.Places.{allows, at_take, has_room, holders_from, is_free, is_spent, is_take}
+use Rattle.plan_machine.specs.State.{Status, Unbegun, Active, Over, State, is_well, is_ill, is_holder, has_failed, stands, with_status, has_ended}
+use Rattle.plan_machine.specs.Places.{allows, at_take, has_room, holders_from, is_free, is_spent}
 use Rattle.plan_machine.specs.Going.{Going}
 use Rattle.plan_machine.specs.Step.{Stepped, Next, Wrong, NotEnabled, stepped, settles, starts, skips, stops, steps, step}
 use Rattle.plan_machine.specs.Depfile.{depfile}
 use Rattle.plan_machine.specs.Standing.{IsUnderWay, Stands}
 use Rattle.plan_machine.specs.NeverStuck.{Awaits, CanGo, is_own}
-use Rattle.plan_machine.specs.Kept.{phase_over, phase_going, phase_active, phase_of, phases_from, AreKept}
+use Rattle.plan_machine.specs.Kept.{phase_over, phase_going, phase_active, phase_of, AreKept}
 use Rattle.plan_machine.specs.Picking.{IsEnabled, event_of}
-use Rattle.plan_machine.proofs.ListLemmas.{all_member, and_both, get_inside, is_some_of, member_contained, or_right, when_true, when_false}
+use Rattle.plan_machine.proofs.ListLemmas.{and_both, get_inside, member_contained, or_right, when_true, when_false}
 use Rattle.plan_machine.proofs.VerifyLaws.{VerifyLaws}
 use Rattle.plan_machine.proofs.StandingLemmas.{turn_safe}
 use Rattle.plan_machine.proofs.NeverStuckLemmas.{is_take_at, settles_next}

@@ -1,26 +1,18 @@
 -- Runs, one event longer; a run from the opening.
-use Rattle.std.proofs.Common.{◌≡◌, ◌≢◌, ℕ, zero, suc, ◌+◌, ◌<◌, ◌≤◌, List, [], ◌∷◌, ◌++◌, length, take, Result, Ok, Err, Some, refl, sym, ap, ◌∙◌, subst, arith}
-use Rattle.std.specs.Prelude.{IfErr, IfOk, OnOk, slice_get}
+use Rattle.std.proofs.Common.{◌≡◌, ◌≢◌, ℕ, zero, suc, ◌+◌, ◌<◌, List, [], ◌∷◌, ◌++◌, length, take, Result, Ok, Err, Some, refl, sym, ap, ◌∙◌, subst, arith}
+use Rattle.std.specs.Prelude.{IfOk, OnOk, slice_get}
 use Rattle.plan_image.specs.declared.image.Parts.{Parts}
-use Rattle.plan_verify.specs.Budget.{image_budget}
-use Rattle.plan_verify.specs.Turn.{Flaw}
 use Rattle.plan_verify.specs.WellShaped.{IsWellShaped}
-use Rattle.plan_verify.specs.Budget.{IsFrugal}
 use Rattle.plan_machine.specs.Limits.{Limits}
 use Rattle.plan_machine.specs.declared.event.Event.{Event}
 use Rattle.plan_machine.specs.declared.mark.Mark.{Mark}
 use Rattle.plan_machine.specs.declared.refused.Refused.{Refused}
 use Rattle.plan_machine.specs.declared.refused.Refused.TheVariants as refused
-use Rattle.plan_machine.specs.State.{State}
 use Rattle.plan_machine.specs.Going.{Going}
-use Rattle.plan_machine.specs.Step.{Next, NotEnabled, Wrong, step}
+use Rattle.plan_machine.specs.Step.{Next, NotEnabled, step}
 use Rattle.plan_machine.specs.Depfile.{depfile}
 use Rattle.plan_machine.specs.Runs.{Opens, Runs, Reached}
-use Rattle.plan_machine.specs.InBudget.{StaysInBudget, all_bytes}
-use Rattle.plan_machine.specs.NeverWrong.{NeverWrong}
-use Rattle.plan_machine.specs.Orderly.{IsOrderly, MarksAreOrderly}
 use Rattle.plan_machine.specs.Applying.{Applied}
-use Rattle.plan_machine.specs.Kept.{Running}
 use Rattle.plan_machine.specs.Replaying.{IsReplayFault, IsStop, RunsTo, StopsFrom, Went}
 use Rattle.plan_machine.proofs.StateLemmas.{runs_more}
 

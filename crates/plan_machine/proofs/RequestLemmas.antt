@@ -1,8 +1,8 @@
 -- What an instruction that isn't wrong asks.
-use Rattle.std.proofs.Common.{◌≡◌, ℕ, zero, suc, ◌+◌, ◌<◌, ◌≤◌, Bool, true, false, eqb, List, [], ◌∷◌, length, map, get_or, Option, Some, None, refl, sym, ap, ◌∙◌, subst, arith}
+use Rattle.std.proofs.Common.{◌≡◌, ℕ, zero, suc, ◌+◌, ◌<◌, ◌≤◌, Bool, true, false, eqb, List, [], ◌∷◌, length, get_or, Option, Some, None, refl, sym, ap, ◌∙◌, subst, arith}
 use Rattle.std.specs.Prelude.{nat_le, nat_lt, slice_get, option_map, IsSome, if◌then◌else◌, not}
 use Rattle.std.specs.List.{list_all}
-use Rattle.std.proofs.lemmas.Option.{slice_get_within, get_or_from_slice_get, slice_get_past}
+use Rattle.std.proofs.lemmas.Option.{get_or_from_slice_get, slice_get_past}
 use Rattle.plan_image.specs.declared.instr.Instr.{Instr}
 use Rattle.plan_image.specs.declared.instr.Instr.TheVariants as op
 use Rattle.plan_image.specs.declared.image.Slot.{Slot}
@@ -10,8 +10,8 @@ use Rattle.plan_image.specs.declared.image.Parts.{Parts}
 use Rattle.plan_image.specs.Code.{code}
 use Rattle.plan_verify.specs.declared.value.Value.{Value}
 use Rattle.plan_verify.specs.declared.value.Value.TheVariants.{Stamp, Flag, Text, Paths, Swept}
-use Rattle.plan_verify.specs.Tables.{first_output, outputs_of, own_slots, path_of, paths_of, pool_outside, with_path}
-use Rattle.plan_verify.specs.Turn.{Slots, is_set, Local, Request as Question, Stat, Recall, Run, Deps, Keep, Turn, Goes, Wrong, PlaceHeld, PlaceNotHeld, PoolOutside, Took, Released, Calculated, On, TooLong, Off, act, branches, calculate, calculated, ends, holds, jumps, keeps, loads, next, goes, reads, request_of, runs, stores, sweep, sweeps, writes}
+use Rattle.plan_verify.specs.Tables.{outputs_of, own_slots, path_of, paths_of, pool_outside, with_path}
+use Rattle.plan_verify.specs.Turn.{Slots, is_set, Local, Request as Question, Stat, Run, Deps, Keep, Turn, Wrong, PlaceNotHeld, Calculated, On, TooLong, Off, act, branches, calculate, calculated, ends, jumps, keeps, loads, goes, reads, request_of, runs, stores, sweep, sweeps, writes}
 use Rattle.plan_machine.specs.Lent.{paths_by}
 use Rattle.plan_machine.specs.declared.request.Request.{Request}
 use Rattle.plan_machine.specs.Requests.{HasPathsAt, HasStampAt, HasSweptAt, HasTextAt, asked_at, asked_by, is_asking, shown}

@@ -10,7 +10,7 @@ use Rattle.plan_machine.specs.declared.refused.Refused.{Refused}
 use Rattle.plan_machine.specs.declared.refused.Refused.TheVariants.{NotEnabled}
 use Rattle.plan_machine.specs.declared.turned.Heard.{Heard}
 use Rattle.plan_machine.specs.declared.turned.Heard.TheVariants as hearing
-use Rattle.plan_machine.specs.State.{Status, Active, Over, State, with_status}
+use Rattle.plan_machine.specs.State.{Status, Active, Over, with_status}
 use Rattle.plan_machine.specs.Going.{Going}
 use Rattle.plan_machine.specs.Depfile.{depfile}
 use Rattle.plan_machine.specs.Working.{Works}

@@ -1,10 +1,9 @@
 -- The books that are kept beside a running image: counts and shelves, which fit where its edges stand.
-use Rattle.std.specs.Prelude.{◌≡◌, ℕ, ◌+◌, ◌<◌, Bool, true, false, List, [], ◌∷◌, length, map, Option, Some, None, if◌then◌else◌, slice_get, slice_set, slice_index}
+use Rattle.std.specs.Prelude.{◌≡◌, ℕ, ◌+◌, ◌<◌, Bool, true, false, List, [], ◌∷◌, length, map, Option, Some, None, slice_get, slice_set, slice_index}
 use Rattle.plan_image.specs.declared.image.Pool.{Pool}
 use Rattle.plan_image.specs.declared.image.Parts.{Parts}
 use Rattle.plan_image.specs.Spelling.{pool_number}
 use Rattle.plan_verify.specs.Tables.{pool_of, waits_of}
-use Rattle.plan_verify.specs.Turn.{Local}
 use Rattle.plan_books.specs.declared.phase.Phase.{Phase}
 use Rattle.plan_books.specs.declared.phase.Phase.TheVariants as phase
 use Rattle.plan_books.specs.declared.plan.Plan.{Plan}

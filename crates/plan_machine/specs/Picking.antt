@@ -1,7 +1,6 @@
 -- What can happen next, by itself or by a reply.
-use Rattle.std.specs.Prelude.{◌≡◌, ℕ, true, false, Bool, Option, Some, None, slice_get}
+use Rattle.std.specs.Prelude.{◌≡◌}
 use Rattle.plan_image.specs.declared.image.Parts.{Parts}
-use Rattle.plan_verify.specs.Turn.{Local, Request, question}
 use Rattle.plan_books.specs.declared.picking.Pick.{Pick}
 use Rattle.plan_books.specs.declared.picking.Pick.TheVariants as pick
 use Rattle.plan_machine.specs.declared.event.Event.{Event}

@@ -1,5 +1,5 @@
 -- What an edge that awaits a reply asked, and what an event would ask.
-use Rattle.std.specs.Prelude.{◌≡◌, ℕ, Bool, true, false, List, Option, Some, None, if◌then◌else◌, slice_get, ◌&&◌, not}
+use Rattle.std.specs.Prelude.{◌≡◌, ℕ, Bool, true, false, List, Option, Some, None, if◌then◌else◌, slice_get}
 use Rattle.plan_image.specs.declared.instr.Instr.{Instr}
 use Rattle.plan_image.specs.declared.instr.Instr.TheVariants as op
 use Rattle.plan_image.specs.declared.image.Parts.{Parts}

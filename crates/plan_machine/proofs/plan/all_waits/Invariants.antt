@@ -1,7 +1,5 @@
-use Rattle.std.proofs.Common.{◌≡◌, ◌∷◌, map, take}
-use Rattle.plan_image.specs.declared.image.Pool.{Pool}
-use Rattle.plan_image.specs.Spelling.{pool_number}
-use Rattle.plan_verify.specs.Tables.{pool_of, waits_of}
+use Rattle.std.proofs.Common.{◌≡◌}
+use Rattle.plan_verify.specs.Tables.{waits_of}
 use Rattle.plan_machine.specs.Firsts.{first_of}
 use Rattle.plan_machine.proofs.plan.all_waits.Given as goal
 

@@ -1,6 +1,6 @@
-use Rattle.std.proofs.Common.{◌≡◌, ℕ, List, ◌∷◌, map, length, ap, ◌∙◌, sym, subst}
+use Rattle.std.proofs.Common.{◌≡◌, ℕ, List, ◌∷◌, map, ap, ◌∙◌}
 use Rattle.plan_image.specs.declared.image.Pool.{Pool}
-use Rattle.plan_machine.proofs.PlanLemmas.{edges_few, pool_small, plan_few, plan_pools, plan_in_pools, plan_inside, plan_short, plan_made}
+use Rattle.plan_machine.proofs.PlanLemmas.{plan_few, plan_pools, plan_in_pools, plan_inside, plan_short, plan_made}
 use Rattle.plan_machine.proofs.plan.image_plan.Goals as goal
 
 depths_is : (all given : List Pool) (depths : List ℕ) → given ≡ all → depths ≡ 0 ∷ map (λ (pool : Pool). pool.depth) given → depths ≡ 0 ∷ map (λ (pool : Pool). pool.depth) all

@@ -1,10 +1,9 @@
-use Rattle.std.proofs.Common.{◌≡◌, ◌∙◌, sym, subst}
+use Rattle.std.proofs.Common.{◌∙◌, sym, subst}
 use Rattle.std.specs.Prelude.{Ok}
 use Rattle.plan_image.specs.declared.image.Parts.{Parts}
 use Rattle.plan_machine.specs.Applying.{Applied, CanTurn}
 use Rattle.plan_machine.specs.Hearing.{CanHear}
 use Rattle.plan_machine.specs.Kept.{AreKept}
-use Rattle.plan_machine.specs.Standing.{Stands}
 use Rattle.plan_machine.proofs.VerifyLaws.{VerifyLaws}
 use Rattle.plan_machine.proofs.StateLemmas.{can_hear, can_turn, left_behind, next_state, state_stands}
 use Rattle.plan_machine.proofs.state.State.apply.Goals as goal

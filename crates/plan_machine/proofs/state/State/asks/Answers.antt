@@ -1,8 +1,7 @@
-use Rattle.std.proofs.Common.{◌≡◌, ap, ◌∙◌, sym, subst}
-use Rattle.std.specs.Prelude.{option_map}
+use Rattle.std.proofs.Common.{ap, ◌∙◌, sym, subst}
 use Rattle.plan_image.specs.declared.image.Parts.{Parts}
 use Rattle.plan_machine.specs.Applying.{CanTurn}
-use Rattle.plan_machine.specs.Requests.{asks_by, shown}
+use Rattle.plan_machine.specs.Requests.{asks_by}
 use Rattle.plan_machine.proofs.AsksLemmas.{shown_asks, shown_nothing}
 use Rattle.plan_machine.proofs.StateLemmas.{can_turn, state_stands}
 use Rattle.plan_machine.proofs.VerifyLaws.{VerifyLaws}

@@ -1,4 +1,4 @@
-use Rattle.std.proofs.Common.{ap, sym, ◌∙◌}
+use Rattle.std.proofs.Common.{ap, ◌∙◌}
 use Rattle.plan_machine.specs.Kept.{Running}
 use Rattle.plan_machine.proofs.KeptLemmas.{failures_are}
 use Rattle.plan_machine.proofs.state.State.failures.Goals as goal

@@ -1,4 +1,4 @@
-use Rattle.std.proofs.Common.{◌≡◌, ap, sym, ◌∙◌, subst}
+use Rattle.std.proofs.Common.{sym, subst}
 use Rattle.plan_machine.specs.Kept.{IsBehind, Running}
 use Rattle.plan_machine.proofs.KeptLemmas.{caught_up, here_is, was_not_ill, was_unwell}
 use Rattle.plan_machine.proofs.state.State.note.Goals as goal

@@ -1,9 +1,9 @@
-use Rattle.std.proofs.Common.{◌≡◌, ℕ, Bool, List, None, Option, length, map, replicate, ap, refl, sym, ◌∙◌, subst}
+use Rattle.std.proofs.Common.{◌≡◌, ℕ, Bool, List, None, Option, length, map, replicate, ap, ◌∙◌, subst}
 use Rattle.plan_image.specs.declared.image.Parts.{Parts}
 use Rattle.plan_verify.specs.declared.value.Value.{Value}
 use Rattle.plan_books.specs.Opening.{opening_phase}
 use Rattle.plan_machine.specs.Going.{Going}
-use Rattle.plan_machine.specs.Kept.{AreKept, IsPlanOf, Running}
+use Rattle.plan_machine.specs.Kept.{IsPlanOf}
 use Rattle.plan_machine.specs.Runs.{Opens, at_first}
 use Rattle.plan_machine.specs.Total.{total_of}
 use Rattle.plan_machine.specs.Wanted.{AreWanted}
