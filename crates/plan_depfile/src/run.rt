@@ -28,7 +28,7 @@ fn plain_len(text: &[u8]) -> usize
 
 impl Machine {
     /// How many plain bytes can be taken at once where the machine stands.
-    fn room(&self) -> u64
+    fn room(&self) -> u32
         requires within { self.now.at + length (bytes_of self.now.held) ≤ most }
         ensures held { 0 < result → self.now.held ≡ Held.Nothing }
         ensures steady { 0 < result → IsSteady (stand_at self.now.stand self.now.word.items) }
@@ -74,7 +74,7 @@ impl Machine {
         let len = plain_len(text).min(room as usize);
         let (run, _) = text.split_at(len);
         self.append(run)?;
-        self.at += len as u64;
+        self.at += len as u32;
         Ok(len)
     }
 }

@@ -72,7 +72,7 @@ module _ (p : Parts) (e : ℕ) (slots : Slots) (l : Local) where
   sweeps_noted all below None = goes_noted (l.place + 1) (Swept all ∷ below)
 
   sweep_noted : (stack : List Value) → N (sweep l stack)
-  sweep_noted (Paths all swept ∷ Flag b ∷ Stamp n ∷ below) = sweeps_noted all (Flag b ∷ Stamp n ∷ below) (slice_get all swept)
+  sweep_noted (Paths swept all ∷ Flag b ∷ Stamp n ∷ below) = sweeps_noted all (Flag b ∷ Stamp n ∷ below) (slice_get all swept)
   sweep_noted _ = tt
 
   branches_noted : (len to : ℕ) (stack : List Value) → N (branches l len to stack)
@@ -131,7 +131,7 @@ module _ (meaning : Meaning) (l : Local) where
   on_kept k to stack same = when_either K (nat_lt 64 (length stack)) _ _ (λ h. tt) (λ h. same)
 
   found_kept : (o : Result (List (List ℕ)) (ℕ × ℕ)) → K (found l o)
-  found_kept (Ok paths) = on_kept l (l.place + 1) (Paths paths 0 ∷ drop 1 l.stack) refl
+  found_kept (Ok paths) = on_kept l (l.place + 1) (Paths 0 paths ∷ drop 1 l.stack) refl
   found_kept (Err fault) = tt
 
   replied_kept : (i : Instr) (r : Reply) → IfSome (replied meaning l i r) K
@@ -140,8 +140,8 @@ module _ (meaning : Meaning) (l : Local) where
   replied_kept (op.Need f) (StampIs zero) = tt
   replied_kept (op.Need f) (StampIs (suc n)) = on_kept l (l.place + 1) (Stamp (suc n) ∷ l.stack) refl
   replied_kept (op.Need f) Fault = tt
-  replied_kept op.Recall (Entry command basis paths) = on_kept l (l.place + 1) (Flag true ∷ Text command ∷ Stamp basis ∷ Paths paths 0 ∷ l.stack) refl
-  replied_kept op.Recall Nothing = on_kept l (l.place + 1) (Flag false ∷ Text [] ∷ Stamp 0 ∷ Paths [] 0 ∷ l.stack) refl
+  replied_kept op.Recall (Entry command basis paths) = on_kept l (l.place + 1) (Flag true ∷ Text command ∷ Stamp basis ∷ Paths 0 paths ∷ l.stack) refl
+  replied_kept op.Recall Nothing = on_kept l (l.place + 1) (Flag false ∷ Text [] ∷ Stamp 0 ∷ Paths 0 [] ∷ l.stack) refl
   replied_kept op.Recall Fault = tt
   replied_kept op.Sweep (StampIs n) = on_kept l l.place (merged n l.stack) refl
   replied_kept op.Sweep Fault = tt
@@ -150,7 +150,7 @@ module _ (meaning : Meaning) (l : Local) where
   replied_kept op.Run Signal = tt
   replied_kept op.Run NotStarted = tt
   replied_kept op.Deps (Bytes bytes) = found_kept (meaning bytes)
-  replied_kept op.Deps Nothing = on_kept l (l.place + 1) (Paths [] 0 ∷ drop 1 l.stack) refl
+  replied_kept op.Deps Nothing = on_kept l (l.place + 1) (Paths 0 [] ∷ drop 1 l.stack) refl
   replied_kept op.Deps Fault = tt
   replied_kept op.Keep Kept = on_kept l (l.place + 1) (drop 3 l.stack) refl
   replied_kept op.Keep Fault = tt

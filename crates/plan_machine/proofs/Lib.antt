@@ -9,3 +9,14 @@ pub mod OrderlyLemmas
 pub mod InBudgetLemmas
 pub mod Rows
 pub mod WantedLemmas
+pub mod Applies
+pub mod AskingLemmas
+pub mod HearingLemmas
+pub mod StateLemmas
+pub mod KeptLemmas
+pub mod PhaseLemmas
+pub mod PlanLemmas
+pub mod PickLemmas
+pub mod ReplayLemmas
+pub mod RequestLemmas
+pub mod AsksLemmas

@@ -117,7 +117,7 @@ module _ (laws : VerifyLaws) (meaning : Meaning) (p : Parts) (shaped : IsWellSha
   goes_by : (event : Event) (after : State) (told : Mark) → is_own event ≡ true → step meaning p limits s event ≡ Next after told → GoesOn
   goes_by event after told own is = inl (record { event = event; own = own; after = after; mark = told; enabled = is })
 
-  settles_next : (e : ℕ) (l : Local) (told : Did → Mark) (shapes : List Shape) (t : Turn) → IsSafe p e shapes s.slots l t → (after : State) × (m : Mark) × (settles s e l told t ≡ Next after m)
+  pub settles_next : (e : ℕ) (l : Local) (told : Did → Mark) (shapes : List Shape) (t : Turn) → IsSafe p e shapes s.slots l t → (after : State) × (m : Mark) × (settles s e l told t ≡ Next after m)
   settles_next e l told shapes (Goes did m) safe = (_, _, refl)
   settles_next e l told shapes (Sets k v m) safe = (_, _, refl)
   settles_next e l told shapes (Asks q) safe = (_, _, refl)

@@ -1,20 +1,25 @@
 -- The definitions, computed on small images.
-use Rattle.std.proofs.Common.{◌≡◌, ℕ, List, [], ◌∷◌, Option, Some, None, refl}
+use Rattle.std.proofs.Common.{◌≡◌, ℕ, true, false, List, [], ◌∷◌, Option, Some, None, refl}
 use Rattle.plan_image.specs.declared.instr.Instr.TheVariants as op
 use Rattle.plan_image.specs.declared.image.Sort.TheVariants as sort
 use Rattle.plan_image.specs.declared.image.EdgeCode.TheVariants.{Own}
 use Rattle.plan_image.specs.declared.image.Edge.{Edge}
 use Rattle.plan_image.specs.declared.image.Parts.{Parts}
-use Rattle.plan_verify.specs.Turn.{turn, heard}
+use Rattle.plan_verify.specs.declared.value.Value.TheVariants.{Text}
+use Rattle.plan_verify.specs.Turn.{Run, Entry, turn, heard}
+use Rattle.plan_books.specs.declared.phase.Phase.TheVariants as phase
 use Rattle.plan_verify.specs.declared.value.Cause.TheVariants.{Exit}
 use Rattle.plan_machine.specs.Limits.{Limits}
-use Rattle.plan_machine.specs.declared.event.Reply.TheVariants as reply
+use Rattle.plan_machine.specs.declared.reply.Reply.TheVariants as reply
 use Rattle.plan_machine.specs.declared.event.Event.{Event}
 use Rattle.plan_machine.specs.declared.event.Event.TheVariants.{Start, Stop, Step, Reply as Hear}
 use Rattle.plan_machine.specs.declared.mark.Mark.{Mark}
 use Rattle.plan_machine.specs.declared.mark.Mark.TheVariants as mark
-use Rattle.plan_machine.specs.State.{Unbegun, State}
-use Rattle.plan_machine.specs.Step.{Stepped, Next, Wrong, NotEnabled, step}
+use Rattle.plan_machine.specs.State.{Unbegun, Active, State}
+use Rattle.plan_machine.specs.Step.{Stepped, Next, Wrong, NotEnabled, answer_of, step}
+use Rattle.plan_machine.specs.Kept.{phases_from}
+use Rattle.plan_machine.specs.Requests.{asked_at, asks_by}
+use Rattle.plan_machine.specs.Total.{total_of}
 use Rattle.plan_verify.specs.Budget.{image_budget}
 use Rattle.plan_machine.specs.Depfile.{depfile}
 
@@ -66,3 +71,31 @@ one_fails :
     ∷ None ∷ Some (mark.Stopped 1) ∷ Some (mark.Started 2) ∷ Some (mark.Stopped 2) ∷ []
 unfolding marks_of then_marks three edge first step turn heard
 one_fails = refl
+
+-- edge 0 holds a place and is at Run
+running : State
+running = record { edges = Active (record { place = 2; stack = Text (120 ∷ []) ∷ []; holding = true; ran = false; asked = false }) ∷ Unbegun ∷ Unbegun ∷ []; slots = [] }
+
+asks_to_run : asks_by three (record { jobs = 4; keep = 0 }) running (Step 0) ≡ Some (Run (120 ∷ []) ((97 ∷ []) ∷ []))
+unfolding three edge running turn
+asks_to_run = refl
+
+start_asks_nothing : asks_by three (record { jobs = 4; keep = 0 }) running (Start 1) ≡ None
+unfolding three edge running
+start_asks_nothing = refl
+
+-- nothing was asked yet
+none_asked : asked_at three running 0 ≡ None
+unfolding three edge running
+none_asked = refl
+
+commands : total_of three running ≡ 3
+unfolding three edge running
+commands = refl
+
+phases : phases_from three 0 running.edges ≡ phase.Going true ∷ phase.Unbegun ∷ phase.Unbegun ∷ []
+unfolding three edge running
+phases = refl
+
+entry_is : answer_of (reply.Entry (record { command = 120 ∷ []; basis = 7; paths = (97 ∷ []) ∷ [] })) ≡ Entry (120 ∷ []) 7 ((97 ∷ []) ∷ [])
+entry_is = refl

@@ -6,7 +6,7 @@ use Rattle.plan_depfile.specs.Depfile.{depfile_of}
 use Rattle.plan_depfile.specs.Faults.{number_of, offset_of}
 
 -- want of memory has no offset; the grammar never answers it
-abbrev or_zero : Option ℕ → ℕ
+abbrev pub or_zero : Option ℕ → ℕ
 or_zero (Some at) = at
 or_zero None = 0
 

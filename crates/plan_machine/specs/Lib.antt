@@ -1,3 +1,7 @@
+pub mod Recording
+pub mod Slots
+pub mod Working
+pub mod Turned
 pub mod Limits
 pub mod State
 pub mod Places
@@ -13,3 +17,14 @@ pub mod InBudget
 pub mod Standing
 pub mod Going
 pub mod Statuses
+pub mod Applying
+pub mod Hearing
+pub mod Edges
+pub mod Total
+pub mod Firsts
+pub mod Kept
+pub mod Picking
+pub mod Lent
+pub mod Requests
+pub mod Replaying
+pub mod Faults

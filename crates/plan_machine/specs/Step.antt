@@ -7,8 +7,8 @@ use Rattle.plan_verify.specs.Tables.{waits_of}
 use Rattle.plan_verify.specs.Turn.{Local, begun, Flaw, Did, Moved, Took, Released, Turn, Goes, Sets, Asks, Ends, Fails, Wrong as Errs, Meaning, Reply as Answer, StampIs, Entry, Nothing, Exit, Signal, NotStarted, Bytes, Kept, Fault, turn, heard}
 use Rattle.plan_verify.specs.Sound.{asking}
 use Rattle.plan_machine.specs.Limits.{Limits}
-use Rattle.plan_machine.specs.declared.event.Reply.{Reply}
-use Rattle.plan_machine.specs.declared.event.Reply.TheVariants as reply
+use Rattle.plan_machine.specs.declared.reply.Reply.{Reply}
+use Rattle.plan_machine.specs.declared.reply.Reply.TheVariants as reply
 use Rattle.plan_machine.specs.declared.event.Event.{Event}
 use Rattle.plan_machine.specs.declared.event.Event.TheVariants.{Start, Skip, Stop, Step, Reply as Hear}
 use Rattle.plan_machine.specs.declared.mark.Mark.{Mark}
@@ -86,7 +86,7 @@ hears meaning p s e r _ = NotEnabled
 -- a reply, as one edge's step speaks of it
 abbrev pub answer_of : Reply → Answer
 answer_of (reply.Stamp n) = StampIs n
-answer_of (reply.Entry command basis paths) = Entry command basis paths
+answer_of (reply.Entry recorded) = Entry recorded.command recorded.basis recorded.paths
 answer_of reply.Nothing = Nothing
 answer_of (reply.Exit n) = Exit n
 answer_of reply.Signal = Signal

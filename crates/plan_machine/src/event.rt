@@ -1,32 +1,12 @@
 //! What may happen next. An edge is named by its number in the image.
 
-use plan_depfile::Parsed;
-use plan_verify::{PathList, Words};
+ghost use Rattle.std.specs.Prelude.{◌≡◌, IfOk};
+ghost use Rattle.plan_machine.specs.Edges.{edge_of};
 
-/// An answer from outside to what an edge asked.
-#[derive(Drop)]
-pub enum Reply {
-    /// When a file was last changed; 0 where it is missing.
-    Stamp(u64),
-    /// What the record has for an output: its command, the stamp it was made from, and its dependencies.
-    Entry(Words, u64, PathList),
-    /// There is no record, or no depfile.
-    Nothing,
-    /// A command ended, with this status.
-    Exit(u8),
-    /// A signal ended a command.
-    Signal,
-    /// A command couldn't be started.
-    NotStarted,
-    /// A depfile, with what the grammar says of it.
-    Bytes(Parsed),
-    /// The record was written.
-    Kept,
-    /// A file's stamp, a depfile or the record couldn't be had.
-    Fault,
-}
+use crate::reply::Reply;
+use std::alloc::AllocError;
 
-/// What may happen next.
+/// What may happen next: 24 bytes.
 #[derive(Drop)]
 pub enum Event {
     /// An edge begins.
@@ -39,4 +19,32 @@ pub enum Event {
     Step(u32),
     /// An edge hears a reply to what it asked.
     Reply(u32, Reply),
+}
+
+impl Event {
+    /// The edge that it changes.
+    pub(crate) fn edge(&self) -> u32
+        ensures { result ≡ edge_of self.now }
+    {
+        match self {
+            Event::Start(edge)
+            | Event::Skip(edge, _)
+            | Event::Stop(edge)
+            | Event::Step(edge)
+            | Event::Reply(edge, _) => *edge,
+        }
+    }
+
+    /// The same event. It shares what its reply brings.
+    pub fn copy(&self) -> Result<Event, AllocError>
+        ensures { IfOk result (λ e. e ≡ self.now) }
+    {
+        match self {
+            Event::Start(edge) => Ok(Event::Start(*edge)),
+            Event::Skip(edge, wait) => Ok(Event::Skip(*edge, *wait)),
+            Event::Stop(edge) => Ok(Event::Stop(*edge)),
+            Event::Step(edge) => Ok(Event::Step(*edge)),
+            Event::Reply(edge, reply) => Ok(Event::Reply(*edge, reply.copy()?)),
+        }
+    }
 }

@@ -1,5 +1,6 @@
 //! What events did, and how edges came out. An edge is named by its number in the image.
 
+use plan_books::Phase;
 use plan_verify::Cause;
 
 /// How an edge came out.
@@ -17,6 +18,23 @@ pub enum Outcome {
     Stopped,
     /// No target needs it.
     NotWanted,
+}
+
+impl Outcome {
+    ghost use Rattle.std.specs.Prelude.{◌≡◌};
+    ghost use Rattle.plan_machine.specs.Kept.{phase_over};
+
+    /// What the books know of an edge that came out so.
+    pub(crate) fn phase(self) -> Phase
+        ensures { result ≡ phase_over self }
+    {
+        match self {
+            Outcome::Clean | Outcome::Ran => Phase::Well,
+            Outcome::Failed(_) => Phase::Failed,
+            Outcome::Skipped(_) | Outcome::Stopped => Phase::Ill,
+            Outcome::NotWanted => Phase::NotWanted,
+        }
+    }
 }
 
 /// What an event did. The first number is that of the edge.

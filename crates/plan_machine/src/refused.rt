@@ -13,6 +13,23 @@ pub enum Refused {
     BadTarget,
 }
 
+impl Refused {
+    ghost use Rattle.std.specs.Prelude.{◌≡◌};
+    ghost use Rattle.plan_machine.specs.Faults.{number_of};
+
+    /// The number under which a program prints the refusal, 110 to 112 in the order of the variants. This project's own
+    /// choice.
+    pub fn number(&self) -> u8
+        ensures { result ≡ number_of self.now }
+    {
+        match self {
+            Refused::NotEnabled => 110,
+            Refused::Memory => 111,
+            Refused::BadTarget => 112,
+        }
+    }
+}
+
 impl From<AllocError> for Refused {
     ghost use Rattle.std.specs.Prelude.{◌≡◌};
     ghost use Rattle.plan_machine.specs.declared.refused.Refused.TheVariants.{Memory};

@@ -1,68 +1,77 @@
 //! The state of a running image.
 
-ghost use Rattle.std.specs.Prelude.{◌≡◌, ◌⊎◌, true, false, map, replicate, None, Option, IfOk, IfErr, slice_get};
-ghost use Rattle.plan_verify.specs.declared.value.Value.{Value as Item};
-ghost use Rattle.plan_machine.specs.Runs.{at_first, Opens};
-ghost use Rattle.plan_machine.specs.State.{has_ended, outcome_at};
+ghost use Rattle.std.specs.Prelude.{◌≡◌, ◌≢◌, ◌<◌, ◌^◌, ◌&&◌, ◌⊎◌, ℕ, Err, IfErr, IfOk, OnErr, Some, count_by, false, length, slice_get, true};
+ghost use Rattle.std.specs.List.{list_all};
+ghost use Rattle.plan_image.specs.declared.image.Parts.{Parts};
+ghost use Rattle.plan_image.specs.Code.{code};
+ghost use Rattle.plan_verify.specs.Members.{is_member};
+ghost use Rattle.plan_verify.specs.Tables.{waits_of};
+ghost use Rattle.plan_verify.specs.Turn.{Local, Reply as Answer};
+ghost use Rattle.plan_machine.specs.Applying.{Applied, CanTurn, is_frugal, is_unbegun, may_step_by, may_stop_by};
+ghost use Rattle.plan_machine.specs.Hearing.{CanHear};
+ghost use Rattle.plan_machine.specs.Kept.{AreKept, IsBehind, IsStateOf};
+ghost use Rattle.plan_machine.specs.Places.{has_room, holders_from, is_free, is_spent};
+ghost use Rattle.plan_machine.specs.Runs.{Opens};
+ghost use Rattle.plan_machine.specs.State.{Active, has_ended, has_failed, is_holder, is_ill, is_well, outcome_at, passes, stands};
+ghost use Rattle.plan_machine.specs.Total.{total_of};
 ghost use Rattle.plan_machine.specs.Wanted.{any_outside};
 
-use crate::mark::Outcome;
+use crate::edges::{pool, waits};
+use crate::event::Event;
+use crate::machine::Machine;
+use crate::mark::{Mark, Outcome};
 use crate::options::Options;
+use crate::plan::image_plan;
 use crate::refused::Refused;
-use crate::status::Status;
 use crate::wanted::{any_outside, wanted};
-use plan_verify::{Value, Verified};
-use std::alloc::{AllocError, Global};
+use plan_books::{Books, Phase, Plan};
+use plan_image::Image;
+use plan_verify::{
+    Verified, all_turns_pay, codes_are_short, instructions_fit, questions_ignore_slots,
+    replies_are_safe, stays_typed, steps_are_safe, tables_are_in_range,
+};
+use std::alloc::Global;
 use std::marker::Model;
 
-/// A running image: the options that it was opened with, where each edge stands, and what each slot has.
+/// A running image: the options that it was opened with, where each edge stands, what each slot has, and books of what
+/// can happen next, so that no call looks at all edges.
 #[derive(Drop)]
 pub struct State {
-    options: Options,
-    edges: Vec<Status>,
-    slots: Vec<Option<Value>>,
+    pub(crate) alloc: Global,
+    pub(crate) machine: Machine,
+    pub(crate) plan: Plan,
+    pub(crate) books: Books,
+    /// How many edges have a command and are wanted.
+    pub(crate) total: u64,
 }
 
 impl Model for State {
-    ghost use Rattle.plan_machine.specs.Going.{Going};
+    ghost use Rattle.plan_machine.specs.Hearing.{CanHear};
+    ghost use Rattle.plan_machine.specs.Kept.{Running};
 
-    ghost Value = { Going };
+    ghost Value = { Running };
 
-    ghost view = { λ s. record { limits = s.options; now = record { edges = s.edges.items; slots = s.slots.items } } };
+    ghost view = { λ s. record { going = s.machine; plan = s.plan; books = s.books; total = s.total } };
 }
 
-/// Where each edge stands at first.
-fn first_statuses(alloc: Global, wanted: &[bool]) -> Result<Vec<Status>, AllocError>
-    ensures { IfOk result (λ edges. edges.items ≡ map at_first wanted.now) }
+/// Whether an edge is among these.
+fn is_among(edge: u32, waits: &[u32]) -> bool
+    ensures { result ≡ is_member edge waits.now }
 {
-    let mut edges = Vec::new(alloc);
-    for is_wanted in wanted {
-        edges.push(Status::at_first(*is_wanted))?;
-    }
-    Ok(edges)
-}
-
-/// Slots that aren't set.
-fn unset_slots(alloc: Global, len: usize) -> Result<Vec<Option<Value>>, AllocError>
-    ensures { IfOk result (λ slots. slots.items ≡ replicate {A = Option Item} len None) }
-{
-    let mut slots = Vec::new(alloc);
-    for _i in 0..len {
-        slots.push(None)?;
-    }
-    Ok(slots)
+    waits.iter().any(|wait| *wait == edge)
 }
 
 impl State {
     /// The state that the image opens with: each edge that the targets need hasn't begun, no other is wanted, and no slot
-    /// is set. No targets stand for the image's defaults.
+    /// is set. No targets stand for the image's defaults. It makes all room that the books ever need.
     pub fn open(
         alloc: Global,
         image: &Verified,
         options: Options,
         targets: &[u32],
     ) -> Result<State, Refused>
-        ensures opens { IfOk result (λ s. Opens image.now targets.now s.now × (s.limits ≡ options)) }
+        ensures opens { IfOk result (λ s. Opens image.now targets.now s.going.now × (s.going.limits ≡ options)) }
+        ensures state { IfOk result (λ s. IsStateOf image.now s) }
         ensures inside { IfOk result (λ s. any_outside image.now targets.now ≡ false) }
         ensures refused { IfErr result (λ r. ((r ≡ Refused.Memory) × (any_outside image.now targets.now ≡ false)) ⊎ ((r ≡ Refused.BadTarget) × (any_outside image.now targets.now ≡ true))) }
     {
@@ -71,27 +80,213 @@ impl State {
             return Err(Refused::BadTarget);
         }
         let wanted = wanted(alloc, parts, targets)?;
+        let plan = image_plan(alloc, parts)?;
+        let books = plan_books::open(alloc, &plan, &wanted)?;
+        let machine = Machine::open(alloc, options, &wanted, parts.slots.len())?;
+        let total = machine.total(parts);
         Ok(State {
-            options,
-            edges: first_statuses(alloc, &wanted)?,
-            slots: unset_slots(alloc, parts.slots.len())?,
+            alloc,
+            machine,
+            plan,
+            books,
+            total,
         })
     }
 
     /// How an edge came out, where it has an outcome.
     pub fn outcome(&self, edge: u32) -> Option<Outcome>
-        ensures { result ≡ outcome_at (slice_get self.now.now.edges edge) }
+        ensures { result ≡ outcome_at (slice_get self.now.going.now.edges edge) }
     {
-        match self.edges.as_slice().get(edge as usize) {
-            Some(status) => status.outcome(),
-            None => None,
-        }
+        self.machine.outcome(edge)
     }
 
     /// Whether each edge has an outcome.
     pub fn ended(&self) -> bool
-        ensures { result ≡ has_ended self.now.now }
+        ensures { (p : Parts) → IsStateOf p self.now → result ≡ has_ended self.now.going.now }
     {
-        self.edges.iter().all(|status| status.is_over())
+        self.books.counts.open_edges == 0
+    }
+
+    /// How many edges have a command and are wanted.
+    pub fn total(&self) -> u64
+        ensures { (p : Parts) → IsStateOf p self.now → result ≡ total_of p self.now.going.now }
+    {
+        self.total
+    }
+
+    /// How many edges failed.
+    fn failures(&self, _image: &Image) -> u32
+        requires { AreKept _image.now self.now.going.now self.now.plan self.now.books }
+        ensures { result ≡ count_by has_failed self.now.going.now.edges }
+    {
+        self.books.counts.failures
+    }
+
+    /// How many edges hold a place.
+    fn holders(&self, _image: &Image) -> u32
+        requires { AreKept _image.now self.now.going.now self.now.plan self.now.books }
+        ensures { result ≡ count_by is_holder self.now.going.now.edges }
+    {
+        self.books.counts.holders
+    }
+
+    /// How many edges of a pool hold a place.
+    fn holders_of(&self, _image: &Image, pool: u32) -> u32
+        requires kept { AreKept _image.now self.now.going.now self.now.plan self.now.books }
+        requires inside { pool < length _image.now.pools }
+        ensures { result ≡ holders_from _image.now pool 0 self.now.going.now.edges }
+    {
+        self.books.counts.pool_holders[pool as usize + 1]
+    }
+
+    /// Whether all that an edge waits for ended well.
+    fn are_waits_well(&self, _image: &Image, edge: u32) -> bool
+        requires kept { AreKept _image.now self.now.going.now self.now.plan self.now.books }
+        requires here { edge < length self.now.going.now.edges }
+        ensures { result ≡ list_all (stands is_well self.now.going.now) (waits_of _image.now edge) }
+    {
+        self.books.waiting[edge as usize] == 0
+    }
+
+    /// Whether as many edges have failed as are borne.
+    fn is_spent(&self, image: &Image) -> bool
+        requires { AreKept image.now self.now.going.now self.now.plan self.now.books }
+        ensures { result ≡ is_spent self.now.going.limits self.now.going.now }
+    {
+        let keep = self.machine.keep();
+        keep > 0 && keep <= self.failures(image)
+    }
+
+    /// Whether a pool takes one more edge.
+    fn has_room(&self, image: &Image, pool: Option<u32>) -> bool
+        requires { AreKept image.now self.now.going.now self.now.plan self.now.books }
+        ensures { result ≡ has_room image.now self.now.going.now pool }
+    {
+        let Some(number) = pool else {
+            return true;
+        };
+        match image.parts().pools.as_slice().get(number as usize) {
+            Some(row) => row.depth == 0 || self.holders_of(image, number) < row.depth,
+            None => true,
+        }
+    }
+
+    /// Whether an edge may take a place.
+    fn is_free(&self, image: &Image, edge: u32) -> bool
+        requires { AreKept image.now self.now.going.now self.now.plan self.now.books }
+        ensures { result ≡ is_free image.now self.now.going.limits self.now.going.now edge }
+    {
+        self.has_room(image, pool(image.parts(), edge))
+            && self.holders(image) < self.machine.jobs()
+            && !self.is_spent(image)
+    }
+
+    /// Whether an edge may be started.
+    #[tactic(auto, using(crate::proofs::Applies::passes_within))]
+    fn can_start(&self, image: &Image, edge: u32) -> bool
+        requires { AreKept image.now self.now.going.now self.now.plan self.now.books }
+        ensures { result ≡ (passes is_unbegun (slice_get self.now.going.now.edges edge) && list_all (stands is_well self.now.going.now) (waits_of image.now edge)) }
+    {
+        self.machine.is_unbegun(edge) && self.are_waits_well(image, edge)
+    }
+
+    /// Whether an edge may be skipped over another. It looks through what the edge waits for.
+    fn can_skip(&self, image: &Image, edge: u32, wait: u32) -> bool
+        ensures { result ≡ (passes is_unbegun (slice_get self.now.going.now.edges edge) && (is_member wait (waits_of image.now edge) && stands is_ill self.now.going.now wait)) }
+    {
+        self.machine.is_unbegun(edge)
+            && (is_among(wait, waits(image.parts(), edge)) && self.machine.is_ill(wait))
+    }
+
+    /// Whether an edge may be stopped.
+    fn can_stop(&self, image: &Image, edge: u32) -> bool
+        requires { AreKept image.now self.now.going.now self.now.plan self.now.books }
+        ensures { result ≡ (is_spent self.now.going.limits self.now.going.now && may_stop_by image.now edge (slice_get self.now.going.now.edges edge)) }
+    {
+        self.is_spent(image) && self.machine.is_before_run(image, edge)
+    }
+
+    /// Whether an edge may make a step.
+    pub(crate) fn can_step(&self, image: &Image, edge: u32) -> bool
+        requires { AreKept image.now self.now.going.now self.now.plan self.now.books }
+        ensures { result ≡ may_step_by image.now self.now.going.limits self.now.going.now edge (slice_get self.now.going.now.edges edge) }
+    {
+        match self.machine.phase(image, edge) {
+            Phase::Going(_) => true,
+            Phase::AtTake(_) => self.is_free(image, edge),
+            _ => false,
+        }
+    }
+
+    /// What an event does to edges and slots.
+    fn change(&mut self, image: &Image, event: Event) -> Result<Mark, Refused>
+        requires short { (e : ℕ) → length (code image.now e) < 2 ^ 32 }
+        requires kept { AreKept image.now self.old.going.now self.old.plan self.old.books }
+        requires turns { (e : ℕ) (l : Local) → slice_get self.old.going.now.edges e ≡ Some (Active l) → CanTurn image.now self.old.going.now.slots e l }
+        requires hears { (e : ℕ) (r : Answer) (l : Local) → slice_get self.old.going.now.edges e ≡ Some (Active l) → CanHear image.now e r l }
+        ensures applied { Applied image.now self.old.going event result self.new.going }
+        ensures plan { self.new.plan ≡ self.old.plan }
+        ensures books { self.new.books ≡ self.old.books }
+        ensures total { self.new.total ≡ self.old.total }
+        ensures frugal { is_frugal event ≡ true → result ≢ Err Refused.Memory }
+    {
+        match event {
+            Event::Start(edge) => {
+                let may = self.can_start(image, edge);
+                self.machine.start(self.alloc, image, edge, may)
+            }
+            Event::Skip(edge, wait) => {
+                let may = self.can_skip(image, edge, wait);
+                self.machine.skip(image, edge, wait, may)
+            }
+            Event::Stop(edge) => {
+                let may = self.can_stop(image, edge);
+                self.machine.stop(image, edge, may)
+            }
+            Event::Step(edge) => {
+                let may = self.can_step(image, edge);
+                self.machine.step(self.alloc, image, edge, may)
+            }
+            Event::Reply(edge, reply) => self.machine.hear(self.alloc, image, edge, reply),
+        }
+    }
+
+    /// Brings the books up to where an edge stands now.
+    fn note(&mut self, image: &Image, edge: u32)
+        requires { IsBehind image.now self.old edge }
+        ensures going { self.new.going ≡ self.old.going }
+        ensures total { self.new.total ≡ self.old.total }
+        ensures kept { AreKept image.now self.new.going.now self.new.plan self.new.books }
+    {
+        let phase = self.machine.phase(image, edge);
+        self.books.change(&self.plan, edge, phase);
+    }
+
+    /// Applies an event: what it does is the table's, and its mark. It looks at no other edges than those that wait for
+    /// one which ends, and at what an edge waits for that is skipped.
+    ///
+    /// # Errors
+    /// `NotEnabled` exactly where the table says so, and `Memory`; then nothing changed. Skips and stops take no memory.
+    pub fn apply(&mut self, image: &Verified, event: Event) -> Result<Mark, Refused>
+        requires { IsStateOf image.now self.old }
+        ensures applied { Applied image.now self.old.going event result self.new.going }
+        ensures same { OnErr result (self.new ≡ self.old) }
+        ensures frugal { is_frugal event ≡ true → result ≢ Err Refused.Memory }
+        ensures state { IsStateOf image.now self.new }
+    {
+        all_turns_pay();
+        codes_are_short();
+        instructions_fit();
+        questions_ignore_slots();
+        replies_are_safe();
+        stays_typed();
+        steps_are_safe();
+        tables_are_in_range();
+        let tables = image.image();
+        let _parts = tables.parts();
+        let edge = event.edge();
+        let mark = self.change(tables, event)?;
+        self.note(tables, edge);
+        Ok(mark)
     }
 }

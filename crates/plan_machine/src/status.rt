@@ -1,11 +1,27 @@
 //! Where an edge stands.
 
-ghost use Rattle.std.specs.Prelude.{◌≡◌};
+ghost use Rattle.std.specs.Prelude.{◌≡◌, ◌<◌, ◌^◌, IfOk, OnErr, Some, length, option_map};
+ghost use Rattle.plan_image.specs.Code.{code};
+ghost use Rattle.plan_verify.specs.Turn.{Local, turn};
+ghost use Rattle.plan_machine.specs.Applying.{CanTurn, HasStepped, is_active, is_unbegun, may_stop_by};
+ghost use Rattle.plan_machine.specs.Hearing.{CanHear, HasAnswered};
+ghost use Rattle.plan_machine.specs.Kept.{phase_of};
+ghost use Rattle.plan_machine.specs.Requests.{asked_by, shown, step_asks};
 ghost use Rattle.plan_machine.specs.Runs.{at_first};
-ghost use Rattle.plan_machine.specs.State.{is_over, outcome_at};
+ghost use Rattle.plan_machine.specs.State.{Active, Over, is_ill, outcome_at};
+ghost use Rattle.plan_machine.specs.Step.{answer_of};
+ghost use Rattle.plan_machine.specs.Total.{is_wanted};
+ghost use Rattle.plan_machine.specs.Working.{Works};
 
 use crate::activity::Activity;
 use crate::mark::Outcome;
+use crate::reply::Reply;
+use crate::request::Request;
+use crate::slot::Slot;
+use crate::turned::{Heard, Turned};
+use plan_books::Phase;
+use plan_image::Image;
+use std::alloc::{AllocError, Global};
 use std::marker::Model;
 
 /// Where an edge stands.
@@ -48,22 +64,177 @@ impl Status {
         }
     }
 
-    /// Whether it has an outcome.
-    pub(crate) fn is_over(&self) -> bool
-        ensures { result ≡ is_over self.now }
+    /// An edge that is under way.
+    pub(crate) fn active(activity: Activity) -> Status
+        ensures { result ≡ Active activity }
     {
-        match &self.stage {
-            Stage::Over(_) => true,
-            _ => false,
+        Status {
+            stage: Stage::Active(activity),
+        }
+    }
+
+    /// An edge that has this outcome.
+    pub(crate) fn over(outcome: Outcome) -> Status
+        ensures { result ≡ Over outcome }
+    {
+        Status {
+            stage: Stage::Over(outcome),
         }
     }
 
     /// Its outcome.
     pub(crate) fn outcome(&self) -> Option<Outcome>
-        ensures { result ≡ outcome_at (Rattle.std.specs.Prelude.Some self.now) }
+        ensures { result ≡ outcome_at (Some self.now) }
     {
         match &self.stage {
             Stage::Over(outcome) => Some(*outcome),
+            _ => None,
+        }
+    }
+
+    /// Whether it hasn't begun.
+    pub(crate) fn is_unbegun(&self) -> bool
+        ensures { result ≡ is_unbegun self.now }
+    {
+        match &self.stage {
+            Stage::Unbegun => true,
+            _ => false,
+        }
+    }
+
+    /// Whether it is under way.
+    pub(crate) fn is_active(&self) -> bool
+        ensures { result ≡ is_active self.now }
+    {
+        match &self.stage {
+            Stage::Active(_) => true,
+            _ => false,
+        }
+    }
+
+    /// Whether it ended, and not well.
+    pub(crate) fn is_ill(&self) -> bool
+        ensures { result ≡ is_ill self.now }
+    {
+        match &self.stage {
+            Stage::Over(Outcome::Failed(_) | Outcome::Skipped(_) | Outcome::Stopped) => true,
+            _ => false,
+        }
+    }
+
+    /// Whether a target needs it.
+    pub(crate) fn is_wanted(&self) -> bool
+        ensures { result ≡ is_wanted self.now }
+    {
+        match &self.stage {
+            Stage::Over(Outcome::NotWanted) => false,
+            _ => true,
+        }
+    }
+
+    /// Whether its command ran, where it is under way.
+    pub(crate) fn has_run(&self) -> bool
+        ensures { (l : Local) → self.now ≡ Active l → result ≡ l.ran }
+    {
+        match &self.stage {
+            Stage::Active(activity) => activity.ran,
+            _ => false,
+        }
+    }
+
+    /// Whether it may be stopped once as many failed as are borne.
+    pub(crate) fn is_before_run(&self, image: &Image, edge: u32) -> bool
+        ensures { result ≡ may_stop_by image.now edge (Some self.now) }
+    {
+        match &self.stage {
+            Stage::Unbegun => true,
+            Stage::Active(activity) => activity.is_at_take(image, edge),
+            _ => false,
+        }
+    }
+
+    /// What the books know of it.
+    pub(crate) fn phase(&self, image: &Image, edge: u32) -> Phase
+        ensures { result ≡ phase_of image.now edge self.now }
+    {
+        match &self.stage {
+            Stage::Unbegun => Phase::Unbegun,
+            Stage::Active(activity) => activity.phase(image, edge),
+            Stage::Over(outcome) => outcome.phase(),
+        }
+    }
+
+    /// A step of the edge, which is under way.
+    pub(crate) fn step(
+        &mut self,
+        alloc: Global,
+        image: &Image,
+        edge: u32,
+        slots: &mut Vec<Slot>,
+    ) -> Result<Turned, AllocError>
+        requires short { length (code image.now edge) < 2 ^ 32 }
+        requires turns { (l : Local) × (self.old ≡ Active l) × CanTurn image.now slots.old.items edge l }
+        ensures ok { IfOk result (λ r. HasStepped image.now edge r self.old self.new slots.old.items slots.new.items) }
+        ensures err { OnErr result ((self.new ≡ self.old) × (slots.new.items ≡ slots.old.items)) }
+    {
+        match &mut self.stage {
+            Stage::Active(activity) => activity.step(alloc, image, edge, slots),
+            _ => unreachable!(),
+        }
+    }
+
+    /// A reply to the edge, which is under way.
+    pub(crate) fn hear(
+        &mut self,
+        alloc: Global,
+        image: &Image,
+        edge: u32,
+        reply: Reply,
+    ) -> Result<Heard, AllocError>
+        requires short { length (code image.now edge) < 2 ^ 32 }
+        requires hears { (l : Local) × (self.old ≡ Active l) × CanHear image.now edge (answer_of reply) l }
+        ensures ok { IfOk result (λ r. HasAnswered image.now edge (answer_of reply) r self.old self.new) }
+        ensures err { OnErr result (self.new ≡ self.old) }
+    {
+        match &mut self.stage {
+            Stage::Active(activity) => activity.hear(alloc, image, edge, reply),
+            _ => unreachable!(),
+        }
+    }
+
+    /// What the edge asked, where it awaits a reply.
+    pub(crate) fn asked<'a>(
+        &'a self,
+        image: &'a Image,
+        edge: u32,
+        slots: &[Slot],
+    ) -> Option<Request<'a>>
+        requires { (l : Local) → self.now ≡ Active l → Works (turn image.now edge slots.now l) }
+        ensures { option_map shown result ≡ asked_by image.now edge slots.now (Some self.now) }
+    {
+        match &self.stage {
+            Stage::Active(activity) => {
+                if !activity.asked {
+                    return None;
+                }
+                activity.request(image, edge, slots)
+            }
+            _ => None,
+        }
+    }
+
+    /// What the edge's next step asks, where it is under way.
+    pub(crate) fn step_request<'a>(
+        &'a self,
+        image: &'a Image,
+        edge: u32,
+        slots: &[Slot],
+    ) -> Option<Request<'a>>
+        requires { (l : Local) → self.now ≡ Active l → Works (turn image.now edge slots.now l) }
+        ensures { option_map shown result ≡ step_asks image.now edge slots.now (Some self.now) }
+    {
+        match &self.stage {
+            Stage::Active(activity) => activity.request(image, edge, slots),
             _ => None,
         }
     }

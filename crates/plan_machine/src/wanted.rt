@@ -2,11 +2,11 @@
 
 ghost use Rattle.std.specs.Prelude.{◌≡◌, ℕ, ◌<◌, false, true, [], ◌∷◌, List, length, replicate, All, Some, IfOk, OnOk, slice_get, slice_set};
 ghost use Rattle.std.specs.List.{list_any};
-ghost use Rattle.plan_verify.specs.Tables.{waits_of};
 ghost use Rattle.plan_verify.specs.WellShaped.{IsWellShaped};
 ghost use Rattle.plan_machine.specs.Wanted.{AreWanted, any_outside, chosen};
 ghost use Rattle.plan_machine.specs.Walk.{IsNext, meet, meet_all};
 
+use crate::edges::{edge_count, waits};
 use plan_image::Parts;
 use plan_verify::tables_are_in_range;
 use std::alloc::{AllocError, Global};
@@ -96,16 +96,6 @@ impl Walk {
     }
 }
 
-/// What an edge waits for.
-pub(crate) fn waits(parts: &Parts, e: u32) -> &[u32]
-    ensures { result.now ≡ waits_of parts.now e }
-{
-    match parts.edges.waits(e as usize) {
-        Some(waits) => waits,
-        None => &[],
-    }
-}
-
 /// The targets, or where there are none the image's defaults.
 fn chosen<'a>(parts: &'a Parts, targets: &'a [u32]) -> &'a [u32]
     ensures { result.now ≡ chosen parts.now targets.now }
@@ -120,7 +110,7 @@ fn chosen<'a>(parts: &'a Parts, targets: &'a [u32]) -> &'a [u32]
 pub(crate) fn any_outside(parts: &Parts, targets: &[u32]) -> bool
     ensures { result ≡ any_outside parts.now targets.now }
 {
-    let edges = parts.edges.len();
+    let edges = edge_count(parts);
     targets.iter().any(|e| edges <= *e as usize)
 }
 
@@ -131,7 +121,7 @@ pub(crate) fn wanted(alloc: Global, parts: &Parts, targets: &[u32]) -> Result<Ve
     ensures { IfOk result (λ w. AreWanted parts.now targets.now w.items) }
 {
     tables_are_in_range();
-    let mut walk = Walk::start(alloc, parts.edges.len())?;
+    let mut walk = Walk::start(alloc, edge_count(parts))?;
     walk.meet_all(chosen(parts, targets))?;
     while let Some(e) = walk.next() {
         walk.meet_all(waits(parts, e))?;

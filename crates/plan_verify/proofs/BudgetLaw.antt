@@ -79,7 +79,7 @@ module _ (p : Parts) (e : ℕ) (shapes : List Shape) (slots : Slots) (l : Local)
   stat_pays i here (Some path) q = asks_pay i here (q path)
   stat_pays i here None q = tt
 
-  sweep_pays : (all : List (List ℕ)) (n m : ℕ) (b : Bool) (below : List Value) → slice_get (code p e) l.place ≡ Some op.Sweep → l.stack ≡ Paths all n ∷ Flag b ∷ Stamp m ∷ below → (o : Option (List ℕ)) → P (sweeps l all (Flag b ∷ Stamp m ∷ below) o)
+  sweep_pays : (all : List (List ℕ)) (n m : ℕ) (b : Bool) (below : List Value) → slice_get (code p e) l.place ≡ Some op.Sweep → l.stack ≡ Paths n all ∷ Flag b ∷ Stamp m ∷ below → (o : Option (List ℕ)) → P (sweeps l all (Flag b ∷ Stamp m ∷ below) o)
   sweep_pays all n m b below here is None = next_pays op.Sweep here (Swept all ∷ Flag b ∷ Stamp m ∷ below) (omega (arith, ap unswept is))
   sweep_pays all n m b below here is (Some path) = asks_pay op.Sweep here (Stat path)
 
@@ -181,7 +181,7 @@ module _ (p : Parts) (e : ℕ) (shapes : List Shape) (slots : Slots) (l : Local)
       at (i ∷ is) (suc n) lt = at is n (omega (arith, lt))
 
   -- a sweep that asks has a path left
-  left_to_sweep : (q : Request) (all : List (List ℕ)) (n m : ℕ) (b : Bool) (below : List Value) → slice_get (code p e) l.place ≡ Some op.Sweep → l.stack ≡ Paths all n ∷ Flag b ∷ Stamp m ∷ below → question p e slots l ≡ Some q → n < length all
+  left_to_sweep : (q : Request) (all : List (List ℕ)) (n m : ℕ) (b : Bool) (below : List Value) → slice_get (code p e) l.place ≡ Some op.Sweep → l.stack ≡ Paths n all ∷ Flag b ∷ Stamp m ∷ below → question p e slots l ≡ Some q → n < length all
   unfolding turn
   left_to_sweep q all n m b below here is asked =
       by (slice_get all n) refl (sym (ap request_of (ap (λ (o : Option Instr). act_at p e slots l o) here ∙ ap (λ (x : List Value). sweep l x) is)) ∙ asked)
@@ -207,8 +207,8 @@ module _ (p : Parts) (e : ℕ) (shapes : List Shape) (slots : Slots) (l : Local)
       by (Err fault) at = omega (arith, enough, spends op.Deps here)
       by (Ok paths) at =
           let t = top_text l.stack rest is in
-          subst (λ (z : List Value). Pays p e l m (next l (Paths paths 0 ∷ drop 1 z))) (sym t.2)
-          (on_pays op.Deps here l m (Paths paths 0 ∷ t.1) refl (omega (arith, enough, spends op.Deps here, ap unswept t.2, frugal bytes paths at)))
+          subst (λ (z : List Value). Pays p e l m (next l (Paths 0 paths ∷ drop 1 z))) (sym t.2)
+          (on_pays op.Deps here l m (Paths 0 paths ∷ t.1) refl (omega (arith, enough, spends op.Deps here, ap unswept t.2, frugal bytes paths at)))
 
   reply_pays : (meaning : Meaning) → IsFrugal meaning → (q : Request) → question p e slots l ≡ Some q → (i : Instr) → slice_get (code p e) l.place ≡ Some i → Fits p e shapes l.place typed.shape i → (r : Reply) (m : ℕ) → m + 1 ≡ worth p e l + brought r
       → IfSome (replied meaning l i r) (Pays p e l m)
@@ -218,15 +218,15 @@ module _ (p : Parts) (e : ℕ) (shapes : List Shape) (slots : Slots) (l : Local)
   reply_pays meaning frugal q asked (op.Need n) here f (StampIs (suc k)) m enough = on_pays (op.Need n) here l m (Stamp (suc k) ∷ l.stack) refl (omega (arith, enough, spends (op.Need n) here))
   reply_pays meaning frugal q asked (op.Need n) here f Fault m enough = omega (arith, enough, spends (op.Need n) here)
   reply_pays meaning frugal q asked op.Recall here f (Entry command basis paths) m enough =
-      on_pays op.Recall here l m (Flag true ∷ Text command ∷ Stamp basis ∷ Paths paths 0 ∷ l.stack) refl (omega (arith, enough, spends op.Recall here, two_each paths))
+      on_pays op.Recall here l m (Flag true ∷ Text command ∷ Stamp basis ∷ Paths 0 paths ∷ l.stack) refl (omega (arith, enough, spends op.Recall here, two_each paths))
   reply_pays meaning frugal q asked op.Recall here f Nothing m enough =
-      on_pays op.Recall here l m (Flag false ∷ Text [] ∷ Stamp 0 ∷ Paths [] 0 ∷ l.stack) refl (omega (arith, enough, spends op.Recall here))
+      on_pays op.Recall here l m (Flag false ∷ Text [] ∷ Stamp 0 ∷ Paths 0 [] ∷ l.stack) refl (omega (arith, enough, spends op.Recall here))
   reply_pays meaning frugal q asked op.Recall here f Fault m enough = omega (arith, enough, spends op.Recall here)
   reply_pays meaning frugal q asked op.Sweep here f (StampIs k) m enough =
       let t = swept_three l.stack f.0 (typed.kinds ∙ f.1) in
       let lt = left_to_sweep q t.0 t.1 t.3 t.2 t.4 here t.5 asked in
       subst (λ (z : List Value). Pays p e l m (goes l l.place (merged k z))) (sym t.5)
-      (goes_pays p e l l m l.place (Paths t.0 (t.1 + 1) ∷ Flag (t.2 || (k == 0)) ∷ Stamp (later t.3 k) ∷ t.4) (omega (arith, enough, lt, ap unswept t.5)))
+      (goes_pays p e l l m l.place (Paths (t.1 + 1) t.0 ∷ Flag (t.2 || (k == 0)) ∷ Stamp (later t.3 k) ∷ t.4) (omega (arith, enough, lt, ap unswept t.5)))
   reply_pays meaning frugal q asked op.Sweep here f Fault m enough = omega (arith, enough, spends op.Sweep here, more (l.place + 1) f.2.inside)
   reply_pays meaning frugal q asked op.Run here f (Exit zero) m enough =
       let t = top_text l.stack f.2.0 (typed.kinds ∙ f.2.1) in
@@ -237,7 +237,7 @@ module _ (p : Parts) (e : ℕ) (shapes : List Shape) (slots : Slots) (l : Local)
   reply_pays meaning frugal q asked op.Deps here f (Bytes bytes) m enough = found_pays meaning frugal m f.0 here (typed.kinds ∙ f.1) bytes enough
   reply_pays meaning frugal q asked op.Deps here f Nothing m enough =
       let t = top_text l.stack f.0 (typed.kinds ∙ f.1) in
-      subst (λ (z : List Value). Pays p e l m (next l (Paths [] 0 ∷ drop 1 z))) (sym t.2) (on_pays op.Deps here l m (Paths [] 0 ∷ t.1) refl (omega (arith, enough, spends op.Deps here, ap unswept t.2)))
+      subst (λ (z : List Value). Pays p e l m (next l (Paths 0 [] ∷ drop 1 z))) (sym t.2) (on_pays op.Deps here l m (Paths 0 [] ∷ t.1) refl (omega (arith, enough, spends op.Deps here, ap unswept t.2)))
   reply_pays meaning frugal q asked op.Deps here f Fault m enough = omega (arith, enough, spends op.Deps here)
   reply_pays meaning frugal q asked op.Keep here f Kept m enough =
       let t = kept_three l.stack f.1.0 (typed.kinds ∙ f.1.1) in
@@ -292,7 +292,7 @@ plain_value : (v : Value) → is_paths (kind_of v) ≡ false → paths_left v �
 plain_value (Stamp n) h = refl
 plain_value (Flag b) h = refl
 plain_value (Text t) h = refl
-plain_value (Paths all n) h = absurd cc
+plain_value (Paths n all) h = absurd cc
 plain_value (Swept all) h = refl
 
 -- ---- runs

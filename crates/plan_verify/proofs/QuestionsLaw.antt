@@ -80,7 +80,7 @@ branches_silent l len to (Flag b ∷ below) = when_either Silent b _ _ (λ h. ju
 branches_silent l len to [] = refl
 branches_silent l len to (Stamp n ∷ below) = refl
 branches_silent l len to (Text t ∷ below) = refl
-branches_silent l len to (Paths a n ∷ below) = refl
+branches_silent l len to (Paths n a ∷ below) = refl
 branches_silent l len to (Swept a ∷ below) = refl
 
 -- an instruction that asks nothing hears nothing
@@ -130,7 +130,7 @@ swept_fit meaning l all below (Some path) = sweep_fits meaning l path
 swept_fit meaning l all below None = quiet meaning l op.Sweep (next l (Swept all ∷ below)) (goes_silent l (l.place + 1) (Swept all ∷ below))
 
 sweep_fit : (meaning : Meaning) (l : Local) (stack : List Value) → Fits meaning l op.Sweep (request_of (sweep l stack))
-sweep_fit meaning l (Paths all n ∷ Flag b ∷ Stamp m ∷ below) = swept_fit meaning l all (Flag b ∷ Stamp m ∷ below) (slice_get all n)
+sweep_fit meaning l (Paths n all ∷ Flag b ∷ Stamp m ∷ below) = swept_fit meaning l all (Flag b ∷ Stamp m ∷ below) (slice_get all n)
 sweep_fit meaning l _ = tt
 
 run_fit : (meaning : Meaning) (l : Local) (o : Option (List (List ℕ))) (stack : List Value) → Fits meaning l op.Run (request_of (runs o stack))

@@ -35,7 +35,7 @@ top_stamp [] ks e = absurd cc
 top_stamp (Stamp n ∷ below) ks e = (n, below, refl, (cc))
 top_stamp (Flag b ∷ below) ks e = absurd cc
 top_stamp (Text t ∷ below) ks e = absurd cc
-top_stamp (Paths a n ∷ below) ks e = absurd cc
+top_stamp (Paths n a ∷ below) ks e = absurd cc
 top_stamp (Swept a ∷ below) ks e = absurd cc
 
 pub top_flag : (stack : List Value) (ks : List Kind) → map kind_of stack ≡ kind.Flag ∷ ks → (b : Bool) × (below : List Value) × (stack ≡ Flag b ∷ below) × (map kind_of below ≡ ks)
@@ -43,7 +43,7 @@ top_flag [] ks e = absurd cc
 top_flag (Stamp n ∷ below) ks e = absurd cc
 top_flag (Flag b ∷ below) ks e = (b, below, refl, (cc))
 top_flag (Text t ∷ below) ks e = absurd cc
-top_flag (Paths a n ∷ below) ks e = absurd cc
+top_flag (Paths n a ∷ below) ks e = absurd cc
 top_flag (Swept a ∷ below) ks e = absurd cc
 
 pub top_text : (stack : List Value) (ks : List Kind) → map kind_of stack ≡ kind.Text ∷ ks → (t : List ℕ) × (below : List Value) × (stack ≡ Text t ∷ below) × (map kind_of below ≡ ks)
@@ -51,15 +51,15 @@ top_text [] ks e = absurd cc
 top_text (Stamp n ∷ below) ks e = absurd cc
 top_text (Flag b ∷ below) ks e = absurd cc
 top_text (Text t ∷ below) ks e = (t, below, refl, (cc))
-top_text (Paths a n ∷ below) ks e = absurd cc
+top_text (Paths n a ∷ below) ks e = absurd cc
 top_text (Swept a ∷ below) ks e = absurd cc
 
-pub top_paths : (stack : List Value) (ks : List Kind) → map kind_of stack ≡ kind.Paths ∷ ks → (all : List (List ℕ)) × (n : ℕ) × (below : List Value) × (stack ≡ Paths all n ∷ below) × (map kind_of below ≡ ks)
+pub top_paths : (stack : List Value) (ks : List Kind) → map kind_of stack ≡ kind.Paths ∷ ks → (all : List (List ℕ)) × (n : ℕ) × (below : List Value) × (stack ≡ Paths n all ∷ below) × (map kind_of below ≡ ks)
 top_paths [] ks e = absurd cc
 top_paths (Stamp n ∷ below) ks e = absurd cc
 top_paths (Flag b ∷ below) ks e = absurd cc
 top_paths (Text t ∷ below) ks e = absurd cc
-top_paths (Paths a n ∷ below) ks e = (a, n, below, refl, (cc))
+top_paths (Paths n a ∷ below) ks e = (a, n, below, refl, (cc))
 top_paths (Swept a ∷ below) ks e = absurd cc
 
 pub top_swept : (stack : List Value) (ks : List Kind) → map kind_of stack ≡ kind.Swept ∷ ks → (all : List (List ℕ)) × (below : List Value) × (stack ≡ Swept all ∷ below) × (map kind_of below ≡ ks)
@@ -67,7 +67,7 @@ top_swept [] ks e = absurd cc
 top_swept (Stamp n ∷ below) ks e = absurd cc
 top_swept (Flag b ∷ below) ks e = absurd cc
 top_swept (Text t ∷ below) ks e = absurd cc
-top_swept (Paths a n ∷ below) ks e = absurd cc
+top_swept (Paths n a ∷ below) ks e = absurd cc
 top_swept (Swept a ∷ below) ks e = (a, below, refl, (cc))
 
 pub two_stamps : (stack : List Value) (ks : List Kind) → map kind_of stack ≡ kind.Stamp ∷ kind.Stamp ∷ ks → (b : ℕ) × (a : ℕ) × (below : List Value) × (stack ≡ Stamp b ∷ Stamp a ∷ below) × (map kind_of below ≡ ks)
@@ -89,12 +89,12 @@ two_texts stack ks e =
     (y.0, x.0, x.1, y.2 ∙ ap (λ (rest : List Value). Text y.0 ∷ rest) x.2, x.3)
 
 pub swept_three : (stack : List Value) (ks : List Kind) → map kind_of stack ≡ kind.Paths ∷ kind.Flag ∷ kind.Stamp ∷ ks
-    → (all : List (List ℕ)) × (n : ℕ) × (b : Bool) × (m : ℕ) × (below : List Value) × (stack ≡ Paths all n ∷ Flag b ∷ Stamp m ∷ below) × (map kind_of below ≡ ks)
+    → (all : List (List ℕ)) × (n : ℕ) × (b : Bool) × (m : ℕ) × (below : List Value) × (stack ≡ Paths n all ∷ Flag b ∷ Stamp m ∷ below) × (map kind_of below ≡ ks)
 swept_three stack ks e =
     let z = top_paths stack (kind.Flag ∷ kind.Stamp ∷ ks) e in
     let y = top_flag z.2 (kind.Stamp ∷ ks) z.4 in
     let x = top_stamp y.1 ks y.3 in
-    (z.0, z.1, y.0, x.0, x.1, z.3 ∙ ap (λ (rest : List Value). Paths z.0 z.1 ∷ rest) (y.2 ∙ ap (λ (rest : List Value). Flag y.0 ∷ rest) x.2), x.3)
+    (z.0, z.1, y.0, x.0, x.1, z.3 ∙ ap (λ (rest : List Value). Paths z.1 z.0 ∷ rest) (y.2 ∙ ap (λ (rest : List Value). Flag y.0 ∷ rest) x.2), x.3)
 
 pub kept_three : (stack : List Value) (ks : List Kind) → map kind_of stack ≡ kind.Swept ∷ kind.Stamp ∷ kind.Text ∷ ks
     → (all : List (List ℕ)) × (n : ℕ) × (t : List ℕ) × (below : List Value) × (stack ≡ Swept all ∷ Stamp n ∷ Text t ∷ below) × (map kind_of below ≡ ks)
@@ -219,7 +219,7 @@ module _ (p : Parts) (e : ℕ) (shapes : List Shape) (slots : Slots) (l : Local)
             (λ s h. set_stays slots k s t.0 short (elim (member-with s k typed.shape.set h) [ inl same ↦ inl same | inr old ↦ inr (typed.set s old) ])) refl,
       )))
 
-  sweep_by : (all : List (List ℕ)) (n : ℕ) (b : Bool) (m : ℕ) (below : List Value) (rest : List Kind) → slice_get (code p e) l.place ≡ Some op.Sweep → l.stack ≡ Paths all n ∷ Flag b ∷ Stamp m ∷ below → map kind_of below ≡ rest
+  sweep_by : (all : List (List ℕ)) (n : ℕ) (b : Bool) (m : ℕ) (below : List Value) (rest : List Kind) → slice_get (code p e) l.place ≡ Some op.Sweep → l.stack ≡ Paths n all ∷ Flag b ∷ Stamp m ∷ below → map kind_of below ≡ rest
       → GoesOn p e shapes l.place typed.shape (kind.Swept ∷ kind.Flag ∷ kind.Stamp ∷ rest) → (o : Option (List ℕ)) → slice_get all n ≡ o → Safe (sweeps l all (Flag b ∷ Stamp m ∷ below) o)
   sweep_by all n b m below rest here is same leads None at =
       next_safe (Swept all ∷ Flag b ∷ Stamp m ∷ below) (kind.Swept ∷ kind.Flag ∷ kind.Stamp ∷ rest) leads (ap (λ (ks : List Kind). kind.Swept ∷ kind.Flag ∷ kind.Stamp ∷ ks) same)
@@ -334,14 +334,14 @@ module _ (p : Parts) (e : ℕ) (shapes : List Shape) (slots : Slots) (l : Local)
   found_safe rest is leads (Err fault) = tt
   found_safe rest is leads (Ok paths) =
       let t = top_text l.stack rest is in
-      subst (λ (z : List Value). Safe (next l (Paths paths 0 ∷ drop 1 z))) (sym t.2) (push_safe (Paths paths 0) kind.Paths rest refl t.1 t.3 leads)
+      subst (λ (z : List Value). Safe (next l (Paths 0 paths ∷ drop 1 z))) (sym t.2) (push_safe (Paths 0 paths) kind.Paths rest refl t.1 t.3 leads)
 
   stays : (k : ℕ) → slice_get (code p e) l.place ≡ Some op.Sweep → Fits p e shapes l.place typed.shape op.Sweep → Safe (goes l l.place (merged k l.stack))
   stays k here f =
       let t = swept_three l.stack f.0 (typed.kinds ∙ f.1) in
       let shallow : length typed.shape.kinds ≤ 64 = omega (arith, ap length f.1, f.2.shallow) in
       subst (λ (z : List Value). Safe (goes l l.place (merged k z))) (sym t.5)
-      (goes_safe l l.place (Paths t.0 (t.1 + 1) ∷ Flag (t.2 || (k == 0)) ∷ Stamp (later t.3 k) ∷ t.4) typed.shape.kinds refl
+      (goes_safe l l.place (Paths (t.1 + 1) t.0 ∷ Flag (t.2 || (k == 0)) ∷ Stamp (later t.3 k) ∷ t.4) typed.shape.kinds refl
       (record { inside = slice_get_within (code p e) l.place op.Sweep here; exact = typed.here; shallow = shallow })
       (ap (λ (ks : List Kind). kind.Paths ∷ kind.Flag ∷ kind.Stamp ∷ ks) t.6 ∙ sym f.1))
 
@@ -353,9 +353,9 @@ module _ (p : Parts) (e : ℕ) (shapes : List Shape) (slots : Slots) (l : Local)
   reply_safe meaning (op.Need n) here f (StampIs (suc k)) = push_safe (Stamp (suc k)) kind.Stamp f.1.0 refl l.stack (typed.kinds ∙ f.1.1) f.1.2
   reply_safe meaning (op.Need n) here f Fault = tt
   reply_safe meaning op.Recall here f (Entry command basis paths) =
-      next_safe (Flag true ∷ Text command ∷ Stamp basis ∷ Paths paths 0 ∷ l.stack) (kind.Flag ∷ kind.Text ∷ kind.Stamp ∷ kind.Paths ∷ f.1.0) f.1.2 (ap (λ (ks : List Kind). kind.Flag ∷ kind.Text ∷ kind.Stamp ∷ kind.Paths ∷ ks) (typed.kinds ∙ f.1.1))
+      next_safe (Flag true ∷ Text command ∷ Stamp basis ∷ Paths 0 paths ∷ l.stack) (kind.Flag ∷ kind.Text ∷ kind.Stamp ∷ kind.Paths ∷ f.1.0) f.1.2 (ap (λ (ks : List Kind). kind.Flag ∷ kind.Text ∷ kind.Stamp ∷ kind.Paths ∷ ks) (typed.kinds ∙ f.1.1))
   reply_safe meaning op.Recall here f Nothing =
-      next_safe (Flag false ∷ Text [] ∷ Stamp 0 ∷ Paths [] 0 ∷ l.stack) (kind.Flag ∷ kind.Text ∷ kind.Stamp ∷ kind.Paths ∷ f.1.0) f.1.2 (ap (λ (ks : List Kind). kind.Flag ∷ kind.Text ∷ kind.Stamp ∷ kind.Paths ∷ ks) (typed.kinds ∙ f.1.1))
+      next_safe (Flag false ∷ Text [] ∷ Stamp 0 ∷ Paths 0 [] ∷ l.stack) (kind.Flag ∷ kind.Text ∷ kind.Stamp ∷ kind.Paths ∷ f.1.0) f.1.2 (ap (λ (ks : List Kind). kind.Flag ∷ kind.Text ∷ kind.Stamp ∷ kind.Paths ∷ ks) (typed.kinds ∙ f.1.1))
   reply_safe meaning op.Recall here f Fault = tt
   reply_safe meaning op.Sweep here f (StampIs k) = stays k here f
   reply_safe meaning op.Sweep here f Fault = tt

@@ -1,8 +1,10 @@
 -- What the crates above take from a well-shaped image.
-use Rattle.std.specs.Prelude.{◌≡◌, ℕ, ◌<◌, false, List, length, Some, slice_get, Contains, All}
+use Rattle.std.specs.Prelude.{◌≡◌, ℕ, ◌<◌, ◌^◌, false, List, length, Some, slice_get, Contains, All}
 use Rattle.plan_image.specs.declared.image.Slot.{Slot}
 use Rattle.plan_image.specs.declared.image.Edge.{Edge}
 use Rattle.plan_image.specs.declared.image.Parts.{Parts}
+use Rattle.plan_image.specs.Code.{code}
+use Rattle.plan_image.specs.Spelling.{HasSpelling}
 use Rattle.plan_verify.specs.declared.fault.Refusal.{Refusal}
 use Rattle.plan_verify.specs.Turn.{Slots, Request, Reply, Meaning}
 use Rattle.plan_verify.specs.Shape.{is_paths}
@@ -33,6 +35,10 @@ pub record AreInRange (p : Parts) : Type 0 where
 -- the tables of a well-shaped image are in range
 abbrev pub TablesAreInRange : Type 0
 TablesAreInRange = (p : Parts) → IsWellShaped p → AreInRange p
+
+-- the place of an instruction fits four bytes
+abbrev pub CodesAreShort : Type 0
+CodesAreShort = (p : Parts) (e : ℕ) → HasSpelling p → length (code p e) < 2 ^ 32
 
 -- an edge of a well-shaped image, run alone from slots that fit, never goes wrong, and where it ends its slots are set
 abbrev pub VerifiedNeverGoesWrong : Type 0

@@ -21,7 +21,7 @@ abbrev pub kind_of : Value → Kind
 kind_of (Stamp n) = kind.Stamp
 kind_of (Flag b) = kind.Flag
 kind_of (Text t) = kind.Text
-kind_of (Paths all swept) = kind.Paths
+kind_of (Paths swept all) = kind.Paths
 kind_of (Swept all) = kind.Swept
 
 -- what each slot of the table has, none where it isn't set
@@ -219,7 +219,7 @@ sweeps l all below (Some path) = Asks (Stat path)
 sweeps l all below None = next l (Swept all ∷ below)
 
 abbrev pub sweep : Local → List Value → Turn
-sweep l (Paths all swept ∷ Flag b ∷ Stamp n ∷ below) = sweeps l all (Flag b ∷ Stamp n ∷ below) (slice_get all swept)
+sweep l (Paths swept all ∷ Flag b ∷ Stamp n ∷ below) = sweeps l all (Flag b ∷ Stamp n ∷ below) (slice_get all swept)
 sweep l stack = Wrong (lacks 3 stack)
 
 abbrev pub branches : Local → ℕ → ℕ → List Value → Turn
@@ -279,11 +279,11 @@ question p e slots l = request_of (turn p e slots l)
 
 -- a swept path's stamp is merged
 abbrev pub merged : ℕ → List Value → List Value
-merged stamp (Paths all swept ∷ Flag b ∷ Stamp n ∷ below) = Paths all (swept + 1) ∷ Flag (b || (stamp == 0)) ∷ Stamp (later n stamp) ∷ below
+merged stamp (Paths swept all ∷ Flag b ∷ Stamp n ∷ below) = Paths (swept + 1) all ∷ Flag (b || (stamp == 0)) ∷ Stamp (later n stamp) ∷ below
 merged stamp stack = stack
 
 abbrev pub found : Local → Result (List (List ℕ)) (ℕ × ℕ) → Turn
-found l (Ok paths) = next l (Paths paths 0 ∷ drop 1 l.stack)
+found l (Ok paths) = next l (Paths 0 paths ∷ drop 1 l.stack)
 found l (Err fault) = Fails (DepfileMalformed fault.0 fault.1)
 
 abbrev pub ran : Local → Local
@@ -296,8 +296,8 @@ replied meaning l (op.Stat f) Fault = Some (Fails StatFault)
 replied meaning l (op.Need f) (StampIs zero) = Some (Fails (MissingInput f))
 replied meaning l (op.Need f) (StampIs (suc n)) = Some (next l (Stamp (suc n) ∷ l.stack))
 replied meaning l (op.Need f) Fault = Some (Fails StatFault)
-replied meaning l op.Recall (Entry command basis paths) = Some (next l (Flag true ∷ Text command ∷ Stamp basis ∷ Paths paths 0 ∷ l.stack))
-replied meaning l op.Recall Nothing = Some (next l (Flag false ∷ Text [] ∷ Stamp 0 ∷ Paths [] 0 ∷ l.stack))
+replied meaning l op.Recall (Entry command basis paths) = Some (next l (Flag true ∷ Text command ∷ Stamp basis ∷ Paths 0 paths ∷ l.stack))
+replied meaning l op.Recall Nothing = Some (next l (Flag false ∷ Text [] ∷ Stamp 0 ∷ Paths 0 [] ∷ l.stack))
 replied meaning l op.Recall Fault = Some (Fails RecordFault)
 replied meaning l op.Sweep (StampIs n) = Some (goes l l.place (merged n l.stack))
 replied meaning l op.Sweep Fault = Some (Fails StatFault)
@@ -306,7 +306,7 @@ replied meaning l op.Run (Exit (suc n)) = Some (Fails (cause.Exit (suc n)))
 replied meaning l op.Run Signal = Some (Fails cause.Signal)
 replied meaning l op.Run NotStarted = Some (Fails cause.NotStarted)
 replied meaning l op.Deps (Bytes bytes) = Some (found l (meaning bytes))
-replied meaning l op.Deps Nothing = Some (next l (Paths [] 0 ∷ drop 1 l.stack))
+replied meaning l op.Deps Nothing = Some (next l (Paths 0 [] ∷ drop 1 l.stack))
 replied meaning l op.Deps Fault = Some (Fails DepfileFault)
 replied meaning l op.Keep Kept = Some (next l (drop 3 l.stack))
 replied meaning l op.Keep Fault = Some (Fails RecordFault)

@@ -16,7 +16,7 @@ abbrev pub paths_left : Value → ℕ
 paths_left (Stamp n) = 0
 paths_left (Flag b) = 0
 paths_left (Text t) = 0
-paths_left (Paths all n) = 2 * (length all - n)
+paths_left (Paths n all) = 2 * (length all - n)
 paths_left (Swept all) = 0
 
 abbrev pub unswept : List Value → ℕ

@@ -1,7 +1,7 @@
 //! Laws over the definitions.
 ghost use Rattle.plan_verify.specs.Alone.{GoesOnAlone, NeverWrongAlone};
 ghost use Rattle.plan_verify.specs.Budget.{StaysInBudgetAlone};
-ghost use Rattle.plan_verify.specs.Facts.{RefusalsAreTrue, TablesAreInRange, VerifiedNeverGoesWrong};
+ghost use Rattle.plan_verify.specs.Facts.{CodesAreShort, RefusalsAreTrue, TablesAreInRange, VerifiedNeverGoesWrong};
 ghost use Rattle.plan_verify.specs.Seam.{HearsWhatSuits, QuestionsIgnoreSlots, StaysTyped};
 ghost use Rattle.plan_verify.specs.Sound.{InstructionsFit, RepliesAreSafe, StepsAreSafe};
 ghost use Rattle.plan_verify.specs.Worth.{AllTurnsPay};
@@ -70,4 +70,9 @@ pub fn verified_never_goes_wrong()
 /// An edge that is refused has no shapes, and an image that is refused isn't well shaped.
 pub fn refusals_are_true()
     ensures { RefusalsAreTrue }
+{}
+
+/// The code of an edge of an image has fewer than 2^32 instructions.
+pub fn codes_are_short()
+    ensures { CodesAreShort }
 {}

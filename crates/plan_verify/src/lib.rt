@@ -27,9 +27,10 @@ mod verified;
 pub use fault::{Refusal, VerifyFault};
 pub use kinds::Kinds;
 pub use laws::{
-    all_turns_pay, goes_on_alone, hears_what_suits, instructions_fit, never_wrong_alone,
-    questions_ignore_slots, refusals_are_true, replies_are_safe, stays_in_budget_alone,
-    stays_typed, steps_are_safe, tables_are_in_range, verified_never_goes_wrong,
+    all_turns_pay, codes_are_short, goes_on_alone, hears_what_suits, instructions_fit,
+    never_wrong_alone, questions_ignore_slots, refusals_are_true, replies_are_safe,
+    stays_in_budget_alone, stays_typed, steps_are_safe, tables_are_in_range,
+    verified_never_goes_wrong,
 };
 pub use shape::Shape;
 pub use slot_set::SlotSet;

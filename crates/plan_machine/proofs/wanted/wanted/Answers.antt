@@ -12,11 +12,11 @@ pub meet_all-requires : goal.meet_all-requires
 meet_all-requires c k d lt =
     let e = slice_index_or c.chosen.result.now k d in
     let inside = chosen_inside c.tables_are_in_range.ensures c.args.parts.now c.requires.shaped c.args.targets.now c.requires.inside e (ap (is_member e) (sym c.chosen.ensures) ∙ index_member c.chosen.result.now k d lt) in
-    omega (arith, inside, ap (λ (w : Walked). length w.met) c.in_ok-walk.ensures, length-replicate c.len.result false, c.len.ensures)
+    omega (arith, inside, ap (λ (w : Walked). length w.met) c.in_ok-walk.ensures, length-replicate c.edge_count.result false, c.edge_count.ensures)
 
 pub loop-e-init : goal.loop-e-init
 loop-e-init c =
-    let met : c.in_ok-walk.walk.met ≡ replicate (length c.args.parts.now.edges) false = ap (λ (w : Walked). w.met) c.in_ok-walk.ensures ∙ ap (λ (n : ℕ). replicate n false) c.len.ensures in
+    let met : c.in_ok-walk.walk.met ≡ replicate (length c.args.parts.now.edges) false = ap (λ (w : Walked). w.met) c.in_ok-walk.ensures ∙ ap (λ (n : ℕ). replicate n false) c.edge_count.ensures in
     let walks = walk_begins c.args.parts.now c.args.targets.now c.in_ok-walk.walk met (ap (λ (w : Walked). w.ahead) c.in_ok-walk.ensures) (chosen_inside c.tables_are_in_range.ensures c.args.parts.now c.requires.shaped c.args.targets.now c.requires.inside) in
     subst (λ (w : Walked). Walks c.args.parts.now c.args.targets.now w) (sym (c.in_ok-meet_all.ensures ∙ ap (meet_all c.in_ok-walk.walk) c.chosen.ensures)) walks
 

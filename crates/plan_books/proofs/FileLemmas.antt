@@ -1,0 +1,129 @@
+-- Where edges and pools stand, and that there is room.
+use Rattle.std.proofs.Common.{◌≡◌, ◌≢◌, ℕ, zero, suc, ◌+◌, ◌-◌, ◌<◌, ◌≤◌, ◌^◌, List, [], ◌∷◌, length, refl, sym, ◌∙◌, ap, subst, arith, get_or, set, ◌⊎◌, inl, inr, length-set, get_or-set_same, get_or-set_other, Bool, true, false, cond, Some, None}
+use Rattle.std.specs.Prelude.{◌==◌, ◌||◌, if◌then◌else◌, nat_lt, Option, count_by, slice_index}
+use Rattle.std.proofs.lemmas.Bool.{cases_eq, eq-eqb}
+use Rattle.std.proofs.lemmas.Bool.Decides.{eqb_tells}
+use Rattle.std.proofs.lemmas.List.{set-get_or}
+use Rattle.std.proofs.lemmas.List.Sums.{sum_by-cons}
+use Rattle.plan_books.specs.Filing.{Filing, HasRoom, standing}
+use Rattle.plan_books.proofs.SeatLemmas.{standing_else, standing_less, standing_new}
+use Rattle.plan_books.specs.declared.phase.Phase.{Phase}
+use Rattle.plan_books.specs.declared.phase.Phase.TheVariants.{Unbegun, Going, AtTake, Asked, Well, Failed, Ill, NotWanted}
+use Rattle.plan_books.specs.Counts.{one}
+use Rattle.plan_books.specs.Filed.{AreShelves, ArePoolShelves, its_shelf, pool_shelf_for, shelf_for, unbegun_shelf}
+
+if_low : (b : Bool) (m n k : ℕ) → m < k → n < k → (if b then m else n) < k
+if_low true m n k h g = h
+if_low false m n k h g = g
+
+unbegun_low : (w : ℕ) (b : Option ℕ) → unbegun_shelf w b < 5
+unbegun_low w (Some x) = omega arith
+unbegun_low w None = if_low (w == 0) 2 1 5 (omega arith) (omega arith)
+
+-- an edge stands on one of the first five shelves, or on that of its pool
+pub shelf_cases : (phase : Phase) (w : ℕ) (b : Option ℕ) (pool : ℕ) → (shelf_for phase w b pool < 5) ⊎ (shelf_for phase w b pool ≡ 5 + pool)
+shelf_cases Unbegun w b pool = inl (unbegun_low w b)
+shelf_cases (Going h) w b pool = inl (omega arith)
+shelf_cases (AtTake h) w b pool = inr refl
+shelf_cases (Asked h) w b pool = inl (omega arith)
+shelf_cases Well w b pool = inl (omega arith)
+shelf_cases Failed w b pool = inl (omega arith)
+shelf_cases Ill w b pool = inl (omega arith)
+shelf_cases NotWanted w b pool = inl (omega arith)
+
+-- an edge moves between the first five shelves, or stays, where its phase stays
+pub stays_or_low : (phase : Phase) (w v : ℕ) (b d : Option ℕ) (pool : ℕ) → (shelf_for phase w b pool ≡ shelf_for phase v d pool) ⊎ ((shelf_for phase w b pool < 5) × (shelf_for phase v d pool < 5))
+stays_or_low Unbegun w v b d pool = inr (unbegun_low w b, unbegun_low v d)
+stays_or_low (Going h) w v b d pool = inl refl
+stays_or_low (AtTake h) w v b d pool = inl refl
+stays_or_low (Asked h) w v b d pool = inl refl
+stays_or_low Well w v b d pool = inl refl
+stays_or_low Failed w v b d pool = inl refl
+stays_or_low Ill w v b d pool = inl refl
+stays_or_low NotWanted w v b d pool = inl refl
+
+pool_low : (n h d : ℕ) → pool_shelf_for n h d < 3
+pool_low n h d = if_low (n == 0) 0 (if (d == 0) || nat_lt h d then 1 else 2) 3 (omega arith) (if_low ((d == 0) || nat_lt h d) 1 2 3 (omega arith) (omega arith))
+
+-- the edges on a pool's shelf are of that pool, so there are no more of them
+standing_le : (s p : ℕ) (xs ys : List ℕ) → length xs ≡ length ys → ((i : ℕ) → i < length xs → slice_index xs i ≡ s → slice_index ys i ≡ p) → standing s xs ≤ standing p ys
+standing_le s p [] ys l f = omega arith
+standing_le s p (x ∷ xs) [] l f = absurd (omega (arith, l))
+standing_le s p (x ∷ xs) (y ∷ ys) l f =
+    let rest : standing s xs ≤ standing p ys = standing_le s p xs ys (omega (arith, l)) (λ i h. f (suc i) (omega (arith, h))) in
+    let a : standing s (x ∷ xs) ≡ one (x == s) + standing s xs = sum_by-cons (λ t. cond (t == s) 1 0) x xs in
+    let b : standing p (y ∷ ys) ≡ one (y == p) + standing p ys = sum_by-cons (λ t. cond (t == p) 1 0) y ys in
+    elim (eqb_tells x s) [
+      | inl same ↦
+          let c : one (x == s) ≡ one true = ap one same.0 in
+          let d : one (y == p) ≡ one true = ap one (eq-eqb y p (f 0 (omega arith) same.1)) in
+          omega (arith, rest, a, b, c, d)
+      | inr other ↦
+          let c : one (x == s) ≡ one false = ap one other.0 in
+          omega (arith, rest, a, b, c)
+    ]
+
+pub room_low : (f : Filing) (n pools e s : ℕ) (pool_of : List ℕ) → AreShelves n pools pool_of f → e < n → s < 5 → HasRoom f e s
+room_low f n pools e s pool_of are here low =
+    elim (cases_eq (slice_index f.shelf e) s) [
+      | inl same ↦ inl same
+      | inr other ↦
+          let less : standing s f.shelf + 1 ≤ length f.shelf = standing_less f.shelf e s (omega (arith, here, are.sized)) other in
+          let room : n ≤ slice_index f.room s = are.common s low in
+          inr (omega (arith, less, room, are.sized))
+    ]
+
+pub room_pool : (f : Filing) (n pools e p : ℕ) (pool_of : List ℕ) → AreShelves n pools pool_of f → e < n → length pool_of ≡ n → slice_index pool_of e ≡ p → p < pools
+    → ((x : ℕ) → x < n → x ≢ e → slice_index f.shelf x ≡ 5 + p → slice_index pool_of x ≡ p) → HasRoom f e (5 + p)
+room_pool f n pools e p pool_of are here sized mine within theirs =
+    elim (cases_eq (slice_index f.shelf e) (5 + p)) [
+      | inl same ↦ inl same
+      | inr other ↦
+          let h : e < length f.shelf = omega (arith, here, are.sized) in
+          let new : standing (5 + p) (set f.shelf e (5 + p)) ≡ standing (5 + p) f.shelf + 1 = standing_new f.shelf e (5 + p) h other in
+          let same_length : length (set f.shelf e (5 + p)) ≡ length pool_of = length-set f.shelf e (5 + p) ∙ (are.sized ∙ sym sized) in
+          let le : standing (5 + p) (set f.shelf e (5 + p)) ≤ standing p pool_of = standing_le (5 + p) p (set f.shelf e (5 + p)) pool_of same_length (λ i lt at. elim (cases_eq i e) [
+            | inl q ↦ ap (slice_index pool_of) q ∙ mine
+            | inr q ↦ theirs i (omega (arith, lt, same_length, sized)) q (sym (get_or-set_other f.shelf e i (5 + p) 0 q) ∙ at)
+          ]) in
+          let room : standing p pool_of ≤ slice_index f.room (5 + p) = are.pool_rooms p within in
+          inr (omega (arith, new, le, room))
+    ]
+
+-- who stands on a pool's shelf is of that pool
+pub of_pool : (phase : Phase) (w : ℕ) (b : Option ℕ) (pool p : ℕ) → shelf_for phase w b pool ≡ 5 + p → pool ≡ p
+of_pool phase w b pool p e = elim (shelf_cases phase w b pool) [ inl low ↦ absurd (omega (arith, low, e)) | inr at ↦ omega (arith, at, e) ]
+
+pub room_for : (f : Filing) (n pools e : ℕ) (pool_of : List ℕ) (phases : List Phase) (waiting : List ℕ) (blame : List (Option ℕ)) → AreShelves n pools pool_of f → e < n → length pool_of ≡ n → slice_index pool_of e < pools
+    → ((x : ℕ) → x < n → x ≢ e → slice_index f.shelf x ≡ its_shelf pool_of phases waiting blame x) → HasRoom f e (its_shelf pool_of phases waiting blame e)
+room_for f n pools e pool_of phases waiting blame are here sized within filed =
+    elim (shelf_cases (get_or phases e Unbegun) (slice_index waiting e) (get_or blame e None) (slice_index pool_of e)) [
+      | inl low ↦ room_low f n pools e (its_shelf pool_of phases waiting blame e) pool_of are here low
+      | inr at ↦ subst (HasRoom f e) (sym at) (room_pool f n pools e (slice_index pool_of e) pool_of are here sized refl within
+          (λ x lt other on. of_pool (get_or phases x Unbegun) (slice_index waiting x) (get_or blame x None) (slice_index pool_of x) (slice_index pool_of e) (sym (filed x lt other) ∙ on)))
+    ]
+
+pub pool_room_for : (f : Filing) (pools p n h d : ℕ) → ArePoolShelves pools f → p < pools → HasRoom f p (pool_shelf_for n h d)
+pool_room_for f pools p n h d are here =
+    elim (cases_eq (slice_index f.shelf p) (pool_shelf_for n h d)) [
+      | inl same ↦ inl same
+      | inr other ↦
+          let less : standing (pool_shelf_for n h d) f.shelf + 1 ≤ length f.shelf = standing_less f.shelf p (pool_shelf_for n h d) (omega (arith, here, are.sized)) other in
+          let room : pools ≤ slice_index f.room (pool_shelf_for n h d) = are.rooms (pool_shelf_for n h d) (pool_low n h d) in
+          inr (omega (arith, less, room, are.sized))
+    ]
+
+-- how many stand on the shelf of a pool, once an edge of another one moved
+pub pool_apart : (shelf : List ℕ) (e p q : ℕ) (a b : Phase) (w v : ℕ) (c d : Option ℕ) → e < length shelf → slice_index shelf e ≡ shelf_for a w c p → p ≢ q
+    → standing (5 + q) (set shelf e (shelf_for b v d p)) ≡ standing (5 + q) shelf
+pool_apart shelf e p q a b w v c d here on apart =
+    standing_else shelf e (shelf_for b v d p) (5 + q) here (λ at. apart (of_pool a w c p q (sym on ∙ at))) (λ at. apart (of_pool b v d p q at))
+
+-- how many stand on the shelf of a pool, once an edge moved and kept its phase
+pub pool_same : (shelf : List ℕ) (e p q : ℕ) (a : Phase) (w v : ℕ) (c d : Option ℕ) → e < length shelf → slice_index shelf e ≡ shelf_for a w c p
+    → standing (5 + q) (set shelf e (shelf_for a v d p)) ≡ standing (5 + q) shelf
+pool_same shelf e p q a w v c d here on =
+    elim (stays_or_low a w v c d p) [
+      | inl same ↦ ap (λ s. standing (5 + q) (set shelf e s)) (sym same ∙ sym on) ∙ ap (standing (5 + q)) (set-get_or shelf e 0)
+      | inr low ↦ standing_else shelf e (shelf_for a v d p) (5 + q) here (λ at. let from : shelf_for a w c p ≡ 5 + q = sym on ∙ at in omega (arith, from, low.0)) (λ at. omega (arith, at, low.1))
+    ]

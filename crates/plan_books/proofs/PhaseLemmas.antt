@@ -1,0 +1,21 @@
+-- Phases that aren't Well.
+use Rattle.std.proofs.Common.{◌≡◌, ◌≢◌, ℕ, List, false, get_or, refl, sym, ap, ◌∙◌}
+use Rattle.std.specs.Prelude.{slice_set}
+use Rattle.std.proofs.lemmas.List.{set-get_or}
+use Rattle.plan_books.specs.declared.phase.Phase.{Phase}
+use Rattle.plan_books.specs.declared.phase.Phase.TheVariants.{Unbegun, Going, AtTake, Asked, Well, Failed, Ill, NotWanted}
+use Rattle.plan_books.specs.Phases.{is_well}
+
+pub not_well : (x : Phase) → x ≢ Well → is_well x ≡ false
+not_well Unbegun h = refl
+not_well (Going b) h = refl
+not_well (AtTake b) h = refl
+not_well (Asked b) h = refl
+not_well Well h = absurd (h refl)
+not_well Failed h = refl
+not_well Ill h = refl
+not_well NotWanted h = refl
+
+-- an edge that comes to the phase in which it is
+pub stays : (phases : List Phase) (e : ℕ) (x next : Phase) → x ≡ get_or phases e x → x ≡ next → phases ≡ slice_set phases e next
+stays phases e x next read is = sym (ap (slice_set phases e) (sym is ∙ read) ∙ set-get_or phases e x)

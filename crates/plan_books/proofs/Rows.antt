@@ -1,0 +1,37 @@
+-- The definitions, computed on small lists.
+use Rattle.std.proofs.Common.{◌≡◌, ℕ, true, false, List, [], ◌∷◌, None, Some, refl}
+use Rattle.plan_books.specs.declared.phase.Phase.{Phase}
+use Rattle.plan_books.specs.declared.phase.Phase.TheVariants.{Unbegun, Going, AtTake, Asked, Well, Failed}
+use Rattle.plan_books.specs.Filing.{standing}
+use Rattle.plan_books.specs.Phases.{holds, has_failed, is_open}
+use Rattle.plan_books.specs.Counts.{holders_of}
+use Rattle.plan_books.specs.Filed.{pool_shelf_for, shelf_for}
+use Rattle.plan_books.specs.Booking.{unwell}
+
+-- three edges of pool 1: the first holds its place and has asked, the others are at Take
+three : List Phase
+three = Asked true ∷ AtTake false ∷ AtTake false ∷ []
+
+one_holds : holders_of 1 (1 ∷ 1 ∷ 1 ∷ []) three ≡ 1
+unfolding three
+one_holds = refl
+
+-- a pool of depth 1: two are at Take, and it is full; once the place is given back one may take it
+full : pool_shelf_for 2 1 1 ≡ 2
+full = refl
+
+with_room : pool_shelf_for 2 0 1 ≡ 1
+with_room = refl
+
+-- shelves: it waits, can be started, can be skipped, has a step, is at Take of pool 1, awaits a reply
+shelves :
+    shelf_for Unbegun 2 None 0 ∷ shelf_for Unbegun 0 None 0 ∷ shelf_for Unbegun 1 (Some 7) 0 ∷ shelf_for (Going false) 0 None 0 ∷ shelf_for (AtTake false) 0 None 1 ∷ shelf_for (Asked true) 0 None 1 ∷ []
+    ≡ 1 ∷ 2 ∷ 3 ∷ 4 ∷ 6 ∷ 0 ∷ []
+shelves = refl
+
+two_stand : standing 6 (0 ∷ 6 ∷ 6 ∷ []) ≡ 2
+two_stand = refl
+
+-- of edges 0, 1 and 2, which is waited for twice, only the first ended well
+two_unwell : unwell (Well ∷ Failed ∷ Unbegun ∷ []) (0 ∷ 2 ∷ 2 ∷ []) ≡ 2
+two_unwell = refl

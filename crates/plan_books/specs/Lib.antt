@@ -1,0 +1,9 @@
+pub mod Filing
+pub mod Seating
+pub mod Leaving
+pub mod Phases
+pub mod Counts
+pub mod Filed
+pub mod Booking
+pub mod Picking
+pub mod Opening

@@ -1,0 +1,13 @@
+-- How edges stand before any has begun.
+use Rattle.std.specs.Prelude.{◌==◌, if◌then◌else◌, Bool, true, false, ℕ}
+use Rattle.plan_books.specs.declared.phase.Phase.{Phase}
+use Rattle.plan_books.specs.declared.phase.Phase.TheVariants.{Unbegun, NotWanted}
+
+-- an edge that is wanted, or not
+abbrev pub opening_phase : Bool → Phase
+opening_phase true = Unbegun
+opening_phase false = NotWanted
+
+abbrev pub opening_shelf : Bool → ℕ → ℕ
+opening_shelf true waiting = if waiting == 0 then 2 else 1
+opening_shelf false waiting = 0

@@ -1,0 +1,38 @@
+-- Where an edge stands.
+use Rattle.std.specs.Prelude.{Bool, true, false, ℕ, List, get_or}
+use Rattle.plan_books.specs.declared.phase.Phase.{Phase}
+use Rattle.plan_books.specs.declared.phase.Phase.TheVariants.{Unbegun, Going, AtTake, Asked, Well, Failed, Ill, NotWanted}
+
+abbrev pub holds : Phase → Bool
+holds Unbegun = false
+holds (Going h) = h
+holds (AtTake h) = h
+holds (Asked h) = h
+holds Well = false
+holds Failed = false
+holds Ill = false
+holds NotWanted = false
+
+abbrev pub has_failed : Phase → Bool
+has_failed Failed = true
+has_failed phase = false
+
+abbrev pub is_well : Phase → Bool
+is_well Well = true
+is_well phase = false
+
+abbrev pub is_ill : Phase → Bool
+is_ill Failed = true
+is_ill Ill = true
+is_ill phase = false
+
+abbrev pub is_open : Phase → Bool
+is_open Unbegun = true
+is_open (Going h) = true
+is_open (AtTake h) = true
+is_open (Asked h) = true
+is_open phase = false
+
+-- the phase of an edge; outside the edges, that of one that hasn't begun
+abbrev pub phase_at : List Phase → ℕ → Phase
+phase_at phases e = get_or phases e Unbegun

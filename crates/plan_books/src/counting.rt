@@ -1,0 +1,55 @@
+//! How many edges hold places, failed and are open.
+
+ghost use Rattle.std.specs.Prelude.{◌≡◌, ◌≢◌, ◌<◌, ◌+◌, ◌^◌, ◌≤◌, ℕ, IsTrue, length, slice_index, slice_set};
+ghost use Rattle.plan_books.specs.Counts.{AreCounts, one};
+ghost use Rattle.plan_books.specs.Phases.{has_failed, holds, is_open, phase_at};
+
+use crate::phase::Phase;
+
+/// How many edges hold places, failed and are open.
+#[derive(Drop)]
+pub struct Counts {
+    /// How many edges of each pool hold a place.
+    pub pool_holders: Vec<u32>,
+    /// How many hold a place.
+    pub holders: u32,
+    /// How many failed.
+    pub failures: u32,
+    /// How many have no outcome.
+    pub open_edges: u32,
+}
+
+/// A count, once one that was counted or not is so or not.
+fn recounted(count: u32, was: bool, is: bool) -> u32
+    requires some { IsTrue was → 0 < count }
+    requires small { count + 1 < 2 ^ 32 }
+    ensures { result + one was ≡ count + one is }
+{
+    match (was, is) {
+        (true, false) => count - 1,
+        (false, true) => count + 1,
+        _ => count,
+    }
+}
+
+impl Counts {
+    /// An edge goes to another phase.
+    pub fn change(&mut self, pools: &[u32], phases: &[Phase], edge: u32, next: Phase)
+        requires here { edge < length phases.now }
+        requires sized { length pools.now ≡ length phases.now }
+        requires small { length phases.now + 1 < 2 ^ 32 }
+        requires pool { slice_index pools.now edge < length self.old.pool_holders.items }
+        requires counts { AreCounts pools.now phases.now self.old.pool_holders.items self.old.holders self.old.failures self.old.open_edges }
+        ensures counts { AreCounts pools.now (slice_set phases.now edge next) self.new.pool_holders.items self.new.holders self.new.failures self.new.open_edges }
+        ensures sized { length self.new.pool_holders.items ≡ length self.old.pool_holders.items }
+        ensures others { (p : ℕ) → p ≢ slice_index pools.now edge → slice_index self.new.pool_holders.items p ≡ slice_index self.old.pool_holders.items p }
+    {
+        let last = phases[edge as usize];
+        let pool = pools[edge as usize] as usize;
+        let in_pool = recounted(self.pool_holders[pool], last.holds(), next.holds());
+        self.holders = recounted(self.holders, last.holds(), next.holds());
+        self.failures = recounted(self.failures, last.has_failed(), next.has_failed());
+        self.open_edges = recounted(self.open_edges, last.is_open(), next.is_open());
+        self.pool_holders[pool] = in_pool;
+    }
+}

@@ -1,0 +1,132 @@
+//! What can happen next without an answer from outside.
+
+ghost use Rattle.std.specs.Prelude.{◌≡◌, ◌<◌, ◌≤◌, ◌⊎◌, Bool, ℕ, IfNone, IfSome, IsTrue, IsFalse, length, slice_index};
+ghost use Rattle.plan_books.specs.Booking.{AreBooks, IsPlan, edges_of};
+ghost use Rattle.plan_books.specs.Phases.{phase_at};
+ghost use Rattle.plan_books.specs.Picking.{AtTakeStays, IsBare, IsEnabled, UnbegunStays, is_spent};
+
+use crate::keeping::Books;
+use crate::phase::Phase;
+use crate::plan::Plan;
+
+/// What can happen next without an answer from outside.
+#[derive(Clone, Copy, Debug, PartialEq, Eq)]
+pub enum Pick {
+    /// An edge begins.
+    Start(u32),
+    /// An edge is skipped, since one that it waits for ended ill.
+    Skip(u32, u32),
+    /// An edge is stopped.
+    Stop(u32),
+    /// An edge goes on.
+    Step(u32),
+}
+
+impl Books {
+    /// Whether failures have reached the limit.
+    fn is_spent(&self, plan: &Plan, keep: u32) -> bool
+        requires { AreBooks plan.now self.now }
+        ensures { result ≡ is_spent keep self.now.phases.items }
+    {
+        keep > 0 && keep <= self.counts.failures
+    }
+
+    /// An edge on one of the first five shelves.
+    fn on_shelf(&self, plan: &Plan, shelf: u32) -> Option<u32>
+        requires books { AreBooks plan.now self.now }
+        requires shelf { shelf < 5 }
+        ensures some { IfSome result (λ e. (e < edges_of plan.now) × (slice_index self.now.shelves.shelf e ≡ shelf)) }
+        ensures none { IfNone result (IsBare self.now.shelves.shelf shelf) }
+    {
+        self.shelves.top(shelf)
+    }
+
+    /// An edge at Take whose pool stands on a shelf of pools.
+    fn at_take(&self, plan: &Plan, pool_shelf: u32) -> Option<u32>
+        requires plan { IsPlan plan.now }
+        requires books { AreBooks plan.now self.now }
+        requires shelf { pool_shelf < 3 }
+        requires taken { 0 < pool_shelf }
+        ensures some { IfSome result (λ e. (e < edges_of plan.now) × ((h : Bool) × (phase_at self.now.phases.items e ≡ Phase.AtTake h)) × (slice_index self.now.pool_shelves.shelf (slice_index plan.now.pools.items e) ≡ pool_shelf)) }
+        ensures none { IfNone result (IsBare self.now.pool_shelves.shelf pool_shelf) }
+    {
+        match self.pool_shelves.top(pool_shelf) {
+            Some(pool) => self.shelves.top(5 + pool),
+            None => None,
+        }
+    }
+
+    /// An edge at Take that can do something: take its place or, where failures have reached the limit, be stopped.
+    fn pick_at_take(&self, plan: &Plan, jobs: u32, keep: u32) -> Option<Pick>
+        requires plan { IsPlan plan.now }
+        requires books { AreBooks plan.now self.now }
+        ensures some { IfSome result (λ pick. IsEnabled plan.now self.now.phases.items jobs keep pick) }
+        ensures none { IfNone result (AtTakeStays plan.now self.now jobs keep) }
+    {
+        if self.is_spent(plan, keep) {
+            return match self.at_take(plan, 1) {
+                Some(edge) => Some(Pick::Stop(edge)),
+                None => match self.at_take(plan, 2) {
+                    Some(edge) => Some(Pick::Stop(edge)),
+                    None => None,
+                },
+            };
+        }
+        if self.counts.holders >= jobs {
+            return None;
+        }
+        match self.at_take(plan, 1) {
+            Some(edge) => Some(Pick::Step(edge)),
+            None => None,
+        }
+    }
+
+    /// An edge that hasn't begun and can begin, be skipped or be stopped.
+    fn pick_unbegun(&self, plan: &Plan, jobs: u32, keep: u32) -> Option<Pick>
+        requires plan { IsPlan plan.now }
+        requires books { AreBooks plan.now self.now }
+        ensures some { IfSome result (λ pick. IsEnabled plan.now self.now.phases.items jobs keep pick) }
+        ensures none { IfNone result (UnbegunStays self.now keep) }
+    {
+        if let Some(edge) = self.on_shelf(plan, 3) {
+            return match self.blame[edge as usize] {
+                Some(wait) => Some(Pick::Skip(edge, wait)),
+                None => unreachable!(),
+            };
+        }
+        let spent = self.is_spent(plan, keep);
+        match self.on_shelf(plan, 2) {
+            Some(edge) => {
+                if spent {
+                    return Some(Pick::Stop(edge));
+                }
+                Some(Pick::Start(edge))
+            }
+            None => {
+                if !spent {
+                    return None;
+                }
+                match self.on_shelf(plan, 1) {
+                    Some(edge) => Some(Pick::Stop(edge)),
+                    None => None,
+                }
+            }
+        }
+    }
+
+    /// A Start, Skip, Stop or Step that is enabled; none where none is. An edge in work goes before one that hasn't begun.
+    pub fn pick(&self, plan: &Plan, jobs: u32, keep: u32) -> Option<Pick>
+        requires plan { IsPlan plan.now }
+        requires books { AreBooks plan.now self.now }
+        ensures some { IfSome result (λ pick. IsEnabled plan.now self.now.phases.items jobs keep pick) }
+        ensures none { IfNone result ((pick : Pick) → IsEnabled plan.now self.now.phases.items jobs keep pick → ⊥) }
+    {
+        match self.on_shelf(plan, 4) {
+            Some(edge) => Some(Pick::Step(edge)),
+            None => match self.pick_at_take(plan, jobs, keep) {
+                Some(pick) => Some(pick),
+                None => self.pick_unbegun(plan, jobs, keep),
+            },
+        }
+    }
+}

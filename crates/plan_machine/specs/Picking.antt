@@ -1,0 +1,24 @@
+-- What can happen next, by itself or by a reply.
+use Rattle.std.specs.Prelude.{◌≡◌}
+use Rattle.plan_image.specs.declared.image.Parts.{Parts}
+use Rattle.plan_books.specs.declared.picking.Pick.{Pick}
+use Rattle.plan_books.specs.declared.picking.Pick.TheVariants as pick
+use Rattle.plan_machine.specs.declared.event.Event.{Event}
+use Rattle.plan_machine.specs.declared.event.Event.TheVariants.{Start, Skip, Stop, Step}
+use Rattle.plan_machine.specs.declared.mark.Mark.{Mark}
+use Rattle.plan_machine.specs.State.{State}
+use Rattle.plan_machine.specs.Going.{Going}
+use Rattle.plan_machine.specs.Step.{Next, step}
+use Rattle.plan_machine.specs.Depfile.{depfile}
+
+-- the table gives an event's next state and mark
+pub record IsEnabled (p : Parts) (g : Going) (event : Event) : Type 0 where
+  pub after : State
+  pub mark : Mark
+  pub next : step depfile p g.limits g.now event ≡ Next after mark
+
+abbrev pub event_of : Pick → Event
+event_of (pick.Start e) = Start e
+event_of (pick.Skip e w) = Skip e w
+event_of (pick.Stop e) = Stop e
+event_of (pick.Step e) = Step e

@@ -1,0 +1,47 @@
+-- What replaying events comes to.
+use Rattle.std.specs.Prelude.{◌≡◌, ℕ, ◌≤◌, List, [], ◌∷◌, ◌++◌, length, take, slice_get, Some, true}
+use Rattle.plan_image.specs.declared.image.Parts.{Parts}
+use Rattle.plan_machine.specs.Limits.{Limits}
+use Rattle.plan_machine.specs.declared.event.Event.{Event}
+use Rattle.plan_machine.specs.declared.mark.Mark.{Mark}
+use Rattle.plan_machine.specs.declared.refused.Refused.{Refused}
+use Rattle.plan_machine.specs.declared.refused.Refused.TheVariants as refused
+use Rattle.plan_machine.specs.State.{State}
+use Rattle.plan_machine.specs.Going.{Going}
+use Rattle.plan_machine.specs.Step.{Next, NotEnabled, step}
+use Rattle.plan_machine.specs.Depfile.{depfile}
+use Rattle.plan_machine.specs.Runs.{Opens, Runs}
+use Rattle.plan_machine.specs.Wanted.{any_outside}
+
+-- an event was applied, and its mark kept
+pub record Went (p : Parts) (old : Going) (event : Event) (marks : List Mark) (new : Going) (after : List Mark) : Type 0 where
+  pub told : Mark
+  pub did : step depfile p old.limits old.now event ≡ Next new.now told
+  pub limits : new.limits ≡ old.limits
+  pub kept : after ≡ marks ++ told ∷ []
+
+-- events were applied, one after another, and their marks kept
+pub record RunsTo (p : Parts) (old : Going) (events : List Event) (marks : List Mark) (new : Going) : Type 0 where
+  pub run : Runs depfile p old.limits old.now events marks new.now
+  pub limits : new.limits ≡ old.limits
+
+-- the events before a place run, and the one there isn't enabled then
+pub record StopsFrom (p : Parts) (limits : Limits) (start : State) (events : List Event) (n : ℕ) : Type 0 where
+  pub marks : List Mark
+  pub before : State
+  pub run : Runs depfile p limits start (take n events) marks before
+  pub event : Event
+  pub there : slice_get events n ≡ Some event
+  pub refused : step depfile p limits before event ≡ NotEnabled
+
+-- why events weren't applied, and where: the first that isn't enabled, or want of memory
+abbrev pub IsStop : Parts → Limits → State → List Event → ℕ → Refused → Type 0
+IsStop p limits start events n refused.NotEnabled = StopsFrom p limits start events n
+IsStop p limits start events n refused.Memory = n ≤ length events
+IsStop p limits start events n refused.BadTarget = ⊥
+
+-- why events weren't replayed: a target is outside, or they weren't applied from the opening
+abbrev pub IsReplayFault : Parts → Limits → List ℕ → List Event → ℕ → Refused → Type 0
+IsReplayFault p limits targets events n refused.NotEnabled = (start : State) × Opens p targets start × StopsFrom p limits start events n
+IsReplayFault p limits targets events n refused.Memory = n ≤ length events
+IsReplayFault p limits targets events n refused.BadTarget = (n ≡ 0) × (any_outside p targets ≡ true)

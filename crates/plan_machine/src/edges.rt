@@ -1,0 +1,54 @@
+//! What the machine reads of an image's edges, by their numbers.
+
+ghost use Rattle.std.specs.Prelude.{◌≡◌, length};
+ghost use Rattle.plan_verify.specs.Tables.{outputs_of, pool_of, waits_of};
+ghost use Rattle.plan_machine.specs.Total.{has_command};
+
+use plan_image::{Parts, Sort};
+
+/// How many edges there are.
+pub(crate) fn edge_count(parts: &Parts) -> usize
+    ensures { result ≡ length parts.now.edges }
+{
+    parts.edges.len()
+}
+
+/// What an edge waits for.
+pub(crate) fn waits(parts: &Parts, edge: u32) -> &[u32]
+    ensures { result.now ≡ waits_of parts.now edge }
+{
+    match parts.edges.waits(edge as usize) {
+        Some(waits) => waits,
+        None => &[],
+    }
+}
+
+/// The pool of an edge.
+pub(crate) fn pool(parts: &Parts, edge: u32) -> Option<u32>
+    ensures { result ≡ pool_of parts.now edge }
+{
+    match parts.edges.get(edge as usize) {
+        Some(edge) => edge.pool,
+        None => None,
+    }
+}
+
+/// The files that an edge makes.
+pub(crate) fn outputs(parts: &Parts, edge: u32) -> &[u32]
+    ensures { result.now ≡ outputs_of parts.now edge }
+{
+    match parts.edges.get(edge as usize) {
+        Some(edge) => edge.outputs,
+        None => &[],
+    }
+}
+
+/// Whether an edge has a command.
+pub(crate) fn has_command(parts: &Parts, edge: u32) -> bool
+    ensures { result ≡ has_command parts.now edge }
+{
+    match parts.edges.get(edge as usize) {
+        Some(edge) => matches!(edge.sort, Sort::Command),
+        None => false,
+    }
+}

@@ -1,0 +1,398 @@
+//! Where each edge stands and what each slot has, without the books that are kept of it.
+
+ghost use Rattle.std.specs.Prelude.{◌≡◌, ◌≢◌, ◌<◌, ◌^◌, ◌&&◌, Err, IfOk, None, OnErr, Option, Some, length, map, option_map, replicate, slice_get};
+ghost use Rattle.std.specs.List.{list_all};
+ghost use Rattle.plan_image.specs.Code.{code};
+ghost use Rattle.plan_verify.specs.Members.{is_member};
+ghost use Rattle.plan_verify.specs.Tables.{waits_of};
+ghost use Rattle.plan_verify.specs.Turn.{Local, turn};
+ghost use Rattle.plan_verify.specs.declared.value.Value.{Value as Item};
+ghost use Rattle.plan_machine.specs.declared.event.Event.TheVariants.{Reply as Hear, Skip, Start, Step, Stop};
+ghost use Rattle.plan_machine.specs.declared.turned.Turned.TheVariants as turned;
+ghost use Rattle.plan_machine.specs.Applying.{Applied, CanTurn, HasTurned, Settles, is_active, is_unbegun, may_step_by, may_stop_by};
+ghost use Rattle.plan_machine.specs.Hearing.{CanHear, HasHeard, SettlesReply};
+ghost use Rattle.plan_machine.specs.Kept.{phase_in};
+ghost use Rattle.plan_machine.specs.Places.{is_spent};
+ghost use Rattle.plan_machine.specs.Requests.{asked_at, shown, step_asks};
+ghost use Rattle.plan_machine.specs.Runs.{at_first};
+ghost use Rattle.plan_machine.specs.State.{Active, is_ill, is_well, outcome_at, passes, stands, with_status};
+ghost use Rattle.plan_machine.specs.Step.{answer_of};
+ghost use Rattle.plan_machine.specs.Total.{is_wanted, total_of};
+ghost use Rattle.plan_machine.specs.Working.{Works};
+
+use crate::activity::Activity;
+use crate::edges::{edge_count, has_command};
+use crate::mark::{Mark, Outcome};
+use crate::options::Options;
+use crate::refused::Refused;
+use crate::reply::Reply;
+use crate::request::Request;
+use crate::slot::Slot;
+use crate::status::Status;
+use crate::turned::{Heard, Turned};
+use plan_books::Phase;
+use plan_image::{Image, Parts};
+use std::alloc::{AllocError, Global};
+use std::marker::Model;
+
+/// A running image: the options that it was opened with, where each edge stands, and what each slot has.
+#[derive(Drop)]
+pub(crate) struct Machine {
+    pub(crate) options: Options,
+    pub(crate) edges: Vec<Status>,
+    pub(crate) slots: Vec<Slot>,
+}
+
+impl Model for Machine {
+    ghost use Rattle.plan_machine.specs.Going.{Going};
+
+    ghost Value = { Going };
+
+    ghost view = { λ s. record { limits = s.options; now = record { edges = s.edges.items; slots = s.slots.items } } };
+}
+
+/// Where each edge stands at first.
+fn first_statuses(alloc: Global, wanted: &[bool]) -> Result<Vec<Status>, AllocError>
+    ensures { IfOk result (λ edges. edges.items ≡ map at_first wanted.now) }
+{
+    let mut edges = Vec::with_capacity(alloc, wanted.len())?;
+    for is_wanted in wanted {
+        edges.push(Status::at_first(*is_wanted))?;
+    }
+    Ok(edges)
+}
+
+/// Slots that aren't set.
+fn unset_slots(alloc: Global, len: usize) -> Result<Vec<Slot>, AllocError>
+    ensures { IfOk result (λ slots. slots.items ≡ replicate {A = Option Item} len None) }
+{
+    let mut slots = Vec::with_capacity(alloc, len)?;
+    for _i in 0..len {
+        slots.push(Slot::unset())?;
+    }
+    Ok(slots)
+}
+
+impl Machine {
+    /// An image before any event, with these edges wanted and so many slots.
+    pub(crate) fn open(
+        alloc: Global,
+        options: Options,
+        wanted: &[bool],
+        slots: usize,
+    ) -> Result<Machine, AllocError>
+        ensures { IfOk result (λ m. m ≡ record { limits = options; now = record { edges = map at_first wanted.now; slots = replicate {A = Option Item} slots None } }) }
+    {
+        Ok(Machine {
+            options,
+            edges: first_statuses(alloc, wanted)?,
+            slots: unset_slots(alloc, slots)?,
+        })
+    }
+
+    /// How many edges may hold a place at once.
+    pub(crate) fn jobs(&self) -> u32
+        ensures same { result ≡ self.now.limits.jobs }
+        ensures some { 0 < result }
+    {
+        self.options.jobs() as u32
+    }
+
+    /// How many edges may fail before no more are begun; 0 stands for any number.
+    pub(crate) fn keep(&self) -> u32
+        ensures { result ≡ self.now.limits.keep }
+    {
+        self.options.keep()
+    }
+
+    /// Whether an edge hasn't begun.
+    pub(crate) fn is_unbegun(&self, edge: u32) -> bool
+        ensures { result ≡ passes is_unbegun (slice_get self.now.now.edges edge) }
+    {
+        match self.edges.as_slice().get(edge as usize) {
+            Some(status) => status.is_unbegun(),
+            None => false,
+        }
+    }
+
+    /// Whether an edge ended, and not well.
+    pub(crate) fn is_ill(&self, edge: u32) -> bool
+        ensures { result ≡ stands is_ill self.now.now edge }
+    {
+        match self.edges.as_slice().get(edge as usize) {
+            Some(status) => status.is_ill(),
+            None => false,
+        }
+    }
+
+    /// Whether an edge may be stopped once as many failed as are borne.
+    pub(crate) fn is_before_run(&self, image: &Image, edge: u32) -> bool
+        ensures { result ≡ may_stop_by image.now edge (slice_get self.now.now.edges edge) }
+    {
+        match self.edges.as_slice().get(edge as usize) {
+            Some(status) => status.is_before_run(image, edge),
+            None => false,
+        }
+    }
+
+    /// What the books know of where an edge stands.
+    pub(crate) fn phase(&self, image: &Image, edge: u32) -> Phase
+        ensures { result ≡ phase_in image.now edge (slice_get self.now.now.edges edge) }
+    {
+        match self.edges.as_slice().get(edge as usize) {
+            Some(status) => status.phase(image, edge),
+            None => Phase::NotWanted,
+        }
+    }
+
+    /// Whether a target needs an edge.
+    fn is_wanted(&self, edge: u32) -> bool
+        ensures { result ≡ stands is_wanted self.now.now edge }
+    {
+        match self.edges.as_slice().get(edge as usize) {
+            Some(status) => status.is_wanted(),
+            None => false,
+        }
+    }
+
+    /// How many edges have a command and are wanted.
+    pub(crate) fn total(&self, parts: &Parts) -> u64
+        requires { length parts.now.edges < 2 ^ 32 }
+        ensures { result ≡ total_of parts.now self.now.now }
+    {
+        let mut total = 0u64;
+        for edge in 0..edge_count(parts) as u32 {
+            if has_command(parts, edge) & self.is_wanted(edge) {
+                total += 1;
+            }
+        }
+        total
+    }
+
+    /// How an edge came out, where it has an outcome.
+    pub(crate) fn outcome(&self, edge: u32) -> Option<Outcome>
+        ensures { result ≡ outcome_at (slice_get self.now.now.edges edge) }
+    {
+        match self.edges.as_slice().get(edge as usize) {
+            Some(status) => status.outcome(),
+            None => None,
+        }
+    }
+
+    /// What an edge asked that awaits a reply.
+    pub(crate) fn asked<'a>(&'a self, image: &'a Image, edge: u32) -> Option<Request<'a>>
+        requires { (l : Local) → slice_get self.now.now.edges edge ≡ Some (Active l) → Works (turn image.now edge self.now.now.slots l) }
+        ensures { option_map shown result ≡ asked_at image.now self.now.now edge }
+    {
+        match self.edges.as_slice().get(edge as usize) {
+            Some(status) => status.asked(image, edge, &self.slots),
+            None => None,
+        }
+    }
+
+    /// What an edge's next step asks.
+    pub(crate) fn step_request<'a>(&'a self, image: &'a Image, edge: u32) -> Option<Request<'a>>
+        requires { (l : Local) → slice_get self.now.now.edges edge ≡ Some (Active l) → Works (turn image.now edge self.now.now.slots l) }
+        ensures { option_map shown result ≡ step_asks image.now edge self.now.now.slots (slice_get self.now.now.edges edge) }
+    {
+        match self.edges.as_slice().get(edge as usize) {
+            Some(status) => status.step_request(image, edge, &self.slots),
+            None => None,
+        }
+    }
+
+    /// An edge stands otherwise.
+    fn put(&mut self, edge: u32, status: Status)
+        requires { edge < length self.old.now.edges }
+        ensures { self.new ≡ record { limits = self.old.limits; now = with_status self.old.now edge status } }
+    {
+        self.edges[edge as usize] = status;
+    }
+
+    /// Starts an edge that may be started.
+    #[tactic(auto, using(crate::proofs::Applies::start_is, crate::proofs::Applies::start_not, crate::proofs::Applies::start_within))]
+    pub(crate) fn start(
+        &mut self,
+        alloc: Global,
+        _image: &Image,
+        edge: u32,
+        may: bool,
+    ) -> Result<Mark, Refused>
+        requires { may ≡ (passes is_unbegun (slice_get self.old.now.edges edge) && list_all (stands is_well self.old.now) (waits_of _image.now edge)) }
+        ensures { Applied _image.now self.old (Start edge) result self.new }
+    {
+        if !may {
+            return Err(Refused::NotEnabled);
+        }
+        let activity = Activity::begin(alloc)?;
+        self.put(edge, Status::active(activity));
+        Ok(Mark::Started(edge))
+    }
+
+    /// Skips an edge that may be skipped.
+    #[tactic(auto, using(crate::proofs::Applies::skip_is, crate::proofs::Applies::skip_not, crate::proofs::Applies::skip_within))]
+    pub(crate) fn skip(
+        &mut self,
+        _image: &Image,
+        edge: u32,
+        wait: u32,
+        may: bool,
+    ) -> Result<Mark, Refused>
+        requires { may ≡ (passes is_unbegun (slice_get self.old.now.edges edge) && (is_member wait (waits_of _image.now edge) && stands is_ill self.old.now wait)) }
+        ensures applied { Applied _image.now self.old (Skip edge wait) result self.new }
+        ensures frugal { result ≢ Err Refused.Memory }
+    {
+        if !may {
+            return Err(Refused::NotEnabled);
+        }
+        self.put(edge, Status::over(Outcome::Skipped(wait)));
+        Ok(Mark::Skipped(edge, wait))
+    }
+
+    /// Stops an edge that may be stopped.
+    #[tactic(auto, using(crate::proofs::Applies::stop_is, crate::proofs::Applies::stop_not, crate::proofs::Applies::stop_within))]
+    pub(crate) fn stop(&mut self, _image: &Image, edge: u32, may: bool) -> Result<Mark, Refused>
+        requires { may ≡ (is_spent self.old.limits self.old.now && may_stop_by _image.now edge (slice_get self.old.now.edges edge)) }
+        ensures applied { Applied _image.now self.old (Stop edge) result self.new }
+        ensures frugal { result ≢ Err Refused.Memory }
+    {
+        if !may {
+            return Err(Refused::NotEnabled);
+        }
+        self.put(edge, Status::over(Outcome::Stopped));
+        Ok(Mark::Stopped(edge))
+    }
+
+    /// Makes a turn of an edge that is under way.
+    fn make_turn(&mut self, alloc: Global, image: &Image, edge: u32) -> Result<Turned, AllocError>
+        requires short { length (code image.now edge) < 2 ^ 32 }
+        requires active { (l : Local) × (slice_get self.old.now.edges edge ≡ Some (Active l)) × CanTurn image.now self.old.now.slots edge l }
+        ensures ok { IfOk result (λ r. HasTurned image.now self.old edge r self.new) }
+        ensures err { OnErr result (self.new ≡ self.old) }
+    {
+        let status = &mut self.edges[edge as usize];
+        status.step(alloc, image, edge, &mut self.slots)
+    }
+
+    /// Whether an edge that is under way ran its command.
+    fn has_run(&self, edge: u32) -> bool
+        ensures { (l : Local) → slice_get self.now.now.edges edge ≡ Some (Active l) → result ≡ l.ran }
+    {
+        match self.edges.as_slice().get(edge as usize) {
+            Some(status) => status.has_run(),
+            None => false,
+        }
+    }
+
+    /// An edge ends well.
+    fn finish(&mut self, edge: u32) -> Mark
+        requires { edge < length self.old.now.edges }
+        ensures { Settles self.old edge turned.Ended result self.new }
+    {
+        let ran = self.has_run(edge);
+        let outcome = if ran { Outcome::Ran } else { Outcome::Clean };
+        self.put(edge, Status::over(outcome));
+        Mark::Ended(edge, ran)
+    }
+
+    /// What becomes of an edge that made a turn.
+    fn settle(&mut self, edge: u32, turned: Turned) -> Mark
+        requires { edge < length self.old.now.edges }
+        ensures { Settles self.old edge turned result self.new }
+    {
+        match turned {
+            Turned::Moved | Turned::Stored => Mark::Moved(edge),
+            Turned::Took => Mark::Took(edge),
+            Turned::Released => Mark::Released(edge),
+            Turned::Asked => Mark::Asked(edge),
+            Turned::Ended => self.finish(edge),
+            Turned::Failed(cause) => {
+                self.put(edge, Status::over(Outcome::Failed(cause)));
+                Mark::Failed(edge, cause)
+            }
+        }
+    }
+
+    /// One step of an edge that may make it.
+    #[tactic(auto, using(crate::proofs::Applies::step_is, crate::proofs::Applies::step_not, crate::proofs::Applies::step_active, crate::proofs::Applies::settle_within))]
+    pub(crate) fn step(
+        &mut self,
+        alloc: Global,
+        image: &Image,
+        edge: u32,
+        may: bool,
+    ) -> Result<Mark, Refused>
+        requires short { length (code image.now edge) < 2 ^ 32 }
+        requires may { may ≡ may_step_by image.now self.old.limits self.old.now edge (slice_get self.old.now.edges edge) }
+        requires turns { (l : Local) → slice_get self.old.now.edges edge ≡ Some (Active l) → CanTurn image.now self.old.now.slots edge l }
+        ensures { Applied image.now self.old (Step edge) result self.new }
+    {
+        if !may {
+            return Err(Refused::NotEnabled);
+        }
+        let turned = self.make_turn(alloc, image, edge)?;
+        Ok(self.settle(edge, turned))
+    }
+
+    /// Whether an edge is under way.
+    fn is_under_way(&self, edge: u32) -> bool
+        ensures { result ≡ passes is_active (slice_get self.now.now.edges edge) }
+    {
+        match self.edges.as_slice().get(edge as usize) {
+            Some(status) => status.is_active(),
+            None => false,
+        }
+    }
+
+    /// Gives a reply to an edge that is under way.
+    fn make_answer(
+        &mut self,
+        alloc: Global,
+        image: &Image,
+        edge: u32,
+        reply: Reply,
+    ) -> Result<Heard, AllocError>
+        requires short { length (code image.now edge) < 2 ^ 32 }
+        requires active { (l : Local) × (slice_get self.old.now.edges edge ≡ Some (Active l)) × CanHear image.now edge (answer_of reply) l }
+        ensures ok { IfOk result (λ r. HasHeard image.now self.old edge (answer_of reply) r self.new) }
+        ensures err { OnErr result (self.new ≡ self.old) }
+    {
+        let status = &mut self.edges[edge as usize];
+        status.hear(alloc, image, edge, reply)
+    }
+
+    /// What becomes of an edge that heard a reply.
+    fn settle_reply(&mut self, edge: u32, heard: Heard) -> Result<Mark, Refused>
+        requires { edge < length self.old.now.edges }
+        ensures { SettlesReply self.old edge heard result self.new }
+    {
+        match heard {
+            Heard::On => Ok(Mark::Answered(edge)),
+            Heard::Failed(cause) => {
+                self.put(edge, Status::over(Outcome::Failed(cause)));
+                Ok(Mark::Failed(edge, cause))
+            }
+            Heard::Unfit => Err(Refused::NotEnabled),
+        }
+    }
+
+    /// A reply to an edge.
+    #[tactic(auto, using(crate::proofs::HearingLemmas::hear_not, crate::proofs::HearingLemmas::hear_active, crate::proofs::HearingLemmas::reply_within))]
+    pub(crate) fn hear(
+        &mut self,
+        alloc: Global,
+        image: &Image,
+        edge: u32,
+        reply: Reply,
+    ) -> Result<Mark, Refused>
+        requires short { length (code image.now edge) < 2 ^ 32 }
+        requires hears { (l : Local) → slice_get self.old.now.edges edge ≡ Some (Active l) → CanHear image.now edge (answer_of reply) l }
+        ensures { Applied image.now self.old (Hear edge reply) result self.new }
+    {
+        if !self.is_under_way(edge) {
+            return Err(Refused::NotEnabled);
+        }
+        let heard = self.make_answer(alloc, image, edge, reply)?;
+        self.settle_reply(edge, heard)
+    }
+}

@@ -1,0 +1,107 @@
+//! What can happen next: without a reply, or by one.
+
+ghost use Rattle.std.specs.Prelude.{◌≡◌, ◌⊎◌, ℕ, IfNone, IfSome, IsSome, Some, option_map, slice_get, true};
+ghost use Rattle.plan_verify.specs.Turn.{Local};
+ghost use Rattle.plan_machine.specs.Applying.{CanTurn};
+ghost use Rattle.plan_machine.specs.Kept.{AreKept, IsStateOf};
+ghost use Rattle.plan_machine.specs.NeverStuck.{Awaits, is_own};
+ghost use Rattle.plan_machine.specs.Picking.{IsEnabled, event_of};
+ghost use Rattle.plan_machine.specs.Requests.{Asks, AsksNothing, asked_at, asks_by, shown};
+ghost use Rattle.plan_machine.specs.State.{Active, has_ended};
+
+use crate::event::Event;
+use crate::request::Request;
+use crate::state::State;
+use plan_books::Pick;
+use plan_image::Image;
+use plan_verify::{
+    Verified, all_turns_pay, instructions_fit, replies_are_safe, stays_typed, steps_are_safe,
+    tables_are_in_range,
+};
+
+/// The event of what the books pick.
+fn event_of(pick: Pick) -> Event
+    ensures { result ≡ event_of pick }
+{
+    match pick {
+        Pick::Start(edge) => Event::Start(edge),
+        Pick::Skip(edge, wait) => Event::Skip(edge, wait),
+        Pick::Stop(edge) => Event::Stop(edge),
+        Pick::Step(edge) => Event::Step(edge),
+    }
+}
+
+impl State {
+    /// A start, a skip, a stop or a step that is enabled: a step where there is one. None exactly where none is enabled;
+    /// then the run has ended, or an edge awaits a reply. It takes no memory, and as long for any image.
+    pub fn pick(&self, image: &Verified) -> Option<Event>
+        requires { IsStateOf image.now self.now }
+        ensures enabled { IfSome result (λ event. IsEnabled image.now self.now.going event) }
+        ensures own { IfSome result (λ event. is_own event ≡ true) }
+        ensures none { IfNone result ((event : Event) → is_own event ≡ true → IsEnabled image.now self.now.going event → ⊥) }
+        ensures waits { IfNone result ((has_ended self.now.going.now ≡ true) ⊎ Awaits self.now.going.now) }
+    {
+        all_turns_pay();
+        instructions_fit();
+        replies_are_safe();
+        stays_typed();
+        steps_are_safe();
+        tables_are_in_range();
+        let _tables = image.image();
+        let jobs = self.machine.jobs();
+        let keep = self.machine.keep();
+        match self.books.pick(&self.plan, jobs, keep) {
+            Some(pick) => Some(event_of(pick)),
+            None => None,
+        }
+    }
+
+    /// What an edge asked, exactly where it awaits a reply. It takes no memory.
+    pub fn request<'a>(&'a self, image: &'a Verified, edge: u32) -> Option<Request<'a>>
+        requires { IsStateOf image.now self.now }
+        ensures asked { option_map shown result ≡ asked_at image.now self.now.going.now edge }
+        ensures some { (l : Local) → slice_get self.now.going.now.edges edge ≡ Some (Active l) → l.asked ≡ true → IsSome result }
+    {
+        all_turns_pay();
+        instructions_fit();
+        replies_are_safe();
+        stays_typed();
+        steps_are_safe();
+        tables_are_in_range();
+        let tables = image.image();
+        self.machine.asked(tables, edge)
+    }
+
+    /// What an event would ask, by where its edge stands.
+    fn asked_by<'a>(&'a self, image: &'a Image, event: &Event) -> Option<Request<'a>>
+        requires kept { AreKept image.now self.now.going.now self.now.plan self.now.books }
+        requires turns { (e : ℕ) (l : Local) → slice_get self.now.going.now.edges e ≡ Some (Active l) → CanTurn image.now self.now.going.now.slots e l }
+        ensures { option_map shown result ≡ asks_by image.now self.now.going.limits self.now.going.now event.now }
+    {
+        match event {
+            Event::Step(edge) => {
+                if !self.can_step(image, *edge) {
+                    return None;
+                }
+                self.machine.step_request(image, *edge)
+            }
+            _ => None,
+        }
+    }
+
+    /// What an event would ask, exactly where it is enabled and asks; steps alone do. It takes no memory.
+    pub fn asks<'a>(&'a self, image: &'a Verified, event: &Event) -> Option<Request<'a>>
+        requires { IsStateOf image.now self.now }
+        ensures asks { IfSome result (λ r. Asks image.now self.now.going event.now (shown r)) }
+        ensures none { IfNone result (AsksNothing image.now self.now.going event.now) }
+    {
+        all_turns_pay();
+        instructions_fit();
+        replies_are_safe();
+        stays_typed();
+        steps_are_safe();
+        tables_are_in_range();
+        let tables = image.image();
+        self.asked_by(tables, event)
+    }
+}

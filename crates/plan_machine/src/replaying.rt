@@ -1,0 +1,120 @@
+//! Replaying events: a whole run in one call.
+
+ghost use Rattle.std.specs.Prelude.{◌≡◌, ◌≢◌, ◌+◌, ◌≤◌, [], IfErr, IfOk, OnOk, length};
+ghost use Rattle.plan_verify.specs.Budget.{image_budget};
+ghost use Rattle.plan_verify.specs.Turn.{Flaw};
+ghost use Rattle.plan_machine.specs.declared.event.Event.{Event as Happening};
+ghost use Rattle.plan_machine.specs.Depfile.{depfile};
+ghost use Rattle.plan_machine.specs.InBudget.{all_bytes};
+ghost use Rattle.plan_machine.specs.Kept.{IsStateOf};
+ghost use Rattle.plan_machine.specs.Orderly.{IsOrderly};
+ghost use Rattle.plan_machine.specs.Replaying.{IsReplayFault, IsStop, RunsTo, Went};
+ghost use Rattle.plan_machine.specs.Runs.{Reached};
+ghost use Rattle.plan_machine.specs.Step.{NotEnabled, Wrong, step};
+
+use crate::event::Event;
+use crate::laws::{depfiles_are_frugal, marks_are_orderly, never_wrong, stays_in_budget};
+use crate::mark::Mark;
+use crate::options::Options;
+use crate::refused::Refused;
+use crate::state::State;
+use plan_verify::Verified;
+use std::alloc::Global;
+
+/// Applies a copy of an event, and keeps its mark.
+fn go(
+    state: &mut State,
+    image: &Verified,
+    event: &Event,
+    marks: &mut Vec<Mark>,
+) -> Result<(), Refused>
+    requires { IsStateOf image.now state.old }
+    ensures ok { OnOk result (Went image.now state.old.going event.now marks.old.items state.new.going marks.new.items) }
+    ensures refused { IfErr result (λ r. r ≡ Refused.NotEnabled → step depfile image.now state.old.going.limits state.old.going.now event.now ≡ NotEnabled) }
+    ensures inside { IfErr result (λ r. r ≢ Refused.BadTarget) }
+    ensures state { IsStateOf image.now state.new }
+{
+    let event = event.copy()?;
+    match state.apply(image, event) {
+        Ok(mark) => {
+            marks.push(mark)?;
+            Ok(())
+        }
+        Err(refused) => Err(refused),
+    }
+}
+
+/// Applies events, one after another, and keeps their marks; a refusal has its place.
+fn go_through(
+    state: &mut State,
+    image: &Verified,
+    events: &[Event],
+    marks: &mut Vec<Mark>,
+) -> Result<(), (usize, Refused)>
+    requires state { IsStateOf image.now state.old }
+    requires marks { marks.old.items ≡ [] }
+    ensures ok { OnOk result (RunsTo image.now state.old.going events.now marks.new.items state.new.going) }
+    ensures err { IfErr result (λ e. IsStop image.now state.old.going.limits state.old.going.now events.now e.0 e.1) }
+    ensures state { IsStateOf image.now state.new }
+{
+    for i in 0..events.len() {
+        match go(state, image, &events[i], marks) {
+            Ok(()) => {}
+            Err(refused) => return Err((i, refused)),
+        }
+    }
+    Ok(())
+}
+
+/// The state that events reach from another, and their marks.
+fn replay_on(
+    alloc: Global,
+    image: &Verified,
+    state: State,
+    events: &[Event],
+) -> Result<(State, Vec<Mark>), (usize, Refused)>
+    requires { IsStateOf image.now state }
+    ensures ok { IfOk result (λ x. RunsTo image.now state.going events.now x.1.items x.0.going) }
+    ensures state { IfOk result (λ x. IsStateOf image.now x.0) }
+    ensures err { IfErr result (λ e. IsStop image.now state.going.limits state.going.now events.now e.0 e.1) }
+{
+    let mut state = state;
+    let mut marks = Vec::new(alloc);
+    match go_through(&mut state, image, events, &mut marks) {
+        Ok(()) => Ok((state, marks)),
+        Err(refused) => Err(refused),
+    }
+}
+
+/// The state that events reach from the opening for some targets, and their marks: a whole run. No event of it went
+/// wrong, nor can one of that state; its marks are orderly; its events are at most the image's budget and the bytes of
+/// dependencies that its replies bring.
+///
+/// # Errors
+/// With the place of the event, from 0: `NotEnabled` where it isn't enabled, and those before it ran; `Memory`. The
+/// opening's refusals stand at 0: `BadTarget`, where a target is no edge, and `Memory`.
+pub fn replay(
+    alloc: Global,
+    image: &Verified,
+    options: Options,
+    targets: &[u32],
+    events: &[Event],
+) -> Result<(State, Vec<Mark>), (usize, Refused)>
+    ensures reached { IfOk result (λ x. Reached depfile image.now options targets.now events.now x.1.items x.0.going.now) }
+    ensures limits { IfOk result (λ x. x.0.going.limits ≡ options) }
+    ensures state { IfOk result (λ x. IsStateOf image.now x.0) }
+    ensures safe { IfOk result (λ x. (event : Happening) (flaw : Flaw) → step depfile image.now options x.0.going.now event ≢ Wrong flaw) }
+    ensures orderly { IfOk result (λ x. IsOrderly image.now options x.1.items) }
+    ensures bounded { OnOk result (length events.now ≤ image_budget image.now + all_bytes events.now) }
+    ensures refused { IfErr result (λ e. IsReplayFault image.now options targets.now events.now e.0 e.1) }
+{
+    never_wrong();
+    marks_are_orderly();
+    stays_in_budget();
+    depfiles_are_frugal();
+    let _tables = image.image();
+    match State::open(alloc, image, options, targets) {
+        Ok(state) => replay_on(alloc, image, state, events),
+        Err(refused) => Err((0, refused)),
+    }
+}

@@ -1,0 +1,79 @@
+//! What a slot has.
+
+ghost use Rattle.std.specs.Prelude.{◌≡◌, IfOk, None, Some};
+
+use plan_verify::{PathList, Value, Words};
+use std::alloc::AllocError;
+use std::marker::Model;
+
+/// Nothing, or a value: 16 bytes, where an `Option` of a value would take 24.
+#[derive(Drop)]
+pub(crate) enum Stored {
+    /// It isn't set.
+    Unset,
+    /// A stamp.
+    Stamp(u64),
+    /// A flag.
+    Flag(bool),
+    /// A text.
+    Text(Words),
+    /// Paths, and how many of them were asked for.
+    Paths(u32, PathList),
+    /// Paths that were all asked for.
+    Swept(PathList),
+}
+
+/// What a slot has, which contracts see as a value or none.
+#[derive(Drop)]
+pub(crate) struct Slot {
+    stored: Stored,
+}
+
+impl Model for Slot {
+    ghost use Rattle.std.specs.Prelude.{Option};
+    ghost use Rattle.plan_verify.specs.declared.value.Value.{Value as Item};
+    ghost use Rattle.plan_machine.specs.Slots.{value_of};
+
+    ghost Value = { Option Item };
+
+    ghost view = { λ s. value_of s.stored };
+}
+
+impl Slot {
+    /// A slot that isn't set.
+    pub(crate) fn unset() -> Slot
+        ensures { result ≡ None }
+    {
+        Slot {
+            stored: Stored::Unset,
+        }
+    }
+
+    /// A slot that has a value.
+    pub(crate) fn of(value: Value) -> Slot
+        ensures { result ≡ Some value }
+    {
+        let stored = match value {
+            Value::Stamp(stamp) => Stored::Stamp(stamp),
+            Value::Flag(flag) => Stored::Flag(flag),
+            Value::Text(text) => Stored::Text(text),
+            Value::Paths(swept, paths) => Stored::Paths(swept, paths),
+            Value::Swept(paths) => Stored::Swept(paths),
+        };
+        Slot { stored }
+    }
+
+    /// A copy of what it has.
+    pub(crate) fn load(&self) -> Result<Option<Value>, AllocError>
+        ensures { IfOk result (λ v. v ≡ self.now) }
+    {
+        match &self.stored {
+            Stored::Unset => Ok(None),
+            Stored::Stamp(stamp) => Ok(Some(Value::Stamp(*stamp))),
+            Stored::Flag(flag) => Ok(Some(Value::Flag(*flag))),
+            Stored::Text(text) => Ok(Some(Value::Text(text.copy()?))),
+            Stored::Paths(swept, paths) => Ok(Some(Value::Paths(*swept, paths.copy()?))),
+            Stored::Swept(paths) => Ok(Some(Value::Swept(paths.copy()?))),
+        }
+    }
+}

@@ -1,0 +1,244 @@
+//! A stack of values, whose kinds the verifier knows.
+
+ghost use Rattle.std.specs.Prelude.{◌≡◌, ◌<◌, ◌≤◌, ◌∷◌, [], IfOk, Some, drop, length, slice_get};
+ghost use Rattle.plan_image.specs.declared.instr.Instr.TheVariants as op;
+ghost use Rattle.plan_verify.specs.Turn.{calculate, same_text, On};
+ghost use Rattle.plan_machine.specs.Requests.{HasPathsAt, HasStampAt, HasSweptAt, HasTextAt};
+ghost use Rattle.plan_machine.specs.Working.{Computes, HasFlag, HasPaths, HasStamp, HasText, IsPlain, IsShallow};
+
+use arrayvec::ArrayVec;
+use plan_image::Instr;
+use plan_verify::{PathList, Value, Words};
+use std::alloc::{AllocError, Global};
+use std::marker::Model;
+
+/// A stack of at most 64 values, which has room for all of them; contracts see the topmost first.
+#[derive(Drop)]
+pub(crate) struct Stack {
+    values: Box<ArrayVec<Value, 64>>,
+}
+
+impl Model for Stack {
+    ghost use Rattle.std.specs.Prelude.{List, reverse};
+    ghost use Rattle.plan_verify.specs.declared.value.Value.{Value as Item};
+
+    ghost Value = { List Item };
+
+    ghost view = { λ s. reverse s.values.value.items };
+}
+
+/// Whether two texts are equal.
+#[tactic(auto, using(crate::proofs::AskingLemmas::same_bytes))]
+fn same_text(first: &[u8], last: &[u8]) -> bool
+    ensures { result ≡ same_text first.now last.now }
+{
+    first == last
+}
+
+impl Stack {
+    /// An empty stack.
+    pub(crate) fn new(alloc: Global) -> Result<Self, AllocError>
+        ensures { IfOk result (λ s. s ≡ []) }
+    {
+        let values = Box::new(alloc, ArrayVec::new())?;
+        Ok(Stack { values })
+    }
+
+    /// Puts a value on top.
+    pub(crate) fn push(&mut self, value: Value)
+        requires { length self.old < 64 }
+        ensures { self.new ≡ value ∷ self.old }
+    {
+        self.values.push(value);
+    }
+
+    /// Takes the topmost value.
+    pub(crate) fn pop(&mut self) -> Value
+        requires { 0 < length self.old }
+        ensures { self.old ≡ result ∷ self.new }
+    {
+        match self.values.pop() {
+            Some(value) => value,
+            None => unreachable!(),
+        }
+    }
+
+    /// How many values there are.
+    pub(crate) fn len(&self) -> usize
+        ensures len { result ≡ length self.now }
+        ensures few { length self.now ≤ 64 }
+    {
+        self.values.as_slice().len()
+    }
+
+    /// Takes the topmost value away, where there is one.
+    pub(crate) fn discard(&mut self)
+        ensures { self.new ≡ drop 1 self.old }
+    {
+        let _ = self.values.pop();
+    }
+
+    /// Takes a stamp.
+    pub(crate) fn pop_stamp(&mut self) -> u64
+        requires { HasStamp self.old }
+        ensures { self.old ≡ Value.Stamp result ∷ self.new }
+    {
+        match self.pop() {
+            Value::Stamp(stamp) => stamp,
+            _ => unreachable!(),
+        }
+    }
+
+    /// Takes a flag.
+    pub(crate) fn pop_flag(&mut self) -> bool
+        requires { HasFlag self.old }
+        ensures { self.old ≡ Value.Flag result ∷ self.new }
+    {
+        match self.pop() {
+            Value::Flag(flag) => flag,
+            _ => unreachable!(),
+        }
+    }
+
+    /// Takes a text.
+    pub(crate) fn pop_text(&mut self) -> Words
+        requires { HasText self.old }
+        ensures { self.old ≡ Value.Text result ∷ self.new }
+    {
+        match self.pop() {
+            Value::Text(text) => text,
+            _ => unreachable!(),
+        }
+    }
+
+    /// Takes paths, with how many were swept.
+    pub(crate) fn pop_paths(&mut self) -> (u32, PathList)
+        requires { HasPaths self.old }
+        ensures { self.old ≡ Value.Paths result.0 result.1 ∷ self.new }
+    {
+        match self.pop() {
+            Value::Paths(swept, paths) => (swept, paths),
+            _ => unreachable!(),
+        }
+    }
+
+    /// Whether two texts are equal, in their place.
+    pub(crate) fn equal(&mut self)
+        requires computes { Computes (calculate op.Equal self.old) }
+        requires shallow { IsShallow (calculate op.Equal self.old) }
+        ensures { calculate op.Equal self.old ≡ On self.new }
+    {
+        let last = self.pop_text();
+        let first = self.pop_text();
+        self.push(Value::Flag(same_text(first.as_slice(), last.as_slice())));
+    }
+
+    /// Calculates without taking memory.
+    pub(crate) fn calculate(&mut self, instr: Instr)
+        requires plain { IsPlain instr }
+        requires computes { Computes (calculate instr self.old) }
+        requires shallow { IsShallow (calculate instr self.old) }
+        ensures { calculate instr self.old ≡ On self.new }
+    {
+        match instr {
+            Instr::Older => {
+                let last = self.pop_stamp();
+                let first = self.pop_stamp();
+                self.push(Value::Stamp(first.min(last)));
+            }
+            Instr::Newer => {
+                let last = self.pop_stamp();
+                let first = self.pop_stamp();
+                self.push(Value::Stamp(first.max(last)));
+            }
+            Instr::Before => {
+                let last = self.pop_stamp();
+                let first = self.pop_stamp();
+                self.push(Value::Flag(first < last));
+            }
+            Instr::Same => {
+                let last = self.pop_stamp();
+                let first = self.pop_stamp();
+                self.push(Value::Flag(first == last));
+            }
+            Instr::IsMissing => {
+                let stamp = self.pop_stamp();
+                self.push(Value::Flag(stamp == 0));
+            }
+            Instr::Or => {
+                let last = self.pop_flag();
+                let first = self.pop_flag();
+                self.push(Value::Flag(first || last));
+            }
+            Instr::Not => {
+                let flag = self.pop_flag();
+                self.push(Value::Flag(!flag));
+            }
+            Instr::Flag(flag) => self.push(Value::Flag(flag)),
+            Instr::Zero => self.push(Value::Stamp(0)),
+            Instr::Drop => {
+                let _ = self.pop();
+            }
+            Instr::Swap => {
+                let last = self.pop();
+                let first = self.pop();
+                self.push(last);
+                self.push(first);
+            }
+            _ => unreachable!(),
+        }
+    }
+
+    /// The value at a depth, the topmost at 0.
+    fn peek(&self, depth: usize) -> &Value
+        requires { depth < length self.now }
+        ensures { slice_get self.now depth ≡ Some result.now }
+    {
+        let values = self.values.as_slice();
+        &values[values.len() - 1 - depth]
+    }
+
+    /// The text at a depth.
+    pub(crate) fn text_at(&self, depth: usize) -> &[u8]
+        requires { HasTextAt depth self.now }
+        ensures { slice_get self.now depth ≡ Some (Value.Text result.now) }
+    {
+        match self.peek(depth) {
+            Value::Text(text) => text.as_slice(),
+            _ => unreachable!(),
+        }
+    }
+
+    /// The stamp at a depth.
+    pub(crate) fn stamp_at(&self, depth: usize) -> u64
+        requires { HasStampAt depth self.now }
+        ensures { slice_get self.now depth ≡ Some (Value.Stamp result) }
+    {
+        match self.peek(depth) {
+            Value::Stamp(stamp) => *stamp,
+            _ => unreachable!(),
+        }
+    }
+
+    /// The topmost paths, with how many were swept.
+    pub(crate) fn paths_at(&self) -> (u32, &PathList)
+        requires { HasPathsAt self.now }
+        ensures { slice_get self.now 0 ≡ Some (Value.Paths result.0 result.1.now) }
+    {
+        match self.peek(0) {
+            Value::Paths(swept, paths) => (*swept, paths),
+            _ => unreachable!(),
+        }
+    }
+
+    /// The topmost swept paths.
+    pub(crate) fn swept_at(&self) -> &PathList
+        requires { HasSweptAt self.now }
+        ensures { slice_get self.now 0 ≡ Some (Value.Swept result.now) }
+    {
+        match self.peek(0) {
+            Value::Swept(paths) => paths,
+            _ => unreachable!(),
+        }
+    }
+}
