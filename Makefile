@@ -70,6 +70,7 @@ tests: built
 	python3 tests/manifest_names.py
 	python3 tests/run_rows.py $(PROGRAM)
 	python3 tests/run_images.py $(PROGRAM)
+	python3 tests/run_compiled.py $(PROGRAM)
 	python3 tests/against_ninja.py $(PROGRAM)
 	python3 tests/fail_alloc.py $(PROGRAM)
 	python3 tests/real/real.py --short $(PROGRAM)

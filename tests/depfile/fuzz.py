@@ -1,5 +1,5 @@
 #!/usr/bin/env python3
-"""Compares what plan_depfile says of depfiles with the plain reading of reading.py: random texts cut at random places,
+"""Compares what plan_depfile says of depfiles with the plain reading of depfiles.py: random texts cut at random places,
 and what gcc and clang write for sources and headers with blanks, `#`, `$` and colons in their names.
 
 The program of dep_read.rt.txt beside this file is proved and built in a copy of the two crates (some minutes from nothing).
@@ -14,7 +14,7 @@ import subprocess
 import sys
 import tempfile
 
-import reading
+import depfiles
 
 HERE = pathlib.Path(__file__).resolve().parent
 ROOT = HERE.parent.parent
@@ -88,7 +88,7 @@ def compare(program, home, texts, rng):
     (home / "cases").write_bytes(b"".join(
         case(text, rng.randrange(len(text) + 1), rng.choice([1, 2, 3, 7, 65536]), rng.choice([0, 3])) for text in texts))
     found = list(answers(subprocess.run([program], cwd=home, check=True, stdout=subprocess.PIPE).stdout))
-    wrong = [(text, said) for text, said in zip(texts, found) if said != reading.read(text)]
+    wrong = [(text, said) for text, said in zip(texts, found) if said != depfiles.read(text)]
     if len(found) != len(texts):
         wrong.append((b"", f"{len(found)} answers for {len(texts)} texts"))
     return len(texts) - len(wrong), wrong
@@ -108,7 +108,7 @@ def main():
         texts = [text for _, _, text in real] + [random_text(rng) for _ in range(asked.count)]
         passed, wrong = compare(program, home / "run", texts, rng)
     for text, said in wrong[:20]:
-        print(f"{text!r}\n  program: {said}\n  reading: {reading.read(text)}")
+        print(f"{text!r}\n  program: {said}\n  reading: {depfiles.read(text)}")
     print(f"{passed} passed, {len(wrong)} failed")
     return 1 if wrong else 0
 

@@ -1,0 +1,213 @@
+#!/usr/bin/env python3
+"""Compares the images that `compile` makes of random manifests with the manifests, and their runs with the rule.
+
+COUNT manifests are written (compiler/random_builds.py) of which it is known what each edge is. The image has to say the
+same of each edge, and `verify` has to accept it. Then its edges are run one after the other, in an order in which each
+stands behind those that it waits for: the code by the plain machine (images/running.py), and beside it the out-of-date
+rule, written from its words (compiler/rule.py). Both get the same replies, by random numbers; they have to ask the
+same, and to end alike. What an edge leaves for its users is compared where they use it.
+
+The last line is `N passed, M failed`: edges.
+"""
+import os
+import pathlib
+import random
+import sys
+import tempfile
+from collections.abc import Iterator
+
+import programs
+
+HERE = pathlib.Path(__file__).resolve().parent
+sys.path[:0] = [str(HERE / "images"), str(HERE / "compiler")]
+
+import reading
+import rule
+from image import SORTS, Edge, Image, code_of
+from random_builds import POOLS, Build, Writer
+from rule import Facts, Made, Reply, Request, Source
+from running import Activity, Ended, Failed, Value
+
+Ending = tuple[str, object]
+
+
+class Known:
+    """What is known of a manifest: its edges, and what follows from them."""
+
+    def __init__(self, builds: list[Build], targets: list[str]) -> None:
+        self.builds = builds
+        self.maker = {path: number for number, build in enumerate(builds) for path in build.made()}
+        self.waits = [sorted({self.maker[path] for path in build.named() + build.ordered() if path in self.maker})
+                      for build in builds]
+        self.ranks = dict[int, int]()
+        for number in range(len(builds)):
+            self.rank(number)
+        used = {path for build in builds for path in build.named() + build.ordered()}
+        last = [number for number, build in enumerate(builds) if any(path not in used for path in build.made())]
+        self.defaults = sorted({self.maker[path] for path in targets}) if targets else last
+
+    def rank(self, number: int) -> int:
+        if number not in self.ranks:
+            self.ranks[number] = 1 + max(map(self.rank, self.waits[number]), default=-1)
+        return self.ranks[number]
+
+    def in_order(self) -> list[int]:
+        return sorted(range(len(self.builds)), key=lambda number: self.ranks[number])
+
+
+def said(image: Image, edge: Edge) -> tuple[object, ...]:
+    """What an image says of an edge."""
+    pool = None if edge.pool is None else (image.pools[edge.pool].name.decode(), image.pools[edge.pool].depth)
+    return (SORTS[edge.sort], tuple(image.files[file].decode() for file in edge.outputs), image.texts[edge.label].decode(),
+            list(edge.waits), edge.rank, pool)
+
+
+def meant(known: Known, number: int) -> tuple[object, ...]:
+    """What a manifest says of it."""
+    build = known.builds[number]
+    label = "" if build.is_phony else build.description or build.command
+    return ("phony" if build.is_phony else "command", build.made(), label, known.waits[number], known.ranks[number],
+            (build.pool, POOLS[build.pool]) if build.pool else None)
+
+
+def table_faults(image: Image, known: Known) -> Iterator[str]:
+    """Where the tables of an image aren't the manifest's, or not as short as they have to be."""
+    pools = list(dict.fromkeys(build.pool for build in known.builds if build.pool))
+    if [pool.name.decode() for pool in image.pools] != pools:
+        yield f"pools {image.pools}, wanted {pools}"
+    if list(image.defaults) != known.defaults:
+        yield f"defaults {image.defaults}, wanted {known.defaults}"
+    if image.bodies is None or len(set(image.bodies)) != len(image.bodies):
+        yield "no bodies, or two that are equal"
+    first = list(dict.fromkeys(edge.code.body for edge in image.edges if hasattr(edge.code, "body")))
+    if first != list(range(len(image.bodies or ()))):
+        yield f"bodies in order of first use: {first}"
+    if len(set(image.texts)) != len(image.texts):
+        yield "a text stands twice"
+    if len(image.edges) != len(known.builds):
+        yield f"{len(image.edges)} edges, wanted {len(known.builds)}"
+
+
+class Replies:
+    """Replies by random numbers, mostly such that an edge goes on."""
+
+    def __init__(self, seed: int) -> None:
+        self.random = random.Random(seed)
+
+    def one_in(self, count: int) -> bool:
+        return self.random.randrange(count) == 0
+
+    def paths(self) -> tuple[bytes, ...]:
+        return tuple(b"h%d" % self.random.randrange(4) for _ in range(self.random.choice((0, 0, 1, 2, 5))))
+
+    def reply(self, request: Request, command: bytes) -> Reply:
+        word = request[0]
+        if self.one_in(60):
+            return ("fault",) if word != "run" else self.random.choice((("exit", 3), ("signal",), ("not started",)))
+        if word == "stat":
+            return "stamp", 0 if self.one_in(25) else self.random.randint(1, 6)
+        if word == "recall":
+            other = command if not self.one_in(6) else b"another"
+            return ("none",) if self.one_in(8) else ("entry", other, self.random.randint(0, 7), self.paths())
+        if word == "deps":
+            return ("none",) if self.one_in(6) else ("bytes", b"o:" + b"".join(b" " + path for path in self.paths()))
+        return ("exit", 0) if word == "run" else ("kept",)
+
+
+class Run:
+    """A whole image, edge by edge."""
+
+    def __init__(self, image: Image, known: Known, seed: int) -> None:
+        self.image, self.known, self.replies = image, known, Replies(seed)
+        self.slots: list[Value | None] = [None] * len(image.slots)
+        self.left = dict[str, Made]()  # of each path made so far, what its maker leaves by the rule
+
+    def given(self, paths: tuple[str, ...]) -> tuple[rule.Input, ...]:
+        files = {file.decode(): number for number, file in enumerate(self.image.files)}
+        return tuple(self.left[path] if path in self.known.maker else Source(files[path], path.encode()) for path in paths)
+
+    def facts(self, build: Build) -> Facts:
+        return Facts(tuple(path.encode() for path in build.made()), self.given(build.named()), self.given(build.ordered()),
+                     build.is_phony, build.command.encode(), build.depfile.encode(), build.restat, build.generator)
+
+    def faults(self) -> Iterator[str | None]:
+        """Of each edge that can be run, where its code and the rule differ."""
+        for number in self.known.in_order():
+            build = self.known.builds[number]
+            if all(path in self.left for wait in self.known.waits[number] for path in self.known.builds[wait].made()):
+                yield self.fault(number, build)
+
+    def fault(self, number: int, build: Build) -> str | None:
+        asking, code = rule.edge(self.facts(build)), Activity(self.image, number, self.slots)
+        reply: Reply | None = None
+        while True:
+            wanted, found = self.by_rule(asking, reply, build), by_code(code, reply)
+            if wanted != found:
+                return f"edge {number} {build}: {found}, by the rule {wanted}"
+            if wanted[0] in ("failed", "ended"):
+                return None
+            reply = self.replies.reply(wanted, build.command.encode())
+
+    def by_rule(self, asking: rule.Asking, reply: Reply | None, build: Build) -> Request | Ending:
+        """What the rule asks next, or how it ends."""
+        try:
+            return asking.send(reply)
+        except rule.Fails as fails:
+            return "failed", fails.args[0]
+        except StopIteration as stop:
+            self.left.update(zip(build.made(), stop.value.outputs))
+            return "ended", stop.value.ran
+
+
+def by_code(code: Activity, reply: Reply | None) -> Request | Ending:
+    """What the code asks next, or how it ends."""
+    try:
+        if reply is not None and not code.hear(reply):
+            return "unfit", reply
+        while code.step() != "asked":
+            pass
+        return code.asked or ("nothing",)
+    except Failed as failed:
+        return "failed", failed.args[0]
+    except Ended:
+        return "ended", code.ran
+
+
+def faults(program: str, folder: pathlib.Path, seed: int) -> Iterator[str | None]:
+    """Of each edge of a random manifest what is wrong with it, or nothing."""
+    builds, targets, text = Writer(seed).manifest()
+    known = Known(builds, targets)
+    (folder / "build.ninja").write_text(text)
+    done = programs.run([program, "compile", "build.ninja", "-o", "plan.img"], folder)
+    if done.returncode != 0:
+        yield f"compile: {done.stderr!r} of {text!r}"
+        return
+    image = reading.read((folder / "plan.img").read_bytes())
+    verdict = programs.run([program, "verify", "plan.img"], folder)
+    if isinstance(image, str) or verdict.returncode != 0:
+        yield f"verify: {verdict.stderr!r} of {text!r}"
+        return
+    yield from (f"{fault}: {text!r}" for fault in table_faults(image, known))
+    for number, edge in enumerate(image.edges):
+        if said(image, edge) != meant(known, number):
+            yield f"edge {number}: {said(image, edge)}, wanted {meant(known, number)}: {text!r}"
+    yield from (f"{fault}: {text!r}" if fault else None for fault in Run(image, known, seed).faults())
+
+
+def main() -> None:
+    parser = programs.arguments(__doc__ or "")
+    parser.add_argument("--count", metavar="COUNT", type=int, default=300, help="manifests (default: %(default)s)")
+    parser.add_argument("--seed", type=int, default=1, help="of the random numbers (default: %(default)s)")
+    asked = parser.parse_args()
+    passed, failed = 0, 0
+    with tempfile.TemporaryDirectory() as name:
+        for seed in range(asked.seed, asked.seed + asked.count):
+            for fault in faults(asked.program, pathlib.Path(name), seed):
+                passed, failed = passed + (fault is None), failed + (fault is not None)
+                if fault:
+                    print(fault)
+    programs.end(passed, failed)
+
+
+if __name__ == "__main__":
+    main()
