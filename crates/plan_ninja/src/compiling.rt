@@ -41,7 +41,6 @@ fn image_bytes(alloc: Global, manifest: &Manifest) -> Result<Vec<u8>, PlanFault>
         Ok(image) => image,
         Err(fault) => return Err(printed_compile_fault(alloc, fault)),
     };
-    let _ = image.parts();
     match write_image(alloc, &image) {
         Ok(bytes) => Ok(bytes),
         Err(_) => Err(printed_image_fault(alloc, ImageFault::Memory)),
