@@ -9,6 +9,7 @@ use Rattle.plan_graph.specs.Graph.{IsGraph}
 use Rattle.plan_graph.specs.declared.graph_data.Graph.{Graph}
 use Rattle.plan_image.specs.Spelling.{HasSpelling, spelling}
 use Rattle.plan_image.specs.declared.fault.ImageFault.TheVariants as image
+use Rattle.plan_verify.specs.WellShaped.{IsWellShaped}
 use Rattle.plan_compile.specs.Images.{compiled}
 use Rattle.plan_compile.specs.declared.fault.CompileFault.{CompileFault}
 use Rattle.plan_ninja.specs.declared.fault.PlanFault.{PlanFault}
@@ -16,9 +17,13 @@ use Rattle.plan_ninja.specs.Faults.{printed_compile_fault, printed_image_fault, 
 use Rattle.plan_ninja.specs.Commands.{MayLoad, IsRefused, LacksGraph}
 use Rattle.plan_ninja.specs.Images.{SinkState}
 
--- the bytes are those of the image of the manifest with a graph of it
-abbrev pub SpellsImage : Manifest → List ℕ → Type 0
-SpellsImage manifest bytes = (graph : Graph) × IsGraph manifest graph × HasSpelling (compiled manifest graph) × (bytes ≡ spelling (compiled manifest graph))
+-- the bytes are those of the image of the manifest with a graph of it, and the verifier accepts that image
+pub record SpellsImage (manifest : Manifest) (bytes : List ℕ) : Type 0 where
+  pub graph : Graph
+  pub is_graph : IsGraph manifest graph
+  pub spelled : HasSpelling (compiled manifest graph)
+  pub shaped : IsWellShaped (compiled manifest graph)
+  pub same : bytes ≡ spelling (compiled manifest graph)
 
 -- the manifest has a graph, and no image of it is made, for this cause
 abbrev pub LacksImageOf : Manifest → PlanFault → Type 0

@@ -11,7 +11,7 @@ use crate::compile_fault::printed_compile_fault;
 use crate::fault::{PlanFault, no_memory, write_fault};
 use crate::graph_fault::printed_graph_fault;
 use crate::image_fault::printed_image_fault;
-use plan_compile::compile;
+use plan_compile::{compile, image_is_shaped, manifests_are_sound};
 use plan_graph::{Graph, graph};
 use plan_image::{ImageFault, write_image};
 use plan_scope::{Manifest, Source, loaded_manifests_are_sound};
@@ -30,13 +30,15 @@ fn graph_of<'a>(alloc: Global, manifest: &'a Manifest) -> Result<Graph<'a>, Plan
     }
 }
 
-/// The bytes of the image of the manifest.
+/// The bytes of the image of the manifest. The verifier accepts it.
 fn image_bytes(alloc: Global, manifest: &Manifest) -> Result<Vec<u8>, PlanFault>
     requires { IsSound manifest.now }
     ensures image { IfOk result (λ bytes. SpellsImage manifest.now bytes.items) }
     ensures refused { IfErr result (λ fault. LacksBytes manifest.now fault) }
 {
     let graph = graph_of(alloc, manifest)?;
+    manifests_are_sound();
+    image_is_shaped();
     let image = match compile(alloc, manifest, &graph) {
         Ok(image) => image,
         Err(fault) => return Err(printed_compile_fault(alloc, fault)),
@@ -47,8 +49,8 @@ fn image_bytes(alloc: Global, manifest: &Manifest) -> Result<Vec<u8>, PlanFault>
     }
 }
 
-/// Writes the image of the manifest at the path, and answers the status 0: then no read and no write failed. `output` is
-/// the name of the sink's file.
+/// Writes the image of the manifest at the path, and answers the status 0: then no read and no write failed, and the
+/// verifier accepts the image. `output` is the name of the sink's file.
 ///
 /// Where the manifest, or a file that it includes, is missing or refused, or the manifest has no graph or no image,
 /// nothing is written, and the fault says why and where. Where a write fails, the fault is that of the sink's file.
