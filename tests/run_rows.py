@@ -11,6 +11,8 @@ or with the layer in front (`scopes/*`); without one all rows are run. Of a row 
   stdout.has stderr.has   in place of these: what occurs there, one a line
   stdout.to      a file that standard output goes to, or the word `closed`
   status         the exit status (default: 0)
+  left/          files that lie there afterwards, with these bytes; NAME.hex has those of NAME in digits. A file that
+                 is neither here nor lay there before is a fault
 
 The last line is `N passed, M failed`.
 """
@@ -30,8 +32,8 @@ from collections.abc import Iterator, Sequence
 import programs
 
 ROWS = pathlib.Path(__file__).resolve().parent / "rows"
-LAYERS = ("text", "statements", "scopes", "edges", "graphs", "program")
-PARTS = {"files", "files.py", "args", "stdout", "stderr", "stdout.has", "stderr.has", "stdout.to", "status"}
+LAYERS = ("text", "statements", "scopes", "edges", "graphs", "compile", "program")
+PARTS = {"files", "files.py", "args", "stdout", "stderr", "stdout.has", "stderr.has", "stdout.to", "status", "left"}
 SECONDS = 60
 CLOSED = ["sh", "-c", 'exec "$0" "$@" >&-']  # a command without standard output
 MOST_LINES = 200  # of one difference
@@ -58,15 +60,43 @@ def prepare(row: pathlib.Path, folder: str) -> None:
         subprocess.run([sys.executable, str(row / "files.py")], cwd=folder, env=found, check=True)
 
 
-def run(program: str, row: pathlib.Path) -> Done:
+def names_in(folder: str | pathlib.Path) -> set[str]:
+    """The files of a folder and of those in it, by their paths from there."""
+    return {str(path.relative_to(folder)) for path in pathlib.Path(folder).rglob("*") if not path.is_dir()}
+
+
+def left_by(row: pathlib.Path) -> dict[str, bytes]:
+    """The files that a row wants to lie there afterwards."""
+    found = {name: (row / "left" / name).read_bytes() for name in names_in(row / "left")}
+    return {name.removesuffix(".hex"): bytes.fromhex(text.decode()) if name.endswith(".hex") else text
+            for name, text in found.items()}
+
+
+def left_faults(row: pathlib.Path, folder: str, before: set[str]) -> Iterator[str]:
+    """How the files that lie there are otherwise than the row says."""
+    wanted, there = left_by(row), names_in(folder)
+    yield from (f"{name} is left" for name in sorted(there - before - wanted.keys()))
+    yield from (f"{name} is gone" for name in sorted(before - there - wanted.keys()))
+    for name, text in sorted(wanted.items()):
+        found = (pathlib.Path(folder) / name).read_bytes() if name in there else None
+        if found is None:
+            yield f"{name} is not there"
+        elif found != text:
+            yield from difference(name, text, found)
+
+
+def run(program: str, row: pathlib.Path) -> tuple[Done, list[str]]:
+    """What the program printed, and how the files that it left are otherwise than the row says."""
     with tempfile.TemporaryDirectory() as folder:
         prepare(row, folder)
+        before = names_in(folder)
         words = content(row, "args", b"commands\nbuild.ninja\n").split(b"\n")[:-1]
         target = content(row, "stdout.to").decode().strip()
         out = open(target, "wb") if target not in ("", "closed") else subprocess.PIPE
         command = [*(CLOSED if target == "closed" else []), os.fsencode(program), *words]
-        return subprocess.run(
+        done = subprocess.run(
             command, cwd=folder, stdin=subprocess.DEVNULL, stdout=out, stderr=subprocess.PIPE, timeout=SECONDS)
+        return done, list(left_faults(row, folder, before))
 
 
 def shown(line: bytes) -> str:
@@ -109,7 +139,8 @@ def differences(row: pathlib.Path, done: Done) -> Iterator[str]:
 
 def faults(program: str, row: pathlib.Path) -> list[str]:
     try:
-        return list(differences(row, run(program, row)))
+        done, left = run(program, row)
+        return [*differences(row, done), *left]
     except subprocess.TimeoutExpired:
         return [f"no end within {SECONDS} seconds"]
 
@@ -123,16 +154,16 @@ def keep(row: pathlib.Path, name: str, text: bytes) -> None:
 
 
 def bless(program: str, row: pathlib.Path) -> list[str]:
-    """Makes what is found what is wanted, but for what only has to occur (`.has`); gives what then still differs."""
+    """Makes what is printed what is wanted, but for what only has to occur (`.has`); gives what then still differs."""
     try:
-        done = run(program, row)
+        done, left = run(program, row)
     except subprocess.TimeoutExpired:
         return [f"no end within {SECONDS} seconds"]
     keep(row, "status", f"{done.returncode}\n".encode() if done.returncode else b"")
     for name, found in (("stdout", done.stdout or b""), ("stderr", done.stderr)):
         if not (row / f"{name}.has").exists():
             keep(row, name, found)
-    return list(differences(row, done))
+    return [*differences(row, done), *left]
 
 
 def misplaced(rows: Sequence[pathlib.Path]) -> Iterator[str]:

@@ -17,6 +17,8 @@ use Rattle.plan_image.specs.Faults as images
 use Rattle.plan_image.specs.declared.fault.ImageFault.{ImageFault}
 use Rattle.plan_verify.specs.Faults as verdicts
 use Rattle.plan_verify.specs.declared.fault.VerifyFault.{VerifyFault}
+use Rattle.plan_compile.specs.Faults as compiles
+use Rattle.plan_compile.specs.declared.fault.CompileFault.{CompileFault}
 use Rattle.plan_ninja.specs.declared.fault.PlanFault.{PlanFault}
 
 -- a space, a path and an offset in it
@@ -89,7 +91,11 @@ at_edge edge place = []
 abbrev pub printed_verify_fault : VerifyFault → PlanFault
 printed_verify_fault fault = record { number = verdicts.number_of fault; rest = at_edge (verdicts.edge_of fault) (verdicts.place_of fault) }
 
--- a file that can't be read
+-- why a manifest has no image, as the program prints it
+abbrev pub printed_compile_fault : CompileFault → PlanFault
+printed_compile_fault fault = record { number = compiles.number_of fault; rest = [] }
+
+-- a file that can't be read or written
 abbrev pub file_fault : List ℕ → PlanFault
 file_fault path = record { number = 133; rest = space ∷ path }
 
@@ -161,6 +167,7 @@ names =
     ∷ (84, codes "DeadCode")
     ∷ (85, codes "PathsInSlot")
     ∷ (87, codes "ValuesLeft")
+    ∷ (100, codes "Limit")
     ∷ (133, codes "FileFault")
     ∷ []
 

@@ -1,7 +1,7 @@
 //! The words of the command line.
 
 use clap::error::ErrorKind;
-use clap::{Arg, ArgAction, Command, Error};
+use clap::{Arg, ArgAction, ArgMatches, Command, Error};
 use std::alloc::{AllocError, Global};
 use std::rt::Env;
 use std::{env, io};
@@ -11,6 +11,8 @@ use std::{env, io};
 pub enum Request<'a> {
     /// The commands of the manifest at this path.
     Commands(&'a str),
+    /// The image of the manifest at the first path, in a file at the second one.
+    Compile(&'a str, &'a str),
     /// The listing of the image at this path.
     Dump(&'a str),
     /// The verdict on the image at this path.
@@ -21,7 +23,7 @@ pub enum Request<'a> {
 const VERSION: &str = "0.1.0";
 
 const ABOUT: &str =
-    "Reads Ninja manifests and plan images. What it prints is proved to be what they mean.";
+    "Reads Ninja manifests and plan images. What it writes is proved to be what they mean.";
 
 const COMMANDS_ABOUT: &str = "Prints the command of each build line of a manifest, in order";
 
@@ -33,6 +35,18 @@ Where the manifest is refused nothing is printed but the reason, on standard err
 `plan: NUMBER NAME FILE:OFFSET`, the offset in bytes from 0.";
 
 const FILE_HELP: &str = "The manifest to read, as build.ninja";
+
+const COMPILE_ABOUT: &str = "Writes the plan image of a manifest";
+
+const COMPILE_LONG_ABOUT: &str = "\
+Reads a manifest (build.ninja) and writes its plan image, of version 2: each edge's code says what it looks at, when its \
+command runs, and what is kept of it. Nothing is run, and nothing is printed.
+
+The file of the image is made at its first write, and replaced where it is there. Where the manifest is refused no file is \
+made or touched; printed is the reason, on standard error and with status 2: `plan: NUMBER NAME` and its place, as for \
+`commands`.";
+
+const OUTPUT_HELP: &str = "The file to write the plan image to";
 
 const DUMP_ABOUT: &str = "Prints the tables and the code of a plan image as text";
 
@@ -72,10 +86,23 @@ fn file_command<'a>(
         .arg(file)
 }
 
+/// The command that reads one file and writes another.
+fn compile_command<'a>(alloc: Global) -> Result<Command<'a>, AllocError> {
+    let about = (COMPILE_ABOUT, COMPILE_LONG_ABOUT);
+    let output = Arg::new(alloc, "IMG")
+        .short('o')
+        .long("output")
+        .required(true)
+        .action(ArgAction::Set)
+        .help(OUTPUT_HELP);
+    file_command(alloc, "compile", about, ("FILE", FILE_HELP))?.arg(output)
+}
+
 /// The commands and arguments that the program knows.
 fn program_command<'a>(alloc: Global) -> Result<Command<'a>, AllocError> {
     let about = (COMMANDS_ABOUT, COMMANDS_LONG_ABOUT);
     let commands = file_command(alloc, "commands", about, ("FILE", FILE_HELP))?;
+    let compile = compile_command(alloc)?;
     let about = (DUMP_ABOUT, DUMP_LONG_ABOUT);
     let dump = file_command(alloc, "dump", about, ("IMG", IMAGE_HELP))?;
     let about = (VERIFY_ABOUT, VERIFY_LONG_ABOUT);
@@ -86,6 +113,7 @@ fn program_command<'a>(alloc: Global) -> Result<Command<'a>, AllocError> {
         .subcommand_required(true)
         .arg_required_else_help(true)
         .subcommand(commands)?
+        .subcommand(compile)?
         .subcommand(dump)?
         .subcommand(verify)
 }
@@ -109,12 +137,20 @@ pub fn words_in<R: Env + AllocGlobal>(rt: &R) -> Result<Vec<String>, Error> {
     }
 }
 
+/// The two files of `compile`.
+fn compile_request<'a>(found: &ArgMatches<'a>) -> Option<Request<'a>> {
+    let file = found.get_str("FILE")?;
+    let output = found.get_str("IMG")?;
+    Some(Request::Compile(file, output))
+}
+
 /// What the words of the command line ask for, or the text that is shown in its place: an error, or help.
 pub fn request_in<'a>(alloc: Global, words: &'a [String]) -> Result<Request<'a>, Error> {
     let mut command = program_command(alloc)?;
     let matches = command.try_get_matches_from_mut(words)?;
     let request = match matches.subcommand() {
         Some(("commands", found)) => found.get_str("FILE").map(Request::Commands),
+        Some(("compile", found)) => compile_request(&found),
         Some(("dump", found)) => found.get_str("IMG").map(Request::Dump),
         Some(("verify", found)) => found.get_str("IMG").map(Request::Verify),
         _ => return Err(command.error(ErrorKind::MissingSubcommand, "a command is missing")?),

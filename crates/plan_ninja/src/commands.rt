@@ -12,7 +12,11 @@ use std::alloc::Global;
 use std::mem::forget;
 
 /// What the manifest at the path means.
-fn manifest_at<S: Source>(alloc: Global, source: &mut S, path: &[u8]) -> Result<Manifest, PlanFault>
+pub fn manifest_at<S: Source>(
+    alloc: Global,
+    source: &mut S,
+    path: &[u8],
+) -> Result<Manifest, PlanFault>
     ensures meant { let loads = loading_by (S.gives source.old) (S.fails source.old) (S.failures source.old) (S.failures source.new) in
         IfOk result (λ manifest. IsMeant loads path.now manifest) }
     ensures read { OnOk result (S.failures source.new ≡ S.failures source.old) }

@@ -79,6 +79,7 @@ fn name_of(number: u8) -> &'static str
         84 => "DeadCode",
         85 => "PathsInSlot",
         87 => "ValuesLeft",
+        100 => "Limit",
         133 => "FileFault",
         _ => "Memory",
     }
@@ -140,6 +141,16 @@ pub fn output_fault(alloc: Global) -> Result<PlanFault, AllocError>
     Ok(PlanFault {
         number: 133,
         rest: Items::new(Vec::from_slice(alloc, b" -")?),
+    })
+}
+
+/// A write to the file at this path failed.
+pub fn write_fault(alloc: Global, path: &[u8]) -> Result<PlanFault, AllocError>
+    ensures { IfOk result (λ fault. fault ≡ defined.file_fault path.now) }
+{
+    Ok(PlanFault {
+        number: 133,
+        rest: Items::new(spaced(alloc, path)?),
     })
 }
 

@@ -1,12 +1,12 @@
 //! The files of the system.
 
-ghost use Rattle.std.specs.Prelude.{◌≡◌};
+ghost use Rattle.std.specs.Prelude.{◌≡◌, ◌≤◌, IfOk, length};
 
 use plan_image::MAX_IMAGE;
 use plan_scope::{Source, SourceFault};
-use plan_text::{MAX_SOURCE, Tally};
+use plan_text::{MAX_SOURCE, Sink, SinkFault, Tally};
 use std::alloc::Global;
-use std::io::{ErrorKind, Read};
+use std::io::{ErrorKind, Read, Write};
 use std::rt::Files;
 use std::{fs, io, str};
 
@@ -68,6 +68,64 @@ impl<R: Files> Source for FileSource<'_, R> {
                     Err(SourceFault::Failed)
                 }
             },
+        }
+    }
+}
+
+/// A file that is made, or emptied where it is there, at the first write to it.
+#[derive(Drop)]
+pub struct FileSink<'a, R: Files> {
+    rt: &'a R,
+    path: &'a str,
+    /// What was made at the first write.
+    file: Option<R::File>,
+    failures: Tally,
+}
+
+impl<'a, R: Files> FileSink<'a, R> {
+    /// The file at a path, which isn't made yet, and no write to which has failed.
+    pub fn new(rt: &'a R, path: &'a str) -> FileSink<'a, R>
+        ensures { result.failures.count ≡ 0 }
+    {
+        FileSink {
+            rt,
+            path,
+            file: None,
+            failures: Tally::new(),
+        }
+    }
+}
+
+/// Writes some of the bytes to a file, which is made at this path where there is none yet.
+fn write_some<R: Files>(
+    rt: &R,
+    path: &str,
+    file: &mut Option<R::File>,
+    bytes: &[u8],
+) -> io::Result<usize>
+    ensures { IfOk result (λ n. n ≤ length bytes.now) }
+{
+    if let Some(made) = file {
+        return made.write(bytes);
+    }
+    let made = file.insert(fs::create(rt, path)?);
+    made.write(bytes)
+}
+
+impl<R: Files> Sink for FileSink<'_, R> {
+    ghost use Rattle.std.specs.Prelude.{None};
+
+    ghost failures = { λ s. s.failures.count };
+
+    ghost taken = { λ _. None };
+
+    fn write(&mut self, bytes: &[u8]) -> Result<usize, SinkFault> {
+        match write_some(self.rt, self.path, &mut self.file, bytes) {
+            Ok(n) if n > 0 || bytes.is_empty() => Ok(n),
+            _ => {
+                self.failures = self.failures.next();
+                Err(SinkFault)
+            }
         }
     }
 }

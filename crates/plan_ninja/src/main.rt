@@ -6,6 +6,8 @@ ghost use Rattle.plan_ninja.specs.Faults as defined;
 
 mod command_line;
 mod commands;
+mod compile_fault;
+mod compiling;
 mod fault;
 mod files;
 mod graph_fault;
@@ -17,8 +19,9 @@ mod verdicts;
 
 use crate::command_line::{Request, request_in, words_in};
 use crate::commands::do_commands;
+use crate::compiling::do_compile;
 use crate::fault::{PlanFault, no_memory, output_fault};
-use crate::files::{FileSource, IMAGE_BYTES, MANIFEST_BYTES};
+use crate::files::{FileSink, FileSource, IMAGE_BYTES, MANIFEST_BYTES};
 use crate::images::do_dump;
 use crate::verdicts::do_verify;
 use clap::Error;
@@ -36,7 +39,7 @@ const REFUSED: u8 = 2;
 /// How many bytes of output are written at once.
 const OUTPUT_BUFFER: usize = 65_536;
 
-/// Writes what is asked for to a sink, and says with which status the program ends.
+/// Writes what is asked for to a sink, or to the file that is asked for, and says with which status the program ends.
 fn answer<R: Files + AllocGlobal, W: Sink>(
     rt: &R,
     request: Request,
@@ -47,6 +50,16 @@ fn answer<R: Files + AllocGlobal, W: Sink>(
     let mut images = FileSource::new(rt, IMAGE_BYTES);
     match request {
         Request::Commands(path) => do_commands(alloc, &mut manifests, path.as_bytes(), out),
+        Request::Compile(path, output) => {
+            let mut image = FileSink::new(rt, output);
+            do_compile(
+                alloc,
+                &mut manifests,
+                path.as_bytes(),
+                output.as_bytes(),
+                &mut image,
+            )
+        }
         Request::Dump(path) => do_dump(alloc, &mut images, path.as_bytes(), out),
         Request::Verify(path) => do_verify(alloc, &mut images, path.as_bytes(), out),
     }

@@ -1,8 +1,11 @@
 use crate::commands::do_commands;
+use crate::compile_fault::printed_compile_fault;
+use crate::compiling::do_compile;
 use crate::fault::{PlanFault, no_memory, output_fault, printed_fault};
 use crate::graph_fault::printed_graph_fault;
 use crate::images::do_dump;
 use crate::verdicts::do_verify;
+use plan_compile::CompileFault;
 use plan_graph::GraphFault;
 use plan_scope::{Manifest, ScopeFault, Source, SourceFault};
 use plan_text::{Counted, Items, Sink, SinkFault, Tally};
@@ -24,6 +27,9 @@ const LISTING: &[u8] = b"text 0 78\nfile 0 61\nbody 0\n  0 End\n\
 edge 0 command rank 0 pool - label 0 outputs 0 waits - body 0 operands -\ndefault 0\n";
 
 const VERDICT: &[u8] = b"ok 1 2\n";
+
+/// The image of a manifest without build lines, in version 2.
+const EMPTY_IMAGE: &[u8] = b"PLANIMG\x02\0\0\0\0\0\0\0\0\0\0\0\0\0\0\0\0\0\0\0\0\0\0\0\0\0\0\0\0";
 
 /// Where the edge's label ends, in the image.
 const LABEL: usize = 57;
@@ -341,4 +347,85 @@ fn says_that_the_verdict_is_not_written(rt: HostRuntime) {
         }
         assert!(rt; out.left == 0);
     }
+}
+
+/// What `compile` writes of a manifest, and its status or its line.
+fn assert_compiled(rt: &impl Abort, alloc: Global, manifest: &'static [u8], image: &[u8]) {
+    let mut source = OneFile::new(Some(manifest));
+    let mut out = Counted::new(Vec::new(alloc));
+    let status = do_compile(alloc, &mut source, b"build.ninja", b"plan.img", &mut out);
+    assert!(rt; matches!(status, Ok(0)));
+    assert!(rt; out.into_writer().as_slice() == image);
+}
+
+#[test]
+fn compiles_an_empty_manifest(rt: HostRuntime) {
+    assert_compiled(&rt, rt.alloc(), b"", EMPTY_IMAGE);
+    assert_compiled(&rt, rt.alloc(), b"x = 1\n", EMPTY_IMAGE);
+}
+
+/// The manifest is refused with this line, and nothing is written of its image.
+fn assert_not_compiled(
+    rt: &impl Abort,
+    alloc: Global,
+    manifest: Option<&'static [u8]>,
+    line: &[u8],
+) {
+    let mut source = OneFile::new(manifest);
+    let mut out = Counted::new(Vec::new(alloc));
+    match do_compile(alloc, &mut source, b"build.ninja", b"plan.img", &mut out) {
+        Ok(_) => assert!(rt; false),
+        Err(fault) => assert_refused(rt, alloc, &fault, line),
+    }
+    assert!(rt; out.into_writer().is_empty());
+}
+
+#[test]
+fn compiles_no_refused_manifest(rt: HostRuntime) {
+    let alloc = rt.alloc();
+    let cyclic: &[u8] = b"build a: phony b\nbuild b: phony a\n";
+    assert_not_compiled(
+        &rt,
+        alloc,
+        Some(b"x = a$!"),
+        b"plan: 3 BadEscape build.ninja:5\n",
+    );
+    assert_not_compiled(&rt, alloc, Some(cyclic), b"plan: 51 Cycle a -> b\n");
+    assert_not_compiled(&rt, alloc, None, b"plan: 20 SourceMissing build.ninja:0\n");
+}
+
+#[test]
+fn says_that_the_image_is_not_written(rt: HostRuntime) {
+    for left in 0..EMPTY_IMAGE.len() {
+        let mut source = OneFile::new(Some(b""));
+        let mut out = Narrow {
+            left,
+            failures: Tally::new(),
+        };
+        match do_compile(
+            rt.alloc(),
+            &mut source,
+            b"build.ninja",
+            b"d/plan.img",
+            &mut out,
+        ) {
+            Ok(_) => assert!(rt; false),
+            Err(fault) => assert_refused(
+                &rt,
+                rt.alloc(),
+                &fault,
+                b"plan: 133 FileFault d/plan.img\n",
+            ),
+        }
+        assert!(rt; out.left == 0);
+    }
+}
+
+#[test]
+fn shows_faults_of_images(rt: HostRuntime) {
+    let alloc = rt.alloc();
+    let limit = printed_compile_fault(alloc, CompileFault::Limit);
+    assert_refused(&rt, alloc, &limit, b"plan: 100 Limit\n");
+    let memory = printed_compile_fault(alloc, CompileFault::Memory);
+    assert_refused(&rt, alloc, &memory, b"plan: 101 Memory\n");
 }
