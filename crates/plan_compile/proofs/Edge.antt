@@ -105,7 +105,7 @@ module _ (meaning : Meaning) (p : Parts) (e : ℕ) (w : CommandWiring) (start : 
 
   pub judged_all : (at : ℕ) → drop at (code p e) ≡ judged_code w at → (slots : Slots) (named old : List ℕ) (o : Option Recorded) (b : ℕ) → IsPositive w.named (greatest named) → Settled slots named → Hold slots w.outputs old
       → (not d.generator && is_new d.command o) ≡ false → (w.restat ≡ true → b ≡ baseline d.restat old o)
-      → From meaning p e M (judged_code w at) (Stamp b ∷ Paths (paths_in o) 0 ∷ under w.restat old (greatest named)) slots false false (talk_after named old o)
+      → From meaning p e M (judged_code w at) (Stamp b ∷ Paths 0 (paths_in o) ∷ under w.restat old (greatest named)) slots false false (talk_after named old o)
   judged_all at stands slots named old o b positive ready hold same known =
       let place : ℕ = at + ready_len w in
       let judge : drop place (code p e) ≡ judge_code w place = judge_stands (code p e) w at stands in
@@ -141,16 +141,16 @@ module _ (meaning : Meaning) (p : Parts) (e : ℕ) (w : CommandWiring) (start : 
       (λ other. other_all meaning p e w start order_only wired judged dirty slots named old o (basis_in o) (greatest named) ready hold
       (ap (λ (b : Bool). not b && is_new d.command o) plain ∙ not_false (is_new d.command o) other) (dirty_stands (code p e) w (place + ready_len w) judge) (omega (arith, long, longer))))
     where
-      low : (r : Bool) (old : List ℕ) (n b : ℕ) (ps : List (List ℕ)) → nat_lt 64 (length (Stamp b ∷ Paths ps 0 ∷ under r old n)) ≡ false
+      low : (r : Bool) (old : List ℕ) (n b : ℕ) (ps : List (List ℕ)) → nat_lt 64 (length (Stamp b ∷ Paths 0 ps ∷ under r old n)) ≡ false
       low true old n b ps = refl
       low false old n b ps = refl
 
   -- a restat generator, once its baseline stands over the paths
   pub by_baseline : (at : ℕ) → drop at (code p e) ≡ judged_code w at → (slots : Slots) (named old : List ℕ) (o : Option Recorded) (b : ℕ) → IsPositive w.named (greatest named) → Settled slots named → Hold slots w.outputs old
       → w.restat ≡ true → w.generator ≡ true → b ≡ baseline true old o
-      → From meaning p e M (judged_code w at) (Stamp b ∷ Paths (paths_in o) 0 ∷ []) slots false false (talk_after named old o)
+      → From meaning p e M (judged_code w at) (Stamp b ∷ Paths 0 (paths_in o) ∷ []) slots false false (talk_after named old o)
   by_baseline at stands slots named old o b positive ready hold is gen known =
-      subst (λ (r : Bool). From meaning p e M (judged_code w at) (Stamp b ∷ Paths (paths_in o) 0 ∷ under r old (greatest named)) slots false false (talk_after named old o)) is
+      subst (λ (r : Bool). From meaning p e M (judged_code w at) (Stamp b ∷ Paths 0 (paths_in o) ∷ under r old (greatest named)) slots false false (talk_after named old o)) is
       (judged_all at stands slots named old o b positive ready hold (ap (λ (x : Bool). not x && is_new d.command o) gen) (λ restat. known ∙ ap (λ (r : Bool). baseline r old o) (sym is)))
 
   pub pass_all : (r : Bool) → w.restat ≡ r → w.generator ≡ true → (at : ℕ) → drop at (code p e) ≡ pass_code r w at
@@ -158,7 +158,7 @@ module _ (meaning : Meaning) (p : Parts) (e : ℕ) (w : CommandWiring) (start : 
       → From meaning p e M (pass_code r w at) (entry_values o (under r old (greatest named))) slots false false (talk_after named old o)
   pass_all false is gen at stands slots named old o positive ready hold =
       drop_two meaning p e w start order_only wired (under false old (greatest named)) refl o
-      (subst (λ (r : Bool). From meaning p e M (judged_code w (at + 2)) (Stamp (basis_in o) ∷ Paths (paths_in o) 0 ∷ under r old (greatest named)) slots false false (talk_after named old o)) is
+      (subst (λ (r : Bool). From meaning p e M (judged_code w (at + 2)) (Stamp (basis_in o) ∷ Paths 0 (paths_in o) ∷ under r old (greatest named)) slots false false (talk_after named old o)) is
       (judged_all (at + 2) (passed_stands (code p e) w at stands) slots named old o (basis_in o) positive ready hold
       (ap (λ (b : Bool). not b && is_new d.command o) gen) (λ restat. absurd cc)))
   pass_all true is gen at stands slots named old (Some y) positive ready hold =
@@ -167,7 +167,7 @@ module _ (meaning : Meaning) (p : Parts) (e : ℕ) (w : CommandWiring) (start : 
       let oldest : List Instr = oldest_code w.outputs in
       let long : length (op.Jump (place + 1) ∷ op.Drop ∷ judged) ≤ length (oldest ++ (op.Jump (place + 1) ∷ op.Drop ∷ judged)) = app_long oldest (op.Jump (place + 1) ∷ op.Drop ∷ judged) in
       jump_if meaning p e M place (op.Drop ∷ judged) true (known_stands (code p e) w at stands) (omega (arith, long)) (omega arith) refl
-      (λ entry. plain meaning p e M op.Drop (Text y.command ∷ Stamp y.basis ∷ Paths y.paths 0 ∷ []) (Stamp y.basis ∷ Paths y.paths 0 ∷ []) (λ l. refl) refl refl
+      (λ entry. plain meaning p e M op.Drop (Text y.command ∷ Stamp y.basis ∷ Paths 0 y.paths ∷ []) (Stamp y.basis ∷ Paths 0 y.paths ∷ []) (λ l. refl) refl refl
       (by_baseline (place + 1) (baseline_stands (code p e) w at stands) slots named old (Some y) y.basis positive ready hold is gen refl))
       (λ none. absurd cc)
   pass_all true is gen at stands slots named old None positive ready hold =
@@ -177,9 +177,9 @@ module _ (meaning : Meaning) (p : Parts) (e : ℕ) (w : CommandWiring) (start : 
       let long : length (op.Jump (place + 1) ∷ op.Drop ∷ judged) ≤ length (oldest ++ (op.Jump (place + 1) ∷ op.Drop ∷ judged)) = app_long oldest (op.Jump (place + 1) ∷ op.Drop ∷ judged) in
       jump_if meaning p e M place (op.Drop ∷ judged) false (known_stands (code p e) w at stands) (omega (arith, long)) (omega arith) refl
       (λ none. absurd cc)
-      (λ no_entry. plain meaning p e M op.Drop (Text [] ∷ Stamp 0 ∷ Paths [] 0 ∷ []) (Stamp 0 ∷ Paths [] 0 ∷ []) (λ l. refl) refl refl
-      (plain meaning p e M op.Drop (Stamp 0 ∷ Paths [] 0 ∷ []) (Paths [] 0 ∷ []) (λ l. refl) refl refl
-      (oldest_all meaning p e M w.outputs old (Paths [] 0 ∷ []) refl hold
+      (λ no_entry. plain meaning p e M op.Drop (Text [] ∷ Stamp 0 ∷ Paths 0 [] ∷ []) (Stamp 0 ∷ Paths 0 [] ∷ []) (λ l. refl) refl refl
+      (plain meaning p e M op.Drop (Stamp 0 ∷ Paths 0 [] ∷ []) (Paths 0 [] ∷ []) (λ l. refl) refl refl
+      (oldest_all meaning p e M w.outputs old (Paths 0 [] ∷ []) refl hold
       (jump meaning p e M (place + 1) judged (baseline_stands (code p e) w at stands) (omega arith) (ready_some w.restat w (judge_code w (place + 1 + ready_len w))) refl
       (by_baseline (place + 1) (baseline_stands (code p e) w at stands) slots named old None (least old) positive ready hold is gen refl)))))
 

@@ -54,8 +54,8 @@ local place stack holding ran = record { place = place; stack = stack; holding =
 
 -- what a reply to Recall leaves on the stack
 abbrev pub entry_values : Option Recorded → List Value → List Value
-entry_values (Some entry) stack = Flag true ∷ Text entry.command ∷ Stamp entry.basis ∷ Paths entry.paths 0 ∷ stack
-entry_values None stack = Flag false ∷ Text [] ∷ Stamp 0 ∷ Paths [] 0 ∷ stack
+entry_values (Some entry) stack = Flag true ∷ Text entry.command ∷ Stamp entry.basis ∷ Paths 0 entry.paths ∷ stack
+entry_values None stack = Flag false ∷ Text [] ∷ Stamp 0 ∷ Paths 0 [] ∷ stack
 
 -- whether a flag is set or a stamp is 0
 abbrev pub missing_from : Bool → List ℕ → Bool
@@ -233,21 +233,21 @@ module _ (meaning : Meaning) (p : Parts) (e : ℕ) (Leaves : Slots → Left → 
     needs place at Kept t hears = absurd cc
 
   pub deps : {rest : List Instr} {below : List Value} {slots : Slots} {holding ran : Bool} {k : List Path → Talk} (d : List ℕ)
-      → nat_lt 64 (length (Paths [] 0 ∷ below)) ≡ false
-      → ((ps : List Path) → From rest (Paths ps 0 ∷ below) slots holding ran (k ps)) → From (op.Deps ∷ rest) (Text d ∷ below) slots holding ran (Ask (Deps d) (read meaning k))
+      → nat_lt 64 (length (Paths 0 [] ∷ below)) ≡ false
+      → ((ps : List Path) → From rest (Paths 0 ps ∷ below) slots holding ran (k ps)) → From (op.Deps ∷ rest) (Text d ∷ below) slots holding ran (Ask (Deps d) (read meaning k))
   deps {rest = rest} {below = below} {slots = slots} {holding = holding} {ran = ran} {k = k} d shallow h = record {
     go = λ place at. asked (local place (Text d ∷ below) holding ran) slots op.Deps rest (Deps d) (read meaning k) refl at refl refl (λ r t hears. needs place at r t hears);
   } where
     by_meaning : (place : ℕ) → drop place (code p e) ≡ op.Deps ∷ rest → (m : Result (List Path) (ℕ × ℕ))
         → Keeps (asking (local place (Text d ∷ below) holding ran)) slots (found (asking (local place (Text d ∷ below) holding ran)) m) (told_paths k m)
-    by_meaning place at (Ok ps) = onward place op.Deps rest (Paths ps 0 ∷ below) slots holding ran (k ps) (asking (local place (Text d ∷ below) holding ran)) refl refl refl at shallow (h ps) (asking (local place (Text d ∷ below) holding ran))
+    by_meaning place at (Ok ps) = onward place op.Deps rest (Paths 0 ps ∷ below) slots holding ran (k ps) (asking (local place (Text d ∷ below) holding ran)) refl refl refl at shallow (h ps) (asking (local place (Text d ∷ below) holding ran))
     by_meaning place at (Err fault) = has_failed
 
     needs : (place : ℕ) → drop place (code p e) ≡ op.Deps ∷ rest → (r : Reply) (t : Turn) → replied meaning (asking (local place (Text d ∷ below) holding ran)) op.Deps r ≡ Some t
         → Keeps (asking (local place (Text d ∷ below) holding ran)) slots t (read meaning k r)
     needs place at (Bytes b) t hears = subst (λ (u : Turn). Keeps (asking (local place (Text d ∷ below) holding ran)) slots u (read meaning k (Bytes b))) (some_is _ _ hears) (by_meaning place at (meaning b))
     needs place at Nothing t hears = subst (λ (u : Turn). Keeps (asking (local place (Text d ∷ below) holding ran)) slots u (k [])) (some_is _ _ hears)
-        (onward place op.Deps rest (Paths [] 0 ∷ below) slots holding ran (k []) (asking (local place (Text d ∷ below) holding ran)) refl refl refl at shallow (h []) (asking (local place (Text d ∷ below) holding ran)))
+        (onward place op.Deps rest (Paths 0 [] ∷ below) slots holding ran (k []) (asking (local place (Text d ∷ below) holding ran)) refl refl refl at shallow (h []) (asking (local place (Text d ∷ below) holding ran)))
     needs place at Fault t hears = subst (λ (u : Turn). Keeps (asking (local place (Text d ∷ below) holding ran)) slots u (read meaning k Fault)) (some_is _ _ hears) has_failed
     needs place at (StampIs n) t hears = absurd cc
     needs place at (Entry c b ps) t hears = absurd cc
@@ -280,30 +280,30 @@ module _ (meaning : Meaning) (p : Parts) (e : ℕ) (Leaves : Slots → Left → 
   -- ---- the sweep: a question for each path that is left
 
   pub sweep_all : {rest : List Instr} {below : List Value} {slots : Slots} {holding ran : Bool} (todo : List Path) (k : List ℕ → Talk) (all : List Path) (swept : ℕ) (b : Bool) (n : ℕ)
-      → drop swept all ≡ todo → nat_lt 64 (length (Paths [] 0 ∷ Flag true ∷ Stamp 0 ∷ below)) ≡ false
+      → drop swept all ≡ todo → nat_lt 64 (length (Paths 0 [] ∷ Flag true ∷ Stamp 0 ∷ below)) ≡ false
       → ((ts : List ℕ) → From rest (Swept all ∷ Flag (missing_from b ts) ∷ Stamp (greatest_from n ts) ∷ below) slots holding ran (k ts))
-      → From (op.Sweep ∷ rest) (Paths all swept ∷ Flag b ∷ Stamp n ∷ below) slots holding ran (stamps todo k)
+      → From (op.Sweep ∷ rest) (Paths swept all ∷ Flag b ∷ Stamp n ∷ below) slots holding ran (stamps todo k)
   sweep_all {rest = rest} {below = below} {slots = slots} {holding = holding} {ran = ran} [] k all swept b n left shallow h = record {
-    go = λ place at. moved (local place (Paths all swept ∷ Flag b ∷ Stamp n ∷ below) holding ran) slots op.Sweep rest (k []) refl at
-        (subst (λ (o : Option Path). Keeps (local place (Paths all swept ∷ Flag b ∷ Stamp n ∷ below) holding ran) slots (sweeps (local place (Paths all swept ∷ Flag b ∷ Stamp n ∷ below) holding ran) all (Flag b ∷ Stamp n ∷ below) o) (k []))
+    go = λ place at. moved (local place (Paths swept all ∷ Flag b ∷ Stamp n ∷ below) holding ran) slots op.Sweep rest (k []) refl at
+        (subst (λ (o : Option Path). Keeps (local place (Paths swept all ∷ Flag b ∷ Stamp n ∷ below) holding ran) slots (sweeps (local place (Paths swept all ∷ Flag b ∷ Stamp n ∷ below) holding ran) all (Flag b ∷ Stamp n ∷ below) o) (k []))
         (sym (none_of_drop all swept left))
-        (onward place op.Sweep rest (Swept all ∷ Flag b ∷ Stamp n ∷ below) slots holding ran (k []) (local place (Paths all swept ∷ Flag b ∷ Stamp n ∷ below) holding ran) refl refl refl at shallow (h [])
-        (local place (Paths all swept ∷ Flag b ∷ Stamp n ∷ below) holding ran)));
+        (onward place op.Sweep rest (Swept all ∷ Flag b ∷ Stamp n ∷ below) slots holding ran (k []) (local place (Paths swept all ∷ Flag b ∷ Stamp n ∷ below) holding ran) refl refl refl at shallow (h [])
+        (local place (Paths swept all ∷ Flag b ∷ Stamp n ∷ below) holding ran)));
   }
   sweep_all {rest = rest} {below = below} {slots = slots} {holding = holding} {ran = ran} (path ∷ todo) k all swept b n left shallow h = record {
-    go = λ place at. asked (local place (Paths all swept ∷ Flag b ∷ Stamp n ∷ below) holding ran) slots op.Sweep rest (Stat path) (stamped (λ t. stamps todo (λ ts. k (t ∷ ts)))) refl at
-        (ap (λ (o : Option Path). sweeps (local place (Paths all swept ∷ Flag b ∷ Stamp n ∷ below) holding ran) all (Flag b ∷ Stamp n ∷ below) o) (get_of_drop all swept path todo left))
-        (ap (λ (o : Option Path). sweeps (asking (local place (Paths all swept ∷ Flag b ∷ Stamp n ∷ below) holding ran)) all (Flag b ∷ Stamp n ∷ below) o) (get_of_drop all swept path todo left))
+    go = λ place at. asked (local place (Paths swept all ∷ Flag b ∷ Stamp n ∷ below) holding ran) slots op.Sweep rest (Stat path) (stamped (λ t. stamps todo (λ ts. k (t ∷ ts)))) refl at
+        (ap (λ (o : Option Path). sweeps (local place (Paths swept all ∷ Flag b ∷ Stamp n ∷ below) holding ran) all (Flag b ∷ Stamp n ∷ below) o) (get_of_drop all swept path todo left))
+        (ap (λ (o : Option Path). sweeps (asking (local place (Paths swept all ∷ Flag b ∷ Stamp n ∷ below) holding ran)) all (Flag b ∷ Stamp n ∷ below) o) (get_of_drop all swept path todo left))
         (λ r t hears. needs (λ t. sweep_all todo (λ ts. k (t ∷ ts)) all (swept + 1) (b || (t == 0)) (later n t) (drop_past all swept path todo left) shallow (λ ts. h (t ∷ ts))) place at r t hears);
   } where
-    needs : ((t : ℕ) → From (op.Sweep ∷ rest) (Paths all (swept + 1) ∷ Flag (b || (t == 0)) ∷ Stamp (later n t) ∷ below) slots holding ran (stamps todo (λ ts. k (t ∷ ts))))
+    needs : ((t : ℕ) → From (op.Sweep ∷ rest) (Paths (swept + 1) all ∷ Flag (b || (t == 0)) ∷ Stamp (later n t) ∷ below) slots holding ran (stamps todo (λ ts. k (t ∷ ts))))
         → (place : ℕ) → drop place (code p e) ≡ op.Sweep ∷ rest → (r : Reply) (t : Turn)
-        → replied meaning (asking (local place (Paths all swept ∷ Flag b ∷ Stamp n ∷ below) holding ran)) op.Sweep r ≡ Some t
-        → Keeps (asking (local place (Paths all swept ∷ Flag b ∷ Stamp n ∷ below) holding ran)) slots t (stamped (λ t. stamps todo (λ ts. k (t ∷ ts))) r)
-    needs again place at (StampIs s) t hears = subst (λ (u : Turn). Keeps (asking (local place (Paths all swept ∷ Flag b ∷ Stamp n ∷ below) holding ran)) slots u (stamps todo (λ ts. k (s ∷ ts))))
-        (sym (ap (λ (x : Bool). if x then Wrong TooDeep else Goes Moved (local place (Paths all (swept + 1) ∷ Flag (b || (s == 0)) ∷ Stamp (later n s) ∷ below) holding ran)) shallow) ∙ some_is _ _ hears)
+        → replied meaning (asking (local place (Paths swept all ∷ Flag b ∷ Stamp n ∷ below) holding ran)) op.Sweep r ≡ Some t
+        → Keeps (asking (local place (Paths swept all ∷ Flag b ∷ Stamp n ∷ below) holding ran)) slots t (stamped (λ t. stamps todo (λ ts. k (t ∷ ts))) r)
+    needs again place at (StampIs s) t hears = subst (λ (u : Turn). Keeps (asking (local place (Paths swept all ∷ Flag b ∷ Stamp n ∷ below) holding ran)) slots u (stamps todo (λ ts. k (s ∷ ts))))
+        (sym (ap (λ (x : Bool). if x then Wrong TooDeep else Goes Moved (local place (Paths (swept + 1) all ∷ Flag (b || (s == 0)) ∷ Stamp (later n s) ∷ below) holding ran)) shallow) ∙ some_is _ _ hears)
         ((again s).go place at)
-    needs again place at Fault t hears = subst (λ (u : Turn). Keeps (asking (local place (Paths all swept ∷ Flag b ∷ Stamp n ∷ below) holding ran)) slots u (Fail cause.StatFault)) (some_is _ _ hears) has_failed
+    needs again place at Fault t hears = subst (λ (u : Turn). Keeps (asking (local place (Paths swept all ∷ Flag b ∷ Stamp n ∷ below) holding ran)) slots u (Fail cause.StatFault)) (some_is _ _ hears) has_failed
     needs again place at (Entry c x ps) t hears = absurd cc
     needs again place at Nothing t hears = absurd cc
     needs again place at (Exit x) t hears = absurd cc

@@ -162,7 +162,7 @@ module _ (meaning : Meaning) (p : Parts) (e : ℕ) (w : CommandWiring) (start : 
 
   pub judge_all : (at : ℕ) (slots : Slots) (named old : List ℕ) (entry : Option Recorded) (a : Bool) (m : ℕ) → Ready slots named → Hold slots w.outputs old → Weighs named old entry a m
       → drop (at + 6 + clean_len w) (code p e) ≡ dirty_code w → drop (at + 8 + clean_len w) (code p e) ≡ run_code w
-      → From meaning p e L (judge_code w at) (Paths (paths_in entry) 0 ∷ Flag a ∷ Stamp (greatest named) ∷ Stamp m ∷ []) slots false false
+      → From meaning p e L (judge_code w at) (Paths 0 (paths_in entry) ∷ Flag a ∷ Stamp (greatest named) ∷ Stamp m ∷ []) slots false false
       (stamps (paths_in entry) (λ swept. ends_as named old (is_dirty c named old entry swept)))
   judge_all at slots named old entry a m ready hold weighs dirty_at run_at =
       let tail : List Instr = clean_code w ++ (op.End ∷ dirty_code w) in
@@ -222,37 +222,37 @@ module _ (meaning : Meaning) (p : Parts) (e : ℕ) (w : CommandWiring) (start : 
   -- from where the baseline is known and the command isn't another
   pub judged_by : (r : Bool) → w.restat ≡ r → (rest : List Instr) (talk : Talk) (slots : Slots) (named old : List ℕ) (entry : Option Recorded) (b : ℕ) → Ready slots named → Hold slots w.outputs old
       → (r ≡ true → b ≡ baseline c.restat old entry)
-      → ((m : ℕ) → m ≡ baseline c.restat old entry → From meaning p e L rest (Paths (paths_in entry) 0 ∷ Flag (alarm r old) ∷ Stamp (greatest named) ∷ Stamp m ∷ []) slots false false talk)
-      → From meaning p e L (ready_code r w rest) (Stamp b ∷ Paths (paths_in entry) 0 ∷ below r old (greatest named)) slots false false talk
+      → ((m : ℕ) → m ≡ baseline c.restat old entry → From meaning p e L rest (Paths 0 (paths_in entry) ∷ Flag (alarm r old) ∷ Stamp (greatest named) ∷ Stamp m ∷ []) slots false false talk)
+      → From meaning p e L (ready_code r w rest) (Stamp b ∷ Paths 0 (paths_in entry) ∷ below r old (greatest named)) slots false false talk
   judged_by true is rest talk slots named old entry b ready hold known h =
       let ps : List Path = paths_in entry in
       let n : ℕ = greatest named in
-      plain meaning p e L op.Swap (Stamp b ∷ Paths ps 0 ∷ []) (Paths ps 0 ∷ Stamp b ∷ []) (λ l. refl) refl refl
+      plain meaning p e L op.Swap (Stamp b ∷ Paths 0 ps ∷ []) (Paths 0 ps ∷ Stamp b ∷ []) (λ l. refl) refl refl
       (load meaning p e L w.newest (Stamp n) ready.newest refl
-      (plain meaning p e L op.Swap (Stamp n ∷ Paths ps 0 ∷ Stamp b ∷ []) (Paths ps 0 ∷ Stamp n ∷ Stamp b ∷ []) (λ l. refl) refl refl
-      (alarm_all meaning p e L true w.outputs old w.flags start (Paths ps 0 ∷ Stamp n ∷ Stamp b ∷ []) refl hold wired.flags ready.foreign
-      (plain meaning p e L op.Swap (Flag (alarm true old) ∷ Paths ps 0 ∷ Stamp n ∷ Stamp b ∷ []) (Paths ps 0 ∷ Flag (alarm true old) ∷ Stamp n ∷ Stamp b ∷ []) (λ l. refl) refl refl
+      (plain meaning p e L op.Swap (Stamp n ∷ Paths 0 ps ∷ Stamp b ∷ []) (Paths 0 ps ∷ Stamp n ∷ Stamp b ∷ []) (λ l. refl) refl refl
+      (alarm_all meaning p e L true w.outputs old w.flags start (Paths 0 ps ∷ Stamp n ∷ Stamp b ∷ []) refl hold wired.flags ready.foreign
+      (plain meaning p e L op.Swap (Flag (alarm true old) ∷ Paths 0 ps ∷ Stamp n ∷ Stamp b ∷ []) (Paths 0 ps ∷ Flag (alarm true old) ∷ Stamp n ∷ Stamp b ∷ []) (λ l. refl) refl refl
       (h b (known refl))))))
   judged_by false is rest talk slots named old entry b ready hold known h =
-      plain meaning p e L op.Drop (Stamp b ∷ Paths (paths_in entry) 0 ∷ below false old (greatest named)) (Paths (paths_in entry) 0 ∷ below false old (greatest named)) (λ l. refl) refl refl
+      plain meaning p e L op.Drop (Stamp b ∷ Paths 0 (paths_in entry) ∷ below false old (greatest named)) (Paths 0 (paths_in entry) ∷ below false old (greatest named)) (λ l. refl) refl refl
       (h (least old) (sym (ap (λ (r : Bool). baseline r old entry) is)))
 
   -- where the recorded command is another, the paths are swept all the same
   pub skip_all : (r : Bool) (rest : List Instr) (talk : Talk) (slots : Slots) (old : List ℕ) (ps : List Path) (b n : ℕ)
-      → ((a : Bool) (x y : ℕ) → From meaning p e L rest (Paths ps 0 ∷ Flag a ∷ Stamp x ∷ Stamp y ∷ []) slots false false talk)
-      → From meaning p e L (skip_code r rest) (Stamp b ∷ Paths ps 0 ∷ below r old n) slots false false talk
+      → ((a : Bool) (x y : ℕ) → From meaning p e L rest (Paths 0 ps ∷ Flag a ∷ Stamp x ∷ Stamp y ∷ []) slots false false talk)
+      → From meaning p e L (skip_code r rest) (Stamp b ∷ Paths 0 ps ∷ below r old n) slots false false talk
   skip_all true rest talk slots old ps b n h =
-      plain meaning p e L op.Swap (Stamp b ∷ Paths ps 0 ∷ []) (Paths ps 0 ∷ Stamp b ∷ []) (λ l. refl) refl refl
-      (plain meaning p e L op.Zero (Paths ps 0 ∷ Stamp b ∷ []) (Stamp 0 ∷ Paths ps 0 ∷ Stamp b ∷ []) (λ l. refl) refl refl
-      (plain meaning p e L op.Swap (Stamp 0 ∷ Paths ps 0 ∷ Stamp b ∷ []) (Paths ps 0 ∷ Stamp 0 ∷ Stamp b ∷ []) (λ l. refl) refl refl
-      (plain meaning p e L (op.Flag false) (Paths ps 0 ∷ Stamp 0 ∷ Stamp b ∷ []) (Flag false ∷ Paths ps 0 ∷ Stamp 0 ∷ Stamp b ∷ []) (λ l. refl) refl refl
-      (plain meaning p e L op.Swap (Flag false ∷ Paths ps 0 ∷ Stamp 0 ∷ Stamp b ∷ []) (Paths ps 0 ∷ Flag false ∷ Stamp 0 ∷ Stamp b ∷ []) (λ l. refl) refl refl (h false 0 b)))))
+      plain meaning p e L op.Swap (Stamp b ∷ Paths 0 ps ∷ []) (Paths 0 ps ∷ Stamp b ∷ []) (λ l. refl) refl refl
+      (plain meaning p e L op.Zero (Paths 0 ps ∷ Stamp b ∷ []) (Stamp 0 ∷ Paths 0 ps ∷ Stamp b ∷ []) (λ l. refl) refl refl
+      (plain meaning p e L op.Swap (Stamp 0 ∷ Paths 0 ps ∷ Stamp b ∷ []) (Paths 0 ps ∷ Stamp 0 ∷ Stamp b ∷ []) (λ l. refl) refl refl
+      (plain meaning p e L (op.Flag false) (Paths 0 ps ∷ Stamp 0 ∷ Stamp b ∷ []) (Flag false ∷ Paths 0 ps ∷ Stamp 0 ∷ Stamp b ∷ []) (λ l. refl) refl refl
+      (plain meaning p e L op.Swap (Flag false ∷ Paths 0 ps ∷ Stamp 0 ∷ Stamp b ∷ []) (Paths 0 ps ∷ Flag false ∷ Stamp 0 ∷ Stamp b ∷ []) (λ l. refl) refl refl (h false 0 b)))))
   skip_all false rest talk slots old ps b n h =
-      plain meaning p e L op.Drop (Stamp b ∷ Paths ps 0 ∷ below false old n) (Paths ps 0 ∷ below false old n) (λ l. refl) refl refl (h (alarm false old) n (least old))
+      plain meaning p e L op.Drop (Stamp b ∷ Paths 0 ps ∷ below false old n) (Paths 0 ps ∷ below false old n) (λ l. refl) refl refl (h (alarm false old) n (least old))
 
   pub other_all : (rest : List Instr) (d : ℕ) (slots : Slots) (named old : List ℕ) (entry : Option Recorded) (b n : ℕ) → Ready slots named → Hold slots w.outputs old
       → (not c.generator && is_new c.command entry) ≡ true → drop d (code p e) ≡ dirty_code w → length (dirty_code w) ≤ length rest
-      → From meaning p e L (other_code w d rest) (Stamp b ∷ Paths (paths_in entry) 0 ∷ below w.restat old n) slots false false
+      → From meaning p e L (other_code w d rest) (Stamp b ∷ Paths 0 (paths_in entry) ∷ below w.restat old n) slots false false
       (stamps (paths_in entry) (λ swept. ends_as named old (is_dirty c named old entry swept)))
   other_all rest d slots named old entry b n ready hold fresh dirty_at le =
       skip_all w.restat (op.Sweep ∷ op.Drop ∷ op.Drop ∷ op.Jump d ∷ rest) _ slots old (paths_in entry) b n λ a x y.
@@ -265,10 +265,10 @@ module _ (meaning : Meaning) (p : Parts) (e : ℕ) (w : CommandWiring) (start : 
   -- ---- the comparison of the command, over any stack with room
 
   pub same_by : {rest : List Instr} {slots : Slots} {talk : Talk} (deep : List Value) → IsRoomy deep → (b : Bool) (t : List ℕ) (basis : ℕ) (ps : List Path)
-      → From meaning p e L rest (Flag (not (not b || not (same_text t (text_at p w.command)))) ∷ Stamp basis ∷ Paths ps 0 ∷ deep) slots false false talk
-      → From meaning p e L (same_code true w.command ++ rest) (Flag b ∷ Text t ∷ Stamp basis ∷ Paths ps 0 ∷ deep) slots false false talk
+      → From meaning p e L rest (Flag (not (not b || not (same_text t (text_at p w.command)))) ∷ Stamp basis ∷ Paths 0 ps ∷ deep) slots false false talk
+      → From meaning p e L (same_code true w.command ++ rest) (Flag b ∷ Text t ∷ Stamp basis ∷ Paths 0 ps ∷ deep) slots false false talk
   same_by deep low b t basis ps h =
-      let under : List Value = Stamp basis ∷ Paths ps 0 ∷ deep in
+      let under : List Value = Stamp basis ∷ Paths 0 ps ∷ deep in
       let d : List ℕ = text_at p w.command in
       plain meaning p e L op.Not (Flag b ∷ Text t ∷ under) (Flag (not b) ∷ Text t ∷ under) (λ l. refl) refl (less (omega arith) low)
       (plain meaning p e L op.Swap (Flag (not b) ∷ Text t ∷ under) (Text t ∷ Flag (not b) ∷ under) (λ l. refl) refl (less (omega arith) low)
@@ -288,31 +288,31 @@ module _ (meaning : Meaning) (p : Parts) (e : ℕ) (w : CommandWiring) (start : 
 
   -- the shorter comparison
   pub short_by : {rest : List Instr} {slots : Slots} {talk : Talk} (deep : List Value) → IsRoomy deep → (b : Bool) (t : List ℕ) (basis : ℕ) (ps : List Path)
-      → From meaning p e L rest (Flag (same_text t (text_at p w.command)) ∷ Stamp basis ∷ Paths ps 0 ∷ deep) slots false false talk
-      → From meaning p e L (same_code false w.command ++ rest) (Flag b ∷ Text t ∷ Stamp basis ∷ Paths ps 0 ∷ deep) slots false false talk
+      → From meaning p e L rest (Flag (same_text t (text_at p w.command)) ∷ Stamp basis ∷ Paths 0 ps ∷ deep) slots false false talk
+      → From meaning p e L (same_code false w.command ++ rest) (Flag b ∷ Text t ∷ Stamp basis ∷ Paths 0 ps ∷ deep) slots false false talk
   short_by deep low b t basis ps h =
-      let under : List Value = Stamp basis ∷ Paths ps 0 ∷ deep in
+      let under : List Value = Stamp basis ∷ Paths 0 ps ∷ deep in
       plain meaning p e L op.Drop (Flag b ∷ Text t ∷ under) (Text t ∷ under) (λ l. refl) refl (less (omega arith) low)
       (text meaning p e L w.command (text_at p w.command) wired.command (less (omega arith) low)
       (plain meaning p e L op.Equal (Text (text_at p w.command) ∷ Text t ∷ under) (Flag (same_text t (text_at p w.command)) ∷ under) (λ l. refl) refl (less (omega arith) low) h))
 
   pub same_all : {rest : List Instr} {slots : Slots} {talk : Talk} (blank : Bool) → w.blank ≡ blank → (deep : List Value) → IsRoomy deep → (o : Option Recorded)
-      → From meaning p e L rest (Flag (not (is_new c.command o)) ∷ Stamp (basis_in o) ∷ Paths (paths_in o) 0 ∷ deep) slots false false talk
+      → From meaning p e L rest (Flag (not (is_new c.command o)) ∷ Stamp (basis_in o) ∷ Paths 0 (paths_in o) ∷ deep) slots false false talk
       → From meaning p e L (same_code blank w.command ++ rest) (entry_values o deep) slots false false talk
   same_all true is deep low (Some y) h = same_by deep low true y.command y.basis y.paths h
   same_all true is deep low None h = same_by deep low false [] 0 [] h
   same_all {rest = rest} {slots = slots} {talk = talk} false is deep low (Some y) h =
-      short_by deep low true y.command y.basis y.paths (subst (λ (b : Bool). From meaning p e L rest (Flag b ∷ Stamp y.basis ∷ Paths y.paths 0 ∷ deep) slots false false talk) (not_not (same_text y.command (text_at p w.command))) h)
+      short_by deep low true y.command y.basis y.paths (subst (λ (b : Bool). From meaning p e L rest (Flag b ∷ Stamp y.basis ∷ Paths 0 y.paths ∷ deep) slots false false talk) (not_not (same_text y.command (text_at p w.command))) h)
   same_all {rest = rest} {slots = slots} {talk = talk} false is deep low None h =
-      short_by deep low false [] 0 [] (subst (λ (b : Bool). From meaning p e L rest (Flag b ∷ Stamp 0 ∷ Paths [] 0 ∷ deep) slots false false talk) (sym (no_text (text_at p w.command) (wired.unblank is))) h)
+      short_by deep low false [] 0 [] (subst (λ (b : Bool). From meaning p e L rest (Flag b ∷ Stamp 0 ∷ Paths 0 [] ∷ deep) slots false false talk) (sym (no_text (text_at p w.command) (wired.unblank is))) h)
 
   -- ---- a generator looks at no command
 
   pub drop_two : {rest : List Instr} {slots : Slots} {talk : Talk} (deep : List Value) → IsRoomy deep → (o : Option Recorded)
-      → From meaning p e L rest (Stamp (basis_in o) ∷ Paths (paths_in o) 0 ∷ deep) slots false false talk → From meaning p e L (op.Drop ∷ op.Drop ∷ rest) (entry_values o deep) slots false false talk
+      → From meaning p e L rest (Stamp (basis_in o) ∷ Paths 0 (paths_in o) ∷ deep) slots false false talk → From meaning p e L (op.Drop ∷ op.Drop ∷ rest) (entry_values o deep) slots false false talk
   drop_two deep low (Some y) h =
-      plain meaning p e L op.Drop (entry_values (Some y) deep) (Text y.command ∷ Stamp y.basis ∷ Paths y.paths 0 ∷ deep) (λ l. refl) refl (less (omega arith) low)
-      (plain meaning p e L op.Drop (Text y.command ∷ Stamp y.basis ∷ Paths y.paths 0 ∷ deep) (Stamp y.basis ∷ Paths y.paths 0 ∷ deep) (λ l. refl) refl (less (omega arith) low) h)
+      plain meaning p e L op.Drop (entry_values (Some y) deep) (Text y.command ∷ Stamp y.basis ∷ Paths 0 y.paths ∷ deep) (λ l. refl) refl (less (omega arith) low)
+      (plain meaning p e L op.Drop (Text y.command ∷ Stamp y.basis ∷ Paths 0 y.paths ∷ deep) (Stamp y.basis ∷ Paths 0 y.paths ∷ deep) (λ l. refl) refl (less (omega arith) low) h)
   drop_two deep low None h =
-      plain meaning p e L op.Drop (entry_values None deep) (Text [] ∷ Stamp 0 ∷ Paths [] 0 ∷ deep) (λ l. refl) refl (less (omega arith) low)
-      (plain meaning p e L op.Drop (Text [] ∷ Stamp 0 ∷ Paths [] 0 ∷ deep) (Stamp 0 ∷ Paths [] 0 ∷ deep) (λ l. refl) refl (less (omega arith) low) h)
+      plain meaning p e L op.Drop (entry_values None deep) (Text [] ∷ Stamp 0 ∷ Paths 0 [] ∷ deep) (λ l. refl) refl (less (omega arith) low)
+      (plain meaning p e L op.Drop (Text [] ∷ Stamp 0 ∷ Paths 0 [] ∷ deep) (Stamp 0 ∷ Paths 0 [] ∷ deep) (λ l. refl) refl (less (omega arith) low) h)

@@ -106,14 +106,14 @@ pub stamp_is : (v : Value) → kind_of v ≡ kind.Stamp → (n : ℕ) × (v ≡ 
 stamp_is (Stamp n) h = (n, refl)
 stamp_is (Flag b) h = absurd cc
 stamp_is (Text t) h = absurd cc
-stamp_is (Paths all n) h = absurd cc
+stamp_is (Paths n all) h = absurd cc
 stamp_is (Swept all) h = absurd cc
 
 pub flag_is : (v : Value) → kind_of v ≡ kind.Flag → (b : Bool) × (v ≡ Flag b)
 flag_is (Flag b) h = (b, refl)
 flag_is (Stamp n) h = absurd cc
 flag_is (Text t) h = absurd cc
-flag_is (Paths all n) h = absurd cc
+flag_is (Paths n all) h = absurd cc
 flag_is (Swept all) h = absurd cc
 
 -- a number that is among some or among others
