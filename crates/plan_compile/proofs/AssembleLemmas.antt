@@ -1,5 +1,5 @@
 -- The edges and the bodies of an image, as the code makes them, are what is meant.
-use Rattle.std.proofs.Common.{◌≡◌, ℕ, zero, suc, ◌+◌, Bool, true, false, List, [], ◌∷◌, ◌++◌, length, drop, map, Option, Some, None, refl, sym, ap, subst, ◌∙◌, arith, inl, inr}
+use Rattle.std.proofs.Common.{◌≡◌, ℕ, zero, suc, ◌+◌, Bool, true, false, List, [], ◌∷◌, ◌++◌, length, drop, map, Some, refl, sym, ap, subst, ◌∙◌, arith, inl, inr}
 use Rattle.std.specs.Prelude.{◌||◌, ◌==◌, slice_get, nat_le}
 use Rattle.std.proofs.lemmas.Bool.{eqb-true}
 use Rattle.std.specs.List.{list_any}
@@ -13,27 +13,25 @@ use Rattle.plan_image.specs.Bodies.{body_of, operands_of}
 use Rattle.plan_image.specs.declared.image.EdgeCode.TheVariants.{Shared}
 use Rattle.plan_verify.specs.Members.{is_member}
 use Rattle.plan_compile.specs.declared.wiring.Output.{Output}
-use Rattle.plan_compile.specs.declared.wiring.Wiring.{Wiring}
 use Rattle.plan_compile.specs.declared.wiring.Wiring.TheVariants as wiring
 use Rattle.plan_compile.specs.declared.form.Form.{Form}
 use Rattle.plan_compile.specs.declared.form.Form.TheVariants.{OneFlag, OwnFlags, Gathers, Alone}
-use Rattle.plan_compile.specs.Assembling.{command_in, first_changed, gather_in, wire_in, codes_in}
+use Rattle.plan_compile.specs.Assembling.{command_in, first_changed, wire_in, codes_in}
 use Rattle.plan_compile.specs.BodyKeys.{Body, same_body}
 use Rattle.plan_compile.specs.Builds.{Build, Builds}
 use Rattle.plan_compile.specs.Emit.{code_of}
 use Rattle.plan_compile.specs.Faithful.{IsEdge, IsSound}
-use Rattle.plan_compile.specs.Images.{command_wiring, gather_wiring, wire_by, wire, codes_from, codes, used_bodies, edge_by, edge_of, edges_of, image_of}
-use Rattle.plan_compile.specs.Means.{files_of}
+use Rattle.plan_compile.specs.Images.{command_wiring, wire_by, wire, codes_from, codes, used_bodies, edge_by, edge_of, edges_of, image_of}
 use Rattle.plan_compile.specs.Names.{Text, all_texts, declared, used_pools}
 use Rattle.plan_compile.specs.Numbering.{has, number, with_item, with_items}
 use Rattle.plan_compile.specs.OutputTable.{Table, found, inputs_in, outputs_in, sources_in}
-use Rattle.plan_compile.specs.Slots.{form_of, own_len, outputs_by, outputs_sharing, made, base, newest_by, newest_from, slots_from, all_made, find, inputs_by, sources, flags_once}
+use Rattle.plan_compile.specs.Slots.{form_of, own_len, outputs_by, outputs_sharing, made, base, newest_by, newest_from, slots_from, all_made, inputs_by, sources}
 use Rattle.plan_compile.proofs.BodyKeyLemmas.{bodies_decide}
 use Rattle.plan_compile.proofs.BuildLemmas.{drop_here}
-use Rattle.plan_compile.proofs.ListLemmas.{some_is, bool_cases, or_false}
+use Rattle.plan_compile.proofs.ListLemmas.{bool_cases, or_false}
 use Rattle.plan_compile.proofs.LookupLemmas.{table_of, found_is, inputs_meant, sources_meant, found_outputs}
 use Rattle.plan_compile.proofs.MemberLemmas.{in_get, in_member}
-use Rattle.plan_compile.proofs.NumberingLemmas.{IsKept, items_keep, item_has}
+use Rattle.plan_compile.proofs.NumberingLemmas.{items_keep, item_has}
 use Rattle.plan_compile.proofs.OnceLemmas.{file_at, one_assignment}
 use Rattle.plan_compile.proofs.OutputLemmas.{files_made}
 

@@ -1,8 +1,7 @@
 -- A table of bodies, by the set of their keys.
-use Rattle.std.proofs.Common.{◌≡◌, ℕ, zero, suc, ◌+◌, Bool, true, false, List, [], ◌∷◌, ◌++◌, map, not, cond, refl, sym, ap, subst, ◌∙◌, bytes_eq, arith}
+use Rattle.std.proofs.Common.{◌≡◌, ℕ, zero, suc, ◌+◌, Bool, true, false, List, [], ◌∷◌, ◌++◌, map, not, cond, refl, sym, ap, ◌∙◌, bytes_eq, arith}
 use Rattle.std.specs.Prelude.{◌||◌, if◌then◌else◌}
 use Rattle.std.specs.List.{list_any, position_or_len}
-use Rattle.std.proofs.lemmas.List.Recursion.{is_position_or_len}
 use Rattle.plan_compile.specs.BodyKeys.{Body, key_of, same_body}
 use Rattle.plan_compile.specs.Numbering.{has, with_item, number}
 use Rattle.plan_compile.proofs.NumberingLemmas.{number_put}

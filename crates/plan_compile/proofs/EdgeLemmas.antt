@@ -1,6 +1,6 @@
 -- The edges of an image, and what it says of them.
-use Rattle.std.proofs.Common.{◌≡◌, ℕ, zero, suc, ◌+◌, ◌<◌, ◌≤◌, Bool, true, false, List, [], ◌∷◌, ◌++◌, length, map, Option, Some, None, refl, sym, ap, subst, ◌∙◌, arith, inl, inr}
-use Rattle.std.specs.Prelude.{◌⊎◌, slice_get, option_map, flat_map, bytes_eq}
+use Rattle.std.proofs.Common.{◌≡◌, ℕ, zero, suc, ◌+◌, ◌≤◌, Bool, true, false, List, [], ◌∷◌, length, map, Option, Some, None, refl, ap, ◌∙◌, arith}
+use Rattle.std.specs.Prelude.{slice_get, option_map, flat_map, bytes_eq}
 use Rattle.std.proofs.lemmas.Option.{slice_get-map}
 use Rattle.plan_scope.specs.declared.manifest.Pool.{Pool as ManifestPool}
 use Rattle.plan_image.specs.declared.instr.Instr.{Instr}
@@ -13,11 +13,10 @@ use Rattle.plan_compile.specs.declared.wiring.Output.{Output}
 use Rattle.plan_compile.specs.Builds.{Build, Builds}
 use Rattle.plan_compile.specs.BodyKeys.{Body, same_body}
 use Rattle.plan_compile.specs.Emit.{code_of}
-use Rattle.plan_compile.specs.Numbering.{once, number}
 use Rattle.plan_compile.specs.Slots.{base, own_len, all_made}
 use Rattle.plan_compile.specs.Names.{Text, text_number, unless_empty, label_of, texts_in, all_texts, pool_by, pool_in, used_pools, pool_number, declared}
 use Rattle.plan_compile.specs.Images.{wire, codes_from, codes, used_bodies, edge_of, edges_of, image_of}
-use Rattle.plan_compile.specs.Faithful.{IsEdge, HasPool, IsEdgeOf, IsFaithful}
+use Rattle.plan_compile.specs.Faithful.{IsEdge, HasPool, IsFaithful}
 use Rattle.plan_compile.proofs.ListLemmas.{some_is, get_front, get_past}
 use Rattle.plan_compile.proofs.NumberingLemmas.{texts_decide, found}
 use Rattle.plan_compile.proofs.BodyKeyLemmas.{bodies_decide}

@@ -1,13 +1,12 @@
 -- The image means the rule, and is well shaped, since the code of each edge does and is.
-use Rattle.std.proofs.Common.{◌≡◌, ℕ, zero, suc, ◌<◌, Bool, true, false, List, [], ◌∷◌, length, map, Option, Some, None, refl, sym, ap, subst, ◌∙◌, arith}
-use Rattle.std.specs.Prelude.{◌&&◌, slice_get}
+use Rattle.std.proofs.Common.{◌≡◌, ℕ, zero, suc, ◌<◌, List, [], ◌∷◌, length, map, Some, refl, ap, subst, ◌∙◌, arith}
+use Rattle.std.specs.Prelude.{slice_get}
 use Rattle.plan_image.specs.Bodies.{IsSplit}
 use Rattle.plan_image.specs.Code.{code}
 use Rattle.plan_verify.specs.Turn.{Slots, Meaning}
 use Rattle.plan_verify.specs.Alone.{at_begin}
 use Rattle.plan_verify.specs.Sound.{AreTyped, AreLentSet}
-use Rattle.plan_verify.specs.Shape.{table_refusal}
-use Rattle.plan_verify.specs.WellShaped.{IsShapedEdge, IsWellShaped}
+use Rattle.plan_verify.specs.WellShaped.{IsShapedEdge}
 use Rattle.plan_compile.specs.declared.form.Form.{Form}
 use Rattle.plan_compile.specs.declared.form.Form.TheVariants.{OneFlag, OwnFlags, Gathers, Alone}
 use Rattle.plan_compile.specs.Talk.{Talk, Obeys}
@@ -15,9 +14,9 @@ use Rattle.plan_compile.specs.Means.{Leaves, IsWired}
 use Rattle.plan_compile.specs.Laws.{CommandMeans, PhonyMeans, CommandShaped, PhonyShaped}
 use Rattle.plan_compile.specs.Builds.{Build, Builds}
 use Rattle.plan_compile.specs.Emit.{code_of}
-use Rattle.plan_compile.specs.Slots.{form_of, base, outputs_by, made, all_made}
+use Rattle.plan_compile.specs.Slots.{form_of, base, outputs_by, all_made}
 use Rattle.plan_compile.specs.Names.{all_texts}
-use Rattle.plan_compile.specs.Images.{wire_by, wire, image_of}
+use Rattle.plan_compile.specs.Images.{wire_by, image_of}
 use Rattle.plan_compile.specs.Faithful.{IsEdge, IsSound}
 use Rattle.plan_compile.specs.Told.{told, facts, edge_does, ImageMeans, ImageIsShaped}
 use Rattle.plan_compile.proofs.EdgeLemmas.{image_code, image_count}

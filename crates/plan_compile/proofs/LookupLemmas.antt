@@ -1,6 +1,6 @@
 -- What is read of the table of outputs is what is meant.
-use Rattle.std.proofs.Common.{◌≡◌, ℕ, zero, suc, ◌<◌, Bool, true, false, List, [], ◌∷◌, length, replicate, Option, Some, None, refl, sym, ap, subst, ◌∙◌, arith, inl, inr}
-use Rattle.std.specs.Prelude.{◌⊎◌, ◌||◌, ◌==◌, not, slice_get, slice_set, if◌then◌else◌, nat_le, is_some}
+use Rattle.std.proofs.Common.{◌≡◌, ℕ, zero, suc, ◌<◌, Bool, true, false, List, [], ◌∷◌, replicate, Option, Some, None, refl, sym, ap, ◌∙◌, arith, inl, inr}
+use Rattle.std.specs.Prelude.{◌||◌, ◌==◌, slice_get, slice_set, if◌then◌else◌, nat_le, is_some}
 use Rattle.std.specs.List.{list_any}
 use Rattle.std.proofs.lemmas.Bool.{eqb-true, eq-eqb, leb-false}
 use Rattle.std.proofs.lemmas.Option.{slice_get_within}
@@ -11,7 +11,7 @@ use Rattle.plan_compile.specs.OutputTable.{Table, put, put_in, filled, found, in
 use Rattle.plan_compile.specs.Means.{files_of}
 use Rattle.plan_compile.specs.Slots.{find, input_by, inputs_by, sources}
 use Rattle.plan_compile.proofs.SlotFacts.{get_same, get_other}
-use Rattle.plan_compile.proofs.ListLemmas.{some_is, bool_cases, or_false}
+use Rattle.plan_compile.proofs.ListLemmas.{bool_cases, or_false}
 
 -- ---- other numbers with the same members
 

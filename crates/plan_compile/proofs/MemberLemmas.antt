@@ -1,10 +1,10 @@
 -- Members of lists.
-use Rattle.std.proofs.Common.{◌≡◌, ℕ, zero, suc, ◌+◌, ◌<◌, Bool, true, false, List, [], ◌∷◌, ◌++◌, length, map, take, drop, Option, Some, None, refl, sym, ap, subst, ◌∙◌, arith, cond, inl, inr}
-use Rattle.std.specs.Prelude.{◌⊎◌, ◌||◌, ◌==◌, not, slice_get, slice_index_or, get_or, nat_le, Contains, All, filter}
+use Rattle.std.proofs.Common.{◌≡◌, ℕ, zero, suc, ◌<◌, Bool, true, false, List, [], ◌∷◌, ◌++◌, length, map, take, drop, Some, refl, ap, subst, ◌∙◌, arith, cond, inl, inr}
+use Rattle.std.specs.Prelude.{◌⊎◌, ◌||◌, ◌==◌, slice_get, slice_index_or, get_or, nat_le, Contains, All, filter}
 use Rattle.std.specs.List.{list_any}
 use Rattle.std.proofs.lemmas.Bool.{eqb-true, eq-eqb, lt-leb}
 use Rattle.plan_verify.specs.Members.{is_member}
-use Rattle.plan_compile.proofs.ListLemmas.{some_is, bool_cases, or_cases, or_left, or_right}
+use Rattle.plan_compile.proofs.ListLemmas.{some_is, or_cases, or_left, or_right}
 
 -- membership by recursion
 abbrev pub In : {X : Type 0} → X → List X → Type 0

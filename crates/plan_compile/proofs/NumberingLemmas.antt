@@ -1,10 +1,9 @@
 -- An item's number leads to it, and each item is kept once.
-use Rattle.std.proofs.Common.{◌≡◌, ◌≢◌, ℕ, zero, suc, ◌+◌, Bool, true, false, List, [], ◌∷◌, ◌++◌, length, Option, Some, None, refl, sym, ap, subst, ◌∙◌, arith, inl, inr}
-use Rattle.std.specs.Prelude.{◌⊎◌, ◌||◌, slice_get, if◌then◌else◌, map, bytes_eq}
-use Rattle.std.specs.List.{list_any}
+use Rattle.std.proofs.Common.{◌≡◌, ℕ, zero, suc, Bool, true, false, List, [], ◌∷◌, ◌++◌, Some, refl, sym, ap, subst, ◌∙◌}
+use Rattle.std.specs.Prelude.{◌||◌, slice_get, if◌then◌else◌, bytes_eq}
 use Rattle.std.proofs.lemmas.Slice.Eq.{bytes_eq-Decides}
 use Rattle.plan_compile.specs.Numbering.{has, with_item, with_items, once, number}
-use Rattle.plan_compile.proofs.ListLemmas.{bool_cases, or_cases, or_left, or_right}
+use Rattle.plan_compile.proofs.ListLemmas.{or_left, or_right}
 
 -- `same` decides equality
 pub record Decides {A : Type 0} (same : A → A → Bool) : Type 0 where

@@ -1,12 +1,12 @@
 -- An output's maker and its users read the same slots.
-use Rattle.std.proofs.Common.{◌≡◌, ℕ, zero, suc, ◌+◌, ◌<◌, ◌≤◌, Bool, true, false, List, [], ◌∷◌, ◌++◌, length, Option, Some, None, refl, sym, ap, subst, ◌∙◌, arith, inl, inr}
-use Rattle.std.specs.Prelude.{◌⊎◌, ◌||◌, ◌==◌, slice_get, option_map, if◌then◌else◌}
+use Rattle.std.proofs.Common.{◌≡◌, ℕ, zero, suc, ◌+◌, Bool, true, false, List, [], ◌∷◌, ◌++◌, Some, refl, sym, ap, subst, ◌∙◌, arith, inl, inr}
+use Rattle.std.specs.Prelude.{◌==◌, slice_get, option_map, if◌then◌else◌}
 use Rattle.std.proofs.lemmas.Bool.{eqb-true, eq-eqb}
 use Rattle.std.proofs.lemmas.Option.{slice_get-map}
 use Rattle.plan_compile.specs.declared.wiring.Output.{Output}
-use Rattle.plan_compile.specs.Builds.{Build, Builds}
+use Rattle.plan_compile.specs.Builds.{Build}
 use Rattle.plan_compile.specs.Slots.{form_of, find, base, own_len, made, all_made}
-use Rattle.plan_compile.specs.Faithful.{IsSound, OneAssignment}
+use Rattle.plan_compile.specs.Faithful.{OneAssignment}
 use Rattle.plan_compile.proofs.ListLemmas.{some_is, bool_cases}
 use Rattle.plan_compile.proofs.OutputLemmas.{files_made}
 use Rattle.plan_compile.proofs.WiringLemmas.{IsMadeBy, maker}

@@ -1,11 +1,10 @@
 -- What lies in the slots of an edge's outputs.
-use Rattle.std.proofs.Common.{◌≡◌, ℕ, zero, suc, ◌+◌, ◌<◌, ◌≤◌, Bool, true, false, List, [], ◌∷◌, ◌++◌, length, Option, Some, None, refl, sym, ap, subst, ◌∙◌, arith, inl, inr}
-use Rattle.std.specs.Prelude.{◌⊎◌, ◌||◌, ◌&&◌, ◌==◌, slice_get, if◌then◌else◌, nat_le}
+use Rattle.std.proofs.Common.{◌≡◌, ℕ, zero, suc, ◌+◌, ◌<◌, Bool, true, false, List, [], ◌∷◌, ◌++◌, length, Some, refl, ap, subst, ◌∙◌, arith, inl, inr}
+use Rattle.std.specs.Prelude.{◌⊎◌, ◌==◌, slice_get, if◌then◌else◌, nat_le}
 use Rattle.std.specs.List.{list_any}
-use Rattle.std.proofs.lemmas.Bool.{eqb-true, eq-eqb}
+use Rattle.std.proofs.lemmas.Bool.{eq-eqb}
 use Rattle.plan_image.specs.declared.instr.Kind.{Kind}
 use Rattle.plan_image.specs.declared.instr.Kind.TheVariants.{Stamp, Flag}
-use Rattle.plan_image.specs.declared.image.Slot.{Slot}
 use Rattle.plan_image.specs.declared.image.Parts.{Parts}
 use Rattle.plan_verify.specs.Members.{is_member}
 use Rattle.plan_verify.specs.Tables.{owned_by, kind_in}
@@ -14,7 +13,7 @@ use Rattle.plan_compile.specs.declared.form.Form.{Form}
 use Rattle.plan_compile.specs.declared.form.Form.TheVariants.{OneFlag, OwnFlags, Gathers, Alone}
 use Rattle.plan_compile.specs.Means.{IsNoStamp, IsNoFlag, AreApart, HaveOwnFlags, ShareFlag, Share, slots_of, files_of, IsOwnOf, AreOutputs}
 use Rattle.plan_compile.specs.Slots.{stamps, pairs, kinds_by, outputs_flagged, outputs_apart, outputs_sharing, outputs_by, find}
-use Rattle.plan_compile.proofs.ListLemmas.{some_is, bool_cases, or_cases, or_false, or_left, or_right}
+use Rattle.plan_compile.proofs.ListLemmas.{some_is, bool_cases, or_false, or_left, or_right}
 
 -- ---- slots from b on are of an edge and these kinds
 

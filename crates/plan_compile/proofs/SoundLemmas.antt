@@ -1,8 +1,8 @@
 -- A manifest that has a graph is sound: its edges' files are in the table, ranks rise along waits, no file is made twice.
-use Rattle.std.proofs.Common.{◌≡◌, ℕ, zero, suc, ◌+◌, ◌<◌, ◌≤◌, Bool, true, false, List, [], ◌∷◌, ◌++◌, length, map, take, drop, Option, Some, None, refl, sym, ap, subst, ◌∙◌, arith, cond, inl, inr}
-use Rattle.std.specs.Prelude.{◌⊎◌, ◌||◌, ◌==◌, not, slice_get, slice_index, get_or, nat_le, nat_lt, Contains, All, filter, flat_map, bytes_eq, if◌then◌else◌}
+use Rattle.std.proofs.Common.{◌≡◌, ℕ, zero, suc, ◌+◌, ◌<◌, Bool, true, false, List, [], ◌∷◌, ◌++◌, length, map, take, drop, Option, Some, None, refl, sym, ap, subst, ◌∙◌, arith, cond, inl, inr}
+use Rattle.std.specs.Prelude.{◌⊎◌, ◌||◌, not, slice_get, slice_index, get_or, nat_le, nat_lt, Contains, All, filter, flat_map, bytes_eq, if◌then◌else◌}
 use Rattle.std.specs.List.{list_any}
-use Rattle.std.proofs.lemmas.Bool.{eqb-true, eq-eqb, lt-leb, lt-ltb}
+use Rattle.std.proofs.lemmas.Bool.{eqb-true, eq-eqb, lt-ltb}
 use Rattle.std.proofs.lemmas.Slice.Eq.{bytes_eq-Decides}
 use Rattle.plan_scope.specs.declared.manifest.Edge.{Edge as ManifestEdge}
 use Rattle.plan_scope.specs.declared.manifest.DefaultTarget.{DefaultTarget}
@@ -11,16 +11,15 @@ use Rattle.plan_scope.specs.Edges.{is_among}
 use Rattle.plan_scope.specs.Scopes.{or_else}
 use Rattle.plan_scope.specs.Sound.{IsSoundEdge, names_of}
 use Rattle.plan_scope.specs.Sound.{IsSound as IsSoundManifest}
-use Rattle.plan_graph.specs.declared.fault.GraphFault.{GraphFault}
 use Rattle.plan_graph.specs.declared.fault.GraphFault.TheVariants.{TwoProducers}
 use Rattle.plan_graph.specs.declared.graph_data.Graph.{Graph}
 use Rattle.plan_graph.specs.Cycles.{WaitsFor}
 use Rattle.plan_graph.specs.Files.{Path, number_of, paths_in, producer_at}
-use Rattle.plan_graph.specs.Graph.{IsGraph, outputs_of, inputs_named, named_inputs_of, order_only_of, inputs_of, all_waits, files_of, rows_of, producer_of, producer_from, second_producer, unknown_target, edge_limit, targets_above, fault_past, first_fault}
+use Rattle.plan_graph.specs.Graph.{IsGraph, outputs_of, inputs_named, named_inputs_of, order_only_of, inputs_of, all_waits, files_of, producer_of, producer_from, second_producer, unknown_target, edge_limit, targets_above, fault_past}
 use Rattle.plan_graph.specs.Graph.{without_own as without_own_paths}
 use Rattle.plan_graph.specs.Laws.{FilesComplete, ProducersNumbered, ProducersWaited, RanksRise, WaitsAscend, DefaultsAscend}
 use Rattle.plan_verify.specs.Members.{is_member}
-use Rattle.plan_compile.specs.Builds.{Build, Builds, without_own, without_made, is_maker, named_count, build_at, builds_from, builds}
+use Rattle.plan_compile.specs.Builds.{Build, without_own, without_made, is_maker, named_count, build_at, builds_from, builds}
 use Rattle.plan_compile.specs.Faithful.{IsEdge, IsSound}
 use Rattle.plan_compile.proofs.ListLemmas.{some_is, bool_cases}
 use Rattle.plan_compile.proofs.MemberLemmas.{In, in_list, contained, in_get, get_in, member_in, in_member, in_take, in_drop, filter_in, in_filter, in_map, map_in, in_append, append_left, append_right, none_above, of_all, get_lt, row_of}

@@ -1,16 +1,13 @@
 -- What a table of texts shows of its set.
-use Rattle.std.proofs.Common.{◌≡◌, ℕ, zero, suc, Bool, true, false, List, [], ◌∷◌, ◌++◌, Option, Some, None, length, drop, cond, refl, sym, ap, subst, ◌∙◌, bytes_eq, map, Bor, arith, ◌+◌, ◌≤◌}
-use Rattle.std.specs.Prelude.{◌||◌, if◌then◌else◌, nat_lt, position, slice_get, option_map}
+use Rattle.std.proofs.Common.{◌≡◌, ℕ, zero, suc, Bool, true, false, List, [], ◌∷◌, ◌++◌, Option, Some, None, length, cond, refl, sym, ap, ◌∙◌, bytes_eq, map, Bor, arith, ◌+◌, ◌≤◌}
+use Rattle.std.specs.Prelude.{◌||◌, if◌then◌else◌, nat_lt, position}
 use Rattle.std.proofs.lemmas.Bool.{ltb-false}
-use Rattle.std.proofs.lemmas.List.{append_assoc}
-use Rattle.std.proofs.lemmas.Option.{slice_get-map}
 use Rattle.std.specs.List.{list_any, position_or_len}
 use Rattle.std.proofs.lemmas.List.Recursion.{is_position_or_len}
 use Rattle.indexmap.specs.IndexSet.{insert_key}
 use Rattle.plan_compile.specs.Names.{Text, text_number}
-use Rattle.plan_compile.specs.Numbering.{has, with_item, number}
+use Rattle.plan_compile.specs.Numbering.{has, with_item}
 use Rattle.plan_compile.proofs.ListLemmas.{some_is}
-use Rattle.plan_compile.proofs.BuildLemmas.{drop_here}
 
 abbrev pub Key : Type 0
 Key = Bor (List ℕ)

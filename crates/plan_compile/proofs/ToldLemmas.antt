@@ -1,27 +1,23 @@
 -- What the numbers of an edge stand for is what the rule is told of it.
-use Rattle.std.proofs.Common.{◌≡◌, ℕ, zero, suc, ◌+◌, Bool, true, false, List, [], ◌∷◌, length, map, Option, Some, None, refl, sym, ap, subst, ◌∙◌, inl, inr}
-use Rattle.std.specs.Prelude.{◌⊎◌, ◌||◌, ◌&&◌, ◌==◌, slice_get, if◌then◌else◌, is_some, bytes_eq}
-use Rattle.std.specs.List.{list_any}
+use Rattle.std.proofs.Common.{◌≡◌, ℕ, zero, Bool, true, false, List, [], ◌∷◌, map, Option, Some, None, refl, sym, ap, ◌∙◌, inl, inr}
+use Rattle.std.specs.Prelude.{◌||◌, ◌&&◌, ◌==◌, slice_get, if◌then◌else◌, is_some}
 use Rattle.std.proofs.lemmas.Bool.{eqb-true, eq-eqb}
 use Rattle.plan_image.specs.declared.image.Parts.{Parts}
 use Rattle.plan_verify.specs.Members.{is_member}
 use Rattle.plan_verify.specs.Turn.{Slots, Meaning}
-use Rattle.plan_compile.specs.declared.wiring.Input.{Input}
-use Rattle.plan_compile.specs.declared.wiring.Input.TheVariants.{File, Made}
 use Rattle.plan_compile.specs.declared.wiring.Output.{Output}
 use Rattle.plan_compile.specs.declared.form.Form.{Form}
 use Rattle.plan_compile.specs.declared.form.Form.TheVariants.{OneFlag, OwnFlags, Gathers, Alone}
-use Rattle.plan_compile.specs.Talk.{Talk}
 use Rattle.plan_compile.specs.Rule.{Path, Given, SourceFile, Command, is_among, asked, does, does_phony}
-use Rattle.plan_compile.specs.Rule.{Made as MadeBy, has_none as has_none_given}
-use Rattle.plan_compile.specs.Means.{text_in, text_at, path_at, given, source_file, output_path, depfile_text, files_of, command_of, phony_of, rule_of, AreGiven}
+use Rattle.plan_compile.specs.Rule.{has_none as has_none_given}
+use Rattle.plan_compile.specs.Means.{text_in, text_at, given, source_file, output_path, depfile_text, files_of, command_of, rule_of, AreGiven}
 use Rattle.plan_compile.specs.Builds.{Build, Builds}
 use Rattle.plan_compile.specs.Slots.{has_none, form_of, base, outputs_by, all_made, find, input_by, inputs_by, sources}
 use Rattle.plan_compile.specs.Names.{Text, text_number, unless_empty, all_texts, depfile_number}
-use Rattle.plan_compile.specs.Images.{command_wiring, gather_wiring, wire_by, image_of}
+use Rattle.plan_compile.specs.Images.{command_wiring, wire_by, image_of}
 use Rattle.plan_compile.specs.Faithful.{IsEdge}
 use Rattle.plan_compile.specs.Told.{path_in, told_by, told, facts, edge_does}
-use Rattle.plan_compile.proofs.ListLemmas.{bool_cases, or_left, or_right, or_false}
+use Rattle.plan_compile.proofs.ListLemmas.{bool_cases}
 use Rattle.plan_compile.proofs.OutputLemmas.{files_made}
 use Rattle.plan_compile.proofs.WiringLemmas.{command_found, depfile_found, one_flag_is, own_flags_is, gathers_is, alone_is}
 

@@ -1,33 +1,31 @@
 -- The numbers of each edge are right in the image.
-use Rattle.std.proofs.Common.{◌≡◌, ℕ, zero, suc, ◌+◌, ◌<◌, ◌≤◌, Bool, true, false, List, [], ◌∷◌, ◌++◌, length, map, Option, Some, None, refl, sym, ap, subst, ◌∙◌, arith, inl, inr}
-use Rattle.std.specs.Prelude.{◌⊎◌, ◌||◌, ◌&&◌, ◌==◌, not, slice_get, if◌then◌else◌, nat_le, nat_lt, is_some, bytes_eq}
-use Rattle.std.specs.List.{list_any, list_all}
+use Rattle.std.proofs.Common.{◌≡◌, ℕ, zero, suc, ◌+◌, ◌<◌, Bool, true, false, List, [], ◌∷◌, length, Option, Some, None, refl, sym, ap, subst, ◌∙◌, arith, inl, inr}
+use Rattle.std.specs.Prelude.{◌||◌, ◌&&◌, ◌==◌, slice_get, if◌then◌else◌, nat_le, nat_lt, is_some}
+use Rattle.std.specs.List.{list_any}
 use Rattle.std.proofs.lemmas.Bool.{eqb-true, eq-eqb, ltb-true, lt-leb}
 use Rattle.std.proofs.lemmas.Option.{slice_get_within}
 use Rattle.plan_image.specs.declared.instr.Kind.{Kind}
 use Rattle.plan_image.specs.declared.instr.Kind.TheVariants.{Stamp, Flag}
-use Rattle.plan_image.specs.declared.image.Slot.{Slot}
 use Rattle.plan_image.specs.declared.image.Edge.{Edge}
 use Rattle.plan_image.specs.declared.image.Parts.{Parts}
 use Rattle.plan_verify.specs.Members.{is_member, with_member}
-use Rattle.plan_verify.specs.Tables.{owned_by, kind_in, lent_by, waits_in, waits_of, own_slots, outputs_of, outputs_in, pool_in, is_outside, pool_outside}
+use Rattle.plan_verify.specs.Tables.{owned_by, kind_in, lent_by, waits_in, waits_of, outputs_in, pool_in, is_outside}
 use Rattle.plan_compile.specs.declared.wiring.Input.{Input}
 use Rattle.plan_compile.specs.declared.wiring.Input.TheVariants.{File, Made}
 use Rattle.plan_compile.specs.declared.wiring.Output.{Output}
-use Rattle.plan_compile.specs.declared.wiring.Wiring.{Wiring}
 use Rattle.plan_compile.specs.declared.form.Form.{Form}
 use Rattle.plan_compile.specs.declared.form.Form.TheVariants.{OneFlag, OwnFlags, Gathers, Alone}
 use Rattle.plan_compile.specs.Builds.{Build, Builds}
 use Rattle.plan_compile.specs.Means.{text_in, text_at, IsFile, IsText, IsOwnOf, IsLentOf, AreInputs, AreSourceFiles, AreOutputs, flags_of, HaveFlags, HaveFlagSlots, slots_of, files_of, AreAllOwn, IsNoStamp, IsCommand, IsGather, IsAlone, IsWired}
-use Rattle.plan_compile.specs.Slots.{has_none, form_by, form_of, kinds_by, own_kinds, stamps, pairs, outputs_flagged, outputs_apart, outputs_sharing, outputs_by, made, newest_by, base, all_made, find, input_by, inputs_by, sources, with_flag, flags_from, flags_once}
-use Rattle.plan_compile.specs.Names.{Text, text_number, unless_empty, label_of, texts_by, texts_in, all_texts, depfile_number, pool_number, used_pools}
+use Rattle.plan_compile.specs.Slots.{has_none, form_by, form_of, kinds_by, own_kinds, stamps, pairs, outputs_flagged, outputs_apart, outputs_by, made, newest_by, base, all_made, find, input_by, inputs_by, sources, with_flag, flags_from, flags_once}
+use Rattle.plan_compile.specs.Names.{Text, text_number, unless_empty, texts_by, all_texts, depfile_number, pool_number, used_pools}
 use Rattle.plan_compile.specs.Names.{pool_in as pool_name}
 use Rattle.plan_compile.specs.Images.{is_blank, command_wiring, gather_wiring, wire_by, wire, image_of}
 use Rattle.plan_compile.specs.Faithful.{IsEdge, AreInside, HasPool, IsSound}
-use Rattle.plan_compile.proofs.ListLemmas.{some_is, bool_cases, or_cases, or_false, or_left, or_right}
+use Rattle.plan_compile.proofs.ListLemmas.{some_is, bool_cases, or_false, or_left, or_right}
 use Rattle.plan_compile.proofs.RunLemmas.{slot_at, IsSlotOf, slot_of, all_own}
 use Rattle.plan_compile.proofs.OutputLemmas.{Holds, Runs, first_run, rest_run, own_of_held, flagged_own, apart_own, flagged_below, flagged_apart, flagged_share, apart_below_stamps, apart_apart, apart_flags, sharing_share, files_flagged, files_apart, in_stamps, flag_among, in_pairs, find_split, IsOutput, found_by}
-use Rattle.plan_compile.proofs.EdgeLemmas.{image_edge, edge_in, text_found, has_pool}
+use Rattle.plan_compile.proofs.EdgeLemmas.{image_edge, text_found, has_pool}
 
 -- ---- whose output it is
 

@@ -6,7 +6,7 @@ use Rattle.plan_compile.specs.declared.wiring.GatherWiring.{GatherWiring}
 use Rattle.plan_compile.specs.declared.wiring.Wiring.{Wiring}
 use Rattle.plan_compile.specs.declared.wiring.Wiring.TheVariants as wiring
 use Rattle.plan_compile.specs.declared.form.Form.{Form}
-use Rattle.plan_compile.specs.declared.form.Form.TheVariants.{OneFlag, OwnFlags, Gathers, Alone}
+use Rattle.plan_compile.specs.declared.form.Form.TheVariants.{Gathers, Alone}
 use Rattle.plan_image.specs.declared.instr.Instr.{Instr}
 use Rattle.plan_compile.specs.Builds.{Build}
 use Rattle.plan_compile.specs.Emit.{code_of}

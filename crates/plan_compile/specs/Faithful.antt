@@ -1,5 +1,5 @@
 -- What the image of a manifest says, and what is asked of the manifest.
-use Rattle.std.specs.Prelude.{◌≡◌, ℕ, zero, ◌<◌, true, false, List, [], ◌∷◌, length, map, Option, Some, None, All, nat_lt, nat_le, slice_get}
+use Rattle.std.specs.Prelude.{◌≡◌, ℕ, zero, true, false, List, [], ◌∷◌, length, map, Option, Some, None, nat_lt, nat_le, slice_get}
 use Rattle.std.specs.List.{list_any}
 use Rattle.plan_scope.specs.declared.manifest.Manifest.{Manifest}
 use Rattle.plan_scope.specs.Sound.{IsSound as IsSoundManifest}

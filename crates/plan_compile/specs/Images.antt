@@ -1,5 +1,5 @@
 -- The image of a manifest.
-use Rattle.std.specs.Prelude.{ℕ, zero, suc, ◌+◌, Bool, true, false, not, List, [], ◌∷◌, ◌++◌, length, map, Option, Some, None, if◌then◌else◌, bytes_eq}
+use Rattle.std.specs.Prelude.{ℕ, zero, suc, ◌+◌, Bool, true, false, List, [], ◌∷◌, map, Some}
 use Rattle.plan_scope.specs.declared.manifest.Manifest.{Manifest}
 use Rattle.plan_graph.specs.declared.graph_data.Graph.{Graph}
 use Rattle.plan_image.specs.declared.instr.Instr.{Instr}
@@ -16,10 +16,10 @@ use Rattle.plan_compile.specs.declared.wiring.GatherWiring.{GatherWiring}
 use Rattle.plan_compile.specs.declared.wiring.Wiring.{Wiring}
 use Rattle.plan_compile.specs.declared.wiring.Wiring.TheVariants as wiring
 use Rattle.plan_compile.specs.declared.form.Form.{Form}
-use Rattle.plan_compile.specs.declared.form.Form.TheVariants.{OneFlag, OwnFlags, Gathers, Alone}
+use Rattle.plan_compile.specs.declared.form.Form.TheVariants.{Gathers, Alone}
 use Rattle.plan_compile.specs.Emit.{code_of}
 use Rattle.plan_compile.specs.Builds.{Build, Builds, builds}
-use Rattle.plan_compile.specs.Slots.{form_of, outputs_by, made, newest_by, all_made, inputs_by, sources, flags_once, own_len, slots_from}
+use Rattle.plan_compile.specs.Slots.{form_of, outputs_by, newest_by, all_made, inputs_by, sources, flags_once, own_len, slots_from}
 use Rattle.plan_compile.specs.Numbering.{number, once}
 use Rattle.plan_compile.specs.BodyKeys.{Body, same_body}
 use Rattle.plan_compile.specs.Names.{Text, text_number, label_of, all_texts, depfile_number, pool_in, used_pools, pool_number, declared}

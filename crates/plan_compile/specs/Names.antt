@@ -1,5 +1,5 @@
 -- The texts and the pools of an image, and their numbers.
-use Rattle.std.specs.Prelude.{ℕ, zero, suc, Bool, true, false, List, [], ◌∷◌, ◌++◌, flat_map, map, Option, Some, None, if◌then◌else◌, bytes_eq}
+use Rattle.std.specs.Prelude.{ℕ, zero, Bool, true, false, List, [], ◌∷◌, flat_map, Option, Some, None, if◌then◌else◌, bytes_eq}
 use Rattle.plan_scope.specs.declared.manifest.Pool.{Pool as ManifestPool}
 use Rattle.plan_image.specs.declared.image.Pool.{Pool}
 use Rattle.plan_compile.specs.Builds.{Build}

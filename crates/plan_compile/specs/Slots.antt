@@ -1,5 +1,5 @@
 -- The slots of each edge, and where the stamp of each input comes from.
-use Rattle.std.specs.Prelude.{ℕ, zero, suc, ◌+◌, Bool, true, false, not, ◌||◌, ◌&&◌, ◌==◌, List, [], ◌∷◌, ◌++◌, length, Option, Some, None, is_some, if◌then◌else◌}
+use Rattle.std.specs.Prelude.{ℕ, zero, suc, ◌+◌, Bool, true, false, ◌||◌, ◌&&◌, ◌==◌, List, [], ◌∷◌, ◌++◌, length, Option, Some, None, is_some, if◌then◌else◌}
 use Rattle.plan_image.specs.declared.instr.Kind.{Kind}
 use Rattle.plan_image.specs.declared.instr.Kind.TheVariants.{Stamp, Flag}
 use Rattle.plan_image.specs.declared.image.Slot.{Slot}

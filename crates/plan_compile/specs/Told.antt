@@ -1,5 +1,5 @@
 -- What the rule is told of an edge of a manifest, and what is promised of the edge's code.
-use Rattle.std.specs.Prelude.{◌≡◌, ℕ, zero, Bool, true, false, List, map, Option, Some, None, slice_get, if◌then◌else◌}
+use Rattle.std.specs.Prelude.{ℕ, zero, Bool, true, false, map, Option, Some, None, slice_get}
 use Rattle.plan_verify.specs.Turn.{Slots, Meaning}
 use Rattle.plan_verify.specs.Alone.{at_begin}
 use Rattle.plan_verify.specs.Sound.{AreTyped, AreLentSet}

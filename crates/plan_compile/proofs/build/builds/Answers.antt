@@ -1,4 +1,4 @@
-use Rattle.std.proofs.Common.{◌≡◌, ◌<◌, ◌∙◌, ◌++◌, ◌∷◌, [], List, length, ap, arith}
+use Rattle.std.proofs.Common.{◌<◌, ◌∙◌, ◌++◌, ◌∷◌, [], length, ap, arith}
 use Rattle.plan_compile.specs.Builds.{Build}
 use Rattle.plan_compile.proofs.BuildLemmas.{builds_step, get_at}
 use Rattle.plan_compile.proofs.build.builds.Goals as goal

@@ -1,7 +1,7 @@
-use Rattle.std.proofs.Common.{◌≡◌, ◌∙◌, Some, List, [], ℕ, Bool, ap, sym, take, drop, get_or, length, ◌-◌}
+use Rattle.std.proofs.Common.{◌≡◌, ◌∙◌, List, [], ℕ, ap, take, drop, get_or, length, ◌-◌}
 use Rattle.std.specs.Prelude.{slice_index}
 use Rattle.plan_scope.specs.declared.manifest.Edge.{Edge as EdgeMeant}
-use Rattle.plan_compile.specs.Builds.{build_at, named_count, without_made, without_own}
+use Rattle.plan_compile.specs.Builds.{named_count, without_made, without_own}
 use Rattle.plan_compile.proofs.BuildLemmas.{same_build}
 use Rattle.plan_compile.proofs.MemberLemmas.{index_or, in_take, in_drop}
 use Rattle.plan_compile.proofs.SoundLemmas.{without_same}

@@ -5,7 +5,7 @@ use Rattle.plan_compile.specs.Builds.{Build, Builds, builds}
 use Rattle.plan_compile.specs.Faithful.{IsSound}
 use Rattle.plan_compile.specs.Images.{edges_of, used_bodies}
 use Rattle.plan_compile.specs.Names.{Text, all_texts, declared, used_pools}
-use Rattle.plan_compile.specs.OutputTable.{Table, filled}
+use Rattle.plan_compile.specs.OutputTable.{filled}
 use Rattle.plan_compile.specs.Slots.{all_made, newest_from, slots_from}
 use Rattle.plan_compile.proofs.AssembleLemmas.{image_is, newest_length}
 use Rattle.plan_compile.proofs.BuildLemmas.{map_long}

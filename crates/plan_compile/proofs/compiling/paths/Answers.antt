@@ -1,4 +1,4 @@
-use Rattle.std.proofs.Common.{◌≡◌, ◌<◌, ◌∙◌, List, length, map, ap, arith, sym}
+use Rattle.std.proofs.Common.{◌<◌, List, length, arith}
 use Rattle.plan_graph.specs.Files.{Path, paths_in}
 use Rattle.plan_compile.proofs.BuildLemmas.{copied_step, get_at, map_long}
 use Rattle.plan_compile.proofs.compiling.paths.Goals as goal

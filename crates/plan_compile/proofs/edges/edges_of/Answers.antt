@@ -1,15 +1,9 @@
-use Rattle.std.proofs.Common.{◌≡◌, ◌<◌, ◌∙◌, ◌++◌, ◌∷◌, [], List, ℕ, Some, length, ap, sym, refl, arith}
+use Rattle.std.proofs.Common.{◌≡◌, ◌<◌, ◌∙◌, List, ℕ, Some, length, ap, refl, arith}
 use Rattle.std.specs.Prelude.{slice_get}
 use Rattle.std.proofs.lemmas.Option.{slice_get_read}
-use Rattle.plan_image.specs.declared.instr.Instr.{Instr}
-use Rattle.plan_image.specs.declared.image.Edge.{Edge}
-use Rattle.plan_image.specs.Bodies.{body_of}
-use Rattle.plan_compile.specs.BodyKeys.{Body, same_body}
 use Rattle.plan_compile.specs.Builds.{Build}
 use Rattle.plan_compile.specs.Emit.{code_of}
 use Rattle.plan_compile.specs.Assembling.{wire_in}
-use Rattle.plan_compile.specs.Images.{edge_of}
-use Rattle.plan_compile.specs.Numbering.{with_item}
 use Rattle.plan_compile.specs.OutputTable.{Table}
 use Rattle.plan_compile.specs.Slots.{form_of}
 use Rattle.plan_compile.proofs.AssembleLemmas.{bodies_step, edges_step}

@@ -1,4 +1,4 @@
-use Rattle.std.proofs.Common.{◌≡◌, ◌∙◌, List, ℕ, [], ap, sym}
+use Rattle.std.proofs.Common.{◌∙◌, List, ℕ, [], ap, sym}
 use Rattle.plan_compile.specs.Slots.{members_from}
 use Rattle.plan_compile.proofs.AscendLemmas.{flags_members}
 use Rattle.plan_compile.proofs.lookups.flags.Goals as goal

@@ -1,7 +1,6 @@
 use Rattle.std.proofs.Common.{◌≡◌, ◌∙◌, List, ℕ, [], ap, sym, subst}
 use Rattle.plan_image.specs.Spelling.{AscendsFrom}
 use Rattle.std.specs.Prelude.{IfOk}
-use Rattle.plan_verify.specs.Members.{is_member}
 use Rattle.plan_compile.specs.OutputTable.{sources_in}
 use Rattle.plan_compile.specs.Slots.{members_from}
 use Rattle.plan_compile.proofs.AscendLemmas.{members_ascend, members_are}

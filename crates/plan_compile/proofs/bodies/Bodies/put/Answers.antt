@@ -1,5 +1,4 @@
-use Rattle.std.proofs.Common.{◌≡◌, ◌∙◌, ◌++◌, ◌∷◌, [], List, Vec, Global, Bool, true, false, ℕ, not, bytes_eq, map, ap, sym}
-use Rattle.std.specs.Prelude.{if◌then◌else◌}
+use Rattle.std.proofs.Common.{◌≡◌, ◌∙◌, ◌++◌, ◌∷◌, [], List, Vec, Global, true, false, ℕ, not, ap, sym}
 use Rattle.std.specs.List.{list_any, position_or_len}
 use Rattle.plan_compile.specs.BodyKeys.{Body, key_of, same_body}
 use Rattle.plan_compile.specs.Numbering.{has, number, with_item}

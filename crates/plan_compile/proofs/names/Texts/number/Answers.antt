@@ -1,4 +1,4 @@
-use Rattle.std.proofs.Common.{◌≡◌, ◌∙◌, List, ℕ, ap, sym}
+use Rattle.std.proofs.Common.{◌∙◌, List, ap, sym}
 use Rattle.plan_compile.specs.Names.{Text, text_number}
 use Rattle.plan_compile.proofs.TextLemmas.{place_is}
 use Rattle.plan_compile.proofs.names.Texts.number.Goals as goal

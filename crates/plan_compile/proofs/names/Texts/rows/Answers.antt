@@ -1,4 +1,4 @@
-use Rattle.std.proofs.Common.{◌≡◌, ◌<◌, List, length, arith}
+use Rattle.std.proofs.Common.{◌<◌, length, arith}
 use Rattle.plan_compile.proofs.BuildLemmas.{copied_step, get_at}
 use Rattle.plan_compile.proofs.names.Texts.rows.Goals as goal
 
