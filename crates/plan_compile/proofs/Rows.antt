@@ -1,16 +1,23 @@
 -- The rule and the code, computed on worked examples.
 use Rattle.std.proofs.Common.{◌≡◌, ℕ, zero, suc, Bool, true, false, List, [], ◌∷◌, Option, Some, None, refl, codes, subst, arith}
-use Rattle.std.specs.Prelude.{Ok, ◌||◌, ◌==◌, slice_get}
+use Rattle.std.specs.Prelude.{Ok, ◌||◌, ◌==◌, map, slice_get}
 use Rattle.plan_image.specs.declared.instr.Kind.{Kind}
 use Rattle.plan_image.specs.declared.instr.Kind.TheVariants as kind
 use Rattle.plan_image.specs.declared.image.Sort.TheVariants as sort
 use Rattle.plan_image.specs.declared.image.Slot.{Slot}
 use Rattle.plan_image.specs.declared.image.EdgeCode.TheVariants as form
 use Rattle.plan_image.specs.declared.image.Parts.{Parts}
+use Rattle.plan_image.specs.declared.image.Edge.{Edge}
+use Rattle.plan_image.specs.declared.image.EdgeCode.{EdgeCode}
+use Rattle.plan_scope.specs.declared.manifest.Edge.{Edge as ManifestEdge}
+use Rattle.plan_compile.specs.Builds.{Builds}
+use Rattle.plan_compile.specs.Images.{image_of}
 use Rattle.plan_image.specs.Code.{code}
 use Rattle.plan_verify.specs.Shape.{table_refusal}
 use Rattle.plan_verify.specs.WellShaped.{IsShapedEdge}
+use Rattle.plan_image.specs.declared.instr.Instr.{Instr}
 use Rattle.plan_image.specs.declared.instr.Instr.TheVariants as op
+use Rattle.std.specs.List.{list_any}
 use Rattle.plan_verify.specs.declared.value.Cause.TheVariants as cause
 use Rattle.plan_verify.specs.declared.value.Value.{Value}
 use Rattle.plan_verify.specs.Tables.{lent_by}
@@ -445,3 +452,74 @@ unset_lent s h = absurd (none_lent (slice_get image.slots s) h)
 compiled_keeps : Obeys none_read image 0 (Leaves compiled.outputs) (at_begin (unset 7)) (does none_read (command_of image (unset 7) compiled []))
 unfolding compiled
 compiled_keeps = compiled_means none_read (unset 7) [] unset_typed unset_lent refl
+
+-- ---- the image of a manifest
+
+body_number : Edge → Option ℕ
+body_number e = by_form e.code where
+  by_form : EdgeCode → Option ℕ
+  by_form (form.Shared body operands) = Some body
+  by_form (form.Own is) = None
+
+abbrev manifest_edge : (command description depfile : Path) → (phony : Bool) → (pool : Path) → ManifestEdge
+manifest_edge command description depfile phony pool = record {
+  paths = record { outputs = []; implicit_outputs = []; inputs = []; implicit_inputs = []; order_only_inputs = [] };
+  command = command; description = description; depfile = depfile; restat = false; generator = false; phony = phony; pool = pool;
+}
+
+asks_for : ℕ → Instr → Bool
+asks_for f (op.Stat file) = file == f
+asks_for f (op.Need file) = file == f
+asks_for f _ = false
+
+-- two edges of one rule, each with one source file; a phony of both
+two_of_a_rule : Builds
+two_of_a_rule = record {
+  files = codes "a.o" ∷ codes "a.c" ∷ codes "b.o" ∷ codes "b.c" ∷ codes "all" ∷ [];
+  edges =
+      record { edge = manifest_edge (codes "cc a.c") (codes "CC a.o") [] false (codes "link"); outputs = 0 ∷ []; named = 1 ∷ []; order_only = []; waits = []; rank = 0 }
+      ∷ record { edge = manifest_edge (codes "cc b.c") [] [] false (codes "link"); outputs = 2 ∷ []; named = 3 ∷ []; order_only = []; waits = []; rank = 0 }
+      ∷ record { edge = manifest_edge [] [] [] true []; outputs = 4 ∷ []; named = 0 ∷ 2 ∷ []; order_only = []; waits = 0 ∷ 1 ∷ []; rank = 1 } ∷ [];
+  pools = record { name = codes "console"; depth = 1 } ∷ record { name = codes "link"; depth = 2 } ∷ [];
+  defaults = 2 ∷ [];
+}
+
+-- one body serves both; texts and pools stand in the order of first use, each once
+texts_of_two : (image_of two_of_a_rule).texts ≡ codes "CC a.o" ∷ codes "cc a.c" ∷ codes "cc b.c" ∷ [] ∷ []
+unfolding two_of_a_rule
+texts_of_two = refl
+
+pools_of_two : (image_of two_of_a_rule).pools ≡ record { name = codes "link"; depth = 2 } ∷ []
+unfolding two_of_a_rule
+pools_of_two = refl
+
+one_body : map body_number (image_of two_of_a_rule).edges ≡ Some 0 ∷ Some 0 ∷ Some 1 ∷ []
+unfolding two_of_a_rule body_number
+one_body = refl
+
+labels_of_two : map (λ e. e.label) (image_of two_of_a_rule).edges ≡ 0 ∷ 2 ∷ 3 ∷ []
+unfolding two_of_a_rule
+labels_of_two = refl
+
+places_of_two : map (λ e. e.pool) (image_of two_of_a_rule).edges ≡ Some 0 ∷ Some 0 ∷ None ∷ []
+unfolding two_of_a_rule
+places_of_two = refl
+
+-- an order-only input that edge 0 makes: the edge waits for it, and asks nothing of that file
+waits_for_it : Builds
+waits_for_it = record {
+  files = codes "gen.h" ∷ codes "a.o" ∷ codes "a.c" ∷ [];
+  edges =
+      record { edge = manifest_edge (codes "gen") [] [] false []; outputs = 0 ∷ []; named = []; order_only = []; waits = []; rank = 0 }
+      ∷ record { edge = manifest_edge (codes "cc") [] [] false []; outputs = 1 ∷ []; named = 2 ∷ []; order_only = 0 ∷ []; waits = 0 ∷ []; rank = 1 } ∷ [];
+  pools = [];
+  defaults = 1 ∷ [];
+}
+
+waits_of_it : map (λ e. e.waits) (image_of waits_for_it).edges ≡ [] ∷ (0 ∷ []) ∷ []
+unfolding waits_for_it
+waits_of_it = refl
+
+asks_nothing_of_it : list_any (λ i. asks_for 0 i) (code (image_of waits_for_it) 1) ≡ false
+unfolding waits_for_it asks_for
+asks_nothing_of_it = refl
