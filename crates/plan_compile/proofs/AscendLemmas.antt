@@ -56,7 +56,6 @@ same_members n (x ∷ xs) (y ∷ ys) r s f g =
     (λ k. rest_in x y k xs ys e r.1 f) (λ k. rest_in y x k ys xs (sym e) s.1 g) in
     ap (λ (v : ℕ). v ∷ xs) e ∙ ap (λ (v : List ℕ). y ∷ v) rest
 
-
 -- ---- with one member more
 
 with_ascends : (least n : ℕ) (ms : List ℕ) → least ≤ n → AscendsFrom least ms → AscendsFrom least (with_member n ms)

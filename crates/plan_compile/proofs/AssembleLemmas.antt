@@ -151,11 +151,11 @@ codes_by texts table outputs b [] h = refl
 codes_by texts table outputs b (x ∷ xs) h =
     let same : b + zero ≡ b = omega arith in
     ap (λ (is : List Instr). is ∷ codes_in texts table (newest_from (b + own_len x) xs) xs)
-      (ap (λ (k : ℕ). code_of (wire_in (form_of x) texts table (newest_by (form_of x) k) x)) (sym same) ∙ h zero x refl ∙ ap (λ (k : ℕ). code_of (wire texts outputs k x)) same)
+    (ap (λ (k : ℕ). code_of (wire_in (form_of x) texts table (newest_by (form_of x) k) x)) (sym same) ∙ h zero x refl ∙ ap (λ (k : ℕ). code_of (wire texts outputs k x)) same)
     ∙ ap (λ (cs : List (List Instr)). code_of (wire texts outputs b x) ∷ cs)
-      (codes_by texts table outputs (b + own_len x) xs λ j y at.
-        let place : b + own_len x + base xs j ≡ b + (own_len x + base xs j) = omega arith in
-        ap (λ (k : ℕ). code_of (wire_in (form_of y) texts table (newest_by (form_of y) k) y)) place ∙ h (suc j) y at ∙ ap (λ (k : ℕ). code_of (wire texts outputs k y)) (sym place))
+    (codes_by texts table outputs (b + own_len x) xs λ j y at.
+    let place : b + own_len x + base xs j ≡ b + (own_len x + base xs j) = omega arith in
+    ap (λ (k : ℕ). code_of (wire_in (form_of y) texts table (newest_by (form_of y) k) y)) place ∙ h (suc j) y at ∙ ap (λ (k : ℕ). code_of (wire texts outputs k y)) (sym place))
 
 pub codes_are : (t : Builds) → IsSound t → codes_in (all_texts t.edges) (table_of (length t.files) (all_made zero t.edges)) (newest_from zero t.edges) t.edges ≡ codes t.edges
 codes_are t sound =
@@ -177,10 +177,10 @@ pub image_is : (t : Builds) → IsSound t → (n : ℕ) (texts files : List Text
     → ◌≡◌ {A = Parts} (record { texts = texts; files = files; pools = pools; slots = slots; bodies = Some bodies; edges = edges; defaults = defaults }) (image_of t)
 image_is t sound n texts files pools slots table newest bodies edges defaults hn ht hf hp hs hm hw hb he hd =
     let all : codes_in texts table newest t.edges ≡ codes t.edges =
-        ap (λ (us : List Text). codes_in us table newest t.edges) ht ∙ ap (λ (q : Table). codes_in (all_texts t.edges) q newest t.edges) (hm ∙ ap (λ (k : ℕ). table_of k (all_made zero t.edges)) hn)
-        ∙ ap (λ (ns : List ℕ). codes_in (all_texts t.edges) (table_of (length t.files) (all_made zero t.edges)) ns t.edges) hw ∙ codes_are t sound in
+    ap (λ (us : List Text). codes_in us table newest t.edges) ht ∙ ap (λ (q : Table). codes_in (all_texts t.edges) q newest t.edges) (hm ∙ ap (λ (k : ℕ). table_of k (all_made zero t.edges)) hn)
+    ∙ ap (λ (ns : List ℕ). codes_in (all_texts t.edges) (table_of (length t.files) (all_made zero t.edges)) ns t.edges) hw ∙ codes_are t sound in
     let same_bodies : bodies ≡ used_bodies (codes t.edges) = hb ∙ ap used_bodies all in
     let same_edges : edges ≡ edges_of (all_texts t.edges) (used_pools t.edges) (used_bodies (codes t.edges)) (codes t.edges) t.edges =
-        he ∙ ap (λ (cs : List (List Instr)). edges_of texts (used_pools t.edges) (used_bodies cs) cs t.edges) all
-        ∙ ap (λ (us : List Text). edges_of us (used_pools t.edges) (used_bodies (codes t.edges)) (codes t.edges) t.edges) ht in
+    he ∙ ap (λ (cs : List (List Instr)). edges_of texts (used_pools t.edges) (used_bodies cs) cs t.edges) all
+    ∙ ap (λ (us : List Text). edges_of us (used_pools t.edges) (used_bodies (codes t.edges)) (codes t.edges) t.edges) ht in
     cc

@@ -33,10 +33,11 @@ module _ {K : Type 0} (items : K → List ℕ) where
       let first : items l ≡ key_of c = cc in
       let others : map items ks ≡ map key_of bs = cc in
       let rest = same_keys k ks b bs is others in
-      let one : same_key k l ≡ same_body b c = ap (λ (x : List ℕ). bytes_eq x (items l)) is ∙ ap (λ (y : List ℕ). bytes_eq (key_of b) y) first in
-      (ap (λ (e : Bool). e || list_any (same_key k) ks) one ∙ ap (λ (e : Bool). same_body b c || e) rest.0,
-      flip (same_key k l) (position_or_len (same_key k) ks) ∙ ap (λ (e : Bool). if e then zero else suc (position_or_len (same_key k) ks)) one
-      ∙ ap (λ (n : ℕ). if same_body b c then zero else suc n) rest.1)
+      let one : same_key k l ≡ same_body b c = ap (λ (x : List ℕ). bytes_eq x (items l)) is ∙ ap (λ (y : List ℕ). bytes_eq (key_of b) y) first in (
+        ap (λ (e : Bool). e || list_any (same_key k) ks) one ∙ ap (λ (e : Bool). same_body b c || e) rest.0,
+        flip (same_key k l) (position_or_len (same_key k) ks) ∙ ap (λ (e : Bool). if e then zero else suc (position_or_len (same_key k) ks)) one
+            ∙ ap (λ (n : ℕ). if same_body b c then zero else suc n) rest.1,
+      )
 
   pub there : (k : K) (ks : List K) (b : Body) (bs : List Body) → items k ≡ key_of b → map items ks ≡ map key_of bs → list_any (same_key k) ks ≡ has same_body bs b
   there k ks b bs is all = (same_keys k ks b bs is all).0

@@ -94,7 +94,7 @@ pool_named : (pools : List ManifestPool) (names own : List Text) → ((k : ℕ) 
 pool_named pools names [] h few p is = tt
 pool_named pools names (name ∷ []) h few p is =
     let at : slice_get (map (declared pools) names) (text_number names name) ≡ Some (declared pools name) =
-        slice_get-map (declared pools) names (text_number names name) ∙ ap (option_map (declared pools)) (h zero name refl) in
+    slice_get-map (declared pools) names (text_number names name) ∙ ap (option_map (declared pools)) (h zero name refl) in
     (declared pools name, ap (λ (ps : List Pool). slice_get ps (text_number names name)) is ∙ at, refl)
 pool_named pools names (name ∷ other ∷ own) h few p is = absurd (omega (arith, few))
 
@@ -121,14 +121,18 @@ pub faithful : (t : Builds) → IsFaithful t (image_of t)
 faithful t = record {
   files = refl;
   count = image_count t;
-  edges = λ e x at. (edge_in t e x, image_edge t e x at, record {
-    sort = refl;
-    outputs = refl;
-    waits = refl;
-    rank = refl;
-    label = text_found t.edges e x at zero (label_of x) refl;
-    pool = has_pool t e x at;
-  });
+  edges = λ e x at. (
+    edge_in t e x,
+    image_edge t e x at,
+    record {
+      sort = refl;
+      outputs = refl;
+      waits = refl;
+      rank = refl;
+      label = text_found t.edges e x at zero (label_of x) refl;
+      pool = has_pool t e x at;
+    },
+  );
   pools = refl;
   defaults = refl;
 }
@@ -143,7 +147,7 @@ pub image_code : IsSplit → (t : Builds) (e : ℕ) (x : Build) → IsEdge t e x
 image_code split t e x at =
     let is : List Instr = code_in t e x in
     let place = found same_body bodies_decide (map body_of (codes t.edges)) e (body_of is)
-        (slice_get-map body_of (codes t.edges) e ∙ ap (option_map body_of) (code_stands t e x at)) in
+    (slice_get-map body_of (codes t.edges) e ∙ ap (option_map body_of) (code_stands t e x at)) in
     ap (λ (edge : Option Edge). Rattle.plan_image.specs.Code.edge_code (Some (used_bodies (codes t.edges))) edge) (image_edge t e x at)
     ∙ ap (λ (b : Option Body). with_operands (or_empty b) (operands_of is)) place
     ∙ (split is).0

@@ -14,7 +14,6 @@ pub texts_decide : Decides bytes_eq
 texts_decide = record { tells = λ a b e. (bytes_eq-Decides a b).0 e; self = λ a. (bytes_eq-Decides a a).1 refl }
 
 module _ {A : Type 0} (same : A → A → Bool) (decides : Decides same) where
-
   -- ---- the number leads to the item
 
   pub leads : (x : A) (ys : List A) → has same ys x ≡ true → slice_get ys (number same x ys) ≡ Some x

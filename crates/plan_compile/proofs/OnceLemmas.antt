@@ -85,6 +85,6 @@ one_assignment t sound e x i o at here =
     let it : m.build ≡ x = some_is m.build x (sym m.here ∙ ap (λ (n : ℕ). slice_get t.edges n) (sym same.0) ∙ at) in
     let second : zero + base t.edges m.edge ≡ base t.edges e = let d : m.edge ≡ e = sym same.0 in ap (λ (n : ℕ). zero + base t.edges n) d ∙ first in
     let both : slice_get (made (base t.edges e) x) i ≡ Some q.0 =
-        ap (λ (n : ℕ). slice_get (made (base t.edges e) x) n) same.1 ∙ ap (λ (n : ℕ). slice_get (made n x) there.0) (sym second)
-        ∙ ap (λ (z : Build). slice_get (made (zero + base t.edges m.edge) z) there.0) (sym it) ∙ there.1 in
+    ap (λ (n : ℕ). slice_get (made (base t.edges e) x) n) same.1 ∙ ap (λ (n : ℕ). slice_get (made n x) there.0) (sym second)
+    ∙ ap (λ (z : Build). slice_get (made (zero + base t.edges m.edge) z) there.0) (sym it) ∙ there.1 in
     q.1 ∙ (sym both ∙ here)

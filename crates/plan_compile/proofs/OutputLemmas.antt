@@ -41,17 +41,19 @@ module _ (p : Parts) (e : ℕ) where
   pub flagged_own : (b c : ℕ) (fs : List ℕ) → Runs p e b (stamps fs) → Holds p e Flag c → Inside p fs → AreOutputs p e (outputs_flagged b c fs)
   flagged_own b c [] run flag inside = tt
   flagged_own b c (f ∷ fs) run flag inside =
-      let o = or_false (nat_le (length p.files) f) (list_any (λ g. nat_le (length p.files) g) fs) inside in
-      ((o.0, own_of_held p e Stamp b (first_run b Stamp (stamps fs) run), own_of_held p e Flag c flag),
-      flagged_own (suc b) c fs (rest_run b Stamp (stamps fs) run) flag o.1)
+      let o = or_false (nat_le (length p.files) f) (list_any (λ g. nat_le (length p.files) g) fs) inside in (
+        (o.0, own_of_held p e Stamp b (first_run b Stamp (stamps fs) run), own_of_held p e Flag c flag),
+        flagged_own (suc b) c fs (rest_run b Stamp (stamps fs) run) flag o.1,
+      )
 
   pub apart_own : (b : ℕ) (fs : List ℕ) → Runs p e b (pairs fs) → Inside p fs → AreOutputs p e (outputs_apart b fs)
   apart_own b [] run inside = tt
   apart_own b (f ∷ fs) run inside =
       let o = or_false (nat_le (length p.files) f) (list_any (λ g. nat_le (length p.files) g) fs) inside in
-      let more : Runs p e (suc b) (Flag ∷ pairs fs) = rest_run b Stamp (Flag ∷ pairs fs) run in
-      ((o.0, own_of_held p e Stamp b (first_run b Stamp (Flag ∷ pairs fs) run), own_of_held p e Flag (suc b) (first_run (suc b) Flag (pairs fs) more)),
-      apart_own (suc (suc b)) fs (rest_run (suc b) Flag (pairs fs) more) o.1)
+      let more : Runs p e (suc b) (Flag ∷ pairs fs) = rest_run b Stamp (Flag ∷ pairs fs) run in (
+        (o.0, own_of_held p e Stamp b (first_run b Stamp (Flag ∷ pairs fs) run), own_of_held p e Flag (suc b) (first_run (suc b) Flag (pairs fs) more)),
+        apart_own (suc (suc b)) fs (rest_run (suc b) Flag (pairs fs) more) o.1,
+      )
 
 -- ---- apart by arithmetic
 

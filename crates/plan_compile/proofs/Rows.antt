@@ -464,7 +464,13 @@ body_number e = by_form e.code where
 abbrev manifest_edge : (command description depfile : Path) → (phony : Bool) → (pool : Path) → ManifestEdge
 manifest_edge command description depfile phony pool = record {
   paths = record { outputs = []; implicit_outputs = []; inputs = []; implicit_inputs = []; order_only_inputs = [] };
-  command = command; description = description; depfile = depfile; restat = false; generator = false; phony = phony; pool = pool;
+  command = command;
+  description = description;
+  depfile = depfile;
+  restat = false;
+  generator = false;
+  phony = phony;
+  pool = pool;
 }
 
 asks_for : ℕ → Instr → Bool

@@ -71,7 +71,10 @@ slot_of d (y ∷ xs) j s h =
           let deep : p.0 ≡ base xs r.edge + r.place = r.stands in
           let whose : s.owner ≡ suc d + r.edge = r.owner in
           record {
-            edge = suc r.edge; source = r.source; place = r.place; here = r.here;
+            edge = suc r.edge;
+            source = r.source;
+            place = r.place;
+            here = r.here;
             stands = omega (arith, at, long, deep);
             kind = r.kind;
             owner = omega (arith, whose);
@@ -85,7 +88,7 @@ pub all_own : (test : ℕ → Bool) (e n : ℕ) (slots : List Slot) → ((j : �
 all_own test e n [] h = refl
 all_own test e n (s ∷ slots) h =
     let rest : list_all test (own_from e (n + 1) slots) ≡ true =
-        all_own test e (n + 1) slots (λ j x g o. let e : n + 1 + j ≡ n + suc j = omega arith in ap test e ∙ h (suc j) x g o) in
+    all_own test e (n + 1) slots (λ j x g o. let e : n + 1 + j ≡ n + suc j = omega arith in ap test e ∙ h (suc j) x g o) in
     elim (bool_cases (s.owner == e)) as (λ o. list_all test (if s.owner == e then n ∷ own_from e (n + 1) slots else own_from e (n + 1) slots) ≡ true) [
       | inl mine ↦
           let first : test n ≡ true = let same : n ≡ n + zero = omega arith in ap test same ∙ h zero s refl (eqb-true s.owner e mine) in
@@ -99,7 +102,7 @@ pub none_own : (test : ℕ → Bool) (e n : ℕ) (slots : List Slot) → ((j : �
 none_own test e n [] h = refl
 none_own test e n (s ∷ slots) h =
     let rest : list_any test (own_from e (n + 1) slots) ≡ false =
-        none_own test e (n + 1) slots (λ j x g o. let e : n + 1 + j ≡ n + suc j = omega arith in ap test e ∙ h (suc j) x g o) in
+    none_own test e (n + 1) slots (λ j x g o. let e : n + 1 + j ≡ n + suc j = omega arith in ap test e ∙ h (suc j) x g o) in
     elim (bool_cases (s.owner == e)) as (λ o. list_any test (if s.owner == e then n ∷ own_from e (n + 1) slots else own_from e (n + 1) slots) ≡ false) [
       | inl mine ↦
           let first : test n ≡ false = let same : n ≡ n + zero = omega arith in ap test same ∙ h zero s refl (eqb-true s.owner e mine) in

@@ -200,7 +200,7 @@ module _ (m : Manifest) (g : Graph) (graph : IsGraph m g) (complete : FilesCompl
           not_own true k =
               let own : In (number_of table path) (numbers (outputs_of e)) = map_in (number_of table) (outputs_of e) path (among_in (outputs_of e) path k) in
               let member : is_member (number_of table path) (get_or g.outputs n []) ≡ true =
-                  in_member (number_of table path) (get_or g.outputs n []) (subst (λ (fs : List ℕ). In (number_of table path) fs) (sym (outputs_are n e at)) own) in
+              in_member (number_of table path) (get_or g.outputs n []) (subst (λ (fs : List ℕ). In (number_of table path) fs) (sym (outputs_are n e at)) own) in
               absurd (let clash : true ≡ false = sym member ∙ others is in cc)
 
   real_input : (n : ℕ) (e : ManifestEdge) (path : Path) → slice_get m.edges n ≡ Some e → In path (inputs_named e)
@@ -251,14 +251,14 @@ module _ (m : Manifest) (g : Graph) (graph : IsGraph m g) (complete : FilesCompl
       let p = in_map (number_of table) (inputs_named e) f (subst (λ (fs : List ℕ). In f fs) (inputs_are n e at) there) in
       let named : In p.0 (outputs_of e ++ inputs_named e) = append_right (outputs_of e) (inputs_named e) p.0 p.1 in
       let maker : producer_at g.files f ≡ producer_of m.edges p.0 =
-          ap (λ (k : ℕ). producer_at g.files k) (sym p.2 ∙ ap (λ (ps : List Path). number_of ps p.0) (sym graph.files)) ∙ numbered g.files p.0 ∙ graph.producers p.0 in
+      ap (λ (k : ℕ). producer_at g.files k) (sym p.2 ∙ ap (λ (ps : List Path). number_of ps p.0) (sym graph.files)) ∙ numbered g.files p.0 ∙ graph.producers p.0 in
       both_ways (is_maker (producer_at g.files f) n) (is_member f (get_or g.outputs n []))
       (λ h. makes_it p.0 (producer_of m.edges p.0) refl (ap (λ (o : Option ℕ). is_maker o n) (sym maker) ∙ h) p.2)
       (λ h.
-          let q = in_map (number_of table) (outputs_of e) f (subst (λ (fs : List ℕ). In f fs) (outputs_are n e at) (member_in f (get_or g.outputs n []) h)) in
-          let same : p.0 ≡ q.0 = one_path n n e e p.0 q.0 f at at named (append_left (outputs_of e) (inputs_named e) q.0 q.1) p.2 q.2 in
-          let own : producer_of m.edges p.0 ≡ Some n = ap (λ (path : Path). producer_of m.edges path) same ∙ graph.own n e q.0 at (contained (outputs_of e) q.0 q.1) in
-          ap (λ (o : Option ℕ). is_maker o n) (maker ∙ own) ∙ eq-eqb n n refl)
+      let q = in_map (number_of table) (outputs_of e) f (subst (λ (fs : List ℕ). In f fs) (outputs_are n e at) (member_in f (get_or g.outputs n []) h)) in
+      let same : p.0 ≡ q.0 = one_path n n e e p.0 q.0 f at at named (append_left (outputs_of e) (inputs_named e) q.0 q.1) p.2 q.2 in
+      let own : producer_of m.edges p.0 ≡ Some n = ap (λ (path : Path). producer_of m.edges path) same ∙ graph.own n e q.0 at (contained (outputs_of e) q.0 q.1) in
+      ap (λ (o : Option ℕ). is_maker o n) (maker ∙ own) ∙ eq-eqb n n refl)
     where
       makes_it : (path : Path) (o : Option ℕ) → producer_of m.edges path ≡ o → is_maker o n ≡ true → number_of table path ≡ f → is_member f (get_or g.outputs n []) ≡ true
       makes_it path None is h number = absurd cc
@@ -355,10 +355,10 @@ module _ (m : Manifest) (g : Graph) (graph : IsGraph m g) (complete : FilesCompl
         let p = named_input n e f at (member_in f (build_at g n e).named named) in
         let q = output_path w d f there (member_in f (build_at g w d).outputs made) in
         let same : p.0 ≡ q.0 =
-            one_path n w e d p.0 q.0 f at there (append_right (outputs_of e) (inputs_named e) p.0 p.1) (append_left (outputs_of d) (inputs_named d) q.0 q.1) p.2 q.2 in
+        one_path n w e d p.0 q.0 f at there (append_right (outputs_of e) (inputs_named e) p.0 p.1) (append_left (outputs_of d) (inputs_named d) q.0 q.1) p.2 q.2 in
         let producer : producer_of m.edges p.0 ≡ Some w = ap (λ (path : Path). producer_of m.edges path) same ∙ graph.own w d q.0 there (contained (outputs_of d) q.0 q.1) in
         let real : In p.0 (inputs_of e) =
-            real_input n e p.0 at p.1 (λ phony. ap (λ (k : ℕ). is_member k (get_or g.outputs n [])) p.2 ∙ p.3 phony) in
+        real_input n e p.0 at p.1 (λ phony. ap (λ (k : ℕ). is_member k (get_or g.outputs n [])) p.2 ∙ p.3 phony) in
         waits_for n w (waited m.edges n w e p.0 at (contained (inputs_of e) p.0 real) producer)
 
     ranks_are : (n : ℕ) (e : ManifestEdge) (w : ℕ) → slice_get m.edges n ≡ Some e → is_member w (row n) ≡ true
@@ -375,13 +375,13 @@ module _ (m : Manifest) (g : Graph) (graph : IsGraph m g) (complete : FilesCompl
         let in_p : In p.0 (outputs_of e) = in_get (outputs_of e) i p.0 p.1 in
         let in_q : In q.0 (outputs_of d) = in_get (outputs_of d) j q.0 q.1 in
         let same : p.0 ≡ q.0 =
-            one_path n k e d p.0 q.0 f at there (append_left (outputs_of e) (inputs_named e) p.0 in_p) (append_left (outputs_of d) (inputs_named d) q.0 in_q) p.2 q.2 in
+        one_path n k e d p.0 q.0 f at there (append_left (outputs_of e) (inputs_named e) p.0 in_p) (append_left (outputs_of d) (inputs_named d) q.0 in_q) p.2 q.2 in
         let one : n ≡ k =
-            some_is n k (sym (graph.own n e p.0 at (contained (outputs_of e) p.0 in_p)) ∙ ap (λ (path : Path). producer_of m.edges path) same ∙ graph.own k d q.0 there (contained (outputs_of d) q.0 in_q)) in
+        some_is n k (sym (graph.own n e p.0 at (contained (outputs_of e) p.0 in_p)) ∙ ap (λ (path : Path). producer_of m.edges path) same ∙ graph.own k d q.0 there (contained (outputs_of d) q.0 in_q)) in
         let edge : e ≡ d = some_is e d (sym at ∙ ap (λ (x : ℕ). slice_get m.edges x) one ∙ there) in
         let second = second_none e [] m.edges m.defaults n graph.sound at in
         let mine : slice_get (outputs_of e) j ≡ Some p.0 =
-            ap (λ (x : ManifestEdge). slice_get (outputs_of x) j) edge ∙ q.1 ∙ ap (λ (path : Path). Some path) (sym same) in
+        ap (λ (x : ManifestEdge). slice_get (outputs_of x) j) edge ∙ q.1 ∙ ap (λ (path : Path). Some path) (sym same) in
         (one, one_place second.0 (outputs_of e) i j p.0 second.1 p.1 mine)
       where
         place : (ps : List Path) (x f : ℕ) → slice_get (numbers ps) x ≡ Some f → (path : Path) × (slice_get ps x ≡ Some path) × (number_of table path ≡ f)

@@ -84,12 +84,12 @@ unfolding table_refusal
 tables_right t sound e x at =
     let p = image_of t in
     let waits : list_all (λ w. ranks_below (slice_get p.edges w) x.rank) x.waits ≡ true =
-        all_members (λ w. ranks_below (slice_get p.edges w) x.rank) x.waits
-        (λ w m. let r = sound.ranks e x w at m in ap (λ o. ranks_below o x.rank) (image_edge t w r.0 r.1) ∙ r.2) in
+    all_members (λ w. ranks_below (slice_get p.edges w) x.rank) x.waits
+    (λ w m. let r = sound.ranks e x w at m in ap (λ o. ranks_below o x.rank) (image_edge t w r.0 r.1) ∙ r.2) in
     ap (table_refusal_of p e) (image_edge t e x at)
     ∙ none_of (list_all (λ w. ranks_below (slice_get p.edges w) x.rank) x.waits) _ _ _ _ refusal.BadWait refusal.BadPool refusal.BadText refusal.BadFile refusal.PathsInSlot
-      (ap not waits) (pool_right t e x at) (number_inside (all_texts t.edges) (label_of x) (text_found t.edges e x at zero (label_of x) refl))
-      (outputs_right p x.outputs (sound.makes e x at) (sound.outputs e x at)) (no_paths t e)
+    (ap not waits) (pool_right t e x at) (number_inside (all_texts t.edges) (label_of x) (text_found t.edges e x at zero (label_of x) refl))
+    (outputs_right p x.outputs (sound.makes e x at) (sound.outputs e x at)) (no_paths t e)
 
 -- ---- the tables of all edges
 

@@ -61,16 +61,16 @@ module _ (t : Builds) (slots : Slots) where
   asked_by : (f : ℕ) (named fs : List ℕ) (o : Option Output) → find f (all_made zero t.edges) ≡ o
       → asked (map (told t slots) named) (map (told t slots) fs) ≡ map (source_file (image_of t)) (sources (all_made zero t.edges) named fs)
       → asked (map (told t slots) named) (told_by t slots f o ∷ map (told t slots) fs)
-        ≡ map (source_file (image_of t)) (if is_some o || is_member f named then sources (all_made zero t.edges) named fs else f ∷ sources (all_made zero t.edges) named fs)
+      ≡ map (source_file (image_of t)) (if is_some o || is_member f named then sources (all_made zero t.edges) named fs else f ∷ sources (all_made zero t.edges) named fs)
   asked_by f named fs (Some o) is rest = rest
   asked_by f named fs None is rest =
       let among : is_among f (map (told t slots) named) ≡ is_member f named = among_named f named is in
       let others : List ℕ = sources (all_made zero t.edges) named fs in
       ap (λ (b : Bool). if b then asked (map (told t slots) named) (map (told t slots) fs) else SourceFile f (path_in t f) ∷ asked (map (told t slots) named) (map (told t slots) fs)) among
       ∙ (elim (is_member f named)
-        as (λ b. (if b then asked (map (told t slots) named) (map (told t slots) fs) else SourceFile f (path_in t f) ∷ asked (map (told t slots) named) (map (told t slots) fs))
-          ≡ map (source_file (image_of t)) (if b then others else f ∷ others))
-        [ true ↦ rest | false ↦ ap (λ (gs : List Given). SourceFile f (path_in t f) ∷ gs) rest ])
+      as (λ b. (if b then asked (map (told t slots) named) (map (told t slots) fs) else SourceFile f (path_in t f) ∷ asked (map (told t slots) named) (map (told t slots) fs))
+      ≡ map (source_file (image_of t)) (if b then others else f ∷ others))
+      [ true ↦ rest | false ↦ ap (λ (gs : List Given). SourceFile f (path_in t f) ∷ gs) rest ])
 
   pub asked_are : (named fs : List ℕ) → asked (map (told t slots) named) (map (told t slots) fs) ≡ map (source_file (image_of t)) (sources (all_made zero t.edges) named fs)
   asked_are named [] = refl
@@ -123,9 +123,10 @@ module _ (t : Builds) (slots : Slots) where
     given_by OneFlag is = ap (λ (gs : List Given). asked gs order_only) (inputs_told x.named) ∙ asked_are x.named x.order_only
     given_by OwnFlags is = ap (λ (gs : List Given). asked gs order_only) (inputs_told x.named) ∙ asked_are x.named x.order_only
     given_by Gathers is =
-        let phony = gathers_is x.edge.phony x.edge.restat (has_none x.named && has_none x.order_only) is in
-        (ap (λ (gs : List Given). asked gs order_only) (inputs_told x.named) ∙ asked_are x.named x.order_only,
-        ap (λ (gs : List Given). has_none_given gs && has_none_given order_only) (inputs_told x.named) ∙ none_given phony.1)
+        let phony = gathers_is x.edge.phony x.edge.restat (has_none x.named && has_none x.order_only) is in (
+          ap (λ (gs : List Given). asked gs order_only) (inputs_told x.named) ∙ asked_are x.named x.order_only,
+          ap (λ (gs : List Given). has_none_given gs && has_none_given order_only) (inputs_told x.named) ∙ none_given phony.1,
+        )
     given_by Alone is =
         let phony = alone_is x.edge.phony x.edge.restat (has_none x.named && has_none x.order_only) is in
         ap (λ (fs : List ℕ). map (told t slots) fs) (no_second x.named x.order_only phony.1)

@@ -74,8 +74,8 @@ module _ (t : Builds) (sound : IsSound t) (e : ℕ) (x : Build) (at : IsEdge t e
       let m : IsMadeBy zero t.edges f o = maker zero t.edges f o h in
       let same : zero + base t.edges m.edge ≡ base t.edges m.edge = omega arith in
       let out : IsOutput (image_of t) m.edge f m.build.outputs o =
-          found_by (image_of t) m.edge f o (form_of m.build) (base t.edges m.edge) m.build.outputs (own_run t m.edge m.build m.here)
-          (subst (λ (n : ℕ). find f (made n m.build) ≡ Some o) same m.found) in
+      found_by (image_of t) m.edge f o (form_of m.build) (base t.edges m.edge) m.build.outputs (own_run t m.edge m.build m.here)
+      (subst (λ (n : ℕ). find f (made n m.build) ≡ Some o) same m.found) in
       let waits : is_member m.edge x.waits ≡ true = sound.waits e x m.edge m.build f at m.here named out.member in
       (lent_slot m.edge waits Stamp o.stamp out.stamp, lent_slot m.edge waits Flag o.changed out.changed)
 
@@ -130,11 +130,11 @@ with_member_has s n (m ∷ ms) =
       | inr more ↦
           ap (λ (b : Bool). is_member s (if b then n ∷ m ∷ ms else if n == m then m ∷ ms else m ∷ with_member n ms)) more
           ∙ (elim (bool_cases (n == m)) as (λ c. is_member s (if n == m then m ∷ ms else m ∷ with_member n ms) ≡ ((n == s) || ((m == s) || is_member s ms))) [
-              | inl same ↦ ap (λ (b : Bool). is_member s (if b then m ∷ ms else m ∷ with_member n ms)) same ∙ or_there n m s (is_member s ms) (eqb-true n m same)
-              | inr other ↦
-                  ap (λ (b : Bool). is_member s (if b then m ∷ ms else m ∷ with_member n ms)) other
-                  ∙ or_swap (is_member s (with_member n ms)) (n == s) (is_member s ms) (m == s) (with_member_has s n ms)
-            ])
+            | inl same ↦ ap (λ (b : Bool). is_member s (if b then m ∷ ms else m ∷ with_member n ms)) same ∙ or_there n m s (is_member s ms) (eqb-true n m same)
+            | inr other ↦
+                ap (λ (b : Bool). is_member s (if b then m ∷ ms else m ∷ with_member n ms)) other
+                ∙ or_swap (is_member s (with_member n ms)) (n == s) (is_member s ms) (m == s) (with_member_has s n ms)
+          ])
     ]
 
 flags_are : (s : ℕ) (flags : List ℕ) (is : List Input) → is_member s (flags_from flags is) ≡ (is_member s flags || is_member s (flags_of is))

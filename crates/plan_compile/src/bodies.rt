@@ -141,7 +141,10 @@ impl Bodies {
     pub(crate) fn into_items(self) -> Items<Body>
         ensures { result ≡ self }
     {
-        let Bodies { keys: _keys, bodies } = self;
+        let Bodies {
+            keys: _keys,
+            bodies,
+        } = self;
         Items::new(bodies)
     }
 }

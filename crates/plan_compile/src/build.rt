@@ -191,8 +191,16 @@ fn numbered<'a, 'b>(
     producers_numbered();
     let edge = &manifest.edges.as_slice()[number];
     let inputs = graph.inputs.row(number);
-    let count = inputs.len().saturating_sub(edge.paths.order_only_inputs.len());
-    let named = kept(alloc, &graph.files, number, edge.phony, front(inputs, count))?;
+    let count = inputs
+        .len()
+        .saturating_sub(edge.paths.order_only_inputs.len());
+    let named = kept(
+        alloc,
+        &graph.files,
+        number,
+        edge.phony,
+        front(inputs, count),
+    )?;
     let order_only = kept(alloc, &graph.files, number, edge.phony, back(inputs, count))?;
     Ok(Build {
         edge,

@@ -72,11 +72,7 @@ fn assembled(
 }
 
 /// The tables of the image.
-fn parts<'a>(
-    alloc: Global,
-    manifest: &Manifest,
-    graph: &Graph<'a>,
-) -> Result<Parts, CompileFault>
+fn parts<'a>(alloc: Global, manifest: &Manifest, graph: &Graph<'a>) -> Result<Parts, CompileFault>
     requires sound { IsSound manifest.now }
     requires graph { IsGraph manifest.now graph.now }
     ensures { IfOk result (λ parts. parts ≡ compiled manifest.now graph.now) }
@@ -91,9 +87,7 @@ fn parts<'a>(
     let files = paths(alloc, &graph.files)?;
     let pools = pool_table(alloc, manifest.pools.as_slice(), &pools)?;
     let defaults = words(alloc, graph.defaults.as_slice())?;
-    Ok(assembled(
-        texts, files, pools, plan.slots, bodies, edges, defaults,
-    ))
+    Ok(assembled(texts, files, pools, plan.slots, bodies, edges, defaults))
 }
 
 /// The image of a manifest with its graph: its edges in their order, of version 2. No two bodies are equal, and each is

@@ -26,11 +26,7 @@ fn sort_of(phony: bool) -> Sort
 }
 
 /// The number of an edge's pool, where it has one.
-fn pool_of<'a>(
-    pools: &Texts<'a>,
-    phony: bool,
-    name: &[u8],
-) -> Result<Option<u32>, CompileFault>
+fn pool_of<'a>(pools: &Texts<'a>, phony: bool, name: &[u8]) -> Result<Option<u32>, CompileFault>
     ensures { IfOk result (λ n. n ≡ pool_number pools.now (pool_by phony name.now)) }
 {
     if phony {
@@ -80,7 +76,13 @@ fn push_edge<'a>(
 {
     let (body, operands) = split(alloc, code)?;
     let number = word(bodies.put(alloc, body)?)?;
-    let edge = edge_by(alloc, texts, pools, EdgeCode::Shared(number, operands), build)?;
+    let edge = edge_by(
+        alloc,
+        texts,
+        pools,
+        EdgeCode::Shared(number, operands),
+        build,
+    )?;
     edges.push(alloc, &edge)?;
     Ok(())
 }

@@ -3,9 +3,7 @@ ghost use Rattle.plan_compile.specs.Faithful.{ImageIsFaithful, ManifestsAreSound
 ghost use Rattle.plan_compile.specs.Told.{ImageIsShaped, ImageMeans};
 
 use crate::laws::{command_means, command_shaped, phony_means, phony_shaped};
-use plan_graph::{
-    defaults_ascend, files_complete, producers_waited, ranks_rise, waits_ascend,
-};
+use plan_graph::{defaults_ascend, files_complete, producers_waited, ranks_rise, waits_ascend};
 use plan_image::split_law;
 
 /// A manifest that has a graph is sound: the files of its edges are in the table, no file is made twice, and ranks rise

@@ -22,10 +22,10 @@ mod form;
 mod image_laws;
 mod inputs;
 mod laws;
+mod lookups;
 mod names;
 mod outputs;
 mod slots;
-mod lookups;
 mod wiring;
 
 pub use compiling::compile;

@@ -144,10 +144,7 @@ fn put_texts<'a>(texts: &mut Texts<'a>, build: &Build<'a>) -> Result<(), Compile
 }
 
 /// The texts of all edges.
-pub(crate) fn texts_of<'a>(
-    alloc: Global,
-    builds: &[Build<'a>],
-) -> Result<Texts<'a>, CompileFault>
+pub(crate) fn texts_of<'a>(alloc: Global, builds: &[Build<'a>]) -> Result<Texts<'a>, CompileFault>
     ensures { IfOk result (λ texts. texts ≡ all_texts builds.now) }
 {
     let mut texts = Texts::new(alloc);
@@ -169,10 +166,7 @@ fn put_pool<'a>(names: &mut Texts<'a>, build: &Build<'a>) -> Result<(), CompileF
 }
 
 /// The names of the pools that edges use.
-pub(crate) fn pools_of<'a>(
-    alloc: Global,
-    builds: &[Build<'a>],
-) -> Result<Texts<'a>, CompileFault>
+pub(crate) fn pools_of<'a>(alloc: Global, builds: &[Build<'a>]) -> Result<Texts<'a>, CompileFault>
     ensures { IfOk result (λ names. names ≡ used_pools builds.now) }
 {
     let mut names = Texts::new(alloc);

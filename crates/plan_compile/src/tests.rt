@@ -1,7 +1,7 @@
 //! Each public function once, on edges made by hand.
 
 use super::*;
-use plan_image::{Edge, EdgeCode, Image, Instr, Kind, Parts, Slot, Sort, split};
+use plan_image::{Edge, EdgeCode, Edges, Image, Instr, Kind, Parts, Slot, Sort, split};
 use plan_text::{Items, RowList};
 use plan_verify::{VerifyFault, verify};
 use std::alloc::{AllocError, Global};
@@ -349,16 +349,19 @@ fn verdict(alloc: Global, wiring: &Wiring, slots: &[Kind]) -> Result<u64, Verify
     };
     let mut bodies = Vec::new(alloc);
     bodies.push(body)?;
-    let mut edges = Vec::new(alloc);
-    edges.push(Edge {
-        sort: Sort::Command,
-        pool: None,
-        rank: 0,
-        label: 0,
-        outputs: items(alloc, [0].as_slice())?,
-        waits: Items::empty(alloc),
-        code: EdgeCode::Shared(0, operands),
-    })?;
+    let mut edges = Edges::new(alloc);
+    edges.push(
+        alloc,
+        &Edge {
+            sort: Sort::Command,
+            pool: None,
+            rank: 0,
+            label: 0,
+            outputs: items(alloc, [0].as_slice())?,
+            waits: Items::empty(alloc),
+            code: EdgeCode::Shared(0, operands),
+        },
+    )?;
     let mut texts = RowList::new(alloc);
     texts.push(b"cc")?;
     texts.push(b"a.d")?;
@@ -375,7 +378,7 @@ fn verdict(alloc: Global, wiring: &Wiring, slots: &[Kind]) -> Result<u64, Verify
         pools: Items::empty(alloc),
         slots: Items::new(owned),
         bodies: Some(Items::new(bodies)),
-        edges: Items::new(edges),
+        edges,
         defaults: items(alloc, [0].as_slice())?,
     };
     let Ok(image) = Image::new(parts) else {

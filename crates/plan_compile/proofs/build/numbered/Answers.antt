@@ -17,15 +17,15 @@ returns c = λ edge at.
     let few : ℕ = named_count edge row in
     let found : it ≡ edge = c.index-as_slice-number.is ∙ ap (λ (es : List EdgeMeant). get_or es n it) c.as_slice.ensures ∙ index_or m.edges n edge it at in
     let count : c.saturating_sub-count.result ≡ few =
-        c.saturating_sub-count.ensures ∙ ap (λ (k : ℕ). length c.row-inputs.result.now - k) (c.len.ensures ∙ ap (λ (e : EdgeMeant). length e.paths.order_only_inputs) found)
-        ∙ ap (λ (fs : List ℕ). length fs - length edge.paths.order_only_inputs) c.row-inputs.ensures in
+    c.saturating_sub-count.ensures ∙ ap (λ (k : ℕ). length c.row-inputs.result.now - k) (c.len.ensures ∙ ap (λ (e : EdgeMeant). length e.paths.order_only_inputs) found)
+    ∙ ap (λ (fs : List ℕ). length fs - length edge.paths.order_only_inputs) c.row-inputs.ensures in
     let front : c.front.result.now ≡ take few row = c.front.ensures ∙ ap (λ (k : ℕ). take k c.row-inputs.result.now) count ∙ ap (λ (fs : List ℕ). take few fs) c.row-inputs.ensures in
     let back : c.back.result.now ≡ drop few row = c.back.ensures ∙ ap (λ (k : ℕ). drop k c.row-inputs.result.now) count ∙ ap (λ (fs : List ℕ). drop few fs) c.row-inputs.ensures in
     let named : c.in_ok-named.named ≡ without_own edge.phony (get_or g.outputs n []) (take few row) =
-        c.in_ok-named.ensures ∙ ap (λ (fs : List ℕ). without_made g.files n it.phony fs) front ∙ ap (λ (e : EdgeMeant). without_made g.files n e.phony (take few row)) found
-        ∙ without_same m g c.requires.graph c.files_complete.ensures c.producers_numbered.ensures n edge (take few row) at (λ f i. in_take few row f i) edge.phony in
+    c.in_ok-named.ensures ∙ ap (λ (fs : List ℕ). without_made g.files n it.phony fs) front ∙ ap (λ (e : EdgeMeant). without_made g.files n e.phony (take few row)) found
+    ∙ without_same m g c.requires.graph c.files_complete.ensures c.producers_numbered.ensures n edge (take few row) at (λ f i. in_take few row f i) edge.phony in
     let order_only : c.in_ok-order_only.order_only ≡ without_own edge.phony (get_or g.outputs n []) (drop few row) =
-        c.in_ok-order_only.ensures ∙ ap (λ (fs : List ℕ). without_made g.files n it.phony fs) back ∙ ap (λ (e : EdgeMeant). without_made g.files n e.phony (drop few row)) found
-        ∙ without_same m g c.requires.graph c.files_complete.ensures c.producers_numbered.ensures n edge (drop few row) at (λ f i. in_drop few row f i) edge.phony in
+    c.in_ok-order_only.ensures ∙ ap (λ (fs : List ℕ). without_made g.files n it.phony fs) back ∙ ap (λ (e : EdgeMeant). without_made g.files n e.phony (drop few row)) found
+    ∙ without_same m g c.requires.graph c.files_complete.ensures c.producers_numbered.ensures n edge (drop few row) at (λ f i. in_drop few row f i) edge.phony in
     same_build it edge _ _ _ _ _ _ _ _ _ _ found (c.in_ok-words.ensures ∙ c.row.ensures) (c.named.view_is ∙ named) (c.order_only.view_is ∙ order_only) (c.in_ok-words-2.ensures ∙ c.row-2.ensures)
     (c.in_ok-word.ensures ∙ c.number_at.ensures ∙ ap (λ (rs : List ℕ). slice_index rs n) c.as_slice-2.ensures)

@@ -15,9 +15,9 @@ pub edges_of-requires : goal.edges_of-requires
 edges_of-requires c =
     record {
       long =
-        ap (λ (ns : List ℕ). length ns) c.in_ok-plan.ensures.newest
-        ∙ ap (λ (xs : List Build). length (newest_from zero xs)) (c.deref-3.ensures.value ∙ sym c.deref-4.ensures.value)
-        ∙ newest_length zero c.deref-4.result.now;
+          ap (λ (ns : List ℕ). length ns) c.in_ok-plan.ensures.newest
+          ∙ ap (λ (xs : List Build). length (newest_from zero xs)) (c.deref-3.ensures.value ∙ sym c.deref-4.ensures.value)
+          ∙ newest_length zero c.deref-4.result.now;
     }
 
 pub returns : goal.returns
@@ -36,19 +36,33 @@ returns c =
     let count : c.len.result ≡ length t.files = c.len.ensures ∙ sym (map_long (λ f. f.0) g.files) in
     let slots : c.in_ok-plan.plan.slots.items ≡ slots_from zero t.edges = c.in_ok-plan.ensures.slots ∙ ap (λ (xs : List Build). slots_from zero xs) three in
     let table : c.in_ok-plan.plan.table.items ≡ filled (replicate c.len.result None) (all_made zero t.edges) =
-        c.in_ok-plan.ensures.table ∙ ap (λ (xs : List Build). filled (replicate c.len.result None) (all_made zero xs)) three in
+    c.in_ok-plan.ensures.table ∙ ap (λ (xs : List Build). filled (replicate c.len.result None) (all_made zero xs)) three in
     let newest : c.in_ok-plan.plan.newest.items ≡ newest_from zero t.edges = c.in_ok-plan.ensures.newest ∙ ap (λ (xs : List Build). newest_from zero xs) three in
     let codes : List Build → List (List Instr) = λ xs. codes_in c.in_ok-texts.texts c.in_ok-plan.plan.table.items c.in_ok-plan.plan.newest.items xs in
     let bodies : c.in_ok-edges.bodies ≡ used_bodies (codes t.edges) = c.in_ok-edges.ensures.bodies ∙ ap (λ (xs : List Build). used_bodies (codes xs)) four in
     let edges : c.in_ok-edges.edges ≡ edges_of c.in_ok-texts.texts (used_pools t.edges) (used_bodies (codes t.edges)) (codes t.edges) t.edges =
-        c.in_ok-edges.ensures.edges ∙ ap (λ (xs : List Build). edges_of c.in_ok-texts.texts c.in_ok-pools.pools (used_bodies (codes xs)) (codes xs) xs) four
-        ∙ ap (λ (ns : List Text). edges_of c.in_ok-texts.texts ns (used_bodies (codes t.edges)) (codes t.edges) t.edges) names in
+    c.in_ok-edges.ensures.edges ∙ ap (λ (xs : List Build). edges_of c.in_ok-texts.texts c.in_ok-pools.pools (used_bodies (codes xs)) (codes xs) xs) four
+    ∙ ap (λ (ns : List Text). edges_of c.in_ok-texts.texts ns (used_bodies (codes t.edges)) (codes t.edges) t.edges) names in
     let pools : c.in_ok-pools-2.pools ≡ map (declared t.pools) (used_pools t.edges) =
-        c.in_ok-pools-2.ensures ∙ ap (λ ps. map (declared ps) c.in_ok-pools.pools) c.as_slice.ensures ∙ ap (λ (ns : List Text). map (declared t.pools) ns) names in
-    let is : c.assembled.result ≡ record { texts = c.in_ok-texts-2.texts; files = c.in_ok-files.files; pools = c.in_ok-pools-2.pools; slots = c.in_ok-plan.plan.slots.items;
-        bodies = Some c.in_ok-edges.bodies; edges = c.in_ok-edges.edges; defaults = c.in_ok-defaults.defaults } = c.assembled.ensures in
+    c.in_ok-pools-2.ensures ∙ ap (λ ps. map (declared ps) c.in_ok-pools.pools) c.as_slice.ensures ∙ ap (λ (ns : List Text). map (declared t.pools) ns) names in
+    let is : c.assembled.result ≡ record {
+      texts = c.in_ok-texts-2.texts;
+      files = c.in_ok-files.files;
+      pools = c.in_ok-pools-2.pools;
+      slots = c.in_ok-plan.plan.slots.items;
+      bodies = Some c.in_ok-edges.bodies;
+      edges = c.in_ok-edges.edges;
+      defaults = c.in_ok-defaults.defaults;
+    } = c.assembled.ensures in
     is
-    ∙ ap (λ (us : List Text). record { texts = us; files = c.in_ok-files.files; pools = c.in_ok-pools-2.pools; slots = c.in_ok-plan.plan.slots.items;
-        bodies = Some c.in_ok-edges.bodies; edges = c.in_ok-edges.edges; defaults = c.in_ok-defaults.defaults }) c.in_ok-texts-2.ensures
+    ∙ ap (λ (us : List Text). record {
+      texts = us;
+      files = c.in_ok-files.files;
+      pools = c.in_ok-pools-2.pools;
+      slots = c.in_ok-plan.plan.slots.items;
+      bodies = Some c.in_ok-edges.bodies;
+      edges = c.in_ok-edges.edges;
+      defaults = c.in_ok-defaults.defaults;
+    }) c.in_ok-texts-2.ensures
     ∙ image_is t sound c.len.result c.in_ok-texts.texts c.in_ok-files.files c.in_ok-pools-2.pools c.in_ok-plan.plan.slots.items c.in_ok-plan.plan.table.items c.in_ok-plan.plan.newest.items
-      c.in_ok-edges.bodies c.in_ok-edges.edges c.in_ok-defaults.defaults count texts c.in_ok-files.ensures pools slots table newest bodies edges (c.in_ok-defaults.ensures ∙ c.as_slice-2.ensures)
+    c.in_ok-edges.bodies c.in_ok-edges.edges c.in_ok-defaults.defaults count texts c.in_ok-files.ensures pools slots table newest bodies edges (c.in_ok-defaults.ensures ∙ c.as_slice-2.ensures)

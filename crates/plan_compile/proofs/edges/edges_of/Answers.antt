@@ -24,9 +24,10 @@ loop-number-preserved c =
     let ltn : n < length ns = omega (arith, lt, c.requires.long) in
     let at : slice_get ns n ≡ Some slot = slice_get_read ns (length ns) n slot refl ltn c.index.ensures in
     let is : c.deref-in-loop-number.result.now ≡ code_of (wire_in (form_of x) texts table slot x) =
-        c.deref-in-loop-number.ensures.value ∙ c.in_ok-code.ensures ∙ ap (λ (t : Table). code_of (wire_in (form_of x) texts t slot x)) c.deref.ensures.value in
-    (bodies_step texts pools table ns xs n slot x c.deref-in-loop-number.result.now c.loop-number.bodies c.push_edge.new.bodies _ at here is c.in_ok-push_edge.ensures.bodies c.loop-number.invariant.0,
-    edges_step texts pools table ns xs n slot x c.deref-in-loop-number.result.now c.loop-number.bodies c.push_edge.new.bodies _ c.loop-number.edges c.push_edge.new.edges _ at here is
-      c.in_ok-push_edge.ensures.bodies c.in_ok-push_edge.ensures.edges
-      (bodies_step texts pools table ns xs n slot x c.deref-in-loop-number.result.now c.loop-number.bodies c.push_edge.new.bodies _ at here is c.in_ok-push_edge.ensures.bodies c.loop-number.invariant.0)
-      c.loop-number.invariant.1)
+    c.deref-in-loop-number.ensures.value ∙ c.in_ok-code.ensures ∙ ap (λ (t : Table). code_of (wire_in (form_of x) texts t slot x)) c.deref.ensures.value in (
+      bodies_step texts pools table ns xs n slot x c.deref-in-loop-number.result.now c.loop-number.bodies c.push_edge.new.bodies _ at here is c.in_ok-push_edge.ensures.bodies c.loop-number.invariant.0,
+      edges_step texts pools table ns xs n slot x c.deref-in-loop-number.result.now c.loop-number.bodies c.push_edge.new.bodies _ c.loop-number.edges c.push_edge.new.edges _ at here is
+          c.in_ok-push_edge.ensures.bodies c.in_ok-push_edge.ensures.edges
+          (bodies_step texts pools table ns xs n slot x c.deref-in-loop-number.result.now c.loop-number.bodies c.push_edge.new.bodies _ at here is c.in_ok-push_edge.ensures.bodies c.loop-number.invariant.0)
+          c.loop-number.invariant.1,
+    )

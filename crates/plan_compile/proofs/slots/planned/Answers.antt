@@ -17,13 +17,14 @@ loop-number-preserved c =
     let lt : n < length xs = omega (arith, c.loop-number-test.true) in
     let at : slice_get xs n ≡ Some x = slice_get_read xs (length xs) n x refl lt c.index-builds-number.is in
     let grown : c.lay.new.slots.items ≡ old ++ owned c.in_ok-word.field-0 (own_kinds x) =
-        c.in_ok-slot.ensures.slots ∙ ap (λ (f : Form). old ++ owned c.in_ok-word.field-0 (kinds_by f c.outputs.result.now)) c.form_of.ensures
-        ∙ ap (λ (fs : List ℕ). old ++ owned c.in_ok-word.field-0 (kinds_by (Rattle.plan_compile.specs.Slots.form_of x) fs)) c.outputs.ensures in
+    c.in_ok-slot.ensures.slots ∙ ap (λ (f : Form). old ++ owned c.in_ok-word.field-0 (kinds_by f c.outputs.result.now)) c.form_of.ensures
+    ∙ ap (λ (fs : List ℕ). old ++ owned c.in_ok-word.field-0 (kinds_by (Rattle.plan_compile.specs.Slots.form_of x) fs)) c.outputs.ensures in
     let laid : c.lay.new.table.items ≡ filled c.loop-number.table.items (made (length old) x) =
-        c.in_ok-slot.ensures.table ∙ ap (λ (f : Form). filled c.loop-number.table.items (outputs_by f (length old) c.outputs.result.now)) c.form_of.ensures
-        ∙ ap (λ (fs : List ℕ). filled c.loop-number.table.items (outputs_by (Rattle.plan_compile.specs.Slots.form_of x) (length old) fs)) c.outputs.ensures in
+    c.in_ok-slot.ensures.table ∙ ap (λ (f : Form). filled c.loop-number.table.items (outputs_by f (length old) c.outputs.result.now)) c.form_of.ensures
+    ∙ ap (λ (fs : List ℕ). filled c.loop-number.table.items (outputs_by (Rattle.plan_compile.specs.Slots.form_of x) (length old) fs)) c.outputs.ensures in
     let pushed : c.push.new.self.items ≡ c.loop-number.newest.items ++ newest_by (Rattle.plan_compile.specs.Slots.form_of x) (length old) ∷ [] =
-        c.in_ok-push.ensures.items ∙ ap (λ (k : ℕ). c.loop-number.newest.items ++ k ∷ []) (c.in_ok-slot.ensures.newest ∙ ap (λ (f : Form). newest_by f (length old)) c.form_of.ensures) in
-    (slots_step xs n c.in_ok-word.field-0 x old c.lay.new.slots.items _ at c.in_ok-word.ensures grown c.loop-number.invariant.0,
-    newest_step xs n c.in_ok-word.field-0 x old c.lay.new.slots.items c.loop-number.newest.items c.push.new.self.items _ at grown pushed c.loop-number.invariant.1,
-    table_step xs n c.in_ok-word.field-0 x old c.lay.new.slots.items c.loop-number.table.items c.lay.new.table.items _ at grown laid c.loop-number.invariant.2)
+    c.in_ok-push.ensures.items ∙ ap (λ (k : ℕ). c.loop-number.newest.items ++ k ∷ []) (c.in_ok-slot.ensures.newest ∙ ap (λ (f : Form). newest_by f (length old)) c.form_of.ensures) in (
+      slots_step xs n c.in_ok-word.field-0 x old c.lay.new.slots.items _ at c.in_ok-word.ensures grown c.loop-number.invariant.0,
+      newest_step xs n c.in_ok-word.field-0 x old c.lay.new.slots.items c.loop-number.newest.items c.push.new.self.items _ at grown pushed c.loop-number.invariant.1,
+      table_step xs n c.in_ok-word.field-0 x old c.lay.new.slots.items c.loop-number.table.items c.lay.new.table.items _ at grown laid c.loop-number.invariant.2,
+    )

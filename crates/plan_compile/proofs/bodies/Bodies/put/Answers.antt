@@ -31,7 +31,7 @@ returns-then-is_new-clause-number c =
     let i : c.in_ok-place.place ≡ position_or_len (same_key items c.in_ok-key.key) keys = c.in_ok-place.ensures.index in
     i ∙ place items c.in_ok-key.key keys c.args.body bodies key c.self.invariant
     ∙ ap (λ (bs : List Body). number same_body c.args.body bs)
-      (sym (c.in_ok-push.ensures.items ∙ ap (λ (bs : List Body). bs ++ c.args.body ∷ []) c.in_ok-reserve.ensures.items ∙ is_last bodies c.args.body absent))
+    (sym (c.in_ok-push.ensures.items ∙ ap (λ (bs : List Body). bs ++ c.args.body ∷ []) c.in_ok-reserve.ensures.items ∙ is_last bodies c.args.body absent))
 
 pub returns-clause-bodies : goal.returns-clause-bodies
 returns-clause-bodies c =
