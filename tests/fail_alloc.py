@@ -87,7 +87,7 @@ TREES = [
      b"plan: 51 Cycle a -> c -> d\n"),
     ({"build.ninja": RULE + "build a: r\ndefault a b\n"}, b"plan: 52 UnknownDefault b\n"),
 ]
-REFUSALS = {f"plan: {number} Memory\n".encode() for number in (22, 41, 54, 66, 86, 131)}
+REFUSALS = {f"plan: {number} Memory\n".encode() for number in (22, 41, 54, 66, 86, 101, 131)}
 
 # with slots of each kind, texts, a pool, jumps and waits; and one that is refused
 IMAGES = ("verifier/pool_and_a_phony", "verifier/slots_set_in_another_order", "verifier/loads_of_own_and_waited_for",
@@ -103,9 +103,11 @@ class Trial(NamedTuple):
 
 
 def trials() -> Iterator[Trial]:
-    """The trees, and each image in both versions for both commands."""
+    """The trees for both commands that read manifests, and each image in both versions for the other two."""
     for files, said in TREES:
-        yield Trial(["commands", "build.ninja"], {name: text.encode() for name, text in files.items()}, said)
+        texts = {name: text.encode() for name, text in files.items()}
+        yield Trial(["commands", "build.ninja"], texts, said)
+        yield Trial(["compile", "build.ninja", "-o", "/dev/stdout"], texts, said)
     for case in cases():
         if case.name.rpartition(" (")[0] in IMAGES:
             said = b"" if case.answer.startswith("ok ") else f"plan: {case.answer}\n".encode()

@@ -58,8 +58,8 @@ class Known:
 def said(image: Image, edge: Edge) -> tuple[object, ...]:
     """What an image says of an edge."""
     pool = None if edge.pool is None else (image.pools[edge.pool].name.decode(), image.pools[edge.pool].depth)
-    return (SORTS[edge.sort], tuple(image.files[file].decode() for file in edge.outputs), image.texts[edge.label].decode(),
-            list(edge.waits), edge.rank, pool)
+    outputs = tuple(image.files[file].decode() for file in edge.outputs)
+    return (SORTS[edge.sort], outputs, image.texts[edge.label].decode(), list(edge.waits), edge.rank, pool)
 
 
 def meant(known: Known, number: int) -> tuple[object, ...]:
@@ -124,11 +124,13 @@ class Run:
 
     def given(self, paths: tuple[str, ...]) -> tuple[rule.Input, ...]:
         files = {file.decode(): number for number, file in enumerate(self.image.files)}
-        return tuple(self.left[path] if path in self.known.maker else Source(files[path], path.encode()) for path in paths)
+        return tuple(
+            self.left[path] if path in self.known.maker else Source(files[path], path.encode()) for path in paths)
 
     def facts(self, build: Build) -> Facts:
-        return Facts(tuple(path.encode() for path in build.made()), self.given(build.named()), self.given(build.ordered()),
-                     build.is_phony, build.command.encode(), build.depfile.encode(), build.restat, build.generator)
+        outputs = tuple(path.encode() for path in build.made())
+        return Facts(outputs, self.given(build.named()), self.given(build.ordered()), build.is_phony,
+                     build.command.encode(), build.depfile.encode(), build.restat, build.generator)
 
     def faults(self) -> Iterator[str | None]:
         """Of each edge that can be run, where its code and the rule differ."""
