@@ -1,10 +1,11 @@
-"""Compares the commands that PROGRAM prints for a manifest with those that ninja prints for all of its targets."""
+"""Compares what PROGRAM prints and compiles of a manifest with what ninja prints for all of its targets."""
 import pathlib
 import re
 import subprocess
 import tempfile
 from typing import Literal, NamedTuple
 
+import compiling
 import programs
 from programs import Lines
 
@@ -65,6 +66,11 @@ def outcome(done: Done, theirs: Lines) -> Outcome:
     return Outcome("differs" if said else "equal", commands, said)
 
 
+def with_image(found: Outcome, said: str) -> Outcome:
+    """What came of the commands and of the image, of which this is said."""
+    return Outcome("differs", found.commands, f"{found.said}\n{said}".strip("\n")) if said else found
+
+
 def without_refused_lines(folder: pathlib.Path, copy: pathlib.Path) -> None:
     """Copies every manifest of a folder without the lines that are refused: they change no command."""
     for path in folder.rglob("*.ninja"):
@@ -79,11 +85,12 @@ def compared(program: str, ninja: str, manifest: str, folder: pathlib.Path) -> O
     done = programs.run([program, "commands", manifest], folder)
     number = refusal(done)
     if number is None:
-        return outcome(done, theirs)
+        return with_image(outcome(done, theirs), compiling.difference(program, ninja, manifest, folder, theirs))
     with tempfile.TemporaryDirectory() as home:
         copy = pathlib.Path(home)
         without_refused_lines(folder, copy)
         rest = outcome(programs.run([program, "commands", manifest], copy), theirs)
+        rest = with_image(rest, compiling.difference(program, ninja, manifest, copy, theirs))
     verdict: Literal["refused", "differs"] = "refused" if rest.verdict == "equal" else "differs"
     said = f"{number} {DECIDED[number]}; {rest.verdict} without such lines"
     return Outcome(verdict, rest.commands, f"{said}\n{rest.said}".strip())

@@ -1,8 +1,9 @@
 #!/usr/bin/env python3
-"""Compares the commands of build trees that CMake and Meson make here with those that ninja prints.
+"""Compares the commands and the images of build trees that CMake and Meson make here with what ninja prints.
 
 The trees are of projects that cmake_trees.py and meson_trees.py write, and of the sources of some Debian packages
-(upstream.py), fetched and configured in a temporary folder and not built. Commands are compared as multisets. A tree
+(upstream.py), fetched and configured in a temporary folder and not built. Commands are compared as multisets. The image
+of each is compiled, verified, and says of commands and of who makes which file what ninja says (compiling.py). A tree
 that is refused by a number that the project decided on is named, and compared again without the lines that are refused.
 What can't be made here is skipped, and why is said; without ninja nothing is compared. The last line is
 `N equal, M refused, K skipped, F failed`.

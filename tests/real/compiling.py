@@ -1,0 +1,74 @@
+"""Compares the image that PROGRAM makes of a manifest with what ninja prints of its targets and commands."""
+import pathlib
+import re
+import sys
+import tempfile
+from collections.abc import Iterator
+
+import programs
+from programs import Lines
+
+sys.path.insert(0, str(pathlib.Path(__file__).resolve().parent.parent / "images"))
+
+import reading
+from image import SORTS, Code, Image, code_of
+
+PHONY = b"phony"
+
+
+def made(program: str, manifest: str, folder: pathlib.Path) -> Image | str:
+    """The image that `compile` writes and `verify` accepts, or why there is none."""
+    with tempfile.TemporaryDirectory() as home:
+        path = pathlib.Path(home) / "plan.img"
+        done = programs.run([program, "compile", manifest, "-o", str(path)], folder)
+        if done.returncode != 0 or done.stdout or done.stderr:
+            return f"compile: status {done.returncode}: {done.stderr.decode(errors='replace').strip()}"
+        verdict = programs.run([program, "verify", str(path)], folder)
+        image = reading.read(path.read_bytes())
+    if isinstance(image, str):
+        return f"what compile wrote is no image: {image}"
+    if not re.fullmatch(rb"ok %d \d+\n" % len(image.edges), verdict.stdout):
+        return f"verify: {(verdict.stdout + verdict.stderr).decode(errors='replace').strip()}"
+    return image
+
+
+def commands(image: Image, code: Code) -> Iterator[bytes]:
+    """The texts that a code gives to `Run`."""
+    for (name, number), (following, _) in zip(code, code[1:]):
+        if following == "Run":
+            yield image.texts[number or 0] if name == "Text" else b"no text"
+
+
+def maker_faults(image: Image, targets: Lines) -> Iterator[str]:
+    """Where an edge makes other paths, or is a phony where ninja says otherwise."""
+    theirs = dict(line.rstrip(b"\n").rsplit(b": ", 1) for line in targets)
+    ours = {image.files[file]: edge for edge in image.edges for file in edge.outputs}
+    if ours.keys() != theirs.keys():
+        yield f"{len(ours)} files are made, ninja makes {len(theirs)}"
+    for path in ours.keys() & theirs.keys():
+        if (SORTS[ours[path].sort] == "phony") != (theirs[path] == PHONY):
+            yield f"{path!r} is made by {SORTS[ours[path].sort]}, ninja says {theirs[path]!r}"
+
+
+def code_faults(image: Image) -> Iterator[str]:
+    """A code without what tools look for: a command compares what is recorded, and a phony runs nothing."""
+    for edge in image.edges:
+        names = [name for name, _ in code_of(image, edge)]
+        if SORTS[edge.sort] == "phony" and set(names) & {"Run", "Keep", "Recall", "Deps", "Take"}:
+            yield f"a phony with {names}"
+        if SORTS[edge.sort] == "command" and [names.count(name) for name in ("Take", "Run", "Release")] != [1, 1, 1]:
+            yield f"a command with {names}"
+
+
+def difference(program: str, ninja: str, manifest: str, folder: pathlib.Path, theirs: Lines) -> str:
+    """Where the image says other than ninja of commands and makers; empty where it says the same."""
+    image = made(program, manifest, folder)
+    if isinstance(image, str):
+        return f"    {image}"
+    targets = programs.printed_lines([ninja, "-f", manifest, "-t", "targets", "all"], folder)
+    ran = Lines(text + b"\n" for edge in image.edges for text in commands(image, code_of(image, edge)))
+    found = [*maker_faults(image, targets), *code_faults(image)]
+    if ran != theirs:
+        lacking, other = sum((theirs - ran).values()), sum((ran - theirs).values())
+        found.append(f"{lacking} commands of ninja lack, {other} are others")
+    return "\n".join(f"    {fault}" for fault in found[:5])
