@@ -1,8 +1,9 @@
 #!/usr/bin/env python3
 """Runs the program on small trees of manifests, and on images, once for each of its allocations, and refuses that one.
 
-Each run has to end in a fault of memory (status 2, as `plan: 22 Memory`, nothing on standard output), or to print all
-that it prints with ample memory. Needs a C compiler, for the library that refuses (refusing.c).
+Each run has to end in a fault of memory (status 2, as `plan: 22 Memory`, nothing on standard output, but for the front
+of a run's lines), or to print all that it prints with ample memory. Needs a C compiler, for the library that refuses
+(refusing.c).
 The last line is `N passed, M failed`.
 """
 import pathlib
@@ -17,7 +18,8 @@ import programs
 
 sys.path.insert(0, str(pathlib.Path(__file__).resolve().parent / "images"))
 
-from cases import cases
+from cases import cases, image_of
+from image import spelled
 
 SECONDS = 60
 LIBRARY = pathlib.Path(__file__).resolve().parent / "refusing.c"
@@ -87,11 +89,41 @@ TREES = [
      b"plan: 51 Cycle a -> c -> d\n"),
     ({"build.ninja": RULE + "build a: r\ndefault a b\n"}, b"plan: 52 UnknownDefault b\n"),
 ]
-REFUSALS = {f"plan: {number} Memory\n".encode() for number in (22, 41, 54, 66, 86, 101, 131)}
+REFUSALS = {f"plan: {number} Memory\n".encode() for number in (22, 41, 54, 66, 86, 101, 111, 131)}
 
 # with slots of each kind, texts, a pool, jumps and waits; and one that is refused
 IMAGES = ("verifier/pool_and_a_phony", "verifier/slots_set_in_another_order", "verifier/loads_of_own_and_waited_for",
           "verifier/values_of_each_kind", "verifier/second_wait_of_equal_rank")
+
+
+# an image whose edges ask for a record, a command, a depfile and a stamp, and a run of it
+REPLAYED = """text cc a
+text a.d
+file a
+file b
+file c
+edge command outputs 0
+  Recall
+  4 Drop
+  Take
+  Text 0
+  Run
+  Release
+  Text 1
+  Deps
+  Drop
+  End
+edge command rank 1 outputs 1 waits 0
+  Stat 2
+  Drop
+  End
+edge phony outputs 2
+  End
+default 0 1
+"""
+TRACE = b"plan-trace 1 j 4 k 0\ntarget 1\nstart 0\nstep 0\nreply 0 entry 7 63632061 622e68 632e68\n" + (
+    b"step 0\n" * 7 + b"reply 0 exit 0\n" + b"step 0\n" * 3 + b"reply 0 bytes 613a2062\nstep 0\nstep 0\n"
+    b"start 1\nstep 1\nreply 1 stamp 5\nstep 1\nstep 1\n")
 
 
 class Trial(NamedTuple):
@@ -103,7 +135,7 @@ class Trial(NamedTuple):
 
 
 def trials() -> Iterator[Trial]:
-    """The trees for both commands that read manifests, and each image in both versions for the other two."""
+    """The trees for both commands that read manifests, each image in both versions for two others, and a run."""
     for files, said in TREES:
         texts = {name: text.encode() for name, text in files.items()}
         yield Trial(["commands", "build.ninja"], texts, said)
@@ -113,6 +145,11 @@ def trials() -> Iterator[Trial]:
             said = b"" if case.answer.startswith("ok ") else f"plan: {case.answer}\n".encode()
             yield Trial(["verify", "plan.img"], {"plan.img": case.data}, said)
             yield Trial(["dump", "plan.img"], {"plan.img": case.data}, b"")
+    replayed = {"plan.img": spelled(image_of(REPLAYED.splitlines())), "run.trace": TRACE}
+    yield Trial(["replay", "plan.img", "run.trace"], replayed, b"")
+    for line, said in ((b"step 1", b"110 NotEnabled at event 22"), (b"step", b"130 BadTrace at line 25")):
+        files = {**replayed, "run.trace": TRACE + line + b"\n"}
+        yield Trial(["replay", "plan.img", "run.trace"], files, b"plan: " + said + b"\n")
 
 
 def run(command: list[str], library: pathlib.Path, folder: pathlib.Path, refused: int) -> tuple[Ended, int]:
@@ -123,8 +160,11 @@ def run(command: list[str], library: pathlib.Path, folder: pathlib.Path, refused
     return (done.returncode, done.stdout, done.stderr), int(count.read_text())
 
 
-def is_want_of_memory(status: int, output: bytes, errors: bytes) -> bool:
-    return status == 2 and output == b"" and errors in REFUSALS
+def is_want_of_memory(trial: Trial, done: Ended, whole: Ended) -> bool:
+    """A fault of memory, and nothing printed; of `replay`, which makes its lines one by one, a front of them may be."""
+    status, output, errors = done
+    is_front = output == b"" or (trial.words[0] == "replay" and whole[1].startswith(output))
+    return status == 2 and is_front and errors in REFUSALS
 
 
 def faults(program: str, library: pathlib.Path, folder: pathlib.Path, trial: Trial) -> tuple[int, list[str]]:
@@ -136,7 +176,7 @@ def faults(program: str, library: pathlib.Path, folder: pathlib.Path, trial: Tri
     found = []
     for refused in range(1, allocations + 1):
         done, _ = run(command, library, folder, refused)
-        if done != whole and not is_want_of_memory(*done):
+        if done != whole and not is_want_of_memory(trial, done, whole):
             found.append(f"{' '.join(trial.words)}, allocation {refused}: {done}")
     return allocations, found
 

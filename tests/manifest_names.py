@@ -1,10 +1,10 @@
 #!/usr/bin/env python3
 """Checks that the documents lead where they say.
 
-Of the pages of rules (PAGES), both ways: each definition, function, row, case of an image and must-fail edit that a
-rule names is in its crate, what stands under "done" is reached from the program's `main` (call_graph.py), and every
-row, every case and every edit stands under a rule. Of the other documents, what doc_names.py says. Each fault is a
-line; the last line is how many there are.
+Of the pages of rules (PAGES), both ways: each definition, function, row, case of an image or of a build and must-fail
+edit that a rule names is in its crate, what stands under "done" is reached from the program's `main` (call_graph.py),
+and every row, every case and every edit stands under a rule. Of the other documents, what doc_names.py says. Each fault
+is a line; the last line is how many there are.
 """
 import argparse
 import fnmatch
@@ -21,9 +21,12 @@ ROOT = pathlib.Path(__file__).resolve().parent.parent
 sys.path.insert(0, str(ROOT / "tests" / "images"))
 
 import cases
+import run_builds
 
-PAGES = ("MANIFEST.md", "DEPFILE.md", "RECORD.md", "IMAGE.md", "VERIFIER.md", "MACHINE.md", "COMPILER.md")
-KEYS = {"manual", "defined", "done", "offered", "rows", "cases", "tests", "examples", "texts", "edits"}
+PAGES = ("MANIFEST.md", "DEPFILE.md", "RECORD.md", "IMAGE.md", "VERIFIER.md", "MACHINE.md", "LANES.md", "WORLD.md",
+         "COMPILER.md", "REPLAY.md", "RUN.md")
+KEYS = {"manual", "defined", "done", "offered", "rows", "cases", "builds", "tests", "examples", "texts", "edits"}
+
 
 
 class Rule(NamedTuple):
@@ -124,6 +127,8 @@ def faults_of(rule: Rule, functions: Functions) -> Iterator[str]:
     yield from (f"no row {pattern}" for pattern, found in fitting(rule.parts.get("rows", ""), rows()) if not found)
     tried = fitting(rule.parts.get("cases", ""), cases.names())
     yield from (f"no case {pattern}" for pattern, found in tried if not found)
+    built = fitting(rule.parts.get("builds", ""), run_builds.names())
+    yield from (f"no build {pattern}" for pattern, found in built if not found)
     for crate, text in rule.groups("tests"):
         content = "".join(path.read_text() for path in ROOT.glob(f"crates/{crate}/src/**/*.rt"))
         yield from (f"no test {name} in {crate}" for name in re.findall(r"\w+", text) if f"fn {name}(" not in content)
@@ -131,8 +136,8 @@ def faults_of(rule: Rule, functions: Functions) -> Iterator[str]:
         if not (ROOT / "crates" / crate / "proofs" / "Rows.antt").is_file():
             yield f"no Rows in {crate}"
     yield from (f"no edit {name} of {crate}" for crate, name in edits_of(rule) if (crate, name) not in edits())
-    if not rule.parts.keys() & {"rows", "cases", "examples"}:
-        yield "no row, no case and no example"
+    if not rule.parts.keys() & {"rows", "cases", "builds", "examples"}:
+        yield "no row, no case, no build and no example"
 
 
 def edits_of(rule: Rule) -> set[tuple[str, str]]:
@@ -149,9 +154,12 @@ def page_faults() -> Iterator[str]:
     shown = set[str]().union(*(names for rule in every for _, names in fitting(rule.parts.get("rows", ""), rows())))
     tried = set[str]().union(
         *(names for rule in every for _, names in fitting(rule.parts.get("cases", ""), cases.names())))
+    built = set[str]().union(
+        *(names for rule in every for _, names in fitting(rule.parts.get("builds", ""), run_builds.names())))
     guarding = set[tuple[str, str]]().union(*map(edits_of, every))
     yield from (f": the row {name} stands under no rule" for name in rows() if name not in shown)
     yield from (f": the case {name} stands under no rule" for name in cases.names() if name not in tried)
+    yield from (f": the build {name} stands under no rule" for name in run_builds.names() if name not in built)
     yield from (f": the edit {name} of {crate} stands under no rule" for crate, name in sorted(edits() - guarding))
 
 

@@ -1,6 +1,12 @@
 """What several rows' files.py write: they find this module by PYTHONPATH."""
 import pathlib
+import sys
 from collections.abc import Iterable
+
+sys.path.insert(0, str(pathlib.Path(__file__).resolve().parent / "images"))
+
+from cases import image_of
+from image import shared, spelled
 
 LINES = 500_000  # of one file, so that none has more than 16 MiB
 
@@ -31,3 +37,9 @@ def edges(count: int) -> list[str]:
 def listed(count: int, word: str = "") -> str:
     """So many paths."""
     return " ".join(f"{word}{number}" for number in range(count))
+
+
+def image(name: str, text: str, version: int = 1) -> None:
+    """The image of this text, as tests/images/cases.py has it."""
+    made = image_of(text.splitlines())
+    pathlib.Path(name).write_bytes(spelled(shared(made) if version == 2 else made))

@@ -18,6 +18,9 @@ use Rattle.plan_image.specs.declared.fault.ImageFault.{ImageFault}
 use Rattle.plan_verify.specs.Faults as verdicts
 use Rattle.plan_verify.specs.declared.fault.VerifyFault.{VerifyFault}
 use Rattle.plan_compile.specs.Faults as compiles
+use Rattle.plan_machine.specs.Faults as machines
+use Rattle.plan_machine.specs.declared.refused.Refused.{Refused as Refusal}
+use Rattle.plan_machine.specs.declared.refused.Refused.TheVariants as machine
 use Rattle.plan_compile.specs.declared.fault.CompileFault.{CompileFault}
 use Rattle.plan_ninja.specs.declared.fault.PlanFault.{PlanFault}
 
@@ -95,9 +98,25 @@ printed_verify_fault fault = record { number = verdicts.number_of fault; rest = 
 abbrev pub printed_compile_fault : CompileFault → PlanFault
 printed_compile_fault fault = record { number = compiles.number_of fault; rest = [] }
 
+-- why events can't be replayed, as the program prints it: where one isn't enabled, its place, counted from 0
+abbrev pub event_fault : ℕ → PlanFault
+event_fault event = record { number = 110; rest = codes " at event " ++ decimal event }
+
+abbrev pub printed_refusal : ℕ → Refusal → PlanFault
+printed_refusal event machine.NotEnabled = event_fault event
+printed_refusal event refusal = record { number = machines.number_of refusal; rest = [] }
+
+-- a line of a trace that says nothing where it stands, counted from 1
+abbrev pub trace_fault : ℕ → PlanFault
+trace_fault line = record { number = 130; rest = codes " at line " ++ decimal line }
+
 -- a file that can't be read or written
 abbrev pub file_fault : List ℕ → PlanFault
 file_fault path = record { number = 133; rest = space ∷ path }
+
+-- a target that no edge makes
+abbrev pub unknown_target : List ℕ → PlanFault
+unknown_target name = record { number = 132; rest = space ∷ name }
 
 -- want of memory of the program itself
 abbrev pub no_memory : PlanFault
@@ -167,17 +186,31 @@ names =
     ∷ (84, codes "DeadCode")
     ∷ (85, codes "PathsInSlot")
     ∷ (87, codes "ValuesLeft")
-    ∷ (100, codes "Limit")
+    ∷ []
+
+abbrev pub late_names : List (ℕ × List ℕ)
+late_names =
+    (100, codes "Limit")
+    ∷ (110, codes "NotEnabled")
+    ∷ (112, codes "BadTarget")
+    ∷ (120, codes "NoMemory")
+    ∷ (121, codes "NoLane")
+    ∷ (122, codes "OtherBoard")
+    ∷ (130, codes "BadTrace")
+    ∷ (132, codes "UnknownTarget")
     ∷ (133, codes "FileFault")
     ∷ []
 
--- the name at a number, Memory where none stands there
-abbrev pub name_among : List (ℕ × List ℕ) → ℕ → List ℕ
-name_among [] n = codes "Memory"
-name_among (x ∷ more) n = if n == x.0 then x.1 else name_among more n
+-- the name at a number, another one where none stands there
+abbrev pub name_among : List ℕ → List (ℕ × List ℕ) → ℕ → List ℕ
+name_among other [] n = other
+name_among other (x ∷ more) n = if n == x.0 then x.1 else name_among other more n
+
+abbrev pub late_name_of : ℕ → List ℕ
+late_name_of n = name_among (codes "Memory") late_names n
 
 abbrev pub name_of : ℕ → List ℕ
-name_of n = name_among names n
+name_of n = name_among (late_name_of n) names n
 
 -- the line that the program prints of a fault
 abbrev pub line_of : PlanFault → List ℕ

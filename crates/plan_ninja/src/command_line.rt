@@ -1,5 +1,6 @@
 //! The words of the command line.
 
+use crate::run_line::{RunWords, run_command, run_words};
 use clap::error::ErrorKind;
 use clap::{Arg, ArgAction, ArgMatches, Command, Error};
 use std::alloc::{AllocError, Global};
@@ -7,7 +8,7 @@ use std::rt::Env;
 use std::{env, io};
 
 /// What the command line asks for.
-#[derive(Clone, Copy)]
+#[derive(Drop)]
 pub enum Request<'a> {
     /// The commands of the manifest at this path.
     Commands(&'a str),
@@ -15,6 +16,10 @@ pub enum Request<'a> {
     Compile(&'a str, &'a str),
     /// The listing of the image at this path.
     Dump(&'a str),
+    /// To run an image.
+    Run(RunWords<'a>),
+    /// The run of the image at the first path that the trace at the second one tells.
+    Replay(&'a str, &'a str),
     /// The verdict on the image at this path.
     Verify(&'a str),
 }
@@ -67,6 +72,21 @@ but for those that dependencies bring.
 Else nothing is printed but the first check that fails, on standard error and with status 2: \
 `plan: NUMBER NAME at edge E place P`.";
 
+const REPLAY_ABOUT: &str = "Prints what happened in a run of a plan image, from its trace";
+
+const REPLAY_LONG_ABOUT: &str = "\
+Reads a plan image and a trace, which has the events of a run of it, goes through them, and prints the status lines and how \
+each edge came out. Nothing is run, and no file is looked at but these two.
+
+A status line is `[N/M] LABEL` where a command ended well, N the commands that came out so far and M those that the targets \
+need, `FAILED NAME: CAUSE`, `SKIPPED NAME: needs NAME` or `STOPPED NAME`. Behind them stands for each edge \
+`NUMBER NAME OUTCOME`.
+
+The status is 0 where all that the targets need ended well, else 1; 2 says that the image, the trace or one of its events is \
+refused, for the reason on standard error: `plan: 110 NotEnabled at event N`, counted from 0.";
+
+const TRACE_HELP: &str = "The trace to go through";
+
 const IMAGE_HELP: &str = "The plan image to read";
 
 /// A command that reads one file.
@@ -98,6 +118,16 @@ fn compile_command<'a>(alloc: Global) -> Result<Command<'a>, AllocError> {
     file_command(alloc, "compile", about, ("FILE", FILE_HELP))?.arg(output)
 }
 
+/// The command that reads an image and a trace.
+fn replay_command<'a>(alloc: Global) -> Result<Command<'a>, AllocError> {
+    let about = (REPLAY_ABOUT, REPLAY_LONG_ABOUT);
+    let trace = Arg::new(alloc, "TRACE")
+        .required(true)
+        .action(ArgAction::Set)
+        .help(TRACE_HELP);
+    file_command(alloc, "replay", about, ("IMG", IMAGE_HELP))?.arg(trace)
+}
+
 /// The commands and arguments that the program knows.
 fn program_command<'a>(alloc: Global) -> Result<Command<'a>, AllocError> {
     let about = (COMMANDS_ABOUT, COMMANDS_LONG_ABOUT);
@@ -105,6 +135,8 @@ fn program_command<'a>(alloc: Global) -> Result<Command<'a>, AllocError> {
     let compile = compile_command(alloc)?;
     let about = (DUMP_ABOUT, DUMP_LONG_ABOUT);
     let dump = file_command(alloc, "dump", about, ("IMG", IMAGE_HELP))?;
+    let run = run_command(alloc, IMAGE_HELP)?;
+    let replay = replay_command(alloc)?;
     let about = (VERIFY_ABOUT, VERIFY_LONG_ABOUT);
     let verify = file_command(alloc, "verify", about, ("IMG", IMAGE_HELP))?;
     Command::new(alloc, "plan_ninja")
@@ -115,6 +147,8 @@ fn program_command<'a>(alloc: Global) -> Result<Command<'a>, AllocError> {
         .subcommand(commands)?
         .subcommand(compile)?
         .subcommand(dump)?
+        .subcommand(run)?
+        .subcommand(replay)?
         .subcommand(verify)
 }
 
@@ -144,6 +178,13 @@ fn compile_request<'a>(found: &ArgMatches<'a>) -> Option<Request<'a>> {
     Some(Request::Compile(file, output))
 }
 
+/// The two files of `replay`.
+fn replay_request<'a>(found: &ArgMatches<'a>) -> Option<Request<'a>> {
+    let image = found.get_str("IMG")?;
+    let trace = found.get_str("TRACE")?;
+    Some(Request::Replay(image, trace))
+}
+
 /// What the words of the command line ask for, or the text that is shown in its place: an error, or help.
 pub fn request_in<'a>(alloc: Global, words: &'a [String]) -> Result<Request<'a>, Error> {
     let mut command = program_command(alloc)?;
@@ -152,6 +193,8 @@ pub fn request_in<'a>(alloc: Global, words: &'a [String]) -> Result<Request<'a>,
         Some(("commands", found)) => found.get_str("FILE").map(Request::Commands),
         Some(("compile", found)) => compile_request(&found),
         Some(("dump", found)) => found.get_str("IMG").map(Request::Dump),
+        Some(("run", found)) => run_words(alloc, &found)?.map(Request::Run),
+        Some(("replay", found)) => replay_request(&found),
         Some(("verify", found)) => found.get_str("IMG").map(Request::Verify),
         _ => return Err(command.error(ErrorKind::MissingSubcommand, "a command is missing")?),
     };

@@ -17,6 +17,24 @@ pub struct PlanFault {
     pub rest: Items<u8>,
 }
 
+/// The name of a fault that is none of manifests and images read.
+fn late_name_of(number: u8) -> &'static str
+    ensures { result.now ≡ defined.late_name_of number }
+{
+    match number {
+        100 => "Limit",
+        110 => "NotEnabled",
+        112 => "BadTarget",
+        120 => "NoMemory",
+        121 => "NoLane",
+        122 => "OtherBoard",
+        130 => "BadTrace",
+        132 => "UnknownTarget",
+        133 => "FileFault",
+        _ => "Memory",
+    }
+}
+
 /// The name that is printed behind the number of a fault.
 fn name_of(number: u8) -> &'static str
     ensures { result.now ≡ defined.name_of number }
@@ -79,9 +97,7 @@ fn name_of(number: u8) -> &'static str
         84 => "DeadCode",
         85 => "PathsInSlot",
         87 => "ValuesLeft",
-        100 => "Limit",
-        133 => "FileFault",
-        _ => "Memory",
+        _ => late_name_of(number),
     }
 }
 
@@ -161,6 +177,19 @@ pub fn file_fault(alloc: Global, path: &[u8]) -> PlanFault
     match spaced(alloc, path) {
         Ok(rest) => PlanFault {
             number: 133,
+            rest: Items::new(rest),
+        },
+        Err(_) => no_memory(alloc),
+    }
+}
+
+/// No edge makes this target; or want of memory where that finds none.
+pub fn unknown_target(alloc: Global, name: &[u8]) -> PlanFault
+    ensures { (result ≡ defined.unknown_target name.now) ⊎ (result ≡ defined.no_memory) }
+{
+    match spaced(alloc, name) {
+        Ok(rest) => PlanFault {
+            number: 132,
             rest: Items::new(rest),
         },
         Err(_) => no_memory(alloc),

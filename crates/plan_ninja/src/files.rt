@@ -16,6 +16,9 @@ pub const MANIFEST_BYTES: u64 = MAX_SOURCE as u64 + 1;
 /// One byte more than an image may have, so that one which is too long is seen to be.
 pub const IMAGE_BYTES: u64 = MAX_IMAGE as u64 + 1;
 
+/// A trace may have any length.
+pub const TRACE_BYTES: u64 = u64::MAX;
+
 /// The files that lie in the system, by their paths.
 #[derive(Drop)]
 pub struct FileSource<'a, R> {

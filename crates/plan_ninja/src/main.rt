@@ -13,6 +13,11 @@ mod files;
 mod graph_fault;
 mod image_fault;
 mod images;
+mod replay_fault;
+mod replaying;
+mod run_line;
+mod running;
+mod targets;
 #[cfg(test)]
 mod tests;
 mod verdicts;
@@ -20,18 +25,26 @@ mod verdicts;
 use crate::command_line::{Request, request_in, words_in};
 use crate::commands::do_commands;
 use crate::compiling::do_compile;
-use crate::fault::{PlanFault, no_memory, output_fault};
-use crate::files::{FileSink, FileSource, IMAGE_BYTES, MANIFEST_BYTES};
+use crate::fault::{PlanFault, file_fault, no_memory, output_fault};
+use crate::files::{FileSink, FileSource, IMAGE_BYTES, MANIFEST_BYTES, TRACE_BYTES};
 use crate::images::do_dump;
+use crate::replaying::do_replay;
+use crate::run_line::RunWords;
+use crate::running::{Build, do_run};
 use crate::verdicts::do_verify;
 use clap::Error;
 use clap::error::ErrorKind;
+use plan_lanes::World;
+use plan_machine::Options;
 use plan_text::{Counted, Sink};
-use std::alloc::Global;
+use plan_world::{OpenFault, RealWorld};
+use std::alloc::{AllocError, Global};
 use std::io;
 use std::io::{BufWriter, Write};
 use std::process::ExitCode;
-use std::rt::{Env, Files};
+use std::rt::Files;
+use std::sync::Wait;
+use std::thread::Threads;
 
 /// The status of a program that was refused.
 const REFUSED: u8 = 2;
@@ -42,12 +55,13 @@ const OUTPUT_BUFFER: usize = 65_536;
 /// Writes what is asked for to a sink, or to the file that is asked for, and says with which status the program ends.
 fn answer<R: Files + AllocGlobal, W: Sink>(
     rt: &R,
-    request: Request,
+    request: &Request<'_>,
     out: &mut W,
 ) -> Result<u8, PlanFault> {
     let alloc = rt.alloc();
     let mut manifests = FileSource::new(rt, MANIFEST_BYTES);
     let mut images = FileSource::new(rt, IMAGE_BYTES);
+    let mut traces = FileSource::new(rt, TRACE_BYTES);
     match request {
         Request::Commands(path) => do_commands(alloc, &mut manifests, path.as_bytes(), out),
         Request::Compile(path, output) => {
@@ -61,12 +75,22 @@ fn answer<R: Files + AllocGlobal, W: Sink>(
             )
         }
         Request::Dump(path) => do_dump(alloc, &mut images, path.as_bytes(), out),
+        Request::Replay(image, trace) => do_replay(
+            alloc,
+            &mut images,
+            image.as_bytes(),
+            &mut traces,
+            trace.as_bytes(),
+            out,
+        ),
+        // It has a world of its own.
+        Request::Run(_) => Ok(REFUSED),
         Request::Verify(path) => do_verify(alloc, &mut images, path.as_bytes(), out),
     }
 }
 
 /// Prints what is asked for, and says with which status the program ends.
-fn print<R: Files + Print + AllocGlobal>(rt: &R, request: Request) -> Result<u8, PlanFault> {
+fn print<R: Files + Print + AllocGlobal>(rt: &R, request: &Request<'_>) -> Result<u8, PlanFault> {
     let alloc = rt.alloc();
     let Ok(buffer) = BufWriter::with_capacity(alloc, OUTPUT_BUFFER, io::writer(rt)) else {
         return Err(no_memory(alloc));
@@ -116,22 +140,77 @@ fn show<R: Print + Eprint + AllocGlobal, E: Print>(rt: &R, errors: &E, error: &E
     }
 }
 
-/// Does what the words of the command line ask for, and says with which status the program ends.
-fn run<R: Env + Files + Print + Eprint + AllocGlobal, E: Print>(rt: &R, errors: &E) -> u8 {
-    let words = match words_in(rt) {
-        Ok(words) => words,
-        Err(error) => return show(rt, errors, &error),
+/// The names of targets, as bytes.
+fn names_of<'a>(alloc: Global, targets: &[&'a str]) -> Result<Vec<&'a [u8]>, AllocError> {
+    let mut names = Vec::with_capacity(alloc, targets.len())?;
+    for target in targets {
+        names.push(target.as_bytes())?;
+    }
+    Ok(names)
+}
+
+/// The world of real files and commands, with the record of this path.
+fn world_at(rt: &HostRuntime, record: &str) -> Result<RealWorld<HostRuntime>, PlanFault> {
+    let own: Result<HostRuntime, AllocError> = rt.clone();
+    let Ok(own) = own else {
+        return Err(no_memory(rt.alloc()));
     };
-    match request_in(rt.alloc(), &words) {
-        Ok(request) => match print(rt, request) {
-            Ok(status) => status,
-            Err(fault) => report(rt.alloc(), errors, &fault),
-        },
-        Err(error) => show(rt, errors, &error),
+    match RealWorld::open(own, record) {
+        Ok(world) => Ok(world),
+        Err(OpenFault::Memory) => Err(no_memory(rt.alloc())),
+        Err(OpenFault::Device) => Err(file_fault(rt.alloc(), record.as_bytes())),
+    }
+}
+
+/// Runs an image in a world, and says with which status the program ends.
+fn run_image<R: Threads + Wait + Sync + Files + Print + AllocGlobal, W: World + Send + Sync>(
+    rt: &R,
+    asked: &RunWords<'_>,
+    world: &W,
+) -> Result<u8, PlanFault> {
+    let alloc = rt.alloc();
+    let (Some(options), Ok(targets), Ok(buffer)) = (
+        Options::new(asked.jobs, asked.keep),
+        names_of(alloc, &asked.targets),
+        BufWriter::with_capacity(alloc, OUTPUT_BUFFER, io::writer(rt)),
+    ) else {
+        return Err(no_memory(alloc));
+    };
+    let build = Build {
+        image: asked.image.as_bytes(),
+        options,
+        targets: &targets,
+    };
+    let mut images = FileSource::new(rt, IMAGE_BYTES);
+    let mut out = Counted::new(buffer);
+    let ran = do_run(rt, alloc, &mut images, &build, world, &mut out);
+    match (ran, out.into_writer().flush()) {
+        (Ok(_), Err(_)) => Err(output_fault_or_memory(alloc)),
+        (ran, _) => ran,
+    }
+}
+
+/// The status that the program ends with, where a refusal is printed.
+fn status_of<E: Print>(alloc: Global, errors: &E, done: Result<u8, PlanFault>) -> u8 {
+    match done {
+        Ok(status) => status,
+        Err(fault) => report(alloc, errors, &fault),
     }
 }
 
 fn main(rt: HostRuntime) -> ExitCode {
     let errors = rt.stderr();
-    ExitCode::from(run(&rt, &errors))
+    let words = match words_in(&rt) {
+        Ok(words) => words,
+        Err(error) => return ExitCode::from(show(&rt, &errors, &error)),
+    };
+    let done = match request_in(rt.alloc(), &words) {
+        Ok(Request::Run(asked)) => match world_at(&rt, asked.record) {
+            Ok(world) => run_image(&rt, &asked, &world),
+            Err(fault) => Err(fault),
+        },
+        Ok(request) => print(&rt, &request),
+        Err(error) => return ExitCode::from(show(&rt, &errors, &error)),
+    };
+    ExitCode::from(status_of(rt.alloc(), &errors, done))
 }

@@ -16,7 +16,11 @@ use std::alloc::{AllocError, Global};
 use std::mem::forget;
 
 /// The image at the path, which is well shaped.
-fn verified_at<S: Source>(alloc: Global, source: &mut S, path: &[u8]) -> Result<Verified, PlanFault>
+pub fn verified_at<S: Source>(
+    alloc: Global,
+    source: &mut S,
+    path: &[u8],
+) -> Result<Verified, PlanFault>
     ensures image { IfOk result (λ image. IsImageAt (S.gives source.old) path.now image × IsWellShaped image) }
     ensures read { OnOk result (S.failures source.new ≡ S.failures source.old) }
     ensures refused { let missing = IsMissing (S.gives source.old) (S.fails source.old) (S.failures source.old) (S.failures source.new) in

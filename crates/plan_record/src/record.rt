@@ -1,6 +1,6 @@
 //! The entries of a record file.
 
-ghost use Rattle.std.specs.Prelude.{◌≡◌, ◌≤◌, ℕ, IfOk, length, drop, option_map, slice_get};
+ghost use Rattle.std.specs.Prelude.{◌≡◌, ◌≤◌, ◌++◌, ◌∷◌, [], ℕ, IfOk, OnOk, OnErr, length, drop, option_map, slice_get};
 ghost use Rattle.std.specs.Arc.{arc_value};
 ghost use Rattle.plan_record.specs.Entries.{IsGoodFront, last_of};
 ghost use Rattle.plan_record.specs.Outputs.{IsIndexOf};
@@ -96,5 +96,18 @@ impl Record {
             Some(number) => nth_entry(&self.entries, *number),
             None => None,
         }
+    }
+
+    /// Puts an entry behind the others, as where it was appended to the file. Without memory nothing changes.
+    pub fn add(&mut self, alloc: Global, entry: Entry) -> Result<(), Memory>
+        ensures added { OnOk result (self.new ≡ self.old ++ entry ∷ []) }
+        ensures unchanged { OnErr result (self.new ≡ self.old) }
+    {
+        let number = self.entries.len();
+        let output = Vec::from_slice(alloc, entry.output())?;
+        self.entries.reserve(1)?;
+        self.numbers.insert(output, number)?;
+        self.entries.push(entry)?;
+        Ok(())
     }
 }

@@ -106,6 +106,21 @@ fn last_of_an_output(rt: HostRuntime) -> Result<(), Fail> {
     Ok(())
 }
 
+#[test]
+fn added_behind_the_file(rt: HostRuntime) -> Result<(), Fail> {
+    let (mut record, _) = record_of(rt.alloc(), &ENTRY)?;
+    record.add(rt.alloc(), Entry::new(rt.alloc(), b"b", b"t", 8, &[])?)?;
+    record.add(rt.alloc(), Entry::new(rt.alloc(), b"a", b"t", 9, &[])?)?;
+    assert_eq!(rt; record.entries().len(), 3);
+    for (output, basis) in [(b"a".as_slice(), 9), (b"b".as_slice(), 8)] {
+        match record.entry(output) {
+            Some(entry) => assert_eq!(rt; entry.basis(), basis),
+            None => panic!(rt; "no entry"),
+        }
+    }
+    Ok(())
+}
+
 /// Whether parts of these lengths make an entry, which is then read again as it is.
 fn makes_entry(alloc: Global, output: usize, command: usize, path: usize) -> Result<bool, Fail> {
     let output = vec![in alloc; b'o'; output]?;

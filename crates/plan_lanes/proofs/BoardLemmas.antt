@@ -1,0 +1,102 @@
+-- What a board keeps, at its opening and with one event more.
+use Rattle.std.proofs.Common.{◌≡◌, ◌≢◌, ◌<◌, ℕ, zero, suc, Bool, true, false, List, [], ◌∷◌, ◌++◌, length, Some, refl, sym, ap, ◌∙◌, inl, inr, subst, arith}
+use Rattle.std.specs.Prelude.{map, slice_get, slice_set}
+use Rattle.std.proofs.lemmas.Bool.{cases_order}
+use Rattle.std.proofs.lemmas.List.{length-set}
+use Rattle.std.proofs.lemmas.Option.{slice_get_within}
+use Rattle.plan_image.specs.declared.image.Parts.{Parts}
+use Rattle.plan_verify.specs.Turn.{Local}
+use Rattle.plan_machine.specs.declared.event.Event.{Event}
+use Rattle.plan_machine.specs.declared.mark.Mark.{Mark}
+use Rattle.plan_machine.specs.Depfile.{depfile}
+use Rattle.plan_machine.specs.Edges.{edge_of}
+use Rattle.plan_machine.specs.Going.{Going}
+use Rattle.plan_machine.specs.Limits.{Limits}
+use Rattle.plan_machine.specs.Kept.{Running, IsStateOf}
+use Rattle.plan_machine.specs.Runs.{Opens, at_first}
+use Rattle.plan_machine.specs.State.{Status, Active}
+use Rattle.plan_machine.specs.Step.{Next, step}
+use Rattle.plan_machine.specs.Wanted.{any_outside}
+use Rattle.plan_lanes.specs.Boards.{IsKept, MayJournal}
+use Rattle.plan_lanes.specs.Journals.{Rule, IsLastOf}
+use Rattle.plan_lanes.specs.Progress.{Progress, progress}
+use Rattle.plan_lanes.proofs.JournalLemmas.{allowed_more, allowed_none, last_before, last_here}
+use Rattle.plan_lanes.proofs.ListLemmas.{get_other, get_set}
+use Rattle.plan_lanes.proofs.RunLemmas.{MovesAlone, moves_alone, reached_more}
+
+-- no edge is under way at first
+none_active : (wanted : List Bool) (e : ℕ) (l : Local) → slice_get (map at_first wanted) e ≡ Some (Active l) → ⊥
+none_active [] e l h = cc
+none_active (true ∷ wanted) zero l h = cc
+none_active (false ∷ wanted) zero l h = cc
+none_active (w ∷ wanted) (suc e) l h = none_active wanted e l h
+
+-- a board that was opened
+pub kept_opened : (rule : Rule) (numbers : List ℕ) (p : Parts) (targets : List ℕ) (r : Running) (journal : List Event) (marks : List Mark)
+    → Opens p targets r.going.now → IsStateOf p r → journal ≡ [] → marks ≡ [] → length numbers ≡ length p.edges → any_outside p targets ≡ false
+    → IsKept rule numbers r (progress p targets r.going journal marks)
+kept_opened rule numbers p targets r journal marks opens state none bare all inside =
+    rw (none, bare) (record {
+      inside = inside;
+      journaled = record {
+        reached = record { start = r.going.now; opens = opens; run = refl };
+        allowed = allowed_none rule p r.going.limits targets;
+      };
+      numbered = λ e l active. absurd (none_active opens.wanted e l (subst (λ (s : List Status). slice_get s e ≡ Some (Active l)) opens.edges active));
+      all = all;
+      state = state;
+    })
+
+module _ (rule : Rule) (numbers : List ℕ) (r next : Running) (b : Progress) (event : Event) (told : Mark) (kept : IsKept rule numbers r b) (may : MayJournal rule b event) where
+  abbrev Numbers : List ℕ
+  Numbers = slice_set numbers (edge_of event) (length b.journal)
+
+  abbrev More : List Event
+  More = b.journal ++ event ∷ []
+
+  module _ (long : length b.state.edges ≡ length b.opened.parts.edges) (alone : MovesAlone b.state next.going.now (edge_of event) told) where
+    other : (e : ℕ) (l : Local) → slice_get next.going.now.edges e ≡ Some (Active l) → e ≢ edge_of event → (n : ℕ) × (slice_get Numbers e ≡ Some n) × IsLastOf e n More
+    other e l active apart =
+        let was : slice_get b.state.edges e ≡ Some (Active l) =
+        sym (get_other b.state.edges alone.status (edge_of event) e apart) ∙ sym (ap (λ (s : List Status). slice_get s e) alone.left) ∙ active in
+        let before = kept.numbered e l was in (
+          before.0,
+          get_other numbers (length b.journal) (edge_of event) e apart ∙ before.1,
+          last_before b.journal event e before.0 (λ h. apart (sym h)) before.2,
+        )
+
+    same : (e : ℕ) (l : Local) → slice_get next.going.now.edges e ≡ Some (Active l) → e ≡ edge_of event → (n : ℕ) × (slice_get Numbers e ≡ Some n) × IsLastOf e n More
+    same e l active is =
+        let within : e < length next.going.now.edges = slice_get_within next.going.now.edges e (Active l) active in
+        let lengths : length next.going.now.edges ≡ length b.state.edges = ap length alone.left ∙ length-set b.state.edges (edge_of event) alone.status in (
+          length b.journal,
+          rw is (get_set numbers (length b.journal) (edge_of event) (omega (arith, kept.all, within, is, lengths, long))),
+          rw is (last_here b.journal event),
+        )
+
+    numbered : (e : ℕ) (l : Local) → slice_get next.going.now.edges e ≡ Some (Active l) → (n : ℕ) × (slice_get Numbers e ≡ Some n) × IsLastOf e n More
+    numbered e l active =
+        elim (cases_order e (edge_of event)) [
+          | inl is ↦ same e l active is
+          | inr (inl below) ↦ other e l active (λ h. absurd (omega (arith, below, h)))
+          | inr (inr above) ↦ other e l active (λ h. absurd (omega (arith, above, h)))
+        ]
+
+  -- a board that one event more was applied to
+  pub kept_more : r.going ≡ record { limits = b.opened.limits; now = b.state } → step depfile b.opened.parts b.opened.limits b.state event ≡ Next next.going.now told → next.going.limits ≡ r.going.limits → IsStateOf b.opened.parts next
+      → IsKept rule Numbers next (progress b.opened.parts b.opened.targets next.going More (b.marks ++ told ∷ []))
+  kept_more going is limits state =
+      let same_limits : next.going.limits ≡ b.opened.limits = limits ∙ ap (λ (g : Going). g.limits) going in
+      let long : length b.state.edges ≡ length b.opened.parts.edges = subst (λ (g : Going). length g.now.edges ≡ length b.opened.parts.edges) going kept.state.kept.long in
+      let alone = moves_alone depfile b.opened.parts b.opened.limits b.state next.going.now event told is in
+      subst (λ (l : Limits). IsKept rule Numbers next (record { opened = record { parts = b.opened.parts; limits = l; targets = b.opened.targets }; state = next.going.now; journal = More; marks = b.marks ++ told ∷ [] })) (sym same_limits)
+      (record {
+        inside = kept.inside;
+        journaled = record {
+          reached = reached_more depfile b.opened.parts b.opened.limits b.opened.targets b.journal b.marks b.state next.going.now event told kept.journaled.reached is;
+          allowed = allowed_more rule b.opened.parts b.opened.limits b.opened.targets b.journal event b.state b.marks kept.journaled.reached kept.journaled.allowed may;
+        };
+        numbered = numbered long alone;
+        all = length-set numbers (edge_of event) (length b.journal) ∙ kept.all;
+        state = state;
+      })

@@ -1,0 +1,9 @@
+mod AlikeLemmas
+mod ListLemmas
+mod RunLemmas
+mod JournalLemmas
+mod BoardLemmas
+mod StepLemmas
+mod ReportLemmas
+mod DeskLemmas
+mod Rows

@@ -1,0 +1,76 @@
+-- The definitions, computed on small journals.
+use Rattle.std.proofs.Common.{◌≡◌, ◌+◌, ◌<◌, ℕ, zero, suc, true, false, List, [], ◌∷◌, Some, None, refl, arith}
+use Rattle.std.specs.Prelude.{slice_get}
+use Rattle.plan_image.specs.declared.instr.Instr.TheVariants as op
+use Rattle.plan_image.specs.declared.image.Sort.TheVariants as sort
+use Rattle.plan_image.specs.declared.image.EdgeCode.TheVariants.{Own}
+use Rattle.plan_image.specs.declared.image.Parts.{Parts}
+use Rattle.plan_verify.specs.Turn.{Run, Stat, turn}
+use Rattle.plan_machine.specs.declared.reply.Reply.TheVariants as reply
+use Rattle.plan_machine.specs.declared.event.Event.{Event}
+use Rattle.plan_machine.specs.declared.event.Event.TheVariants.{Start, Step, Reply as Hear}
+use Rattle.plan_machine.specs.declared.mark.Mark.TheVariants as mark
+use Rattle.plan_machine.specs.Runs.{Opens}
+use Rattle.plan_machine.specs.State.{Unbegun, Active, State}
+use Rattle.plan_machine.specs.Step.{step}
+use Rattle.plan_lanes.specs.declared.asked.Asked.TheVariants as asked
+use Rattle.plan_lanes.specs.declared.board.Report.{Report}
+use Rattle.plan_lanes.specs.declared.fault.LaneFault.TheVariants.{NoLane}
+use Rattle.plan_lanes.specs.Faults.{number_of}
+use Rattle.plan_lanes.specs.Journals.{Rule, IsLastOf, IsAllowed}
+use Rattle.plan_lanes.specs.Questions.{is_run, shown}
+
+stat_is_no_run : is_run (shown (asked.Stat (97 ∷ []))) ≡ false
+stat_is_no_run = refl
+
+run_is_one : shown (asked.Run (120 ∷ []) ((97 ∷ []) ∷ [])) ≡ Run (120 ∷ []) ((97 ∷ []) ∷ [])
+run_is_one = refl
+
+no_lane : (r : Report) → number_of (NoLane r) ≡ 121
+no_lane r = refl
+
+-- ---- one edge that asks for a stamp
+
+one : Parts
+one = record {
+  texts = (120 ∷ []) ∷ [];
+  files = (97 ∷ []) ∷ [];
+  pools = [];
+  slots = [];
+  bodies = None;
+  edges = record { sort = sort.Phony; pool = None; rank = 0; label = 0; outputs = 0 ∷ []; waits = []; code = Own (op.Stat 0 ∷ op.Drop ∷ op.End ∷ []) } ∷ [];
+  defaults = 0 ∷ [];
+}
+
+first : State
+first = record { edges = Unbegun ∷ []; slots = [] }
+
+begun : State
+begun = record { edges = Active (record { place = 0; stack = []; holding = false; ran = false; asked = false }) ∷ []; slots = [] }
+
+asking : State
+asking = record { edges = Active (record { place = 0; stack = []; holding = false; ran = false; asked = true }) ∷ []; slots = [] }
+
+journal : List Event
+journal = Start 0 ∷ Step 0 ∷ Hear 0 (reply.Stamp 7) ∷ []
+
+-- its question has the number 1: the step that asked
+asked_by_step : IsLastOf 0 1 (Start 0 ∷ Step 0 ∷ [])
+asked_by_step = record { event = Step 0; there = refl; is = refl; last = λ k other past there. absurd (none k other past there) }
+  where
+    none : (k : ℕ) (other : Event) → 1 < k → slice_get (Start 0 ∷ Step 0 ∷ []) k ≡ Some other → ⊥
+    none zero other past there = omega (arith, past)
+    none (suc zero) other past there = omega (arith, past)
+    none (suc (suc k)) other past there = absurd cc
+
+-- a world that replies to each question its number and 7
+adds_seven : Rule
+adds_seven number question given = given ≡ reply.Stamp (number + 7)
+
+-- doesn't allow this journal, in which the question 1 got the reply of question 0
+not_allowed : Opens one (0 ∷ []) first → IsAllowed adds_seven one (record { jobs = 1; keep = 0 }) (0 ∷ []) journal → ⊥
+unfolding one first begun asking journal adds_seven step turn
+not_allowed opens allowed =
+    let given : reply.Stamp 7 ≡ reply.Stamp 8 =
+    allowed 2 0 (reply.Stamp 7) asking (mark.Started 0 ∷ mark.Asked 0 ∷ []) (Stat (97 ∷ [])) 1 refl (record { start = first; opens = opens; run = (begun, refl, (asking, refl, refl)) }) refl asked_by_step in
+    cc

@@ -1,0 +1,59 @@
+-- What a board does, and what it keeps.
+use Rattle.std.specs.Prelude.{◌≡◌, ℕ, List, [], ◌∷◌, ◌++◌, Some, false, length, slice_get}
+use Rattle.plan_verify.specs.Turn.{Local, Request}
+use Rattle.plan_machine.specs.declared.event.Event.{Event}
+use Rattle.plan_machine.specs.declared.event.Event.TheVariants.{Reply as Hear}
+use Rattle.plan_machine.specs.declared.mark.Mark.{Mark}
+use Rattle.plan_machine.specs.declared.reply.Reply.{Reply}
+use Rattle.plan_machine.specs.Depfile.{depfile}
+use Rattle.plan_machine.specs.Kept.{Running, IsStateOf}
+use Rattle.plan_machine.specs.Requests.{asked_at}
+use Rattle.plan_machine.specs.Runs.{Opens, Reached}
+use Rattle.plan_machine.specs.State.{Active}
+use Rattle.plan_machine.specs.Step.{Next, step}
+use Rattle.plan_machine.specs.Wanted.{any_outside}
+use Rattle.plan_lanes.specs.Journals.{Rule, IsLastOf, IsAllowed}
+use Rattle.plan_lanes.specs.Progress.{Opened, Progress}
+
+-- nothing has happened yet
+pub record IsFresh (o : Opened) (b : Progress) : Type 0 where
+  pub inside : any_outside o.parts o.targets ≡ false
+  pub opened : b.opened ≡ o
+  pub opens : Opens o.parts o.targets b.state
+  pub journal : b.journal ≡ []
+  pub marks : b.marks ≡ []
+
+-- one event more was applied, and is journaled with its mark
+pub record Applies (old new : Progress) (event : Event) (mark : Mark) : Type 0 where
+  pub opened : new.opened ≡ old.opened
+  pub next : step depfile old.opened.parts old.opened.limits old.state event ≡ Next new.state mark
+  pub journal : new.journal ≡ old.journal ++ event ∷ []
+  pub marks : new.marks ≡ old.marks ++ mark ∷ []
+
+-- an edge awaits the reply to just this request, which the event at this position asked
+pub record IsOpen (b : Progress) (e number : ℕ) (q : Request) : Type 0 where
+  pub asked : asked_at b.opened.parts b.state e ≡ Some q
+  pub position : IsLastOf e number b.journal
+
+-- ---- what a board keeps
+
+-- of each edge that is under way the position of its last event is known
+abbrev pub AreNumbers : List ℕ → Progress → Type 0
+AreNumbers numbers b = (e : ℕ) (l : Local) → slice_get b.state.edges e ≡ Some (Active l) → (n : ℕ) × (slice_get numbers e ≡ Some n) × IsLastOf e n b.journal
+
+-- the journal leads from an opening to the state and leaves the marks, and is allowed
+pub record IsJournaled (rule : Rule) (b : Progress) : Type 0 where
+  pub reached : Reached depfile b.opened.parts b.opened.limits b.opened.targets b.journal b.marks b.state
+  pub allowed : IsAllowed rule b.opened.parts b.opened.limits b.opened.targets b.journal
+
+pub record IsKept (rule : Rule) (numbers : List ℕ) (r : Running) (b : Progress) : Type 0 where
+  pub inside : any_outside b.opened.parts b.opened.targets ≡ false
+  pub journaled : IsJournaled rule b
+  pub numbered : AreNumbers numbers b
+  pub all : length numbers ≡ length b.opened.parts.edges
+  pub state : IsStateOf b.opened.parts r
+
+-- the event is no reply, or one that the rule allows for the open question
+abbrev pub MayJournal : Rule → Progress → Event → Type 0
+MayJournal rule b event =
+    (e : ℕ) (r : Reply) (q : Request) (n : ℕ) → event ≡ Hear e r → asked_at b.opened.parts b.state e ≡ Some q → IsLastOf e n b.journal → rule n q r

@@ -1,0 +1,27 @@
+-- Why no whole run is reported.
+use Rattle.std.specs.Prelude.{◌≡◌, ℕ, true, false}
+use Rattle.plan_machine.specs.declared.refused.Refused.TheVariants as refused
+use Rattle.plan_machine.specs.Faults.{number_of as refusal_number}
+use Rattle.plan_machine.specs.Wanted.{any_outside}
+use Rattle.plan_lanes.specs.declared.fault.LaneFault.{LaneFault}
+use Rattle.plan_lanes.specs.declared.fault.LaneFault.TheVariants.{Opening, NotEnabled, NoMemory, NoLane, OtherBoard}
+use Rattle.plan_lanes.specs.Journals.{Rule}
+use Rattle.plan_lanes.specs.Progress.{Opened}
+use Rattle.plan_lanes.specs.Reports.{IsRunOf}
+
+-- the run wasn't opened, as the machine says; or it was, and this is the run so far
+abbrev pub FaultReports : Rule → Opened → LaneFault → Type 0
+FaultReports rule o (Opening refused.BadTarget) = any_outside o.parts o.targets ≡ true
+FaultReports rule o (Opening refused.Memory) = any_outside o.parts o.targets ≡ false
+FaultReports rule o (Opening refused.NotEnabled) = ⊥
+FaultReports rule o (NotEnabled r) = IsRunOf rule o r
+FaultReports rule o (NoMemory r) = IsRunOf rule o r
+FaultReports rule o (NoLane r) = IsRunOf rule o r
+FaultReports rule o (OtherBoard r) = IsRunOf rule o r
+
+abbrev pub number_of : LaneFault → ℕ
+number_of (Opening refusal) = refusal_number refusal
+number_of (NotEnabled r) = 110
+number_of (NoMemory r) = 120
+number_of (NoLane r) = 121
+number_of (OtherBoard r) = 122

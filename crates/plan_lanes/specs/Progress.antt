@@ -1,0 +1,28 @@
+-- What a board shows.
+use Rattle.std.specs.Prelude.{ℕ, List}
+use Rattle.plan_image.specs.declared.image.Parts.{Parts}
+use Rattle.plan_machine.specs.Limits.{Limits}
+use Rattle.plan_machine.specs.declared.event.Event.{Event}
+use Rattle.plan_machine.specs.declared.mark.Mark.{Mark}
+use Rattle.plan_machine.specs.Going.{Going}
+use Rattle.plan_machine.specs.State.{State}
+
+-- what a run was opened with: an image, options, targets
+pub record Opened : Type 0 where
+  pub parts : Parts
+  pub limits : Limits
+  pub targets : List ℕ
+
+-- and how far it is: its state, its events and their marks
+pub record Progress : Type 0 where
+  pub opened : Opened
+  pub state : State
+  pub journal : List Event
+  pub marks : List Mark
+
+-- the options and the state, as the machine speaks of them
+abbrev pub going_of : Progress → Going
+going_of b = record { limits = b.opened.limits; now = b.state }
+
+abbrev pub progress : Parts → List ℕ → Going → List Event → List Mark → Progress
+progress p targets g journal marks = record { opened = record { parts = p; limits = g.limits; targets = targets }; state = g.now; journal = journal; marks = marks }

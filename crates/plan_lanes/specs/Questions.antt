@@ -1,0 +1,18 @@
+-- What lanes carry of a question.
+use Rattle.std.specs.Prelude.{Bool, true, false}
+use Rattle.plan_verify.specs.Turn.{Request, Stat, Recall, Run, Deps, Keep}
+use Rattle.plan_lanes.specs.declared.asked.Asked.{Asked}
+use Rattle.plan_lanes.specs.declared.asked.Asked.TheVariants as asked
+
+-- as one edge's step speaks of it
+abbrev pub shown : Asked → Request
+shown (asked.Stat path) = Stat path
+shown (asked.Recall output) = Recall output
+shown (asked.Run command outputs) = Run command outputs
+shown (asked.Deps path) = Deps path
+shown (asked.Keep output command basis paths) = Keep output command basis paths
+
+-- to run a command
+abbrev pub is_run : Request → Bool
+is_run (Run command outputs) = true
+is_run _ = false

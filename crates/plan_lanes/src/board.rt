@@ -1,0 +1,271 @@
+//! What lanes share: the run so far.
+
+ghost use Rattle.std.specs.Prelude.{◌≡◌, ◌≢◌, ◌⊎◌, ◌↔◌, ◌∷◌, [], ◌++◌, IfErr, IfOk, IsTrue, OnErr, OnOk, false, is_some, length, slice_set, true};
+ghost use Rattle.plan_image.specs.declared.image.Parts.{Parts};
+ghost use Rattle.plan_machine.specs.declared.event.Event.TheVariants.{Reply as Hear};
+ghost use Rattle.plan_machine.specs.Depfile.{depfile};
+ghost use Rattle.plan_machine.specs.Edges.{edge_of};
+ghost use Rattle.plan_machine.specs.NeverStuck.{CanGo, is_own};
+ghost use Rattle.plan_machine.specs.Picking.{IsEnabled};
+ghost use Rattle.plan_machine.specs.Requests.{Asks};
+ghost use Rattle.plan_machine.specs.Step.{NotEnabled, step};
+ghost use Rattle.plan_machine.specs.Wanted.{any_outside};
+ghost use Rattle.plan_lanes.specs.Advances.{Advances, WouldAsk};
+ghost use Rattle.plan_lanes.specs.Boards.{Applies, IsFresh, IsOpen, MayJournal};
+ghost use Rattle.plan_lanes.specs.Journals.{IsLastOf};
+ghost use Rattle.plan_lanes.specs.Progress.{Opened, going_of};
+ghost use Rattle.plan_lanes.specs.Questions.{is_run, shown};
+ghost use Rattle.plan_lanes.specs.Reports.{IsRunOf};
+
+use crate::asked::{Asked, Question};
+use crate::world::{Permit, World};
+use plan_machine::{
+    Event, Mark, Options, Refused, Reply, State, depfiles_are_frugal, marks_are_orderly,
+    never_wrong, stays_in_budget,
+};
+use plan_verify::Verified;
+use std::alloc::{AllocError, Global};
+use std::marker::{Model, PhantomData};
+
+/// What an advance did.
+pub enum Advance {
+    /// An edge went on, and asked nothing.
+    Moved,
+    /// An edge asked: its number, the question, and leave to run the command exactly where it asks for that.
+    Job(u32, Question, Option<Permit>),
+    /// Nothing: no edge can go on before a reply comes.
+    Wait,
+    /// Nothing: the run has ended.
+    Ended,
+}
+
+/// The state of a run, its events and their marks.
+#[derive(Drop)]
+pub struct Report {
+    pub state: State,
+    pub journal: Vec<Event>,
+    pub marks: Vec<Mark>,
+}
+
+/// A run and its history. A contract sees it as what it was opened with and how far it is. Each change of it is one
+/// event of the machine; each reply in its journal is one that the world's rule allows for its question.
+#[derive(Drop)]
+pub struct Board<'v, W: World> {
+    alloc: Global,
+    image: &'v Verified,
+    targets: Vec<u32>,
+    state: State,
+    journal: Vec<Event>,
+    marks: Vec<Mark>,
+    /// For each edge the position of its last event.
+    numbers: Vec<u64>,
+    world: PhantomData<W>,
+}
+
+impl<'v, W: World> Model for Board<'v, W> {
+    ghost use Rattle.plan_lanes.specs.Boards.{IsKept};
+    ghost use Rattle.plan_lanes.specs.Progress.{Progress, progress};
+
+    ghost Value = { Progress };
+
+    ghost view = { λ b. progress b.image.now b.targets.items b.state.going b.journal.items b.marks.items };
+
+    ghost invariant = { λ b. IsKept W.allows b.numbers.items b.state (progress b.image.now b.targets.items b.state.going b.journal.items b.marks.items) };
+}
+
+/// The edge that an event changes.
+fn edge_of(event: &Event) -> u32
+    ensures { result ≡ edge_of event.now }
+{
+    match event {
+        Event::Start(edge)
+        | Event::Skip(edge, _)
+        | Event::Stop(edge)
+        | Event::Step(edge)
+        | Event::Reply(edge, _) => *edge,
+    }
+}
+
+/// Sets the number at a place, where there is one.
+fn put(numbers: &mut Vec<u64>, at: usize, number: u64)
+    ensures { numbers.new.items ≡ slice_set numbers.old.items at number }
+{
+    if at < numbers.len() {
+        numbers[at] = number;
+    }
+}
+
+/// The leave to run an edge's command, where that is what it asks.
+fn permit_for(edge: u32, request: &Asked) -> Option<Permit>
+    ensures { is_some result ≡ is_run (shown request.now) }
+{
+    match request {
+        Asked::Run(..) => Some(Permit::new(edge)),
+        _ => None,
+    }
+}
+
+impl<'v, W: World> Board<'v, W> {
+    /// A run of an image that begins: no targets stand for the image's defaults. It makes all room that the state needs.
+    ///
+    /// # Errors
+    /// As `State::open`: `BadTarget` exactly where a target is no edge of the image, and `Memory`.
+    pub fn open(
+        alloc: Global,
+        image: &'v Verified,
+        options: Options,
+        targets: &[u32],
+    ) -> Result<Board<'v, W>, Refused>
+        ensures opens { IfOk result (λ b. IsFresh (record { parts = image.now; limits = options; targets = targets.now }) b) }
+        ensures refused { IfErr result (λ r. ((r ≡ Refused.Memory) × (any_outside image.now targets.now ≡ false)) ⊎ ((r ≡ Refused.BadTarget) × (any_outside image.now targets.now ≡ true))) }
+    {
+        let state = State::open(alloc, image, options, targets)?;
+        let numbers = vec![in alloc; 0; image.image().parts().edges.len()]?;
+        let targets = Vec::from_slice(alloc, targets)?;
+        Ok(Board {
+            alloc,
+            image,
+            targets,
+            state,
+            journal: Vec::new(alloc),
+            marks: Vec::new(alloc),
+            numbers,
+            world: PhantomData,
+        })
+    }
+
+    /// Applies one event and journals it with its mark. A refusal changes nothing.
+    fn record(&mut self, event: Event) -> Result<Mark, Refused>
+        requires { MayJournal W.allows self.old event }
+        ensures ok { IfOk result (λ m. Applies self.old self.new event m) }
+        ensures err { OnErr result (self.new ≡ self.old) }
+        ensures refused { IfErr result (λ r. r ≡ Refused.NotEnabled → step depfile self.old.opened.parts self.old.opened.limits self.old.state event ≡ NotEnabled) }
+        ensures inside { IfErr result (λ r. r ≢ Refused.BadTarget) }
+    {
+        let edge = edge_of(&event);
+        let kept = event.copy()?;
+        self.journal.reserve(1)?;
+        self.marks.reserve(1)?;
+        let mark = self.state.apply(self.image, event)?;
+        let number = self.journal.len() as u64;
+        put(&mut self.numbers, edge as usize, number);
+        self.journal.push_reserved(kept);
+        self.marks.push_reserved(mark);
+        Ok(mark)
+    }
+
+    /// What an event would ask, exactly where it is enabled and asks.
+    fn question(&self, event: &Event) -> Result<Option<Asked>, AllocError>
+        ensures { IfOk result (λ asked. WouldAsk self.now.opened.parts (going_of self.now) event.now asked) }
+    {
+        match self.state.asks(self.image, event) {
+            Some(request) => Ok(Some(Asked::of(self.alloc, &request)?)),
+            None => Ok(None),
+        }
+    }
+
+    /// Applies an event that needs no reply, and tells what it asked.
+    fn go_on(&mut self, event: Event) -> Result<Advance, Refused>
+        requires own { is_own event ≡ true }
+        requires enabled { IsEnabled self.old.opened.parts (going_of self.old) event }
+        ensures ok { IfOk result (λ a. Advances self.old self.new a) }
+        ensures err { OnErr result (self.new ≡ self.old) }
+        ensures memory { IfErr result (λ r. r ≡ Refused.Memory) }
+    {
+        let asked = self.question(&event)?;
+        let edge = edge_of(&event);
+        let number = self.journal.len() as u64;
+        self.record(event)?;
+        match asked {
+            None => Ok(Advance::Moved),
+            Some(request) => {
+                let permit = permit_for(edge, &request);
+                Ok(Advance::Job(edge, Question { number, request }, permit))
+            }
+        }
+    }
+
+    /// Does what can be done next without a reply: one event, or nothing where there is none. It takes as long for any
+    /// number of edges, but for those that wait for one which ends.
+    ///
+    /// # Errors
+    /// `Memory` alone; then nothing changed.
+    pub fn advance(&mut self) -> Result<Advance, Refused>
+        ensures ok { IfOk result (λ a. Advances self.old self.new a) }
+        ensures err { OnErr result (self.new ≡ self.old) }
+        ensures memory { IfErr result (λ r. r ≡ Refused.Memory) }
+    {
+        let Some(event) = self.state.pick(self.image) else {
+            if self.state.ended() {
+                return Ok(Advance::Ended);
+            }
+            return Ok(Advance::Wait);
+        };
+        self.go_on(event)
+    }
+
+    /// Whether an advance would do an event. It takes as long for any image.
+    pub fn enabled(&self) -> bool
+        ensures can { result ≡ true → CanGo depfile self.now.opened.parts self.now.opened.limits self.now.state }
+        ensures cannot { result ≡ false → CanGo depfile self.now.opened.parts self.now.opened.limits self.now.state → ⊥ }
+    {
+        match self.state.pick(self.image) {
+            Some(_event) => true,
+            None => false,
+        }
+    }
+
+    /// Whether an edge awaits the reply to just this question.
+    fn is_open(&self, edge: u32, question: &Question) -> bool
+        ensures { IsTrue result ↔ IsOpen self.now edge question.now.number (shown question.now.request) }
+    {
+        let Some(request) = self.state.request(self.image, edge) else {
+            return false;
+        };
+        match self.numbers.get(edge as usize) {
+            Some(number) => *number == question.number && question.request.is_of(&request),
+            None => false,
+        }
+    }
+
+    /// Applies a reply that the world's rule allows for a question, and journals it.
+    ///
+    /// # Errors
+    /// `NotEnabled` exactly where the edge doesn't await the reply to just this question, or the reply is of a sort that
+    /// doesn't fit it; and `Memory`. Then nothing changed.
+    pub fn answer(&mut self, edge: u32, question: Question, reply: Reply) -> Result<Mark, Refused>
+        requires { W.allows question.number (shown question.request) reply }
+        ensures ok { IfOk result (λ m. Applies self.old self.new (Hear edge reply) m × IsOpen self.old edge question.number (shown question.request)) }
+        ensures err { OnErr result (self.new ≡ self.old) }
+        ensures refused { IfErr result (λ r. r ≡ Refused.NotEnabled → IsOpen self.old edge question.number (shown question.request) → step depfile self.old.opened.parts self.old.opened.limits self.old.state (Hear edge reply) ≡ NotEnabled) }
+        ensures inside { IfErr result (λ r. r ≢ Refused.BadTarget) }
+    {
+        if !self.is_open(edge, &question) {
+            return Err(Refused::NotEnabled);
+        }
+        self.record(Event::Reply(edge, reply))
+    }
+
+    /// The run so far: its state, its events and their marks. It takes no memory.
+    pub fn into_report(self) -> Report
+        ensures same { (result.state.going.now ≡ self.entry.state) × (result.journal.items ≡ self.entry.journal) × (result.marks.items ≡ self.entry.marks) }
+        ensures run { IsRunOf W.allows self.entry.opened result }
+    {
+        never_wrong();
+        marks_are_orderly();
+        stays_in_budget();
+        depfiles_are_frugal();
+        let _tables = self.image.image();
+        let Board {
+            state,
+            journal,
+            marks,
+            ..
+        } = self;
+        Report {
+            state,
+            journal,
+            marks,
+        }
+    }
+}

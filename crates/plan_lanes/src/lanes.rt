@@ -1,0 +1,276 @@
+//! Lanes: threads that share one run.
+
+ghost use Rattle.std.specs.Prelude.{◌≡◌, IfErr, IfOk, true};
+ghost use Rattle.plan_machine.specs.State.{has_ended};
+ghost use Rattle.plan_lanes.specs.Faults.{FaultReports};
+ghost use Rattle.plan_lanes.specs.Progress.{Opened};
+ghost use Rattle.plan_lanes.specs.Reports.{IsRunOf};
+
+use crate::asked::{Asked, Question};
+use crate::board::{Advance, Board, Report};
+use crate::desk::{Desk, Naming, Stopped};
+use crate::fault::LaneFault;
+use crate::hand::{Member, answer_all, ask_all};
+use crate::world::{Permit, World};
+use plan_machine::Options;
+use plan_verify::Verified;
+use std::alloc::Global;
+use std::marker::Brand;
+use std::sync::{Condvar, Mutex, Wait};
+use std::thread;
+use std::thread::Threads;
+
+/// The most questions that a lane takes at one visit.
+const HAND: usize = 64;
+
+/// What a visit to the desk left to do.
+enum Left {
+    /// To ask what is in the hand.
+    Asks,
+    /// That, and then to run a command.
+    Runs(u32, Question, Permit),
+    /// Nothing: the run has ended, or lanes stop.
+    Nothing,
+}
+
+/// Why a hand was filled no further.
+enum Taken {
+    Full,
+    Run(u32, Question, Permit),
+    Wait,
+    Ended,
+    NoMemory,
+}
+
+/// Runs an image by as many threads as the options have jobs, each of which takes questions from one board, asks the
+/// world, and hands its replies in. No targets stand for the image's defaults. It may wait for the world.
+///
+/// # Errors
+/// As `Board::open`, without a report; else the run so far, and why it hasn't ended. Which of the faults comes is only
+/// tested: `NotEnabled` where a reply doesn't fit its question, `NoMemory`, `NoLane` where no thread could be started.
+pub fn run_lanes<W: World + Send + Sync, R: Threads + Wait + Sync>(
+    rt: &R,
+    alloc: Global,
+    image: &Verified,
+    options: Options,
+    targets: &[u32],
+    world: &W,
+) -> Result<Report, LaneFault>
+    ensures run { IfOk result (λ r. IsRunOf W.allows (record { parts = image.now; limits = options; targets = targets.now }) r) }
+    ensures ended { IfOk result (λ r. has_ended r.state.going.now ≡ true) }
+    ensures fault { IfErr result (λ f. FaultReports W.allows (record { parts = image.now; limits = options; targets = targets.now }) f) }
+{
+    let board: Board<'_, W> = match Board::open(alloc, image, options, targets) {
+        Ok(board) => board,
+        Err(refused) => return Err(LaneFault::Opening(refused)),
+    };
+    run_named::<Brand, W, R>(rt, alloc, options.jobs(), board, world)
+}
+
+/// Runs what a board begins, by so many lanes.
+fn run_named<J: Naming + Send + Sync, W: World + Send + Sync, R: Threads + Wait + Sync>(
+    rt: &R,
+    alloc: Global,
+    count: u8,
+    board: Board<'_, W>,
+    world: &W,
+) -> Result<Report, LaneFault>
+    requires { board.opened ≡ J.run }
+    ensures run { IfOk result (λ r. IsRunOf W.allows J.run r) }
+    ensures ended { IfOk result (λ r. has_ended r.state.going.now ≡ true) }
+    ensures fault { IfErr result (λ f. FaultReports W.allows J.run f) }
+{
+    let desk: Mutex<Desk<'_, W, J>> = Mutex::new(Desk::new(board));
+    let moved = Condvar::new();
+    let started = start_lanes(rt, alloc, count, &desk, &moved, world);
+    let Desk { board, stopped, .. } = desk.into_inner();
+    let report = board.into_report();
+    if !started {
+        return Err(LaneFault::NoLane(report));
+    }
+    match stopped {
+        Stopped::Memory => return Err(LaneFault::NoMemory(report)),
+        Stopped::Unfit => return Err(LaneFault::NotEnabled(report)),
+        Stopped::No => {}
+    }
+    if !report.state.ended() {
+        return Err(LaneFault::OtherBoard(report));
+    }
+    Ok(report)
+}
+
+/// Starts lanes and waits for them. True where one started.
+fn start_lanes<J: Naming + Send + Sync, W: World + Send + Sync, R: Threads + Wait + Sync>(
+    rt: &R,
+    alloc: Global,
+    count: u8,
+    desk: &Mutex<Desk<'_, W, J>>,
+    moved: &Condvar,
+    world: &W,
+) -> bool {
+    thread::scope(thread::scope_env(), rt, |scope| {
+        let mut started = false;
+        for _ in 0..count {
+            if scope
+                .spawn(move || lane(rt, alloc, desk, moved, world))
+                .is_ok()
+            {
+                started = true;
+            }
+        }
+        started
+    })
+}
+
+/// Works until the run has ended, or lanes stop.
+fn lane<J: Naming, W: World, R: Wait>(
+    rt: &R,
+    alloc: Global,
+    desk: &Mutex<Desk<'_, W, J>>,
+    moved: &Condvar,
+    world: &W,
+) {
+    let mut hand: Vec<Member<W>> = Vec::new(alloc);
+    if hand.reserve(HAND).is_err() {
+        stop(rt, desk, moved);
+        return;
+    }
+    for _ in rt.forever() {
+        match visit(rt, desk, moved, &mut hand) {
+            Left::Nothing => return,
+            Left::Asks => ask_all(&mut hand, world),
+            Left::Runs(edge, question, permit) => {
+                ask_all(&mut hand, world);
+                if !hand_in(rt, desk, moved, &mut hand) {
+                    permit.spend();
+                    return;
+                }
+                let member = run(world, edge, question, permit);
+                if hand.push(member).is_err() {
+                    stop(rt, desk, moved);
+                    return;
+                }
+            }
+        }
+    }
+}
+
+/// Hands in what is in the hand, and fills it again. It sleeps while nothing can be asked and the hand is empty.
+fn visit<J: Naming, W: World, R: Wait>(
+    rt: &R,
+    desk: &Mutex<Desk<'_, W, J>>,
+    moved: &Condvar,
+    hand: &mut Vec<Member<W>>,
+) -> Left {
+    let mut guard = desk.lock(rt);
+    answer_all(hand, &mut guard);
+    for _ in rt.forever() {
+        if guard.stopped != Stopped::No {
+            moved.notify_all();
+            return Left::Nothing;
+        }
+        let left = match take(rt, &mut guard, hand) {
+            Taken::Full => Left::Asks,
+            Taken::Run(edge, question, permit) => Left::Runs(edge, question, permit),
+            Taken::Wait if hand.is_empty() => {
+                guard.waiting = guard.waiting.saturating_add(1);
+                guard = moved.wait(rt, guard);
+                guard.waiting = guard.waiting.saturating_sub(1);
+                continue;
+            }
+            Taken::Wait => Left::Asks,
+            Taken::Ended => {
+                moved.notify_all();
+                return Left::Nothing;
+            }
+            Taken::NoMemory => {
+                guard.stop(Stopped::Memory);
+                continue;
+            }
+        };
+        let wakes = guard.wakes();
+        drop(guard);
+        if wakes {
+            moved.notify_one();
+        }
+        return left;
+    }
+    Left::Nothing
+}
+
+/// Hands in what is in the hand, and takes nothing. False where lanes stop.
+fn hand_in<J: Naming, W: World, R: Wait>(
+    rt: &R,
+    desk: &Mutex<Desk<'_, W, J>>,
+    moved: &Condvar,
+    hand: &mut Vec<Member<W>>,
+) -> bool {
+    if hand.is_empty() {
+        return true;
+    }
+    let mut guard = desk.lock(rt);
+    answer_all(hand, &mut guard);
+    if guard.stopped != Stopped::No {
+        moved.notify_all();
+        return false;
+    }
+    let wakes = guard.wakes();
+    drop(guard);
+    if wakes {
+        moved.notify_one();
+    }
+    true
+}
+
+/// Advances until the hand is full, a command is to be run, or nothing more can be asked.
+fn take<J: Naming, W: World, R: Wait>(
+    rt: &R,
+    desk: &mut Desk<'_, W, J>,
+    hand: &mut Vec<Member<W>>,
+) -> Taken {
+    for _ in rt.forever() {
+        if hand.len() >= HAND {
+            return Taken::Full;
+        }
+        match desk.advance() {
+            Ok(Advance::Moved) => {}
+            Ok(Advance::Job(edge, question, permit)) => match permit {
+                Some(permit) => return Taken::Run(edge, question, permit),
+                None => {
+                    if hand.push(Member::open(edge, question)).is_err() {
+                        return Taken::NoMemory;
+                    }
+                }
+            },
+            Ok(Advance::Wait) => return Taken::Wait,
+            Ok(Advance::Ended) => return Taken::Ended,
+            Err(_refused) => return Taken::NoMemory,
+        }
+    }
+    Taken::NoMemory
+}
+
+/// Runs a command: its question with the reply, or without one where memory ran out.
+fn run<W: World>(world: &W, edge: u32, question: Question, permit: Permit) -> Member<W> {
+    let reply = match &question.request {
+        Asked::Run(command, outputs) => {
+            world
+                .run(question.number, command.as_slice(), outputs, permit)
+                .ok()
+        }
+        _ => {
+            permit.spend();
+            None
+        }
+    };
+    match reply {
+        Some(reply) => Member::replied(edge, question, reply),
+        None => Member::open(edge, question),
+    }
+}
+
+/// Stops all lanes, since memory ran out.
+fn stop<J: Naming, W: World, R: Wait>(rt: &R, desk: &Mutex<Desk<'_, W, J>>, moved: &Condvar) {
+    desk.lock(rt).stop(Stopped::Memory);
+    moved.notify_all();
+}

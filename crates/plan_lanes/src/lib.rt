@@ -1,0 +1,27 @@
+//! Images run by threads, over a world that answers what their edges ask.
+//!
+//! - `World`: files, commands and the record, as a trait with a rule: which reply may be given to which question. `Permit`:
+//!   the leave to run one command. `Question`, `Asked`: what an edge asked, with a number.
+//! - `Board`: a run and its journal, changed by one event at a time: `advance` does what needs no reply, `answer` applies
+//!   a reply. `Advance`: what an advance did. `Report`: what is left of a run.
+//! - `run_lanes`: a whole run by threads. `LaneFault`: why it has no end.
+//!
+//! docs/LANES.md says how lanes run, and what is promised.
+#![tactic(auto)]
+
+mod asked;
+mod board;
+mod desk;
+mod fault;
+mod hand;
+mod lanes;
+mod world;
+
+pub use asked::{Asked, Question};
+pub use board::{Advance, Board, Report};
+pub use fault::LaneFault;
+pub use lanes::run_lanes;
+pub use world::{Permit, World};
+
+#[cfg(test)]
+mod tests;

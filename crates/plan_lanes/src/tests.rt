@@ -1,0 +1,513 @@
+//! Runs of small images over worlds made for tests, and each public function once.
+
+use super::*;
+use plan_image::{Edge, EdgeCode, Edges, Image, Instr, Parts, Sort};
+use plan_machine::{Mark, Options, Outcome, Refused, Reply};
+use plan_text::{Items, RowList};
+use plan_verify::{PathList, Verified, verify};
+use std::alloc::{AllocError, Global};
+use std::rt::Clock;
+use std::sync::Wait;
+use std::sync::atomic::{AtomicU64, Ordering};
+use std::test::*;
+use std::thread;
+use std::thread::Threads;
+use std::time::Duration;
+
+/// Asks for a stamp, and forgets it.
+const LOOKS: [Instr; 2] = [Instr::Stat(0), Instr::Drop];
+
+/// Runs a command.
+const RUNS: [Instr; 5] = [
+    Instr::Take,
+    Instr::Text(0),
+    Instr::Run,
+    Instr::Release,
+    Instr::End,
+];
+
+/// An edge of rank and file n that asks for so many stamps and then runs a command.
+fn edge(alloc: Global, n: u32, waits: &[u32], looks: u32) -> Result<Edge, AllocError> {
+    let mut code = Vec::new(alloc);
+    for _ in 0..looks {
+        code.extend_from_slice(LOOKS.as_slice())?;
+    }
+    code.extend_from_slice(RUNS.as_slice())?;
+    Ok(Edge {
+        sort: Sort::Command,
+        pool: None,
+        rank: n,
+        label: 0,
+        outputs: Items::new(Vec::from_slice(alloc, [n].as_slice())?),
+        waits: Items::new(Vec::from_slice(alloc, waits)?),
+        code: EdgeCode::Own(Items::new(code)),
+    })
+}
+
+/// The image of these edges, all of which are built by default.
+fn image_of(alloc: Global, edges: &[Edge]) -> Result<Verified, Refused> {
+    let mut texts = RowList::new(alloc);
+    texts.push(b"x")?;
+    let mut files = RowList::new(alloc);
+    let mut table = Edges::new(alloc);
+    let mut defaults = Vec::new(alloc);
+    let mut n = 0u32;
+    for edge in edges {
+        files.push([(n % 250) as u8 + 1, (n / 250 % 250) as u8 + 1].as_slice())?;
+        table.push(alloc, edge)?;
+        defaults.push(n)?;
+        n = n.saturating_add(1);
+    }
+    let parts = Parts {
+        texts,
+        files,
+        pools: Items::empty(alloc),
+        slots: Items::empty(alloc),
+        bodies: None,
+        edges: table,
+        defaults: Items::new(defaults),
+    };
+    let Ok(image) = Image::new(parts) else {
+        return Err(Refused::BadTarget);
+    };
+    verify(alloc, image).map_err(|_| Refused::BadTarget)
+}
+
+/// So many edges; each waits for the one so many before it (0: for none).
+fn edges_of(alloc: Global, count: u32, back: u32, looks: u32) -> Result<Verified, Refused> {
+    let mut edges = Vec::new(alloc);
+    for n in 0..count {
+        if back > 0 && n >= back {
+            edges.push(edge(alloc, n, &[n - back], looks)?)?;
+        } else {
+            edges.push(edge(alloc, n, &[], looks)?)?;
+        }
+    }
+    image_of(alloc, &edges)
+}
+
+/// A world in which each command ends once all have begun.
+#[derive(Drop)]
+struct Gate<C> {
+    clock: C,
+    all: u64,
+    begun: AtomicU64,
+}
+
+impl<C: Clock> World for Gate<C> {
+    ghost use Rattle.std.specs.Prelude.{⊤};
+
+    ghost allows = { λ number request reply. ⊤ };
+
+    fn stat(&self, _number: u64, _path: &[u8]) -> Result<Reply, AllocError> {
+        Ok(Reply::Stamp(1))
+    }
+
+    fn recall(&self, _number: u64, _output: &[u8]) -> Result<Reply, AllocError> {
+        Ok(Reply::Nothing)
+    }
+
+    fn run(
+        &self,
+        _number: u64,
+        _command: &[u8],
+        _outputs: &RowList<u8>,
+        permit: Permit,
+    ) -> Result<Reply, AllocError> {
+        permit.spend();
+        self.begun.fetch_add(1, Ordering::SeqCst);
+        for _ in 0..5_000 {
+            if self.begun.load(Ordering::SeqCst) >= self.all {
+                return Ok(Reply::Exit(0));
+            }
+            thread::sleep(&self.clock, Duration::from_millis(1));
+        }
+        Ok(Reply::Exit(99))
+    }
+
+    fn read_depfile(&self, _number: u64, _path: &[u8]) -> Result<Reply, AllocError> {
+        Ok(Reply::Nothing)
+    }
+
+    fn keep(
+        &self,
+        _number: u64,
+        _output: &[u8],
+        _command: &[u8],
+        _basis: u64,
+        _paths: &PathList,
+    ) -> Result<Reply, AllocError> {
+        Ok(Reply::Kept)
+    }
+}
+
+/// A world that counts its calls, has memory for so many of them, and may give stamps where a command is asked for.
+#[derive(Drop)]
+struct Counted {
+    most: u64,
+    lies: bool,
+    calls: AtomicU64,
+    running: AtomicU64,
+    crowd: AtomicU64,
+}
+
+impl Counted {
+    fn new(most: u64, lies: bool) -> Counted {
+        Counted {
+            most,
+            lies,
+            calls: AtomicU64::new(0),
+            running: AtomicU64::new(0),
+            crowd: AtomicU64::new(0),
+        }
+    }
+
+    /// Counts a call, and gives the reply where there is memory for it.
+    fn tell(&self, reply: Reply) -> Result<Reply, AllocError> {
+        if self.calls.fetch_add(1, Ordering::SeqCst) >= self.most {
+            return Err(AllocError);
+        }
+        Ok(reply)
+    }
+}
+
+impl World for Counted {
+    ghost use Rattle.std.specs.Prelude.{⊤};
+
+    ghost allows = { λ number request reply. ⊤ };
+
+    fn stat(&self, _number: u64, _path: &[u8]) -> Result<Reply, AllocError> {
+        self.tell(Reply::Stamp(7))
+    }
+
+    fn recall(&self, _number: u64, _output: &[u8]) -> Result<Reply, AllocError> {
+        self.tell(Reply::Nothing)
+    }
+
+    fn run(
+        &self,
+        _number: u64,
+        _command: &[u8],
+        _outputs: &RowList<u8>,
+        permit: Permit,
+    ) -> Result<Reply, AllocError> {
+        permit.spend();
+        let now = self.running.fetch_add(1, Ordering::SeqCst);
+        self.crowd.fetch_max(now, Ordering::SeqCst);
+        let reply = self.tell(if self.lies {
+            Reply::Stamp(7)
+        } else {
+            Reply::Exit(0)
+        });
+        self.running.fetch_sub(1, Ordering::SeqCst);
+        reply
+    }
+
+    fn read_depfile(&self, _number: u64, _path: &[u8]) -> Result<Reply, AllocError> {
+        self.tell(Reply::Nothing)
+    }
+
+    fn keep(
+        &self,
+        _number: u64,
+        _output: &[u8],
+        _command: &[u8],
+        _basis: u64,
+        _paths: &PathList,
+    ) -> Result<Reply, AllocError> {
+        self.tell(Reply::Kept)
+    }
+}
+
+/// What a run comes to: the number of its fault (0: none), its events, and how many edges ran.
+fn came_out<W: World + Send + Sync, R: Threads + Wait + Sync>(
+    rt: &R,
+    alloc: Global,
+    image: &Verified,
+    jobs: u8,
+    world: &W,
+) -> Result<(u8, usize, usize), Refused> {
+    let Some(options) = Options::new(jobs, 0) else {
+        return Err(Refused::Memory);
+    };
+    let (number, report) = match run_lanes(rt, alloc, image, options, &[], world) {
+        Ok(report) => (0, report),
+        Err(fault) => {
+            let number = fault.number();
+            match fault {
+                LaneFault::Opening(refused) => return Err(refused),
+                LaneFault::NotEnabled(report)
+                | LaneFault::NoMemory(report)
+                | LaneFault::NoLane(report)
+                | LaneFault::OtherBoard(report) => (number, report),
+            }
+        }
+    };
+    let mut well = 0usize;
+    for n in 0..image.image().parts().edges.len() {
+        if report.state.outcome(n as u32) == Some(Outcome::Ran) {
+            well = well.saturating_add(1);
+        }
+    }
+    Ok((number, report.journal.len(), well))
+}
+
+/// Each command waits until all others run: only with as many lanes at once do they end.
+#[test]
+fn all_at_once(rt: HostRuntime) -> Result<(), Fail> {
+    for n in [2u8, 8, 64] {
+        for looks in [0u32, 3] {
+            let Ok(image) = edges_of(rt.alloc(), u32::from(n), 0, looks) else {
+                panic!(&rt; "no image");
+            };
+            let gate = Gate {
+                clock: rt.clone()?,
+                all: u64::from(n),
+                begun: AtomicU64::new(0),
+            };
+            let events = (7 + 3 * looks as usize) * usize::from(n);
+            assert_eq!(rt;
+                came_out(&rt, rt.alloc(), &image, n, &gate),
+                Ok((0, events, usize::from(n)))
+            );
+        }
+    }
+    Ok(())
+}
+
+/// A lane that has a stamp for one edge and is to run the other's command hands the stamp in first: each command waits
+/// for the other. In either order of the edges.
+#[test]
+fn uneven(rt: HostRuntime) -> Result<(), Fail> {
+    let alloc = rt.alloc();
+    for looks in [0u32, 1] {
+        let mut edges = Vec::new(alloc);
+        edges.push(edge(alloc, 0, &[], looks)?)?;
+        edges.push(edge(alloc, 1, &[], 1 - looks)?)?;
+        let Ok(image) = image_of(alloc, &edges) else {
+            panic!(&rt; "no image");
+        };
+        let gate = Gate {
+            clock: rt.clone()?,
+            all: 2,
+            begun: AtomicU64::new(0),
+        };
+        assert_eq!(rt; came_out(&rt, alloc, &image, 2, &gate), Ok((0, 17, 2)));
+    }
+    Ok(())
+}
+
+/// Each edge is asked for once, by any number of lanes.
+#[test]
+fn each_edge_once(rt: HostRuntime) -> Result<(), Fail> {
+    for (back, looks) in [(0u32, 2u32), (1, 1), (10, 0)] {
+        let Ok(image) = edges_of(rt.alloc(), 300, back, looks) else {
+            panic!(&rt; "no image");
+        };
+        for jobs in [1u8, 4, 64] {
+            let world = Counted::new(u64::MAX, false);
+            let events = (7 + 3 * looks as usize) * 300;
+            assert_eq!(rt;
+                came_out(&rt, rt.alloc(), &image, jobs, &world),
+                Ok((0, events, 300))
+            );
+            assert_eq!(rt;
+                world.calls.load(Ordering::SeqCst),
+                300 * u64::from(looks + 1)
+            );
+            assert!(rt; world.crowd.load(Ordering::SeqCst) < u64::from(jobs));
+        }
+    }
+    Ok(())
+}
+
+/// All lanes end where memory runs out at any call.
+#[test]
+fn memory_runs_out(rt: HostRuntime) -> Result<(), Fail> {
+    let Ok(image) = edges_of(rt.alloc(), 100, 3, 2) else {
+        panic!(&rt; "no image");
+    };
+    for jobs in [1u8, 4, 64] {
+        for most in [0u64, 1, 2, 50, 299] {
+            let world = Counted::new(most, false);
+            let Ok((number, ..)) = came_out(&rt, rt.alloc(), &image, jobs, &world) else {
+                panic!(&rt; "not opened");
+            };
+            assert_eq!(rt; number, 120);
+        }
+    }
+    Ok(())
+}
+
+/// All lanes end where a reply doesn't fit.
+#[test]
+fn replies_that_do_not_fit(rt: HostRuntime) -> Result<(), Fail> {
+    let Ok(image) = edges_of(rt.alloc(), 100, 3, 2) else {
+        panic!(&rt; "no image");
+    };
+    for jobs in [1u8, 4, 64] {
+        let world = Counted::new(u64::MAX, true);
+        let Ok((number, _, well)) = came_out(&rt, rt.alloc(), &image, jobs, &world) else {
+            panic!(&rt; "not opened");
+        };
+        assert_eq!(rt; (number, well), (110, 0));
+    }
+    Ok(())
+}
+
+/// What an advance did: which of its kinds, and of a job edge, number and whether leave came with it.
+#[derive(Clone, Copy, Debug, PartialEq)]
+enum Told {
+    Moved,
+    Job(u32, u64, bool),
+    Wait,
+    Ended,
+}
+
+/// Advances, and gives the question of a job back.
+fn advanced<W: World>(board: &mut Board<'_, W>) -> Result<(Told, Option<Question>), Refused> {
+    match board.advance()? {
+        Advance::Moved => Ok((Told::Moved, None)),
+        Advance::Job(edge, question, permit) => {
+            let leave = match permit {
+                Some(permit) => {
+                    permit.spend();
+                    true
+                }
+                None => false,
+            };
+            let number = question.number;
+            Ok((Told::Job(edge, number, leave), Some(question)))
+        }
+        Advance::Wait => Ok((Told::Wait, None)),
+        Advance::Ended => Ok((Told::Ended, None)),
+    }
+}
+
+/// Whether this is what the next advances tell.
+fn tells<W: World>(board: &mut Board<'_, W>, expected: &[Told]) -> Result<bool, Refused> {
+    for told in expected {
+        let (next, _question) = advanced(board)?;
+        if next != *told {
+            return Ok(false);
+        }
+    }
+    Ok(true)
+}
+
+/// A question for the stamp of a path.
+fn look(alloc: Global, number: u64, path: &[u8]) -> Result<Question, Refused> {
+    Ok(Question {
+        number,
+        request: Asked::Stat(Items::new(Vec::from_slice(alloc, path)?)),
+    })
+}
+
+/// Hands a reply in to an edge, for a question for the stamp of a path.
+fn reply_to(
+    alloc: Global,
+    board: &mut Board<'_, Counted>,
+    edge: u32,
+    number: u64,
+    path: &[u8],
+    reply: Reply,
+) -> Result<Mark, Refused> {
+    let question = look(alloc, number, path)?;
+    board.answer(edge, question, reply)
+}
+
+/// A board of so many edges, each of which asks for a stamp and then runs a command, for one job.
+fn board_of(alloc: Global, image: &Verified) -> Result<Board<'_, Counted>, Refused> {
+    match Options::new(1, 0) {
+        Some(options) => Board::open(alloc, image, options, &[]),
+        None => Err(Refused::Memory),
+    }
+}
+
+/// What answers come to where edge 1 asked for a stamp under the number 1: to another edge, under another number, for
+/// another path, of a sort that doesn't fit, and the right one twice.
+fn answers(alloc: Global, image: &Verified) -> Result<[Result<Mark, Refused>; 6], Refused> {
+    let mut board = board_of(alloc, image)?;
+    let _ = tells(&mut board, &[Told::Moved, Told::Job(1, 1, false)])?;
+    let own = [1u8, 1];
+    Ok([
+        reply_to(alloc, &mut board, 0, 1, &own, Reply::Stamp(7)),
+        reply_to(alloc, &mut board, 1, 0, &own, Reply::Stamp(7)),
+        reply_to(alloc, &mut board, 1, 1, b"z", Reply::Stamp(7)),
+        reply_to(alloc, &mut board, 1, 1, &own, Reply::Exit(0)),
+        reply_to(alloc, &mut board, 1, 1, &own, Reply::Stamp(7)),
+        reply_to(alloc, &mut board, 1, 1, &own, Reply::Stamp(7)),
+    ])
+}
+
+#[test]
+fn only_what_is_awaited(rt: HostRuntime) {
+    let Ok(image) = edges_of(rt.alloc(), 2, 0, 1) else {
+        panic!(&rt; "no image");
+    };
+    let refused = Err(Refused::NotEnabled);
+    assert_eq!(rt;
+        answers(rt.alloc(), &image),
+        Ok([
+            refused,
+            refused,
+            refused,
+            refused,
+            Ok(Mark::Answered(1)),
+            refused
+        ])
+    );
+}
+
+/// A whole run of one edge by hand: whether each advance told what it should.
+fn goes_by_hand(alloc: Global, board: &mut Board<'_, Counted>) -> Result<bool, Refused> {
+    let mut told = tells(board, &[Told::Moved, Told::Job(0, 1, false), Told::Wait])?;
+    let _ = reply_to(alloc, board, 0, 1, &[1, 1], Reply::Stamp(7))?;
+    told &= tells(board, &[Told::Moved, Told::Moved, Told::Moved])?;
+    let (next, question) = advanced(board)?;
+    told &= next == Told::Job(0, 6, true);
+    if let Some(question) = question {
+        told &= question.request.is_run();
+        let _ = board.answer(0, question, Reply::Exit(0))?;
+    }
+    told &= tells(board, &[Told::Moved, Told::Moved, Told::Ended, Told::Ended])?;
+    Ok(told)
+}
+
+/// The same, and whether the last mark says that the edge ran, how many events there are, and whether an event was
+/// enabled at first and at the end.
+fn by_hand(alloc: Global, image: &Verified) -> Result<(bool, bool, usize, bool, bool), Refused> {
+    let mut board = board_of(alloc, image)?;
+    let first = board.enabled();
+    let told = goes_by_hand(alloc, &mut board)?;
+    let last = board.enabled();
+    let report = board.into_report();
+    let ran = report.marks.as_slice().last() == Some(&Mark::Ended(0, true));
+    Ok((told, ran, report.journal.len(), first, last))
+}
+
+#[test]
+fn one_edge_by_hand(rt: HostRuntime) {
+    let Ok(image) = edges_of(rt.alloc(), 1, 0, 1) else {
+        panic!(&rt; "no image");
+    };
+    assert_eq!(rt;
+        by_hand(rt.alloc(), &image),
+        Ok((true, true, 10, true, false))
+    );
+}
+
+/// A target outside is refused, and no lane starts.
+#[test]
+fn target_outside(rt: HostRuntime) -> Result<(), Fail> {
+    let (Ok(image), Some(options)) = (edges_of(rt.alloc(), 2, 0, 0), Options::new(2, 0)) else {
+        panic!(&rt; "no image");
+    };
+    let world = Counted::new(u64::MAX, false);
+    match run_lanes(&rt, rt.alloc(), &image, options, &[2], &world) {
+        Err(fault) => assert_eq!(rt; fault.number(), 112),
+        Ok(_) => panic!(&rt; "opened"),
+    }
+    assert_eq!(rt; world.calls.load(Ordering::SeqCst), 0);
+    Ok(())
+}

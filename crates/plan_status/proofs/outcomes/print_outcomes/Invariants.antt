@@ -1,0 +1,10 @@
+use Rattle.std.proofs.Common.{◌≡◌, ◌++◌, ℕ, true, List, drop}
+use Rattle.plan_text.specs.Sinks.{Writes}
+use Rattle.plan_status.specs.Outcomes.{outcomes_from, outcomes_of}
+use Rattle.plan_status.proofs.outcomes.print_outcomes.Given as goal
+
+-- what was written, and what is still written behind it
+abbrev pub invariant-loop-number : goal.invariant-loop-number
+invariant-loop-number g l =
+    (done : List ℕ) × (done ++ outcomes_from l.image l.state.going.now l.number (drop l.number l.image.edges) ≡ outcomes_of l.image l.state.going.now)
+    × Writes true (g.W.Sink.failures l.fn.out, g.W.Sink.taken l.fn.out) (g.W.Sink.failures l.out, g.W.Sink.taken l.out) done

@@ -1,0 +1,3 @@
+pub mod Lines
+pub mod Printing
+pub mod Outcomes

@@ -1,0 +1,160 @@
+//! How the edges of an image came out.
+
+ghost use Rattle.std.specs.Prelude.{◌≡◌, IfOk, Some, length, option_map, slice_get};
+ghost use Rattle.std.specs.Result.{result_err};
+ghost use Rattle.plan_image.specs.Columns.{lent};
+ghost use Rattle.plan_machine.specs.Kept.{IsStateOf};
+ghost use Rattle.plan_machine.specs.State.{outcome_at};
+ghost use Rattle.plan_status.specs.Outcomes as defined;
+ghost use Rattle.plan_status.specs.Printing.{Prints};
+
+use crate::fault::PrintFault;
+use crate::laws::prints_join;
+use crate::lines::{cause_text, joined};
+use crate::names::first_path;
+use plan_image::{EdgeRef, Parts};
+use plan_machine::{Cause, Outcome, State};
+use plan_text::{Sink, write_all, writes_join};
+use plan_verify::Verified;
+use std::alloc::{AllocError, Global};
+
+/// Why an edge failed, behind a word.
+fn failed_text(alloc: Global, parts: &Parts, cause: Cause) -> Result<Vec<u8>, AllocError>
+    ensures { IfOk result (λ text. text.items ≡ defined.failed_text parts.now cause) }
+{
+    match cause_text(alloc, parts, cause)? {
+        Some(cause) => joined(alloc, &[b"Failed ".as_slice(), &cause]),
+        None => Vec::from_slice(alloc, b"Failed "),
+    }
+}
+
+/// The edge over which another was skipped, behind a word.
+fn skipped_text(alloc: Global, wait: u32) -> Result<Vec<u8>, AllocError>
+    ensures { IfOk result (λ text. text.items ≡ defined.skipped_text wait) }
+{
+    let wait = wait.to_string(alloc)?;
+    joined(alloc, &[b"Skipped ".as_slice(), wait.as_bytes()])
+}
+
+/// An outcome that has no number; `Unended` where there is none.
+fn plain_text(outcome: Option<Outcome>) -> &'static [u8]
+    ensures { result.now ≡ defined.plain_outcome outcome }
+{
+    match outcome {
+        Some(Outcome::Clean) => b"Clean",
+        Some(Outcome::Ran) => b"Ran",
+        Some(Outcome::Stopped) => b"Stopped",
+        Some(Outcome::NotWanted) => b"NotWanted",
+        _ => b"Unended",
+    }
+}
+
+/// An outcome; `Unended` where there is none.
+fn outcome_text(
+    alloc: Global,
+    parts: &Parts,
+    outcome: Option<Outcome>,
+) -> Result<Vec<u8>, AllocError>
+    ensures { IfOk result (λ text. text.items ≡ defined.outcome_text parts.now outcome) }
+{
+    match outcome {
+        Some(Outcome::Failed(cause)) => failed_text(alloc, parts, cause),
+        Some(Outcome::Skipped(wait)) => skipped_text(alloc, wait),
+        _ => Vec::from_slice(alloc, plain_text(outcome)),
+    }
+}
+
+/// The name of an edge; empty where its first output isn't in the image.
+fn edge_name<'a>(parts: &'a Parts, outputs: &[u32]) -> &'a [u8]
+    ensures { result.now ≡ defined.edge_name parts.now outputs.now }
+{
+    match first_path(parts, outputs) {
+        Some(name) => name,
+        None => b"",
+    }
+}
+
+/// `NUMBER NAME OUTCOME`
+fn outcome_line(
+    alloc: Global,
+    parts: &Parts,
+    number: u32,
+    outputs: &[u32],
+    outcome: Option<Outcome>,
+) -> Result<Vec<u8>, AllocError>
+    ensures { IfOk result (λ line. line.items ≡ defined.outcome_line number (defined.edge_name parts.now outputs.now) (defined.outcome_text parts.now outcome)) }
+{
+    let number = number.to_string(alloc)?;
+    let outcome = outcome_text(alloc, parts, outcome)?;
+    let name = edge_name(parts, outputs);
+    joined(
+        alloc,
+        &[number.as_bytes(), b" ", name, b" ", &outcome, b"\n"],
+    )
+}
+
+/// Writes how an edge came out.
+fn print_outcome<W: Sink>(
+    alloc: Global,
+    parts: &Parts,
+    number: u32,
+    edge: EdgeRef<'_>,
+    outcome: Option<Outcome>,
+    out: &mut W,
+) -> Result<(), PrintFault>
+    ensures { Prints (defined.edge_line parts.now number (lent edge.entry) outcome) (result_err result) (W.failures out.old, W.taken out.old) (W.failures out.new, W.taken out.new) }
+{
+    let line = outcome_line(alloc, parts, number, edge.outputs, outcome)?;
+    write_all(out, &line)?;
+    Ok(())
+}
+
+/// Writes `NUMBER NAME OUTCOME` for each edge of the image, in their order, with the name of its first output. An outcome
+/// is `Clean`, `Ran`, `Failed CAUSE`, `Skipped NUMBER`, `Stopped`, `NotWanted`, or `Unended` where there is none.
+///
+/// # Errors
+/// `Memory`, `Write`: then the sink took a front of the lines.
+pub fn print_outcomes<W: Sink>(
+    alloc: Global,
+    image: &Verified,
+    state: &State,
+    out: &mut W,
+) -> Result<(), PrintFault>
+    ensures { Prints (defined.outcomes_of image.now state.now.going.now) (result_err result) (W.failures out.old, W.taken out.old) (W.failures out.new, W.taken out.new) }
+{
+    writes_join();
+    prints_join();
+    let parts = image.image().parts();
+    for number in 0..parts.edges.len() {
+        let edge = parts.edges.edge(number);
+        let outcome = state.outcome(number as u32);
+        match print_outcome(alloc, parts, number as u32, edge, outcome, out) {
+            Ok(()) => {}
+            Err(fault) => return Err(fault),
+        }
+    }
+    Ok(())
+}
+
+/// Whether an edge ended well, or isn't wanted.
+fn is_done(outcome: Option<Outcome>) -> bool
+    ensures { result ≡ defined.is_done outcome }
+{
+    matches!(
+        outcome,
+        Some(Outcome::Clean | Outcome::Ran | Outcome::NotWanted)
+    )
+}
+
+/// Whether all wanted edges of the image ended well.
+pub fn all_done(image: &Verified, state: &State) -> bool
+    ensures { result ≡ defined.all_done image.now state.now.going.now }
+{
+    let parts = image.image().parts();
+    for number in 0..parts.edges.len() {
+        if !is_done(state.outcome(number as u32)) {
+            return false;
+        }
+    }
+    true
+}

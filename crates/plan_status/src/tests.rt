@@ -1,0 +1,232 @@
+//! Each public function once, on an image made by hand.
+
+use super::*;
+use plan_image::{Edge, EdgeCode, Edges, Image, Instr, Parts, Sort};
+use plan_machine::{Cause, Event, Mark, Options, State, replay};
+use plan_text::{Counted, Items, RowList};
+use plan_verify::{Verified, verify};
+use std::alloc::{AllocError, Global};
+use std::io::{self, Write};
+use std::test::Fail;
+
+/// An edge of this sort, rank and label, which makes the file of its number and ends at once.
+fn edge(
+    alloc: Global,
+    sort: Sort,
+    number: u32,
+    label: u32,
+    waits: &[u32],
+) -> Result<Edge, AllocError> {
+    Ok(Edge {
+        sort,
+        pool: None,
+        rank: number,
+        label,
+        outputs: Items::new(Vec::from_slice(alloc, [number].as_slice())?),
+        waits: Items::new(Vec::from_slice(alloc, waits)?),
+        code: EdgeCode::Own(Items::new(Vec::from_slice(alloc, [Instr::End].as_slice())?)),
+    })
+}
+
+/// The edges a, b, c, and d, which waits for a; and a phony edge e.
+fn five_edges(alloc: Global) -> Result<Edges, AllocError> {
+    let mut edges = Edges::new(alloc);
+    for (number, sort, label) in [
+        (0, Sort::Command, 0),
+        (1, Sort::Command, 1),
+        (2, Sort::Command, 1),
+        (3, Sort::Command, 1),
+        (4, Sort::Phony, 1),
+    ] {
+        let waits: &[u32] = if number == 3 { &[0] } else { &[] };
+        edges.push(alloc, &edge(alloc, sort, number, label, waits)?)?;
+    }
+    Ok(edges)
+}
+
+fn parts_of(alloc: Global) -> Result<Parts, AllocError> {
+    let mut texts = RowList::new(alloc);
+    texts.push(b"exit 2")?;
+    texts.push(b"true")?;
+    let mut files = RowList::new(alloc);
+    for name in [b"a", b"b", b"c", b"d", b"e"] {
+        files.push(name.as_slice())?;
+    }
+    Ok(Parts {
+        texts,
+        files,
+        pools: Items::empty(alloc),
+        slots: Items::empty(alloc),
+        bodies: None,
+        edges: five_edges(alloc)?,
+        defaults: Items::new(Vec::from_slice(alloc, [0u32, 3].as_slice())?),
+    })
+}
+
+fn image_of(alloc: Global) -> Option<Verified> {
+    let Ok(parts) = parts_of(alloc) else {
+        return None;
+    };
+    let Ok(image) = Image::new(parts) else {
+        return None;
+    };
+    match verify(alloc, image) {
+        Ok(verified) => Some(verified),
+        Err(_) => None,
+    }
+}
+
+/// Whether the lines of these marks are this text, and are printed so.
+fn tell(alloc: Global, marks: &[Mark], text: &[u8]) -> bool {
+    let Some(image) = image_of(alloc) else {
+        return false;
+    };
+    let mut out = Counted::new(Vec::new(alloc));
+    let printed = print(alloc, &image, 4, marks, &mut out).is_ok();
+    match status_lines(alloc, &image, 4, marks) {
+        Ok(lines) => printed && lines.as_slice() == text && out.into_writer().as_slice() == text,
+        Err(_) => false,
+    }
+}
+
+#[test]
+fn failures_and_skips(rt: HostRuntime) {
+    let marks = [
+        Mark::Started(0),
+        Mark::Failed(0, Cause::Exit(2)),
+        Mark::Ended(1, true),
+        Mark::Ended(2, true),
+        Mark::Skipped(3, 0),
+    ];
+    let text = b"FAILED a: exit 2\n[2/4] true\n[3/4] true\nSKIPPED d: needs a\n";
+    assert!(rt; tell(rt.alloc(), &marks, text.as_slice()));
+}
+
+#[test]
+fn marks_that_name_nothing(rt: HostRuntime) {
+    let marks = [
+        Mark::Ended(5, true),
+        Mark::Failed(0, Cause::MissingInput(5)),
+        Mark::Failed(5, Cause::Signal),
+        Mark::Skipped(3, 5),
+        Mark::Stopped(5),
+        Mark::Ended(1, true),
+    ];
+    assert!(rt; tell(rt.alloc(), &marks, b"[1/4] true\n".as_slice()));
+}
+
+#[test]
+fn clean_and_phony_edges(rt: HostRuntime) {
+    let marks = [
+        Mark::Ended(0, false),
+        Mark::Stopped(4),
+        Mark::Skipped(4, 0),
+        Mark::Ended(4, true),
+        Mark::Failed(4, Cause::Exit(1)),
+        Mark::Stopped(2),
+        Mark::Ended(1, true),
+    ];
+    let text = b"[1/4] true\nFAILED e: exit 1\nSTOPPED c\n[3/4] true\n";
+    assert!(rt; tell(rt.alloc(), &marks, text.as_slice()));
+}
+
+#[test]
+fn causes(rt: HostRuntime) {
+    let marks = [
+        Mark::Failed(0, Cause::MissingInput(1)),
+        Mark::Failed(0, Cause::StatFault),
+        Mark::Failed(0, Cause::Signal),
+        Mark::Failed(0, Cause::NotStarted),
+        Mark::Failed(0, Cause::DepfileFault),
+        Mark::Failed(0, Cause::DepfileMalformed(90, 17)),
+        Mark::Failed(0, Cause::RecordFault),
+        Mark::Failed(0, Cause::TextTooLong),
+    ];
+    let text =
+        b"FAILED a: missing input b\nFAILED a: stat fault\nFAILED a: signal\nFAILED a: not started\n\
+        FAILED a: depfile fault\nFAILED a: depfile malformed 90 at 17\nFAILED a: record fault\nFAILED a: text too long\n";
+    assert!(rt; tell(rt.alloc(), &marks, text.as_slice()));
+}
+
+/// A writer whose writes fail once so many have passed.
+#[derive(Drop)]
+struct Failing {
+    left: usize,
+}
+
+impl Write for Failing {
+    fn write(&mut self, bytes: &[u8]) -> io::Result<usize> {
+        match self.left.checked_sub(1) {
+            Some(left) => self.left = left,
+            None => return Err(io::Error::from(io::ErrorKind::BrokenPipe)),
+        }
+        Ok(bytes.len())
+    }
+
+    fn flush(&mut self) -> io::Result<()> {
+        Ok(())
+    }
+}
+
+/// Whether a print of three lines fails as a write does, where so many writes pass.
+fn stops(alloc: Global, left: usize) -> bool {
+    let Some(image) = image_of(alloc) else {
+        return false;
+    };
+    let marks = [Mark::Stopped(0), Mark::Stopped(1), Mark::Stopped(2)];
+    let mut out = Counted::new(Failing { left });
+    matches!(
+        print(alloc, &image, 4, &marks, &mut out),
+        Err(PrintFault::Write)
+    )
+}
+
+#[test]
+fn failed_writes(rt: HostRuntime) {
+    assert!(rt; stops(rt.alloc(), 0));
+    assert!(rt; stops(rt.alloc(), 1));
+    assert!(rt; stops(rt.alloc(), 2));
+    assert!(rt; !stops(rt.alloc(), 3));
+}
+
+/// Whether the outcomes of a state are this text, and whether all is done.
+fn shown(alloc: Global, image: &Verified, state: &State, text: &[u8]) -> Option<bool> {
+    let mut out = Counted::new(Vec::new(alloc));
+    if print_outcomes(alloc, image, state, &mut out).is_err() {
+        return None;
+    }
+    if out.into_writer().as_slice() != text {
+        return None;
+    }
+    Some(all_done(image, state))
+}
+
+/// Whether the outcomes behind these events are this text, and whether all is done.
+fn replayed(alloc: Global, image: &Verified, events: &[Event], text: &[u8]) -> Option<bool> {
+    let options = Options::new(1, 0)?;
+    match replay(alloc, image, options, &[], events) {
+        Ok((state, _marks)) => shown(alloc, image, &state, text),
+        Err(_) => None,
+    }
+}
+
+/// Whether the outcomes of the image behind these events are this text, and whether all is done.
+fn come_out(alloc: Global, events: &[Event], text: &[u8]) -> Option<bool> {
+    let image = image_of(alloc)?;
+    replayed(alloc, &image, events, text)
+}
+
+#[test]
+fn outcomes(rt: HostRuntime) {
+    let begun = [Event::Start(0), Event::Step(0)];
+    let text = b"0 a Clean\n1 b NotWanted\n2 c NotWanted\n3 d Unended\n4 e NotWanted\n";
+    assert_eq!(rt; come_out(rt.alloc(), &begun, text.as_slice()), Some(false));
+    let ended = [
+        Event::Start(0),
+        Event::Step(0),
+        Event::Start(3),
+        Event::Step(3),
+    ];
+    let text = b"0 a Clean\n1 b NotWanted\n2 c NotWanted\n3 d Clean\n4 e NotWanted\n";
+    assert_eq!(rt; come_out(rt.alloc(), &ended, text.as_slice()), Some(true));
+}

@@ -1,0 +1,6 @@
+pub mod WordsLemmas
+pub mod RepliesLemmas
+pub mod ReadingLemmas
+pub mod EventsLemmas
+pub mod WritingLemmas
+pub mod SpellingLaw

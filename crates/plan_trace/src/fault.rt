@@ -1,0 +1,34 @@
+//! Why a text is no trace.
+
+use std::alloc::{AllocError, AllocFailed};
+
+/// Why a text is no trace.
+#[derive(Clone, Copy, Debug, PartialEq, Eq)]
+pub enum TraceFault {
+    /// A line that says nothing where it stands: its number, counted from 1.
+    BadTrace(u64),
+    /// Memory ran out. It says nothing of the text.
+    Memory,
+}
+
+impl From<AllocError> for TraceFault {
+    ghost use Rattle.std.specs.Prelude.{◌≡◌};
+    ghost use Rattle.plan_trace.specs.declared.fault.TraceFault.TheVariants.{Memory};
+
+    ghost from_gives = { λ _ e. e ≡ Memory };
+
+    fn from(_error: AllocError) -> Self {
+        TraceFault::Memory
+    }
+}
+
+impl<T: Drop> From<AllocFailed<T>> for TraceFault {
+    ghost use Rattle.std.specs.Prelude.{◌≡◌};
+    ghost use Rattle.plan_trace.specs.declared.fault.TraceFault.TheVariants.{Memory};
+
+    ghost from_gives = { λ _ e. e ≡ Memory };
+
+    fn from(_error: AllocFailed<T>) -> Self {
+        TraceFault::Memory
+    }
+}

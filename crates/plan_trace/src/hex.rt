@@ -1,0 +1,109 @@
+//! Bytes in hexadecimal digits, read and written.
+
+ghost use Rattle.std.specs.Prelude.{◌≡◌, ◌<◌, ◌∷◌, ◌++◌, IfOk, IfSome, OnOk, false, length, map, option_map};
+ghost use Rattle.std.specs.Option.{IfNone};
+ghost use Rattle.std.specs.Fmt.{digit_glyph};
+ghost use Rattle.std.specs.List.{concat};
+ghost use Rattle.plan_image.specs.Listing.{hex, hex_byte};
+ghost use Rattle.plan_trace.specs.Words as defined;
+
+use std::alloc::{AllocError, Global};
+
+/// The value of a digit.
+fn digit_value(digit: u8) -> Option<u8>
+    ensures same { result ≡ defined.digit_value digit }
+    ensures small { IfSome result (λ v. v < 16) }
+{
+    match digit {
+        b'0'..=b'9' => Some(digit - b'0'),
+        b'a'..=b'f' => Some(digit - 87),
+        _ => None,
+    }
+}
+
+/// The byte of two digits.
+fn byte_of(high: u8, low: u8) -> Option<u8>
+    ensures { result ≡ defined.byte_of high low }
+{
+    match (digit_value(high), digit_value(low)) {
+        (Some(high), Some(low)) => Some(high * 16 + low),
+        _ => None,
+    }
+}
+
+/// The first two digits, and what is behind them.
+fn first_pair(digits: &[u8]) -> Option<(u8, u8, &[u8])>
+    ensures some { IfSome result (λ x. digits.now ≡ x.0 ∷ x.1 ∷ x.2.now) }
+    ensures none { IfNone result (length digits.now < 2) }
+{
+    match digits {
+        [high, low, behind @ ..] => Some((*high, *low, behind)),
+        _ => None,
+    }
+}
+
+/// The bytes of pairs of digits.
+#[tactic(auto, using(crate::proofs::WordsLemmas::byte_more, crate::proofs::WordsLemmas::no_byte, crate::proofs::WordsLemmas::odd))]
+fn pairs_of(alloc: Global, digits: &[u8]) -> Result<Option<Vec<u8>>, AllocError>
+    ensures { IfOk result (λ bytes. option_map (λ v. v.items) bytes ≡ defined.pairs_of digits.now) }
+{
+    let mut bytes = Vec::with_capacity(alloc, digits.len() / 2)?;
+    let mut rest = digits;
+    while let Some((high, low, behind)) = first_pair(rest) {
+        match byte_of(high, low) {
+            Some(byte) => bytes.push(byte)?,
+            None => return Ok(None),
+        }
+        rest = behind;
+    }
+    if !rest.is_empty() {
+        return Ok(None);
+    }
+    Ok(Some(bytes))
+}
+
+/// The bytes that a word says, a dash where there is none.
+pub(crate) fn bytes_of(alloc: Global, word: &[u8]) -> Result<Option<Vec<u8>>, AllocError>
+    ensures { IfOk result (λ bytes. option_map (λ v. v.items) bytes ≡ defined.bytes_of word.now) }
+{
+    if word == b"-".as_slice() {
+        return Ok(Some(Vec::new(alloc)));
+    }
+    if word.is_empty() {
+        return Ok(None);
+    }
+    pairs_of(alloc, word)
+}
+
+/// A digit below 16.
+const fn digit(n: u8) -> u8
+    requires { n < 16 }
+    ensures { result ≡ digit_glyph false n }
+{
+    if n < 10 { 48 + n } else { 87 + n }
+}
+
+/// Two digits more for each byte.
+fn push_digits(line: &mut Vec<u8>, bytes: &[u8]) -> Result<(), AllocError>
+    ensures { OnOk result (line.new.items ≡ line.old.items ++ concat (map hex_byte bytes.now)) }
+{
+    line.reserve(bytes.len())?;
+    for byte in bytes {
+        line.push(digit(*byte / 16))?;
+        line.push(digit(*byte % 16))?;
+    }
+    Ok(())
+}
+
+/// Bytes in hexadecimal digits, behind a line; a dash where there is none.
+pub(crate) fn push_hex(line: &mut Vec<u8>, bytes: &[u8]) -> Result<(), AllocError>
+    ensures { OnOk result (line.new.items ≡ line.old.items ++ hex bytes.now) }
+{
+    match bytes {
+        [] => {
+            line.push(b'-')?;
+            Ok(())
+        }
+        [_, ..] => push_digits(line, bytes),
+    }
+}

@@ -1,0 +1,12 @@
+//! Traces.
+
+use plan_machine::{Event, Options};
+use plan_text::Items;
+
+/// A run: its options, the targets that were given (none stand for the image's defaults), and its events in their order.
+#[derive(Drop)]
+pub struct Trace {
+    pub options: Options,
+    pub targets: Items<u32>,
+    pub events: Items<Event>,
+}

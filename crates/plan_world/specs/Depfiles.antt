@@ -1,0 +1,13 @@
+-- Which front of a depfile is read.
+use Rattle.std.specs.Prelude.{◌≡◌, ℕ, ◌≤◌, ◌⊎◌, List, length, Option}
+use Rattle.std.specs.Io.KnownBytes.{Consumes, IsAtEnd}
+
+-- one byte more than a depfile may have, so that one which is too long is seen to be
+unfoldable pub longest : ℕ
+longest = 16777217
+
+-- Of a reader's bytes, where these are known, those up to the end were taken, or so many as are read at most.
+pub record IsFrontOf (most : ℕ) (bytes : List ℕ) (old new : Option (List ℕ)) : Type 0 where
+  pub within : length bytes ≤ most
+  pub front : Consumes old new bytes
+  pub all : (length bytes ≡ most) ⊎ IsAtEnd new

@@ -1,0 +1,5 @@
+pub mod Answers
+pub mod Begun
+pub mod Depfiles
+pub mod Shells
+pub mod Stamps

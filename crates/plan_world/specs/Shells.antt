@@ -1,0 +1,28 @@
+-- How a command is given to a shell, and what its end means.
+use Rattle.std.specs.Prelude.{◌≡◌, ℕ, nat_lt, List, [], ◌∷◌, Option, Some, None, false, if◌then◌else◌, ℤ, pos}
+use Rattle.std.specs.declared.alloc.Global.{Global}
+use Rattle.std.specs.declared.process.command.Command.{Command}
+use Rattle.std.specs.Process.{command_program, command_args, command_dir, command_var, clears_env}
+use Rattle.plan_machine.specs.declared.reply.Reply.{Reply}
+use Rattle.plan_machine.specs.declared.reply.Reply.TheVariants as reply
+
+-- `/bin/sh`
+abbrev pub shell : List ℕ
+shell = 47 ∷ 98 ∷ 105 ∷ 110 ∷ 47 ∷ 115 ∷ 104 ∷ []
+
+-- `-c`, `--` and the text of the command
+abbrev pub shell_words : List ℕ → List (List ℕ)
+shell_words text = (45 ∷ 99 ∷ []) ∷ (45 ∷ 45 ∷ []) ∷ text ∷ []
+
+-- it runs the shell on this text, in this program's own folder and environment
+pub record IsShellOf (command : Command Global) (text : List ℕ) : Type 0 where
+  pub program : command_program command ≡ shell
+  pub words : command_args command ≡ shell_words text
+  pub folder : command_dir command ≡ None
+  pub variables : (name : List ℕ) → command_var command name ≡ None
+  pub environment : clears_env command ≡ false
+
+-- what a status says; none where a signal ended the command
+abbrev pub ending : Option ℤ → Reply
+ending (Some (pos status)) = if nat_lt status 256 then reply.Exit status else reply.Signal
+ending _ = reply.Signal

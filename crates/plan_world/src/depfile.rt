@@ -1,0 +1,85 @@
+//! Depfiles, read in pieces.
+
+ghost use Rattle.std.specs.Prelude.{◌≡◌, ◌≤◌, ◌<◌, ℕ, List, IfOk, length};
+ghost use Rattle.std.specs.Io.KnownBytes.{Consumes, IsAtEnd};
+ghost use Rattle.plan_verify.specs.Turn.{Deps};
+ghost use Rattle.plan_world.specs.Answers.{IsAnswer};
+ghost use Rattle.plan_world.specs.Depfiles.{IsFrontOf, longest};
+
+use crate::fault::DeviceFault;
+use plan_depfile::Gather;
+use plan_machine::{Depfile, Reply};
+use std::alloc::{AllocError, Global};
+use std::io::{ErrorKind, Read};
+use std::rt::Files;
+use std::{fs, str};
+
+/// How many bytes are read at once.
+const PIECE: usize = 65_536;
+
+/// How many bytes of a depfile are read: one more than it may have, so that one which is too long is seen to be.
+const MOST: usize = 16_777_217;
+
+/// The next bytes of a reader, at most so many; none only at its end.
+fn read_piece<F: Read>(alloc: Global, file: &mut F, most: usize) -> Result<Vec<u8>, DeviceFault>
+    requires { 0 < most }
+    ensures few { IfOk result (λ piece. length piece.items ≤ most) }
+    ensures front { IfOk result (λ piece. Consumes (F.remaining file.old) (F.remaining file.new) piece.items) }
+    ensures end { IfOk result (λ piece. length piece.items ≡ 0 → IsAtEnd (F.remaining file.new)) }
+{
+    let mut piece = vec![in alloc; 0u8; most]?;
+    let count = file.read(&mut piece)?;
+    piece.truncate(count);
+    Ok(piece)
+}
+
+/// The front of what a reader has, at most so many bytes, read as a depfile while it comes.
+fn gather<F: Read>(alloc: Global, file: &mut F, most: usize) -> Result<Gather, DeviceFault>
+    ensures { IfOk result (λ gathered. IsFrontOf most gathered (F.remaining file.old) (F.remaining file.new)) }
+{
+    let mut gathered = Gather::new(alloc);
+    let mut left = most;
+    while left > 0 {
+        let piece = read_piece(alloc, file, left.min(PIECE))?;
+        if piece.is_empty() {
+            return Ok(gathered);
+        }
+        gathered.feed(&piece)?;
+        left -= piece.len();
+    }
+    Ok(gathered)
+}
+
+/// What a depfile that was opened says.
+fn parse<F: Read>(alloc: Global, file: &mut F) -> Result<Reply, DeviceFault>
+    ensures { IfOk result (λ r. (path : List ℕ) → IsAnswer (Deps path) r) }
+{
+    match gather(alloc, file, MOST)?.finish() {
+        Ok(parsed) => Ok(Reply::Bytes(Depfile::new(alloc, parsed)?)),
+        Err(_) => Err(DeviceFault::Memory),
+    }
+}
+
+/// The depfile of a path, read in pieces; `Nothing` where it is missing.
+///
+/// # Errors
+/// Want of memory alone: what can't be read otherwise, or isn't UTF-8, is answered by `Fault`.
+pub(crate) fn read_depfile<R: Files + AllocGlobal>(rt: &R, path: &[u8]) -> Result<Reply, AllocError>
+    ensures { IfOk result (λ r. IsAnswer (Deps path.now) r) }
+{
+    let Ok(path) = str::from_utf8(path) else {
+        return Ok(Reply::Fault);
+    };
+    match fs::open(rt, path) {
+        Ok(mut file) => match parse(rt.alloc(), &mut file) {
+            Ok(reply) => Ok(reply),
+            Err(DeviceFault::Memory) => Err(AllocError),
+            Err(DeviceFault::Device) => Ok(Reply::Fault),
+        },
+        Err(error) => match error.kind() {
+            ErrorKind::NotFound | ErrorKind::NotADirectory => Ok(Reply::Nothing),
+            ErrorKind::OutOfMemory => Err(AllocError),
+            _ => Ok(Reply::Fault),
+        },
+    }
+}

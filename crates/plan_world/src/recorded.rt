@@ -1,0 +1,73 @@
+//! Entries of the record, as the machine and the record have them.
+
+ghost use Rattle.std.specs.Prelude.{◌≡◌, ◌++◌, IfOk, OnErr};
+ghost use Rattle.plan_world.specs.Begun.{begun};
+
+use crate::fault::DeviceFault;
+use plan_machine::Recorded;
+use plan_record::{Entry, Paths};
+use plan_text::{Items, RowList};
+use plan_verify::{PathList, Words};
+use std::alloc::{AllocError, Global};
+
+/// The command that says that an edge was begun: one NUL byte, which no manifest's command has.
+const BEGUN: [u8; 1] = [0];
+
+/// A path that is always missing, since `/dev/null` is no folder.
+const MISSING: [u8; 15] = *b"/dev/null/begun";
+
+/// The paths that are still to come.
+fn rows_of(alloc: Global, paths: Paths) -> Result<RowList<u8>, AllocError>
+    ensures { IfOk result (λ rows. rows ≡ paths) }
+{
+    let mut paths = paths;
+    let mut rows = RowList::new(alloc);
+    while let Some(path) = paths.first() {
+        rows.push(path)?;
+        paths.advance();
+    }
+    Ok(rows)
+}
+
+/// What an entry says, but for its output.
+pub(crate) fn recorded_of(alloc: Global, entry: &Entry) -> Result<Recorded, DeviceFault>
+    ensures { IfOk result (λ r. r ≡ record { command = entry.now.command; basis = entry.now.basis; paths = entry.now.paths }) }
+{
+    let command = Words::of(alloc, entry.command())?;
+    let paths = PathList::new(alloc, rows_of(alloc, entry.paths()?)?)?;
+    Ok(Recorded::new(alloc, command, entry.basis(), paths)?)
+}
+
+/// These paths, each with bytes of its own.
+fn items_of(alloc: Global, paths: &PathList) -> Result<Vec<Items<u8>>, AllocError>
+    ensures { IfOk result (λ items. items.items ≡ paths.now) }
+{
+    let mut items = Vec::new(alloc);
+    for number in 0..paths.len() {
+        items.push(Items::new(Vec::from_slice(alloc, paths.path(number))?))?;
+    }
+    Ok(items)
+}
+
+/// The entry of an edge that ran.
+pub(crate) fn entry_of(
+    alloc: Global,
+    output: &[u8],
+    command: &[u8],
+    basis: u64,
+    paths: &PathList,
+) -> Result<Entry, DeviceFault>
+    ensures { IfOk result (λ entry. entry ≡ record { output = output.now; command = command.now; basis = basis; paths = paths.now }) }
+{
+    let paths = items_of(alloc, paths)?;
+    Ok(Entry::new(alloc, output, command, basis, &paths)?)
+}
+
+/// The entry of an edge whose command is about to start.
+pub(crate) fn begun_entry(alloc: Global, output: &[u8]) -> Result<Entry, DeviceFault>
+    ensures { IfOk result (λ entry. entry ≡ begun output.now) }
+{
+    let mut paths = Vec::new(alloc);
+    paths.push(Items::new(Vec::from_slice(alloc, &MISSING)?))?;
+    Ok(Entry::new(alloc, output, &BEGUN, 0, &paths)?)
+}

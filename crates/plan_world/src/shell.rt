@@ -1,0 +1,104 @@
+//! Commands, run by a shell.
+
+ghost use Rattle.std.specs.Prelude.{◌≡◌, IfOk, Some, slice_get};
+ghost use Rattle.plan_verify.specs.Turn.{Run};
+ghost use Rattle.plan_world.specs.Answers.{IsAnswer};
+ghost use Rattle.plan_world.specs.Shells.{IsShellOf, ending};
+
+use crate::record_file::Begun;
+use plan_machine::Reply;
+use plan_text::RowList;
+use std::alloc::{AllocError, Global};
+use std::io::{self, ErrorKind, Write};
+use std::path::Path;
+use std::process::{Command, Output, Processes};
+use std::rt::Files;
+use std::sync::{Mutex, Wait};
+use std::{fs, str};
+
+/// The shell with a command as its argument. A command that begins with a hyphen is no option.
+fn shell_of(alloc: Global, text: &str) -> Result<Command, AllocError>
+    ensures { IfOk result (λ command. IsShellOf command text.now) }
+{
+    let mut shell = Command::new(alloc, "/bin/sh")?;
+    shell.arg("-c")?.arg("--")?.arg(text)?;
+    Ok(shell)
+}
+
+/// What the status says that a shell ended with.
+fn how_ended(code: Option<i32>) -> Reply
+    ensures { result ≡ ending code }
+{
+    match code {
+        Some(code) => match u8::try_from(code) {
+            Ok(code) => Reply::Exit(code),
+            Err(_) => Reply::Signal,
+        },
+        None => Reply::Signal,
+    }
+}
+
+/// Writes what a command printed, its standard output in front, to this program's. The screen is locked meanwhile, so
+/// that no other command's output comes between. A write that fails is passed over: the status lines that come behind
+/// fail as well, and tell.
+fn show<R: Print + Wait>(rt: &R, screen: &Mutex<()>, printed: &Output) {
+    if printed.stdout.is_empty() && printed.stderr.is_empty() {
+        return;
+    }
+    let guard = screen.lock(rt);
+    let mut out = io::writer(rt);
+    let _ = out.write_all(&printed.stdout);
+    let _ = out.write_all(&printed.stderr);
+    let _ = out.flush();
+    drop(guard);
+}
+
+/// Makes the folder of a file, where it isn't there, and tells whether it is there.
+fn make_folder<R: Files>(rt: &R, file: &[u8]) -> bool {
+    let Ok(path) = str::from_utf8(file) else {
+        return false;
+    };
+    match Path::new(path).parent() {
+        None => true,
+        Some(folder) => folder.as_str().is_empty() || fs::create_dir_all(rt, folder).is_ok(),
+    }
+}
+
+/// Makes the folders of files, and tells whether all are there.
+pub(crate) fn make_folders<R: Files>(rt: &R, files: &RowList<u8>) -> bool {
+    for number in 0..files.len() {
+        if !make_folder(rt, files.row(number)) {
+            return false;
+        }
+    }
+    true
+}
+
+/// Runs a command of an edge that the record says was begun, with empty standard input, and shows what it printed.
+///
+/// # Errors
+/// Want of memory alone, also of what it printed: then it was killed.
+pub(crate) fn run_shell<R: Processes + Print + Wait + AllocGlobal>(
+    rt: &R,
+    screen: &Mutex<()>,
+    command: &[u8],
+    outputs: &RowList<u8>,
+    begun: Begun<'_>,
+) -> Result<Reply, AllocError>
+    requires { slice_get outputs.now 0 ≡ Some begun }
+    ensures { IfOk result (λ r. IsAnswer (Run command.now outputs.now) r) }
+{
+    let Ok(text) = str::from_utf8(command) else {
+        return Ok(Reply::NotStarted);
+    };
+    match shell_of(rt.alloc(), text)?.output(rt) {
+        Ok(printed) => {
+            show(rt, screen, &printed);
+            Ok(how_ended(printed.status.code()))
+        }
+        Err(error) => match error.kind() {
+            ErrorKind::OutOfMemory => Err(AllocError),
+            _ => Ok(Reply::NotStarted),
+        },
+    }
+}

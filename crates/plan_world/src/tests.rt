@@ -1,0 +1,379 @@
+//! Real files and commands, in a folder of each test's own.
+
+use crate::record_sink::RecordSink;
+use crate::{OpenFault, RealWorld};
+use plan_lanes::World;
+use plan_machine::{Recorded, Reply};
+use plan_record::Entry;
+use plan_text::RowList;
+use plan_verify::PathList;
+use std::alloc::{AllocError, Global};
+use std::fs::{File, Metadata, OpenFile};
+use std::io::{self, ErrorKind, Seek, SeekFrom, Write};
+use std::process::Processes;
+use std::rt::Files;
+use std::sync::Wait;
+use std::sync::atomic::{AtomicU64, Ordering};
+use std::test::Fail;
+use std::{fs, process};
+
+/// The entry of output `a`, command `t`, basis 7 and no paths.
+const ENTRY: [u8; 24] = [
+    0, 0, 0, 20, 0, 1, b'a', 0, 0, 0, 1, b't', 0, 0, 0, 0, 0, 0, 0, 7, 0, 0, 0, 0,
+];
+
+/// What an entry of output `a` says of an edge that was begun.
+const BEGUN_ENTRY: [u8; 41] =
+    *b"\0\0\0\x25\0\x01a\0\0\0\x01\0\0\0\0\0\0\0\0\0\0\0\0\x01\0\x0f/dev/null/begun";
+
+/// An empty folder of this test's own.
+fn folder(rt: &HostRuntime, name: &str) -> Result<String, Fail> {
+    let path = format!(in rt.alloc(); "/tmp/plan_world-{name}-{}", process::id(rt.process()))?;
+    let _ = fs::remove_dir_all(rt, path.as_str());
+    fs::create_dir_all(rt, path.as_str())?;
+    Ok(path)
+}
+
+/// These paths, one behind the other.
+fn rows(alloc: Global, paths: &[&[u8]]) -> Result<RowList<u8>, AllocError> {
+    let mut rows = RowList::new(alloc);
+    for path in paths {
+        rows.push(*path)?;
+    }
+    Ok(rows)
+}
+
+/// A reply in words.
+fn said(alloc: Global, reply: Reply) -> Result<String, AllocError> {
+    match reply {
+        Reply::Stamp(stamp) => format!(in alloc; "stamp {stamp}"),
+        Reply::Entry(_) => format!(in alloc; "entry"),
+        Reply::Nothing => format!(in alloc; "nothing"),
+        Reply::Exit(status) => format!(in alloc; "exit {status}"),
+        Reply::Signal => format!(in alloc; "signal"),
+        Reply::NotStarted => format!(in alloc; "not started"),
+        Reply::Bytes(_) => format!(in alloc; "bytes"),
+        Reply::Kept => format!(in alloc; "kept"),
+        Reply::Fault => format!(in alloc; "fault"),
+    }
+}
+
+/// Lanes may ask it at once.
+fn shared<W: World + Send + Sync>(_world: &W) {}
+
+/// It can be lent to threads.
+#[test]
+fn lent_to_lanes(rt: HostRuntime) -> Result<(), Fail> {
+    let folder = folder(&rt, "lent")?;
+    let world = world_in(&rt, folder.as_str())?;
+    shared(&world);
+    fs::remove_dir_all(&rt, folder.as_str())?;
+    Ok(())
+}
+
+/// A world with its record in a folder.
+fn world_in(rt: &HostRuntime, folder: &str) -> Result<RealWorld<HostRuntime>, Fail> {
+    let record = format!(in rt.alloc(); "{folder}/record")?;
+    Ok(RealWorld::open(rt.clone()?, record.as_str())?)
+}
+
+#[test]
+fn stamps(rt: HostRuntime) -> Result<(), Fail> {
+    let alloc = rt.alloc();
+    let folder = folder(&rt, "stamps")?;
+    let world = world_in(&rt, folder.as_str())?;
+    let file = format!(in alloc; "{folder}/file")?;
+    let outputs = rows(alloc, &[file.as_bytes()])?;
+    for (date, stamp) in [
+        ("1000000000.000000007", "stamp 1000000000000000007"),
+        ("13569465600", "stamp 13569465600000000000"),
+        ("0", "stamp 1"),
+        ("-5", "stamp 1"),
+    ] {
+        let command = format!(in alloc; "touch -d @{date} {file}")?;
+        assert_eq!(rt;
+            said(alloc, world.start(command.as_bytes(), &outputs)?)?.as_str(),
+            "exit 0"
+        );
+        assert_eq!(rt;
+            said(alloc, world.stat(0, file.as_bytes())?)?.as_str(),
+            stamp
+        );
+    }
+    let missing = format!(in alloc; "{folder}/missing")?;
+    let below = format!(in alloc; "{folder}/file/below")?;
+    for path in [
+        missing.as_bytes(),
+        below.as_bytes(),
+        b"/dev/null/begun".as_slice(),
+    ] {
+        assert_eq!(rt; said(alloc, world.stat(0, path)?)?.as_str(), "stamp 0");
+    }
+    assert_ne!(rt;
+        said(alloc, world.stat(0, folder.as_bytes())?)?.as_str(),
+        "stamp 0"
+    );
+    assert_eq!(rt; said(alloc, world.stat(0, b"\xff")?)?.as_str(), "fault");
+    fs::remove_dir_all(&rt, folder.as_str())?;
+    Ok(())
+}
+
+#[test]
+fn commands(rt: HostRuntime) -> Result<(), Fail> {
+    let alloc = rt.alloc();
+    let folder = folder(&rt, "commands")?;
+    let world = world_in(&rt, folder.as_str())?;
+    let deep = format!(in alloc; "{folder}/one/two/out")?;
+    let outputs = rows(alloc, &[deep.as_bytes()])?;
+    let write = format!(in alloc; "cat; pwd > {deep}; exit 3")?;
+    for (command, reply) in [
+        (write.as_bytes(), "exit 3"),
+        (b"kill -9 $$".as_slice(), "signal"),
+        (b"-x".as_slice(), "exit 127"),
+        (b"exit 255".as_slice(), "exit 255"),
+        (b"true \xff".as_slice(), "not started"),
+        (b"true \0".as_slice(), "not started"),
+    ] {
+        assert_eq!(rt;
+            said(alloc, world.start(command, &outputs)?)?.as_str(),
+            reply
+        );
+    }
+    assert_ne!(rt;
+        said(alloc, world.stat(0, deep.as_bytes())?)?.as_str(),
+        "stamp 0"
+    );
+    let below = format!(in alloc; "{deep}/below")?;
+    for paths in [
+        rows(alloc, &[below.as_bytes()])?,
+        rows(alloc, &[deep.as_bytes(), b"\xff/out"])?,
+        rows(alloc, &[])?,
+    ] {
+        assert_eq!(rt;
+            said(alloc, world.start(b"true", &paths)?)?.as_str(),
+            "not started"
+        );
+    }
+    fs::remove_dir_all(&rt, folder.as_str())?;
+    Ok(())
+}
+
+#[test]
+fn depfiles(rt: HostRuntime) -> Result<(), Fail> {
+    let alloc = rt.alloc();
+    let folder = folder(&rt, "depfiles")?;
+    let world = world_in(&rt, folder.as_str())?;
+    let path = format!(in alloc; "{folder}/out.d")?;
+    let mut text = vec![in alloc; b' '; 65_537]?;
+    text[0] = b'o';
+    text[1] = b':';
+    text[65_535] = b'a';
+    text[65_536] = b'b';
+    fs::write(&rt, path.as_str(), text.as_slice())?;
+    match world.read_depfile(0, path.as_bytes())? {
+        Reply::Bytes(depfile) => {
+            assert_eq!(rt; depfile.parsed().bytes(), text.as_slice());
+            match depfile.parsed().result() {
+                Ok(paths) => {
+                    assert_eq!(rt; paths.len(), 1);
+                    assert_eq!(rt; paths.path(0), b"ab".as_slice());
+                }
+                Err(_) => panic!(rt; "a fault"),
+            }
+        }
+        _ => panic!(rt; "no bytes"),
+    }
+    let missing = format!(in alloc; "{folder}/missing.d")?;
+    assert_eq!(rt;
+        said(alloc, world.read_depfile(0, missing.as_bytes())?)?.as_str(),
+        "nothing"
+    );
+    assert_eq!(rt;
+        said(alloc, world.read_depfile(0, folder.as_bytes())?)?.as_str(),
+        "fault"
+    );
+    assert_eq!(rt;
+        said(alloc, world.read_depfile(0, b"\xff")?)?.as_str(),
+        "fault"
+    );
+    fs::remove_dir_all(&rt, folder.as_str())?;
+    Ok(())
+}
+
+#[test]
+fn torn_record(rt: HostRuntime) -> Result<(), Fail> {
+    let alloc = rt.alloc();
+    let folder = folder(&rt, "torn_record")?;
+    let record = format!(in alloc; "{folder}/record")?;
+    let mut bytes = Vec::from_slice(alloc, &ENTRY)?;
+    bytes.extend_from_slice(&ENTRY[..10])?;
+    fs::write(&rt, record.as_str(), bytes.as_slice())?;
+    let world = world_in(&rt, folder.as_str())?;
+    assert_eq!(rt;
+        fs::read(&rt, record.as_str())?.as_slice(),
+        ENTRY.as_slice()
+    );
+    let none = PathList::empty(alloc)?;
+    assert_eq!(rt;
+        said(alloc, world.keep(0, b"a", b"t", 7, &none)?)?.as_str(),
+        "kept"
+    );
+    assert_eq!(rt;
+        said(alloc, world.keep(0, b"", b"t", 7, &none)?)?.as_str(),
+        "fault"
+    );
+    assert_eq!(rt;
+        said(alloc, world.keep(0, b"a", b"t", 7, &none)?)?.as_str(),
+        "kept"
+    );
+    bytes.truncate(24);
+    bytes.extend_from_slice(&ENTRY)?;
+    bytes.extend_from_slice(&ENTRY)?;
+    assert_eq!(rt;
+        fs::read(&rt, record.as_str())?.as_slice(),
+        bytes.as_slice()
+    );
+    fs::remove_dir_all(&rt, folder.as_str())?;
+    for path in [record.as_str(), "/dev/null", "/tmp"] {
+        match RealWorld::open(rt.clone()?, path) {
+            Ok(_) => panic!(rt; "a record without its folder, or no file"),
+            Err(fault) => assert_eq!(rt; fault, OpenFault::Device),
+        }
+    }
+    Ok(())
+}
+
+/// What the record has for the output `a`.
+fn recalled<R: Files + Processes + Print + Wait + AllocGlobal>(
+    world: &RealWorld<R>,
+) -> Result<Recorded, Fail>
+where
+    R::File: Write + Seek + OpenFile,
+{
+    match world.recall(0, b"a")? {
+        Reply::Entry(recorded) => Ok(recorded),
+        _ => Err(Fail::from(AllocError)),
+    }
+}
+
+#[test]
+fn failed_is_begun(rt: HostRuntime) -> Result<(), Fail> {
+    let alloc = rt.alloc();
+    let folder = folder(&rt, "failed_is_begun")?;
+    let record = format!(in alloc; "{folder}/record")?;
+    let copy = format!(in alloc; "{folder}/copy")?;
+    let world = world_in(&rt, folder.as_str())?;
+    assert_eq!(rt; said(alloc, world.recall(0, b"a")?)?.as_str(), "nothing");
+    let none = PathList::empty(alloc)?;
+    assert_eq!(rt;
+        said(alloc, world.keep(0, b"a", b"t", 7, &none)?)?.as_str(),
+        "kept"
+    );
+    let command = format!(in alloc; "cp {record} {copy}; exit 1")?;
+    let outputs = rows(alloc, &[b"a"])?;
+    assert_eq!(rt;
+        said(alloc, world.start(command.as_bytes(), &outputs)?)?.as_str(),
+        "exit 1"
+    );
+    let mut bytes = Vec::from_slice(alloc, &ENTRY)?;
+    bytes.extend_from_slice(&BEGUN_ENTRY)?;
+    assert_eq!(rt; fs::read(&rt, copy.as_str())?.as_slice(), bytes.as_slice());
+    assert_eq!(rt;
+        fs::read(&rt, record.as_str())?.as_slice(),
+        bytes.as_slice()
+    );
+    let begun = recalled(&world)?;
+    assert_eq!(rt; begun.command().as_slice(), b"\0".as_slice());
+    assert_eq!(rt; begun.paths().path(0), b"/dev/null/begun".as_slice());
+    let again = world_in(&rt, folder.as_str())?;
+    assert_eq!(rt; recalled(&again)?.command().as_slice(), b"\0".as_slice());
+    assert_eq!(rt;
+        said(alloc, again.keep(0, b"a", b"u", 9, begun.paths())?)?.as_str(),
+        "kept"
+    );
+    let kept = recalled(&again)?;
+    assert_eq!(rt; kept.command().as_slice(), b"u".as_slice());
+    assert_eq!(rt; kept.basis(), 9);
+    assert_eq!(rt; kept.paths().len(), 1);
+    fs::remove_dir_all(&rt, folder.as_str())?;
+    Ok(())
+}
+
+/// A file that takes so many bytes and then fails once, and that can't be cut so many times.
+#[derive(Drop)]
+struct Failing {
+    file: File,
+    left: usize,
+    uncut: AtomicU64,
+}
+
+impl Write for Failing {
+    fn write(&mut self, bytes: &[u8]) -> io::Result<usize> {
+        if self.left == 0 {
+            self.left = usize::MAX;
+            return Err(io::Error::from(ErrorKind::StorageFull));
+        }
+        let n = bytes.len().min(self.left);
+        self.left -= n;
+        self.file.write(&bytes[..n])
+    }
+
+    fn flush(&mut self) -> io::Result<()> {
+        self.file.flush()
+    }
+}
+
+impl Seek for Failing {
+    fn seek(&mut self, to: SeekFrom) -> io::Result<u64> {
+        self.file.seek(to)
+    }
+}
+
+impl OpenFile for Failing {
+    fn metadata(&self) -> io::Result<Metadata> {
+        self.file.metadata()
+    }
+
+    fn set_len(&self, size: u64) -> io::Result<()> {
+        let uncut = self.uncut.load(Ordering::SeqCst);
+        if uncut > 0 {
+            self.uncut.store(uncut - 1, Ordering::SeqCst);
+            return Err(io::Error::from(ErrorKind::PermissionDenied));
+        }
+        self.file.set_len(size)
+    }
+
+    fn sync_all(&self) -> io::Result<()> {
+        self.file.sync_all()
+    }
+
+    fn sync_data(&self) -> io::Result<()> {
+        self.file.sync_data()
+    }
+}
+
+#[test]
+fn writes_that_fail(rt: HostRuntime) -> Result<(), Fail> {
+    let alloc = rt.alloc();
+    let folder = folder(&rt, "writes_that_fail")?;
+    let path = format!(in alloc; "{folder}/record")?;
+    let entry = Entry::new(alloc, b"a", b"t", 7, &[])?;
+    let failing = Failing {
+        file: File::create(&rt, path.as_str())?,
+        left: 30,
+        uncut: AtomicU64::new(2),
+    };
+    let mut sink = RecordSink::behind(failing, 0, 0)?;
+    assert!(rt; sink.put(alloc, &entry).is_ok());
+    sink.accept();
+    assert!(rt; sink.put(alloc, &entry).is_err());
+    assert_eq!(rt; fs::read(&rt, path.as_str())?.len(), 30);
+    assert!(rt; sink.put(alloc, &entry).is_err());
+    assert!(rt; sink.put(alloc, &entry).is_ok());
+    sink.accept();
+    let mut bytes = Vec::from_slice(alloc, &ENTRY)?;
+    bytes.extend_from_slice(&ENTRY)?;
+    assert_eq!(rt; fs::read(&rt, path.as_str())?.as_slice(), bytes.as_slice());
+    fs::remove_dir_all(&rt, folder.as_str())?;
+    Ok(())
+}

@@ -1,0 +1,162 @@
+//! The world of real files and commands.
+
+ghost use Rattle.std.specs.Prelude.{◌≡◌, IfOk};
+ghost use Rattle.plan_verify.specs.Turn.{Recall, Run};
+ghost use Rattle.plan_world.specs.Answers.{IsAnswer};
+
+use crate::depfile::read_depfile;
+use crate::fault::{DeviceFault, OpenFault};
+use crate::record_file::{RecordFile, open_record};
+use crate::recorded::{entry_of, recorded_of};
+use crate::shell::{make_folders, run_shell};
+use crate::stamp::stat;
+use plan_lanes::{Permit, World};
+use plan_machine::Reply;
+use plan_text::RowList;
+use plan_verify::PathList;
+use std::alloc::AllocError;
+use std::fs::OpenFile;
+use std::io::{Read, Seek, Write};
+use std::process::Processes;
+use std::rt::Files;
+use std::sync::{Mutex, Wait};
+
+/// Real files and commands, and a record file that is open. Lanes ask it at once.
+///
+/// Before a command is started the record says of its edge that it was begun, so that an edge whose command failed or
+/// was interrupted is out of date the next time. A program makes it at its own runtime, in `main`.
+#[derive(Drop)]
+pub struct RealWorld<R: Files> {
+    rt: R,
+    /// Held while what a command printed is written.
+    screen: Mutex<()>,
+    record: Mutex<RecordFile<R::File>>,
+}
+
+impl<R: Files + AllocGlobal> RealWorld<R>
+where
+    R::File: Read + Write + Seek + OpenFile + Drop,
+{
+    /// The world of a runtime, with the record of this path: made empty where it is missing, though not its folder, and
+    /// cut to its good front.
+    ///
+    /// # Errors
+    /// `Device` where the record can't be made, read or cut, and `Memory`.
+    pub fn open(rt: R, record: &str) -> Result<RealWorld<R>, OpenFault>
+    where
+        R: Drop,
+    {
+        let file = open_record(&rt, record)?;
+        Ok(RealWorld {
+            rt,
+            screen: Mutex::new(()),
+            record: Mutex::new(file),
+        })
+    }
+}
+
+impl<R: Files> RealWorld<R> {
+    /// Held while what a command printed is written to standard output: whoever writes there meanwhile takes it too.
+    pub fn screen(&self) -> &Mutex<()> {
+        &self.screen
+    }
+}
+
+impl<R: Files + Processes + Print + Wait + AllocGlobal> RealWorld<R>
+where
+    R::File: Write + Seek + OpenFile,
+{
+    /// Runs a command whose edge makes these files, the first of which names it in the record.
+    pub(crate) fn start(&self, command: &[u8], outputs: &RowList<u8>) -> Result<Reply, AllocError>
+        ensures { IfOk result (λ r. IsAnswer (Run command.now outputs.now) r) }
+    {
+        if outputs.len() == 0 || !make_folders(&self.rt, outputs) {
+            return Ok(Reply::NotStarted);
+        }
+        let begun = self
+            .record
+            .lock(&self.rt)
+            .begin(self.rt.alloc(), outputs.row(0));
+        match begun {
+            Ok(begun) => run_shell(&self.rt, &self.screen, command, outputs, begun),
+            Err(DeviceFault::Memory) => Err(AllocError),
+            Err(DeviceFault::Device) => Ok(Reply::NotStarted),
+        }
+    }
+
+    /// Appends an entry to the record.
+    fn append(
+        &self,
+        output: &[u8],
+        command: &[u8],
+        basis: u64,
+        paths: &PathList,
+    ) -> Result<(), DeviceFault> {
+        let alloc = self.rt.alloc();
+        let entry = entry_of(alloc, output, command, basis, paths)?;
+        self.record.lock(&self.rt).keep(alloc, entry)
+    }
+
+    /// The last entry of an output.
+    fn last(&self, output: &[u8]) -> Result<Reply, DeviceFault>
+        ensures { IfOk result (λ r. IsAnswer (Recall output.now) r) }
+    {
+        let found = match self.record.lock(&self.rt).last(output) {
+            Some(entry) => entry.copy()?,
+            None => return Ok(Reply::Nothing),
+        };
+        Ok(Reply::Entry(recorded_of(self.rt.alloc(), &found)?))
+    }
+}
+
+/// Replies by `IsAnswer`: their sort suits the question. What a file or a command does is no matter of a contract.
+impl<R: Files + Processes + Print + Wait + AllocGlobal> World for RealWorld<R>
+where
+    R::File: Write + Seek + OpenFile,
+{
+    ghost use Rattle.plan_world.specs.Answers.{IsAnswer};
+
+    ghost allows = { λ _ question reply. IsAnswer question reply };
+
+    fn stat(&self, _number: u64, path: &[u8]) -> Result<Reply, AllocError> {
+        stat(&self.rt, path)
+    }
+
+    fn recall(&self, _number: u64, output: &[u8]) -> Result<Reply, AllocError> {
+        match self.last(output) {
+            Ok(reply) => Ok(reply),
+            Err(DeviceFault::Memory) => Err(AllocError),
+            Err(DeviceFault::Device) => Ok(Reply::Fault),
+        }
+    }
+
+    fn run(
+        &self,
+        _number: u64,
+        command: &[u8],
+        outputs: &RowList<u8>,
+        permit: Permit,
+    ) -> Result<Reply, AllocError> {
+        permit.spend();
+        self.start(command, outputs)
+    }
+
+    fn read_depfile(&self, _number: u64, path: &[u8]) -> Result<Reply, AllocError> {
+        read_depfile(&self.rt, path)
+    }
+
+    fn keep(
+        &self,
+        _number: u64,
+        output: &[u8],
+        command: &[u8],
+        basis: u64,
+        paths: &PathList,
+    ) -> Result<Reply, AllocError> {
+        match self.append(output, command, basis, paths) {
+            Ok(()) => Ok(Reply::Kept),
+            Err(DeviceFault::Memory) => Err(AllocError),
+            Err(DeviceFault::Device) => Ok(Reply::Fault),
+        }
+    }
+}

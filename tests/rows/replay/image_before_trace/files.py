@@ -1,0 +1,3 @@
+import pathlib
+
+pathlib.Path("plan.img").write_bytes(b"PLANIMG")
