@@ -4,7 +4,6 @@
 ghost use Rattle.std.specs.Prelude.{◌≡◌, ◌⊎◌};
 ghost use Rattle.plan_ninja.specs.Faults as defined;
 
-mod command_line;
 mod commands;
 mod compile_fault;
 mod compiling;
@@ -15,28 +14,24 @@ mod image_fault;
 mod images;
 mod replay_fault;
 mod replaying;
-mod run_line;
 mod running;
 mod targets;
 #[cfg(test)]
 mod tests;
 mod verdicts;
 
-use crate::command_line::{Request, request_in, words_in};
 use crate::commands::do_commands;
 use crate::compiling::do_compile;
 use crate::fault::{PlanFault, file_fault, no_memory, output_fault};
 use crate::files::{FileSink, FileSource, IMAGE_BYTES, MANIFEST_BYTES, TRACE_BYTES};
 use crate::images::do_dump;
 use crate::replaying::do_replay;
-use crate::run_line::RunWords;
 use crate::running::{Build, do_run};
 use crate::verdicts::do_verify;
-use clap::Error;
-use clap::error::ErrorKind;
 use plan_lanes::World;
 use plan_machine::Options;
 use plan_text::{Counted, Sink};
+use plan_words::{FileRequest, NoRequest, Request, RunWords, request_in, words_in};
 use plan_world::{OpenFault, RealWorld};
 use std::alloc::{AllocError, Global};
 use std::io;
@@ -55,7 +50,7 @@ const OUTPUT_BUFFER: usize = 65_536;
 /// Writes what is asked for to a sink, or to the file that is asked for, and says with which status the program ends.
 fn answer<R: Files + AllocGlobal, W: Sink>(
     rt: &R,
-    request: &Request<'_>,
+    request: FileRequest<'_>,
     out: &mut W,
 ) -> Result<u8, PlanFault> {
     let alloc = rt.alloc();
@@ -63,8 +58,8 @@ fn answer<R: Files + AllocGlobal, W: Sink>(
     let mut images = FileSource::new(rt, IMAGE_BYTES);
     let mut traces = FileSource::new(rt, TRACE_BYTES);
     match request {
-        Request::Commands(path) => do_commands(alloc, &mut manifests, path.as_bytes(), out),
-        Request::Compile(path, output) => {
+        FileRequest::Commands(path) => do_commands(alloc, &mut manifests, path.as_bytes(), out),
+        FileRequest::Compile(path, output) => {
             let mut image = FileSink::new(rt, output);
             do_compile(
                 alloc,
@@ -74,8 +69,8 @@ fn answer<R: Files + AllocGlobal, W: Sink>(
                 &mut image,
             )
         }
-        Request::Dump(path) => do_dump(alloc, &mut images, path.as_bytes(), out),
-        Request::Replay(image, trace) => do_replay(
+        FileRequest::Dump(path) => do_dump(alloc, &mut images, path.as_bytes(), out),
+        FileRequest::Replay(image, trace) => do_replay(
             alloc,
             &mut images,
             image.as_bytes(),
@@ -83,14 +78,15 @@ fn answer<R: Files + AllocGlobal, W: Sink>(
             trace.as_bytes(),
             out,
         ),
-        // It has a world of its own.
-        Request::Run(_) => Ok(REFUSED),
-        Request::Verify(path) => do_verify(alloc, &mut images, path.as_bytes(), out),
+        FileRequest::Verify(path) => do_verify(alloc, &mut images, path.as_bytes(), out),
     }
 }
 
 /// Prints what is asked for, and says with which status the program ends.
-fn print<R: Files + Print + AllocGlobal>(rt: &R, request: &Request<'_>) -> Result<u8, PlanFault> {
+fn print<R: Files + Print + AllocGlobal>(
+    rt: &R,
+    request: FileRequest<'_>,
+) -> Result<u8, PlanFault> {
     let alloc = rt.alloc();
     let Ok(buffer) = BufWriter::with_capacity(alloc, OUTPUT_BUFFER, io::writer(rt)) else {
         return Err(no_memory(alloc));
@@ -125,18 +121,18 @@ fn report<E: Print>(alloc: Global, errors: &E, fault: &PlanFault) -> u8
     REFUSED
 }
 
-/// Shows the text of an error of the command line, or the help that it asked for.
-fn show<R: Print + Eprint + AllocGlobal, E: Print>(rt: &R, errors: &E, error: &Error) -> u8 {
-    if error.kind() == ErrorKind::OutOfMemory {
-        return report(rt.alloc(), errors, &no_memory(rt.alloc()));
-    }
-    let printed = error.print(rt);
-    if error.use_stderr() {
-        return REFUSED;
-    }
-    match printed {
-        Ok(()) => 0,
-        Err(_) => report(rt.alloc(), errors, &output_fault_or_memory(rt.alloc())),
+/// Shows the help that was asked for, or why the words are refused.
+fn show<R: Print + Eprint + AllocGlobal, E: Print>(rt: &R, errors: &E, told: &NoRequest) -> u8 {
+    match told {
+        NoRequest::Memory => report(rt.alloc(), errors, &no_memory(rt.alloc())),
+        NoRequest::Refused(text) => {
+            let _ = rt.eprint(text);
+            REFUSED
+        }
+        NoRequest::Help(text) => match rt.print(text) {
+            Ok(()) => 0,
+            Err(_) => report(rt.alloc(), errors, &output_fault_or_memory(rt.alloc())),
+        },
     }
 }
 
@@ -202,15 +198,15 @@ fn main(rt: HostRuntime) -> ExitCode {
     let errors = rt.stderr();
     let words = match words_in(&rt) {
         Ok(words) => words,
-        Err(error) => return ExitCode::from(show(&rt, &errors, &error)),
+        Err(told) => return ExitCode::from(show(&rt, &errors, &told)),
     };
     let done = match request_in(rt.alloc(), &words) {
         Ok(Request::Run(asked)) => match world_at(&rt, asked.record) {
             Ok(world) => run_image(&rt, &asked, &world),
             Err(fault) => Err(fault),
         },
-        Ok(request) => print(&rt, &request),
-        Err(error) => return ExitCode::from(show(&rt, &errors, &error)),
+        Ok(Request::Files(asked)) => print(&rt, asked),
+        Err(told) => return ExitCode::from(show(&rt, &errors, &told)),
     };
     ExitCode::from(status_of(rt.alloc(), &errors, done))
 }

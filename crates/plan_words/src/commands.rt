@@ -1,28 +1,8 @@
-//! The words of the command line.
+//! The commands of the program and their arguments, as clap knows them.
 
-use crate::run_line::{RunWords, run_command, run_words};
-use clap::error::ErrorKind;
-use clap::{Arg, ArgAction, ArgMatches, Command, Error};
+use crate::run::run_command;
+use clap::{Arg, ArgAction, Command};
 use std::alloc::{AllocError, Global};
-use std::rt::Env;
-use std::{env, io};
-
-/// What the command line asks for.
-#[derive(Drop)]
-pub enum Request<'a> {
-    /// The commands of the manifest at this path.
-    Commands(&'a str),
-    /// The image of the manifest at the first path, in a file at the second one.
-    Compile(&'a str, &'a str),
-    /// The listing of the image at this path.
-    Dump(&'a str),
-    /// To run an image.
-    Run(RunWords<'a>),
-    /// The run of the image at the first path that the trace at the second one tells.
-    Replay(&'a str, &'a str),
-    /// The verdict on the image at this path.
-    Verify(&'a str),
-}
 
 /// What `--version` prints behind the program's name.
 const VERSION: &str = "0.1.0";
@@ -128,78 +108,35 @@ fn replay_command<'a>(alloc: Global) -> Result<Command<'a>, AllocError> {
     file_command(alloc, "replay", about, ("IMG", IMAGE_HELP))?.arg(trace)
 }
 
-/// The commands and arguments that the program knows.
-fn program_command<'a>(alloc: Global) -> Result<Command<'a>, AllocError> {
+/// The command that prints the commands of a manifest.
+fn commands_command<'a>(alloc: Global) -> Result<Command<'a>, AllocError> {
     let about = (COMMANDS_ABOUT, COMMANDS_LONG_ABOUT);
-    let commands = file_command(alloc, "commands", about, ("FILE", FILE_HELP))?;
-    let compile = compile_command(alloc)?;
+    file_command(alloc, "commands", about, ("FILE", FILE_HELP))
+}
+
+/// The command that lists an image.
+fn dump_command<'a>(alloc: Global) -> Result<Command<'a>, AllocError> {
     let about = (DUMP_ABOUT, DUMP_LONG_ABOUT);
-    let dump = file_command(alloc, "dump", about, ("IMG", IMAGE_HELP))?;
-    let run = run_command(alloc, IMAGE_HELP)?;
-    let replay = replay_command(alloc)?;
+    file_command(alloc, "dump", about, ("IMG", IMAGE_HELP))
+}
+
+/// The command that checks an image.
+fn verify_command<'a>(alloc: Global) -> Result<Command<'a>, AllocError> {
     let about = (VERIFY_ABOUT, VERIFY_LONG_ABOUT);
-    let verify = file_command(alloc, "verify", about, ("IMG", IMAGE_HELP))?;
-    Command::new(alloc, "plan_ninja")
+    file_command(alloc, "verify", about, ("IMG", IMAGE_HELP))
+}
+
+/// The commands and arguments that the program knows.
+pub fn program_command<'a>(alloc: Global) -> Result<Command<'a>, AllocError> {
+    let program = Command::new(alloc, "plan_ninja")
         .about(ABOUT)
         .version(VERSION)
         .subcommand_required(true)
-        .arg_required_else_help(true)
-        .subcommand(commands)?
-        .subcommand(compile)?
-        .subcommand(dump)?
-        .subcommand(run)?
-        .subcommand(replay)?
-        .subcommand(verify)
-}
-
-/// The error of words that can't be read: one that is no text, or want of memory.
-fn words_error(alloc: Global, error: &io::Error) -> Result<Error, AllocError> {
-    let mut command = program_command(alloc)?;
-    match error.kind() {
-        io::ErrorKind::InvalidData => {
-            command.error(ErrorKind::InvalidValue, "an argument is not valid UTF-8")
-        }
-        _ => Err(AllocError),
-    }
-}
-
-/// The words of the command line, the program's own name first.
-pub fn words_in<R: Env + AllocGlobal>(rt: &R) -> Result<Vec<String>, Error> {
-    match env::args(rt) {
-        Ok(words) => Ok(words.collect(rt.alloc())?),
-        Err(error) => Err(words_error(rt.alloc(), &error)?),
-    }
-}
-
-/// The two files of `compile`.
-fn compile_request<'a>(found: &ArgMatches<'a>) -> Option<Request<'a>> {
-    let file = found.get_str("FILE")?;
-    let output = found.get_str("IMG")?;
-    Some(Request::Compile(file, output))
-}
-
-/// The two files of `replay`.
-fn replay_request<'a>(found: &ArgMatches<'a>) -> Option<Request<'a>> {
-    let image = found.get_str("IMG")?;
-    let trace = found.get_str("TRACE")?;
-    Some(Request::Replay(image, trace))
-}
-
-/// What the words of the command line ask for, or the text that is shown in its place: an error, or help.
-pub fn request_in<'a>(alloc: Global, words: &'a [String]) -> Result<Request<'a>, Error> {
-    let mut command = program_command(alloc)?;
-    let matches = command.try_get_matches_from_mut(words)?;
-    let request = match matches.subcommand() {
-        Some(("commands", found)) => found.get_str("FILE").map(Request::Commands),
-        Some(("compile", found)) => compile_request(&found),
-        Some(("dump", found)) => found.get_str("IMG").map(Request::Dump),
-        Some(("run", found)) => run_words(alloc, &found)?.map(Request::Run),
-        Some(("replay", found)) => replay_request(&found),
-        Some(("verify", found)) => found.get_str("IMG").map(Request::Verify),
-        _ => return Err(command.error(ErrorKind::MissingSubcommand, "a command is missing")?),
-    };
-    match request {
-        Some(request) => Ok(request),
-        None => Err(command.error(ErrorKind::MissingRequiredArgument, "a file is missing")?),
-    }
+        .arg_required_else_help(true);
+    let program = program.subcommand(commands_command(alloc)?)?;
+    let program = program.subcommand(compile_command(alloc)?)?;
+    let program = program.subcommand(dump_command(alloc)?)?;
+    let program = program.subcommand(run_command(alloc, IMAGE_HELP)?)?;
+    let program = program.subcommand(replay_command(alloc)?)?;
+    program.subcommand(verify_command(alloc)?)
 }
