@@ -14,8 +14,9 @@ The cases stand in tests/builds/*.builds; PATTERN is a shell's pattern of their 
   left NAME          the file must have the indented lines now; `gone NAME`: it must not be there
   alone [REASON]     ninja does otherwise from here on, and why; it isn't run beside any more
 
-Where ninja runs beside, both must have run the same commands at each `run`, and left the same files. The last line is
-`N passed, M failed`.
+Where ninja runs beside, both must have run the same commands at each `run`, and left the same files. Each run writes
+its trace too, but for those with a `--trace` of their own: `replay` must print the run's status lines and end with its
+status, and a refused run leaves no trace. The last line is `N passed, M failed`.
 """
 import fnmatch
 import os
@@ -38,6 +39,7 @@ OWN = {"plan.img", ".plan_record", "plan.trace"}
 NINJAS = {".ninja_log", ".ninja_deps"}
 STEPS = {"file", "executable", "append", "touch", "delete", "folder", "run", "status", "says", "left", "gone", "alone"}
 LINE = re.compile(rb"\[(\d+)/(\d+)\] (.*)")
+TOLD = re.compile(rb"(?:(?:\[\d+/\d+\]|FAILED|SKIPPED|STOPPED) .*\n)*")
 
 
 class Step(NamedTuple):
@@ -129,10 +131,28 @@ class Trial:
         self.theirs.mkdir()
         self.done: subprocess.CompletedProcess[bytes] | None = None
 
-    def ran(self, words: list[str]) -> None:
+    def ran(self, words: list[str], place: str) -> None:
         """Runs the image of the manifest as it is now."""
-        made = programs.run([self.program, "compile", "build.ninja", "-o", "plan.img"], self.ours)
-        self.done = made if made.returncode else programs.run([self.program, "run", "plan.img", *words], self.ours)
+        self.done = programs.run([self.program, "compile", "build.ninja", "-o", "plan.img"], self.ours)
+        if self.done.returncode == 0:
+            traced = [] if "--trace" in words else ["--trace", "plan.trace"]
+            self.done = programs.run([self.program, "run", "plan.img", *traced, *words], self.ours)
+            if traced:
+                self.replayed(place)
+
+    def replayed(self, place: str) -> None:
+        """The trace tells the run again; a refused run has none."""
+        trace = self.ours / "plan.trace"
+        assert self.done
+        self.expect("trace of a run that wasn't refused", self.done.returncode != 2, trace.exists(), place)
+        if trace.exists():
+            told = programs.run([self.program, "replay", "plan.img", "plan.trace"], self.ours)
+            trace.unlink()
+            self.expect("replayed status", self.done.returncode, told.returncode, place)
+            lines = TOLD.match(told.stdout)
+            assert lines
+            printed = self.done.stdout[-len(lines[0]):] if lines[0] else b""
+            self.expect("replayed lines", printed, lines[0], place)
 
     def beside(self, words: list[str], place: str) -> None:
         """Runs ninja, and compares the commands and the files."""
@@ -158,7 +178,7 @@ class Trial:
     def judge(self, step: Step, after: list[Step]) -> None:
         """A run: what it printed, its status, and what it said."""
         words = shlex.split(step.words) or ["-j", "1"]
-        self.ran(words)
+        self.ran(words, step.place)
         assert self.done
         told = [one for one in after if one.name in ("status", "says")]
         status = next((int(one.words) for one in told if one.name == "status"), 0)

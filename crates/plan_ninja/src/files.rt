@@ -1,10 +1,10 @@
 //! The files of the system.
 
-ghost use Rattle.std.specs.Prelude.{◌≡◌, ◌≤◌, IfOk, length};
+ghost use Rattle.std.specs.Prelude.{◌≡◌};
 
 use plan_image::MAX_IMAGE;
 use plan_scope::{Source, SourceFault};
-use plan_text::{MAX_SOURCE, Sink, SinkFault, Tally};
+use plan_text::{MAX_SOURCE, Tally};
 use std::alloc::Global;
 use std::io::{ErrorKind, Read, Write};
 use std::rt::Files;
@@ -77,58 +77,34 @@ impl<R: Files> Source for FileSource<'_, R> {
 
 /// A file that is made, or emptied where it is there, at the first write to it.
 #[derive(Drop)]
-pub struct FileSink<'a, R: Files> {
+pub struct NewFile<'a, R: Files> {
     rt: &'a R,
     path: &'a str,
     /// What was made at the first write.
     file: Option<R::File>,
-    failures: Tally,
 }
 
-impl<'a, R: Files> FileSink<'a, R> {
-    /// The file at a path, which isn't made yet, and no write to which has failed.
-    pub fn new(rt: &'a R, path: &'a str) -> FileSink<'a, R>
-        ensures { result.failures.count ≡ 0 }
-    {
-        FileSink {
+impl<'a, R: Files> NewFile<'a, R> {
+    /// The file at a path, which isn't made yet.
+    pub fn new(rt: &'a R, path: &'a str) -> NewFile<'a, R> {
+        NewFile {
             rt,
             path,
             file: None,
-            failures: Tally::new(),
         }
     }
 }
 
-/// Writes some of the bytes to a file, which is made at this path where there is none yet.
-fn write_some<R: Files>(
-    rt: &R,
-    path: &str,
-    file: &mut Option<R::File>,
-    bytes: &[u8],
-) -> io::Result<usize>
-    ensures { IfOk result (λ n. n ≤ length bytes.now) }
-{
-    if let Some(made) = file {
-        return made.write(bytes);
-    }
-    let made = file.insert(fs::create(rt, path)?);
-    made.write(bytes)
-}
-
-impl<R: Files> Sink for FileSink<'_, R> {
-    ghost use Rattle.std.specs.Prelude.{None};
-
-    ghost failures = { λ s. s.failures.count };
-
-    ghost taken = { λ _. None };
-
-    fn write(&mut self, bytes: &[u8]) -> Result<usize, SinkFault> {
-        match write_some(self.rt, self.path, &mut self.file, bytes) {
-            Ok(n) if n > 0 || bytes.is_empty() => Ok(n),
-            _ => {
-                self.failures = self.failures.next();
-                Err(SinkFault)
-            }
+impl<R: Files> Write for NewFile<'_, R> {
+    fn write(&mut self, bytes: &[u8]) -> io::Result<usize> {
+        if let Some(made) = &mut self.file {
+            return made.write(bytes);
         }
+        let made = self.file.insert(fs::create(self.rt, self.path)?);
+        made.write(bytes)
+    }
+
+    fn flush(&mut self) -> io::Result<()> {
+        Ok(())
     }
 }

@@ -23,7 +23,7 @@ mod verdicts;
 use crate::commands::do_commands;
 use crate::compiling::do_compile;
 use crate::fault::{PlanFault, file_fault, no_memory, output_fault};
-use crate::files::{FileSink, FileSource, IMAGE_BYTES, MANIFEST_BYTES, TRACE_BYTES};
+use crate::files::{FileSource, IMAGE_BYTES, MANIFEST_BYTES, NewFile, TRACE_BYTES};
 use crate::images::do_dump;
 use crate::replaying::do_replay;
 use crate::running::{Build, do_run};
@@ -60,7 +60,7 @@ fn answer<R: Files + AllocGlobal, W: Sink>(
     match request {
         FileRequest::Commands(path) => do_commands(alloc, &mut manifests, path.as_bytes(), out),
         FileRequest::Compile(path, output) => {
-            let mut image = FileSink::new(rt, output);
+            let mut image = Counted::new(NewFile::new(rt, output));
             do_compile(
                 alloc,
                 &mut manifests,
@@ -145,6 +145,14 @@ fn names_of<'a>(alloc: Global, targets: &[&'a str]) -> Result<Vec<&'a [u8]>, All
     Ok(names)
 }
 
+/// A path as bytes, where there is one.
+fn bytes_of(path: Option<&str>) -> Option<&[u8]> {
+    match path {
+        Some(path) => Some(path.as_bytes()),
+        None => None,
+    }
+}
+
 /// The world of real files and commands, with the record of this path.
 fn world_at(rt: &HostRuntime, record: &str) -> Result<RealWorld<HostRuntime>, PlanFault> {
     let own: Result<HostRuntime, AllocError> = rt.clone();
@@ -165,10 +173,12 @@ fn run_image<R: Threads + Wait + Sync + Files + Print + AllocGlobal, W: World + 
     world: &W,
 ) -> Result<u8, PlanFault> {
     let alloc = rt.alloc();
-    let (Some(options), Ok(targets), Ok(buffer)) = (
+    let file = NewFile::new(rt, asked.trace.unwrap_or(""));
+    let (Some(options), Ok(targets), Ok(buffer), Ok(trace_buffer)) = (
         Options::new(asked.jobs, asked.keep),
         names_of(alloc, &asked.targets),
         BufWriter::with_capacity(alloc, OUTPUT_BUFFER, io::writer(rt)),
+        BufWriter::with_capacity(alloc, OUTPUT_BUFFER, file),
     ) else {
         return Err(no_memory(alloc));
     };
@@ -176,13 +186,17 @@ fn run_image<R: Threads + Wait + Sync + Files + Print + AllocGlobal, W: World + 
         image: asked.image.as_bytes(),
         options,
         targets: &targets,
+        trace: bytes_of(asked.trace),
     };
     let mut images = FileSource::new(rt, IMAGE_BYTES);
     let mut out = Counted::new(buffer);
-    let ran = do_run(rt, alloc, &mut images, &build, world, &mut out);
-    match (ran, out.into_writer().flush()) {
-        (Ok(_), Err(_)) => Err(output_fault_or_memory(alloc)),
-        (ran, _) => ran,
+    let mut trace = Counted::new(trace_buffer);
+    let ran = do_run(rt, alloc, &mut images, &build, world, &mut out, &mut trace);
+    let traced = trace.into_writer().flush();
+    match (ran, out.into_writer().flush(), traced) {
+        (Ok(_), Err(_), _) => Err(output_fault_or_memory(alloc)),
+        (Ok(_), Ok(()), Err(_)) => Err(file_fault(alloc, build.trace.unwrap_or(b""))),
+        (ran, ..) => ran,
     }
 }
 

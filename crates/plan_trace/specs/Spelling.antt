@@ -59,9 +59,9 @@ target_line e = line (target_words e)
 abbrev pub event_line : Event → List ℕ
 event_line e = line (event_words e)
 
-abbrev pub lines_behind : Trace → List ℕ
-lines_behind t = flat_map target_line t.targets ++ flat_map event_line t.events
-
 -- the options, the targets, the events, each on a line of its own
+abbrev pub run_text : Limits → List ℕ → List Event → List ℕ
+run_text options targets events = line (options_words options) ++ (flat_map target_line targets ++ flat_map event_line events)
+
 abbrev pub text_of : Trace → List ℕ
-text_of t = line (options_words t.options) ++ lines_behind t
+text_of t = run_text t.options t.targets t.events

@@ -1,6 +1,7 @@
 //! Traces: the text of a run, which has its options, targets and events.
 //!
-//! - `Trace`: a run; `read_trace`: the trace that a text says, or its first bad line (`TraceFault`); `write_trace`: its text.
+//! - `Trace`: a run; `read_trace`: the trace that a text says, or its first bad line (`TraceFault`); `write_trace`: its text;
+//!   `write_run`: the text of a run that is in parts.
 //! - `traces_are_spelled_once`: what holds of all traces, for the proofs of the crates above.
 //!
 //! The format is this project's own choice; docs/REPLAY.md has it line by line.
@@ -21,7 +22,7 @@ pub use fault::TraceFault;
 pub use laws::traces_are_spelled_once;
 pub use reading::read_trace;
 pub use trace::Trace;
-pub use writing::write_trace;
+pub use writing::{write_run, write_trace};
 
 #[cfg(test)]
 mod tests;

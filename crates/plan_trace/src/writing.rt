@@ -214,12 +214,17 @@ fn write_events<W: Sink>(alloc: Global, events: &[Event], out: &mut W) -> Result
 }
 
 /// Writes the lines behind the first.
-fn write_behind<W: Sink>(alloc: Global, trace: &Trace, out: &mut W) -> Result<(), PrintFault>
-    ensures { Prints (defined.lines_behind trace.now) (result_err result) (W.failures out.old, W.taken out.old) (W.failures out.new, W.taken out.new) }
+fn write_behind<W: Sink>(
+    alloc: Global,
+    targets: &[u32],
+    events: &[Event],
+    out: &mut W,
+) -> Result<(), PrintFault>
+    ensures { Prints (flat_map defined.target_line targets.now ++ flat_map defined.event_line events.now) (result_err result) (W.failures out.old, W.taken out.old) (W.failures out.new, W.taken out.new) }
 {
     prints_join();
-    match write_targets(alloc, trace.targets.as_slice(), out) {
-        Ok(()) => write_events(alloc, trace.events.as_slice(), out),
+    match write_targets(alloc, targets, out) {
+        Ok(()) => write_events(alloc, events, out),
         Err(fault) => Err(fault),
     }
 }
@@ -233,16 +238,38 @@ fn write_options<W: Sink>(alloc: Global, options: Options, out: &mut W) -> Resul
     Ok(())
 }
 
-/// Writes the text of a trace. It holds one line at a time.
+/// Writes the text of the trace of a run with these options, targets and events. It holds one line at a time.
+///
+/// # Errors
+/// `Memory`, `Write`: then the sink took a front of the text.
+pub fn write_run<W: Sink>(
+    alloc: Global,
+    options: Options,
+    targets: &[u32],
+    events: &[Event],
+    out: &mut W,
+) -> Result<(), PrintFault>
+    ensures { Prints (defined.run_text options targets.now events.now) (result_err result) (W.failures out.old, W.taken out.old) (W.failures out.new, W.taken out.new) }
+{
+    prints_join();
+    match write_options(alloc, options, out) {
+        Ok(()) => write_behind(alloc, targets, events, out),
+        Err(fault) => Err(fault),
+    }
+}
+
+/// Writes the text of a trace, as `write_run` does.
 ///
 /// # Errors
 /// `Memory`, `Write`: then the sink took a front of the text.
 pub fn write_trace<W: Sink>(alloc: Global, trace: &Trace, out: &mut W) -> Result<(), PrintFault>
     ensures { Prints (defined.text_of trace.now) (result_err result) (W.failures out.old, W.taken out.old) (W.failures out.new, W.taken out.new) }
 {
-    prints_join();
-    match write_options(alloc, trace.options, out) {
-        Ok(()) => write_behind(alloc, trace, out),
-        Err(fault) => Err(fault),
-    }
+    write_run(
+        alloc,
+        trace.options,
+        trace.targets.as_slice(),
+        trace.events.as_slice(),
+        out,
+    )
 }

@@ -14,6 +14,8 @@ pub struct RunWords<'a> {
     pub keep: u32,
     /// The path of the build record.
     pub record: &'a str,
+    /// The path of the file that is to get the run's trace.
+    pub trace: Option<&'a str>,
     /// The names of the targets; none where the image's defaults are built.
     pub targets: Vec<&'a str>,
 }
@@ -41,6 +43,9 @@ const KEEP_HELP: &str =
 
 const RECORD_HELP: &str = "The build record, which is made where it is missing";
 
+const TRACE_HELP: &str =
+    "A file to write the run's trace to, when the last command has ended; `replay` reads it";
+
 const TARGETS_HELP: &str = "Files to build, in place of the image's defaults";
 
 /// The options of `run`.
@@ -61,7 +66,8 @@ fn options<'a>(alloc: Global, command: Command<'a>) -> Result<Command<'a>, Alloc
         .long("record")
         .default_value(".plan_record")
         .help(RECORD_HELP);
-    command.arg(jobs)?.arg(keep)?.arg(record)
+    let trace = Arg::new(alloc, "T").long("trace").help(TRACE_HELP);
+    command.arg(jobs)?.arg(keep)?.arg(record)?.arg(trace)
 }
 
 /// The command `run` and its arguments.
@@ -103,6 +109,7 @@ pub fn run_words<'a>(
         jobs,
         keep,
         record,
+        trace: found.get_str("T"),
         targets,
     }))
 }

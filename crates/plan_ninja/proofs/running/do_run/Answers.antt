@@ -4,18 +4,18 @@ use Rattle.plan_ninja.proofs.RunningLemmas.{run_done, run_refused, with_targets}
 use Rattle.plan_ninja.proofs.running.do_run.Goals as goal
 
 pub returns-in-Err-clause-refused : goal.returns-in-Err-clause-refused
-returns-in-Err-clause-refused g c = inl (refl, c.in-Err.ensures.refused)
+returns-in-Err-clause-refused g c = inl ((refl, refl), c.in-Err.ensures.refused)
 
 pub returns-clause-done : goal.returns-clause-done
 returns-clause-done g c =
-    run_done (g.S.Source.gives c.args.source.now) g.W.World.allows _ _ _ _ _ _ _ _
-    (with_targets (g.S.Source.gives c.args.source.now) _ _ _ _ _ _ _ c.deref.ensures.value c.in-Ok.ensures.opened)
+    run_done (g.S.Source.gives c.args.source.now) g.W.World.allows _ _ _ _ _ _
+    (with_targets (g.S.Source.gives c.args.source.now) _ _ _ _ _ c.as_slice-edges.ensures.value c.in-Ok.ensures.opened)
     c.run_lanes-ran.ensures.run c.run_lanes-ran.ensures.ended c.told-status.ensures.ended c.told-status.ensures.err
 
 pub returns-clause-refused : goal.returns-clause-refused
 returns-clause-refused g c =
     run_refused _ (g.S.Source.gives c.args.source.now)
     (IsMissing (g.S.Source.gives c.args.source.now) (g.S.Source.fails c.args.source.now) (g.S.Source.failures c.args.source.now) (g.S.Source.failures c.opened_at.new.source))
-    g.W.World.allows _ _ _ _ _ _ _ _
-    (with_targets (g.S.Source.gives c.args.source.now) _ _ _ _ _ _ _ c.deref.ensures.value c.in-Ok.ensures.opened)
+    g.W.World.allows _ _ _ _ _ _
+    (with_targets (g.S.Source.gives c.args.source.now) _ _ _ _ _ c.as_slice-edges.ensures.value c.in-Ok.ensures.opened)
     c.run_lanes-ran.ensures.run c.run_lanes-ran.ensures.ended c.run_lanes-ran.ensures.fault c.told-status.ensures.ended c.told-status.ensures.err c.told-status.ensures.some c.told-status.ensures.none

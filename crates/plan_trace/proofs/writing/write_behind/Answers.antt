@@ -9,5 +9,5 @@ returns-in-Ok g c =
     c.prints_join.ensures.join (g.W.Sink.failures c.args.out.now, g.W.Sink.taken c.args.out.now)
     (g.W.Sink.failures c.write_targets.new.out, g.W.Sink.taken c.write_targets.new.out)
     (g.W.Sink.failures c.write_events.new.out, g.W.Sink.taken c.write_events.new.out)
-    (flat_map target_line c.args.trace.now.targets) (flat_map event_line c.args.trace.now.events) (result_err c.write_events.result)
+    (flat_map target_line c.args.targets.now) (flat_map event_line c.args.events.now) (result_err c.write_events.result)
     (search rules) (search rules)
