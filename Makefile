@@ -71,6 +71,7 @@ tests: built
 	python3 tests/run_rows.py $(PROGRAM)
 	python3 tests/run_images.py $(PROGRAM)
 	python3 tests/run_compiled.py $(PROGRAM)
+	python3 tests/run_machine.py $(PROGRAM)
 	python3 tests/run_builds.py $(PROGRAM)
 	python3 tests/run_interrupted.py $(PROGRAM)
 	python3 tests/against_ninja.py $(PROGRAM)

@@ -11,7 +11,6 @@ The last line is `N passed, M failed`: edges.
 """
 import os
 import pathlib
-import random
 import sys
 import tempfile
 from collections.abc import Iterator
@@ -25,6 +24,7 @@ import reading
 import rule
 from image import SORTS, Edge, Image, code_of
 from random_builds import POOLS, Build, Writer
+from replies import Replies
 from rule import Facts, Made, Reply, Request, Source
 from running import Activity, Ended, Failed, Value
 
@@ -86,32 +86,6 @@ def table_faults(image: Image, known: Known) -> Iterator[str]:
         yield "a text stands twice"
     if len(image.edges) != len(known.builds):
         yield f"{len(image.edges)} edges, wanted {len(known.builds)}"
-
-
-class Replies:
-    """Replies by random numbers, mostly such that an edge goes on."""
-
-    def __init__(self, seed: int) -> None:
-        self.random = random.Random(seed)
-
-    def one_in(self, count: int) -> bool:
-        return self.random.randrange(count) == 0
-
-    def paths(self) -> tuple[bytes, ...]:
-        return tuple(b"h%d" % self.random.randrange(4) for _ in range(self.random.choice((0, 0, 1, 2, 5))))
-
-    def reply(self, request: Request, command: bytes) -> Reply:
-        word = request[0]
-        if self.one_in(60):
-            return ("fault",) if word != "run" else self.random.choice((("exit", 3), ("signal",), ("not started",)))
-        if word == "stat":
-            return "stamp", 0 if self.one_in(25) else self.random.randint(1, 6)
-        if word == "recall":
-            other = command if not self.one_in(6) else b"another"
-            return ("none",) if self.one_in(8) else ("entry", other, self.random.randint(0, 7), self.paths())
-        if word == "deps":
-            return ("none",) if self.one_in(6) else ("bytes", b"o:" + b"".join(b" " + path for path in self.paths()))
-        return ("exit", 0) if word == "run" else ("kept",)
 
 
 class Run:
