@@ -130,7 +130,9 @@ def faults_of(rule: Rule, functions: Functions) -> Iterator[str]:
     built = fitting(rule.parts.get("builds", ""), run_builds.names())
     yield from (f"no build {pattern}" for pattern, found in built if not found)
     for crate, text in rule.groups("tests"):
-        content = "".join(path.read_text() for path in ROOT.glob(f"crates/{crate}/src/**/*.rt"))
+        own = ROOT.glob(f"crates/{crate}/src/**/*.rt")
+        apart = ROOT.glob(f"crates/plan_tests_*/src/{crate.removeprefix('plan_')}.rt")
+        content = "".join(path.read_text() for path in (*own, *apart))
         yield from (f"no test {name} in {crate}" for name in re.findall(r"\w+", text) if f"fn {name}(" not in content)
     for crate, _ in rule.groups("examples"):
         if not (ROOT / "crates" / crate / "proofs" / "Rows.antt").is_file():

@@ -1,4 +1,4 @@
-"""CMake projects of this repository's own that can be built: what a build of them makes depends on each source."""
+"""Projects of this repository's own that can be built by CMake and Meson: what a build makes depends on each source."""
 import trees
 
 TOP = """\
@@ -82,8 +82,24 @@ def many() -> dict[str, str]:
     return files
 
 
+MESON = """\
+project('built', 'c', 'cpp', version: '1.0')
+settings = configure_file(output: 'settings.h', configuration: {'SETTING': '"' + get_option('buildtype') + '"'})
+headers = include_directories('include', '.')
+maker = executable('maker', 'maker.c', native: true)
+made = custom_target('made', output: 'made.h', input: 'numbers.txt', command: [maker, '@INPUT@', '@OUTPUT@'])
+copied = custom_target('copied', output: 'copied.h', input: 'given.h', command: ['cp', '@INPUT@', '@OUTPUT@'])
+first = static_library('first', 'one.c', 'two.c', made, settings, include_directories: headers)
+second = shared_library('second', 'three.c', copied, include_directories: headers, install: true)
+program = executable('program', 'main.c', 'four.cc', link_with: [first, second], include_directories: headers,
+  install: true)
+test('runs', program)
+"""
+
 ONE = {"CMakeLists.txt": TOP, **SOURCES}
+ONE_BY_MESON = {"meson.build": MESON, **SOURCES}
 tree = trees.of_tool("cmake")
+by_meson = trees.of_tool("meson")
 TREES = [
     tree("built", ONE, short=True),
     tree("built, Release", ONE, "-DCMAKE_BUILD_TYPE=Release"),
@@ -91,4 +107,7 @@ TREES = [
     tree("built by unity", ONE, "-DCMAKE_UNITY_BUILD=ON"),
     tree("many", many(), short=True),
     tree("many, -O2", many(), "-DCMAKE_C_FLAGS=-O2"),
+    by_meson("built", ONE_BY_MESON, short=True),
+    by_meson("built, release, static", ONE_BY_MESON, "--buildtype=release", "--default-library=static"),
+    by_meson("built in unity", ONE_BY_MESON, "-Dunity=on"),
 ]

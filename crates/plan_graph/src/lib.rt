@@ -21,6 +21,3 @@ pub use laws::{
     defaults_ascend, files_complete, files_distinct, producers_numbered, producers_waited,
     ranked_unless_cyclic, ranks_rise, waits_ascend,
 };
-
-#[cfg(test)]
-mod tests;

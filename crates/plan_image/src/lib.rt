@@ -36,6 +36,3 @@ pub use lister::{WriteFault, listing};
 pub use makers::edge_of;
 pub use reading::read_image;
 pub use writing::write_image;
-
-#[cfg(test)]
-mod tests;

@@ -22,6 +22,3 @@ pub use board::{Advance, Board, Report};
 pub use fault::LaneFault;
 pub use lanes::run_lanes;
 pub use world::{Permit, World};
-
-#[cfg(test)]
-mod tests;

@@ -45,6 +45,3 @@ pub use replaying::replay;
 pub use reply::{Depfile, Recorded, Reply};
 pub use request::{Outputs, Request};
 pub use state::State;
-
-#[cfg(test)]
-mod tests;

@@ -27,6 +27,3 @@ pub use parser::parse;
 pub use path_lists::PathLists;
 pub use span::Span;
 pub use statement::{Binding, Build, Pool, Rule, Statement, StatementKind};
-
-#[cfg(test)]
-mod tests;

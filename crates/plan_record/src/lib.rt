@@ -16,6 +16,3 @@ pub use laws::entry_law;
 pub use paths::Paths;
 pub use record::{Record, load};
 pub use writing::{WriteFault, append};
-
-#[cfg(test)]
-mod tests;

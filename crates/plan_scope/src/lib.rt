@@ -16,6 +16,3 @@ pub use manifest::{DefaultTarget, Edge, Manifest, Pool};
 pub use tree::loader::load;
 pub use tree::source::{Source, SourceFault};
 pub use tree::{File, Tree, TreeStatement};
-
-#[cfg(test)]
-mod tests;

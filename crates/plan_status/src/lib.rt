@@ -19,6 +19,3 @@ pub use fault::PrintFault;
 pub use laws::{lines_join, prints_join};
 pub use outcomes::{all_done, print_outcomes};
 pub use printing::{print, status_lines};
-
-#[cfg(test)]
-mod tests;

@@ -62,6 +62,3 @@ pub use run_reader::{Unit, run_len};
 pub use sink::{Sink, SinkFault, write_all};
 pub use small_text::SmallText;
 pub use tally::Tally;
-
-#[cfg(test)]
-mod tests;

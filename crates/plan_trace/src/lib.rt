@@ -23,6 +23,3 @@ pub use laws::traces_are_spelled_once;
 pub use reading::read_trace;
 pub use trace::Trace;
 pub use writing::{write_run, write_trace};
-
-#[cfg(test)]
-mod tests;

@@ -36,6 +36,3 @@ pub use shape::Shape;
 pub use slot_set::SlotSet;
 pub use value::{Cause, PathList, Value, Words};
 pub use verified::{Verified, verify};
-
-#[cfg(test)]
-mod tests;

@@ -1,6 +1,6 @@
 //! Each public function once, on manifests from outside.
 
-use super::*;
+use plan_graph::*;
 use plan_scope::{Manifest, Source, SourceFault, evaluate, load};
 use plan_text::RowList;
 use std::alloc::Global;

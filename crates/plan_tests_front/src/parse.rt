@@ -1,6 +1,6 @@
 //! Manifests from outside: the examples of the manual and of ninja's own tests, and refusals of each sort.
 
-use super::*;
+use plan_parse::*;
 use plan_text::{Items, Piece, PieceList, TextFault};
 use std::alloc::{AllocError, Global};
 use std::test::Fail;

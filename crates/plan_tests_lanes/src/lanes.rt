@@ -1,7 +1,7 @@
 //! Runs of small images over worlds made for tests, and each public function once.
 
-use super::*;
 use plan_image::{Edge, EdgeCode, Edges, Image, Instr, Parts, Sort};
+use plan_lanes::*;
 use plan_machine::{Mark, Options, Outcome, Refused, Reply};
 use plan_text::{Items, RowList};
 use plan_verify::{PathList, Verified, verify};

@@ -1,6 +1,6 @@
 //! Each public function once, on values from outside.
 
-use super::*;
+use plan_record::*;
 use plan_text::{Counted, Items, Memory};
 use std::alloc::Global;
 use std::io::{self, Write};

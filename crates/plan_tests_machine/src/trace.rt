@@ -1,9 +1,9 @@
 //! Each public function once, on texts from outside.
 
-use super::*;
 use plan_machine::{Event, Options, Reply};
 use plan_status::PrintFault;
 use plan_text::{Counted, Items};
+use plan_trace::*;
 use std::alloc::Global;
 use std::io::{self, Write};
 use std::test::Fail;

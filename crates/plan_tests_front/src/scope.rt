@@ -1,6 +1,6 @@
 //! Each public function once, on files and trees from outside.
 
-use super::*;
+use plan_scope::*;
 use plan_text::{Counted, Items, SmallText};
 use std::alloc::Global;
 use std::test::Fail;

@@ -1,10 +1,10 @@
 //! Each public function once, on images made by hand.
 
-use super::*;
 use plan_image::{
     Edge, EdgeCode, Edges, Image, Instr, Kind, Parts, Pool, Slot, Sort, split, write_image,
 };
 use plan_text::{Items, Memory, RowList};
+use plan_verify::*;
 use std::alloc::{AllocError, Global};
 use std::test::Fail;
 

@@ -1,8 +1,8 @@
 //! Each public function once, on an image made by hand.
 
-use super::*;
 use plan_image::{Edge, EdgeCode, Edges, Image, Instr, Parts, Sort};
 use plan_machine::{Cause, Event, Mark, Options, State, replay};
+use plan_status::*;
 use plan_text::{Counted, Items, RowList};
 use plan_verify::{Verified, verify};
 use std::alloc::{AllocError, Global};

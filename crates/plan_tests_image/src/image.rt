@@ -1,6 +1,6 @@
 //! Each public function once, on values from outside.
 
-use super::*;
+use plan_image::*;
 use plan_text::{Counted, Items, RowList};
 use std::alloc::Global;
 use std::io::{self, Write};

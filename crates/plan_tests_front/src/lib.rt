@@ -1,0 +1,12 @@
+//! The tests of plan_text, plan_parse, plan_scope and plan_graph. They stand apart from the code, since a
+//! crate with tests is proved twice.
+#![tactic(auto)]
+
+#[cfg(test)]
+mod graph;
+#[cfg(test)]
+mod parse;
+#[cfg(test)]
+mod scope;
+#[cfg(test)]
+mod text;
