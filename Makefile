@@ -7,13 +7,13 @@ SHELL = /bin/bash -o pipefail
 
 .PHONY: help
 help:
-	@echo "make          proves and builds the program ($(PROGRAM)); from nothing some 40 minutes on 4 cores"
+	@echo "make          proves and builds the program ($(PROGRAM)); from nothing some 50 minutes on 4 cores"
 	@echo "make demo     runs the program, not yet proved, on examples/demo/build.ninja; from nothing about a minute"
 	@echo "make quick    proves one crate, or one module of it (CRATE=plan_text ONLY=path); 5 to 60 seconds for a module"
 	@echo "make rows     runs the rows of the built program, or some (NAMES='tab_* scopes/*'); half a minute"
 	@echo "make tests    the tests of the built program, without proofs: documents, rows, builds, ninja, memory, trees; 2 to 3 minutes"
 	@echo "make check    the whole gate: proofs, must-fail edits and these tests; docs/PROOF_NOTES.md has its time"
-	@echo "make edits    tries the must-fail edits that the gate leaves out (CRATES=plan_text for one crate); up to an hour"
+	@echo "make edits    tries the must-fail edits that the gate leaves out (CRATES=plan_text for one crate); 5 to 40 minutes a crate"
 	@echo "make real     compares commands and builds of CMake's and Meson's trees with ninja's, upstream projects too; half an hour"
 	@echo "make bench    times the program beside ninja and make, and on hostile manifests; some minutes"
 	@echo "make install  copies the program to PREFIX/bin (PREFIX is $(PREFIX))"
@@ -38,7 +38,7 @@ built: python
 # Builds the proved program.
 .PHONY: all
 all: kit
-	@echo "proving and building: from nothing some 40 minutes on 4 cores, less where earlier checks are kept" >&2
+	@echo "proving and building: from nothing some 50 minutes on 4 cores, less where earlier checks are kept" >&2
 	@cd crates/plan_ninja && rt run -- --help > /dev/null
 	@echo "built and proved: $(PROGRAM)"
 
