@@ -1,6 +1,6 @@
 //! Each public function once, on edges made by hand.
 
-use plan_compile::*;
+use super::*;
 use plan_image::{Edge, EdgeCode, Edges, Image, Instr, Kind, Parts, Slot, Sort, split};
 use plan_text::{Items, RowList};
 use plan_verify::{VerifyFault, verify};

@@ -1,6 +1,0 @@
-//! The tests of plan_compile. They stand apart from the code, since a
-//! crate with tests is proved twice.
-#![tactic(auto)]
-
-#[cfg(test)]
-mod compile;
