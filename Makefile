@@ -11,7 +11,7 @@ help:
 	@echo "make demo     runs the program, not yet proved, on examples/demo/build.ninja; from nothing about a minute"
 	@echo "make quick    proves one crate, or one module of it (CRATE=plan_text ONLY=path); 5 to 60 seconds for a module"
 	@echo "make rows     runs the rows of the built program, or some (NAMES='tab_* scopes/*'); half a minute"
-	@echo "make tests    the tests of the built program, without proofs: documents, rows, builds, ninja, memory, trees; 2 to 3 minutes"
+	@echo "make tests    the tests of the built program, without proofs: documents, rows, builds, ninja, memory, trees; 3 to 5 minutes"
 	@echo "make check    the whole gate: proofs, must-fail edits and these tests; docs/PROOF_NOTES.md has its time"
 	@echo "make edits    tries the must-fail edits that the gate leaves out (CRATES=plan_text for one crate); 5 to 40 minutes a crate"
 	@echo "make real     compares commands and builds of CMake's and Meson's trees with ninja's, upstream projects too; half an hour"
@@ -72,8 +72,10 @@ tests: built
 	python3 tests/run_images.py $(PROGRAM)
 	python3 tests/run_compiled.py $(PROGRAM)
 	python3 tests/run_machine.py $(PROGRAM)
+	python3 tests/run_orders.py $(PROGRAM)
 	python3 tests/run_builds.py $(PROGRAM)
 	python3 tests/run_interrupted.py $(PROGRAM)
+	python3 tests/run_twice.py $(PROGRAM)
 	python3 tests/against_ninja.py $(PROGRAM)
 	python3 tests/fail_alloc.py $(PROGRAM)
 	python3 tests/real/real.py --short $(PROGRAM)

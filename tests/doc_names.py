@@ -32,7 +32,7 @@ FOREIGN: dict[str, set[str]] = {
     "DECISIONS.md": {"ninja_required_version"},
     "PROOF_NOTES.md": {  # of the toolchain, or in forms that it refuses
         "AllClonesOf", "at_exit", "into_iter_items", "result_unwrap_or", "on_err", "ord_max", "serde_json",
-        "slice_get_cases", "with_x"},
+        "with_x"},
 }
 
 

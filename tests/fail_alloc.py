@@ -135,7 +135,7 @@ class Trial(NamedTuple):
 
 
 def trials() -> Iterator[Trial]:
-    """The trees for both commands that read manifests, each image in both versions for two others, and a run."""
+    """The trees for both commands that read manifests, each image in both versions for two others, and runs."""
     for files, said in TREES:
         texts = {name: text.encode() for name, text in files.items()}
         yield Trial(["commands", "build.ninja"], texts, said)
@@ -150,6 +150,11 @@ def trials() -> Iterator[Trial]:
     for line, said in ((b"step 1", b"110 NotEnabled at event 22"), (b"step", b"130 BadTrace at line 25")):
         files = {**replayed, "run.trace": TRACE + line + b"\n"}
         yield Trial(["replay", "plan.img", "run.trace"], files, b"plan: " + said + b"\n")
+    whole = TRACE.replace(b"target 1\n", b"")
+    for other, said in ((whole, b""), (whole + b"step 1\n", b"plan: 110 NotEnabled at event 44\n"),
+                        (TRACE, b"plan: 134 TracesDiffer\n")):
+        files = {**replayed, "run.trace": whole, "other.trace": other}
+        yield Trial(["replay", "plan.img", "run.trace", "other.trace"], files, said)
 
 
 def run(command: list[str], library: pathlib.Path, folder: pathlib.Path, refused: int) -> tuple[Ended, int]:

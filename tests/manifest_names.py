@@ -131,7 +131,8 @@ def faults_of(rule: Rule, functions: Functions) -> Iterator[str]:
     yield from (f"no build {pattern}" for pattern, found in built if not found)
     for crate, text in rule.groups("tests"):
         own = ROOT.glob(f"crates/{crate}/src/**/*.rt")
-        apart = ROOT.glob(f"crates/plan_tests_*/src/{crate.removeprefix('plan_')}.rt")
+        name = crate.removeprefix("plan_")
+        apart = [*ROOT.glob(f"crates/plan_tests_*/src/{name}.rt"), *ROOT.glob(f"crates/plan_tests_{name}/src/*.rt")]
         content = "".join(path.read_text() for path in (*own, *apart))
         yield from (f"no test {name} in {crate}" for name in re.findall(r"\w+", text) if f"fn {name}(" not in content)
     for crate, _ in rule.groups("examples"):

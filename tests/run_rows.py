@@ -32,7 +32,7 @@ from collections.abc import Iterator, Sequence
 import programs
 
 ROWS = pathlib.Path(__file__).resolve().parent / "rows"
-LAYERS = ("text", "statements", "scopes", "edges", "graphs", "compile", "replay", "program")
+LAYERS = ("text", "statements", "scopes", "edges", "graphs", "compile", "replay", "compare", "program")
 PARTS = {"files", "files.py", "args", "stdout", "stderr", "stdout.has", "stderr.has", "stdout.to", "status", "left"}
 SECONDS = 60
 CLOSED = ["sh", "-c", 'exec "$0" "$@" >&-']  # a command without standard output

@@ -54,7 +54,7 @@ module _ (rule : Rule) (numbers : List ℕ) (r next : Running) (b : Progress) (e
   abbrev More : List Event
   More = b.journal ++ event ∷ []
 
-  module _ (long : length b.state.edges ≡ length b.opened.parts.edges) (alone : MovesAlone b.state next.going.now (edge_of event) told) where
+  module _ (long : length b.state.edges ≡ length b.opened.parts.edges) (alone : MovesAlone b.state next.going.now (edge_of event) (slice_get b.state.edges (edge_of event)) told) where
     other : (e : ℕ) (l : Local) → slice_get next.going.now.edges e ≡ Some (Active l) → e ≢ edge_of event → (n : ℕ) × (slice_get Numbers e ≡ Some n) × IsLastOf e n More
     other e l active apart =
         let was : slice_get b.state.edges e ≡ Some (Active l) =

@@ -1,20 +1,109 @@
--- What a board was opened with stays.
-use Rattle.std.proofs.Common.{◌≡◌, ap}
+-- What lies under the lock keeps. Serves src/desk.rt and src/lanes.rt.
+use Rattle.std.proofs.Common.{◌≡◌, ℕ, List, [], ◌∷◌, ◌++◌, Option, Some, None, refl, sym, ap, subst, ◌∙◌}
+use Rattle.std.specs.Prelude.{IfOk, OnErr, Result, Ok, Err}
+use Rattle.plan_image.specs.declared.image.Parts.{Parts}
 use Rattle.plan_machine.specs.declared.event.Event.{Event}
 use Rattle.plan_machine.specs.declared.mark.Mark.{Mark}
+use Rattle.plan_machine.specs.declared.refused.Refused.{Refused}
+use Rattle.plan_machine.specs.Depfile.{depfile}
+use Rattle.plan_machine.specs.State.{State}
+use Rattle.plan_machine.specs.Total.{total_of}
+use Rattle.plan_status.specs.declared.feed.Feed.{Feed}
+use Rattle.plan_status.specs.declared.showing.Showing.{Showing}
+use Rattle.plan_status.specs.Live.{FeedsJoin, IsFed, IsShowing, SameFeed, ShowingStays}
 use Rattle.plan_lanes.specs.declared.board.Advance.{Advance}
 use Rattle.plan_lanes.specs.declared.board.Advance.TheVariants.{Moved, Job, Wait, Ended}
+use Rattle.plan_lanes.specs.declared.board.Report.{Report}
+use Rattle.plan_lanes.specs.declared.fault.LaneFault.{LaneFault}
+use Rattle.plan_lanes.specs.declared.fault.LaneFault.TheVariants.{Opening, NotEnabled, NoMemory, NoLane, OtherBoard}
 use Rattle.plan_lanes.specs.Advances.{Advances}
 use Rattle.plan_lanes.specs.Boards.{Applies}
-use Rattle.plan_lanes.specs.Progress.{Progress}
+use Rattle.plan_lanes.specs.Desks.{FaultIsFed, IsDesk, IsLeft, IsNamed, ReportIsFed, Shows}
+use Rattle.plan_lanes.specs.Faults.{FaultReports, report_of}
+use Rattle.plan_lanes.specs.Journals.{Rule}
+use Rattle.plan_lanes.specs.Progress.{Opened, Progress}
+use Rattle.plan_lanes.specs.Reports.{IsRunOf}
+use Rattle.plan_lanes.proofs.RunLemmas.{total_stays}
+
+-- ---- one event more
+
+shows_after : ShowingStays → (named : Option Feed) (old new : Progress) (event : Event) (told : Mark) (s : Showing) → Applies old new event told → Shows named old s → Shows named new s
+shows_after stays named old new event told s h shows =
+    let parts : old.opened.parts ≡ new.opened.parts = ap (λ (o : Opened). o.parts) (sym h.opened) in
+    let on : IsShowing old.opened.parts (old.marks ++ told ∷ []) s = stays old.opened.parts old.marks (told ∷ []) s shows.lines in
+    let marked : IsShowing old.opened.parts new.marks s = subst (λ (ms : List Mark). IsShowing old.opened.parts ms s) (sym h.marks) on in
+    record {
+      lines = subst (λ (p : Parts). IsShowing p new.marks s) parts marked;
+      total = shows.total ∙ (sym (total_stays depfile old.opened.parts old.opened.limits old.state new.state event told h.next) ∙ ap (λ (p : Parts). total_of p new.state) parts);
+      feed = shows.feed;
+    }
+
+pub desk_after : ShowingStays → (run : Opened) (named : Option Feed) (old new : Progress) (event : Event) (told : Mark) (showing : Option Showing) → Applies old new event told → IsDesk run named old showing → IsDesk run named new showing
+desk_after stays run named old new event told None h desk = record { run = h.opened ∙ desk.run; there = desk.there; shows = desk.shows }
+desk_after stays run named old new event told (Some s) h desk =
+    record { run = h.opened ∙ desk.run; there = desk.there; shows = shows_after stays named old new event told s h desk.shows }
+
+pub desk_same : (run : Opened) (named : Option Feed) (old new : Progress) (showing : Option Showing) → new ≡ old → IsDesk run named old showing → IsDesk run named new showing
+desk_same run named old new showing same desk = subst (λ (b : Progress). IsDesk run named b showing) (sym same) desk
 
 -- after an advance
-pub advance_stays : (old new : Progress) (a : Advance) → Advances old new a → new.opened ≡ old.opened
-advance_stays old new Moved h = h.1.applies.opened
-advance_stays old new (Job e q p) h = h.1.applies.opened
-advance_stays old new Wait h = ap (λ (b : Progress). b.opened) h.0
-advance_stays old new Ended h = ap (λ (b : Progress). b.opened) h.0
+pub desk_advanced : ShowingStays → (run : Opened) (named : Option Feed) (old new : Progress) (a : Advance) (showing : Option Showing) → Advances old new a → IsDesk run named old showing → IsDesk run named new showing
+desk_advanced stays run named old new Moved showing h desk = desk_after stays run named old new h.0 h.1.mark showing h.1.applies desk
+desk_advanced stays run named old new (Job e q p) showing h desk = desk_after stays run named old new h.0 h.1.mark showing h.1.applies desk
+desk_advanced stays run named old new Wait showing h desk = desk_same run named old new showing h.0 desk
+desk_advanced stays run named old new Ended showing h desk = desk_same run named old new showing h.0 desk
 
--- and after an event
-pub answer_stays : (old new : Progress) (event : Event) (told : Mark) → Applies old new event told → new.opened ≡ old.opened
-answer_stays old new event told h = h.opened
+pub advanced_so : ShowingStays → (run : Opened) (named : Option Feed) (old new : Progress) (result : Result Advance Refused) (showing : Option Showing)
+    → IfOk result (λ a. Advances old new a) → OnErr result (new ≡ old) → IsDesk run named old showing → IsDesk run named new showing
+advanced_so stays run named old new (Ok a) showing ok err desk = desk_advanced stays run named old new a showing ok desk
+advanced_so stays run named old new (Err refused) showing ok err desk = desk_same run named old new showing err desk
+
+pub answered_so : ShowingStays → (run : Opened) (named : Option Feed) (old new : Progress) (event : Event) (also : Type 0) (result : Result Mark Refused) (showing : Option Showing)
+    → IfOk result (λ told. Applies old new event told × also) → OnErr result (new ≡ old) → IsDesk run named old showing → IsDesk run named new showing
+answered_so stays run named old new event also (Ok told) showing ok err desk = desk_after stays run named old new event told showing ok.0 desk
+answered_so stays run named old new event also (Err refused) showing ok err desk = desk_same run named old new showing err desk
+
+-- ---- feeds
+
+same_self : (f : Feed) → SameFeed f f
+same_self f = ((refl, refl, refl, refl), refl)
+
+-- a feed that is named stays the one
+pub named_on : FeedsJoin → (named : Option Feed) (f g : Feed) → IsNamed named f → SameFeed f g → IsNamed named g
+named_on joins None f g is same = tt
+named_on joins (Some named) f g is same = joins named f g is same
+
+-- nothing is shown yet
+pub desk_begins : (run : Opened) (b : Progress) (s : Showing) → b.opened ≡ run → IsShowing b.opened.parts b.marks s → s.total ≡ total_of b.opened.parts b.state → IsDesk run (Some s.feed) b (Some s)
+desk_begins run b s is lines total = record { run = is; there = refl; shows = record { lines = lines; total = total; feed = same_self s.feed } }
+
+pub desk_silent : (run : Opened) (b : Progress) → b.opened ≡ run → IsDesk run None b None
+desk_silent run b is = record { run = is; there = refl; shows = tt }
+
+-- ---- what is left
+
+-- a fault with a report
+pub fault_reports : (rule : Rule) (o : Opened) (r : Report) (f : LaneFault) → report_of f ≡ Some r → IsRunOf rule o r → FaultReports rule o f
+fault_reports rule o r (Opening refused) is run = absurd cc
+fault_reports rule o r (NotEnabled s) is run = let same : s ≡ r = cc in subst (IsRunOf rule o) (sym same) run
+fault_reports rule o r (NoMemory s) is run = let same : s ≡ r = cc in subst (IsRunOf rule o) (sym same) run
+fault_reports rule o r (NoLane s) is run = let same : s ≡ r = cc in subst (IsRunOf rule o) (sym same) run
+fault_reports rule o r (OtherBoard s) is run = let same : s ≡ r = cc in subst (IsRunOf rule o) (sym same) run
+
+pub fault_is_fed : (o : Opened) (r : Report) (f : LaneFault) (feed : Feed) → report_of f ≡ Some r → ReportIsFed o r feed → FaultIsFed o f feed
+fault_is_fed o r (Opening refused) feed is fed = absurd cc
+fault_is_fed o r (NotEnabled s) feed is fed = let same : s ≡ r = cc in subst (λ (x : Report). ReportIsFed o x feed) (sym same) fed
+fault_is_fed o r (NoMemory s) feed is fed = let same : s ≡ r = cc in subst (λ (x : Report). ReportIsFed o x feed) (sym same) fed
+fault_is_fed o r (NoLane s) feed is fed = let same : s ≡ r = cc in subst (λ (x : Report). ReportIsFed o x feed) (sym same) fed
+fault_is_fed o r (OtherBoard s) feed is fed = let same : s ≡ r = cc in subst (λ (x : Report). ReportIsFed o x feed) (sym same) fed
+
+-- what showed a run has the lines of its report
+pub left_of : (run : Opened) (named : Option Feed) (b : Progress) (r : Report) (s : Showing) → b.opened ≡ run → r.state.going.now ≡ b.state → r.marks.items ≡ b.marks → Shows named b s → IsLeft run named r s
+left_of run named b r s is state marks shows = record {
+  fed =
+      subst (λ (o : Opened). ReportIsFed o r s.feed) is
+      (subst (λ (t : State). IsFed b.opened.parts (total_of b.opened.parts t) r.marks.items s.feed) (sym state)
+      (subst (λ (ms : List Mark). IsFed b.opened.parts (total_of b.opened.parts b.state) ms s.feed) (sym marks)
+      (subst (λ (n : ℕ). IsFed b.opened.parts n b.marks s.feed) shows.total shows.lines.fed)));
+  feed = shows.feed;
+}

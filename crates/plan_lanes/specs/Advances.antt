@@ -1,5 +1,5 @@
 -- What an advance does.
-use Rattle.std.specs.Prelude.{◌≡◌, true, Option, Some, None, is_some, length}
+use Rattle.std.specs.Prelude.{◌≡◌, true, Option, Some, None, IfSome, is_some, length}
 use Rattle.plan_machine.specs.declared.event.Event.{Event}
 use Rattle.plan_machine.specs.declared.mark.Mark.{Mark}
 use Rattle.plan_machine.specs.Edges.{edge_of}
@@ -9,6 +9,7 @@ use Rattle.plan_machine.specs.Picking.{IsEnabled}
 use Rattle.plan_image.specs.declared.image.Parts.{Parts}
 use Rattle.plan_machine.specs.Requests.{Asks, AsksNothing, asked_at}
 use Rattle.plan_machine.specs.State.{has_ended}
+use Rattle.plan_status.specs.Consoles.{is_console}
 use Rattle.plan_lanes.specs.declared.asked.Asked.{Asked}
 use Rattle.plan_lanes.specs.declared.board.Advance.{Advance}
 use Rattle.plan_lanes.specs.declared.board.Advance.TheVariants.{Moved, Job, Wait, Ended}
@@ -23,7 +24,7 @@ pub record Goes (old new : Progress) (event : Event) : Type 0 where
   pub applies : Applies old new event mark
 
 -- What one advance did. `Moved`: an event that doesn't ask. `Job`: one that asks just this question; a permit comes
--- with a Run alone. `Wait`: nothing, since no start, skip, stop or step is enabled, and an edge awaits a reply.
+-- with a Run alone, and says whether the edge is a console edge. `Wait`: nothing, since no start, skip, stop or step is enabled, and an edge awaits a reply.
 -- `Ended`: nothing, since the run has ended.
 abbrev pub Advances : Progress → Progress → Advance → Type 0
 Advances old new Moved = (event : Event) × Goes old new event × AsksNothing old.opened.parts (going_of old) event
@@ -32,6 +33,7 @@ Advances old new (Job e question permit) =
     × (asked_at new.opened.parts new.state e ≡ Some (shown question.request))
     × (question.number ≡ length old.journal)
     × (is_some permit ≡ is_run (shown question.request))
+    × IfSome permit (λ x. x.console ≡ is_console old.opened.parts e)
 Advances old new Wait = (new ≡ old) × ((event : Event) → is_own event ≡ true → IsEnabled old.opened.parts (going_of old) event → ⊥) × Awaits old.state
 Advances old new Ended = (new ≡ old) × (has_ended old.state ≡ true)
 

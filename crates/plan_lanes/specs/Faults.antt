@@ -1,8 +1,9 @@
 -- Why no whole run is reported.
-use Rattle.std.specs.Prelude.{◌≡◌, ℕ, true, false}
+use Rattle.std.specs.Prelude.{◌≡◌, ℕ, true, false, Option, Some, None}
 use Rattle.plan_machine.specs.declared.refused.Refused.TheVariants as refused
 use Rattle.plan_machine.specs.Faults.{number_of as refusal_number}
 use Rattle.plan_machine.specs.Wanted.{any_outside}
+use Rattle.plan_lanes.specs.declared.board.Report.{Report}
 use Rattle.plan_lanes.specs.declared.fault.LaneFault.{LaneFault}
 use Rattle.plan_lanes.specs.declared.fault.LaneFault.TheVariants.{Opening, NotEnabled, NoMemory, NoLane, OtherBoard}
 use Rattle.plan_lanes.specs.Journals.{Rule}
@@ -18,6 +19,14 @@ FaultReports rule o (NotEnabled r) = IsRunOf rule o r
 FaultReports rule o (NoMemory r) = IsRunOf rule o r
 FaultReports rule o (NoLane r) = IsRunOf rule o r
 FaultReports rule o (OtherBoard r) = IsRunOf rule o r
+
+-- the report that comes with a fault
+abbrev pub report_of : LaneFault → Option Report
+report_of (Opening refused) = None
+report_of (NotEnabled r) = Some r
+report_of (NoMemory r) = Some r
+report_of (NoLane r) = Some r
+report_of (OtherBoard r) = Some r
 
 abbrev pub number_of : LaneFault → ℕ
 number_of (Opening refusal) = refusal_number refusal

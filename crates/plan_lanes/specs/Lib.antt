@@ -6,3 +6,4 @@ pub mod Boards
 pub mod Advances
 pub mod Reports
 pub mod Faults
+pub mod Desks

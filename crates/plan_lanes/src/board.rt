@@ -1,6 +1,6 @@
 //! What lanes share: the run so far.
 
-ghost use Rattle.std.specs.Prelude.{◌≡◌, ◌≢◌, ◌⊎◌, ◌↔◌, ◌∷◌, [], ◌++◌, IfErr, IfOk, IsTrue, OnErr, OnOk, false, is_some, length, slice_set, true};
+ghost use Rattle.std.specs.Prelude.{◌≡◌, ◌≢◌, ◌⊎◌, ◌↔◌, ◌∷◌, [], ◌++◌, IfErr, IfOk, IfSome, IsTrue, OnErr, OnOk, false, is_some, length, slice_set, true};
 ghost use Rattle.plan_image.specs.declared.image.Parts.{Parts};
 ghost use Rattle.plan_machine.specs.declared.event.Event.TheVariants.{Reply as Hear};
 ghost use Rattle.plan_machine.specs.Depfile.{depfile};
@@ -9,7 +9,9 @@ ghost use Rattle.plan_machine.specs.NeverStuck.{CanGo, is_own};
 ghost use Rattle.plan_machine.specs.Picking.{IsEnabled};
 ghost use Rattle.plan_machine.specs.Requests.{Asks};
 ghost use Rattle.plan_machine.specs.Step.{NotEnabled, step};
+ghost use Rattle.plan_machine.specs.Total.{total_of};
 ghost use Rattle.plan_machine.specs.Wanted.{any_outside};
+ghost use Rattle.plan_status.specs.Consoles.{is_console};
 ghost use Rattle.plan_lanes.specs.Advances.{Advances, WouldAsk};
 ghost use Rattle.plan_lanes.specs.Boards.{Applies, IsFresh, IsOpen, MayJournal};
 ghost use Rattle.plan_lanes.specs.Journals.{IsLastOf};
@@ -23,6 +25,7 @@ use plan_machine::{
     Event, Mark, Options, Refused, Reply, State, depfiles_are_frugal, marks_are_orderly,
     never_wrong, stays_in_budget,
 };
+use plan_status::is_console;
 use plan_verify::Verified;
 use std::alloc::{AllocError, Global};
 use std::marker::{Model, PhantomData};
@@ -96,11 +99,12 @@ fn put(numbers: &mut Vec<u64>, at: usize, number: u64)
 }
 
 /// The leave to run an edge's command, where that is what it asks.
-fn permit_for(edge: u32, request: &Asked) -> Option<Permit>
-    ensures { is_some result ≡ is_run (shown request.now) }
+fn permit_for(image: &Verified, edge: u32, request: &Asked) -> Option<Permit>
+    ensures run { is_some result ≡ is_run (shown request.now) }
+    ensures console { IfSome result (λ p. p.console ≡ is_console image.now edge) }
 {
     match request {
-        Asked::Run(..) => Some(Permit::new(edge)),
+        Asked::Run(..) => Some(Permit::new(edge, is_console(image, edge))),
         _ => None,
     }
 }
@@ -132,6 +136,27 @@ impl<'v, W: World> Board<'v, W> {
             numbers,
             world: PhantomData,
         })
+    }
+
+    /// The image.
+    pub fn image(&self) -> &Verified
+        ensures { result.now ≡ self.now.opened.parts }
+    {
+        self.image
+    }
+
+    /// The marks of the events so far.
+    pub fn marks(&self) -> &[Mark]
+        ensures { result.now ≡ self.now.marks }
+    {
+        &self.marks
+    }
+
+    /// How many edges have a command and are wanted.
+    pub fn total(&self) -> u64
+        ensures { result ≡ total_of self.now.opened.parts self.now.state }
+    {
+        self.state.total()
     }
 
     /// Applies one event and journals it with its mark. A refusal changes nothing.
@@ -173,13 +198,14 @@ impl<'v, W: World> Board<'v, W> {
         ensures memory { IfErr result (λ r. r ≡ Refused.Memory) }
     {
         let asked = self.question(&event)?;
+        let image = self.image;
         let edge = edge_of(&event);
         let number = self.journal.len() as u64;
         self.record(event)?;
         match asked {
             None => Ok(Advance::Moved),
             Some(request) => {
-                let permit = permit_for(edge, &request);
+                let permit = permit_for(image, edge, &request);
                 Ok(Advance::Job(edge, Question { number, request }, permit))
             }
         }

@@ -1,23 +1,31 @@
 //! What lies under the lanes' lock.
 
-ghost use Rattle.std.specs.Prelude.{◌≡◌, IfErr, IfOk, OnErr};
+ghost use Rattle.plan_lanes.specs.Desks.{IsDesk};
 ghost use Rattle.plan_lanes.specs.Questions.{shown};
 
 use crate::asked::Question;
 use crate::board::{Advance, Board};
 use crate::world::World;
 use plan_machine::{Refused, Reply};
-use std::marker::{Brand, PhantomData};
+use plan_status::{Showing, ends_stay, marks_may_come};
+use std::marker::{Brand, Model, PhantomData};
 
-/// Which run it is: what the run that lies under a lock was opened with. Each call of `run_lanes` picks it.
+/// Which run it is: what the run that lies under a lock was opened with, and the feed that gets its lines, where one does.
+/// Each call of `run_lanes` picks it.
 pub trait Naming {
+    ghost use Rattle.std.specs.Prelude.{Option};
+    ghost use Rattle.plan_status.specs.declared.feed.Feed.{Feed};
     ghost use Rattle.plan_lanes.specs.Progress.{Opened};
 
     ghost run: { Opened };
+
+    ghost feed: { Option Feed };
 }
 
 impl Naming for Brand {
     ghost use Rattle.std.specs.Prelude.{[], None};
+
+    ghost feed = { None };
 
     ghost run = { record { parts = record { texts = []; files = []; pools = []; slots = []; bodies = None; edges = []; defaults = [] }; limits = record { jobs = 0; keep = 0 }; targets = [] } };
 }
@@ -31,47 +39,101 @@ pub enum Stopped {
     Memory,
     /// A reply didn't fit its question.
     Unfit,
+    /// No thread could be started.
+    NoLane,
 }
 
-/// What lanes share under the lock: the board of the run that `J` names, why they stop, and how many of them sleep.
+/// What lanes share under the lock: the board of the run that `J` names, what shows its lines, why they stop, and how many
+/// of them sleep.
 #[derive(Drop)]
 pub struct Desk<'v, W: World, J: Naming> {
-    pub board: Board<'v, W>,
-    pub stopped: Stopped,
-    pub waiting: u32,
+    board: Board<'v, W>,
+    showing: Option<Showing>,
+    stopped: Stopped,
+    waiting: u32,
     name: PhantomData<J>,
-    pub ghost own: { board.opened ≡ J.run },
+}
+
+impl<'v, W: World, J: Naming> Model for Desk<'v, W, J> {
+    ghost use Rattle.plan_lanes.specs.Desks.{IsDesk};
+
+    ghost Value = { Unit {0} };
+
+    ghost view = { λ _. tt };
+
+    ghost invariant = { λ d. IsDesk J.run J.feed d.board d.showing };
 }
 
 impl<'v, W: World, J: Naming> Desk<'v, W, J> {
     /// A desk with this board, on which nobody waits.
-    pub fn new(board: Board<'v, W>) -> Desk<'v, W, J>
-        requires { board.opened ≡ J.run }
+    pub fn new(board: Board<'v, W>, showing: Option<Showing>) -> Desk<'v, W, J>
+        requires { IsDesk J.run J.feed board showing }
     {
         Desk {
             board,
+            showing,
             stopped: Stopped::No,
             waiting: 0,
             name: PhantomData,
         }
     }
 
-    /// Does what can be done next without a reply.
-    #[tactic(auto, using(crate::proofs::DeskLemmas::advance_stays))]
-    pub fn advance(&mut self) -> Result<Advance, Refused> {
-        self.board.advance()
+    /// Shows the lines of the marks that may be told of, as far as there is room.
+    fn show(&mut self) {
+        ends_stay();
+        if let Some(showing) = &mut self.showing {
+            showing.show(self.board.image(), self.board.marks());
+        }
     }
 
-    /// Hands a reply in that the world's rule allows. Where the board doesn't take it, lanes stop.
-    #[tactic(auto, using(crate::proofs::DeskLemmas::answer_stays))]
+    /// Does what can be done next without a reply, and shows its line.
+    pub fn advance(&mut self) -> Result<Advance, Refused> {
+        marks_may_come();
+        let advanced = self.board.advance();
+        self.show();
+        advanced
+    }
+
+    /// Hands a reply in that the world's rule allows, and shows its line. Where the board doesn't take it, lanes stop.
     pub fn answer(&mut self, edge: u32, question: Question, reply: Reply)
         requires { W.allows question.number (shown question.request) reply }
     {
-        match self.board.answer(edge, question, reply) {
+        marks_may_come();
+        let answered = self.board.answer(edge, question, reply);
+        self.show();
+        match answered {
             Ok(_mark) => {}
             Err(Refused::Memory) => self.stop(Stopped::Memory),
             Err(_refused) => self.stop(Stopped::Unfit),
         }
+    }
+
+    /// Why lanes stop, if they do.
+    pub fn stopped(&self) -> Stopped {
+        self.stopped
+    }
+
+    /// One more lane sleeps.
+    pub fn sleeps(&mut self) {
+        self.waiting = self.waiting.saturating_add(1);
+    }
+
+    /// One lane less sleeps.
+    pub fn wakes_up(&mut self) {
+        self.waiting = self.waiting.saturating_sub(1);
+    }
+
+    /// The board, what shows its lines, and why lanes stopped.
+    pub fn into_parts(self) -> (Board<'v, W>, Option<Showing>, Stopped)
+        ensures { IsDesk J.run J.feed result.0 result.1 }
+    {
+        let Desk {
+            board,
+            showing,
+            stopped,
+            ..
+        } = self;
+        (board, showing, stopped)
     }
 
     /// Stops the lanes for a cause, if they weren't stopped before.

@@ -1,8 +1,12 @@
 //! Lanes: threads that share one run.
 
-ghost use Rattle.std.specs.Prelude.{◌≡◌, IfErr, IfOk, true};
+ghost use Rattle.std.specs.Prelude.{◌≡◌, IfErr, IfOk, IfSome, Some, is_some, true};
+ghost use Rattle.plan_image.specs.declared.image.Parts.{Parts as Image};
+ghost use Rattle.plan_machine.specs.Kept.{IsStateOf};
 ghost use Rattle.plan_machine.specs.State.{has_ended};
-ghost use Rattle.plan_lanes.specs.Faults.{FaultReports};
+ghost use Rattle.plan_status.specs.Live.{IsUnused, SameFeed};
+ghost use Rattle.plan_lanes.specs.Desks.{FaultIsFed, IsDesk, IsLeft, ReportIsFed};
+ghost use Rattle.plan_lanes.specs.Faults.{FaultReports, report_of};
 ghost use Rattle.plan_lanes.specs.Progress.{Opened};
 ghost use Rattle.plan_lanes.specs.Reports.{IsRunOf};
 
@@ -12,7 +16,8 @@ use crate::desk::{Desk, Naming, Stopped};
 use crate::fault::LaneFault;
 use crate::hand::{Member, answer_all, ask_all};
 use crate::world::{Permit, World};
-use plan_machine::Options;
+use plan_machine::{Options, Refused};
+use plan_status::{Feed, Showing};
 use plan_verify::Verified;
 use std::alloc::Global;
 use std::marker::Brand;
@@ -64,31 +69,70 @@ pub fn run_lanes<W: World + Send + Sync, R: Threads + Wait + Sync>(
         Ok(board) => board,
         Err(refused) => return Err(LaneFault::Opening(refused)),
     };
-    run_named::<Brand, W, R>(rt, alloc, options.jobs(), board, world)
+    let (report, stopped, _silent) = run_named::<Brand, W, R>(
+        rt,
+        alloc,
+        options.jobs(),
+        board,
+        None,
+        world,
+    );
+    judged(report, stopped)
 }
 
-/// Runs what a board begins, by so many lanes.
-fn run_named<J: Naming + Send + Sync, W: World + Send + Sync, R: Threads + Wait + Sync>(
+/// Runs an image as `run_lanes` does, and puts the status line of each event into a feed, under the lanes' lock, as soon as
+/// there is room for it and no console command is under way. The lines that were put in are those of the first marks of the
+/// report, and the feed comes back to be settled, whatever came of the run. It never waits for who prints them.
+///
+/// # Errors
+/// As `run_lanes`; where memory for the feed's books is wanted, `Opening` with `Memory`.
+pub fn run_lanes_shown<W: World + Send + Sync, R: Threads + Wait + Sync>(
     rt: &R,
     alloc: Global,
-    count: u8,
-    board: Board<'_, W>,
+    image: &Verified,
+    options: Options,
+    targets: &[u32],
     world: &W,
-) -> Result<Report, LaneFault>
-    requires { board.opened ≡ J.run }
-    ensures run { IfOk result (λ r. IsRunOf W.allows J.run r) }
-    ensures ended { IfOk result (λ r. has_ended r.state.going.now ≡ true) }
-    ensures fault { IfErr result (λ f. FaultReports W.allows J.run f) }
+    feed: Feed,
+) -> (Result<Report, LaneFault>, Feed)
+    requires { IsUnused feed }
+    ensures run { IfOk result.0 (λ r. IsRunOf W.allows (record { parts = image.now; limits = options; targets = targets.now }) r) }
+    ensures ended { IfOk result.0 (λ r. has_ended r.state.going.now ≡ true) }
+    ensures fault { IfErr result.0 (λ f. FaultReports W.allows (record { parts = image.now; limits = options; targets = targets.now }) f) }
+    ensures same { SameFeed feed result.1 }
+    ensures fed { IfOk result.0 (λ r. ReportIsFed (record { parts = image.now; limits = options; targets = targets.now }) r result.1) }
+    ensures fed_so_far { IfErr result.0 (λ f. FaultIsFed (record { parts = image.now; limits = options; targets = targets.now }) f result.1) }
 {
-    let desk: Mutex<Desk<'_, W, J>> = Mutex::new(Desk::new(board));
-    let moved = Condvar::new();
-    let started = start_lanes(rt, alloc, count, &desk, &moved, world);
-    let Desk { board, stopped, .. } = desk.into_inner();
-    let report = board.into_report();
-    if !started {
-        return Err(LaneFault::NoLane(report));
+    let board: Board<'_, W> = match Board::open(alloc, image, options, targets) {
+        Ok(board) => board,
+        Err(refused) => return (Err(LaneFault::Opening(refused)), feed),
+    };
+    let showing = match Showing::new(alloc, image, board.total(), feed) {
+        Ok(showing) => showing,
+        Err(feed) => return (Err(LaneFault::Opening(Refused::Memory)), feed),
+    };
+    let (report, stopped, showing) = run_named::<Brand, W, R>(
+        rt,
+        alloc,
+        options.jobs(),
+        board,
+        Some(showing),
+        world,
+    );
+    match showing {
+        Some(showing) => (judged(report, stopped), showing.into_feed()),
+        None => unreachable!(),
     }
+}
+
+/// Whether a run has ended, by its report and why its lanes stopped.
+fn judged(report: Report, stopped: Stopped) -> Result<Report, LaneFault>
+    ensures ok { IfOk result (λ r. r ≡ report) }
+    ensures ended { (p : Image) → IsStateOf p report.state → IfOk result (λ r. has_ended r.state.going.now ≡ true) }
+    ensures fault { IfErr result (λ f. report_of f ≡ Some report) }
+{
     match stopped {
+        Stopped::NoLane => return Err(LaneFault::NoLane(report)),
         Stopped::Memory => return Err(LaneFault::NoMemory(report)),
         Stopped::Unfit => return Err(LaneFault::NotEnabled(report)),
         Stopped::No => {}
@@ -97,6 +141,29 @@ fn run_named<J: Naming + Send + Sync, W: World + Send + Sync, R: Threads + Wait 
         return Err(LaneFault::OtherBoard(report));
     }
     Ok(report)
+}
+
+/// Runs what a board begins, by so many lanes, and shows its lines where there is what shows them. It reports the run, why
+/// its lanes stopped, and what showed.
+fn run_named<J: Naming + Send + Sync, W: World + Send + Sync, R: Threads + Wait + Sync>(
+    rt: &R,
+    alloc: Global,
+    count: u8,
+    board: Board<'_, W>,
+    showing: Option<Showing>,
+    world: &W,
+) -> (Report, Stopped, Option<Showing>)
+    requires { IsDesk J.run J.feed board showing }
+    ensures run { IsRunOf W.allows J.run result.0 }
+    ensures there { is_some result.2 ≡ is_some J.feed }
+    ensures left { IfSome result.2 (λ s. IsLeft J.run J.feed result.0 s) }
+{
+    let desk: Mutex<Desk<'_, W, J>> = Mutex::new(Desk::new(board, showing));
+    let moved = Condvar::new();
+    let started = start_lanes(rt, alloc, count, &desk, &moved, world);
+    let (board, showing, stopped) = desk.into_inner().into_parts();
+    let stopped = if started { stopped } else { Stopped::NoLane };
+    (board.into_report(), stopped, showing)
 }
 
 /// Starts lanes and waits for them. True where one started.
@@ -165,7 +232,7 @@ fn visit<J: Naming, W: World, R: Wait>(
     let mut guard = desk.lock(rt);
     answer_all(hand, &mut guard);
     for _ in rt.forever() {
-        if guard.stopped != Stopped::No {
+        if guard.stopped() != Stopped::No {
             moved.notify_all();
             return Left::Nothing;
         }
@@ -173,9 +240,9 @@ fn visit<J: Naming, W: World, R: Wait>(
             Taken::Full => Left::Asks,
             Taken::Run(edge, question, permit) => Left::Runs(edge, question, permit),
             Taken::Wait if hand.is_empty() => {
-                guard.waiting = guard.waiting.saturating_add(1);
+                guard.sleeps();
                 guard = moved.wait(rt, guard);
-                guard.waiting = guard.waiting.saturating_sub(1);
+                guard.wakes_up();
                 continue;
             }
             Taken::Wait => Left::Asks,
@@ -210,7 +277,7 @@ fn hand_in<J: Naming, W: World, R: Wait>(
     }
     let mut guard = desk.lock(rt);
     answer_all(hand, &mut guard);
-    if guard.stopped != Stopped::No {
+    if guard.stopped() != Stopped::No {
         moved.notify_all();
         return false;
     }

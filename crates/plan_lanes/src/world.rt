@@ -13,18 +13,31 @@ use std::alloc::AllocError;
 /// whoever runs the command spends it.
 pub struct Permit {
     edge: u32,
+    console: bool,
 }
 
 impl Permit {
-    /// The leave to run the command of an edge.
-    pub(crate) fn new(edge: u32) -> Permit {
-        Permit { edge }
+    ghost use Rattle.std.specs.Prelude.{◌≡◌};
+
+    /// The leave to run the command of an edge, which is a console edge or isn't.
+    pub(crate) fn new(edge: u32, console: bool) -> Permit
+        ensures { result.console ≡ console }
+    {
+        Permit { edge, console }
+    }
+
+    /// Whether it is of a console edge: its command has the program's own standard input, output and error, and no other
+    /// output comes between (the Ninja manual, "The console pool").
+    pub fn console(&self) -> bool
+        ensures { result ≡ self.now.console }
+    {
+        self.console
     }
 
     /// Gives the leave up.
     pub fn spend(self) {
-        let Permit { edge } = self;
-        let _ = edge;
+        let Permit { edge, console } = self;
+        let _ = (edge, console);
     }
 }
 

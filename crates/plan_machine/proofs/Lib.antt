@@ -20,3 +20,11 @@ pub mod PickLemmas
 pub mod ReplayLemmas
 pub mod RequestLemmas
 pub mod AsksLemmas
+pub mod OnlySlotsLemmas
+pub mod SoloLemmas
+pub mod HistoryLemmas
+pub mod RecallLemmas
+pub mod AgreementLemmas
+pub mod PointwiseLemmas
+pub mod SamenessLemmas
+pub mod EndsLemmas

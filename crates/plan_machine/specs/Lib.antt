@@ -28,3 +28,6 @@ pub mod Lent
 pub mod Requests
 pub mod Replaying
 pub mod Faults
+pub mod Agreement
+pub mod Sameness
+pub mod Ends

@@ -1,5 +1,6 @@
 //! Laws over the definitions: what holds of every well-shaped image, options, targets and events.
 
+ghost use Rattle.plan_machine.specs.Agreement.{InterleavingsAgree};
 ghost use Rattle.plan_machine.specs.Depfile.{depfile};
 ghost use Rattle.plan_machine.specs.InBudget.{StaysInBudget};
 ghost use Rattle.plan_machine.specs.NeverStuck.{NeverStuck};
@@ -53,6 +54,19 @@ pub fn never_stuck()
 /// A run has no more events than the image's budget and the bytes of dependencies that its replies bring.
 pub fn stays_in_budget()
     ensures { StaysInBudget }
+{
+    all_turns_pay();
+    instructions_fit();
+    steps_are_safe();
+    replies_are_safe();
+    stays_typed();
+    tables_are_in_range();
+}
+
+/// Where any number of failures is borne, two ended runs of one image from the same targets, in which each edge got the
+/// same replies, have the same outcomes and the same slots; a skipped edge may name any edge, and the jobs may differ.
+pub fn interleavings_agree()
+    ensures { InterleavingsAgree }
 {
     all_turns_pay();
     instructions_fit();

@@ -1,6 +1,7 @@
 //! What a slot has.
 
 ghost use Rattle.std.specs.Prelude.{◌≡◌, IfOk, None, Some};
+ghost use Rattle.plan_machine.specs.Slots.{value_of};
 
 use plan_verify::{PathList, Value, Words};
 use std::alloc::AllocError;
@@ -61,6 +62,13 @@ impl Slot {
             Value::Swept(paths) => Stored::Swept(paths),
         };
         Slot { stored }
+    }
+
+    /// What it has.
+    pub(crate) fn stored(&self) -> &Stored
+        ensures { value_of result.now ≡ self.now }
+    {
+        &self.stored
     }
 
     /// A copy of what it has.

@@ -118,6 +118,10 @@ file_fault path = record { number = 133; rest = space ∷ path }
 abbrev pub unknown_target : List ℕ → PlanFault
 unknown_target name = record { number = 132; rest = space ∷ name }
 
+-- two traces that can't be compared: their first lines differ, or one has targets
+abbrev pub traces_differ : PlanFault
+traces_differ = record { number = 134; rest = [] }
+
 -- want of memory of the program itself
 abbrev pub no_memory : PlanFault
 no_memory = record { number = 131; rest = [] }
@@ -199,6 +203,7 @@ late_names =
     ∷ (130, codes "BadTrace")
     ∷ (132, codes "UnknownTarget")
     ∷ (133, codes "FileFault")
+    ∷ (134, codes "TracesDiffer")
     ∷ []
 
 -- the name at a number, another one where none stands there

@@ -1,4 +1,5 @@
 pub mod Commands
+pub mod Comparing
 pub mod Compiling
 pub mod Faults
 pub mod Images

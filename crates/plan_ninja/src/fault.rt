@@ -11,7 +11,7 @@ use std::alloc::{AllocError, Global};
 /// Why the program refuses.
 #[derive(Debug, Drop)]
 pub struct PlanFault {
-    /// The number of the fault: 1 to 133.
+    /// The number of the fault: 1 to 134.
     pub number: u8,
     /// What is printed behind its name, as ` build.ninja:5` or ` a -> b`.
     pub rest: Items<u8>,
@@ -31,6 +31,7 @@ fn late_name_of(number: u8) -> &'static str
         130 => "BadTrace",
         132 => "UnknownTarget",
         133 => "FileFault",
+        134 => "TracesDiffer",
         _ => "Memory",
     }
 }

@@ -5,6 +5,7 @@ ghost use Rattle.std.specs.Prelude.{◌≡◌, ◌⊎◌};
 ghost use Rattle.plan_ninja.specs.Faults as defined;
 
 mod commands;
+mod comparing;
 mod compile_fault;
 mod compiling;
 mod fault;
@@ -21,6 +22,7 @@ mod tests;
 mod verdicts;
 
 use crate::commands::do_commands;
+use crate::comparing::{Compared, do_compare};
 use crate::compiling::do_compile;
 use crate::fault::{PlanFault, file_fault, no_memory, output_fault};
 use crate::files::{FileSource, IMAGE_BYTES, MANIFEST_BYTES, NewFile, TRACE_BYTES};
@@ -78,6 +80,15 @@ fn answer<R: Files + AllocGlobal, W: Sink>(
             trace.as_bytes(),
             out,
         ),
+        FileRequest::Compare(image, first, second) => {
+            let mut others = FileSource::new(rt, TRACE_BYTES);
+            let paths = Compared {
+                image: image.as_bytes(),
+                first: first.as_bytes(),
+                second: second.as_bytes(),
+            };
+            do_compare(alloc, &mut images, &mut traces, &mut others, &paths, out)
+        }
         FileRequest::Verify(path) => do_verify(alloc, &mut images, path.as_bytes(), out),
     }
 }

@@ -22,7 +22,11 @@ use std::alloc::Global;
 use std::mem::forget;
 
 /// The trace at the path. The bytes of the file are freed.
-fn trace_at<S: Source>(alloc: Global, source: &mut S, path: &[u8]) -> Result<Trace, PlanFault>
+pub(crate) fn trace_at<S: Source>(
+    alloc: Global,
+    source: &mut S,
+    path: &[u8],
+) -> Result<Trace, PlanFault>
     ensures trace { IfOk result (λ trace. IsTraceAt (S.gives source.old) path.now trace) }
     ensures read { OnOk result (S.failures source.new ≡ S.failures source.old) }
     ensures refused { let missing = IsMissing (S.gives source.old) (S.fails source.old) (S.failures source.old) (S.failures source.new) in

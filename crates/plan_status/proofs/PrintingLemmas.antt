@@ -4,6 +4,7 @@ use Rattle.std.proofs.lemmas.List.{length-append, take-append-le}
 use Rattle.std.proofs.KnownBytes.{Appends-trans}
 use Rattle.std.proofs.Math.Seq.{take-append-add}
 use Rattle.std.specs.Io.KnownBytes.{Appends}
+use Rattle.std.specs.Prelude.{false, is_some}
 use Rattle.plan_text.specs.Sinks.{AppendsFront, Writes}
 use Rattle.plan_text.specs.Laws.{FailedWriteStays, WritesJoin}
 use Rattle.plan_status.specs.declared.fault.PrintFault.{PrintFault}
@@ -28,6 +29,11 @@ join joins a b c xs ys (Some Memory) h k = (k.0 ∙ h.0, front_behind a.1 b.1 c.
 pub stopped : FailedWriteStays → (a b : ℕ × Option (List ℕ)) (xs ys : List ℕ) (fault : PrintFault) → Prints xs (Some fault) a b → Prints (xs ++ ys) (Some fault) a b
 stopped stays a b xs ys Write h = stays a b xs ys h
 stopped stays a b xs ys Memory h = (h.0, front_longer a.1 b.1 xs ys h.1)
+
+-- nothing has stopped what was printed
+pub not_stopped : (a b : ℕ × Option (List ℕ)) (xs : List ℕ) (stop : Option PrintFault) → is_some stop ≡ false → Prints xs stop a b → Writes true a b xs
+not_stopped a b xs None none printed = printed
+not_stopped a b xs (Some fault) none printed = absurd cc
 
 -- one text more is printed, behind what was taken and before what is left
 pub stops : PrintsJoin → StopStays → (a b c : ℕ × Option (List ℕ)) (done text rest whole : List ℕ) (fault : PrintFault) → (done ++ text) ++ rest ≡ whole

@@ -1,3 +1,6 @@
 pub mod Lines
 pub mod Printing
 pub mod Outcomes
+pub mod Trues
+pub mod Consoles
+pub mod Live

@@ -1,5 +1,6 @@
 //! What holds of all lines and prints.
 
+ghost use Rattle.plan_status.specs.Live.{EndsStay, FeedStays, FeedsJoin, ShowingStays, ShownIsFree, UnusedIsFed};
 ghost use Rattle.plan_status.specs.Printing.{LinesJoin, PrintsJoin, StopStays};
 
 use plan_text::writes_join;
@@ -18,3 +19,18 @@ pub fn prints_join()
 {
     writes_join();
 }
+
+/// What is fed or shown of the marks so far is so of more marks too; a feed into which nothing was put fits any run; and no
+/// line is shown behind a mark after which a console edge held its place.
+pub fn marks_may_come()
+    ensures fed { FeedStays }
+    ensures unused { UnusedIsFed }
+    ensures shows { ShowingStays }
+    ensures free { ShownIsFree }
+{}
+
+/// The ends of a ring stay its ends.
+pub fn ends_stay()
+    ensures ends { EndsStay }
+    ensures joins { FeedsJoin }
+{}

@@ -1,9 +1,9 @@
 //! Status lines of a run's marks.
 
-ghost use Rattle.std.specs.Prelude.{◌≡◌, ◌<◌, ◌+◌, if◌then◌else◌, IfOk};
+ghost use Rattle.std.specs.Prelude.{◌≡◌, ◌<◌, ◌≤◌, ◌+◌, if◌then◌else◌, IfOk, drop, length, take};
 ghost use Rattle.std.specs.Result.{result_err};
 ghost use Rattle.plan_status.specs.Lines as defined;
-ghost use Rattle.plan_status.specs.Lines.{lines_of};
+ghost use Rattle.plan_status.specs.Lines.{lines_behind, lines_of};
 ghost use Rattle.plan_status.specs.Printing.{Prints};
 
 use crate::fault::PrintFault;
@@ -16,7 +16,7 @@ use plan_verify::Verified;
 use std::alloc::{AllocError, Global};
 
 /// A number of command edges that came out, with one more mark.
-fn counted_on(parts: &Parts, n: u64, mark: Mark) -> u64
+pub(crate) fn counted_on(parts: &Parts, n: u64, mark: Mark) -> u64
     requires { n < 18446744073709551615 }
     ensures { result ≡ (if defined.tells_end parts.now mark then 1 else 0) + n }
 {
@@ -66,6 +66,34 @@ fn print_line<W: Sink>(
     Ok(())
 }
 
+/// Writes the lines of the marks behind the first so many, of which `n` say how a command edge came out.
+pub(crate) fn print_behind<W: Sink>(
+    alloc: Global,
+    image: &Verified,
+    total: u64,
+    marks: &[Mark],
+    from: usize,
+    n: u64,
+    out: &mut W,
+) -> Result<(), PrintFault>
+    requires within { from ≤ length marks.now }
+    requires counted { n ≡ defined.ends image.now (take from marks.now) }
+    ensures { Prints (lines_behind image.now total (take from marks.now) (drop from marks.now)) (result_err result) (W.failures out.old, W.taken out.old) (W.failures out.new, W.taken out.new) }
+{
+    writes_join();
+    prints_join();
+    let parts = image.image().parts();
+    let mut n = n;
+    for at in from..marks.len() {
+        n = counted_on(parts, n, marks[at]);
+        match print_line(alloc, parts, total, n, marks[at], out) {
+            Ok(()) => {}
+            Err(fault) => return Err(fault),
+        }
+    }
+    Ok(())
+}
+
 /// Writes the status lines of the marks of a run, as `status_lines` makes them. It holds one line at a time.
 ///
 /// # Errors
@@ -79,16 +107,5 @@ pub fn print<W: Sink>(
 ) -> Result<(), PrintFault>
     ensures { Prints (lines_of image.now total marks.now) (result_err result) (W.failures out.old, W.taken out.old) (W.failures out.new, W.taken out.new) }
 {
-    writes_join();
-    prints_join();
-    let parts = image.image().parts();
-    let mut n = 0u64;
-    for mark in marks {
-        n = counted_on(parts, n, *mark);
-        match print_line(alloc, parts, total, n, *mark, out) {
-            Ok(()) => {}
-            Err(fault) => return Err(fault),
-        }
-    }
-    Ok(())
+    print_behind(alloc, image, total, marks, 0, 0, out)
 }

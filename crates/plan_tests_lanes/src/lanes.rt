@@ -3,7 +3,8 @@
 use plan_image::{Edge, EdgeCode, Edges, Image, Instr, Parts, Sort};
 use plan_lanes::*;
 use plan_machine::{Mark, Options, Outcome, Refused, Reply};
-use plan_text::{Items, RowList};
+use plan_status::{ends_stay, live};
+use plan_text::{Counted as Sinks, Items, RowList, Sink};
 use plan_verify::{PathList, Verified, verify};
 use std::alloc::{AllocError, Global};
 use std::rt::Clock;
@@ -510,4 +511,49 @@ fn target_outside(rt: HostRuntime) -> Result<(), Fail> {
     }
     assert_eq!(rt; world.calls.load(Ordering::SeqCst), 0);
     Ok(())
+}
+
+/// Runs an image whose lines go through a ring for so many of them, and settles it: how many edges ran, and whether all
+/// lines were written.
+fn shown_run<R: Threads + Wait + Sync, O: Sink>(
+    rt: &R,
+    alloc: Global,
+    image: &Verified,
+    options: Options,
+    room: usize,
+    out: &mut O,
+) -> Option<bool> {
+    ends_stay();
+    let Ok((feed, tap)) = live(alloc, room) else {
+        return None;
+    };
+    let world = Counted::new(u64::MAX, false);
+    let (ran, feed) = run_lanes_shown(rt, alloc, image, options, &[], &world, feed);
+    match ran {
+        Ok(report) => {
+            let total = report.state.total();
+            Some(tap.settle(feed, image, total, &report.marks, out).is_ok())
+        }
+        Err(_) => None,
+    }
+}
+
+/// The lines of a run that were put in while lanes ran, and those for which there was no room.
+#[test]
+fn lines_are_shown(rt: HostRuntime) {
+    let alloc = rt.alloc();
+    let (Ok(image), Some(options)) = (edges_of(alloc, 3, 1, 0), Options::new(4, 0)) else {
+        panic!(&rt; "no image");
+    };
+    for room in [0usize, 1, 256] {
+        let mut out = Sinks::new(Vec::new(alloc));
+        assert_eq!(rt;
+            shown_run(&rt, alloc, &image, options, room, &mut out),
+            Some(true)
+        );
+        assert_eq!(rt;
+            out.into_writer().as_slice(),
+            b"[1/3] x\n[2/3] x\n[3/3] x\n".as_slice()
+        );
+    }
 }

@@ -86,7 +86,7 @@ fn kept(jobs: u8, keep: u32) -> Option<(u8, u32)> {
 }
 
 /// An edge that ends well or fails by its command, which takes a place of the pool.
-const RUNS: [Instr; 5] = [
+pub(crate) const RUNS: [Instr; 5] = [
     Instr::Take,
     Instr::Text(0),
     Instr::Run,
@@ -95,7 +95,7 @@ const RUNS: [Instr; 5] = [
 ];
 
 /// An edge with a command of this code, of rank and file n.
-fn command(
+pub(crate) fn command(
     alloc: Global,
     n: u32,
     pool: Option<u32>,
@@ -114,7 +114,11 @@ fn command(
 }
 
 /// An image of these edges, with one pool of depth 1; edge 3 is built by default where there is one, else edge 0 and on.
-fn verified(alloc: Global, edges: Vec<Edge>, defaults: &[u32]) -> Result<Verified, Refused> {
+pub(crate) fn verified(
+    alloc: Global,
+    edges: Vec<Edge>,
+    defaults: &[u32],
+) -> Result<Verified, Refused> {
     let mut texts = RowList::new(alloc);
     texts.push(b"x")?;
     let mut files = RowList::new(alloc);
@@ -149,7 +153,7 @@ fn verified(alloc: Global, edges: Vec<Edge>, defaults: &[u32]) -> Result<Verifie
 }
 
 /// Three edges of the pool.
-fn three(alloc: Global) -> Result<Verified, Refused> {
+pub(crate) fn three(alloc: Global) -> Result<Verified, Refused> {
     let mut edges = Vec::new(alloc);
     for n in 0..3 {
         edges.push(command(alloc, n, Some(0), &[], &RUNS)?)?;

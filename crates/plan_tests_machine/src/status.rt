@@ -1,9 +1,11 @@
 //! Each public function once, on an image made by hand.
 
+ghost use Rattle.plan_status.specs.Live.{AreEnds, IsUnused};
+
 use plan_image::{Edge, EdgeCode, Edges, Image, Instr, Parts, Sort};
 use plan_machine::{Cause, Event, Mark, Options, State, replay};
 use plan_status::*;
-use plan_text::{Counted, Items, RowList};
+use plan_text::{Counted, Items, RowList, Sink};
 use plan_verify::{Verified, verify};
 use std::alloc::{AllocError, Global};
 use std::io::{self, Write};
@@ -86,6 +88,48 @@ fn tell(alloc: Global, marks: &[Mark], text: &[u8]) -> bool {
     match status_lines(alloc, &image, 4, marks) {
         Ok(lines) => printed && lines.as_slice() == text && out.into_writer().as_slice() == text,
         Err(_) => false,
+    }
+}
+
+/// Shows the lines of these marks through a ring for so many of them, prints some meanwhile and then the others; and
+/// whether all were written.
+fn settled<W: Sink>(image: &Verified, marks: &[Mark], ends: (Feed, Tap), out: &mut W) -> bool
+    requires ends { AreEnds ends.0 ends.1 }
+    requires unused { IsUnused ends.0 }
+{
+    marks_may_come();
+    ends_stay();
+    let (mut feed, mut tap) = ends;
+    feed.show(image, 4, marks);
+    tap.print(out);
+    feed.show(image, 4, marks);
+    tap.settle(feed, image, 4, marks, out).is_ok()
+}
+
+/// A ring for one line, and one for all of them.
+#[test]
+fn lines_through_a_ring(rt: HostRuntime) {
+    let alloc = rt.alloc();
+    let Some(image) = image_of(alloc) else {
+        panic!(&rt; "no image");
+    };
+    let marks = [
+        Mark::Started(0),
+        Mark::Failed(0, Cause::Exit(2)),
+        Mark::Ended(1, true),
+        Mark::Ended(2, true),
+        Mark::Skipped(3, 0),
+    ];
+    for room in [0usize, 1, 2, 256] {
+        let Ok(ends) = live(alloc, room) else {
+            panic!(&rt; "no ring");
+        };
+        let mut out = Counted::new(Vec::new(alloc));
+        assert!(rt; settled(&image, &marks, ends, &mut out));
+        assert_eq!(rt;
+            out.into_writer().as_slice(),
+            b"FAILED a: exit 2\n[2/4] true\n[3/4] true\nSKIPPED d: needs a\n".as_slice()
+        );
     }
 }
 

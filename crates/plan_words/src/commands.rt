@@ -52,7 +52,8 @@ but for those that dependencies bring.
 Else nothing is printed but the first check that fails, on standard error and with status 2: \
 `plan: NUMBER NAME at edge E place P`.";
 
-const REPLAY_ABOUT: &str = "Prints what happened in a run of a plan image, from its trace";
+const REPLAY_ABOUT: &str =
+    "Prints what happened in a run of a plan image, from its trace, or whether two runs end alike";
 
 const REPLAY_LONG_ABOUT: &str = "\
 Reads a plan image and a trace, which has the events of a run of it, goes through them, and prints the status lines and how \
@@ -62,10 +63,17 @@ A status line is `[N/M] LABEL` where a command ended well, N the commands that c
 need, `FAILED NAME: CAUSE`, `SKIPPED NAME: needs NAME` or `STOPPED NAME`. Behind them stands for each edge \
 `NUMBER NAME OUTCOME`.
 
-The status is 0 where all that the targets need ended well, else 1; 2 says that the image, the trace or one of its events is \
-refused, for the reason on standard error: `plan: 110 NotEnabled at event N`, counted from 0.";
+With a second trace nothing of that is printed but `same`, where both runs have ended, each edge came out alike (whichever edge \
+a skipped one names) and the slots have the same, and else `different`. Both traces need the same first line, and no line \
+`target`.
+
+The status is 0 where all that the targets need ended well, or both runs end alike, else 1; 2 says that the image, a trace or \
+one of its events is refused, for the reason on standard error: `plan: 110 NotEnabled at event N`, counted from 0, through the \
+first trace and then the second.";
 
 const TRACE_HELP: &str = "The trace to go through";
+
+const TRACE2_HELP: &str = "A second trace: whether both runs end alike";
 
 const IMAGE_HELP: &str = "The plan image to read";
 
@@ -98,14 +106,19 @@ fn compile_command<'a>(alloc: Global) -> Result<Command<'a>, AllocError> {
     file_command(alloc, "compile", about, ("FILE", FILE_HELP))?.arg(output)
 }
 
-/// The command that reads an image and a trace.
+/// The command that reads an image and a trace, or two.
 fn replay_command<'a>(alloc: Global) -> Result<Command<'a>, AllocError> {
     let about = (REPLAY_ABOUT, REPLAY_LONG_ABOUT);
     let trace = Arg::new(alloc, "TRACE")
         .required(true)
         .action(ArgAction::Set)
         .help(TRACE_HELP);
-    file_command(alloc, "replay", about, ("IMG", IMAGE_HELP))?.arg(trace)
+    let other = Arg::new(alloc, "TRACE2")
+        .action(ArgAction::Set)
+        .help(TRACE2_HELP);
+    file_command(alloc, "replay", about, ("IMG", IMAGE_HELP))?
+        .arg(trace)?
+        .arg(other)
 }
 
 /// The command that prints the commands of a manifest.

@@ -28,6 +28,8 @@ pub enum FileRequest<'a> {
     Dump(&'a str),
     /// The run of the image at the first path that the trace at the second one tells.
     Replay(&'a str, &'a str),
+    /// Whether the runs of the image at the first path that the traces at the second and the third one tell end alike.
+    Compare(&'a str, &'a str, &'a str),
     /// The verdict on the image at this path.
     Verify(&'a str),
 }
@@ -81,13 +83,22 @@ pub fn words_in<R: Env + AllocGlobal>(rt: &R) -> Result<Vec<String>, NoRequest> 
     }
 }
 
+/// What `replay` asks of files: the run of one trace, or whether two end alike; nothing where one of its words is missing.
+fn replay_request<'a>(found: &ArgMatches<'a>) -> Option<FileRequest<'a>> {
+    let (image, trace) = (found.get_str("IMG")?, found.get_str("TRACE")?);
+    match found.get_str("TRACE2") {
+        Some(other) => Some(FileRequest::Compare(image, trace, other)),
+        None => Some(FileRequest::Replay(image, trace)),
+    }
+}
+
 /// What a command asks of files; nothing where it is another command, or where one of its words is missing.
 fn file_request<'a>(name: &str, found: &ArgMatches<'a>) -> Option<FileRequest<'a>> {
     match name {
         "commands" => Some(FileRequest::Commands(found.get_str("FILE")?)),
         "compile" => Some(FileRequest::Compile(found.get_str("FILE")?, found.get_str("IMG")?)),
         "dump" => Some(FileRequest::Dump(found.get_str("IMG")?)),
-        "replay" => Some(FileRequest::Replay(found.get_str("IMG")?, found.get_str("TRACE")?)),
+        "replay" => replay_request(found),
         "verify" => Some(FileRequest::Verify(found.get_str("IMG")?)),
         _ => None,
     }

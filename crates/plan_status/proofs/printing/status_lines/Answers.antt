@@ -23,5 +23,5 @@ loop-mark-preserved c =
     = c.in_ok-line.ensures ∙ ap (λ (q : Parts). line_of q c.args.total c.counted_on-n.result x) same in
     let grown : c.extend_from_slice.new.self.items ≡ c.loop-mark.text.items ++ line_of p c.args.total c.counted_on-n.result x
     = c.in_ok-extend_from_slice.ensures.items ∙ ap (λ ys. c.loop-mark.text.items ++ ys) (c.deref.ensures.value ∙ line) in
-    let whole = one_more p c.args.total marks i (Started 0) c.counted_on-n.result c.loop-mark.text.items c.loop-mark-test.true count so_far.2 in
+    let whole = one_more p c.args.total marks i (Started 0) c.counted_on-n.result c.loop-mark.text.items (lines_of p c.args.total marks) c.loop-mark-test.true count so_far.2 in
     (count, few, subst (λ (text : List ℕ). text ++ lines_behind p c.args.total (take (i + 1) marks) (drop (i + 1) marks) ≡ lines_of p c.args.total marks) (sym grown) whole)

@@ -1,0 +1,46 @@
+-- What lies under the lanes' lock.
+use Rattle.std.specs.Prelude.{◌≡◌, Option, Some, None, IfSome, is_some}
+use Rattle.plan_machine.specs.Total.{total_of}
+use Rattle.plan_status.specs.declared.feed.Feed.{Feed}
+use Rattle.plan_status.specs.declared.showing.Showing.{Showing}
+use Rattle.plan_status.specs.Live.{IsFed, IsShowing, IsUnused, SameFeed}
+use Rattle.plan_lanes.specs.declared.board.Report.{Report}
+use Rattle.plan_lanes.specs.declared.fault.LaneFault.{LaneFault}
+use Rattle.plan_lanes.specs.declared.fault.LaneFault.TheVariants.{Opening, NotEnabled, NoMemory, NoLane, OtherBoard}
+use Rattle.plan_lanes.specs.Progress.{Opened, Progress}
+
+-- a feed is the one that is named, later
+abbrev pub IsNamed : Option Feed → Feed → Type 0
+IsNamed (Some named) f = SameFeed named f
+IsNamed None f = Unit {0}
+
+-- the lines of a run are shown through the feed that is named, as far as that went
+pub record Shows (named : Option Feed) (b : Progress) (s : Showing) : Type 0 where
+  pub lines : IsShowing b.opened.parts b.marks s
+  pub total : s.total ≡ total_of b.opened.parts b.state
+  pub feed : IsNamed named s.feed
+
+-- the board is of the run that is named; its lines are shown where a feed is named
+pub record IsDesk (o : Opened) (named : Option Feed) (b : Progress) (showing : Option Showing) : Type 0 where
+  pub run : b.opened ≡ o
+  pub there : is_some showing ≡ is_some named
+  pub shows : IfSome showing (λ s. Shows named b s)
+
+-- ---- what is left of them
+
+-- the feed has the lines of a report, as far as that went
+abbrev pub ReportIsFed : Opened → Report → Feed → Type 0
+ReportIsFed o r f = IsFed o.parts (total_of o.parts r.state.going.now) r.marks.items f
+
+-- or nothing, where no run was opened
+abbrev pub FaultIsFed : Opened → LaneFault → Feed → Type 0
+FaultIsFed o (Opening refused) f = IsUnused f
+FaultIsFed o (NotEnabled r) f = ReportIsFed o r f
+FaultIsFed o (NoMemory r) f = ReportIsFed o r f
+FaultIsFed o (NoLane r) f = ReportIsFed o r f
+FaultIsFed o (OtherBoard r) f = ReportIsFed o r f
+
+-- and what showed them has it
+pub record IsLeft (o : Opened) (named : Option Feed) (r : Report) (s : Showing) : Type 0 where
+  pub fed : ReportIsFed o r s.feed
+  pub feed : IsNamed named s.feed

@@ -1,0 +1,41 @@
+-- What is told of the ends of two lists of events, each from the opening for the image's defaults.
+use Rattle.std.specs.Prelude.{◌≡◌, ◌↔◌, ◌⊎◌, ℕ, ◌+◌, ◌≤◌, Bool, true, List, [], length}
+use Rattle.plan_image.specs.declared.image.Parts.{Parts}
+use Rattle.plan_machine.specs.Limits.{Limits}
+use Rattle.plan_machine.specs.declared.event.Event.{Event}
+use Rattle.plan_machine.specs.declared.mark.Mark.{Mark}
+use Rattle.plan_machine.specs.declared.refused.Refused.{Refused}
+use Rattle.plan_machine.specs.declared.refused.Refused.TheVariants as refused
+use Rattle.plan_machine.specs.State.{State, has_ended}
+use Rattle.plan_machine.specs.Runs.{Reached}
+use Rattle.plan_machine.specs.Depfile.{depfile}
+use Rattle.plan_machine.specs.Agreement.{EndAlike, replies_to}
+use Rattle.plan_machine.specs.Replaying.{IsReplayFault}
+
+-- the events replay, and lead to this state
+pub record EndsIn (p : Parts) (limits : Limits) (events : List Event) (end : State) : Type 0 where
+  pub marks : List Mark
+  pub reached : Reached depfile p limits [] events marks end
+
+-- both lists replay, and the answer is true exactly where both have ended, with the same outcomes and the same slots
+pub record TellsEnds (p : Parts) (limits : Limits) (first second : List Event) (same : Bool) : Type 0 where
+  pub end : State
+  pub other : State
+  pub first_ends : EndsIn p limits first end
+  pub second_ends : EndsIn p limits second other
+  pub tells : (same ≡ true) ↔ ((has_ended end ≡ true) × (has_ended other ≡ true) × EndAlike end other)
+
+-- where any number of failures is borne, ended lists in which each edge got the same replies aren't told apart
+abbrev pub NeverTellsApart : Parts → Limits → List Event → List Event → Bool → Type 0
+NeverTellsApart p limits first second same =
+    limits.keep ≡ 0 → (end other : State) → EndsIn p limits first end → has_ended end ≡ true → EndsIn p limits second other → has_ended other ≡ true
+    → ((e : ℕ) → replies_to e first ≡ replies_to e second) → same ≡ true
+
+-- Why two lists weren't compared, and where, counted through the first and then the second: the first event of the
+-- first list that isn't enabled, of the second where the first replays, or want of memory.
+abbrev pub IsEndFault : Parts → Limits → List Event → List Event → ℕ → Refused → Type 0
+IsEndFault p limits first second n refused.NotEnabled =
+    IsReplayFault p limits [] first n refused.NotEnabled
+    ⊎ ((end : State) × EndsIn p limits first end × (m : ℕ) × (n ≡ length first + m) × IsReplayFault p limits [] second m refused.NotEnabled)
+IsEndFault p limits first second n refused.Memory = n ≤ length first + length second
+IsEndFault p limits first second n refused.BadTarget = ⊥

@@ -1,0 +1,78 @@
+-- Lines on their way from lanes to a sink: what a feed has put into its ring, and what a tap has taken out of it.
+use Rattle.std.specs.Prelude.{◌≡◌, ℕ, ◌≤◌, List, [], ◌++◌, None, length, take}
+use Rattle.std.specs.List.{concat}
+use Rattle.rtrb.specs.Ring.{IsPair, SameConsumer, SameProducer, received, sent}
+use Rattle.plan_image.specs.declared.image.Parts.{Parts}
+use Rattle.plan_machine.specs.declared.mark.Mark.{Mark}
+use Rattle.plan_status.specs.declared.feed.Feed.{Feed}
+use Rattle.plan_status.specs.declared.tap.Tap.{Tap}
+use Rattle.plan_status.specs.declared.showing.Showing.{Showing}
+use Rattle.plan_status.specs.Consoles.{AreFree, HasLooked}
+use Rattle.plan_status.specs.Lines.{ends, lines_of}
+
+-- all that was put into the ring
+abbrev pub sent_text : Feed → List ℕ
+sent_text f = concat (sent f.ring)
+
+-- all that was taken out of it
+abbrev pub received_text : Tap → List ℕ
+received_text t = concat (received t.ring)
+
+-- the two ends of one ring
+abbrev pub AreEnds : Feed → Tap → Type 0
+AreEnds f t = IsPair f.ring t.ring
+
+-- the same end of the same ring, later
+abbrev pub SameFeed : Feed → Feed → Type 0
+SameFeed f g = SameProducer f.ring g.ring
+
+abbrev pub SameTap : Tap → Tap → Type 0
+SameTap t u = SameConsumer t.ring u.ring
+
+-- What was put in is the lines of the first `shown` of these marks; `ended` counts those that say how a command edge
+-- came out.
+pub record IsFed (p : Parts) (total : ℕ) (marks : List Mark) (f : Feed) : Type 0 where
+  pub within : f.shown ≤ length marks
+  pub sent : sent_text f ≡ lines_of p total (take f.shown marks)
+  pub ended : f.ended ≡ ends p (take f.shown marks)
+
+-- nothing was put in, or taken out
+pub record IsUnused (f : Feed) : Type 0 where
+  pub sent : sent_text f ≡ []
+  pub shown : f.shown ≡ 0
+  pub ended : f.ended ≡ 0
+
+pub record IsUntapped (t : Tap) : Type 0 where
+  pub received : received_text t ≡ []
+  pub stop : t.stop ≡ None
+
+-- The lines of these marks are shown as far as that went, none of them behind a mark after which a console edge held its
+-- place.
+pub record IsShowing (p : Parts) (marks : List Mark) (s : Showing) : Type 0 where
+  pub looked : HasLooked p marks s.consoles
+  pub fed : IsFed p s.total marks s.feed
+  pub behind : s.feed.shown ≤ s.consoles.free
+
+-- ---- laws
+
+-- more marks may come
+abbrev pub FeedStays : Type 0
+FeedStays = (p : Parts) (total : ℕ) (marks more : List Mark) (f : Feed) → IsFed p total marks f → IsFed p total (marks ++ more) f
+
+abbrev pub ShowingStays : Type 0
+ShowingStays = (p : Parts) (marks more : List Mark) (s : Showing) → IsShowing p marks s → IsShowing p (marks ++ more) s
+
+-- a feed into which nothing was put fits any run
+abbrev pub UnusedIsFed : Type 0
+UnusedIsFed = (p : Parts) (total : ℕ) (marks : List Mark) (f : Feed) → IsUnused f → IsFed p total marks f
+
+-- what is shown is free
+abbrev pub ShownIsFree : Type 0
+ShownIsFree = (p : Parts) (marks : List Mark) (s : Showing) (n : ℕ) → IsShowing p marks s → AreFree p marks n → s.feed.shown ≤ n
+
+-- ends stay ends, and the same end stays the same
+abbrev pub EndsStay : Type 0
+EndsStay = (f g : Feed) (t u : Tap) → AreEnds f t → SameFeed f g → SameTap t u → AreEnds g u
+
+abbrev pub FeedsJoin : Type 0
+FeedsJoin = (f g h : Feed) → SameFeed f g → SameFeed g h → SameFeed f h

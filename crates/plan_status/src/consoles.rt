@@ -1,0 +1,160 @@
+//! Console edges, whose commands have the terminal to themselves: which of them hold their places.
+
+ghost use Rattle.std.specs.Prelude.{◌≡◌, IfOk, false, get_or, option_map, slice_set};
+ghost use Rattle.plan_machine.specs.declared.mark.Mark.{Mark as Told};
+ghost use Rattle.plan_status.specs.Consoles.{AreFree, AreNoted, HasLooked, is_console, is_console_name};
+ghost use Rattle.plan_status.specs.Trues.{trues};
+
+use plan_image::{Parts, Pool};
+use plan_machine::Mark;
+use plan_verify::Verified;
+use std::alloc::{AllocError, Global};
+
+/// Whether a pool has the name `console`.
+fn is_console_name(pool: Option<&Pool>) -> bool
+    ensures { result ≡ is_console_name (option_map (λ p. p.now) pool.entry) }
+{
+    match pool {
+        Some(pool) => pool.name.as_slice() == b"console".as_slice(),
+        None => false,
+    }
+}
+
+/// Whether an edge's pool has that name.
+fn in_console(parts: &Parts, edge: u32) -> bool
+    ensures { result ≡ is_console parts.now edge }
+{
+    let Some(edge) = parts.edges.get(edge as usize) else {
+        return false;
+    };
+    match edge.pool {
+        Some(pool) => is_console_name(parts.pools.as_slice().get(pool as usize)),
+        None => false,
+    }
+}
+
+/// Whether an edge of an image is a console edge: its pool has the name `console` (the Ninja manual, "The console pool").
+pub fn is_console(image: &Verified, edge: u32) -> bool
+    ensures { result ≡ is_console image.now edge }
+{
+    in_console(image.image().parts(), edge)
+}
+
+/// Which console edges hold their places by the marks so far, and how many of these marks are free of them.
+#[derive(Drop)]
+pub struct Consoles {
+    /// For each edge, whether it is a console edge that holds its place.
+    holding: Vec<bool>,
+    /// How many of these are set.
+    held: usize,
+    /// How many marks were looked at, from the first on.
+    looked: usize,
+    /// The greatest number of them after which no console edge holds its place.
+    pub(crate) free: usize,
+}
+
+/// Sets the flag at a place, where there is one.
+fn put(flags: &mut Vec<bool>, at: usize, flag: bool)
+    ensures { flags.new.items ≡ slice_set flags.old.items at flag }
+{
+    if at < flags.len() {
+        flags[at] = flag;
+    }
+}
+
+/// The flag at a place, false where there is none.
+fn flag_at(flags: &[bool], at: usize) -> bool
+    ensures { result ≡ get_or flags.now at false }
+{
+    match flags.get(at) {
+        Some(flag) => *flag,
+        None => false,
+    }
+}
+
+impl Consoles {
+    ghost use Rattle.std.specs.Prelude.{◌≡◌, ◌≤◌, ◌+◌, ◌∷◌, [], ◌++◌, List, IfOk, false, get_or, length, slice_set, true};
+    ghost use Rattle.plan_machine.specs.declared.mark.Mark.{Mark as Told};
+    ghost use Rattle.plan_status.specs.Consoles.{AreFree, AreNoted, HasLooked, is_console};
+    ghost use Rattle.plan_status.specs.Trues.{trues};
+
+    /// No mark was looked at.
+    pub(crate) fn new(alloc: Global, parts: &Parts) -> Result<Consoles, AllocError>
+        ensures { IfOk result (λ c. (marks : List Told) → HasLooked parts.now marks c) }
+    {
+        let holding = vec![in alloc; false; parts.edges.len()]?;
+        Ok(Consoles {
+            holding,
+            held: 0,
+            looked: 0,
+            free: 0,
+        })
+    }
+
+    /// An edge takes its place: true; or it gives it back.
+    fn set(&mut self, edge: u32, holds: bool)
+        requires { self.old.held ≡ trues self.old.holding.items }
+        ensures holding { self.new.holding.items ≡ slice_set self.old.holding.items edge holds }
+        ensures held { self.new.held ≡ trues self.new.holding.items }
+        ensures same { (self.new.looked ≡ self.old.looked) × (self.new.free ≡ self.old.free) }
+    {
+        let at = edge as usize;
+        if at >= self.holding.len() || flag_at(&self.holding, at) == holds {
+            return;
+        }
+        put(&mut self.holding, at, holds);
+        if holds {
+            self.held += 1;
+        } else {
+            self.held -= 1;
+        }
+    }
+
+    /// Notes one mark more.
+    fn note(&mut self, parts: &Parts, mark: Mark)
+        requires { self.old.held ≡ trues self.old.holding.items }
+        ensures noted { (before : List Told) → AreNoted parts.now before self.old → AreNoted parts.now (before ++ mark ∷ []) self.new }
+        ensures same { (self.new.looked ≡ self.old.looked) × (self.new.free ≡ self.old.free) }
+    {
+        match mark {
+            Mark::Took(edge) => {
+                if in_console(parts, edge) {
+                    self.set(edge, true);
+                }
+            }
+            Mark::Released(edge) => self.set(edge, false),
+            Mark::Failed(edge, _) => self.set(edge, false),
+            _ => {}
+        }
+    }
+
+    /// Looks at the marks behind those that it has looked at.
+    pub(crate) fn look(&mut self, parts: &Parts, marks: &[Mark])
+        requires { HasLooked parts.now marks.now self.old }
+        ensures looked { HasLooked parts.now marks.now self.new }
+        ensures all { self.new.looked ≡ length marks.now }
+        ensures more { self.old.free ≤ self.new.free }
+    {
+        for at in self.looked..marks.len() {
+            self.note(parts, marks[at]);
+            self.looked = at + 1;
+            if self.held == 0 {
+                self.free = at + 1;
+            }
+        }
+    }
+}
+
+/// How many marks of a run, from the first on, may be told of while it goes on: the greatest number of them after which no
+/// console edge holds its place, so that its command isn't under way. Lines of other marks wait until it has ended.
+///
+/// # Errors
+/// Want of memory alone.
+pub fn free_marks(alloc: Global, image: &Verified, marks: &[Mark]) -> Result<usize, AllocError>
+    ensures { IfOk result (λ n. AreFree image.now marks.now n) }
+{
+    let parts = image.image().parts();
+    let mut consoles = Consoles::new(alloc, parts)?;
+    consoles.look(parts, marks);
+    Ok(consoles.free)
+}

@@ -1,0 +1,101 @@
+//! The end of the ring that lanes fill with lines.
+
+ghost use Rattle.std.specs.Prelude.{◌≡◌, ℕ, [], false};
+ghost use Rattle.plan_image.specs.declared.image.Parts.{Parts as Image};
+ghost use Rattle.plan_status.specs.Lines as defined;
+ghost use Rattle.plan_status.specs.Live.{IsFed, SameFeed, sent_text};
+
+use crate::lines::line_of;
+use crate::printing::counted_on;
+use plan_image::Parts;
+use plan_machine::Mark;
+use plan_text::Items;
+use plan_verify::Verified;
+use rtrb::Producer;
+use std::alloc::Global;
+
+/// The end of a ring that status lines are put into while a run goes on, and how many of its marks were dealt with.
+#[derive(Drop)]
+pub struct Feed {
+    pub(crate) alloc: Global,
+    pub(crate) ring: Producer<Items<u8>>,
+    /// How many marks were dealt with, from the first on.
+    pub(crate) shown: usize,
+    /// How many of them say how a command edge came out.
+    pub(crate) ended: u64,
+}
+
+/// Whether some mark of this sort has a line.
+fn may_have_line(mark: Mark) -> bool
+    ensures { result ≡ false → (p : Image) (total n : ℕ) → defined.line_of p total n mark ≡ [] }
+{
+    matches!(
+        mark,
+        Mark::Ended(_, true) | Mark::Failed(..) | Mark::Skipped(..) | Mark::Stopped(_)
+    )
+}
+
+impl Feed {
+    ghost use Rattle.std.specs.Prelude.{◌≡◌, ◌≤◌, ◌++◌, false, true};
+    ghost use Rattle.plan_status.specs.Lines as defined;
+    ghost use Rattle.plan_status.specs.Live.{IsFed, SameFeed, sent_text};
+
+    /// How many marks were dealt with.
+    pub fn shown(&self) -> usize
+        ensures { result ≡ self.now.shown }
+    {
+        self.shown
+    }
+
+    /// Puts a text in, where there is room.
+    fn push(&mut self, text: Vec<u8>) -> bool
+        ensures yes { result ≡ true → sent_text self.new ≡ sent_text self.old ++ text.items }
+        ensures no { result ≡ false → sent_text self.new ≡ sent_text self.old }
+        ensures ring { SameFeed self.old self.new }
+        ensures same { (self.new.shown ≡ self.old.shown) × (self.new.ended ≡ self.old.ended) }
+    {
+        if text.is_empty() {
+            return true;
+        }
+        match self.ring.push(Items::new(text)) {
+            Ok(()) => true,
+            Err(_full) => false,
+        }
+    }
+
+    /// Puts the line of a mark in, where so many command edges came out with it. False where there is no room, or no
+    /// memory.
+    fn put(&mut self, parts: &Parts, total: u64, n: u64, mark: Mark) -> bool
+        ensures yes { result ≡ true → sent_text self.new ≡ sent_text self.old ++ defined.line_of parts.now total n mark }
+        ensures no { result ≡ false → sent_text self.new ≡ sent_text self.old }
+        ensures ring { SameFeed self.old self.new }
+        ensures same { (self.new.shown ≡ self.old.shown) × (self.new.ended ≡ self.old.ended) }
+    {
+        if !may_have_line(mark) {
+            return true;
+        }
+        match line_of(self.alloc, parts, total, n, mark) {
+            Ok(line) => self.push(line),
+            Err(_) => false,
+        }
+    }
+
+    /// Puts the lines of the marks in that weren't dealt with, until the ring is full or memory is wanted: then the next
+    /// call goes on there. It never waits. `total` is the number of command edges that the run may come to.
+    pub fn show(&mut self, image: &Verified, total: u64, marks: &[Mark])
+        requires { IsFed image.now total marks.now self.old }
+        ensures fed { IsFed image.now total marks.now self.new }
+        ensures more { self.old.shown ≤ self.new.shown }
+        ensures ring { SameFeed self.old self.new }
+    {
+        let parts = image.image().parts();
+        for at in self.shown..marks.len() {
+            let n = counted_on(parts, self.ended, marks[at]);
+            if !self.put(parts, total, n, marks[at]) {
+                return;
+            }
+            self.shown = at + 1;
+            self.ended = n;
+        }
+    }
+}

@@ -1,0 +1,134 @@
+//! The end of the ring that prints.
+
+ghost use Rattle.std.specs.Prelude.{◌≡◌, ◌++◌, ℕ, List, Option, IfOk};
+ghost use Rattle.std.specs.Result.{result_err};
+ghost use Rattle.plan_status.specs.Lines.{lines_of};
+ghost use Rattle.plan_status.specs.Live.{AreEnds, IsFed, IsUntapped, IsUnused, SameTap, received_text, sent_text};
+ghost use Rattle.plan_status.specs.Printing.{Prints};
+
+use crate::fault::PrintFault;
+use crate::feed::Feed;
+use crate::laws::prints_join;
+use crate::printing::print_behind;
+use plan_machine::Mark;
+use plan_text::{Items, Sink, write_all, writes_join};
+use plan_verify::Verified;
+use rtrb::{Consumer, RingBuffer};
+use std::alloc::{AllocError, Global};
+
+/// The end of a ring from which status lines are printed while a run goes on, and what stopped it.
+#[derive(Drop)]
+pub struct Tap {
+    alloc: Global,
+    pub(crate) ring: Consumer<Items<u8>>,
+    /// Why nothing is written any more.
+    pub(crate) stop: Option<PrintFault>,
+}
+
+/// The two ends of a ring for so many lines: lanes fill one while a thread of its own prints from the other. Into a ring
+/// without room no line is put.
+///
+/// # Errors
+/// Want of memory alone.
+pub fn live(alloc: Global, capacity: usize) -> Result<(Feed, Tap), AllocError>
+    ensures ends { IfOk result (λ r. AreEnds r.0 r.1) }
+    ensures begin { IfOk result (λ r. IsUnused r.0 × IsUntapped r.1) }
+{
+    let (producer, consumer) = RingBuffer::new(alloc, capacity)?;
+    let feed = Feed {
+        alloc,
+        ring: producer,
+        shown: 0,
+        ended: 0,
+    };
+    let tap = Tap {
+        alloc,
+        ring: consumer,
+        stop: None,
+    };
+    Ok((feed, tap))
+}
+
+/// Writes a text behind what was written, unless that was stopped; and tells what stopped it.
+fn write_on<W: Sink>(stop: Option<PrintFault>, text: &[u8], out: &mut W) -> Option<PrintFault>
+    ensures { (start : ℕ × Option (List ℕ)) (done : List ℕ)
+        → Prints done stop start (W.failures out.old, W.taken out.old) → Prints (done ++ text.now) result start (W.failures out.new, W.taken out.new) }
+{
+    writes_join();
+    prints_join();
+    if stop.is_some() {
+        return stop;
+    }
+    match write_all(out, text) {
+        Ok(()) => None,
+        Err(_) => Some(PrintFault::Write),
+    }
+}
+
+impl Tap {
+    ghost use Rattle.std.specs.Prelude.{◌≡◌, ℕ, List, Option};
+    ghost use Rattle.std.specs.Result.{result_err};
+    ghost use Rattle.plan_status.specs.Lines.{lines_of};
+    ghost use Rattle.plan_status.specs.Live.{AreEnds, IsFed, SameTap, received_text, sent_text};
+    ghost use Rattle.plan_status.specs.Printing.{Prints};
+
+    /// Takes the lines that are in the ring and writes them, until a write fails; from then on it takes them alone. It
+    /// never waits for lanes.
+    pub fn print<W: Sink>(&mut self, out: &mut W)
+        ensures printed { (start : ℕ × Option (List ℕ)) → Prints (received_text self.old) self.old.stop start (W.failures out.old, W.taken out.old)
+            → Prints (received_text self.new) self.new.stop start (W.failures out.new, W.taken out.new) }
+        ensures ring { SameTap self.old self.new }
+    {
+        for _ in 0..u64::MAX {
+            let Ok(line) = self.ring.pop() else {
+                return;
+            };
+            self.stop = write_on(self.stop, line.as_slice(), out);
+        }
+    }
+
+    /// Takes all lines that the feed has put in, and writes them.
+    fn drain<W: Sink>(&mut self, feed: &mut Feed, out: &mut W)
+        requires { AreEnds feed.old self.old }
+        ensures all { received_text self.new ≡ sent_text feed.old }
+        ensures printed { (start : ℕ × Option (List ℕ)) → Prints (received_text self.old) self.old.stop start (W.failures out.old, W.taken out.old)
+            → Prints (received_text self.new) self.new.stop start (W.failures out.new, W.taken out.new) }
+        ensures same { (feed.new.shown ≡ feed.old.shown) × (feed.new.ended ≡ feed.old.ended) }
+    {
+        let count = self.ring.slots_beside(&mut feed.ring);
+        for _ in 0..count {
+            let line = self.ring.pop_known();
+            self.stop = write_on(self.stop, line.as_slice(), out);
+        }
+    }
+
+    /// Prints all that is left of a run, once lanes have given the feed back: the lines that are still in the ring, and
+    /// those that were not put in. With what was printed before these are the lines of all marks, each once and in their
+    /// order, exactly where it answers Ok.
+    ///
+    /// # Errors
+    /// `Memory`, `Write`, now or in a print before: then a front of the lines is written.
+    pub fn settle<W: Sink>(
+        self,
+        feed: Feed,
+        image: &Verified,
+        total: u64,
+        marks: &[Mark],
+        out: &mut W,
+    ) -> Result<(), PrintFault>
+        requires ends { AreEnds feed self }
+        requires fed { IsFed image.now total marks.now feed }
+        ensures { (start : ℕ × Option (List ℕ)) → Prints (received_text self) self.stop start (W.failures out.old, W.taken out.old)
+            → Prints (lines_of image.now total marks.now) (result_err result) start (W.failures out.new, W.taken out.new) }
+    {
+        writes_join();
+        prints_join();
+        let mut tap = self;
+        let mut feed = feed;
+        tap.drain(&mut feed, out);
+        match tap.stop {
+            Some(fault) => Err(fault),
+            None => print_behind(tap.alloc, image, total, marks, feed.shown, feed.ended, out),
+        }
+    }
+}

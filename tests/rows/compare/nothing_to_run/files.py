@@ -1,0 +1,6 @@
+from row_files import image
+
+image("plan.img", """\
+text x
+file a
+""")
