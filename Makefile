@@ -75,17 +75,23 @@ tests: built
 	python3 tests/run_orders.py $(PROGRAM)
 	python3 tests/run_builds.py $(PROGRAM)
 	python3 tests/run_interrupted.py $(PROGRAM)
+	python3 tests/run_console.py $(PROGRAM)
 	python3 tests/run_twice.py $(PROGRAM)
 	python3 tests/against_ninja.py $(PROGRAM)
 	python3 tests/fail_alloc.py $(PROGRAM)
 	python3 tests/real/real.py --short $(PROGRAM)
 	python3 tests/real/building.py --short $(PROGRAM)
 
+# How many checks run side by side: one a processor, as memory allows. A check takes less than 3 GB; rt ci by itself
+# counts on three times as much, and leaves processors idle.
+GATE_JOBS = $(shell awk -v n=$$(nproc) '/^MemAvailable/ {m = int($$2 / 4000000); print m < 1 ? 1 : m < n ? m : n}' /proc/meminfo)
+
 # The gate: the documents, then every proof, test and must-fail edit, then the program.
 .PHONY: check
 check: kit
 	python3 tests/manifest_names.py
-	rt ci | tee gate.log
+	python3 tests/edits.py --fit $(CRATES)
+	RT_JOBS=$(GATE_JOBS) rt ci | tee gate.log
 	python3 tests/edit_log.py gate.log
 	$(MAKE) tests
 

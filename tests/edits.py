@@ -2,7 +2,8 @@
 """Tries the must-fail edits that the gate leaves out, those of tests/edits: the prover has to refuse each.
 
 They run on a copy of the tree, crates side by side; a crate takes some minutes, and 20 to 60 seconds more for each
-edit. What `rt must-fail` says of each edit is printed; the last line is `N passed, M failed`.
+edit. What `rt must-fail` says of each edit is printed; the last line is `N passed, M failed`. With --fit none is tried:
+each text that an edit replaces must stand once in its file.
 """
 import argparse
 import concurrent.futures
@@ -12,7 +13,7 @@ import re
 import shutil
 import subprocess
 import tempfile
-from collections.abc import Sequence
+from collections.abc import Iterator, Sequence
 
 import edit_log
 import programs
@@ -21,9 +22,34 @@ ROOT = pathlib.Path(__file__).resolve().parent.parent
 REFUSED = "refused, as it must be"
 
 
+def misfits(crate: str) -> Iterator[str]:
+    """The texts that an edit of tests/edits replaces, where they don't stand once in their file."""
+    for edit in sorted((ROOT / "tests" / "edits" / crate).glob("*.edit")):
+        text = old = ""
+        for line in edit.read_text().splitlines():
+            word, _, rest = line.partition(": ")
+            if word == "file":
+                text = (ROOT / "crates" / crate / rest).read_text()
+            elif word == "old":
+                old = rest
+                if text.count(old) != 1:
+                    yield f"{crate}/{edit.name}: {text.count(old)} times: {old}"
+            elif line.startswith("new:"):
+                text = text.replace(old, rest)
+
+
+def look(crates: Sequence[str]) -> tuple[int, int]:
+    """How many edits of these crates there are that fit, and how many texts don't."""
+    found = [line for crate in crates for line in misfits(crate)]
+    for line in found:
+        print(line)
+    return sum(len(list((ROOT / "tests" / "edits" / crate).glob("*.edit"))) for crate in crates), len(found)
+
+
 def lay(crate: str, home: pathlib.Path, whole: bool) -> int:
     """Puts the edits of tests/edits where `rt must-fail` looks, beside those there or in place of them; how many."""
     edits = home / "crates" / crate / "must-fail"
+    edits.mkdir(exist_ok=True)
     for edit in [] if whole else sorted(edits.glob("*.edit")):
         edit.unlink()
     for edit in sorted((home / "tests" / "edits" / crate).glob("*.edit")):
@@ -63,10 +89,13 @@ def main() -> None:
     parser = argparse.ArgumentParser(description=__doc__, formatter_class=argparse.RawDescriptionHelpFormatter)
     parser.add_argument("crates", metavar="CRATE", nargs="+")
     parser.add_argument("--all", action="store_true", help="also those of the crate's must-fail, which the gate tries")
+    parser.add_argument("--fit", action="store_true", help="look whether they fit the code, and try none")
     asked = parser.parse_args()
     for crate in asked.crates:
         if not (ROOT / "crates" / crate).is_dir():
             parser.error(f"no such crate: {crate}")
+    if asked.fit:
+        programs.end(*look(asked.crates))
     with tempfile.TemporaryDirectory() as folder:
         home = pathlib.Path(folder) / "tree"
         shutil.copytree(ROOT, home, ignore=shutil.ignore_patterns(".git"))

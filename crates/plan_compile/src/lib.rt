@@ -37,6 +37,3 @@ pub use image_laws::{
 };
 pub use laws::{command_means, command_shaped, phony_means, phony_shaped, runs_keep_to_rule};
 pub use wiring::{CommandWiring, GatherWiring, Input, Output, Wiring};
-
-#[cfg(test)]
-mod tests;

@@ -24,8 +24,8 @@ pub record Goes (old new : Progress) (event : Event) : Type 0 where
   pub applies : Applies old new event mark
 
 -- What one advance did. `Moved`: an event that doesn't ask. `Job`: one that asks just this question; a permit comes
--- with a Run alone, and says whether the edge is a console edge. `Wait`: nothing, since no start, skip, stop or step is enabled, and an edge awaits a reply.
--- `Ended`: nothing, since the run has ended.
+-- with a Run alone, and says whether the edge is a console edge. `Wait`: nothing, since no start, skip, stop or step is
+-- enabled, and an edge awaits a reply. `Ended`: nothing, since the run has ended.
 abbrev pub Advances : Progress → Progress → Advance → Type 0
 Advances old new Moved = (event : Event) × Goes old new event × AsksNothing old.opened.parts (going_of old) event
 Advances old new (Job e question permit) =

@@ -1,6 +1,6 @@
 -- Two traces that were compared, and why others weren't.
-use Rattle.std.proofs.Common.{◌≡◌, Bool, true, List, Result, Ok, Err, subst, inl, inr}
-use Rattle.std.specs.Prelude.{◌⊎◌, IfErr}
+use Rattle.std.proofs.Common.{◌≡◌, Bool, true, List, Result, Ok, Err, subst, inr}
+use Rattle.std.specs.Prelude.{IfErr}
 use Rattle.plan_scope.specs.Scopes.{Text}
 use Rattle.plan_scope.specs.Loading.{FileContents, PathSet}
 use Rattle.plan_image.specs.declared.image.Parts.{Parts}

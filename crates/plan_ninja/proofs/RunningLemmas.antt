@@ -1,5 +1,5 @@
 -- What a run that is told comes to. Serves src/running.rt.
-use Rattle.std.proofs.Common.{◌≡◌, ◌⊎◌, ◌∙◌, ℕ, Bool, true, List, Option, Some, None, Result, Ok, Err, IfOk, IfErr, IfSome, IfNone, inl, inr, false, refl, sym, ap, subst}
+use Rattle.std.proofs.Common.{◌≡◌, ◌⊎◌, ◌∙◌, ℕ, true, List, Some, None, Result, Ok, Err, IfOk, IfErr, IfSome, IfNone, inl, inr, false, refl, sym, ap, subst}
 use Rattle.plan_image.specs.declared.image.Parts.{Parts}
 use Rattle.plan_verify.specs.WellShaped.{IsWellShaped}
 use Rattle.plan_machine.specs.Limits.{Limits}
@@ -7,7 +7,7 @@ use Rattle.plan_machine.specs.State.{has_ended}
 use Rattle.plan_scope.specs.Scopes.{Text}
 use Rattle.plan_scope.specs.Loading.{FileContents, PathSet}
 use Rattle.plan_machine.specs.declared.refused.Refused.TheVariants as refused
-use Rattle.plan_lanes.specs.Faults.{FaultReports}
+use Rattle.plan_lanes.specs.Faults.{FaultReports, report_of}
 use Rattle.plan_lanes.specs.Journals.{Rule}
 use Rattle.plan_lanes.specs.Progress.{Opened}
 use Rattle.plan_lanes.specs.Reports.{IsRunOf}
@@ -18,7 +18,7 @@ use Rattle.plan_ninja.specs.declared.fault.PlanFault.{PlanFault}
 use Rattle.plan_ninja.specs.Faults.{no_memory}
 use Rattle.plan_ninja.specs.Images.{IsImageAt}
 use Rattle.plan_ninja.specs.Targets.{targets}
-use Rattle.plan_ninja.specs.Running.{FailsToRun, IsNotBegun, IsOpened, IsUnknown, Runs, Tells, TellsAll, TellsSome, Wanted, WritesTrace, Written, both, opening_memory, printed_lane_fault, report_of}
+use Rattle.plan_ninja.specs.Running.{FailsToRun, IsNotBegun, IsOpened, IsUnknown, Runs, Tells, TellsAll, TellsSome, Wanted, WritesTrace, Written, both, opening_memory, printed_lane_fault}
 use Rattle.plan_ninja.proofs.TargetLemmas.{all_inside}
 
 -- a run that has ended, was told and has its trace

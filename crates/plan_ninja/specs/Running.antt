@@ -16,10 +16,9 @@ use Rattle.plan_trace.specs.Spelling.{run_text}
 use Rattle.plan_lanes.specs.Journals.{Rule}
 use Rattle.plan_lanes.specs.Progress.{Opened}
 use Rattle.plan_lanes.specs.Reports.{IsRunOf}
-use Rattle.plan_lanes.specs.Faults.{number_of}
+use Rattle.plan_lanes.specs.Faults.{number_of, report_of}
 use Rattle.plan_lanes.specs.declared.board.Report.{Report}
 use Rattle.plan_lanes.specs.declared.fault.LaneFault.{LaneFault}
-use Rattle.plan_lanes.specs.declared.fault.LaneFault.TheVariants as lanes
 use Rattle.plan_ninja.specs.declared.fault.PlanFault.{PlanFault}
 use Rattle.plan_ninja.specs.Faults.{file_fault, no_memory, output_fault}
 use Rattle.plan_ninja.specs.Images.{SinkState, IsImageAt}
@@ -96,14 +95,6 @@ opening_memory = record { number = 111; rest = [] }
 abbrev pub IsNotBegun : FileContents → PathSet → Wanted → PlanFault → Type 0
 IsNotBegun gives missing w fault =
     IsRejected gives missing w.path fault ⊎ (IsUnknown gives w.path w.names fault ⊎ ((fault ≡ no_memory) ⊎ (fault ≡ opening_memory)))
-
--- the report that comes with a fault of lanes
-abbrev pub report_of : LaneFault → Option Report
-report_of (lanes.Opening refused) = None
-report_of (lanes.NotEnabled r) = Some r
-report_of (lanes.NoMemory r) = Some r
-report_of (lanes.NoLane r) = Some r
-report_of (lanes.OtherBoard r) = Some r
 
 -- a fault of lanes, as the program prints it
 abbrev pub printed_lane_fault : LaneFault → PlanFault

@@ -17,8 +17,6 @@ mod replay_fault;
 mod replaying;
 mod running;
 mod targets;
-#[cfg(test)]
-mod tests;
 mod verdicts;
 
 use crate::commands::do_commands;

@@ -3,6 +3,7 @@
 ghost use Rattle.std.specs.Prelude.{◌≡◌, ◌⊎◌, Err, IfErr, IfNone, IfOk, IfSome, OnOk, Some, map, option_map};
 ghost use Rattle.plan_scope.specs.Loading.{IsMissing};
 ghost use Rattle.plan_machine.specs.Kept.{IsStateOf};
+ghost use Rattle.plan_lanes.specs.Faults as faults;
 ghost use Rattle.plan_ninja.specs.Faults.{no_memory};
 ghost use Rattle.plan_ninja.specs.Running as defined;
 ghost use Rattle.plan_ninja.specs.Running.{FailsToRun, IsNotBegun, IsOpened, Runs, Tells, TellsAll, TellsSome, Traces, WritesTrace};
@@ -148,7 +149,7 @@ fn tell_some<O: Sink, T: Sink>(
 
 /// The report that comes with a fault of lanes.
 fn report_of(fault: &LaneFault) -> Option<&Report>
-    ensures { option_map (λ r. r.now) result ≡ defined.report_of fault.now }
+    ensures { option_map (λ r. r.now) result ≡ faults.report_of fault.now }
 {
     match fault {
         LaneFault::Opening(_) => None,
@@ -206,13 +207,13 @@ fn told<O: Sink, T: Sink>(
     trace: &mut T,
 ) -> Result<u8, PlanFault>
     requires ok { IfOk ran.now (λ r. IsStateOf image.now r.state) }
-    requires stopped { IfErr ran.now (λ f. IfSome (defined.report_of f) (λ r. IsStateOf image.now r.state)) }
+    requires stopped { IfErr ran.now (λ f. IfSome (faults.report_of f) (λ r. IsStateOf image.now r.state)) }
     ensures ended { IfOk ran.now (λ r. TellsAll (option_map (λ t. t.now) build.now.trace) image.now build.now.options targets.now r
         ((O.failures out.old, O.taken out.old), (T.failures trace.old, T.taken trace.old)) ((O.failures out.new, O.taken out.new), (T.failures trace.new, T.taken trace.new)) result) }
     ensures err { IfErr ran.now (λ f. result ≡ Err (defined.printed_lane_fault f)) }
-    ensures some { IfErr ran.now (λ f. IfSome (defined.report_of f) (λ r. TellsSome (option_map (λ t. t.now) build.now.trace) image.now build.now.options targets.now r
+    ensures some { IfErr ran.now (λ f. IfSome (faults.report_of f) (λ r. TellsSome (option_map (λ t. t.now) build.now.trace) image.now build.now.options targets.now r
         ((O.failures out.old, O.taken out.old), (T.failures trace.old, T.taken trace.old)) ((O.failures out.new, O.taken out.new), (T.failures trace.new, T.taken trace.new)))) }
-    ensures none { IfErr ran.now (λ f. IfNone (defined.report_of f) ((out.new ≡ out.old) × (trace.new ≡ trace.old))) }
+    ensures none { IfErr ran.now (λ f. IfNone (faults.report_of f) ((out.new ≡ out.old) × (trace.new ≡ trace.old))) }
 {
     match ran {
         Ok(report) => tell_all(alloc, build, image, targets, report, out, trace),

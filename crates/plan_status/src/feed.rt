@@ -63,8 +63,17 @@ impl Feed {
         }
     }
 
+    /// Whether there is no room for a line.
+    fn is_full(&mut self) -> bool
+        ensures text { sent_text self.new ≡ sent_text self.old }
+        ensures ring { SameFeed self.old self.new }
+        ensures same { (self.new.shown ≡ self.old.shown) × (self.new.ended ≡ self.old.ended) }
+    {
+        self.ring.is_full()
+    }
+
     /// Puts the line of a mark in, where so many command edges came out with it. False where there is no room, or no
-    /// memory.
+    /// memory. Without room it makes no line.
     fn put(&mut self, parts: &Parts, total: u64, n: u64, mark: Mark) -> bool
         ensures yes { result ≡ true → sent_text self.new ≡ sent_text self.old ++ defined.line_of parts.now total n mark }
         ensures no { result ≡ false → sent_text self.new ≡ sent_text self.old }
@@ -73,6 +82,9 @@ impl Feed {
     {
         if !may_have_line(mark) {
             return true;
+        }
+        if self.is_full() {
+            return false;
         }
         match line_of(self.alloc, parts, total, n, mark) {
             Ok(line) => self.push(line),

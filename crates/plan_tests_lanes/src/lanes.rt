@@ -7,6 +7,7 @@ use plan_status::{ends_stay, live};
 use plan_text::{Counted as Sinks, Items, RowList, Sink};
 use plan_verify::{PathList, Verified, verify};
 use std::alloc::{AllocError, Global};
+use std::mem::forget;
 use std::rt::Clock;
 use std::sync::Wait;
 use std::sync::atomic::{AtomicU64, Ordering};
@@ -498,23 +499,40 @@ fn one_edge_by_hand(rt: HostRuntime) {
     );
 }
 
+/// The number of the fault that a run ends with.
+fn fault_of<R: Threads + Wait + Sync>(
+    rt: &R,
+    alloc: Global,
+    image: &Verified,
+    options: Options,
+    targets: &[u32],
+    world: &Counted,
+) -> Option<u8> {
+    let ran = run_lanes(rt, alloc, image, options, targets, world);
+    let number = match &ran {
+        Ok(_) => None,
+        Err(fault) => Some(fault.number()),
+    };
+    forget(ran);
+    number
+}
+
 /// A target outside is refused, and no lane starts.
 #[test]
-fn target_outside(rt: HostRuntime) -> Result<(), Fail> {
+fn target_outside(rt: HostRuntime) {
     let (Ok(image), Some(options)) = (edges_of(rt.alloc(), 2, 0, 0), Options::new(2, 0)) else {
         panic!(&rt; "no image");
     };
     let world = Counted::new(u64::MAX, false);
-    match run_lanes(&rt, rt.alloc(), &image, options, &[2], &world) {
-        Err(fault) => assert_eq!(rt; fault.number(), 112),
-        Ok(_) => panic!(&rt; "opened"),
-    }
+    assert_eq!(rt;
+        fault_of(&rt, rt.alloc(), &image, options, &[2], &world),
+        Some(112)
+    );
     assert_eq!(rt; world.calls.load(Ordering::SeqCst), 0);
-    Ok(())
 }
 
-/// Runs an image whose lines go through a ring for so many of them, and settles it: how many edges ran, and whether all
-/// lines were written.
+/// Runs an image whose lines go through a ring for so many of them, and settles it: whether all lines were put in while
+/// lanes ran, and whether all were written.
 fn shown_run<R: Threads + Wait + Sync, O: Sink>(
     rt: &R,
     alloc: Global,
@@ -522,7 +540,7 @@ fn shown_run<R: Threads + Wait + Sync, O: Sink>(
     options: Options,
     room: usize,
     out: &mut O,
-) -> Option<bool> {
+) -> Option<(bool, bool)> {
     ends_stay();
     let Ok((feed, tap)) = live(alloc, room) else {
         return None;
@@ -532,7 +550,9 @@ fn shown_run<R: Threads + Wait + Sync, O: Sink>(
     match ran {
         Ok(report) => {
             let total = report.state.total();
-            Some(tap.settle(feed, image, total, &report.marks, out).is_ok())
+            let all = feed.shown() == report.marks.len();
+            let settled = tap.settle(feed, image, total, &report.marks, out);
+            Some((all, settled.is_ok()))
         }
         Err(_) => None,
     }
@@ -545,11 +565,11 @@ fn lines_are_shown(rt: HostRuntime) {
     let (Ok(image), Some(options)) = (edges_of(alloc, 3, 1, 0), Options::new(4, 0)) else {
         panic!(&rt; "no image");
     };
-    for room in [0usize, 1, 256] {
+    for (room, all) in [(0usize, false), (1, false), (256, true)] {
         let mut out = Sinks::new(Vec::new(alloc));
         assert_eq!(rt;
             shown_run(&rt, alloc, &image, options, room, &mut out),
-            Some(true)
+            Some((all, true))
         );
         assert_eq!(rt;
             out.into_writer().as_slice(),

@@ -1,4 +1,4 @@
-//! The tests of plan_machine, plan_status and plan_trace. They stand apart from the code, since a
+//! The tests of plan_machine. They stand apart from the code, since a
 //! crate with tests is proved twice.
 #![tactic(auto)]
 
@@ -6,7 +6,3 @@
 mod ends;
 #[cfg(test)]
 mod machine;
-#[cfg(test)]
-mod status;
-#[cfg(test)]
-mod trace;

@@ -461,19 +461,31 @@ fn failures_and_skips(rt: HostRuntime) {
     );
 }
 
-/// What the first step of an edge would ask.
-fn first_question(alloc: Global) -> Result<(bool, bool), Refused> {
-    let image = alone(alloc, &[Instr::Stat(0), Instr::Drop, Instr::End])?;
-    let Some(options) = Options::new(1, 0) else {
-        return Err(Refused::Memory);
-    };
-    let mut state = State::open(alloc, &image, options, &[])?;
-    let early = state.asks(&image, &Event::Step(0)).is_some();
-    let _ = state.apply(&image, Event::Start(0))?;
-    match state.asks(&image, &Event::Step(0)) {
+/// Whether the step of edge 0 asks something before its start, and for the stamp of `a` behind it.
+fn questions(image: &Verified, state: &mut State) -> Result<(bool, bool), Refused>
+    requires { IsStateOf image.now state.old }
+{
+    let early = state.asks(image, &Event::Step(0)).is_some();
+    let _ = state.apply(image, Event::Start(0))?;
+    match state.asks(image, &Event::Step(0)) {
         Some(Request::Stat(path)) => Ok((early, path == b"a".as_slice())),
         _ => Ok((early, false)),
     }
+}
+
+/// The same, in a run of one job.
+fn opened_questions(alloc: Global, image: &Verified) -> Result<(bool, bool), Refused> {
+    let Some(options) = Options::new(1, 0) else {
+        return Err(Refused::Memory);
+    };
+    let mut state = State::open(alloc, image, options, &[])?;
+    questions(image, &mut state)
+}
+
+/// What the first step of an edge would ask.
+fn first_question(alloc: Global) -> Result<(bool, bool), Refused> {
+    let image = alone(alloc, &[Instr::Stat(0), Instr::Drop, Instr::End])?;
+    opened_questions(alloc, &image)
 }
 
 #[test]

@@ -74,7 +74,32 @@ pub(crate) fn make_folders<R: Files>(rt: &R, files: &RowList<u8>) -> bool {
     true
 }
 
-/// Runs a command of an edge that the record says was begun, with empty standard input, and shows what it printed.
+/// Runs a shell with empty standard input, shows what its command printed, and gives its status.
+fn run_aside<R: Processes + Print + Wait>(
+    rt: &R,
+    screen: &Mutex<()>,
+    shell: &mut Command,
+) -> io::Result<Option<i32>> {
+    let printed = shell.output(rt)?;
+    show(rt, screen, &printed);
+    Ok(printed.status.code())
+}
+
+/// Runs a shell whose command has this program's own standard input, output and error, and gives its status. The screen
+/// is locked as long as it runs, so that nothing else comes between.
+fn run_on_terminal<R: Processes + Wait>(
+    rt: &R,
+    screen: &Mutex<()>,
+    shell: &mut Command,
+) -> io::Result<Option<i32>> {
+    let guard = screen.lock(rt);
+    let status = shell.status(rt)?;
+    drop(guard);
+    Ok(status.code())
+}
+
+/// Runs a command of an edge that the record says was begun: on the terminal where it is a console command, else with
+/// empty standard input, and then it shows what it printed.
 ///
 /// # Errors
 /// Want of memory alone, also of what it printed: then it was killed.
@@ -82,6 +107,7 @@ pub(crate) fn run_shell<R: Processes + Print + Wait + AllocGlobal>(
     rt: &R,
     screen: &Mutex<()>,
     command: &[u8],
+    console: bool,
     outputs: &RowList<u8>,
     begun: Begun<'_>,
 ) -> Result<Reply, AllocError>
@@ -91,11 +117,14 @@ pub(crate) fn run_shell<R: Processes + Print + Wait + AllocGlobal>(
     let Ok(text) = str::from_utf8(command) else {
         return Ok(Reply::NotStarted);
     };
-    match shell_of(rt.alloc(), text)?.output(rt) {
-        Ok(printed) => {
-            show(rt, screen, &printed);
-            Ok(how_ended(printed.status.code()))
-        }
+    let mut shell = shell_of(rt.alloc(), text)?;
+    let ended = if console {
+        run_on_terminal(rt, screen, &mut shell)
+    } else {
+        run_aside(rt, screen, &mut shell)
+    };
+    match ended {
+        Ok(code) => Ok(how_ended(code)),
         Err(error) => match error.kind() {
             ErrorKind::OutOfMemory => Err(AllocError),
             _ => Ok(Reply::NotStarted),

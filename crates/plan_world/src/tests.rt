@@ -92,7 +92,7 @@ fn stamps(rt: HostRuntime) -> Result<(), Fail> {
     ] {
         let command = format!(in alloc; "touch -d @{date} {file}")?;
         assert_eq!(rt;
-            said(alloc, world.start(command.as_bytes(), &outputs)?)?.as_str(),
+            said(alloc, world.start(command.as_bytes(), false, &outputs)?)?.as_str(),
             "exit 0"
         );
         assert_eq!(rt;
@@ -118,6 +118,29 @@ fn stamps(rt: HostRuntime) -> Result<(), Fail> {
     Ok(())
 }
 
+/// A console command writes to where this program's own standard output goes, and another one doesn't.
+#[test]
+fn console_commands(rt: HostRuntime) -> Result<(), Fail> {
+    let alloc = rt.alloc();
+    let folder = folder(&rt, "console_commands")?;
+    let world = world_in(&rt, folder.as_str())?;
+    let outputs = rows(alloc, &[b"out"])?;
+    let same = b"test \"$(readlink /proc/$$/fd/1)\" = \"$(readlink /proc/$PPID/fd/1)\"".as_slice();
+    for (command, console, reply) in [
+        (same, true, "exit 0"),
+        (same, false, "exit 1"),
+        (b"exit 3".as_slice(), true, "exit 3"),
+        (b"kill -9 $$".as_slice(), true, "signal"),
+    ] {
+        assert_eq!(rt;
+            said(alloc, world.start(command, console, &outputs)?)?.as_str(),
+            reply
+        );
+    }
+    fs::remove_dir_all(&rt, folder.as_str())?;
+    Ok(())
+}
+
 #[test]
 fn commands(rt: HostRuntime) -> Result<(), Fail> {
     let alloc = rt.alloc();
@@ -135,7 +158,7 @@ fn commands(rt: HostRuntime) -> Result<(), Fail> {
         (b"true \0".as_slice(), "not started"),
     ] {
         assert_eq!(rt;
-            said(alloc, world.start(command, &outputs)?)?.as_str(),
+            said(alloc, world.start(command, false, &outputs)?)?.as_str(),
             reply
         );
     }
@@ -150,7 +173,7 @@ fn commands(rt: HostRuntime) -> Result<(), Fail> {
         rows(alloc, &[])?,
     ] {
         assert_eq!(rt;
-            said(alloc, world.start(b"true", &paths)?)?.as_str(),
+            said(alloc, world.start(b"true", false, &paths)?)?.as_str(),
             "not started"
         );
     }
@@ -272,7 +295,7 @@ fn failed_is_begun(rt: HostRuntime) -> Result<(), Fail> {
     let command = format!(in alloc; "cp {record} {copy}; exit 1")?;
     let outputs = rows(alloc, &[b"a"])?;
     assert_eq!(rt;
-        said(alloc, world.start(command.as_bytes(), &outputs)?)?.as_str(),
+        said(alloc, world.start(command.as_bytes(), false, &outputs)?)?.as_str(),
         "exit 1"
     );
     let mut bytes = Vec::from_slice(alloc, &ENTRY)?;

@@ -28,7 +28,7 @@ use std::sync::{Mutex, Wait};
 #[derive(Drop)]
 pub struct RealWorld<R: Files> {
     rt: R,
-    /// Held while what a command printed is written.
+    /// Held while what a command printed is written, and as long as a console command runs.
     screen: Mutex<()>,
     record: Mutex<RecordFile<R::File>>,
 }
@@ -56,7 +56,8 @@ where
 }
 
 impl<R: Files> RealWorld<R> {
-    /// Held while what a command printed is written to standard output: whoever writes there meanwhile takes it too.
+    /// Held while what a command printed is written to standard output, and as long as a console command runs: whoever
+    /// writes there meanwhile takes it too.
     pub fn screen(&self) -> &Mutex<()> {
         &self.screen
     }
@@ -67,7 +68,12 @@ where
     R::File: Write + Seek + OpenFile,
 {
     /// Runs a command whose edge makes these files, the first of which names it in the record.
-    pub(crate) fn start(&self, command: &[u8], outputs: &RowList<u8>) -> Result<Reply, AllocError>
+    pub(crate) fn start(
+        &self,
+        command: &[u8],
+        console: bool,
+        outputs: &RowList<u8>,
+    ) -> Result<Reply, AllocError>
         ensures { IfOk result (λ r. IsAnswer (Run command.now outputs.now) r) }
     {
         if outputs.len() == 0 || !make_folders(&self.rt, outputs) {
@@ -78,7 +84,7 @@ where
             .lock(&self.rt)
             .begin(self.rt.alloc(), outputs.row(0));
         match begun {
-            Ok(begun) => run_shell(&self.rt, &self.screen, command, outputs, begun),
+            Ok(begun) => run_shell(&self.rt, &self.screen, command, console, outputs, begun),
             Err(DeviceFault::Memory) => Err(AllocError),
             Err(DeviceFault::Device) => Ok(Reply::NotStarted),
         }
@@ -137,8 +143,9 @@ where
         outputs: &RowList<u8>,
         permit: Permit,
     ) -> Result<Reply, AllocError> {
+        let console = permit.console();
         permit.spend();
-        self.start(command, outputs)
+        self.start(command, console, outputs)
     }
 
     fn read_depfile(&self, _number: u64, path: &[u8]) -> Result<Reply, AllocError> {

@@ -1,4 +1,4 @@
-use Rattle.std.proofs.Common.{◌≡◌, ◌∙◌, List, ℕ, length, ap, sym, zero}
+use Rattle.std.proofs.Common.{◌∙◌, List, ℕ, length, ap, sym, zero}
 use Rattle.plan_compile.specs.Builds.{Build}
 use Rattle.plan_compile.specs.Slots.{newest_from}
 use Rattle.plan_compile.proofs.AssembleLemmas.{newest_length}

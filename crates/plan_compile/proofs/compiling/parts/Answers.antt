@@ -1,10 +1,10 @@
-use Rattle.std.proofs.Common.{refl, ◌≡◌, ◌∙◌, List, ℕ, length, map, Some, None, replicate, ap, sym, zero}
+use Rattle.std.proofs.Common.{refl, ◌≡◌, ◌∙◌, List, length, map, Some, None, replicate, ap, sym, zero}
 use Rattle.plan_image.specs.declared.instr.Instr.{Instr}
 use Rattle.plan_compile.specs.Assembling.{codes_in}
 use Rattle.plan_compile.specs.Builds.{Build, Builds, builds}
 use Rattle.plan_compile.specs.Faithful.{IsSound}
 use Rattle.plan_compile.specs.Images.{edges_of, used_bodies}
-use Rattle.plan_compile.specs.Names.{Text, all_texts, declared, used_pools}
+use Rattle.plan_compile.specs.Names.{Text, declared, used_pools}
 use Rattle.plan_compile.specs.OutputTable.{Table, filled}
 use Rattle.plan_compile.specs.Slots.{all_made, newest_from, slots_from}
 use Rattle.plan_compile.proofs.AssembleLemmas.{image_is}

@@ -1,4 +1,4 @@
-use Rattle.std.proofs.Common.{◌≡◌, ◌∙◌, sym}
+use Rattle.std.proofs.Common.{◌∙◌, sym}
 use Rattle.plan_ninja.proofs.ComparingLemmas.{compared}
 use Rattle.plan_ninja.proofs.comparing.compare_runs.Goals as goal
 

@@ -1,4 +1,4 @@
-use Rattle.std.proofs.Common.{◌≡◌, inl, refl}
+use Rattle.std.proofs.Common.{inl, refl}
 use Rattle.plan_scope.specs.Loading.{IsMissing}
 use Rattle.plan_ninja.proofs.RunningLemmas.{run_done, run_refused, with_targets}
 use Rattle.plan_ninja.proofs.running.do_run.Goals as goal

@@ -1,4 +1,4 @@
-use Rattle.std.proofs.Common.{◌≡◌, inl, inr}
+use Rattle.std.proofs.Common.{inl, inr}
 use Rattle.plan_ninja.proofs.RunningLemmas.{not_opened}
 use Rattle.plan_ninja.proofs.running.opened_at.Goals as goal
 

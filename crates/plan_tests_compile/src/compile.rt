@@ -1,9 +1,8 @@
 //! Each public function once, on edges made by hand.
 
-use super::*;
-use plan_image::{Edge, EdgeCode, Edges, Image, Instr, Kind, Parts, Slot, Sort, split};
-use plan_text::{Items, RowList};
-use plan_verify::{VerifyFault, verify};
+use plan_compile::*;
+use plan_image::Instr;
+use plan_text::Items;
 use std::alloc::{AllocError, Global};
 
 fn items<T: Copy>(alloc: Global, values: &[T]) -> Result<Items<T>, AllocError> {
@@ -337,85 +336,4 @@ fn places(rt: HostRuntime) {
     assert_eq!(rt; len_ordered(rt.alloc(), 32_747), Ok(65_535));
     assert_eq!(rt; len_ordered(rt.alloc(), 32_748), Err(CompileFault::Limit));
     assert_eq!(rt; len_ordered(rt.alloc(), 40_000), Err(CompileFault::Limit));
-}
-
-/// What the verifier says of an image with one edge of this wiring: the number of events that it may take.
-fn verdict(alloc: Global, wiring: &Wiring, slots: &[Kind]) -> Result<u64, VerifyFault> {
-    let Ok(code) = edge_code(alloc, wiring) else {
-        return Err(VerifyFault::Memory);
-    };
-    let Ok((body, operands)) = split(alloc, code.as_slice()) else {
-        return Err(VerifyFault::Memory);
-    };
-    let mut bodies = Vec::new(alloc);
-    bodies.push(body)?;
-    let mut edges = Edges::new(alloc);
-    edges.push(
-        alloc,
-        &Edge {
-            sort: Sort::Command,
-            pool: None,
-            rank: 0,
-            label: 0,
-            outputs: items(alloc, [0].as_slice())?,
-            waits: Items::empty(alloc),
-            code: EdgeCode::Shared(0, operands),
-        },
-    )?;
-    let mut texts = RowList::new(alloc);
-    texts.push(b"cc")?;
-    texts.push(b"a.d")?;
-    let mut files = RowList::new(alloc);
-    files.push(b"a.o")?;
-    files.push(b"a.c")?;
-    let mut owned = Vec::new(alloc);
-    for &kind in slots {
-        owned.push(Slot { owner: 0, kind })?;
-    }
-    let parts = Parts {
-        texts,
-        files,
-        pools: Items::empty(alloc),
-        slots: Items::new(owned),
-        bodies: Some(Items::new(bodies)),
-        edges,
-        defaults: items(alloc, [0].as_slice())?,
-    };
-    let Ok(image) = Image::new(parts) else {
-        return Err(VerifyFault::Memory);
-    };
-    match verify(alloc, image) {
-        Ok(verified) => Ok(verified.budget()),
-        Err((_image, fault)) => Err(fault),
-    }
-}
-
-#[test]
-fn verified(rt: HostRuntime) -> Result<(), AllocError> {
-    let three = [Kind::Stamp, Kind::Flag, Kind::Stamp];
-    let wiring = Wiring::Command(compiled(rt.alloc())?);
-    assert_eq!(rt;
-        verdict(rt.alloc(), &wiring, three.as_slice()).is_ok(),
-        true
-    );
-    for (restat, generator) in [(true, false), (false, true), (true, true)] {
-        let wiring = Wiring::Command(command(rt.alloc(), restat, generator)?);
-        assert_eq!(rt;
-            verdict(rt.alloc(), &wiring, three.as_slice()).is_ok(),
-            true
-        );
-    }
-    let mut blank = command(rt.alloc(), false, false)?;
-    blank.blank = true;
-    assert_eq!(rt;
-        verdict(rt.alloc(), &Wiring::Command(blank), three.as_slice()).is_ok(),
-        true
-    );
-    let outputs = items(rt.alloc(), [output(0, 0, 1)].as_slice())?;
-    let two = [Kind::Stamp, Kind::Flag];
-    assert_eq!(rt;
-        verdict(rt.alloc(), &Wiring::Alone(outputs), two.as_slice()).is_ok(),
-        true
-    );
-    Ok(())
 }

@@ -2,7 +2,7 @@
 
 ghost use Rattle.plan_status.specs.Live.{AreEnds, IsUnused};
 
-use plan_image::{Edge, EdgeCode, Edges, Image, Instr, Parts, Sort};
+use plan_image::{Edge, EdgeCode, Edges, Image, Instr, Parts, Pool, Sort};
 use plan_machine::{Cause, Event, Mark, Options, State, replay};
 use plan_status::*;
 use plan_text::{Counted, Items, RowList, Sink};
@@ -11,7 +11,7 @@ use std::alloc::{AllocError, Global};
 use std::io::{self, Write};
 use std::test::Fail;
 
-/// An edge of this sort, rank and label, which makes the file of its number and ends at once.
+/// An edge of this sort, rank and label, which makes the file of its number and ends at once; the first is a console edge.
 fn edge(
     alloc: Global,
     sort: Sort,
@@ -21,7 +21,7 @@ fn edge(
 ) -> Result<Edge, AllocError> {
     Ok(Edge {
         sort,
-        pool: None,
+        pool: if number == 0 { Some(0) } else { None },
         rank: number,
         label,
         outputs: Items::new(Vec::from_slice(alloc, [number].as_slice())?),
@@ -46,6 +46,14 @@ fn five_edges(alloc: Global) -> Result<Edges, AllocError> {
     Ok(edges)
 }
 
+/// The pool of console edges alone.
+fn console(alloc: Global) -> Result<Items<Pool>, AllocError> {
+    let name = Items::new(Vec::from_slice(alloc, b"console".as_slice())?);
+    let mut pools = Vec::new(alloc);
+    pools.push(Pool { name, depth: 1 })?;
+    Ok(Items::new(pools))
+}
+
 fn parts_of(alloc: Global) -> Result<Parts, AllocError> {
     let mut texts = RowList::new(alloc);
     texts.push(b"exit 2")?;
@@ -57,7 +65,7 @@ fn parts_of(alloc: Global) -> Result<Parts, AllocError> {
     Ok(Parts {
         texts,
         files,
-        pools: Items::empty(alloc),
+        pools: console(alloc)?,
         slots: Items::empty(alloc),
         bodies: None,
         edges: five_edges(alloc)?,
@@ -131,6 +139,84 @@ fn lines_through_a_ring(rt: HostRuntime) {
             b"FAILED a: exit 2\n[2/4] true\n[3/4] true\nSKIPPED d: needs a\n".as_slice()
         );
     }
+}
+
+/// What a tap prints of these marks with no settlement behind it, and whether all of them were shown.
+fn printed_meanwhile(alloc: Global, image: &Verified, marks: &[Mark], text: &[u8]) -> Option<bool> {
+    marks_may_come();
+    let Ok((mut feed, mut tap)) = live(alloc, 256) else {
+        return None;
+    };
+    let mut out = Counted::new(Vec::new(alloc));
+    feed.show(image, 4, marks);
+    tap.print(&mut out);
+    Some(feed.shown() == marks.len() && out.into_writer().as_slice() == text)
+}
+
+/// Lines are in the ring as soon as their marks are shown, and are written by a print.
+#[test]
+fn lines_come_while_it_runs(rt: HostRuntime) {
+    let alloc = rt.alloc();
+    let Some(image) = image_of(alloc) else {
+        panic!(&rt; "no image");
+    };
+    let marks = [Mark::Ended(1, true), Mark::Ended(2, true)];
+    assert_eq!(rt;
+        printed_meanwhile(
+            alloc,
+            &image,
+            &marks,
+            b"[1/4] true\n[2/4] true\n".as_slice()
+        ),
+        Some(true)
+    );
+}
+
+/// A write that failed in a print is told of by the settlement, though nothing is left to write.
+#[test]
+fn failed_print_is_settled(rt: HostRuntime) {
+    let alloc = rt.alloc();
+    let (Some(image), Ok(ends)) = (image_of(alloc), live(alloc, 256)) else {
+        panic!(&rt; "no image");
+    };
+    let marks = [Mark::Stopped(0), Mark::Stopped(1), Mark::Stopped(2)];
+    let mut out = Counted::new(Failing { left: 1 });
+    assert!(rt; !settled(&image, &marks, ends, &mut out));
+}
+
+/// How many of these marks may be told of.
+fn free_of(alloc: Global, marks: &[Mark]) -> Option<usize> {
+    let image = image_of(alloc)?;
+    match free_marks(alloc, &image, marks) {
+        Ok(free) => Some(free),
+        Err(_) => None,
+    }
+}
+
+#[test]
+fn marks_behind_a_console_edge(rt: HostRuntime) {
+    let marks = [
+        Mark::Started(0),
+        Mark::Started(1),
+        Mark::Took(0),
+        Mark::Took(1),
+        Mark::Released(1),
+        Mark::Ended(1, true),
+        Mark::Released(0),
+        Mark::Ended(0, true),
+    ];
+    assert_eq!(rt; free_of(rt.alloc(), &marks[..6]), Some(2));
+    assert_eq!(rt; free_of(rt.alloc(), &marks), Some(8));
+}
+
+#[test]
+fn console_edges(rt: HostRuntime) {
+    let Some(image) = image_of(rt.alloc()) else {
+        panic!(&rt; "no image");
+    };
+    assert!(rt; is_console(&image, 0));
+    assert!(rt; !is_console(&image, 1));
+    assert!(rt; !is_console(&image, 9));
 }
 
 #[test]

@@ -1,0 +1,6 @@
+//! The tests of plan_compile. They stand apart from the code, since a
+//! crate with tests is proved twice.
+#![tactic(auto)]
+
+#[cfg(test)]
+mod compile;

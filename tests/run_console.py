@@ -1,0 +1,138 @@
+#!/usr/bin/env python3
+"""Runs commands of the pool `console`, which have the terminal to themselves, and others beside them.
+
+The built program runs below a shell that pipes into it, with its output piped, and in a terminal of its own. The last
+line is `N passed, M failed`.
+"""
+import os
+import pathlib
+import pty
+import select
+import shlex
+import subprocess
+import tempfile
+import time
+from collections.abc import Callable
+
+import programs
+
+PATIENCE = 20.0  # seconds for a program in a terminal to end
+TERMINAL = "test -t 0 && test -t 1 && test -t 2"
+
+
+def manifest(*edges: tuple[str, bool]) -> str:
+    """One rule and one edge for each command; those marked are console edges."""
+    text = ""
+    for number, (command, console) in enumerate(edges):
+        text += f"rule r{number}\n  command = {command}\n" + ("  pool = console\n" if console else "")
+        text += f"build out{number}: r{number}\n"
+    return text
+
+
+def laid(program: str, folder: pathlib.Path, *edges: tuple[str, bool]) -> None:
+    programs.write({"build.ninja": manifest(*edges)}, folder)
+    programs.printed_lines([program, "compile", "build.ninja", "-o", "plan.img"], folder)
+
+
+def piped(program: str, folder: pathlib.Path) -> bytes:
+    """What a run prints whose standard input is the line `hello`."""
+    line = f"echo hello | {shlex.quote(program)} run plan.img"
+    return subprocess.run(["sh", "-c", line], cwd=folder, capture_output=True, timeout=PATIENCE).stdout
+
+
+def console_reads(program: str, folder: pathlib.Path) -> str:
+    laid(program, folder, ("cat", True))
+    found = piped(program, folder)
+    return "" if found == b"hello\n[1/1] cat\n" else f"it printed {found!r}"
+
+
+def others_read_nothing(program: str, folder: pathlib.Path) -> str:
+    laid(program, folder, ("cat", False))
+    found = piped(program, folder)
+    return "" if found == b"[1/1] cat\n" else f"it printed {found!r}"
+
+
+def output_is_whole(program: str, folder: pathlib.Path) -> str:
+    """No other command's output comes between what a console command prints."""
+    slow = "for n in 1 2 3 4 5 6; do echo c$$n; sleep 0.05; done"
+    laid(program, folder, (slow, True), *((f"sleep 0.0{number}; echo other{number}", False) for number in range(9)))
+    lines = programs.run([program, "run", "-j", "4", "plan.img"], folder).stdout.split(b"\n")
+    first = lines.index(b"c1") if b"c1" in lines else 0
+    if lines[first:first + 6] != [b"c%d" % n for n in range(1, 7)]:
+        return f"it printed {lines!r}"
+    return "" if sum(line.startswith(b"other") for line in lines) == 9 else f"an output is missing in {lines!r}"
+
+
+def one_at_a_time(program: str, folder: pathlib.Path) -> str:
+    alone = "mkdir taken && sleep 0.05 && rmdir taken"
+    laid(program, folder, *[(alone, True)] * 4)
+    done = programs.run([program, "run", "-j", "8", "plan.img"], folder)
+    return "" if done.returncode == 0 else f"it printed {done.stdout!r}"
+
+
+def in_terminal(words: list[str], folder: pathlib.Path, typed: Callable[[], bytes]) -> tuple[int, bytes]:
+    """How a program ends in a terminal of its own, and what stands there; `typed` is asked again and again."""
+    child, terminal = pty.fork()
+    if child == 0:
+        os.chdir(folder)
+        os.execv(words[0], words)
+    shown, end = b"", time.monotonic() + PATIENCE
+    while time.monotonic() < end:
+        if select.select([terminal], [], [], 0.05)[0]:
+            try:
+                shown += os.read(terminal, 4096)
+            except OSError:  # its other end is closed
+                break
+        elif text := typed():
+            os.write(terminal, text)
+    else:
+        os.kill(child, 9)
+    _, status = os.waitpid(child, 0)
+    os.close(terminal)
+    return os.waitstatus_to_exitcode(status), shown
+
+
+def console_has_the_terminal(program: str, folder: pathlib.Path) -> str:
+    laid(program, folder, (TERMINAL, True))
+    status, shown = in_terminal([program, "run", "plan.img"], folder, lambda: b"")
+    return "" if status == 0 else f"it ended with {status}, and {shown!r} stands there"
+
+
+def others_have_none(program: str, folder: pathlib.Path) -> str:
+    laid(program, folder, (TERMINAL, False))
+    status, shown = in_terminal([program, "run", "plan.img"], folder, lambda: b"")
+    if status == 1 and b"FAILED out0: exit 1" in shown:
+        return ""
+    return f"it ended with {status}, and {shown!r} stands there"
+
+
+def interrupted(program: str, folder: pathlib.Path) -> str:
+    """A Ctrl-C ends the builder, its console command and the one beside it; the next run does both again."""
+    laid(program, folder, ("touch begun0; sleep 30; touch out0", True), ("touch begun1; sleep 30; touch out1", False))
+
+    def typed() -> bytes:
+        return b"\x03" if (folder / "begun0").exists() and (folder / "begun1").exists() else b""
+
+    begun = time.monotonic()
+    status, shown = in_terminal([program, "run", "-j", "2", "plan.img"], folder, typed)
+    if status == 0 or time.monotonic() - begun > PATIENCE / 2:
+        return f"it ended with {status} late, and {shown!r} stands there"
+    left = [name for name in ("out0", "out1") if (folder / name).exists()]
+    return f"{left} went on" if left else ""
+
+
+def main() -> None:
+    program = programs.arguments(__doc__).parse_args().program
+    passed = failed = 0
+    for trial in (console_reads, others_read_nothing, output_is_whole, one_at_a_time, console_has_the_terminal,
+                  others_have_none, interrupted):
+        with tempfile.TemporaryDirectory() as name:
+            said = trial(program, pathlib.Path(name))
+        passed, failed = passed + (not said), failed + bool(said)
+        if said:
+            print(f"{trial.__name__}: {said}")
+    programs.end(passed, failed)
+
+
+if __name__ == "__main__":
+    main()
