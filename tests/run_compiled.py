@@ -5,7 +5,9 @@ COUNT manifests are written (compiler/random_builds.py) of which it is known wha
 same of each edge, and `verify` has to accept it. Then its edges are run one after the other, in an order in which each
 stands behind those that it waits for: the code by the plain machine (images/running.py), and beside it the out-of-date
 rule, written from its words (compiler/rule.py). Both get the same replies, by random numbers; they have to ask the
-same, and to end alike. What an edge leaves for its users is compared where they use it.
+same, and to end alike. What an edge leaves for its users is compared where they use it. What tools read from listings
+is held fast: a command is compared by `Equal` unless the edge is a generator, a depfile has `Deps`, and sources are
+asked by `Need`. Before all that two edges in a chain run step by step (compiler/chain.py).
 
 The last line is `N passed, M failed`: edges.
 """
@@ -20,6 +22,7 @@ import programs
 HERE = pathlib.Path(__file__).resolve().parent
 sys.path[:0] = [str(HERE / "images"), str(HERE / "compiler")]
 
+import chain
 import reading
 import rule
 from image import SORTS, Edge, Image, code_of
@@ -88,6 +91,23 @@ def table_faults(image: Image, known: Known) -> Iterator[str]:
         yield f"{len(image.edges)} edges, wanted {len(known.builds)}"
 
 
+def listed(image: Image, edge: Edge) -> tuple[object, ...]:
+    """What tools read from the listing of an edge: how often it has which instructions, and the files of `Need`."""
+    code = code_of(image, edge)
+    names = [name for name, _ in code]
+    counts = {name: names.count(name) for name in ("Equal", "Deps", "Recall", "Run", "Keep", "Take", "Release")}
+    return counts, {image.files[operand].decode() for name, operand in code if name == "Need"}
+
+
+def to_be_listed(known: Known, number: int) -> tuple[object, ...]:
+    """What the listing of such an edge has."""
+    build = known.builds[number]
+    runs = not build.is_phony
+    counts = {"Equal": int(runs and not build.generator), "Deps": int(runs and bool(build.depfile)),
+              **dict.fromkeys(("Recall", "Run", "Keep", "Take", "Release"), int(runs))}
+    return counts, {path for path in build.named() + build.ordered() if path not in known.maker}
+
+
 class Run:
     """A whole image, edge by edge."""
 
@@ -149,24 +169,39 @@ def by_code(code: Activity, reply: Reply | None) -> Request | Ending:
         return "ended", code.ran
 
 
+def compiled(program: str, folder: pathlib.Path, text: str) -> Image | str:
+    """The image of a manifest, which `verify` accepts, or why there is none."""
+    (folder / "build.ninja").write_text(text)
+    done = programs.run([program, "compile", "build.ninja", "-o", "plan.img"], folder)
+    if done.returncode != 0:
+        return f"compile: {done.stderr!r} of {text!r}"
+    image = reading.read((folder / "plan.img").read_bytes())
+    verdict = programs.run([program, "verify", "plan.img"], folder)
+    if isinstance(image, str) or verdict.returncode != 0:
+        return f"verify: {verdict.stderr!r} of {text!r}"
+    return image
+
+
+def chain_faults(program: str, folder: pathlib.Path) -> list[str]:
+    """Where the two edges in a chain do something else."""
+    image = compiled(program, folder, chain.MANIFEST)
+    return [image] if isinstance(image, str) else list(chain.faults(image))
+
+
 def faults(program: str, folder: pathlib.Path, seed: int) -> Iterator[str | None]:
     """Of each edge of a random manifest what is wrong with it, or nothing."""
     builds, targets, text = Writer(seed).manifest()
     known = Known(builds, targets)
-    (folder / "build.ninja").write_text(text)
-    done = programs.run([program, "compile", "build.ninja", "-o", "plan.img"], folder)
-    if done.returncode != 0:
-        yield f"compile: {done.stderr!r} of {text!r}"
-        return
-    image = reading.read((folder / "plan.img").read_bytes())
-    verdict = programs.run([program, "verify", "plan.img"], folder)
-    if isinstance(image, str) or verdict.returncode != 0:
-        yield f"verify: {verdict.stderr!r} of {text!r}"
+    image = compiled(program, folder, text)
+    if isinstance(image, str):
+        yield image
         return
     yield from (f"{fault}: {text!r}" for fault in table_faults(image, known))
     for number, edge in enumerate(image.edges):
         if said(image, edge) != meant(known, number):
             yield f"edge {number}: {said(image, edge)}, wanted {meant(known, number)}: {text!r}"
+        if listed(image, edge) != to_be_listed(known, number):
+            yield f"edge {number}: {listed(image, edge)}, wanted {to_be_listed(known, number)}: {text!r}"
     yield from (f"{fault}: {text!r}" if fault else None for fault in Run(image, known, seed).faults())
 
 
@@ -175,8 +210,10 @@ def main() -> None:
     parser.add_argument("--count", metavar="COUNT", type=int, default=300, help="manifests (default: %(default)s)")
     parser.add_argument("--seed", type=int, default=1, help="of the random numbers (default: %(default)s)")
     asked = parser.parse_args()
-    passed, failed = 0, 0
     with tempfile.TemporaryDirectory() as name:
+        found = chain_faults(asked.program, pathlib.Path(name))
+        print("".join(f"{fault}\n" for fault in found), end="")
+        passed, failed = (0, len(found)) if found else (len(chain.STAMPS) - 1, 0)
         for seed in range(asked.seed, asked.seed + asked.count):
             for fault in faults(asked.program, pathlib.Path(name), seed):
                 passed, failed = passed + (fault is None), failed + (fault is not None)

@@ -1,4 +1,4 @@
-"""Compares the image that PROGRAM makes of a manifest with what ninja prints of its targets and commands."""
+"""Compares the image that PROGRAM makes of a manifest with what ninja prints of its targets, commands and queries."""
 import pathlib
 import re
 import sys
@@ -14,6 +14,9 @@ import reading
 from image import SORTS, Code, Image, code_of
 
 PHONY = b"phony"
+QUERIED = 60  # outputs of which ninja is asked for inputs and users
+Inputs = set[bytes]
+Users = set[bytes]
 
 
 def made(program: str, manifest: str, folder: pathlib.Path) -> Image | str:
@@ -60,14 +63,49 @@ def code_faults(image: Image) -> Iterator[str]:
             yield f"a command with {names}"
 
 
+def queried(printed: bytes) -> Iterator[tuple[bytes, Inputs, Users]]:
+    """Each path that `ninja -t query` was asked for, with its inputs of any sort and the outputs that use it."""
+    for block in re.split(rb"^(?=\S)", printed, flags=re.MULTILINE)[1:]:
+        head, *lines = block.splitlines()
+        inputs, users, part = Inputs(), Users(), Inputs()
+        for line in lines:
+            if not line.startswith(b"    "):
+                part = inputs if line.startswith(b"  input:") else users
+            else:
+                part.add(re.sub(rb"^\|\|? ", b"", line[4:]))
+        yield head.removesuffix(b":"), inputs, users
+
+
+def query_faults(image: Image, printed: bytes) -> Iterator[str]:
+    """Where an edge waits for others than those that make its inputs, asks for other sources, or isn't waited for."""
+    maker = {image.files[file]: number for number, edge in enumerate(image.edges) for file in edge.outputs}
+    for path, inputs, users in queried(printed):
+        edge = image.edges[maker[path]]
+        waits = sorted({maker[found] for found in inputs if found in maker})
+        if list(edge.waits) != waits:
+            yield f"{path!r} waits for {list(edge.waits)}, by ninja's inputs for {waits}"
+        sources = {image.files[operand] for name, operand in code_of(image, edge) if name == "Need"}
+        if sources != inputs - maker.keys():
+            yield f"{path!r} asks for {sources}, by ninja's inputs for {inputs - maker.keys()}"
+        if not all(maker[path] in image.edges[maker[user]].waits for user in users if user in maker):
+            yield f"not every user of {path!r} waits for it"
+
+
+def sample(image: Image) -> list[str]:
+    """Some outputs, evenly spread."""
+    paths = [image.files[file].decode(errors="surrogateescape") for edge in image.edges for file in edge.outputs]
+    return paths[::max(1, len(paths) // QUERIED)]
+
+
 def difference(program: str, ninja: str, manifest: str, folder: pathlib.Path, theirs: Lines) -> str:
-    """Where the image says other than ninja of commands and makers; empty where it says the same."""
+    """Where the image says other than ninja of commands, makers, inputs and users; empty where it says the same."""
     image = made(program, manifest, folder)
     if isinstance(image, str):
         return f"    {image}"
     targets = programs.printed_lines([ninja, "-f", manifest, "-t", "targets", "all"], folder)
     ran = Lines(text + b"\n" for edge in image.edges for text in commands(image, code_of(image, edge)))
-    found = [*maker_faults(image, targets), *code_faults(image)]
+    query = programs.run([ninja, "-f", manifest, "-t", "query", *sample(image)], folder)
+    found = [*maker_faults(image, targets), *code_faults(image), *query_faults(image, query.stdout)]
     if ran != theirs:
         lacking, other = sum((theirs - ran).values()), sum((ran - theirs).values())
         found.append(f"{lacking} commands of ninja lack, {other} are others")

@@ -1,12 +1,13 @@
 -- The slots and the table of outputs, as the code makes them.
-use Rattle.std.proofs.Common.{◌≡◌, ℕ, suc, ◌+◌, List, [], ◌∷◌, ◌++◌, length, drop, Some, refl, sym, ap, ◌∙◌, arith, length-append}
+use Rattle.std.proofs.Common.{◌≡◌, ℕ, suc, ◌+◌, ◌*◌, ◌≤◌, List, [], ◌∷◌, ◌++◌, length, drop, Some, refl, sym, ap, ◌∙◌, arith, length-append}
 use Rattle.std.specs.Prelude.{slice_get}
 use Rattle.std.proofs.lemmas.List.{append_assoc}
 use Rattle.plan_image.specs.declared.image.Slot.{Slot}
+use Rattle.plan_image.specs.declared.instr.Kind.{Kind}
 use Rattle.plan_compile.specs.declared.wiring.Output.{Output}
 use Rattle.plan_compile.specs.Builds.{Build}
 use Rattle.plan_compile.specs.OutputTable.{Table, put, filled}
-use Rattle.plan_compile.specs.Slots.{own_kinds, own_len, owned, slots_from, form_of, newest_by, newest_from, made, all_made}
+use Rattle.plan_compile.specs.Slots.{own_kinds, own_len, owned, pairs, slot_count, stamps, slots_from, form_of, newest_by, newest_from, made, all_made}
 use Rattle.plan_compile.proofs.BuildLemmas.{drop_here}
 use Rattle.plan_compile.proofs.RunLemmas.{owned_length}
 
@@ -44,3 +45,31 @@ newest_step xs n e x old new olds news whole at grown pushed h =
     ∙ ap (λ (ns : List ℕ). ns ++ rest) pushed
     ∙ append_assoc olds (first ∷ []) rest
     ∙ ap (λ (ys : List Build). olds ++ newest_from (length old) ys) (sym (drop_here xs n x at)) ∙ h
+
+-- ---- how many slots there are
+
+pub stamps_length : (fs : List ℕ) → length (stamps fs) ≡ length fs
+stamps_length [] = refl
+stamps_length (f ∷ fs) = ap suc (stamps_length fs)
+
+pub pairs_length : (fs : List ℕ) → length (pairs fs) ≡ 2 * length fs
+pairs_length [] = refl
+pairs_length (f ∷ fs) = let h : length (pairs fs) ≡ 2 * length fs = pairs_length fs in omega (arith, h)
+
+pub slots_length : (e : ℕ) (xs : List Build) → length (slots_from e xs) ≡ slot_count xs
+slots_length e [] = refl
+slots_length e (x ∷ xs) =
+    length-append (owned e (own_kinds x)) (slots_from (suc e) xs) ∙ ap (λ (n : ℕ). n + length (slots_from (suc e) xs)) (owned_length e (own_kinds x)) ∙ ap (λ (n : ℕ). own_len x + n) (slots_length (suc e) xs)
+
+-- slots with those that are still laid are as many as all
+pub room_left : (old new : List Slot) (e : ℕ) (ks ls : List Kind) → new ++ owned e ks ≡ old ++ owned e ls → length new + length ks ≡ length old + length ls
+room_left old new e ks ls h =
+    let a : length (new ++ owned e ks) ≡ length new + length (owned e ks) = length-append new (owned e ks) in
+    let b : length (old ++ owned e ls) ≡ length old + length (owned e ls) = length-append old (owned e ls) in
+    omega (arith, a, b, ap (λ (ss : List Slot). length ss) h, owned_length e ks, owned_length e ls)
+
+pub room_for : (xs : List Build) (n : ℕ) (x : Build) (old : List Slot) → slice_get xs n ≡ Some x → old ++ slots_from n (drop n xs) ≡ slots_from 0 xs → length old + own_len x ≤ slot_count xs
+room_for xs n x old at h =
+    let a : length (old ++ slots_from n (drop n xs)) ≡ length old + length (slots_from n (drop n xs)) = length-append old (slots_from n (drop n xs)) in
+    let b : slot_count (drop n xs) ≡ own_len x + slot_count (drop (n + 1) xs) = ap slot_count (drop_here xs n x at) in
+    omega (arith, a, b, ap (λ (ss : List Slot). length ss) h, slots_length n (drop n xs), slots_length 0 xs)

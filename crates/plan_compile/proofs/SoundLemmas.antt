@@ -125,11 +125,11 @@ module _ (m : Manifest) (g : Graph) (graph : IsGraph m g) (complete : FilesCompl
   abbrev numbers : List Path → List ℕ
   numbers paths = map (number_of table) paths
 
-  outputs_are : (n : ℕ) (e : ManifestEdge) → slice_get m.edges n ≡ Some e → get_or g.outputs n [] ≡ numbers (outputs_of e)
+  pub outputs_are : (n : ℕ) (e : ManifestEdge) → slice_get m.edges n ≡ Some e → get_or g.outputs n [] ≡ numbers (outputs_of e)
   outputs_are n e at =
       ap (λ (rows : List (List ℕ)). get_or rows n []) graph.outputs ∙ row_of (λ (x : ManifestEdge). map (number_of table) (outputs_of x)) m.edges n e [] at
 
-  inputs_are : (n : ℕ) (e : ManifestEdge) → slice_get m.edges n ≡ Some e → get_or g.inputs n [] ≡ numbers (inputs_named e)
+  pub inputs_are : (n : ℕ) (e : ManifestEdge) → slice_get m.edges n ≡ Some e → get_or g.inputs n [] ≡ numbers (inputs_named e)
   inputs_are n e at =
       ap (λ (rows : List (List ℕ)). get_or rows n []) graph.inputs ∙ row_of (λ (x : ManifestEdge). map (number_of table) (inputs_named x)) m.edges n e [] at
 
@@ -140,7 +140,7 @@ module _ (m : Manifest) (g : Graph) (graph : IsGraph m g) (complete : FilesCompl
   abbrev files_are : List Path
   files_are = paths_in g.files
 
-  inside : (n : ℕ) (e : ManifestEdge) (path : Path) → slice_get m.edges n ≡ Some e → In path (outputs_of e ++ inputs_named e) → number_of table path < length (paths_in g.files)
+  pub inside : (n : ℕ) (e : ManifestEdge) (path : Path) → slice_get m.edges n ≡ Some e → In path (outputs_of e ++ inputs_named e) → number_of table path < length (paths_in g.files)
   inside n e path at there =
       let lt : number_of table path < length table = get_lt table (number_of table path) path (stands n e path at there) in
       let same : length (paths_in g.files) ≡ length table = ap (λ (ps : List Path). length ps) graph.files in

@@ -10,21 +10,24 @@ use Rattle.plan_compile.specs.declared.form.Form.TheVariants.{Gathers, Alone}
 use Rattle.plan_image.specs.declared.instr.Instr.{Instr}
 use Rattle.plan_compile.specs.Builds.{Build}
 use Rattle.plan_compile.specs.Emit.{code_of}
-use Rattle.plan_compile.specs.Images.{is_blank}
-use Rattle.plan_compile.specs.Names.{Text, text_number, depfile_number}
+use Rattle.plan_image.specs.declared.image.EdgeCode.{EdgeCode}
+use Rattle.plan_image.specs.declared.image.Edge.{Edge}
+use Rattle.plan_compile.specs.BodyKeys.{Body}
+use Rattle.plan_compile.specs.Images.{is_blank, shared, sort_of}
+use Rattle.plan_compile.specs.declared.numbers.Numbers.{Numbers}
 use Rattle.plan_compile.specs.OutputTable.{Table, inputs_in, outputs_in, sources_in}
 use Rattle.plan_compile.specs.Slots.{flags_once, form_of}
 
-abbrev pub command_in : List Text → Table → (newest : ℕ) → Build → CommandWiring
-command_in texts table newest x = record {
+abbrev pub command_in : Numbers → Table → (newest : ℕ) → Build → CommandWiring
+command_in numbers table newest x = record {
   named = inputs_in table x.named;
   order_only = sources_in table x.named x.order_only;
   outputs = outputs_in table x.outputs;
   flags = flags_once (inputs_in table x.named);
   newest = newest;
-  command = text_number texts x.edge.command;
+  command = numbers.command;
   blank = is_blank x.edge.command;
-  depfile = depfile_number texts x.edge.depfile;
+  depfile = numbers.depfile;
   restat = x.edge.restat;
   generator = x.edge.generator;
 }
@@ -43,12 +46,29 @@ gather_in table newest x = record {
   changed = first_changed (outputs_in table x.outputs);
 }
 
-abbrev pub wire_in : Form → List Text → Table → (newest : ℕ) → Build → Wiring
-wire_in Gathers texts table newest x = wiring.Gather (gather_in table newest x)
-wire_in Alone texts table newest x = wiring.Alone (outputs_in table x.outputs)
-wire_in form texts table newest x = wiring.Command (command_in texts table newest x)
+abbrev pub wire_in : Form → Numbers → Table → (newest : ℕ) → Build → Wiring
+wire_in Gathers numbers table newest x = wiring.Gather (gather_in table newest x)
+wire_in Alone numbers table newest x = wiring.Alone (outputs_in table x.outputs)
+wire_in form numbers table newest x = wiring.Command (command_in numbers table newest x)
 
--- the codes of edges, each with its newest input's slot
-abbrev pub codes_in : List Text → Table → List ℕ → List Build → List (List Instr)
-codes_in texts table (n ∷ ns) (x ∷ xs) = code_of (wire_in (form_of x) texts table n x) ∷ codes_in texts table ns xs
-codes_in texts table _ _ = []
+-- the codes of edges, each with its numbers and its newest input's slot
+abbrev pub codes_in : Table → List Numbers → List ℕ → List Build → List (List Instr)
+codes_in table (k ∷ ks) (n ∷ ns) (x ∷ xs) = code_of (wire_in (form_of x) k table n x) ∷ codes_in table ks ns xs
+codes_in table _ _ _ = []
+
+-- an edge with these numbers and this code
+abbrev pub edge_in : Numbers → EdgeCode → Build → Edge
+edge_in numbers code x = record {
+  sort = sort_of x.edge.phony;
+  pool = numbers.pool;
+  rank = x.rank;
+  label = numbers.label;
+  outputs = x.outputs;
+  waits = x.waits;
+  code = code;
+}
+
+-- edges with their numbers and codes
+abbrev pub edges_in : List Body → List Numbers → List (List Instr) → List Build → List Edge
+edges_in bodies (k ∷ ks) (is ∷ others) (x ∷ xs) = edge_in k (shared bodies is) x ∷ edges_in bodies ks others xs
+edges_in bodies _ _ _ = []

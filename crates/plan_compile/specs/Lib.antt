@@ -8,9 +8,12 @@ pub mod Slots
 pub mod Numbering
 pub mod BodyKeys
 pub mod Names
+pub mod EdgeNumbers
+pub mod Keys
 pub mod Images
 pub mod Faithful
 pub mod OutputTable
 pub mod Assembling
 pub mod Told
 pub mod Faults
+pub mod Refusals

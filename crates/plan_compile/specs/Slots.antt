@@ -98,6 +98,11 @@ abbrev pub slots_from : ℕ → List Build → List Slot
 slots_from e [] = []
 slots_from e (x ∷ xs) = owned e (own_kinds x) ++ slots_from (suc e) xs
 
+-- how many slots these edges have
+abbrev pub slot_count : List Build → ℕ
+slot_count [] = zero
+slot_count (x ∷ xs) = own_len x + slot_count xs
+
 -- the first own slot of the edge of this number
 abbrev pub base : List Build → ℕ → ℕ
 base [] e = zero

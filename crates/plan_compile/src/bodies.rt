@@ -4,7 +4,7 @@ ghost use Rattle.std.specs.Prelude.{◌≡◌, ◌++◌, ◌∷◌, [], IfOk, On
 ghost use Rattle.plan_compile.specs.BodyKeys.{key_of, numbers_of, opening_number, same_body};
 ghost use Rattle.plan_compile.specs.Numbering.{number, with_item};
 
-use crate::fault::CompileFault;
+use crate::build::word;
 use indexmap::IndexSet;
 use plan_image::{Body, BodyInstr, Instr, Opening};
 use plan_text::Items;
@@ -108,7 +108,7 @@ impl Model for Bodies {
 }
 
 impl Bodies {
-    ghost use Rattle.std.specs.Prelude.{◌≡◌, [], IfOk, OnOk};
+    ghost use Rattle.std.specs.Prelude.{◌≡◌, ◌≤◌, ◌+◌, [], IfOk, length, OnOk};
     ghost use Rattle.plan_compile.specs.BodyKeys.{same_body};
     ghost use Rattle.plan_compile.specs.Numbering.{number, with_item};
 
@@ -123,18 +123,20 @@ impl Bodies {
     }
 
     /// Puts a body last, unless it is there, and gives its number.
-    pub(crate) fn put(&mut self, alloc: Global, body: Body) -> Result<usize, CompileFault>
+    pub(crate) fn put(&mut self, alloc: Global, body: Body) -> Result<u32, AllocError>
+        requires { length self.old ≤ 1048576 }
         ensures bodies { OnOk result (self.new ≡ with_item same_body self.old body) }
         ensures number { IfOk result (λ n. n ≡ number same_body body self.new) }
+        ensures few { OnOk result (length self.new ≤ length self.old + 1) }
     {
         let key = key_of(alloc, body.as_slice())?;
         self.bodies.reserve(1)?;
         let (place, is_new) = self.keys.insert_full(key)?;
         if is_new {
             self.bodies.push(body)?;
-            return Ok(place);
+            return Ok(word(place));
         }
-        Ok(place)
+        Ok(word(place))
     }
 
     /// The bodies in their order.

@@ -1,16 +1,16 @@
 //! The edges of a manifest, each with its files by their numbers.
 
-ghost use Rattle.std.specs.Prelude.{◌≡◌, ◌<◌, ◌≤◌, IfOk, drop, filter, get_or, length, not, slice_get, slice_index, take};
+ghost use Rattle.std.specs.Prelude.{◌≡◌, ◌<◌, ◌≤◌, All, IfOk, drop, filter, get_or, length, not, slice_get, slice_index, take};
 ghost use Rattle.plan_scope.specs.declared.manifest.Edge.{Edge as EdgeMeant};
 ghost use Rattle.plan_graph.specs.Graph.{IsGraph};
 ghost use Rattle.plan_graph.specs.Files.{producer_at};
+ghost use Rattle.plan_image.specs.Spelling.{IsWord};
 ghost use Rattle.plan_compile.specs.Builds.{build_at, builds_from, is_maker, without_made};
 
-use crate::fault::CompileFault;
-use plan_graph::{Files, Graph, files_complete, producers_numbered};
+use plan_graph::{Files, Graph, files_complete, producers_numbered, waits_ascend};
 use plan_scope::{Edge, Manifest};
 use plan_text::Items;
-use std::alloc::Global;
+use std::alloc::{AllocError, Global};
 use std::marker::Model;
 
 /// An edge with its files by their numbers. A contract sees the edge and the numbers.
@@ -78,23 +78,22 @@ impl<'a> Build<'a> {
     }
 }
 
-/// A number, where it fits in 32 bits.
-pub(crate) fn word(number: usize) -> Result<u32, CompileFault>
-    ensures { IfOk result (λ w. w ≡ number) }
+/// A number of 32 bits.
+pub(crate) const fn word(number: usize) -> u32
+    requires { IsWord number }
+    ensures { result ≡ number }
 {
-    match u32::try_from(number) {
-        Ok(word) => Ok(word),
-        Err(_error) => Err(CompileFault::Limit),
-    }
+    number as u32
 }
 
-/// These numbers.
-pub(crate) fn words(alloc: Global, numbers: &[usize]) -> Result<Items<u32>, CompileFault>
+/// These numbers of 32 bits.
+pub(crate) fn words(alloc: Global, numbers: &[usize]) -> Result<Items<u32>, AllocError>
+    requires { All IsWord numbers.now }
     ensures { IfOk result (λ ws. ws ≡ numbers.now) }
 {
     let mut words = Vec::with_capacity(alloc, numbers.len())?;
     for number in numbers {
-        words.push(word(*number)?)?;
+        words.push(word(*number))?;
     }
     Ok(Items::new(words))
 }
@@ -115,13 +114,14 @@ fn not_made_by<'a>(
     files: &Files<'a>,
     edge: usize,
     numbers: &[usize],
-) -> Result<Items<u32>, CompileFault>
+) -> Result<Items<u32>, AllocError>
+    requires { All IsWord numbers.now }
     ensures { IfOk result (λ ws. ws ≡ filter (λ f. not (is_maker (producer_at files.now f) edge)) numbers.now) }
 {
     let mut words = Vec::new(alloc);
     for number in numbers {
         if !makes(files, edge, *number) {
-            words.push(word(*number)?)?;
+            words.push(word(*number))?;
         }
     }
     Ok(Items::new(words))
@@ -166,7 +166,8 @@ fn kept<'a>(
     edge: usize,
     phony: bool,
     numbers: &[usize],
-) -> Result<Items<u32>, CompileFault>
+) -> Result<Items<u32>, AllocError>
+    requires { All IsWord numbers.now }
     ensures { IfOk result (λ ws. ws ≡ without_made files.now edge phony numbers.now) }
 {
     if phony {
@@ -182,13 +183,15 @@ fn numbered<'a, 'b>(
     manifest: &'a Manifest,
     graph: &Graph<'b>,
     number: usize,
-) -> Result<Build<'a>, CompileFault>
+) -> Result<Build<'a>, AllocError>
     requires graph { IsGraph manifest.now graph.now }
+    requires few { length graph.now.files ≤ 4194304 }
     requires inside { number < length manifest.now.edges }
     ensures { (edge : EdgeMeant) → slice_get manifest.now.edges number ≡ Some edge → IfOk result (λ b. b ≡ build_at graph.now number edge) }
 {
     files_complete();
     producers_numbered();
+    waits_ascend();
     let edge = &manifest.edges.as_slice()[number];
     let inputs = graph.inputs.row(number);
     let count = inputs
@@ -208,17 +211,18 @@ fn numbered<'a, 'b>(
         named,
         order_only,
         waits: words(alloc, graph.waits.row(number))?,
-        rank: word(number_at(graph.ranks.as_slice(), number))?,
+        rank: word(number_at(graph.ranks.as_slice(), number)),
     })
 }
 
-/// All edges.
+/// All edges, of no more files than an image may have.
 pub(crate) fn builds<'a, 'b>(
     alloc: Global,
     manifest: &'a Manifest,
     graph: &Graph<'b>,
-) -> Result<Vec<Build<'a>>, CompileFault>
+) -> Result<Vec<Build<'a>>, AllocError>
     requires graph { IsGraph manifest.now graph.now }
+    requires few { length graph.now.files ≤ 4194304 }
     ensures { IfOk result (λ bs. bs.items ≡ builds_from graph.now 0 manifest.now.edges) }
 {
     let count = manifest.edges.len();

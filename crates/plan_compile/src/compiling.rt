@@ -1,14 +1,18 @@
 //! The image of a manifest.
 
-ghost use Rattle.std.specs.Prelude.{◌≡◌, ◌++◌, ◌∷◌, [], IfOk, List, None, OnOk, Some, map, replicate, slice_get, zero, ℕ};
+ghost use Rattle.std.specs.Prelude.{◌≡◌, ◌≤◌, ◌++◌, ◌∷◌, [], All, IfErr, IfOk, length, List, None, OnOk, Some, map, replicate, slice_get, zero, ℕ};
+ghost use Rattle.plan_scope.specs.Edges.{max_depth};
 ghost use Rattle.plan_scope.specs.Sound.{IsSound};
 ghost use Rattle.plan_graph.specs.Files.{paths_in};
 ghost use Rattle.plan_graph.specs.Graph.{IsGraph};
-ghost use Rattle.plan_compile.specs.Assembling.{codes_in};
+ghost use Rattle.plan_image.specs.Spelling.{IsWord};
+ghost use Rattle.plan_compile.specs.Assembling.{codes_in, edges_in};
 ghost use Rattle.plan_compile.specs.Builds.{builds_from};
-ghost use Rattle.plan_compile.specs.Images.{compiled, edges_of, used_bodies};
+ghost use Rattle.plan_compile.specs.EdgeNumbers.{numbers_in};
+ghost use Rattle.plan_compile.specs.Images.{compiled, used_bodies};
 ghost use Rattle.plan_compile.specs.Names.{all_texts, declared, used_pools};
 ghost use Rattle.plan_compile.specs.OutputTable.{filled};
+ghost use Rattle.plan_compile.specs.Refusals.{IsRefused, RefusesEdges};
 ghost use Rattle.plan_compile.specs.Slots.{all_made, newest_from, slots_from};
 
 use crate::bodies::Bodies;
@@ -16,20 +20,22 @@ use crate::build::{Build, builds, words};
 use crate::edges::edges_of;
 use crate::fault::CompileFault;
 use crate::image_laws::manifests_are_sound;
-use crate::names::{Texts, pool_table, pools_of, texts_of};
-use crate::slots::planned;
-use plan_graph::{Files, Graph};
+use crate::names::{Names, Texts, names_of, pool_table};
+use crate::slots::{planned, slot_count};
+use plan_graph::{Files, Graph, defaults_ascend};
 use plan_image::{Edges, Image, Parts, Pool, Slot};
 use plan_scope::Manifest;
 use plan_text::{Items, RowList};
-use std::alloc::Global;
+use std::alloc::{AllocError, Global};
+
+/// No image has more files.
+const MOST_FILES: usize = 4_194_304;
+
+/// No image has more pools.
+const MOST_POOLS: usize = 4096;
 
 /// Appends the path of this number.
-fn push_path<'a>(
-    rows: &mut RowList<u8>,
-    files: &Files<'a>,
-    number: usize,
-) -> Result<(), CompileFault>
+fn push_path<'a>(rows: &mut RowList<u8>, files: &Files<'a>, number: usize) -> Result<(), AllocError>
     ensures { (path : List ℕ) → slice_get (paths_in files.now) number ≡ Some path → OnOk result (rows.new ≡ rows.old ++ path ∷ []) }
 {
     match files.path(number) {
@@ -42,7 +48,7 @@ fn push_path<'a>(
 }
 
 /// The paths in their order.
-fn paths<'a>(alloc: Global, files: &Files<'a>) -> Result<RowList<u8>, CompileFault>
+fn paths<'a>(alloc: Global, files: &Files<'a>) -> Result<RowList<u8>, AllocError>
     ensures { IfOk result (λ rows. rows ≡ paths_in files.now) }
 {
     let mut rows = RowList::new(alloc);
@@ -57,8 +63,7 @@ fn paths<'a>(alloc: Global, files: &Files<'a>) -> Result<RowList<u8>, CompileFau
 #[derive(Drop)]
 struct Named<'a> {
     builds: Vec<Build<'a>>,
-    texts: Texts<'a>,
-    pools: Texts<'a>,
+    names: Names<'a>,
 }
 
 /// What has numbers in the image of a manifest.
@@ -66,20 +71,17 @@ fn name_all<'a, 'b>(
     alloc: Global,
     manifest: &'a Manifest,
     graph: &Graph<'b>,
-) -> Result<Named<'a>, CompileFault>
+) -> Result<Named<'a>, AllocError>
     requires graph { IsGraph manifest.now graph.now }
+    requires few { length graph.now.files ≤ 4194304 }
     ensures builds { IfOk result (λ n. n.builds.items ≡ builds_from graph.now 0 manifest.now.edges) }
-    ensures texts { IfOk result (λ n. n.texts ≡ all_texts (builds_from graph.now 0 manifest.now.edges)) }
-    ensures pools { IfOk result (λ n. n.pools ≡ used_pools (builds_from graph.now 0 manifest.now.edges)) }
+    ensures texts { IfOk result (λ n. n.names.texts ≡ all_texts n.builds.items) }
+    ensures pools { IfOk result (λ n. n.names.pools ≡ used_pools n.builds.items) }
+    ensures numbers { IfOk result (λ n. n.names.numbers.items ≡ map (numbers_in (all_texts n.builds.items) (used_pools n.builds.items)) n.builds.items) }
 {
     let builds = builds(alloc, manifest, graph)?;
-    let texts = texts_of(alloc, &builds)?;
-    let pools = pools_of(alloc, &builds)?;
-    Ok(Named {
-        builds,
-        texts,
-        pools,
-    })
+    let names = names_of(alloc, &builds)?;
+    Ok(Named { builds, names })
 }
 
 /// The slots, the bodies and the edges of an image.
@@ -92,15 +94,22 @@ struct Coded {
 
 /// The codes of these edges, of so many files.
 fn code_all<'a>(alloc: Global, files: usize, named: &Named<'a>) -> Result<Coded, CompileFault>
+    requires named { length named.now.names.numbers.items ≡ length named.now.builds.items }
+    requires few { length named.now.builds.items ≤ 1048576 }
     ensures slots { IfOk result (λ c. c.slots.items ≡ slots_from zero named.now.builds.items) }
     ensures bodies { let xs = named.now.builds.items in
-        IfOk result (λ c. c.bodies ≡ used_bodies (codes_in named.now.texts (filled (replicate files None) (all_made zero xs)) (newest_from zero xs) xs)) }
+        IfOk result (λ c. c.bodies ≡ used_bodies (codes_in (filled (replicate files None) (all_made zero xs)) named.now.names.numbers.items (newest_from zero xs) xs)) }
     ensures edges { let xs = named.now.builds.items in
-        let codes = codes_in named.now.texts (filled (replicate files None) (all_made zero xs)) (newest_from zero xs) xs in
-        IfOk result (λ c. c.edges ≡ edges_of named.now.texts named.now.pools (used_bodies codes) codes xs) }
+        let codes = codes_in (filled (replicate files None) (all_made zero xs)) named.now.names.numbers.items (newest_from zero xs) xs in
+        IfOk result (λ c. c.edges ≡ edges_in (used_bodies codes) named.now.names.numbers.items codes xs) }
+    ensures refused { let xs = named.now.builds.items in
+        IfErr result (λ fault. RefusesEdges fault xs (codes_in (filled (replicate files None) (all_made zero xs)) named.now.names.numbers.items (newest_from zero xs) xs)) }
 {
-    let plan = planned(alloc, files, &named.builds)?;
-    let (edges, bodies) = edges_of(alloc, &named.texts, &named.pools, &plan, &named.builds)?;
+    let Some(count) = slot_count(&named.builds) else {
+        return Err(CompileFault::Limit);
+    };
+    let plan = planned(alloc, files, count, &named.builds)?;
+    let (edges, bodies) = edges_of(alloc, &plan, &named.names.numbers, &named.builds)?;
     Ok(Coded {
         slots: plan.slots,
         bodies,
@@ -122,16 +131,18 @@ fn tables_of<'a, 'b>(
     alloc: Global,
     manifest: &Manifest,
     graph: &Graph<'b>,
-    named: &Named<'a>,
-) -> Result<Tables, CompileFault>
-    ensures texts { IfOk result (λ t. t.texts ≡ named.now.texts) }
+    names: &Names<'a>,
+) -> Result<Tables, AllocError>
+    requires depths { All (λ p. p.depth ≤ max_depth) manifest.now.pools }
+    requires defaults { All IsWord graph.now.defaults }
+    ensures texts { IfOk result (λ t. t.texts ≡ names.now.texts) }
     ensures files { IfOk result (λ t. t.files ≡ paths_in graph.now.files) }
-    ensures pools { IfOk result (λ t. t.pools ≡ map (declared manifest.now.pools) named.now.pools) }
+    ensures pools { IfOk result (λ t. t.pools ≡ map (declared manifest.now.pools) names.now.pools) }
     ensures defaults { IfOk result (λ t. t.defaults ≡ graph.now.defaults) }
 {
-    let texts = named.texts.rows(alloc)?;
+    let texts = names.texts.rows(alloc)?;
     let files = paths(alloc, &graph.files)?;
-    let pools = pool_table(alloc, manifest.pools.as_slice(), &named.pools)?;
+    let pools = pool_table(alloc, manifest.pools.as_slice(), &names.pools)?;
     let defaults = words(alloc, graph.defaults.as_slice())?;
     Ok(Tables {
         texts,
@@ -160,12 +171,20 @@ fn assembled(tables: Tables, coded: Coded) -> Parts
 fn parts<'a>(alloc: Global, manifest: &Manifest, graph: &Graph<'a>) -> Result<Parts, CompileFault>
     requires sound { IsSound manifest.now }
     requires graph { IsGraph manifest.now graph.now }
-    ensures { IfOk result (λ parts. parts ≡ compiled manifest.now graph.now) }
+    ensures parts { IfOk result (λ parts. parts ≡ compiled manifest.now graph.now) }
+    ensures refused { IfErr result (λ fault. IsRefused manifest.now graph.now fault) }
 {
     manifests_are_sound();
+    defaults_ascend();
+    if graph.files.len() > MOST_FILES {
+        return Err(CompileFault::Limit);
+    }
     let named = name_all(alloc, manifest, graph)?;
+    if named.names.pools.len() > MOST_POOLS {
+        return Err(CompileFault::Limit);
+    }
     let coded = code_all(alloc, graph.files.len(), &named)?;
-    let tables = tables_of(alloc, manifest, graph, &named)?;
+    let tables = tables_of(alloc, manifest, graph, &named.names)?;
     Ok(assembled(tables, coded))
 }
 
@@ -174,7 +193,8 @@ fn parts<'a>(alloc: Global, manifest: &Manifest, graph: &Graph<'a>) -> Result<Pa
 ///
 /// # Errors
 ///
-/// `Limit` where the image would pass a limit of images (docs/IMAGE.md); `Memory` where memory runs out.
+/// `Limit` only where the image would pass a limit of images (docs/IMAGE.md), so that it has no spelling; `Memory`
+/// where memory runs out.
 pub fn compile<'a>(
     alloc: Global,
     manifest: &Manifest,
@@ -182,7 +202,8 @@ pub fn compile<'a>(
 ) -> Result<Image, CompileFault>
     requires sound { IsSound manifest.now }
     requires graph { IsGraph manifest.now graph.now }
-    ensures { IfOk result (λ image. image ≡ compiled manifest.now graph.now) }
+    ensures image { IfOk result (λ image. image ≡ compiled manifest.now graph.now) }
+    ensures refused { IfErr result (λ fault. IsRefused manifest.now graph.now fault) }
 {
     let parts = parts(alloc, manifest, graph)?;
     match Image::new(parts) {

@@ -7,7 +7,6 @@ ghost use Rattle.plan_compile.specs.Means.{flags_of};
 ghost use Rattle.plan_compile.specs.OutputTable.{found, inputs_in, outputs_in, sources_in};
 ghost use Rattle.plan_compile.specs.Slots.{flags_once, input_by, members_from};
 
-use crate::fault::CompileFault;
 use crate::wiring::{Input, Output};
 use plan_text::Items;
 use std::alloc::{AllocError, Global};
@@ -37,7 +36,7 @@ pub(crate) fn inputs(
     alloc: Global,
     table: &[Option<Output>],
     files: &[u32],
-) -> Result<Items<Input>, CompileFault>
+) -> Result<Items<Input>, AllocError>
     ensures { IfOk result (λ inputs. inputs ≡ inputs_in table.now files.now) }
 {
     let mut inputs = Vec::with_capacity(alloc, files.len())?;
@@ -82,7 +81,7 @@ fn all_flags(alloc: Global, inputs: &[Input]) -> Result<Vec<u32>, AllocError>
 }
 
 /// The flag slots of inputs, each once.
-pub(crate) fn flags(alloc: Global, inputs: &[Input]) -> Result<Items<u32>, CompileFault>
+pub(crate) fn flags(alloc: Global, inputs: &[Input]) -> Result<Items<u32>, AllocError>
     ensures { IfOk result (λ flags. flags ≡ flags_once inputs.now) }
 {
     let flags = all_flags(alloc, inputs)?;
@@ -106,7 +105,7 @@ fn other_sources(
     table: &[Option<Output>],
     named: &[u32],
     order_only: &[u32],
-) -> Result<Items<u32>, CompileFault>
+) -> Result<Items<u32>, AllocError>
     requires { AscendsFrom 0 named.now }
     ensures { IfOk result (λ files. files ≡ sources_in table.now named.now order_only.now) }
 {
@@ -125,7 +124,7 @@ pub(crate) fn sources(
     table: &[Option<Output>],
     named: &[u32],
     order_only: &[u32],
-) -> Result<Items<u32>, CompileFault>
+) -> Result<Items<u32>, AllocError>
     ensures { IfOk result (λ files. files ≡ sources_in table.now named.now order_only.now) }
 {
     if order_only.is_empty() {
@@ -140,7 +139,7 @@ pub(crate) fn outputs(
     alloc: Global,
     table: &[Option<Output>],
     files: &[u32],
-) -> Result<Items<Output>, CompileFault>
+) -> Result<Items<Output>, AllocError>
     ensures { IfOk result (λ outputs. outputs ≡ outputs_in table.now files.now) }
 {
     let mut outputs = Vec::with_capacity(alloc, files.len())?;

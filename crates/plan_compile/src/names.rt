@@ -1,22 +1,25 @@
 //! The texts and the pools of an image.
 
-ghost use Rattle.std.specs.Prelude.{◌≡◌, ◌++◌, ◌∷◌, [], List, Some, ℕ, bytes_eq, flat_map, IfOk, map, OnOk, option_map, slice_get};
-ghost use Rattle.plan_compile.specs.Names.{all_texts, declared, depfile_number, depth_of, label_of, pool_in, pool_number, text_number, texts_in, unless_empty, used_pools};
+ghost use Rattle.std.specs.Prelude.{All, ◌≡◌, ◌≤◌, ◌+◌, ◌++◌, ◌∷◌, [], List, Some, ℕ, bytes_eq, IfOk, length, map, OnOk, option_map, slice_get};
+ghost use Rattle.plan_scope.specs.Edges.{max_depth};
+ghost use Rattle.plan_compile.specs.EdgeNumbers.{command_numbers, numbers_in};
+ghost use Rattle.plan_compile.specs.Names.{all_texts, declared, depfile_number, depth_of, or_command, pool_in, text_number, texts_in, unless_empty, used_pools};
 ghost use Rattle.plan_compile.specs.Numbering.{with_item, with_items};
 
-use crate::build::Build;
-use crate::fault::CompileFault;
+use crate::build::{Build, word};
+use crate::key::Key;
+use crate::numbers::Numbers;
 use indexmap::IndexSet;
 use plan_image::Pool;
 use plan_scope::Edge;
 use plan_text::{Items, RowList};
-use std::alloc::Global;
+use std::alloc::{AllocError, Global};
 use std::marker::Model;
 
 /// Texts, each once, in the order in which they came.
 #[derive(Drop)]
 pub(crate) struct Texts<'a> {
-    texts: IndexSet<&'a [u8]>,
+    texts: IndexSet<Key<'a>>,
 }
 
 impl<'a> Model for Texts<'a> {
@@ -24,10 +27,15 @@ impl<'a> Model for Texts<'a> {
 
     ghost Value = { List (List ℕ) };
 
-    ghost view = { λ t. map (λ k. k.now) t.texts.keys };
+    ghost view = { λ t. map (λ k. k.bytes.now) t.texts.keys };
 }
 
 impl<'a> Texts<'a> {
+    ghost use Rattle.std.specs.Prelude.{◌≡◌, ◌≤◌, ◌+◌, ◌++◌, ◌∷◌, [], List, Some, ℕ, bytes_eq, IfOk, length, OnOk, option_map, slice_get};
+    ghost use Rattle.plan_image.specs.Spelling.{IsWord};
+    ghost use Rattle.plan_compile.specs.Names.{text_number};
+    ghost use Rattle.plan_compile.specs.Numbering.{with_item};
+
     /// No text.
     fn new(alloc: Global) -> Self
         ensures { result ≡ [] }
@@ -37,29 +45,29 @@ impl<'a> Texts<'a> {
         }
     }
 
-    /// Puts a text last, unless it is there.
-    fn put(&mut self, text: &'a [u8]) -> Result<(), CompileFault>
-        ensures { OnOk result (self.new ≡ with_item bytes_eq self.old text.now) }
+    /// Makes room for so many texts more.
+    fn reserve(&mut self, texts: usize) -> Result<(), AllocError>
+        ensures { self.new ≡ self.old }
     {
-        self.texts.insert_full(text)?;
-        Ok(())
+        self.texts.reserve(texts)
+    }
+
+    /// Puts a text last, unless it is there, and gives its number.
+    fn put(&mut self, text: &'a [u8]) -> Result<u32, AllocError>
+        requires { IsWord (length self.old) }
+        ensures texts { OnOk result (self.new ≡ with_item bytes_eq self.old text.now) }
+        ensures number { IfOk result (λ n. n ≡ text_number self.new text.now) }
+        ensures few { OnOk result (length self.new ≤ length self.old + 1) }
+    {
+        let (number, _is_new) = self.texts.insert_full(Key { bytes: text })?;
+        Ok(word(number))
     }
 
     /// How many texts there are.
     pub(crate) fn len(&self) -> usize
-        ensures { result ≡ Rattle.std.specs.Prelude.length self.now }
+        ensures { result ≡ length self.now }
     {
         self.texts.len()
-    }
-
-    /// The number of a text; as many as there are where it isn't there.
-    pub(crate) fn number(&self, text: &[u8]) -> usize
-        ensures { result ≡ text_number self.now text.now }
-    {
-        match self.texts.get_index_of(text) {
-            Some(number) => number,
-            None => self.texts.len(),
-        }
     }
 
     /// The text of this number.
@@ -67,13 +75,13 @@ impl<'a> Texts<'a> {
         ensures { option_map (λ t. t.now) result ≡ slice_get self.now number }
     {
         match self.texts.get_index(number) {
-            Some(text) => Some(*text),
+            Some(key) => Some(key.bytes),
             None => None,
         }
     }
 
     /// Appends the text of this number to rows.
-    fn push_to(&self, rows: &mut RowList<u8>, number: usize) -> Result<(), CompileFault>
+    fn push_to(&self, rows: &mut RowList<u8>, number: usize) -> Result<(), AllocError>
         ensures { (text : List ℕ) → slice_get self.now number ≡ Some text → OnOk result (rows.new ≡ rows.old ++ text ∷ []) }
     {
         match self.get(number) {
@@ -86,7 +94,7 @@ impl<'a> Texts<'a> {
     }
 
     /// The texts in their order.
-    pub(crate) fn rows(&self, alloc: Global) -> Result<RowList<u8>, CompileFault>
+    pub(crate) fn rows(&self, alloc: Global) -> Result<RowList<u8>, AllocError>
         ensures { IfOk result (λ rows. rows ≡ self.now) }
     {
         let mut rows = RowList::new(alloc);
@@ -98,104 +106,133 @@ impl<'a> Texts<'a> {
     }
 }
 
-/// What is shown of an edge.
-pub(crate) fn label<'a>(build: &Build<'a>) -> &'a [u8]
-    ensures { result.now ≡ label_of build.now }
-{
-    let edge = build.edge();
-    if edge.phony {
-        return &[];
-    }
-    if edge.description.is_empty() {
-        edge.command.as_slice()
-    } else {
-        edge.description.as_slice()
-    }
-}
-
-/// Puts a text that isn't empty.
-fn put_unless_empty<'a>(texts: &mut Texts<'a>, text: &'a [u8]) -> Result<(), CompileFault>
-    ensures { OnOk result (texts.new ≡ with_items bytes_eq texts.old (unless_empty text.now)) }
+/// Puts a text that isn't empty, and gives its number.
+fn put_unless_empty<'a>(texts: &mut Texts<'a>, text: &'a [u8]) -> Result<Option<u32>, AllocError>
+    requires { length texts.old ≤ 4194304 }
+    ensures texts { OnOk result (texts.new ≡ with_items bytes_eq texts.old (unless_empty text.now)) }
+    ensures number { IfOk result (λ n. n ≡ depfile_number texts.new text.now) }
+    ensures few { OnOk result (length texts.new ≤ length texts.old + 1) }
 {
     if text.is_empty() {
-        return Ok(());
+        return Ok(None);
     }
-    texts.put(text)
+    let number = texts.put(text)?;
+    Ok(Some(number))
 }
 
-/// Puts the command and the depfile of an edge.
-fn put_command<'a>(texts: &mut Texts<'a>, edge: &'a Edge) -> Result<(), CompileFault>
-    ensures { OnOk result (texts.new ≡ with_items bytes_eq texts.old (edge.now.command ∷ unless_empty edge.now.depfile)) }
+/// Puts what is shown of an edge and its command, and gives their numbers.
+fn put_shown<'a>(
+    texts: &mut Texts<'a>,
+    description: &'a [u8],
+    command: &'a [u8],
+) -> Result<(u32, u32), AllocError>
+    requires { length texts.old ≤ 4194302 }
+    ensures texts { OnOk result (texts.new ≡ with_items bytes_eq texts.old (or_command description.now command.now ∷ command.now ∷ [])) }
+    ensures label { IfOk result (λ n. n.0 ≡ text_number texts.new (or_command description.now command.now)) }
+    ensures command { IfOk result (λ n. n.1 ≡ text_number texts.new command.now) }
+    ensures few { OnOk result (length texts.new ≤ length texts.old + 2) }
 {
-    texts.put(edge.command.as_slice())?;
-    put_unless_empty(texts, edge.depfile.as_slice())
+    if description.is_empty() {
+        let number = texts.put(command)?;
+        return Ok((number, number));
+    }
+    let label = texts.put(description)?;
+    let command = texts.put(command)?;
+    Ok((label, command))
 }
 
-/// Puts the texts of an edge.
-fn put_texts<'a>(texts: &mut Texts<'a>, build: &Build<'a>) -> Result<(), CompileFault>
-    ensures { OnOk result (texts.new ≡ with_items bytes_eq texts.old (texts_in build.now)) }
+/// Puts the texts and the pool of an edge with a command, and gives their numbers.
+fn put_command<'a>(
+    texts: &mut Texts<'a>,
+    pools: &mut Texts<'a>,
+    edge: &'a Edge,
+) -> Result<Numbers, AllocError>
+    requires texts { length texts.old ≤ 4194300 }
+    requires pools { length pools.old ≤ 4194300 }
+    ensures texts { OnOk result (texts.new ≡ with_items bytes_eq texts.old (or_command edge.now.description edge.now.command ∷ edge.now.command ∷ unless_empty edge.now.depfile)) }
+    ensures pools { OnOk result (pools.new ≡ with_items bytes_eq pools.old (unless_empty edge.now.pool)) }
+    ensures numbers { IfOk result (λ n. n ≡ command_numbers texts.new pools.new edge.now) }
+    ensures few { OnOk result (length texts.new ≤ length texts.old + 3) }
+    ensures few_pools { OnOk result (length pools.new ≤ length pools.old + 1) }
 {
-    texts.put(label(build))?;
+    let (label, command) = put_shown(texts, edge.description.as_slice(), edge.command.as_slice())?;
+    let depfile = put_unless_empty(texts, edge.depfile.as_slice())?;
+    let pool = put_unless_empty(pools, edge.pool.as_slice())?;
+    Ok(Numbers {
+        label,
+        command,
+        depfile,
+        pool,
+    })
+}
+
+/// Puts the texts and the pool of an edge, and gives their numbers.
+fn put_names<'a>(
+    texts: &mut Texts<'a>,
+    pools: &mut Texts<'a>,
+    build: &Build<'a>,
+) -> Result<Numbers, AllocError>
+    requires texts { length texts.old ≤ 4194300 }
+    requires pools { length pools.old ≤ 4194300 }
+    ensures texts { OnOk result (texts.new ≡ with_items bytes_eq texts.old (texts_in build.now)) }
+    ensures pools { OnOk result (pools.new ≡ with_items bytes_eq pools.old (pool_in build.now)) }
+    ensures numbers { IfOk result (λ n. n ≡ numbers_in texts.new pools.new build.now) }
+    ensures few { OnOk result (length texts.new ≤ length texts.old + 3) }
+    ensures few_pools { OnOk result (length pools.new ≤ length pools.old + 1) }
+{
     let edge = build.edge();
     if edge.phony {
-        return Ok(());
+        let label = texts.put(&[])?;
+        return Ok(Numbers {
+            label,
+            command: 0,
+            depfile: None,
+            pool: None,
+        });
     }
-    put_command(texts, edge)
+    put_command(texts, pools, edge)
 }
 
-/// The texts of all edges.
-pub(crate) fn texts_of<'a>(alloc: Global, builds: &[Build<'a>]) -> Result<Texts<'a>, CompileFault>
-    ensures { IfOk result (λ texts. texts ≡ all_texts builds.now) }
+/// The texts of all edges, the names of the pools that edges use, and of each edge the numbers of its own.
+#[derive(Drop)]
+pub(crate) struct Names<'a> {
+    pub(crate) texts: Texts<'a>,
+    pub(crate) pools: Texts<'a>,
+    pub(crate) numbers: Vec<Numbers>,
+}
+
+/// The texts and the pools of all edges.
+pub(crate) fn names_of<'a>(alloc: Global, builds: &[Build<'a>]) -> Result<Names<'a>, AllocError>
+    requires { length builds.now ≤ 1048576 }
+    ensures texts { IfOk result (λ names. names.texts ≡ all_texts builds.now) }
+    ensures pools { IfOk result (λ names. names.pools ≡ used_pools builds.now) }
+    ensures numbers { IfOk result (λ names. names.numbers.items ≡ map (numbers_in (all_texts builds.now) (used_pools builds.now)) builds.now) }
 {
     let mut texts = Texts::new(alloc);
-    for build in builds {
-        put_texts(&mut texts, build)?;
+    texts.reserve(builds.len())?;
+    let mut pools = Texts::new(alloc);
+    let mut numbers = Vec::with_capacity(alloc, builds.len())?;
+    for number in 0..builds.len() {
+        numbers.push(put_names(&mut texts, &mut pools, &builds[number])?)?;
     }
-    Ok(texts)
-}
-
-/// Puts the name of an edge's pool.
-fn put_pool<'a>(names: &mut Texts<'a>, build: &Build<'a>) -> Result<(), CompileFault>
-    ensures { OnOk result (names.new ≡ with_items bytes_eq names.old (pool_in build.now)) }
-{
-    let edge = build.edge();
-    if edge.phony {
-        return Ok(());
-    }
-    put_unless_empty(names, edge.pool.as_slice())
-}
-
-/// The names of the pools that edges use.
-pub(crate) fn pools_of<'a>(alloc: Global, builds: &[Build<'a>]) -> Result<Texts<'a>, CompileFault>
-    ensures { IfOk result (λ names. names ≡ used_pools builds.now) }
-{
-    let mut names = Texts::new(alloc);
-    for build in builds {
-        put_pool(&mut names, build)?;
-    }
-    Ok(names)
-}
-
-/// The depth of a pool, where it fits in 32 bits.
-fn depth(pool: &plan_scope::Pool) -> Result<u32, CompileFault>
-    ensures { IfOk result (λ depth. depth ≡ pool.now.depth) }
-{
-    match u32::try_from(pool.depth) {
-        Ok(depth) => Ok(depth),
-        Err(_error) => Err(CompileFault::Limit),
-    }
+    Ok(Names {
+        texts,
+        pools,
+        numbers,
+    })
 }
 
 /// The depth that is declared of a name.
-fn depth_of(pools: &[plan_scope::Pool], name: &[u8]) -> Result<u32, CompileFault>
-    ensures { IfOk result (λ depth. depth ≡ depth_of pools.now name.now) }
+fn depth_of(pools: &[plan_scope::Pool], name: &[u8]) -> u32
+    requires { All (λ p. p.depth ≤ max_depth) pools.now }
+    ensures { result ≡ depth_of pools.now name.now }
 {
     for pool in pools {
         if name == pool.name.as_slice() {
-            return depth(pool);
+            return pool.depth as u32;
         }
     }
-    Ok(0)
+    0
 }
 
 /// Appends a pool with the depth that is declared.
@@ -205,12 +242,13 @@ fn push_pool<'a>(
     known: &[plan_scope::Pool],
     names: &Texts<'a>,
     number: usize,
-) -> Result<(), CompileFault>
+) -> Result<(), AllocError>
+    requires { All (λ p. p.depth ≤ max_depth) known.now }
     ensures { (name : List ℕ) → slice_get names.now number ≡ Some name → OnOk result (pools.new.items ≡ pools.old.items ++ declared known.now name ∷ []) }
 {
     match names.get(number) {
         Some(name) => {
-            let depth = depth_of(known, name)?;
+            let depth = depth_of(known, name);
             let name = Items::new(Vec::from_slice(alloc, name)?);
             pools.push(Pool { name, depth })?;
             Ok(())
@@ -224,7 +262,8 @@ pub(crate) fn pool_table<'a>(
     alloc: Global,
     known: &[plan_scope::Pool],
     names: &Texts<'a>,
-) -> Result<Items<Pool>, CompileFault>
+) -> Result<Items<Pool>, AllocError>
+    requires { All (λ p. p.depth ≤ max_depth) known.now }
     ensures { IfOk result (λ pools. pools ≡ map (declared known.now) names.now) }
 {
     let mut pools = Vec::with_capacity(alloc, names.len())?;

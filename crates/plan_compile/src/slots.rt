@@ -1,16 +1,19 @@
 //! The slots of all edges, and which of them each output has.
 
-ghost use Rattle.std.specs.Prelude.{◌≡◌, ◌++◌, ◌∷◌, [], length, replicate, None, IfOk, OnOk, zero};
+ghost use Rattle.std.specs.Prelude.{◌≡◌, ◌≤◌, ◌<◌, ◌+◌, ◌++◌, ◌∷◌, [], length, replicate, None, IfNone, IfOk, IfSome, OnOk, zero};
+ghost use Rattle.plan_image.specs.Spelling.{IsWord, RoomAfter};
 ghost use Rattle.plan_compile.specs.declared.form.Form.TheVariants as form;
 ghost use Rattle.plan_compile.specs.OutputTable.{filled, found, put};
-ghost use Rattle.plan_compile.specs.Slots.{all_made, form_by, input_by, kinds_by, newest_by, newest_from, outputs_apart, outputs_by, outputs_flagged, outputs_sharing, own_kinds, owned, pairs, slots_from, stamps};
+ghost use Rattle.plan_compile.specs.Slots.{all_made, form_by, input_by, kinds_by, newest_by, newest_from, outputs_apart, outputs_by, outputs_flagged, outputs_sharing, own_kinds, owned, pairs, slot_count, slots_from, stamps};
 
 use crate::build::{Build, word};
-use crate::fault::CompileFault;
 use crate::form::Form;
 use crate::wiring::{Input, Output};
 use plan_image::{Kind, Slot};
 use std::alloc::{AllocError, Global};
+
+/// No image has more slots.
+const MOST: usize = 16_777_216;
 
 /// The form of an edge.
 fn form_by(phony: bool, restat: bool, none: bool) -> Form
@@ -33,6 +36,51 @@ pub(crate) fn form_of<'a>(build: &Build<'a>) -> Form
     form_by(edge.phony, edge.restat, none)
 }
 
+/// How many slots an edge of this form has, of which these are the outputs.
+fn own_len(form: Form, files: &[u32]) -> usize
+    ensures { result ≡ length (kinds_by form files.now) }
+{
+    match form {
+        Form::OneFlag => 2 + files.len(),
+        Form::OwnFlags => 1 + 2 * files.len(),
+        Form::Gathers => 2,
+        Form::Alone => 2 * files.len(),
+    }
+}
+
+/// What room is left behind the slots of an edge.
+fn room_after<'a>(build: &Build<'a>, room: usize) -> Option<usize>
+    ensures { RoomAfter result (length (own_kinds build.now)) room }
+{
+    room.checked_sub(own_len(form_of(build), build.outputs()))
+}
+
+/// What room is left behind the slots of these edges.
+fn slots_room<'a>(builds: &[Build<'a>], room: usize) -> Option<usize>
+    ensures { RoomAfter result (slot_count builds.now) room }
+{
+    let mut left = room;
+    for build in builds {
+        match room_after(build, left) {
+            Some(rest) => left = rest,
+            None => return None,
+        }
+    }
+    Some(left)
+}
+
+/// How many slots these edges have, where an image may have so many.
+pub(crate) fn slot_count<'a>(builds: &[Build<'a>]) -> Option<usize>
+    ensures count { IfSome result (λ n. n ≡ slot_count builds.now) }
+    ensures few { IfSome result (λ n. n ≤ 16777216) }
+    ensures many { IfNone result (16777216 < slot_count builds.now) }
+{
+    match slots_room(builds, MOST) {
+        Some(left) => Some(MOST - left),
+        None => None,
+    }
+}
+
 /// Puts an output to its file, unless one is there.
 fn put(table: &mut Vec<Option<Output>>, output: Output)
     ensures { table.new.items ≡ put table.old.items output }
@@ -46,11 +94,13 @@ fn put(table: &mut Vec<Option<Output>>, output: Output)
 }
 
 /// One slot more, and its number.
-fn slot(slots: &mut Vec<Slot>, owner: u32, kind: Kind) -> Result<u32, CompileFault>
+fn slot(slots: &mut Vec<Slot>, owner: u32, kind: Kind) -> Result<u32, AllocError>
+    requires { IsWord (length slots.old.items) }
     ensures number { IfOk result (λ n. n ≡ length slots.old.items) }
     ensures slots { OnOk result (slots.new.items ≡ slots.old.items ++ owned owner (kind ∷ [])) }
+    ensures more { OnOk result (length slots.new.items ≡ length slots.old.items + 1) }
 {
-    let number = word(slots.len())?;
+    let number = word(slots.len());
     slots.push(Slot { owner, kind })?;
     Ok(number)
 }
@@ -62,7 +112,8 @@ fn lay_flagged(
     owner: u32,
     changed: u32,
     files: &[u32],
-) -> Result<(), CompileFault>
+) -> Result<(), AllocError>
+    requires { length slots.old.items + length (stamps files.now) ≤ 16777216 }
     ensures slots { OnOk result (slots.new.items ≡ slots.old.items ++ owned owner (stamps files.now)) }
     ensures table { OnOk result (table.new.items ≡ filled table.old.items (outputs_flagged (length slots.old.items) changed files.now)) }
 {
@@ -86,7 +137,8 @@ fn lay_apart(
     table: &mut Vec<Option<Output>>,
     owner: u32,
     files: &[u32],
-) -> Result<(), CompileFault>
+) -> Result<(), AllocError>
+    requires { length slots.old.items + length (pairs files.now) ≤ 16777216 }
     ensures slots { OnOk result (slots.new.items ≡ slots.old.items ++ owned owner (pairs files.now)) }
     ensures table { OnOk result (table.new.items ≡ filled table.old.items (outputs_apart (length slots.old.items) files.now)) }
 {
@@ -127,7 +179,8 @@ fn lay_one_flag(
     table: &mut Vec<Option<Output>>,
     owner: u32,
     files: &[u32],
-) -> Result<u32, CompileFault>
+) -> Result<u32, AllocError>
+    requires { length slots.old.items + length (kinds_by form.OneFlag files.now) ≤ 16777216 }
     ensures newest { IfOk result (λ n. n ≡ newest_by form.OneFlag (length slots.old.items)) }
     ensures slots { OnOk result (slots.new.items ≡ slots.old.items ++ owned owner (kinds_by form.OneFlag files.now)) }
     ensures table { OnOk result (table.new.items ≡ filled table.old.items (outputs_by form.OneFlag (length slots.old.items) files.now)) }
@@ -144,7 +197,8 @@ fn lay_own_flags(
     table: &mut Vec<Option<Output>>,
     owner: u32,
     files: &[u32],
-) -> Result<u32, CompileFault>
+) -> Result<u32, AllocError>
+    requires { length slots.old.items + length (kinds_by form.OwnFlags files.now) ≤ 16777216 }
     ensures newest { IfOk result (λ n. n ≡ newest_by form.OwnFlags (length slots.old.items)) }
     ensures slots { OnOk result (slots.new.items ≡ slots.old.items ++ owned owner (kinds_by form.OwnFlags files.now)) }
     ensures table { OnOk result (table.new.items ≡ filled table.old.items (outputs_by form.OwnFlags (length slots.old.items) files.now)) }
@@ -160,7 +214,8 @@ fn lay_gathers(
     table: &mut Vec<Option<Output>>,
     owner: u32,
     files: &[u32],
-) -> Result<u32, CompileFault>
+) -> Result<u32, AllocError>
+    requires { length slots.old.items + length (kinds_by form.Gathers files.now) ≤ 16777216 }
     ensures newest { IfOk result (λ n. n ≡ newest_by form.Gathers (length slots.old.items)) }
     ensures slots { OnOk result (slots.new.items ≡ slots.old.items ++ owned owner (kinds_by form.Gathers files.now)) }
     ensures table { OnOk result (table.new.items ≡ filled table.old.items (outputs_by form.Gathers (length slots.old.items) files.now)) }
@@ -177,12 +232,13 @@ fn lay_alone(
     table: &mut Vec<Option<Output>>,
     owner: u32,
     files: &[u32],
-) -> Result<u32, CompileFault>
+) -> Result<u32, AllocError>
+    requires { length slots.old.items + length (kinds_by form.Alone files.now) ≤ 16777216 }
     ensures newest { IfOk result (λ n. n ≡ newest_by form.Alone (length slots.old.items)) }
     ensures slots { OnOk result (slots.new.items ≡ slots.old.items ++ owned owner (kinds_by form.Alone files.now)) }
     ensures table { OnOk result (table.new.items ≡ filled table.old.items (outputs_by form.Alone (length slots.old.items) files.now)) }
 {
-    let first = word(slots.len())?;
+    let first = word(slots.len());
     lay_apart(slots, table, owner, files)?;
     Ok(first)
 }
@@ -194,7 +250,8 @@ fn lay(
     owner: u32,
     form: Form,
     files: &[u32],
-) -> Result<u32, CompileFault>
+) -> Result<u32, AllocError>
+    requires { length slots.old.items + length (kinds_by form files.now) ≤ 16777216 }
     ensures newest { IfOk result (λ n. n ≡ newest_by form (length slots.old.items)) }
     ensures slots { OnOk result (slots.new.items ≡ slots.old.items ++ owned owner (kinds_by form files.now)) }
     ensures table { OnOk result (table.new.items ≡ filled table.old.items (outputs_by form (length slots.old.items) files.now)) }
@@ -217,17 +274,20 @@ pub(crate) struct Plan {
     pub(crate) newest: Vec<u32>,
 }
 
-/// The slots of all edges, where there are so many files.
+/// The slots of all edges, where there are so many files and slots.
 pub(crate) fn planned<'a>(
     alloc: Global,
     files: usize,
+    count: usize,
     builds: &[Build<'a>],
-) -> Result<Plan, CompileFault>
+) -> Result<Plan, AllocError>
+    requires count { slot_count builds.now ≤ 16777216 }
+    requires few { length builds.now ≤ 1048576 }
     ensures slots { IfOk result (λ p. p.slots.items ≡ slots_from zero builds.now) }
     ensures table { IfOk result (λ p. p.table.items ≡ filled (replicate files None) (all_made zero builds.now)) }
     ensures newest { IfOk result (λ p. p.newest.items ≡ newest_from zero builds.now) }
 {
-    let mut slots = Vec::new(alloc);
+    let mut slots = Vec::with_capacity(alloc, count)?;
     let mut table = vec![in alloc; None; files]?;
     let mut newest = Vec::with_capacity(alloc, builds.len())?;
     for number in 0..builds.len() {
@@ -235,7 +295,7 @@ pub(crate) fn planned<'a>(
         let slot = lay(
             &mut slots,
             &mut table,
-            word(number)?,
+            word(number),
             form_of(build),
             build.outputs(),
         )?;

@@ -1,18 +1,27 @@
-use Rattle.std.proofs.Common.{refl, ◌≡◌, ◌∙◌, List, length, map, Some, None, replicate, ap, sym, zero}
+use Rattle.std.proofs.Common.{refl, ◌≡◌, ◌≤◌, ◌∙◌, List, length, map, Some, None, replicate, ap, sym, subst, zero, arith}
+use Rattle.std.specs.Prelude.{Err, IfErr}
+use Rattle.std.proofs.lemmas.Result.{err_from_is_err_and}
 use Rattle.plan_image.specs.declared.instr.Instr.{Instr}
-use Rattle.plan_compile.specs.Assembling.{codes_in}
+use Rattle.plan_compile.specs.declared.fault.CompileFault.{CompileFault}
+use Rattle.plan_compile.specs.declared.numbers.Numbers.{Numbers}
+use Rattle.plan_compile.specs.Assembling.{codes_in, edges_in}
 use Rattle.plan_compile.specs.Builds.{Build, Builds, builds}
+use Rattle.plan_compile.specs.EdgeNumbers.{numbers_in}
 use Rattle.plan_compile.specs.Faithful.{IsSound}
-use Rattle.plan_compile.specs.Images.{edges_of, used_bodies}
-use Rattle.plan_compile.specs.Names.{Text, declared, used_pools}
+use Rattle.plan_compile.specs.Images.{used_bodies}
+use Rattle.plan_compile.specs.Names.{Text, all_texts, declared, used_pools}
 use Rattle.plan_compile.specs.OutputTable.{Table, filled}
+use Rattle.plan_compile.specs.Refusals.{IsRefused, RefusesEdges}
 use Rattle.plan_compile.specs.Slots.{all_made, newest_from, slots_from}
-use Rattle.plan_compile.proofs.AssembleLemmas.{image_is}
+use Rattle.plan_compile.proofs.AssembleLemmas.{all_codes, image_is, numbers_of}
 use Rattle.plan_compile.proofs.BuildLemmas.{map_long}
+use Rattle.plan_compile.proofs.FitLemmas.{defaults_fit}
+use Rattle.plan_compile.proofs.RefusalLemmas.{edges_refused}
+use Rattle.plan_compile.proofs.SoundLemmas.{builds_length}
 use Rattle.plan_compile.proofs.compiling.parts.Goals as goal
 
-pub returns : goal.returns
-returns c =
+pub returns-clause-parts : goal.returns-clause-parts
+returns-clause-parts c =
     let m = c.args.manifest.now in
     let g = c.args.graph.now in
     let t : Builds = builds m g in
@@ -21,25 +30,51 @@ returns c =
     let coded = c.in_ok-coded.coded in
     let tables = c.in_ok-tables.tables in
     let all : named.builds.items ≡ t.edges = c.in_ok-named.ensures.builds in
-    let count : c.len.result ≡ length t.files = c.len.ensures ∙ sym (map_long (λ f. f.0) g.files) in
+    let count : c.len-3.result ≡ length t.files = c.len-3.ensures ∙ sym (map_long (λ f. f.0) g.files) in
+    let texts : named.names.texts ≡ all_texts t.edges = c.in_ok-named.ensures.texts ∙ ap all_texts all in
+    let used : named.names.pools ≡ used_pools t.edges = c.in_ok-named.ensures.pools ∙ ap used_pools all in
+    let numbers : named.names.numbers.items ≡ numbers_of t = c.in_ok-named.ensures.numbers ∙ ap (λ (xs : List Build). map (numbers_in (all_texts xs) (used_pools xs)) xs) all in
     let slots : coded.slots.items ≡ slots_from zero t.edges = c.in_ok-coded.ensures.slots ∙ ap (λ (xs : List Build). slots_from zero xs) all in
-    let table : List Build → Table = λ xs. filled (replicate c.len.result None) (all_made zero xs) in
-    let codes : List Build → List (List Instr) = λ xs. codes_in named.texts (table xs) (newest_from zero xs) xs in
+    let table : List Build → Table = λ xs. filled (replicate c.len-3.result None) (all_made zero xs) in
+    let ks : List Numbers = named.names.numbers.items in
+    let codes : List Build → List (List Instr) = λ xs. codes_in (table xs) ks (newest_from zero xs) xs in
     let bodies : coded.bodies ≡ used_bodies (codes t.edges) = c.in_ok-coded.ensures.bodies ∙ ap (λ (xs : List Build). used_bodies (codes xs)) all in
-    let edges : coded.edges ≡ edges_of named.texts (used_pools t.edges) (used_bodies (codes t.edges)) (codes t.edges) t.edges =
-    c.in_ok-coded.ensures.edges ∙ ap (λ (xs : List Build). edges_of named.texts named.pools (used_bodies (codes xs)) (codes xs) xs) all
-    ∙ ap (λ (ns : List Text). edges_of named.texts ns (used_bodies (codes t.edges)) (codes t.edges) t.edges) c.in_ok-named.ensures.pools in
-    let pools : tables.pools ≡ map (declared t.pools) (used_pools t.edges) =
-    c.in_ok-tables.ensures.pools ∙ ap (λ (ns : List Text). map (declared t.pools) ns) c.in_ok-named.ensures.pools in
+    let edges : coded.edges ≡ edges_in (used_bodies (codes t.edges)) ks (codes t.edges) t.edges =
+    c.in_ok-coded.ensures.edges ∙ ap (λ (xs : List Build). edges_in (used_bodies (codes xs)) ks (codes xs) xs) all in
+    let pools : tables.pools ≡ map (declared t.pools) (used_pools t.edges) = c.in_ok-tables.ensures.pools ∙ ap (λ (ns : List Text). map (declared t.pools) ns) used in
     c.assembled.ensures
-    ∙ ap (λ (us : List Text). record {
-      texts = us;
-      files = tables.files;
-      pools = tables.pools;
-      slots = coded.slots.items;
-      bodies = Some coded.bodies;
-      edges = coded.edges;
-      defaults = tables.defaults;
-    }) c.in_ok-tables.ensures.texts
-    ∙ image_is t sound c.len.result named.texts tables.files tables.pools coded.slots.items (table t.edges) (newest_from zero t.edges)
-    coded.bodies coded.edges tables.defaults count c.in_ok-named.ensures.texts c.in_ok-tables.ensures.files pools slots refl refl bodies edges c.in_ok-tables.ensures.defaults
+    ∙ image_is t sound c.len-3.result tables.texts tables.files tables.pools coded.slots.items (table t.edges) ks (newest_from zero t.edges) coded.bodies coded.edges tables.defaults count
+    (c.in_ok-tables.ensures.texts ∙ texts) c.in_ok-tables.ensures.files pools slots refl numbers refl bodies edges c.in_ok-tables.ensures.defaults
+
+pub code_all-requires : goal.code_all-requires
+code_all-requires c =
+    let m = c.args.manifest.now in
+    let xs : List Build = c.in_ok-named.named.builds.items in
+    let few : length m.edges ≤ 1048576 = c.requires.graph.few in
+    record {
+      named = ap (λ (ks : List Numbers). length ks) c.in_ok-named.ensures.numbers ∙ map_long (numbers_in (all_texts xs) (used_pools xs)) xs;
+      few = omega (arith, few, builds_length c.args.graph.now 0 m.edges, ap (λ (ys : List Build). length ys) c.in_ok-named.ensures.builds);
+    }
+
+pub tables_of-requires : goal.tables_of-requires
+tables_of-requires c =
+    record { depths = c.requires.sound.depths; defaults = defaults_fit c.args.manifest.now c.args.graph.now c.requires.graph c.defaults_ascend.ensures }
+
+pub returns-in_err-coded-clause-refused : goal.returns-in_err-coded-clause-refused
+returns-in_err-coded-clause-refused c =
+    let m = c.args.manifest.now in
+    let g = c.args.graph.now in
+    let t : Builds = builds m g in
+    let sound : IsSound t = c.manifests_are_sound.ensures m g c.requires.sound c.requires.graph in
+    let named = c.in_ok-named.named in
+    let all : named.builds.items ≡ t.edges = c.in_ok-named.ensures.builds in
+    let count : c.len-3.result ≡ length t.files = c.len-3.ensures ∙ sym (map_long (λ f. f.0) g.files) in
+    let numbers : named.names.numbers.items ≡ numbers_of t = c.in_ok-named.ensures.numbers ∙ ap (λ (xs : List Build). map (numbers_in (all_texts xs) (used_pools xs)) xs) all in
+    let table : List Build → Table = λ xs. filled (replicate c.len-3.result None) (all_made zero xs) in
+    let ks : List Numbers = named.names.numbers.items in
+    let codes : List Build → List (List Instr) = λ xs. codes_in (table xs) ks (newest_from zero xs) xs in
+    let fault : CompileFault = c.in_err-coded.field-0.0 in
+    let refused : RefusesEdges fault t.edges (codes t.edges) = subst (λ (xs : List Build). RefusesEdges fault xs (codes xs)) all c.in_err-coded.ensures.refused in
+    let p = err_from_is_err_and c.from_residual-in_err-coded.result c.from_residual-in_err-coded.ensures.1 in
+    subst (λ r. IfErr r (λ (f : CompileFault). IsRefused m g f)) (sym (p.1 ∙ ap (λ e. Err e) p.2))
+    (edges_refused m g fault (codes t.edges) (all_codes t sound c.len-3.result (table t.edges) ks (newest_from zero t.edges) count refl numbers refl) refused)

@@ -1,14 +1,15 @@
-use Rattle.std.proofs.Common.{◌≡◌, ◌++◌, drop, map}
+use Rattle.std.proofs.Common.{◌≡◌, ◌≤◌, ◌++◌, drop, length, map}
 use Rattle.plan_image.specs.Bodies.{body_of}
-use Rattle.plan_compile.specs.Assembling.{codes_in}
+use Rattle.plan_compile.specs.Assembling.{codes_in, edges_in}
 use Rattle.plan_compile.specs.BodyKeys.{same_body}
-use Rattle.plan_compile.specs.Images.{edges_of, used_bodies}
+use Rattle.plan_compile.specs.Images.{used_bodies}
 use Rattle.plan_compile.specs.Numbering.{with_items}
 use Rattle.plan_compile.proofs.edges.edges_of.Given as goal
 
 abbrev pub invariant-loop-number : goal.invariant-loop-number
 invariant-loop-number l =
-    let codes = codes_in l.texts l.plan.table.items l.plan.newest.items l.builds in
-    let left = codes_in l.texts l.plan.table.items (drop l.number l.plan.newest.items) (drop l.number l.builds) in
+    let codes = codes_in l.plan.table.items l.numbers l.plan.newest.items l.builds in
+    let left = codes_in l.plan.table.items (drop l.number l.numbers) (drop l.number l.plan.newest.items) (drop l.number l.builds) in
     (with_items same_body l.bodies (map body_of left) ≡ used_bodies codes)
-    × (l.edges ++ edges_of l.texts l.pools (used_bodies codes) left (drop l.number l.builds) ≡ edges_of l.texts l.pools (used_bodies codes) codes l.builds)
+    × (l.edges ++ edges_in (used_bodies codes) (drop l.number l.numbers) left (drop l.number l.builds) ≡ edges_in (used_bodies codes) l.numbers codes l.builds)
+    × (length l.bodies ≤ l.number)

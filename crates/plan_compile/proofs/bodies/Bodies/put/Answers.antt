@@ -29,7 +29,7 @@ returns-then-is_new-clause-number c =
     let new : not (list_any (same_key items c.in_ok-key.key) keys) ≡ true = sym c.in_ok-place.ensures.added ∙ c.if-is_new.true in
     let absent : has same_body bodies c.args.body ≡ false = sym (there items c.in_ok-key.key keys c.args.body bodies key c.self.invariant) ∙ not_true (list_any (same_key items c.in_ok-key.key) keys) new in
     let i : c.in_ok-place.place ≡ position_or_len (same_key items c.in_ok-key.key) keys = c.in_ok-place.ensures.index in
-    i ∙ place items c.in_ok-key.key keys c.args.body bodies key c.self.invariant
+    c.word.ensures ∙ i ∙ place items c.in_ok-key.key keys c.args.body bodies key c.self.invariant
     ∙ ap (λ (bs : List Body). number same_body c.args.body bs)
     (sym (c.in_ok-push.ensures.items ∙ ap (λ (bs : List Body). bs ++ c.args.body ∷ []) c.in_ok-reserve.ensures.items ∙ is_last bodies c.args.body absent))
 
@@ -50,5 +50,5 @@ returns-clause-number c =
     let old : not (list_any (same_key items c.in_ok-key.key) keys) ≡ false = sym c.in_ok-place.ensures.added ∙ c.if-is_new.false in
     let present : has same_body bodies c.args.body ≡ true = sym (there items c.in_ok-key.key keys c.args.body bodies key c.self.invariant) ∙ not_false (list_any (same_key items c.in_ok-key.key) keys) old in
     let i : c.in_ok-place.place ≡ position_or_len (same_key items c.in_ok-key.key) keys = c.in_ok-place.ensures.index in
-    i ∙ place items c.in_ok-key.key keys c.args.body bodies key c.self.invariant
+    c.word-2.ensures ∙ i ∙ place items c.in_ok-key.key keys c.args.body bodies key c.self.invariant
     ∙ ap (λ (bs : List Body). number same_body c.args.body bs) (sym (c.in_ok-reserve.ensures.items ∙ is_there bodies c.args.body present))

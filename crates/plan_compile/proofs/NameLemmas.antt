@@ -1,0 +1,98 @@
+-- The numbers of texts and pools, as the code keeps them, are those of the whole tables.
+use Rattle.std.proofs.Common.{◌≡◌, ℕ, zero, suc, ◌+◌, Bool, true, false, List, [], ◌∷◌, ◌++◌, drop, length, map, Option, Some, None, refl, sym, ap, subst, ◌∙◌, bytes_eq, arith}
+use Rattle.std.specs.Prelude.{◌==◌, flat_map, slice_get, if◌then◌else◌}
+use Rattle.std.proofs.lemmas.Bool.{eqb-true}
+use Rattle.plan_scope.specs.declared.manifest.Edge.{Edge as ManifestEdge}
+use Rattle.plan_compile.specs.declared.numbers.Numbers.{Numbers}
+use Rattle.plan_compile.specs.Builds.{Build}
+use Rattle.plan_compile.specs.EdgeNumbers.{command_numbers, numbers_by, numbers_in}
+use Rattle.plan_compile.specs.Names.{Text, text_number, depfile_number, or_command, unless_empty, label_by, texts_by, texts_in, pool_by, pool_in}
+use Rattle.plan_compile.specs.Numbering.{has, with_item, with_items}
+use Rattle.plan_compile.proofs.BuildLemmas.{drop_here, mapped_step}
+use Rattle.plan_compile.proofs.NumberingLemmas.{item_has, items_have, items_join, items_keep, texts_decide}
+
+-- a text that is there keeps its number
+pub text_stays : (ts us : List Text) (t : Text) → has bytes_eq ts t ≡ true → text_number ts t ≡ text_number (with_items bytes_eq ts us) t
+text_stays ts us t h = sym (items_keep bytes_eq texts_decide ts us t h).stays
+
+-- one of the texts that were put is there
+pub text_there : (old ts us : List Text) (k : ℕ) (t : Text) → ts ≡ with_items bytes_eq old us → slice_get us k ≡ Some t → has bytes_eq ts t ≡ true
+text_there old ts us k t put at = subst (λ (xs : List Text). has bytes_eq xs t ≡ true) (sym put) (items_have bytes_eq texts_decide old us k t at)
+
+pub depfile_stays : (ts us : List Text) (t : Text) → ((c : ℕ) (cs : Text) → t ≡ c ∷ cs → has bytes_eq ts t ≡ true) → depfile_number ts t ≡ depfile_number (with_items bytes_eq ts us) t
+depfile_stays ts us [] h = refl
+depfile_stays ts us (c ∷ cs) h = ap (λ (n : ℕ). Some n) (text_stays ts us (c ∷ cs) (h c cs refl))
+
+-- a text that is put twice is there once
+pub put_twice : (ts : List Text) (t : Text) → with_item bytes_eq ts t ≡ with_item bytes_eq (with_item bytes_eq ts t) t
+put_twice ts t = ap (λ (b : Bool). if b then with_item bytes_eq ts t else with_item bytes_eq ts t ++ t ∷ []) (sym (item_has bytes_eq texts_decide ts t))
+
+same_numbers : (a b c d : ℕ) (v w x y : Option ℕ) → a ≡ b → c ≡ d → v ≡ w → x ≡ y
+    → ◌≡◌ {A = Numbers} (record { label = a; command = c; depfile = v; pool = x }) (record { label = b; command = d; depfile = w; pool = y })
+same_numbers a b c d v w x y ha hc hv hx = cc
+
+-- what comes behind an edge's texts and pool leaves its numbers
+pub numbers_stay : (x : Build) (old ts us names ps vs : List Text) → ts ≡ with_items bytes_eq old (texts_in x) → ps ≡ with_items bytes_eq names (pool_in x)
+    → numbers_in ts ps x ≡ numbers_in (with_items bytes_eq ts us) (with_items bytes_eq ps vs) x
+numbers_stay x old ts us names ps vs = by_sort x.edge.phony
+  where
+    by_sort : (b : Bool) → ts ≡ with_items bytes_eq old (label_by b x ∷ texts_by b x) → ps ≡ with_items bytes_eq names (pool_by b x.edge.pool)
+        → numbers_by b ts ps x ≡ numbers_by b (with_items bytes_eq ts us) (with_items bytes_eq ps vs) x
+    by_sort true put pool =
+        same_numbers _ _ zero zero None None None None (text_stays ts us [] (text_there old ts ([] ∷ []) zero [] put refl)) refl refl refl
+    by_sort false put pool =
+        let label : Text = or_command x.edge.description x.edge.command in
+        let all : List Text = label ∷ x.edge.command ∷ unless_empty x.edge.depfile in
+        same_numbers _ _ _ _ _ _ _ _
+        (text_stays ts us label (text_there old ts all zero label put refl))
+        (text_stays ts us x.edge.command (text_there old ts all (suc zero) x.edge.command put refl))
+        (depfile_stays ts us x.edge.depfile λ c cs is. text_there old ts all (suc (suc zero)) x.edge.depfile put (first_of x.edge.depfile c cs is))
+        (depfile_stays ps vs x.edge.pool λ c cs is. text_there names ps (unless_empty x.edge.pool) zero x.edge.pool pool (first_of x.edge.pool c cs is))
+      where
+        first_of : (t : Text) (c : ℕ) (cs : Text) → t ≡ c ∷ cs → slice_get (unless_empty t) zero ≡ Some t
+        first_of [] c cs is = absurd cc
+        first_of (d ∷ ds) c cs is = refl
+
+-- one edge more
+pub names_step : (texts_of : Build → List Text) (xs : List Build) (n : ℕ) (x : Build) (old new whole : List Text) → slice_get xs n ≡ Some x → new ≡ with_items bytes_eq old (texts_of x)
+    → with_items bytes_eq old (flat_map texts_of (drop n xs)) ≡ whole → with_items bytes_eq new (flat_map texts_of (drop (n + 1) xs)) ≡ whole
+names_step texts_of xs n x old new whole at put h =
+    let rest : List Text = flat_map texts_of (drop (n + 1) xs) in
+    ap (λ (ts : List Text). with_items bytes_eq ts rest) put ∙ sym (items_join bytes_eq texts_decide old (texts_of x) rest)
+    ∙ ap (λ (ys : List Build). with_items bytes_eq old (flat_map texts_of ys)) (sym (drop_here xs n x at)) ∙ h
+
+pub numbers_step : (xs : List Build) (n : ℕ) (x : Build) (k : Numbers) (old new names pools all used : List Text) (some more whole : List Numbers) → slice_get xs n ≡ Some x
+    → new ≡ with_items bytes_eq old (texts_in x) → pools ≡ with_items bytes_eq names (pool_in x) → k ≡ numbers_in new pools x → more ≡ some ++ k ∷ []
+    → with_items bytes_eq new (flat_map texts_in (drop (n + 1) xs)) ≡ all → with_items bytes_eq pools (flat_map pool_in (drop (n + 1) xs)) ≡ used
+    → some ++ map (numbers_in all used) (drop n xs) ≡ whole → more ++ map (numbers_in all used) (drop (n + 1) xs) ≡ whole
+numbers_step xs n x k old new names pools all used some more whole at put pool is pushed ends pools_end h =
+    let final : k ≡ numbers_in all used x =
+    is ∙ numbers_stay x old new (flat_map texts_in (drop (n + 1) xs)) names pools (flat_map pool_in (drop (n + 1) xs)) put pool
+    ∙ ap (λ (ts : List Text). numbers_in ts (with_items bytes_eq pools (flat_map pool_in (drop (n + 1) xs))) x) ends ∙ ap (λ (ps : List Text). numbers_in all ps x) pools_end in
+    mapped_step (numbers_in all used) xs n x some more whole at (pushed ∙ ap (λ (j : Numbers). some ++ j ∷ []) final) h
+
+-- without a description the command is shown, and put once
+pub shown_once : (ts : List Text) (description command : Text) → (length description == 0) ≡ true
+    → with_item bytes_eq ts command ≡ with_items bytes_eq ts (or_command description command ∷ command ∷ [])
+shown_once ts [] command h = put_twice ts command
+shown_once ts (c ∷ cs) command h = let none : length (c ∷ cs) ≡ 0 = eqb-true (length (c ∷ cs)) 0 h in absurd (omega (arith, none))
+
+-- a description keeps its number when the command is put
+pub label_stays : (old ts new : List Text) (description command : Text) (n : ℕ) → (length description == 0) ≡ false → ts ≡ with_item bytes_eq old description → n ≡ text_number ts description
+    → new ≡ with_item bytes_eq ts command → n ≡ text_number new (or_command description command)
+label_stays old ts new [] command n h first is second = absurd cc
+label_stays old ts new (c ∷ cs) command n h first is second =
+    is ∙ text_stays ts (command ∷ []) (c ∷ cs) (text_there old ts ((c ∷ cs) ∷ []) zero (c ∷ cs) first refl) ∙ ap (λ (us : List Text). text_number us (c ∷ cs)) (sym second)
+
+-- the numbers of a command edge's texts and pool
+pub numbers_are : (old ts new pools : List Text) (e : ManifestEdge) (a b c q : Text) (l k : ℕ) (d p : Option ℕ) → a ≡ e.description → b ≡ e.command → c ≡ e.depfile → q ≡ e.pool
+    → ts ≡ with_items bytes_eq old (or_command a b ∷ b ∷ []) → l ≡ text_number ts (or_command a b) → k ≡ text_number ts b → new ≡ with_items bytes_eq ts (unless_empty c)
+    → d ≡ depfile_number new c → p ≡ depfile_number pools q → ◌≡◌ {A = Numbers} (record { label = l; command = k; depfile = d; pool = p }) (command_numbers new pools e)
+numbers_are old ts new pools e a b c q l k d p ha hb hc hq put hl hk more hd hp =
+    let label : Text = or_command a b in
+    let both : List Text = label ∷ b ∷ [] in
+    let first : l ≡ text_number new label = hl ∙ text_stays ts (unless_empty c) label (text_there old ts both zero label put refl) ∙ ap (λ (us : List Text). text_number us label) (sym more) in
+    let second : k ≡ text_number new b = hk ∙ text_stays ts (unless_empty c) b (text_there old ts both (suc zero) b put refl) ∙ ap (λ (us : List Text). text_number us b) (sym more) in
+    same_numbers l (text_number new (or_command e.description e.command)) k (text_number new e.command) d (depfile_number new e.depfile) p (depfile_number pools e.pool)
+    (first ∙ ap (λ (t : Text). text_number new (or_command t b)) ha ∙ ap (λ (t : Text). text_number new (or_command e.description t)) hb)
+    (second ∙ ap (λ (t : Text). text_number new t) hb) (hd ∙ ap (λ (t : Text). depfile_number new t) hc) (hp ∙ ap (λ (t : Text). depfile_number pools t) hq)

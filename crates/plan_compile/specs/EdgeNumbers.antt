@@ -1,0 +1,23 @@
+-- The numbers of an edge's texts and of its pool.
+use Rattle.std.specs.Prelude.{ℕ, zero, Bool, true, false, List, [], None}
+use Rattle.plan_scope.specs.declared.manifest.Edge.{Edge as ManifestEdge}
+use Rattle.plan_compile.specs.declared.numbers.Numbers.{Numbers}
+use Rattle.plan_compile.specs.Builds.{Build}
+use Rattle.plan_compile.specs.Names.{Text, text_number, depfile_number, or_command}
+
+-- of an edge with a command
+abbrev pub command_numbers : (texts pools : List Text) → ManifestEdge → Numbers
+command_numbers texts pools e = record {
+  label = text_number texts (or_command e.description e.command);
+  command = text_number texts e.command;
+  depfile = depfile_number texts e.depfile;
+  pool = depfile_number pools e.pool;
+}
+
+-- a phony has a label alone, which is empty
+abbrev pub numbers_by : (phony : Bool) → (texts pools : List Text) → Build → Numbers
+numbers_by true texts pools x = record { label = text_number texts []; command = zero; depfile = None; pool = None }
+numbers_by false texts pools x = command_numbers texts pools x.edge
+
+abbrev pub numbers_in : (texts pools : List Text) → Build → Numbers
+numbers_in texts pools x = numbers_by x.edge.phony texts pools x
