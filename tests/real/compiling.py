@@ -87,7 +87,8 @@ def query_faults(image: Image, printed: bytes) -> Iterator[str]:
         sources = {image.files[operand] for name, operand in code_of(image, edge) if name == "Need"}
         if sources != inputs - maker.keys():
             yield f"{path!r} asks for {sources}, by ninja's inputs for {inputs - maker.keys()}"
-        if not all(maker[path] in image.edges[maker[user]].waits for user in users if user in maker):
+        others = {maker[user] for user in users if user in maker} - {maker[path]}  # a phony may use its own output
+        if not all(maker[path] in image.edges[other].waits for other in others):
             yield f"not every user of {path!r} waits for it"
 
 
