@@ -1,8 +1,9 @@
-//! Whether two runs end alike, on images made by hand. Want of memory is allowed anywhere, so that each growth can be refused.
+//! Whether two runs end alike, on images made by hand.
 
-use crate::machine::{RUNS, command, three, verified};
-use plan_image::Instr;
-use plan_machine::{Event, Options, Refused, Reply, same_end};
+use crate::machine::{Plain, events_of, image_of, three};
+use plan_image::{Instr, Sort};
+use plan_machine::{Options, Refused, same_end};
+use plan_samples::{RUNS, SampleEdge};
 use plan_verify::Verified;
 use std::alloc::{AllocError, Global};
 
@@ -10,118 +11,126 @@ use std::alloc::{AllocError, Global};
 type Answer = Result<bool, (usize, Refused)>;
 
 /// Adds the events of an edge whose command ends with this status: 7 where that is 0, else 5.
-fn push_run(events: &mut Vec<Event>, edge: u32, status: u8) -> Result<(), AllocError> {
-    events.push(Event::Start(edge))?;
+fn push_run(events: &mut Vec<Plain>, edge: u32, status: u8) -> Result<(), AllocError> {
+    events.push(Plain::Start(edge))?;
     for _i in 0..3usize {
-        events.push(Event::Step(edge))?;
+        events.push(Plain::Step(edge))?;
     }
-    events.push(Event::Reply(edge, Reply::Exit(status)))?;
+    events.push(Plain::Exit(edge, status))?;
     if status == 0 {
-        events.push(Event::Step(edge))?;
-        events.push(Event::Step(edge))?;
+        events.push(Plain::Step(edge))?;
+        events.push(Plain::Step(edge))?;
     }
     Ok(())
 }
 
-/// The events of edges, one after another, each with the status of its command.
-fn runs(alloc: Global, edges: &[(u32, u8)]) -> Result<Vec<Event>, AllocError> {
+/// The events of edges, one after another, each with the status of its command; and then one more, where there is one.
+fn run_of(
+    alloc: Global,
+    edges: &[(u32, u8)],
+    last: Option<Plain>,
+) -> Result<Vec<Plain>, AllocError> {
     let mut events = Vec::new(alloc);
     for (edge, status) in edges {
         push_run(&mut events, *edge, *status)?;
+    }
+    if let Some(event) = last {
+        events.push(event)?;
     }
     Ok(events)
 }
 
 /// What is told of two lists of events, with any number of failures borne.
-fn told(alloc: Global, image: &Verified, first: &[Event], second: &[Event]) -> Answer {
-    match Options::new(4, 0) {
-        Some(options) => same_end(alloc, image, options, first, second),
-        None => Err((99, Refused::BadTarget)),
-    }
+fn told(alloc: Global, image: &Verified, first: &[Plain], second: &[Plain]) -> Answer {
+    let (Some(options), Ok(first), Ok(second)) = (
+        Options::new(4, 0),
+        events_of(alloc, first),
+        events_of(alloc, second),
+    ) else {
+        return Err((99, Refused::Memory));
+    };
+    same_end(alloc, image, options, &first, &second)
 }
 
-/// What is told of the runs of three edges of a pool in two orders.
-fn orders(alloc: Global, first: &[(u32, u8)], second: &[(u32, u8)]) -> Result<Answer, Refused> {
-    let image = three(alloc)?;
-    let (first, second) = (runs(alloc, first)?, runs(alloc, second)?);
-    Ok(told(alloc, &image, &first, &second))
-}
-
-/// What is told of a run and of one that starts an edge twice.
-fn started_twice(alloc: Global) -> Result<Answer, Refused> {
-    let image = three(alloc)?;
-    let first = runs(alloc, &[(0, 0), (1, 2), (2, 0)])?;
-    let second = Vec::from_array(alloc, [Event::Start(2), Event::Start(2)])?;
-    Ok(told(alloc, &image, &first, &second))
-}
-
-/// Two edges, and one that waits for both.
-fn both_waited_for(alloc: Global) -> Result<Verified, Refused> {
-    let mut edges = Vec::new(alloc);
-    edges.push(command(alloc, 0, None, &[], &RUNS)?)?;
-    edges.push(command(alloc, 1, None, &[], &RUNS)?)?;
-    edges.push(command(alloc, 2, None, &[0, 1], &[Instr::End])?)?;
-    verified(alloc, edges, &[2])
-}
-
-/// What is told where both edges fail with these statuses, and the third is skipped over the first or the second.
-fn skipped(alloc: Global, status: u8, over: u32) -> Result<Answer, Refused> {
-    let image = both_waited_for(alloc)?;
-    let mut first = runs(alloc, &[(0, 2), (1, 2)])?;
-    first.push(Event::Skip(2, 0))?;
-    let mut second = runs(alloc, &[(1, 2), (0, status)])?;
-    second.push(Event::Skip(2, over))?;
-    Ok(told(alloc, &image, &first, &second))
-}
-
-/// Whether this is the answer, or memory ran out.
-fn is_told(found: Result<Answer, Refused>, wanted: Answer) -> bool {
-    match found {
-        Ok(Err((_, Refused::Memory))) | Err(Refused::Memory) => true,
-        Ok(answer) => answer == wanted,
-        Err(_) => false,
-    }
+/// What is told of the runs of three edges of a pool: the first in order with the statuses 0, 2 and 0, the second so.
+fn orders(alloc: Global, image: &Verified, second: &[(u32, u8)]) -> Answer {
+    let (Ok(first), Ok(second)) = (
+        run_of(alloc, &[(0, 0), (1, 2), (2, 0)], None),
+        run_of(alloc, second, None),
+    ) else {
+        return Err((99, Refused::Memory));
+    };
+    told(alloc, image, &first, &second)
 }
 
 #[test]
-fn orders_agree(rt: HostRuntime) {
-    let found = orders(
-        rt.alloc(),
-        &[(0, 0), (1, 2), (2, 0)],
-        &[(2, 0), (1, 2), (0, 0)],
-    );
-    assert!(rt; is_told(found, Ok(true)));
-}
-
-#[test]
-fn exits_differ(rt: HostRuntime) {
-    let found = orders(
-        rt.alloc(),
-        &[(0, 0), (1, 2), (2, 0)],
-        &[(2, 0), (1, 0), (0, 0)],
-    );
-    assert!(rt; is_told(found, Ok(false)));
-    let found = orders(
-        rt.alloc(),
-        &[(0, 0), (1, 2), (2, 0)],
-        &[(2, 0), (1, 3), (0, 0)],
-    );
-    assert!(rt; is_told(found, Ok(false)));
+fn orders_of_three(rt: HostRuntime) {
+    let alloc = rt.alloc();
+    let Some(image) = three(alloc) else {
+        panic!(&rt; "no image");
+    };
+    assert_eq!(rt; orders(alloc, &image, &[(2, 0), (1, 2), (0, 0)]), Ok(true));
+    assert_eq!(rt; orders(alloc, &image, &[(2, 0), (1, 0), (0, 0)]), Ok(false));
+    assert_eq!(rt; orders(alloc, &image, &[(2, 0), (1, 3), (0, 0)]), Ok(false));
 }
 
 #[test]
 fn unended_runs_differ(rt: HostRuntime) {
-    let found = orders(rt.alloc(), &[(0, 0)], &[(0, 0)]);
-    assert!(rt; is_told(found, Ok(false)));
+    let Some(image) = three(rt.alloc()) else {
+        panic!(&rt; "no image");
+    };
+    let begun = [Plain::Start(0), Plain::Step(0)];
+    assert_eq!(rt; told(rt.alloc(), &image, &begun, &begun), Ok(false));
 }
 
+/// The place of a refusal in the second run is counted on.
 #[test]
 fn place_in_the_second(rt: HostRuntime) {
-    assert!(rt; is_told(started_twice(rt.alloc()), Err((20, Refused::NotEnabled))));
+    let Some(image) = three(rt.alloc()) else {
+        panic!(&rt; "no image");
+    };
+    let first = [Plain::Start(0), Plain::Step(0)];
+    let second = [Plain::Start(2), Plain::Start(2)];
+    assert_eq!(rt;
+        told(rt.alloc(), &image, &first, &second),
+        Err((3, Refused::NotEnabled))
+    );
+}
+
+/// Two edges, and one that waits for both.
+fn both_waited_for(alloc: Global) -> Option<Verified> {
+    let running = SampleEdge {
+        sort: Sort::Command,
+        pool: None,
+        label: 0,
+        waits: &[],
+        code: &RUNS,
+    };
+    let last = SampleEdge {
+        waits: &[0, 1],
+        code: &[Instr::End],
+        ..running
+    };
+    image_of(alloc, &[running, running, last], &[2])
+}
+
+/// What is told where both edges fail, the first with this status in the second run, and the third is skipped over edge 0
+/// in the first run, over this one in the second.
+fn skipped(alloc: Global, image: &Verified, status: u8, over: u32) -> Answer {
+    let (Ok(first), Ok(second)) = (
+        run_of(alloc, &[(0, 2), (1, 2)], Some(Plain::Skip(2, 0))),
+        run_of(alloc, &[(1, 2), (0, status)], Some(Plain::Skip(2, over))),
+    ) else {
+        return Err((99, Refused::Memory));
+    };
+    told(alloc, image, &first, &second)
 }
 
 #[test]
 fn skipped_over_either(rt: HostRuntime) {
-    assert!(rt; is_told(skipped(rt.alloc(), 2, 1), Ok(true)));
-    assert!(rt; is_told(skipped(rt.alloc(), 3, 1), Ok(false)));
+    let Some(image) = both_waited_for(rt.alloc()) else {
+        panic!(&rt; "no image");
+    };
+    assert_eq!(rt; skipped(rt.alloc(), &image, 2, 1), Ok(true));
+    assert_eq!(rt; skipped(rt.alloc(), &image, 3, 1), Ok(false));
 }

@@ -3,194 +3,188 @@
 ghost use Rattle.plan_machine.specs.Kept.{IsStateOf};
 
 use plan_depfile::Parsed;
-use plan_image::{Edge, EdgeCode, Edges, Image, Instr, Parts, Pool, Sort};
+use plan_image::{Instr, Sort};
 use plan_machine::*;
-use plan_text::{Items, RowList};
-use plan_verify::{Verified, verify};
+use plan_samples::{RUNS, SampleEdge, make_sample};
+use plan_verify::Verified;
 use std::alloc::{AllocError, Global};
 
-/// An edge of rank n and file n that ends at once.
-fn edge(alloc: Global, n: u32, waits: &[u32]) -> Result<Edge, AllocError> {
-    Ok(Edge {
-        sort: Sort::Phony,
-        pool: None,
-        rank: n,
-        label: 0,
-        outputs: Items::new(Vec::from_slice(alloc, [n].as_slice())?),
-        waits: Items::new(Vec::from_slice(alloc, waits)?),
-        code: EdgeCode::Own(Items::new(Vec::from_slice(alloc, [Instr::End].as_slice())?)),
-    })
+/// An event that holds no text and no list.
+#[derive(Clone, Copy)]
+pub(crate) enum Plain {
+    Start(u32),
+    Step(u32),
+    Skip(u32, u32),
+    Stop(u32),
+    Exit(u32, u8),
+    Stamp(u32, u64),
 }
 
-/// Three edges, the second of which waits for the first, and these defaults.
-fn parts_of(alloc: Global, defaults: &[u32]) -> Result<Parts, AllocError> {
-    let mut texts = RowList::new(alloc);
-    texts.push(b"x")?;
-    let mut files = RowList::new(alloc);
-    files.push(b"a")?;
-    files.push(b"b")?;
-    files.push(b"c")?;
-    let mut edges = Edges::new(alloc);
-    edges.push(alloc, &edge(alloc, 0, &[])?)?;
-    edges.push(alloc, &edge(alloc, 1, &[0])?)?;
-    edges.push(alloc, &edge(alloc, 2, &[])?)?;
-    Ok(Parts {
-        texts,
-        files,
-        pools: Items::empty(alloc),
-        slots: Items::empty(alloc),
-        bodies: None,
+fn event_of(plain: Plain) -> Event {
+    match plain {
+        Plain::Start(edge) => Event::Start(edge),
+        Plain::Step(edge) => Event::Step(edge),
+        Plain::Skip(edge, over) => Event::Skip(edge, over),
+        Plain::Stop(edge) => Event::Stop(edge),
+        Plain::Exit(edge, status) => Event::Reply(edge, Reply::Exit(status)),
+        Plain::Stamp(edge, stamp) => Event::Reply(edge, Reply::Stamp(stamp)),
+    }
+}
+
+pub(crate) fn events_of(alloc: Global, plain: &[Plain]) -> Result<Vec<Event>, AllocError> {
+    let mut events = Vec::with_capacity(alloc, plain.len())?;
+    for event in plain {
+        events.push(event_of(*event))?;
+    }
+    Ok(events)
+}
+
+/// An edge that runs a command in the pool.
+const RUNNING: SampleEdge<'static> = SampleEdge {
+    sort: Sort::Command,
+    pool: Some(0),
+    label: 0,
+    waits: &[],
+    code: &RUNS,
+};
+
+/// The image of these edges, with one pool of depth 1 and the text `x`.
+pub(crate) fn image_of(
+    alloc: Global,
+    edges: &[SampleEdge<'_>],
+    defaults: &[u32],
+) -> Option<Verified> {
+    make_sample(
+        alloc,
+        &[b"x".as_slice()],
+        &[(b"p".as_slice(), 1)],
         edges,
-        defaults: Items::new(Vec::from_slice(alloc, defaults)?),
-    })
-}
-
-fn image_of(alloc: Global, defaults: &[u32]) -> Option<Verified> {
-    let Ok(parts) = parts_of(alloc, defaults) else {
-        return None;
-    };
-    let Ok(image) = Image::new(parts) else {
-        return None;
-    };
-    match verify(alloc, image) {
-        Ok(verified) => Some(verified),
-        Err(_) => None,
-    }
-}
-
-/// What opening answers: the outcomes of the first four edges, and whether all ended.
-fn opened(
-    alloc: Global,
-    defaults: &[u32],
-    targets: &[u32],
-) -> Result<([Option<Outcome>; 4], bool), Refused> {
-    let (Some(image), Some(options)) = (image_of(alloc, defaults), Options::new(1, 0)) else {
-        return Err(Refused::Memory);
-    };
-    let state = State::open(alloc, &image, options, targets)?;
-    let outcomes = [
-        state.outcome(0),
-        state.outcome(1),
-        state.outcome(2),
-        state.outcome(3),
-    ];
-    Ok((outcomes, state.ended()))
-}
-
-/// The jobs and the failures that options keep.
-fn kept(jobs: u8, keep: u32) -> Option<(u8, u32)> {
-    match Options::new(jobs, keep) {
-        Some(options) => Some((options.jobs(), options.keep())),
-        None => None,
-    }
-}
-
-/// An edge that ends well or fails by its command, which takes a place of the pool.
-pub(crate) const RUNS: [Instr; 5] = [
-    Instr::Take,
-    Instr::Text(0),
-    Instr::Run,
-    Instr::Release,
-    Instr::End,
-];
-
-/// An edge with a command of this code, of rank and file n.
-pub(crate) fn command(
-    alloc: Global,
-    n: u32,
-    pool: Option<u32>,
-    waits: &[u32],
-    code: &[Instr],
-) -> Result<Edge, AllocError> {
-    Ok(Edge {
-        sort: Sort::Command,
-        pool,
-        rank: n,
-        label: 0,
-        outputs: Items::new(Vec::from_slice(alloc, [n].as_slice())?),
-        waits: Items::new(Vec::from_slice(alloc, waits)?),
-        code: EdgeCode::Own(Items::new(Vec::from_slice(alloc, code)?)),
-    })
-}
-
-/// An image of these edges, with one pool of depth 1; edge 3 is built by default where there is one, else edge 0 and on.
-pub(crate) fn verified(
-    alloc: Global,
-    edges: Vec<Edge>,
-    defaults: &[u32],
-) -> Result<Verified, Refused> {
-    let mut texts = RowList::new(alloc);
-    texts.push(b"x")?;
-    let mut files = RowList::new(alloc);
-    for name in [b"a", b"b", b"c", b"d"] {
-        files.push(name)?;
-    }
-    let mut pools = Vec::new(alloc);
-    pools.push(Pool {
-        name: Items::new(Vec::from_slice(alloc, b"p")?),
-        depth: 1,
-    })?;
-    let mut table = Edges::new(alloc);
-    for edge in &edges {
-        table.push(alloc, edge)?;
-    }
-    let parts = Parts {
-        texts,
-        files,
-        pools: Items::new(pools),
-        slots: Items::empty(alloc),
-        bodies: None,
-        edges: table,
-        defaults: Items::new(Vec::from_slice(alloc, defaults)?),
-    };
-    let Ok(image) = Image::new(parts) else {
-        return Err(Refused::BadTarget);
-    };
-    match verify(alloc, image) {
-        Ok(verified) => Ok(verified),
-        Err(_) => Err(Refused::BadTarget),
-    }
+        defaults,
+    )
 }
 
 /// Three edges of the pool.
-pub(crate) fn three(alloc: Global) -> Result<Verified, Refused> {
-    let mut edges = Vec::new(alloc);
-    for n in 0..3 {
-        edges.push(command(alloc, n, Some(0), &[], &RUNS)?)?;
-    }
-    verified(alloc, edges, &[0, 1, 2])
+pub(crate) fn three(alloc: Global) -> Option<Verified> {
+    image_of(alloc, &[RUNNING, RUNNING, RUNNING], &[0, 1, 2])
 }
 
-/// One edge of this code.
-fn alone(alloc: Global, code: &[Instr]) -> Result<Verified, Refused> {
-    let mut edges = Vec::new(alloc);
-    edges.push(command(alloc, 0, None, &[], code)?)?;
-    verified(alloc, edges, &[0])
+/// One edge of this code, which has no pool.
+fn alone(alloc: Global, code: &[Instr]) -> Option<Verified> {
+    let edge = SampleEdge {
+        sort: Sort::Command,
+        pool: None,
+        label: 0,
+        waits: &[],
+        code,
+    };
+    image_of(alloc, &[edge], &[0])
 }
 
 /// Three edges, each of which waits for the one before it, and a fourth one.
-fn chain(alloc: Global) -> Result<Verified, Refused> {
-    let mut edges = Vec::new(alloc);
-    edges.push(command(alloc, 0, Some(0), &[], &RUNS)?)?;
-    edges.push(command(alloc, 1, Some(0), &[0], &RUNS)?)?;
-    edges.push(command(alloc, 2, Some(0), &[1], &RUNS)?)?;
-    edges.push(command(alloc, 3, Some(0), &[], &RUNS)?)?;
-    verified(alloc, edges, &[2, 3])
+fn chain(alloc: Global) -> Option<Verified> {
+    let second = SampleEdge {
+        waits: &[0],
+        ..RUNNING
+    };
+    let third = SampleEdge {
+        waits: &[1],
+        ..RUNNING
+    };
+    image_of(alloc, &[RUNNING, second, third, RUNNING], &[2, 3])
 }
 
 /// How many marks events leave, the last one, and whether the run has ended; or where they stop.
-fn ran(
-    alloc: Global,
-    image: &Verified,
-    jobs: u8,
-    keep: u32,
-    events: &[Event],
-) -> Result<(usize, Option<Mark>, bool), (usize, Refused)> {
+type Left = Result<(usize, Option<Mark>, bool), (usize, Refused)>;
+
+fn left_by(alloc: Global, image: &Verified, jobs: u8, keep: u32, events: &[Event]) -> Left {
     let Some(options) = Options::new(jobs, keep) else {
         return Err((0, Refused::Memory));
     };
-    let (state, marks) = replay(alloc, image, options, &[], events)?;
-    Ok((marks.len(), marks.as_slice().last().copied(), state.ended()))
+    match replay(alloc, image, options, &[], events) {
+        Ok((state, marks)) => Ok((marks.len(), marks.as_slice().last().copied(), state.ended())),
+        Err(refused) => Err(refused),
+    }
+}
+
+fn ran(alloc: Global, image: &Verified, jobs: u8, keep: u32, plain: &[Plain]) -> Left {
+    match events_of(alloc, plain) {
+        Ok(events) => left_by(alloc, image, jobs, keep, &events),
+        Err(_) => Err((0, Refused::Memory)),
+    }
+}
+
+/// The first edge of the pool holds its place until it gives it back: a step of the second is refused, and then isn't.
+#[test]
+fn pool_of_one(rt: HostRuntime) {
+    let alloc = rt.alloc();
+    let Some(image) = three(alloc) else {
+        panic!(&rt; "no image");
+    };
+    let all = [
+        Plain::Start(0),
+        Plain::Start(1),
+        Plain::Start(2),
+        Plain::Step(0),
+        Plain::Step(0),
+        Plain::Step(0),
+        Plain::Exit(0, 0),
+        Plain::Step(0),
+        Plain::Step(1),
+    ];
+    assert_eq!(rt;
+        ran(alloc, &image, 4, 0, &all),
+        Ok((9, Some(Mark::Took(1)), false))
+    );
+    let early = [all[0], all[1], all[2], all[3], all[8]];
+    assert_eq!(rt;
+        ran(alloc, &image, 4, 0, &early),
+        Err((4, Refused::NotEnabled))
+    );
+}
+
+/// An edge that asked to run its command hears a stamp.
+#[test]
+fn wrong_replies(rt: HostRuntime) {
+    let Some(image) = three(rt.alloc()) else {
+        panic!(&rt; "no image");
+    };
+    let events = [
+        Plain::Start(0),
+        Plain::Step(0),
+        Plain::Step(0),
+        Plain::Step(0),
+        Plain::Stamp(0, 1),
+    ];
+    assert_eq!(rt;
+        ran(rt.alloc(), &image, 4, 0, &events),
+        Err((4, Refused::NotEnabled))
+    );
+}
+
+/// A chain whose first edge fails: skipped with any failures borne, stopped with one.
+#[test]
+fn failures_and_skips(rt: HostRuntime) {
+    let Some(image) = chain(rt.alloc()) else {
+        panic!(&rt; "no image");
+    };
+    let all = [
+        Plain::Start(0),
+        Plain::Step(0),
+        Plain::Step(0),
+        Plain::Step(0),
+        Plain::Exit(0, 2),
+        Plain::Skip(1, 0),
+        Plain::Skip(2, 1),
+        Plain::Stop(3),
+    ];
+    assert_eq!(rt;
+        ran(rt.alloc(), &image, 1, 0, &all),
+        Err((7, Refused::NotEnabled))
+    );
+    assert_eq!(rt;
+        ran(rt.alloc(), &image, 1, 1, &all),
+        Ok((8, Some(Mark::Stopped(3)), true))
+    );
 }
 
 /// A depfile with these bytes.
@@ -202,146 +196,32 @@ fn depfile(alloc: Global, bytes: &[u8]) -> Result<Reply, Refused> {
     }
 }
 
-/// Three edges of one pool: what the first events leave, and what a step of a second edge is told meanwhile.
-fn places(
-    alloc: Global,
-) -> Result<
-    (
-        Result<(usize, Option<Mark>, bool), (usize, Refused)>,
-        (usize, Refused),
-    ),
-    Refused,
-> {
-    let image = three(alloc)?;
-    let mut events = Vec::from_array(
-        alloc,
-        [
-            Event::Start(0),
-            Event::Start(1),
-            Event::Start(2),
-            Event::Step(0),
-            Event::Step(1),
-        ],
-    )?;
-    let refused = match ran(alloc, &image, 4, 0, &events) {
-        Ok(_) => (99, Refused::Memory),
-        Err(refused) => refused,
-    };
-    let _ = events.pop();
-    events.push(Event::Step(0))?;
-    events.push(Event::Step(0))?;
-    events.push(Event::Reply(0, Reply::Exit(0)))?;
-    events.push(Event::Step(0))?;
-    events.push(Event::Step(1))?;
-    Ok((ran(alloc, &image, 4, 0, &events), refused))
-}
+/// An edge that runs its command and reads its depfile.
+const READS: [Instr; 8] = [
+    Instr::Take,
+    Instr::Text(0),
+    Instr::Run,
+    Instr::Release,
+    Instr::Text(0),
+    Instr::Deps,
+    Instr::Drop,
+    Instr::End,
+];
 
-#[test]
-fn pool_of_one(rt: HostRuntime) {
-    assert_eq!(rt;
-        places(rt.alloc()),
-        Ok((
-            Ok((9, Some(Mark::Took(1)), false)),
-            (4, Refused::NotEnabled)
-        ))
-    );
-}
+/// An edge that sweeps the paths of its depfile.
+const SWEEPS: [Instr; 9] = [
+    Instr::Zero,
+    Instr::Flag(false),
+    Instr::Text(0),
+    Instr::Deps,
+    Instr::Sweep,
+    Instr::Drop,
+    Instr::Drop,
+    Instr::Drop,
+    Instr::End,
+];
 
-/// An edge that asked to run its command hears a stamp.
-fn stamp_for_run(
-    alloc: Global,
-) -> Result<Result<(usize, Option<Mark>, bool), (usize, Refused)>, Refused> {
-    let image = three(alloc)?;
-    let events = Vec::from_array(
-        alloc,
-        [
-            Event::Start(0),
-            Event::Step(0),
-            Event::Step(0),
-            Event::Step(0),
-            Event::Reply(0, Reply::Stamp(1)),
-        ],
-    )?;
-    Ok(ran(alloc, &image, 4, 0, &events))
-}
-
-#[test]
-fn wrong_replies(rt: HostRuntime) {
-    assert_eq!(rt;
-        stamp_for_run(rt.alloc()),
-        Ok(Err((4, Refused::NotEnabled)))
-    );
-}
-
-/// An edge runs its command, and hears a depfile that is refused: its budget, and what is left.
-fn malformed(alloc: Global) -> Result<(u64, (usize, Option<Mark>, bool)), Refused> {
-    let image = alone(
-        alloc,
-        &[
-            Instr::Take,
-            Instr::Text(0),
-            Instr::Run,
-            Instr::Release,
-            Instr::Text(0),
-            Instr::Deps,
-            Instr::Drop,
-            Instr::End,
-        ],
-    )?;
-    let events = Vec::from_array(
-        alloc,
-        [
-            Event::Start(0),
-            Event::Step(0),
-            Event::Step(0),
-            Event::Step(0),
-            Event::Reply(0, Reply::Exit(0)),
-            Event::Step(0),
-            Event::Step(0),
-            Event::Step(0),
-            Event::Reply(0, depfile(alloc, b"out a.h")?),
-        ],
-    )?;
-    match ran(alloc, &image, 1, 0, &events) {
-        Ok(left) => Ok((image.budget(), left)),
-        Err((_, refused)) => Err(refused),
-    }
-}
-
-#[test]
-fn malformed_depfile(rt: HostRuntime) {
-    let cause = Cause::DepfileMalformed(90, 0);
-    assert_eq!(rt;
-        malformed(rt.alloc()),
-        Ok((11, (9, Some(Mark::Failed(0, cause)), true)))
-    );
-}
-
-/// What the run of an edge comes to that sweeps the paths of this depfile, by what is picked and by stamps of 7.
-fn swept(alloc: Global, bytes: &[u8]) -> Result<(u64, usize, Option<Outcome>), Refused> {
-    let image = alone(
-        alloc,
-        &[
-            Instr::Zero,
-            Instr::Flag(false),
-            Instr::Text(0),
-            Instr::Deps,
-            Instr::Sweep,
-            Instr::Drop,
-            Instr::Drop,
-            Instr::Drop,
-            Instr::End,
-        ],
-    )?;
-    let Some(options) = Options::new(1, 0) else {
-        return Err(Refused::Memory);
-    };
-    let mut state = State::open(alloc, &image, options, &[])?;
-    let count = go_on(alloc, &mut state, &image, bytes)?;
-    Ok((image.budget(), count, state.outcome(0)))
-}
-
-/// Applies what is picked, and replies for edge 0, until there is none.
+/// Applies what is picked, and replies for edge 0, until there is none: how many events that were.
 fn go_on(alloc: Global, state: &mut State, image: &Verified, bytes: &[u8]) -> Result<usize, Refused>
     requires { IsStateOf image.now state.old }
 {
@@ -372,18 +252,48 @@ fn next(
     }
     match state.request(image, 0) {
         Some(Request::Deps(_)) => Ok(Some(Event::Reply(0, depfile(alloc, bytes)?))),
+        Some(Request::Run(..)) => Ok(Some(Event::Reply(0, Reply::Exit(0)))),
         Some(_) => Ok(Some(Event::Reply(0, Reply::Stamp(7)))),
         None => Ok(None),
     }
 }
 
+/// How many events the run of an image's one edge has, and its outcome, where its depfile has these bytes.
+fn comes_to(
+    alloc: Global,
+    image: &Verified,
+    bytes: &[u8],
+) -> Result<(usize, Option<Outcome>), Refused> {
+    let Some(options) = Options::new(1, 0) else {
+        return Err(Refused::Memory);
+    };
+    let mut state = State::open(alloc, image, options, &[])?;
+    let count = go_on(alloc, &mut state, image, bytes)?;
+    Ok((count, state.outcome(0)))
+}
+
+#[test]
+fn malformed_depfile(rt: HostRuntime) {
+    let Some(image) = alone(rt.alloc(), &READS) else {
+        panic!(&rt; "no image");
+    };
+    let failed = Outcome::Failed(Cause::DepfileMalformed(90, 0));
+    assert_eq!(rt; image.budget(), 11);
+    assert_eq!(rt;
+        comes_to(rt.alloc(), &image, b"out a.h"),
+        Ok((9, Some(failed)))
+    );
+}
+
 #[test]
 fn sweep(rt: HostRuntime) {
-    assert_eq!(rt;
-        swept(rt.alloc(), b"a:b"),
-        Ok((11, 13, Some(Outcome::Clean)))
-    );
-    assert_eq!(rt; swept(rt.alloc(), b""), Ok((11, 11, Some(Outcome::Clean))));
+    let Some(image) = alone(rt.alloc(), &SWEEPS) else {
+        panic!(&rt; "no image");
+    };
+    let clean = Some(Outcome::Clean);
+    assert_eq!(rt; image.budget(), 11);
+    assert_eq!(rt; comes_to(rt.alloc(), &image, b"a:b"), Ok((13, clean)));
+    assert_eq!(rt; comes_to(rt.alloc(), &image, b""), Ok((11, clean)));
 }
 
 /// Applies what is picked, and counts it.
@@ -404,61 +314,25 @@ fn pick_all(state: &mut State, image: &Verified) -> Result<usize, Refused>
     Ok(count)
 }
 
-/// How many events can be picked of three edges of a pool, how many edges await a reply then, and the total.
-fn picked(alloc: Global, jobs: u8) -> Result<(usize, usize, u64), Refused> {
-    let image = three(alloc)?;
+/// How many events can be picked, how many of three edges await a reply then, and the total.
+fn picked(alloc: Global, image: &Verified, jobs: u8) -> Result<(usize, usize, u64), Refused> {
     let Some(options) = Options::new(jobs, 0) else {
         return Err(Refused::Memory);
     };
-    let mut state = State::open(alloc, &image, options, &[])?;
-    let count = pick_all(&mut state, &image)?;
-    let asking = state.request(&image, 0).is_some() as usize
-        + state.request(&image, 1).is_some() as usize
-        + state.request(&image, 2).is_some() as usize;
+    let mut state = State::open(alloc, image, options, &[])?;
+    let count = pick_all(&mut state, image)?;
+    let asking = state.request(image, 0).is_some() as usize
+        + state.request(image, 1).is_some() as usize
+        + state.request(image, 2).is_some() as usize;
     Ok((count, asking, state.total()))
 }
 
 #[test]
 fn full_pool(rt: HostRuntime) {
-    assert_eq!(rt; picked(rt.alloc(), 4), Ok((6, 1, 3)));
-}
-
-/// A chain whose first edge fails: skipped with any failures borne, stopped with one.
-fn failed(
-    alloc: Global,
-    jobs: u8,
-    keep: u32,
-) -> Result<Result<(usize, Option<Mark>, bool), (usize, Refused)>, Refused> {
-    let image = chain(alloc)?;
-    let mut events = Vec::from_array(
-        alloc,
-        [
-            Event::Start(0),
-            Event::Step(0),
-            Event::Step(0),
-            Event::Step(0),
-            Event::Reply(0, Reply::Exit(2)),
-            Event::Skip(1, 0),
-            Event::Skip(2, 1),
-        ],
-    )?;
-    if keep == 0 {
-        events.push(Event::Start(3))?;
-        events.push(Event::Step(3))?;
-        events.push(Event::Stop(3))?;
-    } else {
-        events.push(Event::Stop(3))?;
-    }
-    Ok(ran(alloc, &image, jobs, keep, &events))
-}
-
-#[test]
-fn failures_and_skips(rt: HostRuntime) {
-    assert_eq!(rt; failed(rt.alloc(), 1, 0), Ok(Err((9, Refused::NotEnabled))));
-    assert_eq!(rt;
-        failed(rt.alloc(), 1, 1),
-        Ok(Ok((8, Some(Mark::Stopped(3)), true)))
-    );
+    let Some(image) = three(rt.alloc()) else {
+        panic!(&rt; "no image");
+    };
+    assert_eq!(rt; picked(rt.alloc(), &image, 4), Ok((6, 1, 3)));
 }
 
 /// Whether the step of edge 0 asks something before its start, and for the stamp of `a` behind it.
@@ -482,15 +356,12 @@ fn opened_questions(alloc: Global, image: &Verified) -> Result<(bool, bool), Ref
     questions(image, &mut state)
 }
 
-/// What the first step of an edge would ask.
-fn first_question(alloc: Global) -> Result<(bool, bool), Refused> {
-    let image = alone(alloc, &[Instr::Stat(0), Instr::Drop, Instr::End])?;
-    opened_questions(alloc, &image)
-}
-
 #[test]
 fn questions_ahead(rt: HostRuntime) {
-    assert_eq!(rt; first_question(rt.alloc()), Ok((false, true)));
+    let Some(image) = alone(rt.alloc(), &[Instr::Stat(0), Instr::Drop, Instr::End]) else {
+        panic!(&rt; "no image");
+    };
+    assert_eq!(rt; opened_questions(rt.alloc(), &image), Ok((false, true)));
 }
 
 #[test]
@@ -509,6 +380,14 @@ fn sizes(rt: HostRuntime) {
     assert_eq!(rt; std::mem::size_of::<Mark>(), 16);
 }
 
+/// The jobs and the failures that options keep.
+fn kept(jobs: u8, keep: u32) -> Option<(u8, u32)> {
+    match Options::new(jobs, keep) {
+        Some(options) => Some((options.jobs(), options.keep())),
+        None => None,
+    }
+}
+
 #[test]
 fn options_have_some_jobs(rt: HostRuntime) {
     assert_eq!(rt; kept(0, 1), None);
@@ -517,24 +396,63 @@ fn options_have_some_jobs(rt: HostRuntime) {
     assert_eq!(rt; kept(65, 1), None);
 }
 
+/// What opening answers: the outcomes of the first four edges, and whether all ended.
+fn opened(
+    alloc: Global,
+    image: &Verified,
+    targets: &[u32],
+) -> Result<([Option<Outcome>; 4], bool), Refused> {
+    let Some(options) = Options::new(1, 0) else {
+        return Err(Refused::Memory);
+    };
+    let state = State::open(alloc, image, options, targets)?;
+    let outcomes = [
+        state.outcome(0),
+        state.outcome(1),
+        state.outcome(2),
+        state.outcome(3),
+    ];
+    Ok((outcomes, state.ended()))
+}
+
+/// Three edges, the second of which waits for the first and is built by default.
 #[test]
 fn edges_that_the_targets_need(rt: HostRuntime) {
+    let waiting = SampleEdge {
+        waits: &[0],
+        ..RUNNING
+    };
+    let Some(image) = image_of(rt.alloc(), &[RUNNING, waiting, RUNNING], &[1]) else {
+        panic!(&rt; "no image");
+    };
     let unwanted = Some(Outcome::NotWanted);
     assert_eq!(rt;
-        opened(rt.alloc(), &[1], &[]),
+        opened(rt.alloc(), &image, &[]),
         Ok(([None, None, unwanted, None], false))
     );
     assert_eq!(rt;
-        opened(rt.alloc(), &[1], &[2]),
+        opened(rt.alloc(), &image, &[2]),
         Ok(([unwanted, unwanted, None, None], false))
     );
     assert_eq!(rt;
-        opened(rt.alloc(), &[1], &[2, 0]),
+        opened(rt.alloc(), &image, &[2, 0]),
         Ok(([None, unwanted, None, None], false))
     );
     assert_eq!(rt;
-        opened(rt.alloc(), &[], &[]),
-        Ok(([unwanted, unwanted, unwanted, None], true))
+        opened(rt.alloc(), &image, &[0, 3]),
+        Err(Refused::BadTarget)
     );
-    assert_eq!(rt; opened(rt.alloc(), &[1], &[0, 3]), Err(Refused::BadTarget));
+}
+
+/// Nothing is built by default.
+#[test]
+fn nothing_wanted(rt: HostRuntime) {
+    let Some(image) = image_of(rt.alloc(), &[RUNNING], &[]) else {
+        panic!(&rt; "no image");
+    };
+    let unwanted = Some(Outcome::NotWanted);
+    assert_eq!(rt;
+        opened(rt.alloc(), &image, &[]),
+        Ok(([unwanted, None, None, None], true))
+    );
 }
