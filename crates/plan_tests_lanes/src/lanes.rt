@@ -1,12 +1,11 @@
 //! Runs of small images over worlds made for tests, and each public function once.
 
-use plan_image::{Instr, Sort};
+use plan_image::{Edge, EdgeCode, Edges, Image, Instr, Parts, Sort};
 use plan_lanes::*;
 use plan_machine::{Mark, Options, Outcome, Refused, Reply};
-use plan_samples::{RUNS, SampleEdge, make_sample};
 use plan_status::{ends_stay, live};
 use plan_text::{Counted as Sinks, Items, RowList, Sink};
-use plan_verify::{PathList, Verified};
+use plan_verify::{PathList, Verified, verify};
 use std::alloc::{AllocError, Global};
 use std::mem::forget;
 use std::rt::Clock;
@@ -20,74 +19,73 @@ use std::time::Duration;
 /// Asks for a stamp, and forgets it.
 const LOOKS: [Instr; 2] = [Instr::Stat(0), Instr::Drop];
 
-/// The code of an edge that asks for so many stamps and then runs a command.
-fn code_of(alloc: Global, looks: u32) -> Result<Vec<Instr>, AllocError> {
+/// Runs a command.
+const RUNS: [Instr; 5] = [
+    Instr::Take,
+    Instr::Text(0),
+    Instr::Run,
+    Instr::Release,
+    Instr::End,
+];
+
+/// An edge of rank and file n that asks for so many stamps and then runs a command.
+fn edge(alloc: Global, n: u32, waits: &[u32], looks: u32) -> Result<Edge, AllocError> {
     let mut code = Vec::new(alloc);
     for _ in 0..looks {
         code.extend_from_slice(LOOKS.as_slice())?;
     }
     code.extend_from_slice(RUNS.as_slice())?;
-    Ok(code)
+    Ok(Edge {
+        sort: Sort::Command,
+        pool: None,
+        rank: n,
+        label: 0,
+        outputs: Items::new(Vec::from_slice(alloc, [n].as_slice())?),
+        waits: Items::new(Vec::from_slice(alloc, waits)?),
+        code: EdgeCode::Own(Items::new(code)),
+    })
 }
 
 /// The image of these edges, all of which are built by default.
-fn image_of(alloc: Global, edges: &[SampleEdge<'_>]) -> Option<Verified> {
-    let Ok(numbers) = numbers_to(alloc, edges.len()) else {
-        return None;
+fn image_of(alloc: Global, edges: &[Edge]) -> Result<Verified, Refused> {
+    let mut texts = RowList::new(alloc);
+    texts.push(b"x")?;
+    let mut files = RowList::new(alloc);
+    let mut table = Edges::new(alloc);
+    let mut defaults = Vec::new(alloc);
+    let mut n = 0u32;
+    for edge in edges {
+        files.push([(n % 250) as u8 + 1, (n / 250 % 250) as u8 + 1].as_slice())?;
+        table.push(alloc, edge)?;
+        defaults.push(n)?;
+        n = n.saturating_add(1);
+    }
+    let parts = Parts {
+        texts,
+        files,
+        pools: Items::empty(alloc),
+        slots: Items::empty(alloc),
+        bodies: None,
+        edges: table,
+        defaults: Items::new(defaults),
     };
-    make_sample(alloc, &[b"x".as_slice()], &[], edges, &numbers)
+    let Ok(image) = Image::new(parts) else {
+        return Err(Refused::BadTarget);
+    };
+    verify(alloc, image).map_err(|_| Refused::BadTarget)
 }
 
-/// The numbers below this one.
-fn numbers_to(alloc: Global, count: usize) -> Result<Vec<u32>, AllocError> {
-    let mut numbers = Vec::with_capacity(alloc, count)?;
-    let mut number = 0u32;
-    for _ in 0..count {
-        numbers.push(number)?;
-        number = number.saturating_add(1);
-    }
-    Ok(numbers)
-}
-
-/// A command edge of this code.
-fn edge<'a>(code: &'a [Instr], waits: &'a [u32]) -> SampleEdge<'a> {
-    SampleEdge {
-        sort: Sort::Command,
-        pool: None,
-        label: 0,
-        waits,
-        code,
-    }
-}
-
-/// Edges of this code, one for each of these numbers; each waits for the one so many before it (0: for none).
-fn waiting<'a>(
-    alloc: Global,
-    code: &'a [Instr],
-    numbers: &'a [u32],
-    back: usize,
-) -> Result<Vec<SampleEdge<'a>>, AllocError> {
-    let mut edges = Vec::with_capacity(alloc, numbers.len())?;
-    for number in 0..numbers.len() {
-        if back > 0 && number >= back {
-            edges.push(edge(code, &numbers[number - back..number - back + 1]))?;
+/// So many edges; each waits for the one so many before it (0: for none).
+fn edges_of(alloc: Global, count: u32, back: u32, looks: u32) -> Result<Verified, Refused> {
+    let mut edges = Vec::new(alloc);
+    for n in 0..count {
+        if back > 0 && n >= back {
+            edges.push(edge(alloc, n, &[n - back], looks)?)?;
         } else {
-            edges.push(edge(code, &[]))?;
+            edges.push(edge(alloc, n, &[], looks)?)?;
         }
     }
-    Ok(edges)
-}
-
-/// So many edges, each of which asks for so many stamps and then runs a command; each waits for the one so many before it
-/// (0: for none).
-fn edges_of(alloc: Global, count: usize, back: usize, looks: u32) -> Option<Verified> {
-    let (Ok(code), Ok(numbers)) = (code_of(alloc, looks), numbers_to(alloc, count)) else {
-        return None;
-    };
-    match waiting(alloc, &code, &numbers, back) {
-        Ok(edges) => image_of(alloc, &edges),
-        Err(_) => None,
-    }
+    image_of(alloc, &edges)
 }
 
 /// A world in which each command ends once all have begun.
@@ -261,7 +259,7 @@ fn came_out<W: World + Send + Sync, R: Threads + Wait + Sync>(
 fn all_at_once(rt: HostRuntime) -> Result<(), Fail> {
     for n in [2u8, 8, 64] {
         for looks in [0u32, 3] {
-            let Some(image) = edges_of(rt.alloc(), usize::from(n), 0, looks) else {
+            let Ok(image) = edges_of(rt.alloc(), u32::from(n), 0, looks) else {
                 panic!(&rt; "no image");
             };
             let gate = Gate {
@@ -284,10 +282,11 @@ fn all_at_once(rt: HostRuntime) -> Result<(), Fail> {
 #[test]
 fn uneven(rt: HostRuntime) -> Result<(), Fail> {
     let alloc = rt.alloc();
-    let (first, second) = (code_of(alloc, 0)?, code_of(alloc, 1)?);
-    let (runs, looks) = (edge(&first, &[]), edge(&second, &[]));
-    for edges in [[runs, looks], [looks, runs]] {
-        let Some(image) = image_of(alloc, &edges) else {
+    for looks in [0u32, 1] {
+        let mut edges = Vec::new(alloc);
+        edges.push(edge(alloc, 0, &[], looks)?)?;
+        edges.push(edge(alloc, 1, &[], 1 - looks)?)?;
+        let Ok(image) = image_of(alloc, &edges) else {
             panic!(&rt; "no image");
         };
         let gate = Gate {
@@ -303,8 +302,8 @@ fn uneven(rt: HostRuntime) -> Result<(), Fail> {
 /// Each edge is asked for once, by any number of lanes.
 #[test]
 fn each_edge_once(rt: HostRuntime) -> Result<(), Fail> {
-    for (back, looks) in [(0usize, 2u32), (1, 1), (10, 0)] {
-        let Some(image) = edges_of(rt.alloc(), 300, back, looks) else {
+    for (back, looks) in [(0u32, 2u32), (1, 1), (10, 0)] {
+        let Ok(image) = edges_of(rt.alloc(), 300, back, looks) else {
             panic!(&rt; "no image");
         };
         for jobs in [1u8, 4, 64] {
@@ -327,7 +326,7 @@ fn each_edge_once(rt: HostRuntime) -> Result<(), Fail> {
 /// All lanes end where memory runs out at any call.
 #[test]
 fn memory_runs_out(rt: HostRuntime) -> Result<(), Fail> {
-    let Some(image) = edges_of(rt.alloc(), 100, 3, 2) else {
+    let Ok(image) = edges_of(rt.alloc(), 100, 3, 2) else {
         panic!(&rt; "no image");
     };
     for jobs in [1u8, 4, 64] {
@@ -345,7 +344,7 @@ fn memory_runs_out(rt: HostRuntime) -> Result<(), Fail> {
 /// All lanes end where a reply doesn't fit.
 #[test]
 fn replies_that_do_not_fit(rt: HostRuntime) -> Result<(), Fail> {
-    let Some(image) = edges_of(rt.alloc(), 100, 3, 2) else {
+    let Ok(image) = edges_of(rt.alloc(), 100, 3, 2) else {
         panic!(&rt; "no image");
     };
     for jobs in [1u8, 4, 64] {
@@ -432,19 +431,20 @@ fn board_of(alloc: Global, image: &Verified) -> Result<Board<'_, Counted>, Refus
 fn answers(alloc: Global, image: &Verified) -> Result<[Result<Mark, Refused>; 6], Refused> {
     let mut board = board_of(alloc, image)?;
     let _ = tells(&mut board, &[Told::Moved, Told::Job(1, 1, false)])?;
+    let own = [1u8, 1];
     Ok([
-        reply_to(alloc, &mut board, 0, 1, b"a", Reply::Stamp(7)),
-        reply_to(alloc, &mut board, 1, 0, b"a", Reply::Stamp(7)),
+        reply_to(alloc, &mut board, 0, 1, &own, Reply::Stamp(7)),
+        reply_to(alloc, &mut board, 1, 0, &own, Reply::Stamp(7)),
         reply_to(alloc, &mut board, 1, 1, b"z", Reply::Stamp(7)),
-        reply_to(alloc, &mut board, 1, 1, b"a", Reply::Exit(0)),
-        reply_to(alloc, &mut board, 1, 1, b"a", Reply::Stamp(7)),
-        reply_to(alloc, &mut board, 1, 1, b"a", Reply::Stamp(7)),
+        reply_to(alloc, &mut board, 1, 1, &own, Reply::Exit(0)),
+        reply_to(alloc, &mut board, 1, 1, &own, Reply::Stamp(7)),
+        reply_to(alloc, &mut board, 1, 1, &own, Reply::Stamp(7)),
     ])
 }
 
 #[test]
 fn only_what_is_awaited(rt: HostRuntime) {
-    let Some(image) = edges_of(rt.alloc(), 2, 0, 1) else {
+    let Ok(image) = edges_of(rt.alloc(), 2, 0, 1) else {
         panic!(&rt; "no image");
     };
     let refused = Err(Refused::NotEnabled);
@@ -464,7 +464,7 @@ fn only_what_is_awaited(rt: HostRuntime) {
 /// A whole run of one edge by hand: whether each advance told what it should.
 fn goes_by_hand(alloc: Global, board: &mut Board<'_, Counted>) -> Result<bool, Refused> {
     let mut told = tells(board, &[Told::Moved, Told::Job(0, 1, false), Told::Wait])?;
-    let _ = reply_to(alloc, board, 0, 1, b"a", Reply::Stamp(7))?;
+    let _ = reply_to(alloc, board, 0, 1, &[1, 1], Reply::Stamp(7))?;
     told &= tells(board, &[Told::Moved, Told::Moved, Told::Moved])?;
     let (next, question) = advanced(board)?;
     told &= next == Told::Job(0, 6, true);
@@ -490,7 +490,7 @@ fn by_hand(alloc: Global, image: &Verified) -> Result<(bool, bool, usize, bool, 
 
 #[test]
 fn one_edge_by_hand(rt: HostRuntime) {
-    let Some(image) = edges_of(rt.alloc(), 1, 0, 1) else {
+    let Ok(image) = edges_of(rt.alloc(), 1, 0, 1) else {
         panic!(&rt; "no image");
     };
     assert_eq!(rt;
@@ -520,7 +520,7 @@ fn fault_of<R: Threads + Wait + Sync>(
 /// A target outside is refused, and no lane starts.
 #[test]
 fn target_outside(rt: HostRuntime) {
-    let (Some(image), Some(options)) = (edges_of(rt.alloc(), 2, 0, 0), Options::new(2, 0)) else {
+    let (Ok(image), Some(options)) = (edges_of(rt.alloc(), 2, 0, 0), Options::new(2, 0)) else {
         panic!(&rt; "no image");
     };
     let world = Counted::new(u64::MAX, false);
@@ -562,7 +562,7 @@ fn shown_run<R: Threads + Wait + Sync, O: Sink>(
 #[test]
 fn lines_are_shown(rt: HostRuntime) {
     let alloc = rt.alloc();
-    let (Some(image), Some(options)) = (edges_of(alloc, 3, 1, 0), Options::new(4, 0)) else {
+    let (Ok(image), Some(options)) = (edges_of(alloc, 3, 1, 0), Options::new(4, 0)) else {
         panic!(&rt; "no image");
     };
     for (room, all) in [(0usize, false), (1, false), (256, true)] {

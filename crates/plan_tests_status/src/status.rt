@@ -2,54 +2,98 @@
 
 ghost use Rattle.plan_status.specs.Live.{AreEnds, IsUnused};
 
-use plan_image::{Instr, Sort};
+use plan_image::{Edge, EdgeCode, Edges, Image, Instr, Parts, Pool, Sort};
 use plan_machine::{Cause, Event, Mark, Options, State, replay};
-use plan_samples::{SampleEdge, make_sample};
 use plan_status::*;
-use plan_text::{Counted, Sink};
-use plan_verify::Verified;
-use std::alloc::Global;
+use plan_text::{Counted, Items, RowList, Sink};
+use plan_verify::{Verified, verify};
+use std::alloc::{AllocError, Global};
 use std::io::{self, Write};
 use std::test::Fail;
 
-/// An edge that ends at once.
-const ENDING: SampleEdge<'static> = SampleEdge {
-    sort: Sort::Command,
-    pool: None,
-    label: 1,
-    waits: &[],
-    code: &[Instr::End],
-};
+/// An edge of this sort, rank and label, which makes the file of its number and ends at once; the first is a console edge.
+fn edge(
+    alloc: Global,
+    sort: Sort,
+    number: u32,
+    label: u32,
+    waits: &[u32],
+) -> Result<Edge, AllocError> {
+    Ok(Edge {
+        sort,
+        pool: if number == 0 { Some(0) } else { None },
+        rank: number,
+        label,
+        outputs: Items::new(Vec::from_slice(alloc, [number].as_slice())?),
+        waits: Items::new(Vec::from_slice(alloc, waits)?),
+        code: EdgeCode::Own(Items::new(Vec::from_slice(alloc, [Instr::End].as_slice())?)),
+    })
+}
 
-/// The edges a, which is a console edge, b, c, and d, which waits for a; and a phony edge e.
+/// The edges a, b, c, and d, which waits for a; and a phony edge e.
+fn five_edges(alloc: Global) -> Result<Edges, AllocError> {
+    let mut edges = Edges::new(alloc);
+    for (number, sort, label) in [
+        (0, Sort::Command, 0),
+        (1, Sort::Command, 1),
+        (2, Sort::Command, 1),
+        (3, Sort::Command, 1),
+        (4, Sort::Phony, 1),
+    ] {
+        let waits: &[u32] = if number == 3 { &[0] } else { &[] };
+        edges.push(alloc, &edge(alloc, sort, number, label, waits)?)?;
+    }
+    Ok(edges)
+}
+
+/// The pool of console edges alone.
+fn console(alloc: Global) -> Result<Items<Pool>, AllocError> {
+    let name = Items::new(Vec::from_slice(alloc, b"console".as_slice())?);
+    let mut pools = Vec::new(alloc);
+    pools.push(Pool { name, depth: 1 })?;
+    Ok(Items::new(pools))
+}
+
+fn parts_of(alloc: Global) -> Result<Parts, AllocError> {
+    let mut texts = RowList::new(alloc);
+    texts.push(b"exit 2")?;
+    texts.push(b"true")?;
+    let mut files = RowList::new(alloc);
+    for name in [b"a", b"b", b"c", b"d", b"e"] {
+        files.push(name.as_slice())?;
+    }
+    Ok(Parts {
+        texts,
+        files,
+        pools: console(alloc)?,
+        slots: Items::empty(alloc),
+        bodies: None,
+        edges: five_edges(alloc)?,
+        defaults: Items::new(Vec::from_slice(alloc, [0u32, 3].as_slice())?),
+    })
+}
+
 fn image_of(alloc: Global) -> Option<Verified> {
-    let first = SampleEdge {
-        pool: Some(0),
-        label: 0,
-        ..ENDING
+    let Ok(parts) = parts_of(alloc) else {
+        return None;
     };
-    let fourth = SampleEdge {
-        waits: &[0],
-        ..ENDING
+    let Ok(image) = Image::new(parts) else {
+        return None;
     };
-    let phony = SampleEdge {
-        sort: Sort::Phony,
-        ..ENDING
-    };
-    make_sample(
-        alloc,
-        &[b"exit 2".as_slice(), b"true".as_slice()],
-        &[(b"console".as_slice(), 1)],
-        &[first, ENDING, ENDING, fourth, phony],
-        &[0, 3],
-    )
+    match verify(alloc, image) {
+        Ok(verified) => Some(verified),
+        Err(_) => None,
+    }
 }
 
 /// Whether the lines of these marks are this text, and are printed so.
-fn tell(alloc: Global, image: &Verified, marks: &[Mark], text: &[u8]) -> bool {
+fn tell(alloc: Global, marks: &[Mark], text: &[u8]) -> bool {
+    let Some(image) = image_of(alloc) else {
+        return false;
+    };
     let mut out = Counted::new(Vec::new(alloc));
-    let printed = print(alloc, image, 4, marks, &mut out).is_ok();
-    match status_lines(alloc, image, 4, marks) {
+    let printed = print(alloc, &image, 4, marks, &mut out).is_ok();
+    match status_lines(alloc, &image, 4, marks) {
         Ok(lines) => printed && lines.as_slice() == text && out.into_writer().as_slice() == text,
         Err(_) => false,
     }
@@ -141,8 +185,9 @@ fn failed_print_is_settled(rt: HostRuntime) {
 }
 
 /// How many of these marks may be told of.
-fn free_of(alloc: Global, image: &Verified, marks: &[Mark]) -> Option<usize> {
-    match free_marks(alloc, image, marks) {
+fn free_of(alloc: Global, marks: &[Mark]) -> Option<usize> {
+    let image = image_of(alloc)?;
+    match free_marks(alloc, &image, marks) {
         Ok(free) => Some(free),
         Err(_) => None,
     }
@@ -150,9 +195,6 @@ fn free_of(alloc: Global, image: &Verified, marks: &[Mark]) -> Option<usize> {
 
 #[test]
 fn marks_behind_a_console_edge(rt: HostRuntime) {
-    let Some(image) = image_of(rt.alloc()) else {
-        panic!(&rt; "no image");
-    };
     let marks = [
         Mark::Started(0),
         Mark::Started(1),
@@ -163,8 +205,8 @@ fn marks_behind_a_console_edge(rt: HostRuntime) {
         Mark::Released(0),
         Mark::Ended(0, true),
     ];
-    assert_eq!(rt; free_of(rt.alloc(), &image, &marks[..6]), Some(2));
-    assert_eq!(rt; free_of(rt.alloc(), &image, &marks), Some(8));
+    assert_eq!(rt; free_of(rt.alloc(), &marks[..6]), Some(2));
+    assert_eq!(rt; free_of(rt.alloc(), &marks), Some(8));
 }
 
 #[test]
@@ -179,9 +221,6 @@ fn console_edges(rt: HostRuntime) {
 
 #[test]
 fn failures_and_skips(rt: HostRuntime) {
-    let Some(image) = image_of(rt.alloc()) else {
-        panic!(&rt; "no image");
-    };
     let marks = [
         Mark::Started(0),
         Mark::Failed(0, Cause::Exit(2)),
@@ -190,14 +229,11 @@ fn failures_and_skips(rt: HostRuntime) {
         Mark::Skipped(3, 0),
     ];
     let text = b"FAILED a: exit 2\n[2/4] true\n[3/4] true\nSKIPPED d: needs a\n";
-    assert!(rt; tell(rt.alloc(), &image, &marks, text.as_slice()));
+    assert!(rt; tell(rt.alloc(), &marks, text.as_slice()));
 }
 
 #[test]
 fn marks_that_name_nothing(rt: HostRuntime) {
-    let Some(image) = image_of(rt.alloc()) else {
-        panic!(&rt; "no image");
-    };
     let marks = [
         Mark::Ended(5, true),
         Mark::Failed(0, Cause::MissingInput(5)),
@@ -206,14 +242,11 @@ fn marks_that_name_nothing(rt: HostRuntime) {
         Mark::Stopped(5),
         Mark::Ended(1, true),
     ];
-    assert!(rt; tell(rt.alloc(), &image, &marks, b"[1/4] true\n".as_slice()));
+    assert!(rt; tell(rt.alloc(), &marks, b"[1/4] true\n".as_slice()));
 }
 
 #[test]
 fn clean_and_phony_edges(rt: HostRuntime) {
-    let Some(image) = image_of(rt.alloc()) else {
-        panic!(&rt; "no image");
-    };
     let marks = [
         Mark::Ended(0, false),
         Mark::Stopped(4),
@@ -224,14 +257,11 @@ fn clean_and_phony_edges(rt: HostRuntime) {
         Mark::Ended(1, true),
     ];
     let text = b"[1/4] true\nFAILED e: exit 1\nSTOPPED c\n[3/4] true\n";
-    assert!(rt; tell(rt.alloc(), &image, &marks, text.as_slice()));
+    assert!(rt; tell(rt.alloc(), &marks, text.as_slice()));
 }
 
 #[test]
 fn causes(rt: HostRuntime) {
-    let Some(image) = image_of(rt.alloc()) else {
-        panic!(&rt; "no image");
-    };
     let marks = [
         Mark::Failed(0, Cause::MissingInput(1)),
         Mark::Failed(0, Cause::StatFault),
@@ -245,7 +275,7 @@ fn causes(rt: HostRuntime) {
     let text =
         b"FAILED a: missing input b\nFAILED a: stat fault\nFAILED a: signal\nFAILED a: not started\n\
         FAILED a: depfile fault\nFAILED a: depfile malformed 90 at 17\nFAILED a: record fault\nFAILED a: text too long\n";
-    assert!(rt; tell(rt.alloc(), &image, &marks, text.as_slice()));
+    assert!(rt; tell(rt.alloc(), &marks, text.as_slice()));
 }
 
 /// A writer whose writes fail once so many have passed.
@@ -269,24 +299,24 @@ impl Write for Failing {
 }
 
 /// Whether a print of three lines fails as a write does, where so many writes pass.
-fn stops(alloc: Global, image: &Verified, left: usize) -> bool {
+fn stops(alloc: Global, left: usize) -> bool {
+    let Some(image) = image_of(alloc) else {
+        return false;
+    };
     let marks = [Mark::Stopped(0), Mark::Stopped(1), Mark::Stopped(2)];
     let mut out = Counted::new(Failing { left });
     matches!(
-        print(alloc, image, 4, &marks, &mut out),
+        print(alloc, &image, 4, &marks, &mut out),
         Err(PrintFault::Write)
     )
 }
 
 #[test]
 fn failed_writes(rt: HostRuntime) {
-    let Some(image) = image_of(rt.alloc()) else {
-        panic!(&rt; "no image");
-    };
-    assert!(rt; stops(rt.alloc(), &image, 0));
-    assert!(rt; stops(rt.alloc(), &image, 1));
-    assert!(rt; stops(rt.alloc(), &image, 2));
-    assert!(rt; !stops(rt.alloc(), &image, 3));
+    assert!(rt; stops(rt.alloc(), 0));
+    assert!(rt; stops(rt.alloc(), 1));
+    assert!(rt; stops(rt.alloc(), 2));
+    assert!(rt; !stops(rt.alloc(), 3));
 }
 
 /// Whether the outcomes of a state are this text, and whether all is done.
@@ -310,36 +340,23 @@ fn replayed(alloc: Global, image: &Verified, events: &[Event], text: &[u8]) -> O
     }
 }
 
-/// The events of edges that end at once, one after another.
-fn ended(alloc: Global, edges: &[u32]) -> Option<Vec<Event>> {
-    let mut events = Vec::new(alloc);
-    for edge in edges {
-        if events.push(Event::Start(*edge)).is_err() || events.push(Event::Step(*edge)).is_err() {
-            return None;
-        }
-    }
-    Some(events)
-}
-
-/// Whether the outcomes of the image are this text where these edges have ended, and whether all is done.
-fn come_out(alloc: Global, image: &Verified, edges: &[u32], text: &[u8]) -> Option<bool> {
-    let events = ended(alloc, edges)?;
-    replayed(alloc, image, &events, text)
+/// Whether the outcomes of the image behind these events are this text, and whether all is done.
+fn come_out(alloc: Global, events: &[Event], text: &[u8]) -> Option<bool> {
+    let image = image_of(alloc)?;
+    replayed(alloc, &image, events, text)
 }
 
 #[test]
 fn outcomes(rt: HostRuntime) {
-    let Some(image) = image_of(rt.alloc()) else {
-        panic!(&rt; "no image");
-    };
+    let begun = [Event::Start(0), Event::Step(0)];
     let text = b"0 a Clean\n1 b NotWanted\n2 c NotWanted\n3 d Unended\n4 e NotWanted\n";
-    assert_eq!(rt;
-        come_out(rt.alloc(), &image, &[0], text.as_slice()),
-        Some(false)
-    );
+    assert_eq!(rt; come_out(rt.alloc(), &begun, text.as_slice()), Some(false));
+    let ended = [
+        Event::Start(0),
+        Event::Step(0),
+        Event::Start(3),
+        Event::Step(3),
+    ];
     let text = b"0 a Clean\n1 b NotWanted\n2 c NotWanted\n3 d Clean\n4 e NotWanted\n";
-    assert_eq!(rt;
-        come_out(rt.alloc(), &image, &[0, 3], text.as_slice()),
-        Some(true)
-    );
+    assert_eq!(rt; come_out(rt.alloc(), &ended, text.as_slice()), Some(true));
 }
