@@ -76,6 +76,7 @@ tests: built
 	python3 tests/run_builds.py $(PROGRAM)
 	python3 tests/run_interrupted.py $(PROGRAM)
 	python3 tests/run_console.py $(PROGRAM)
+	python3 tests/run_live.py $(PROGRAM)
 	python3 tests/run_twice.py $(PROGRAM)
 	python3 tests/against_ninja.py $(PROGRAM)
 	python3 tests/fail_alloc.py $(PROGRAM)

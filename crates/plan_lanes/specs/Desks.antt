@@ -26,6 +26,14 @@ pub record IsDesk (o : Opened) (named : Option Feed) (b : Progress) (showing : O
   pub there : is_some showing ≡ is_some named
   pub shows : IfSome showing (λ s. Shows named b s)
 
+-- a run that is open, and the feed that is to get its lines
+pub record Ready : Type 0 where
+  pub opened : Opened
+  pub feed : Feed
+
+abbrev pub ready : Opened → Feed → Ready
+ready o f = record { opened = o; feed = f }
+
 -- ---- what is left of them
 
 -- the feed has the lines of a report, as far as that went

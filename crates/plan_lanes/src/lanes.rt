@@ -4,8 +4,7 @@ ghost use Rattle.std.specs.Prelude.{◌≡◌, IfErr, IfOk, IfSome, Some, is_som
 ghost use Rattle.plan_image.specs.declared.image.Parts.{Parts as Image};
 ghost use Rattle.plan_machine.specs.Kept.{IsStateOf};
 ghost use Rattle.plan_machine.specs.State.{has_ended};
-ghost use Rattle.plan_status.specs.Live.{IsUnused, SameFeed};
-ghost use Rattle.plan_lanes.specs.Desks.{FaultIsFed, IsDesk, IsLeft, ReportIsFed};
+ghost use Rattle.plan_lanes.specs.Desks.{IsDesk, IsLeft};
 ghost use Rattle.plan_lanes.specs.Faults.{FaultReports, report_of};
 ghost use Rattle.plan_lanes.specs.Progress.{Opened};
 ghost use Rattle.plan_lanes.specs.Reports.{IsRunOf};
@@ -17,7 +16,7 @@ use crate::fault::LaneFault;
 use crate::hand::{Member, answer_all, ask_all};
 use crate::world::{Permit, World};
 use plan_machine::{Options, Refused};
-use plan_status::{Feed, Showing};
+use plan_status::Showing;
 use plan_verify::Verified;
 use std::alloc::Global;
 use std::marker::Brand;
@@ -80,53 +79,8 @@ pub fn run_lanes<W: World + Send + Sync, R: Threads + Wait + Sync>(
     judged(report, stopped)
 }
 
-/// Runs an image as `run_lanes` does, and puts the status line of each event into a feed, under the lanes' lock, as soon as
-/// there is room for it and no console command is under way. The lines that were put in are those of the first marks of the
-/// report, and the feed comes back to be settled, whatever came of the run. It never waits for who prints them.
-///
-/// # Errors
-/// As `run_lanes`; where memory for the feed's books is wanted, `Opening` with `Memory`.
-pub fn run_lanes_shown<W: World + Send + Sync, R: Threads + Wait + Sync>(
-    rt: &R,
-    alloc: Global,
-    image: &Verified,
-    options: Options,
-    targets: &[u32],
-    world: &W,
-    feed: Feed,
-) -> (Result<Report, LaneFault>, Feed)
-    requires { IsUnused feed }
-    ensures run { IfOk result.0 (λ r. IsRunOf W.allows (record { parts = image.now; limits = options; targets = targets.now }) r) }
-    ensures ended { IfOk result.0 (λ r. has_ended r.state.going.now ≡ true) }
-    ensures fault { IfErr result.0 (λ f. FaultReports W.allows (record { parts = image.now; limits = options; targets = targets.now }) f) }
-    ensures same { SameFeed feed result.1 }
-    ensures fed { IfOk result.0 (λ r. ReportIsFed (record { parts = image.now; limits = options; targets = targets.now }) r result.1) }
-    ensures fed_so_far { IfErr result.0 (λ f. FaultIsFed (record { parts = image.now; limits = options; targets = targets.now }) f result.1) }
-{
-    let board: Board<'_, W> = match Board::open(alloc, image, options, targets) {
-        Ok(board) => board,
-        Err(refused) => return (Err(LaneFault::Opening(refused)), feed),
-    };
-    let showing = match Showing::new(alloc, image, board.total(), feed) {
-        Ok(showing) => showing,
-        Err(feed) => return (Err(LaneFault::Opening(Refused::Memory)), feed),
-    };
-    let (report, stopped, showing) = run_named::<Brand, W, R>(
-        rt,
-        alloc,
-        options.jobs(),
-        board,
-        Some(showing),
-        world,
-    );
-    match showing {
-        Some(showing) => (judged(report, stopped), showing.into_feed()),
-        None => unreachable!(),
-    }
-}
-
 /// Whether a run has ended, by its report and why its lanes stopped.
-fn judged(report: Report, stopped: Stopped) -> Result<Report, LaneFault>
+pub(crate) fn judged(report: Report, stopped: Stopped) -> Result<Report, LaneFault>
     ensures ok { IfOk result (λ r. r ≡ report) }
     ensures ended { (p : Image) → IsStateOf p report.state → IfOk result (λ r. has_ended r.state.going.now ≡ true) }
     ensures fault { IfErr result (λ f. report_of f ≡ Some report) }
@@ -145,7 +99,7 @@ fn judged(report: Report, stopped: Stopped) -> Result<Report, LaneFault>
 
 /// Runs what a board begins, by so many lanes, and shows its lines where there is what shows them. It reports the run, why
 /// its lanes stopped, and what showed.
-fn run_named<J: Naming + Send + Sync, W: World + Send + Sync, R: Threads + Wait + Sync>(
+pub(crate) fn run_named<J: Naming + Send + Sync, W: World + Send + Sync, R: Threads + Wait + Sync>(
     rt: &R,
     alloc: Global,
     count: u8,

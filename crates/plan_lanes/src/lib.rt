@@ -4,7 +4,8 @@
 //!   the leave to run one command. `Question`, `Asked`: what an edge asked, with a number.
 //! - `Board`: a run and its journal, changed by one event at a time: `advance` does what needs no reply, `answer` applies
 //!   a reply. `Advance`: what an advance did. `Report`: what is left of a run.
-//! - `run_lanes`: a whole run by threads; `run_lanes_shown`: one whose status lines go into a feed meanwhile. `LaneFault`: why it has no end.
+//! - `run_lanes`: a whole run by threads; `run_lanes_shown`: one whose status lines go into a feed meanwhile, which
+//!   `ShownRun` does in two steps, opening and running. `LaneFault`: why it has no end.
 //!
 //! docs/LANES.md says how lanes run, and what is promised.
 #![tactic(auto)]
@@ -15,10 +16,12 @@ mod desk;
 mod fault;
 mod hand;
 mod lanes;
+mod shown_run;
 mod world;
 
 pub use asked::{Asked, Question};
 pub use board::{Advance, Board, Report};
 pub use fault::LaneFault;
-pub use lanes::{run_lanes, run_lanes_shown};
+pub use lanes::run_lanes;
+pub use shown_run::{ShownRun, run_lanes_shown};
 pub use world::{Permit, World};

@@ -1,5 +1,5 @@
 -- What a run that is told comes to. Serves src/running.rt.
-use Rattle.std.proofs.Common.{◌≡◌, ◌⊎◌, ◌∙◌, ℕ, true, List, Some, None, Result, Ok, Err, IfOk, IfErr, IfSome, IfNone, inl, inr, false, refl, sym, ap, subst}
+use Rattle.std.proofs.Common.{◌≡◌, ◌⊎◌, ◌∙◌, ℕ, true, List, Option, Some, None, Result, Ok, Err, IfOk, IfErr, IfSome, IfNone, inl, inr, false, refl, sym, ap, subst}
 use Rattle.plan_image.specs.declared.image.Parts.{Parts}
 use Rattle.plan_verify.specs.WellShaped.{IsWellShaped}
 use Rattle.plan_machine.specs.Limits.{Limits}
@@ -14,11 +14,13 @@ use Rattle.plan_lanes.specs.Reports.{IsRunOf}
 use Rattle.plan_lanes.specs.declared.board.Report.{Report}
 use Rattle.plan_lanes.specs.declared.fault.LaneFault.{LaneFault}
 use Rattle.plan_lanes.specs.declared.fault.LaneFault.TheVariants as lanes
+use Rattle.plan_status.specs.Printing.{Prints}
+use Rattle.plan_status.specs.declared.fault.PrintFault.{PrintFault}
 use Rattle.plan_ninja.specs.declared.fault.PlanFault.{PlanFault}
 use Rattle.plan_ninja.specs.Faults.{no_memory}
-use Rattle.plan_ninja.specs.Images.{IsImageAt}
+use Rattle.plan_ninja.specs.Images.{IsImageAt, SinkState}
 use Rattle.plan_ninja.specs.Targets.{targets}
-use Rattle.plan_ninja.specs.Running.{FailsToRun, IsNotBegun, IsOpened, IsUnknown, Runs, Tells, TellsAll, TellsSome, Wanted, WritesTrace, Written, both, opening_memory, printed_lane_fault}
+use Rattle.plan_ninja.specs.Running.{FailsToRun, IsNotBegun, IsOpened, IsUnknown, Runs, Tells, TellsAll, TellsSome, Traces, Wanted, WritesTrace, Written, both, lines_in, opening_memory, printed_lane_fault, report_in}
 use Rattle.plan_ninja.proofs.TargetLemmas.{all_inside}
 
 -- a run that has ended, was told and has its trace
@@ -91,6 +93,37 @@ run_refused same gives missing rule w o (Ok r) old new result is run ended repor
 run_refused same gives missing rule w o (Err f) old new result is run ended reports tells err some none =
     subst (λ (t : Result ℕ PlanFault). IfErr t (λ fault. IsRefusedRun same gives missing rule w old new fault)) (sym err)
     (stopped_run same gives missing rule w o f old new is reports none some)
+
+-- ---- what was printed and what came of the run
+
+pub told_all : (trace : Option Text) (p : Parts) (limits : Limits) (edges : List ℕ) (ran : Result Report LaneFault) (stop : Option PrintFault) (old new : Written) (result : Result ℕ PlanFault)
+    → IfSome (report_in ran) (λ r. Prints (lines_in p r) stop old.0 new.0)
+    → IfOk ran (λ r. (a b : SinkState) → Prints (lines_in p r) stop a b → TellsAll trace p limits edges r (a, old.1) (b, new.1) result)
+    → IfOk ran (λ r. TellsAll trace p limits edges r old new result)
+told_all trace p limits edges (Ok r) stop old new result printed tells = tells old.0 new.0 printed
+told_all trace p limits edges (Err f) stop old new result printed tells = tt
+
+some_of : (trace : Option Text) (p : Parts) (limits : Limits) (edges : List ℕ) (o : Option Report) (stop : Option PrintFault) (old new : Written)
+    → IfSome o (λ r. Prints (lines_in p r) stop old.0 new.0) → IfSome o (λ r. (s : Option PrintFault) × Traces trace limits edges r s old.1 new.1)
+    → IfSome o (λ r. TellsSome trace p limits edges r old new)
+some_of trace p limits edges None stop old new printed traced = tt
+some_of trace p limits edges (Some r) stop old new printed traced = (stop, traced.0, printed, traced.1)
+
+pub told_some : (trace : Option Text) (p : Parts) (limits : Limits) (edges : List ℕ) (ran : Result Report LaneFault) (stop : Option PrintFault) (old new : Written)
+    → IfSome (report_in ran) (λ r. Prints (lines_in p r) stop old.0 new.0)
+    → IfErr ran (λ f. IfSome (report_of f) (λ r. (s : Option PrintFault) × Traces trace limits edges r s old.1 new.1))
+    → IfErr ran (λ f. IfSome (report_of f) (λ r. TellsSome trace p limits edges r old new))
+told_some trace p limits edges (Ok r) stop old new printed traced = tt
+told_some trace p limits edges (Err f) stop old new printed traced = some_of trace p limits edges (report_of f) stop old new printed traced
+
+none_of : (one other : Type 0) (o : Option Report) → IfNone o one → IfNone o other → IfNone o (one × other)
+none_of one other None x y = (x, y)
+none_of one other (Some r) x y = tt
+
+pub told_none : (one other : Type 0) (ran : Result Report LaneFault) → IfNone (report_in ran) one → IfErr ran (λ f. IfNone (report_of f) other)
+    → IfErr ran (λ f. IfNone (report_of f) (one × other))
+told_none one other (Ok r) x y = tt
+told_none one other (Err f) x y = none_of one other (report_of f) x y
 
 -- targets that are equal
 pub with_targets : (gives : FileContents) (w : Wanted) (within : Limits) (p : Parts) (ts us : List ℕ) → us ≡ ts

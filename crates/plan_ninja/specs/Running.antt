@@ -58,6 +58,11 @@ abbrev pub Traces : Option Text → Limits → List ℕ → Report → Option Pr
 Traces None limits edges r stop old new = (stop ≡ None) × (new ≡ old)
 Traces (Some path) limits edges r stop old new = Prints (run_text limits edges r.journal.items) stop old new
 
+-- the report of a run that has ended, or of one that has stopped
+abbrev pub report_in : Result Report LaneFault → Option Report
+report_in (Ok report) = Some report
+report_in (Err fault) = report_of fault
+
 -- what the program writes to: its output, and the file of a trace
 abbrev pub Written : Type 0
 Written = SinkState × SinkState

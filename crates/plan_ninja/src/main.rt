@@ -13,9 +13,11 @@ mod files;
 mod graph_fault;
 mod image_fault;
 mod images;
+mod playing;
 mod replay_fault;
 mod replaying;
 mod running;
+mod screen;
 mod targets;
 mod verdicts;
 
@@ -27,6 +29,7 @@ use crate::files::{FileSource, IMAGE_BYTES, MANIFEST_BYTES, NewFile, TRACE_BYTES
 use crate::images::do_dump;
 use crate::replaying::do_replay;
 use crate::running::{Build, do_run};
+use crate::screen::Screen;
 use crate::verdicts::do_verify;
 use plan_lanes::World;
 use plan_machine::Options;
@@ -38,8 +41,8 @@ use std::io;
 use std::io::{BufWriter, Write};
 use std::process::ExitCode;
 use std::rt::Files;
-use std::sync::Wait;
-use std::thread::Threads;
+use std::sync::{Mutex, Wait};
+use std::thread::{Parker, Threads};
 
 /// The status of a program that was refused.
 const REFUSED: u8 = 2;
@@ -180,13 +183,14 @@ fn run_image<R: Threads + Wait + Sync + Files + Print + AllocGlobal, W: World + 
     rt: &R,
     asked: &RunWords<'_>,
     world: &W,
+    screen: &Mutex<()>,
+    bell: &Parker,
 ) -> Result<u8, PlanFault> {
     let alloc = rt.alloc();
     let file = NewFile::new(rt, asked.trace.unwrap_or(""));
-    let (Some(options), Ok(targets), Ok(buffer), Ok(trace_buffer)) = (
+    let (Some(options), Ok(targets), Ok(trace_buffer)) = (
         Options::new(asked.jobs, asked.keep),
         names_of(alloc, &asked.targets),
-        BufWriter::with_capacity(alloc, OUTPUT_BUFFER, io::writer(rt)),
         BufWriter::with_capacity(alloc, OUTPUT_BUFFER, file),
     ) else {
         return Err(no_memory(alloc));
@@ -198,14 +202,12 @@ fn run_image<R: Threads + Wait + Sync + Files + Print + AllocGlobal, W: World + 
         trace: bytes_of(asked.trace),
     };
     let mut images = FileSource::new(rt, IMAGE_BYTES);
-    let mut out = Counted::new(buffer);
+    let out = Screen::new(rt, screen);
     let mut trace = Counted::new(trace_buffer);
-    let ran = do_run(rt, alloc, &mut images, &build, world, &mut out, &mut trace);
-    let traced = trace.into_writer().flush();
-    match (ran, out.into_writer().flush(), traced) {
-        (Ok(_), Err(_), _) => Err(output_fault_or_memory(alloc)),
-        (Ok(_), Ok(()), Err(_)) => Err(file_fault(alloc, build.trace.unwrap_or(b""))),
-        (ran, ..) => ran,
+    let (ran, _out) = do_run(rt, alloc, &mut images, &build, world, bell, out, &mut trace);
+    match (ran, trace.into_writer().flush()) {
+        (Ok(_), Err(_)) => Err(file_fault(alloc, build.trace.unwrap_or(b""))),
+        (ran, _) => ran,
     }
 }
 
@@ -225,7 +227,7 @@ fn main(rt: HostRuntime) -> ExitCode {
     };
     let done = match request_in(rt.alloc(), &words) {
         Ok(Request::Run(asked)) => match world_at(&rt, asked.record) {
-            Ok(world) => run_image(&rt, &asked, &world),
+            Ok(world) => run_image(&rt, &asked, &world, world.screen(), world.bell()),
             Err(fault) => Err(fault),
         },
         Ok(Request::Files(asked)) => print(&rt, asked),

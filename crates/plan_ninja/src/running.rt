@@ -1,27 +1,32 @@
 //! The command `run`.
 
-ghost use Rattle.std.specs.Prelude.{◌≡◌, ◌⊎◌, Err, IfErr, IfNone, IfOk, IfSome, OnOk, Some, map, option_map};
+ghost use Rattle.std.specs.Prelude.{◌≡◌, ◌⊎◌, Err, IfErr, IfNone, IfOk, IfSome, OnOk, Option, Some, map, option_map};
+ghost use Rattle.std.specs.Result.{result_err};
 ghost use Rattle.plan_scope.specs.Loading.{IsMissing};
 ghost use Rattle.plan_machine.specs.Kept.{IsStateOf};
+ghost use Rattle.plan_status.specs.Printing.{Prints};
+ghost use Rattle.plan_status.specs.declared.fault.PrintFault.{PrintFault as Stop};
 ghost use Rattle.plan_lanes.specs.Faults as faults;
 ghost use Rattle.plan_ninja.specs.Faults.{no_memory};
+ghost use Rattle.plan_ninja.specs.Images.{SinkState};
 ghost use Rattle.plan_ninja.specs.Running as defined;
-ghost use Rattle.plan_ninja.specs.Running.{FailsToRun, IsNotBegun, IsOpened, Runs, Tells, TellsAll, TellsSome, Traces, WritesTrace};
+ghost use Rattle.plan_ninja.specs.Running.{FailsToRun, IsNotBegun, IsOpened, Runs, Tells, TellsAll, Traces, WritesTrace, lines_in};
 
 use crate::fault::{PlanFault, file_fault, no_memory, output_fault};
+use crate::playing::{Played, play, report_of};
 use crate::targets::targets_of;
 use crate::verdicts::verified_at;
-use plan_lanes::{LaneFault, Report, World, run_lanes};
+use plan_lanes::{LaneFault, Report, World};
 use plan_machine::Options;
 use plan_scope::Source;
-use plan_status::{PrintFault, all_done, print};
+use plan_status::{PrintFault, all_done};
 use plan_text::{Items, Sink};
 use plan_trace::write_run;
 use plan_verify::Verified;
 use std::alloc::Global;
 use std::mem::forget;
 use std::sync::Wait;
-use std::thread::Threads;
+use std::thread::{Parker, Threads};
 
 /// What `run` is asked for.
 #[derive(Clone, Copy)]
@@ -49,17 +54,17 @@ fn printed_print_fault(alloc: Global, fault: PrintFault) -> PlanFault
     }
 }
 
-/// Prints the status lines of a run that has ended, and answers its status.
-fn tell<O: Sink>(
+/// The status of a run that has ended, where its lines were printed.
+fn tell(
     alloc: Global,
     image: &Verified,
     report: &Report,
-    out: &mut O,
+    printed: Result<(), PrintFault>,
 ) -> Result<u8, PlanFault>
     requires { IsStateOf image.now report.now.state }
-    ensures { Tells image.now report.now (O.failures out.old, O.taken out.old) (O.failures out.new, O.taken out.new) result }
+    ensures { (old new : SinkState) → Prints (lines_in image.now report.now) (result_err printed) old new → Tells image.now report.now old new result }
 {
-    match print(alloc, image, report.state.total(), &report.marks, out) {
+    match printed {
         Ok(()) => Ok(if all_done(image, &report.state) { 0 } else { 1 }),
         Err(fault) => Err(printed_print_fault(alloc, fault)),
     }
@@ -108,55 +113,24 @@ fn traced<T: Sink>(
     }
 }
 
-/// Prints the status lines of a run that has ended, writes its trace, and answers its status.
-fn tell_all<O: Sink, T: Sink>(
+/// Writes the trace of a run that has ended, and answers its status.
+fn tell_all<T: Sink>(
     alloc: Global,
     build: &Build<'_>,
     image: &Verified,
     targets: &[u32],
     report: &Report,
-    out: &mut O,
+    printed: Result<(), PrintFault>,
     trace: &mut T,
 ) -> Result<u8, PlanFault>
     requires { IsStateOf image.now report.now.state }
-    ensures { TellsAll (option_map (λ t. t.now) build.now.trace) image.now build.now.options targets.now report.now
-        ((O.failures out.old, O.taken out.old), (T.failures trace.old, T.taken trace.old)) ((O.failures out.new, O.taken out.new), (T.failures trace.new, T.taken trace.new)) result }
+    ensures { (old new : SinkState) → Prints (lines_in image.now report.now) (result_err printed) old new → TellsAll (option_map (λ t. t.now) build.now.trace) image.now build.now.options targets.now report.now
+        (old, (T.failures trace.old, T.taken trace.old)) (new, (T.failures trace.new, T.taken trace.new)) result }
 {
-    let told = tell(alloc, image, report, out);
+    let told = tell(alloc, image, report, printed);
     match (told, traced(alloc, build, targets, report, trace)) {
         (Ok(_), Err(fault)) => Err(fault),
         (told, _) => told,
-    }
-}
-
-/// Prints the status lines of what lanes did that stopped, and writes its trace.
-fn tell_some<O: Sink, T: Sink>(
-    alloc: Global,
-    build: &Build<'_>,
-    image: &Verified,
-    targets: &[u32],
-    report: &Report,
-    out: &mut O,
-    trace: &mut T,
-)
-    requires { IsStateOf image.now report.now.state }
-    ensures { TellsSome (option_map (λ t. t.now) build.now.trace) image.now build.now.options targets.now report.now
-        ((O.failures out.old, O.taken out.old), (T.failures trace.old, T.taken trace.old)) ((O.failures out.new, O.taken out.new), (T.failures trace.new, T.taken trace.new)) }
-{
-    let _told = print(alloc, image, report.state.total(), &report.marks, out);
-    let _traced = traced(alloc, build, targets, report, trace);
-}
-
-/// The report that comes with a fault of lanes.
-fn report_of(fault: &LaneFault) -> Option<&Report>
-    ensures { option_map (λ r. r.now) result ≡ faults.report_of fault.now }
-{
-    match fault {
-        LaneFault::Opening(_) => None,
-        LaneFault::NotEnabled(report)
-        | LaneFault::NoMemory(report)
-        | LaneFault::NoLane(report)
-        | LaneFault::OtherBoard(report) => Some(report),
     }
 }
 
@@ -197,69 +171,75 @@ fn opened_at<S: Source>(
 }
 
 /// What came of a run is told, and its trace written.
-fn told<O: Sink, T: Sink>(
+fn told<T: Sink>(
     alloc: Global,
     build: &Build<'_>,
     image: &Verified,
     targets: &[u32],
-    ran: &Result<Report, LaneFault>,
-    out: &mut O,
+    played: &Played,
     trace: &mut T,
 ) -> Result<u8, PlanFault>
-    requires ok { IfOk ran.now (λ r. IsStateOf image.now r.state) }
-    requires stopped { IfErr ran.now (λ f. IfSome (faults.report_of f) (λ r. IsStateOf image.now r.state)) }
-    ensures ended { IfOk ran.now (λ r. TellsAll (option_map (λ t. t.now) build.now.trace) image.now build.now.options targets.now r
-        ((O.failures out.old, O.taken out.old), (T.failures trace.old, T.taken trace.old)) ((O.failures out.new, O.taken out.new), (T.failures trace.new, T.taken trace.new)) result) }
-    ensures err { IfErr ran.now (λ f. result ≡ Err (defined.printed_lane_fault f)) }
-    ensures some { IfErr ran.now (λ f. IfSome (faults.report_of f) (λ r. TellsSome (option_map (λ t. t.now) build.now.trace) image.now build.now.options targets.now r
-        ((O.failures out.old, O.taken out.old), (T.failures trace.old, T.taken trace.old)) ((O.failures out.new, O.taken out.new), (T.failures trace.new, T.taken trace.new)))) }
-    ensures none { IfErr ran.now (λ f. IfNone (faults.report_of f) ((out.new ≡ out.old) × (trace.new ≡ trace.old))) }
+    requires ok { IfOk played.now.ran (λ r. IsStateOf image.now r.state) }
+    ensures ended { IfOk played.now.ran (λ r. (old new : SinkState) → Prints (lines_in image.now r) (result_err played.now.printed) old new → TellsAll (option_map (λ t. t.now) build.now.trace) image.now build.now.options targets.now r
+        (old, (T.failures trace.old, T.taken trace.old)) (new, (T.failures trace.new, T.taken trace.new)) result) }
+    ensures err { IfErr played.now.ran (λ f. result ≡ Err (defined.printed_lane_fault f)) }
+    ensures some { IfErr played.now.ran (λ f. IfSome (faults.report_of f) (λ r. (stop : Option Stop) × Traces (option_map (λ t. t.now) build.now.trace) build.now.options targets.now r stop
+        (T.failures trace.old, T.taken trace.old) (T.failures trace.new, T.taken trace.new))) }
+    ensures none { IfErr played.now.ran (λ f. IfNone (faults.report_of f) (trace.new ≡ trace.old)) }
 {
-    match ran {
-        Ok(report) => tell_all(alloc, build, image, targets, report, out, trace),
+    match &played.ran {
+        Ok(report) => tell_all(alloc, build, image, targets, report, played.printed, trace),
         Err(fault) => {
             if let Some(report) = report_of(fault) {
-                tell_some(alloc, build, image, targets, report, out, trace);
+                let _traced = traced(alloc, build, targets, report, trace);
             }
             Err(printed_lane_fault(alloc, fault))
         }
     }
 }
 
-/// Runs the image at a path by as many threads as there may be commands at once, prints the status lines, writes the
-/// trace where it is to have one, and answers 0 where all that is wanted ended well, else 1.
+/// Runs the image at a path by as many threads as there may be commands at once, prints the status lines while they work,
+/// writes the trace where it is to have one, and answers 0 where all that is wanted ended well, else 1. The sink comes
+/// back. Whoever rings the bell has the lines printed that are there.
 ///
 /// Where the image is missing or isn't accepted, or a target is unknown, nothing is asked of the world, and nothing is
 /// printed or written. Where lanes stop early, the lines and the trace of what was done are, and the fault is theirs.
-pub fn do_run<S: Source, W: World + Send + Sync, O: Sink, T: Sink, R: Threads + Wait + Sync>(
+pub fn do_run<
+    S: Source,
+    W: World + Send + Sync,
+    O: Sink + Send + Drop,
+    T: Sink,
+    R: Threads + Wait + Sync,
+>(
     rt: &R,
     alloc: Global,
     source: &mut S,
     build: &Build<'_>,
     world: &W,
-    out: &mut O,
+    bell: &Parker,
+    out: O,
     trace: &mut T,
-) -> Result<u8, PlanFault>
+) -> (Result<u8, PlanFault>, O)
     ensures done { let wanted = defined.wanted build.now.image.now build.now.options (map (λ n. n.now) build.now.targets.now) (option_map (λ t. t.now) build.now.trace) in
-        IfOk result (λ status. Runs (S.gives source.old) W.allows wanted
-        ((O.failures out.old, O.taken out.old), (T.failures trace.old, T.taken trace.old)) ((O.failures out.new, O.taken out.new), (T.failures trace.new, T.taken trace.new)) status) }
-    ensures read { OnOk result (S.failures source.new ≡ S.failures source.old) }
+        IfOk result.0 (λ status. Runs (S.gives source.old) W.allows wanted
+        ((O.failures out, O.taken out), (T.failures trace.old, T.taken trace.old)) ((O.failures result.1, O.taken result.1), (T.failures trace.new, T.taken trace.new)) status) }
+    ensures read { OnOk result.0 (S.failures source.new ≡ S.failures source.old) }
     ensures refused { let missing = IsMissing (S.gives source.old) (S.fails source.old) (S.failures source.old) (S.failures source.new) in
         let wanted = defined.wanted build.now.image.now build.now.options (map (λ n. n.now) build.now.targets.now) (option_map (λ t. t.now) build.now.trace) in
-        IfErr result (λ fault. (((out.new ≡ out.old) × (trace.new ≡ trace.old)) × IsNotBegun (S.gives source.old) missing wanted fault)
+        IfErr result.0 (λ fault. (((result.1 ≡ out) × (trace.new ≡ trace.old)) × IsNotBegun (S.gives source.old) missing wanted fault)
         ⊎ FailsToRun (S.gives source.old) W.allows wanted
-        ((O.failures out.old, O.taken out.old), (T.failures trace.old, T.taken trace.old)) ((O.failures out.new, O.taken out.new), (T.failures trace.new, T.taken trace.new)) fault) }
+        ((O.failures out, O.taken out), (T.failures trace.old, T.taken trace.old)) ((O.failures result.1, O.taken result.1), (T.failures trace.new, T.taken trace.new)) fault) }
 {
     let (image, targets) = match opened_at(alloc, source, build) {
         Ok(opened) => opened,
-        Err(fault) => return Err(fault),
+        Err(fault) => return (Err(fault), out),
     };
     let edges = targets.as_slice();
-    let ran = run_lanes(rt, alloc, &image, build.options, edges, world);
-    let status = told(alloc, build, &image, edges, &ran, out, trace);
+    let (played, out) = play(rt, alloc, &image, build.options, edges, world, bell, out);
+    let status = told(alloc, build, &image, edges, &played, trace);
     // They are not freed piece by piece: the program ends soon.
-    forget(ran);
+    forget(played);
     forget(image);
     forget(targets);
-    status
+    (status, out)
 }

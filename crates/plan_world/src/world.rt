@@ -20,6 +20,7 @@ use std::io::{Read, Seek, Write};
 use std::process::Processes;
 use std::rt::Files;
 use std::sync::{Mutex, Wait};
+use std::thread::Parker;
 
 /// Real files and commands, and a record file that is open. Lanes ask it at once.
 ///
@@ -30,6 +31,8 @@ pub struct RealWorld<R: Files> {
     rt: R,
     /// Held while what a command printed is written, and as long as a console command runs.
     screen: Mutex<()>,
+    /// Rung before a command is started.
+    bell: Parker,
     record: Mutex<RecordFile<R::File>>,
 }
 
@@ -50,6 +53,7 @@ where
         Ok(RealWorld {
             rt,
             screen: Mutex::new(()),
+            bell: Parker::new(),
             record: Mutex::new(file),
         })
     }
@@ -60,6 +64,12 @@ impl<R: Files> RealWorld<R> {
     /// writes there meanwhile takes it too.
     pub fn screen(&self) -> &Mutex<()> {
         &self.screen
+    }
+
+    /// Rung before a command is started, so that a thread which prints lines meanwhile prints those that are there before
+    /// the command's output comes. One thread at a time may park on it.
+    pub fn bell(&self) -> &Parker {
+        &self.bell
     }
 }
 
@@ -79,6 +89,7 @@ where
         if outputs.len() == 0 || !make_folders(&self.rt, outputs) {
             return Ok(Reply::NotStarted);
         }
+        self.bell.unpark();
         let begun = self
             .record
             .lock(&self.rt)

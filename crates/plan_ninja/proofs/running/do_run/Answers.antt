@@ -1,6 +1,6 @@
 use Rattle.std.proofs.Common.{inl, refl}
 use Rattle.plan_scope.specs.Loading.{IsMissing}
-use Rattle.plan_ninja.proofs.RunningLemmas.{run_done, run_refused, with_targets}
+use Rattle.plan_ninja.proofs.RunningLemmas.{run_done, run_refused, told_all, told_none, told_some, with_targets}
 use Rattle.plan_ninja.proofs.running.do_run.Goals as goal
 
 pub returns-in-Err-clause-refused : goal.returns-in-Err-clause-refused
@@ -10,7 +10,8 @@ pub returns-clause-done : goal.returns-clause-done
 returns-clause-done g c =
     run_done (g.S.Source.gives c.args.source.now) g.W.World.allows _ _ _ _ _ _
     (with_targets (g.S.Source.gives c.args.source.now) _ _ _ _ _ c.as_slice-edges.ensures.value c.in-Ok.ensures.opened)
-    c.run_lanes-ran.ensures.run c.run_lanes-ran.ensures.ended c.told-status.ensures.ended c.told-status.ensures.err
+    c.play-played.ensures.run c.play-played.ensures.ended
+    (told_all _ c.in-Ok.opened.0 _ _ _ _ _ _ _ c.play-played.ensures.printed c.told-status.ensures.ended) c.told-status.ensures.err
 
 pub returns-clause-refused : goal.returns-clause-refused
 returns-clause-refused g c =
@@ -18,4 +19,6 @@ returns-clause-refused g c =
     (IsMissing (g.S.Source.gives c.args.source.now) (g.S.Source.fails c.args.source.now) (g.S.Source.failures c.args.source.now) (g.S.Source.failures c.opened_at.new.source))
     g.W.World.allows _ _ _ _ _ _
     (with_targets (g.S.Source.gives c.args.source.now) _ _ _ _ _ c.as_slice-edges.ensures.value c.in-Ok.ensures.opened)
-    c.run_lanes-ran.ensures.run c.run_lanes-ran.ensures.ended c.run_lanes-ran.ensures.fault c.told-status.ensures.ended c.told-status.ensures.err c.told-status.ensures.some c.told-status.ensures.none
+    c.play-played.ensures.run c.play-played.ensures.ended c.play-played.ensures.fault
+    (told_all _ c.in-Ok.opened.0 _ _ _ _ _ _ _ c.play-played.ensures.printed c.told-status.ensures.ended) c.told-status.ensures.err
+    (told_some _ c.in-Ok.opened.0 _ _ _ _ _ _ c.play-played.ensures.printed c.told-status.ensures.some) (told_none _ _ _ c.play-played.ensures.silent c.told-status.ensures.none)

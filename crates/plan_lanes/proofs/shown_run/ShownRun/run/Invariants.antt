@@ -1,5 +1,5 @@
 use Rattle.std.specs.Prelude.{option_map}
-use Rattle.plan_lanes.proofs.lanes.run_lanes_shown.Given as goal
+use Rattle.plan_lanes.proofs.shown_run.ShownRun.run.Given as goal
 
 abbrev pub ghosts-run_named : goal.ghosts-run_named
 ghosts-run_named g a = record { run = a.board.opened; feed = option_map (λ s. s.feed) a.showing }

@@ -1,0 +1,161 @@
+//! Runs whose lines are shown while lanes work.
+
+ghost use Rattle.std.specs.Prelude.{◌≡◌, IfErr, IfOk, IfSome, is_some, true};
+ghost use Rattle.plan_machine.specs.State.{has_ended};
+ghost use Rattle.plan_status.specs.Live.{IsUnused, SameFeed};
+ghost use Rattle.plan_lanes.specs.Desks.{FaultIsFed, ReportIsFed};
+ghost use Rattle.plan_lanes.specs.Faults.{FaultReports};
+ghost use Rattle.plan_lanes.specs.Progress.{Opened};
+ghost use Rattle.plan_lanes.specs.Reports.{IsRunOf};
+
+use crate::board::{Board, Report};
+use crate::fault::LaneFault;
+use crate::lanes::{judged, run_named};
+use crate::world::World;
+use plan_machine::{Options, Refused};
+use plan_status::{Feed, Showing};
+use plan_verify::Verified;
+use std::alloc::Global;
+use std::marker::{Brand, Model};
+use std::sync::Wait;
+use std::thread::Threads;
+
+/// A run that is open, of which nothing is done yet, and what is to show its lines. A contract sees it as what it was
+/// opened with, and the feed.
+#[derive(Drop)]
+pub struct ShownRun<'v, W: World> {
+    alloc: Global,
+    jobs: u8,
+    board: Board<'v, W>,
+    showing: Showing,
+}
+
+impl<'v, W: World> Model for ShownRun<'v, W> {
+    ghost use Rattle.std.specs.Prelude.{Some};
+    ghost use Rattle.plan_lanes.specs.Desks.{IsDesk, Ready, ready};
+
+    ghost Value = { Ready };
+
+    ghost view = { λ r. ready r.board.opened r.showing.feed };
+
+    ghost invariant = { λ r. IsDesk r.board.opened (Some r.showing.feed) r.board (Some r.showing) };
+}
+
+impl<'v, W: World> ShownRun<'v, W> {
+    ghost use Rattle.std.specs.Prelude.{◌≡◌, IfErr, IfOk, IfSome, is_some, true};
+    ghost use Rattle.plan_machine.specs.State.{has_ended};
+    ghost use Rattle.plan_status.specs.Live.{IsUnused, SameFeed};
+    ghost use Rattle.plan_lanes.specs.Desks.{ReportIsFed, ready};
+    ghost use Rattle.plan_lanes.specs.Faults.{FaultReports, report_of};
+    ghost use Rattle.plan_lanes.specs.Reports.{IsRunOf};
+    ghost use Rattle.plan_lanes.specs.declared.fault.LaneFault.TheVariants.{Opening};
+
+    /// Opens a run of an image, the lines of which are to go into a feed. No targets stand for the image's defaults.
+    /// Nothing is asked of a world.
+    ///
+    /// # Errors
+    /// As `Board::open`, and `Memory` where memory for the feed's books is wanted. The feed comes back.
+    pub fn open(
+        alloc: Global,
+        image: &'v Verified,
+        options: Options,
+        targets: &[u32],
+        feed: Feed,
+    ) -> Result<ShownRun<'v, W>, (Refused, Feed)>
+        requires { IsUnused feed }
+        ensures opens { IfOk result (λ r. r ≡ ready (record { parts = image.now; limits = options; targets = targets.now }) feed) }
+        ensures refused { IfErr result (λ e. FaultReports W.allows (record { parts = image.now; limits = options; targets = targets.now }) (Opening e.0)) }
+        ensures back { IfErr result (λ e. e.1 ≡ feed) }
+    {
+        let board: Board<'v, W> = match Board::open(alloc, image, options, targets) {
+            Ok(board) => board,
+            Err(refused) => return Err((refused, feed)),
+        };
+        match Showing::new(alloc, image, board.total(), feed) {
+            Ok(showing) => Ok(ShownRun {
+                alloc,
+                jobs: options.jobs(),
+                board,
+                showing,
+            }),
+            Err(feed) => Err((Refused::Memory, feed)),
+        }
+    }
+}
+
+impl<W: World + Send + Sync> ShownRun<'_, W> {
+    ghost use Rattle.std.specs.Prelude.{◌≡◌, IfErr, IfOk, IfSome, is_some, true};
+    ghost use Rattle.plan_machine.specs.State.{has_ended};
+    ghost use Rattle.plan_status.specs.Live.{SameFeed};
+    ghost use Rattle.plan_lanes.specs.Desks.{ReportIsFed};
+    ghost use Rattle.plan_lanes.specs.Faults.{FaultReports, report_of};
+    ghost use Rattle.plan_lanes.specs.Reports.{IsRunOf};
+
+    /// Runs it as `run_lanes` does, and puts the status line of each event into the feed, under the lanes' lock, as soon
+    /// as there is room for it and no console command is under way. The feed comes back to be settled.
+    ///
+    /// # Errors
+    /// The run so far, and why it hasn't ended.
+    pub fn run<R: Threads + Wait + Sync>(
+        self,
+        rt: &R,
+        world: &W,
+    ) -> (Result<Report, LaneFault>, Feed)
+        ensures run { IfOk result.0 (λ r. IsRunOf W.allows self.entry.opened r) }
+        ensures ended { IfOk result.0 (λ r. has_ended r.state.going.now ≡ true) }
+        ensures fault { IfErr result.0 (λ f. FaultReports W.allows self.entry.opened f) }
+        ensures begun { IfErr result.0 (λ f. is_some (report_of f) ≡ true) }
+        ensures same { SameFeed self.entry.feed result.1 }
+        ensures fed { IfOk result.0 (λ r. ReportIsFed self.entry.opened r result.1) }
+        ensures fed_so_far { IfErr result.0 (λ f. IfSome (report_of f) (λ r. ReportIsFed self.entry.opened r result.1)) }
+    {
+        let ShownRun {
+            alloc,
+            jobs,
+            board,
+            showing,
+        } = self;
+        let (report, stopped, showing) = run_named::<Brand, W, R>(
+            rt,
+            alloc,
+            jobs,
+            board,
+            Some(showing),
+            world,
+        );
+        match showing {
+            Some(showing) => (judged(report, stopped), showing.into_feed()),
+            None => unreachable!(),
+        }
+    }
+}
+
+/// Runs an image as `run_lanes` does, and puts the status line of each event into a feed, under the lanes' lock, as soon as
+/// there is room for it and no console command is under way. The lines that were put in are those of the first marks of the
+/// report, and the feed comes back to be settled, whatever came of the run. It never waits for who prints them.
+///
+/// # Errors
+/// As `run_lanes`; where memory for the feed's books is wanted, `Opening` with `Memory`.
+pub fn run_lanes_shown<W: World + Send + Sync, R: Threads + Wait + Sync>(
+    rt: &R,
+    alloc: Global,
+    image: &Verified,
+    options: Options,
+    targets: &[u32],
+    world: &W,
+    feed: Feed,
+) -> (Result<Report, LaneFault>, Feed)
+    requires { IsUnused feed }
+    ensures run { IfOk result.0 (λ r. IsRunOf W.allows (record { parts = image.now; limits = options; targets = targets.now }) r) }
+    ensures ended { IfOk result.0 (λ r. has_ended r.state.going.now ≡ true) }
+    ensures fault { IfErr result.0 (λ f. FaultReports W.allows (record { parts = image.now; limits = options; targets = targets.now }) f) }
+    ensures same { SameFeed feed result.1 }
+    ensures fed { IfOk result.0 (λ r. ReportIsFed (record { parts = image.now; limits = options; targets = targets.now }) r result.1) }
+    ensures fed_so_far { IfErr result.0 (λ f. FaultIsFed (record { parts = image.now; limits = options; targets = targets.now }) f result.1) }
+{
+    let run: ShownRun<'_, W> = match ShownRun::open(alloc, image, options, targets, feed) {
+        Ok(run) => run,
+        Err((refused, feed)) => return (Err(LaneFault::Opening(refused)), feed),
+    };
+    run.run(rt, world)
+}
