@@ -75,6 +75,7 @@ tests: built
 	python3 tests/run_orders.py $(PROGRAM)
 	python3 tests/run_builds.py $(PROGRAM)
 	python3 tests/run_interrupted.py $(PROGRAM)
+	python3 tests/run_failing.py $(PROGRAM)
 	python3 tests/run_console.py $(PROGRAM)
 	python3 tests/run_live.py $(PROGRAM)
 	python3 tests/run_twice.py $(PROGRAM)
