@@ -70,11 +70,11 @@ one_placed paths path old new size count at v f all h n lt len = by (cases_eq n 
   where
     by : (n ≡ length paths) ⊎ (n ≢ length paths) → IsPlaced (paths ++ path ∷ []) new size n
     by (inl same) =
-      subst (λ (k : ℕ). IsPlaced (paths ++ path ∷ []) new size k) (sym same)
-      (subst (λ (p : List ℕ). IsMet new (start_of size (hash_of p)) (code_of (length paths) (hash_of p))) (sym (get_or-append_seam paths path [] [])) (met_here old new at _ _ v f))
+        subst (λ (k : ℕ). IsPlaced (paths ++ path ∷ []) new size k) (sym same)
+        (subst (λ (p : List ℕ). IsMet new (start_of size (hash_of p)) (code_of (length paths) (hash_of p))) (sym (get_or-append_seam paths path [] [])) (met_here old new at _ _ v f))
     by (inr other) =
-      let before : n < length paths = omega (arith, lt, other) in
-      placed_before paths path new size n before (slots_kept paths old new size count at (length paths) (hash_of path) v.empty f h n (omega (arith, before, all)) before)
+        let before : n < length paths = omega (arith, lt, other) in
+        placed_before paths path new size n before (slots_kept paths old new size count at (length paths) (hash_of path) v.empty f h n (omega (arith, before, all)) before)
 
 -- fewer paths are placed as they were
 pub placed_of_fewer : (paths : List (List ℕ)) (slots : List ℕ) (size few n : ℕ) → n < few → IsPlaced paths slots size n → IsPlaced (take few paths) slots size n
@@ -88,10 +88,10 @@ met_before slots start at code some v m = by (cases_lt m.at at)
     by : (m.at < at) ⊎ (at ≤ m.at) → m.at < at
     by (inl before) = before
     by (inr after) =
-      elim (cases_eq m.at at) [
-        | inl same ↦ absurd (let none : code ≡ 0 = sym m.stands ∙ ap (λ (k : ℕ). get_or slots k 0) same ∙ v.empty in omega (arith, none, some))
-        | inr other ↦ absurd (m.filled at v.behind (omega (arith, after, other)) v.empty)
-      ]
+        elim (cases_eq m.at at) [
+          | inl same ↦ absurd (let none : code ≡ 0 = sym m.stands ∙ ap (λ (k : ℕ). get_or slots k 0) same ∙ v.empty in omega (arith, none, some))
+          | inr other ↦ absurd (m.filled at v.behind (omega (arith, after, other)) v.empty)
+        ]
 
 -- a path that no slot leads to isn't there
 pub is_new : (paths : List (List ℕ)) (slots path : List ℕ) (size count at : ℕ) → IsVacant slots (start_of size (hash_of path)) at → LeadElsewhere paths slots (start_of size (hash_of path)) at path
@@ -101,9 +101,10 @@ is_new paths slots path size count at v elsewhere all h = list_any_none (pointwi
     by : (n : ℕ) → n < length paths → (t : Bool) → pointwise nat_eq path (get_or paths n []) ≡ t → t ≡ false
     by n lt false e = refl
     by n lt true e =
-      let same : path ≡ get_or paths n [] = (bytes_eq-Decides path (get_or paths n [])).0 e in
-      let m : IsMet slots (start_of size (hash_of path)) (code_of n (hash_of path)) =
-      subst (λ (p : List ℕ). IsMet slots (start_of size (hash_of p)) (code_of n (hash_of p))) (sym same) (h n (omega (arith, lt, all)) lt) in
-      sym e ∙ elsewhere m.at n m.behind (met_before slots (start_of size (hash_of path)) at (code_of n (hash_of path)) (code_filled n (hash_of path)) v m) lt m.stands
+        let same : path ≡ get_or paths n [] = (bytes_eq-Decides path (get_or paths n [])).0 e in
+        let m : IsMet slots (start_of size (hash_of path)) (code_of n (hash_of path)) =
+        subst (λ (p : List ℕ). IsMet slots (start_of size (hash_of p)) (code_of n (hash_of p))) (sym same) (h n (omega (arith, lt, all)) lt) in
+        sym e ∙ elsewhere m.at n m.behind (met_before slots (start_of size (hash_of path)) at (code_of n (hash_of path)) (code_filled n (hash_of path)) v m) lt m.stands
+
     differs : (n : ℕ) → n < length paths → pointwise nat_eq path (get_or paths n []) ≡ false
     differs n lt = by n lt (pointwise nat_eq path (get_or paths n [])) refl

@@ -1,4 +1,4 @@
-use Rattle.std.proofs.Common.{◌≡◌, ◌≢◌, ◌≤◌, ◌<◌, ℕ, get_or}
+use Rattle.std.proofs.Common.{◌≢◌, ◌≤◌, ◌<◌, ℕ, get_or}
 use Rattle.plan_depfile.specs.PathSets.{LeadElsewhere}
 use Rattle.plan_depfile.proofs.lookup.find.Given as goal
 

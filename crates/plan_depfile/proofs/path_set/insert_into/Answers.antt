@@ -1,7 +1,7 @@
-use Rattle.std.proofs.Common.{◌≡◌, ◌++◌, ◌∷◌, [], ℕ, List, Bool, false, nat_eq, ap, sym, ◌∙◌, subst, if◌then◌else◌}
+use Rattle.std.proofs.Common.{◌≡◌, ◌++◌, ◌∷◌, [], ℕ, Bool, false, nat_eq, ap, sym, ◌∙◌, subst, if◌then◌else◌}
 use Rattle.std.specs.Cmp.Lexicographic.{pointwise}
 use Rattle.std.specs.List.{list_any}
-use Rattle.plan_depfile.specs.PathSets.{hash_of, start_of, IsPlace, IsVacant, LeadElsewhere}
+use Rattle.plan_depfile.specs.PathSets.{hash_of, start_of, IsPlace}
 use Rattle.plan_depfile.specs.declared.place.Place.TheVariants.{Vacant}
 use Rattle.plan_depfile.proofs.PathSetLemmas.{is_new}
 use Rattle.plan_depfile.proofs.path_set.insert_into.Goals as goal

@@ -1,5 +1,5 @@
-use Rattle.std.proofs.Common.{◌≡◌, ◌≤◌, ◌++◌, ◌∷◌, [], ℕ, List, length, ap, sym, ◌∙◌, ◌+◌, ◌<◌, subst, arith, length-append}
-use Rattle.plan_depfile.specs.PathSets.{hash_of, start_of, code_of, most_paths, ArePlaced, IsVacant, IsFilled, IsPlaced}
+use Rattle.std.proofs.Common.{◌≡◌, ◌++◌, ◌∷◌, [], ℕ, List, length, ap, sym, ◌∙◌, ◌+◌, ◌<◌, subst, arith, length-append}
+use Rattle.plan_depfile.specs.PathSets.{hash_of, start_of, code_of, ArePlaced, IsVacant, IsFilled, IsPlaced}
 use Rattle.plan_depfile.proofs.PathSetLemmas.{one_placed, slots_kept}
 use Rattle.plan_depfile.proofs.placing.add.Goals as goal
 

@@ -1,4 +1,4 @@
-use Rattle.std.proofs.Common.{◌≡◌, ◌≤◌, ℕ, length, get_or, [], ap, sym, ◌∙◌, subst, arith}
+use Rattle.std.proofs.Common.{◌≡◌, ℕ, get_or, [], ap, ◌∙◌, subst, arith}
 use Rattle.plan_depfile.specs.PathSets.{hash_of, start_of, code_of, IsVacant, IsFilled}
 use Rattle.plan_depfile.proofs.PathSetLemmas.{next_placed}
 use Rattle.plan_depfile.proofs.placing.place_next.Goals as goal
