@@ -6,7 +6,7 @@ use Rattle.plan_depfile.specs.declared.state.Saved.{Saved}
 -- this was kept of the machine
 pub record IsSaved (m : Machine) (saved : Saved) : Type 0 where
   pub word : saved.word.items ≡ m.word.items
-  pub paths : saved.paths ≡ length m.paths.keys
+  pub paths : saved.paths ≡ length m.paths
   pub at : saved.at ≡ m.at
   pub held : saved.held ≡ m.held
   pub stand : saved.stand ≡ m.stand

@@ -22,24 +22,11 @@ impl Model for Paths {
 }
 
 impl Paths {
-    /// No path.
-    pub(crate) fn new(alloc: Global) -> Self
-        ensures { result ≡ [] }
+    /// The paths that these rows are.
+    pub(crate) fn of(rows: RowList<u8>) -> Self
+        ensures { result ≡ rows }
     {
-        Paths {
-            rows: RowList::new(alloc),
-        }
-    }
-
-    /// Some paths, copied.
-    pub(crate) fn of(alloc: Global, paths: &[Vec<u8>]) -> Result<Self, AllocError>
-        ensures { IfOk result (λ flat. flat ≡ map (λ path. path.items) paths.now) }
-    {
-        let mut rows = RowList::new(alloc);
-        for path in paths {
-            rows.push(path)?;
-        }
-        Ok(Paths { rows })
+        Paths { rows }
     }
 
     /// How many paths there are.

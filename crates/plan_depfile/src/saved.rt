@@ -27,7 +27,7 @@ impl Machine {
     /// Puts the machine back to what it was. Paths were only added since.
     pub fn restore(&mut self, saved: Saved)
         requires lasting { saved.fault ≢ Some DepFault.Memory }
-        ensures same { (was : Machine) → IsSaved was saved → take (length was.paths.keys) self.old.paths.keys ≡ was.paths.keys → (rest : List ℕ) → answer self.new rest ≡ answer was rest }
+        ensures same { (was : Machine) → IsSaved was saved → take (length was.paths) self.old.paths ≡ was.paths → (rest : List ℕ) → answer self.new rest ≡ answer was rest }
         ensures place { self.new.at ≡ saved.at }
         ensures held { self.new.held ≡ saved.held }
     {

@@ -1,0 +1,36 @@
+//! The hash of a path, and what it says of its slot.
+
+ghost use Rattle.std.specs.Prelude.{◌≡◌, ◌≤◌, ◌<◌};
+ghost use Rattle.plan_depfile.specs.PathSets.{hash_of, start_of, code_of, most_paths};
+
+use std::hash::{FoldHasher, Hasher};
+
+/// The hash of a path.
+#[tactic(auto, unfolding(crate::specs::PathSets::hash_of))]
+pub fn hash_of(path: &[u8]) -> u64
+    ensures { result ≡ hash_of path.now }
+{
+    let mut hasher = FoldHasher::default();
+    hasher.write(path);
+    hasher.finish()
+}
+
+/// From which of so many slots on a hash is looked for.
+#[tactic(auto, unfolding(crate::specs::PathSets::start_of))]
+pub fn start_of(size: usize, hash: u64) -> usize
+    ensures start { result ≡ start_of size hash }
+    ensures within { result ≤ size }
+{
+    let place = (hash as u128 * size as u128) >> 64;
+    (place as usize).min(size)
+}
+
+/// What stands in the slot of the path of this number and hash.
+#[tactic(auto, unfolding(crate::specs::PathSets::code_of))]
+pub fn code_of(number: usize, hash: u64) -> u32
+    requires { number < most_paths }
+    ensures code { result ≡ code_of number hash }
+    ensures filled { 0 < result }
+{
+    (hash % 256) as u32 * 16_777_216 + (number as u32 + 1)
+}

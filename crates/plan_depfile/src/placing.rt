@@ -1,0 +1,116 @@
+//! How paths get their slots.
+
+ghost use Rattle.std.specs.Prelude.{◌≡◌, ◌≤◌, ◌<◌, ◌+◌, ◌++◌, ◌∷◌, [], length, replicate, IfOk, OnOk, OnErr};
+ghost use Rattle.plan_depfile.specs.PathSets.{hash_of, most_paths, ArePlaced, IsFilled, IsVacant, LeadElsewhere, start_of};
+
+use crate::hash::{code_of, hash_of, start_of};
+use crate::lookup::vacant;
+use crate::slot_table::SlotTable;
+use plan_text::RowList;
+use std::alloc::{AllocError, Global};
+
+/// Fills an empty slot, or appends one.
+fn fill(slots: &mut Vec<u32>, at: usize, code: u32) -> Result<(), AllocError>
+    requires { at ≤ length slots.old.items }
+    ensures filled { OnOk result (IsFilled slots.old.items at code slots.new.items) }
+    ensures same { OnErr result (slots.new.items ≡ slots.old.items) }
+{
+    if at < slots.len() {
+        slots[at] = code;
+        return Ok(());
+    }
+    slots.push(code)?;
+    Ok(())
+}
+
+/// As many empty slots as are told, in place of those that are there. A refusal changes nothing.
+fn empty_slots(slots: &mut Vec<u32>, size: usize) -> Result<(), AllocError>
+    ensures len { OnOk result (length slots.new.items ≡ size) }
+    ensures same { OnErr result (slots.new.items ≡ slots.old.items) }
+{
+    slots.reserve_exact(size.saturating_sub(slots.len()))?;
+    slots.clear();
+    slots.resize(size, 0)?;
+    Ok(())
+}
+
+/// Gives the next path its slot.
+fn place_next(paths: &RowList<u8>, table: &mut SlotTable) -> Result<(), AllocError>
+    requires next { table.old.placed < length paths.now }
+    requires placed { ArePlaced paths.now table.old }
+    ensures placed { ArePlaced paths.now table.new }
+    ensures one { OnOk result (table.new.placed ≡ table.old.placed + 1) }
+{
+    let number = table.placed;
+    let hash = hash_of(paths.row(number));
+    let at = vacant(&table.codes, start_of(table.size, hash));
+    fill(&mut table.codes, at, code_of(number, hash))?;
+    table.placed = number + 1;
+    Ok(())
+}
+
+/// Gives the paths that have none yet their slots.
+fn place_rest(paths: &RowList<u8>, table: &mut SlotTable) -> Result<(), AllocError>
+    requires placed { ArePlaced paths.now table.old }
+    ensures placed { ArePlaced paths.now table.new }
+    ensures all { OnOk result (length paths.now ≤ table.new.placed) }
+{
+    while table.placed < paths.len() {
+        place_next(paths, table)?;
+    }
+    Ok(())
+}
+
+/// Makes more slots, in which no path is placed yet. A refusal leaves what is placed.
+fn widen(paths: &RowList<u8>, table: &mut SlotTable) -> Result<(), AllocError>
+    requires placed { ArePlaced paths.now table.old }
+    ensures placed { ArePlaced paths.now table.new }
+{
+    let len = paths.len();
+    let room = len / 2 + 64;
+    let size = (len + room) / 7 * 8;
+    empty_slots(&mut table.codes, size)?;
+    table.size = size;
+    table.placed = 0;
+    table.room = room;
+    Ok(())
+}
+
+/// Sees that there is room for one path more, and that each path has its slot.
+pub fn make_ready(paths: &RowList<u8>, table: &mut SlotTable) -> Result<(), AllocError>
+    requires placed { ArePlaced paths.now table.old }
+    ensures placed { ArePlaced paths.now table.new }
+    ensures all { OnOk result (length paths.now ≤ table.new.placed) }
+{
+    if table.room == 0 {
+        widen(paths, table)?;
+    }
+    place_rest(paths, table)
+}
+
+/// Adds a path that no slot leads to, where this slot is empty.
+pub fn add(
+    paths: &mut RowList<u8>,
+    table: &mut SlotTable,
+    at: usize,
+    hash: u64,
+    path: &[u8],
+) -> Result<(), AllocError>
+    requires hash { hash ≡ hash_of path.now }
+    requires vacant { IsVacant table.old.codes.items (start_of table.old.size hash) at }
+    requires placed { ArePlaced paths.old table.old }
+    requires all { length paths.old ≤ table.old.placed }
+    ensures placed { ArePlaced paths.new table.new }
+    ensures more { OnOk result (paths.new ≡ paths.old ++ path.now ∷ []) }
+    ensures same { OnErr result (paths.new ≡ paths.old) }
+{
+    let number = paths.len();
+    if number >= 16_777_215 {
+        return Err(AllocError);
+    }
+    fill(&mut table.codes, at, code_of(number, hash))?;
+    paths.push(path)?;
+    table.placed = number + 1;
+    table.room = table.room.saturating_sub(1);
+    Ok(())
+}
