@@ -1,9 +1,11 @@
 //! Traces, written.
 
-ghost use Rattle.std.specs.Prelude.{◌≡◌, ◌∷◌, ◌++◌, [], IfOk, OnOk, map};
+ghost use Rattle.std.specs.Prelude.{◌≡◌, ◌<◌, ℕ, List, ◌∷◌, ◌++◌, [], IfErr, IfOk, IfSome, OnOk, Some, length, map, true};
 ghost use Rattle.std.specs.Fmt.{decimal};
 ghost use Rattle.std.specs.List.{flat_map};
+ghost use Rattle.std.specs.Option.{IfNone};
 ghost use Rattle.std.specs.Result.{result_err};
+ghost use Rattle.plan_text.specs.Sinks.{Writes};
 ghost use Rattle.plan_image.specs.Listing.{hex};
 ghost use Rattle.plan_status.specs.Printing.{Prints};
 ghost use Rattle.plan_machine.specs.declared.event.Event.TheVariants.{Reply as Hear, Skip};
@@ -11,6 +13,7 @@ ghost use Rattle.plan_trace.specs.Spelling as defined;
 
 use crate::hex::push_hex;
 use crate::trace::Trace;
+use plan_journal::{Events, Journal};
 use plan_machine::{Event, Options, Recorded, Reply};
 use plan_status::{PrintFault, prints_join};
 use plan_text::{Sink, write_all, writes_join};
@@ -238,6 +241,59 @@ fn write_options<W: Sink>(alloc: Global, options: Options, out: &mut W) -> Resul
     Ok(())
 }
 
+/// Writes the line of the first of these events, where there is one, and gives those behind it.
+fn write_first<'a, W: Sink>(
+    alloc: Global,
+    events: Events<'a>,
+    out: &mut W,
+) -> Result<Option<Events<'a>>, PrintFault>
+    ensures some { IfOk result (λ found. IfSome found (λ behind. (line : List ℕ) × (line ++ flat_map defined.event_line behind ≡ flat_map defined.event_line events)
+        × Writes true (W.failures out.old, W.taken out.old) (W.failures out.new, W.taken out.new) line × (length behind < length events))) }
+    ensures none { IfOk result (λ found. IfNone found ((events ≡ []) × (out.new ≡ out.old))) }
+    ensures stopped { IfErr result (λ fault. Prints (flat_map defined.event_line events) (Some fault) (W.failures out.old, W.taken out.old) (W.failures out.new, W.taken out.new)) }
+{
+    prints_join();
+    let Some((event, behind)) = events.split_first()? else {
+        return Ok(None);
+    };
+    match write_event(alloc, &event, out) {
+        Ok(()) => Ok(Some(behind)),
+        Err(fault) => Err(fault),
+    }
+}
+
+/// Writes the lines of a journal's events.
+fn write_journal<W: Sink>(alloc: Global, journal: &Journal, out: &mut W) -> Result<(), PrintFault>
+    ensures { Prints (flat_map defined.event_line journal.now) (result_err result) (W.failures out.old, W.taken out.old) (W.failures out.new, W.taken out.new) }
+{
+    writes_join();
+    prints_join();
+    let mut rest = journal.events();
+    loop {
+        match write_first(alloc, rest, out) {
+            Ok(Some(behind)) => rest = behind,
+            Ok(None) => return Ok(()),
+            Err(fault) => return Err(fault),
+        }
+    }
+}
+
+/// Writes the lines behind the first of a run with a journal.
+fn write_run_behind<W: Sink>(
+    alloc: Global,
+    targets: &[u32],
+    journal: &Journal,
+    out: &mut W,
+) -> Result<(), PrintFault>
+    ensures { Prints (flat_map defined.target_line targets.now ++ flat_map defined.event_line journal.now) (result_err result) (W.failures out.old, W.taken out.old) (W.failures out.new, W.taken out.new) }
+{
+    prints_join();
+    match write_targets(alloc, targets, out) {
+        Ok(()) => write_journal(alloc, journal, out),
+        Err(fault) => Err(fault),
+    }
+}
+
 /// Writes the text of the trace of a run with these options, targets and events. It holds one line at a time.
 ///
 /// # Errors
@@ -246,30 +302,28 @@ pub fn write_run<W: Sink>(
     alloc: Global,
     options: Options,
     targets: &[u32],
-    events: &[Event],
+    journal: &Journal,
     out: &mut W,
 ) -> Result<(), PrintFault>
-    ensures { Prints (defined.run_text options targets.now events.now) (result_err result) (W.failures out.old, W.taken out.old) (W.failures out.new, W.taken out.new) }
+    ensures { Prints (defined.run_text options targets.now journal.now) (result_err result) (W.failures out.old, W.taken out.old) (W.failures out.new, W.taken out.new) }
 {
     prints_join();
     match write_options(alloc, options, out) {
-        Ok(()) => write_behind(alloc, targets, events, out),
+        Ok(()) => write_run_behind(alloc, targets, journal, out),
         Err(fault) => Err(fault),
     }
 }
 
-/// Writes the text of a trace, as `write_run` does.
+/// Writes the text of a trace. It holds one line at a time.
 ///
 /// # Errors
 /// `Memory`, `Write`: then the sink took a front of the text.
 pub fn write_trace<W: Sink>(alloc: Global, trace: &Trace, out: &mut W) -> Result<(), PrintFault>
     ensures { Prints (defined.text_of trace.now) (result_err result) (W.failures out.old, W.taken out.old) (W.failures out.new, W.taken out.new) }
 {
-    write_run(
-        alloc,
-        trace.options,
-        trace.targets.as_slice(),
-        trace.events.as_slice(),
-        out,
-    )
+    prints_join();
+    match write_options(alloc, trace.options, out) {
+        Ok(()) => write_behind(alloc, trace.targets.as_slice(), trace.events.as_slice(), out),
+        Err(fault) => Err(fault),
+    }
 }
