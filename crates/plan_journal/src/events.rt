@@ -7,9 +7,9 @@ ghost use Rattle.plan_journal.specs.Columns as columns;
 ghost use Rattle.plan_journal.specs.Columns.{Fit};
 
 use crate::sort::Sort;
+use plan_machine::{Event, Reply};
 use std::alloc::AllocError;
 use std::marker::Model;
-use plan_machine::{Event, Reply};
 
 /// The events of a journal that are left to be read, which a contract sees as their list.
 #[derive(Drop)]

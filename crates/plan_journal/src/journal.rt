@@ -8,9 +8,9 @@ ghost use Rattle.plan_journal.specs.Columns.{event_of, stamps_in, wholes_in};
 
 use crate::events::Events;
 use crate::sort::Sort;
+use plan_machine::{Event, Reply};
 use std::alloc::{AllocError, Global};
 use std::marker::Model;
-use plan_machine::{Event, Reply};
 
 /// The events of a run in their order, which a contract sees as their list. Each takes five bytes, one that brings a stamp
 /// eight more; one with another reply, or a skip, 24 more.

@@ -6,7 +6,6 @@
 mod events;
 mod journal;
 mod sort;
-
 #[cfg(test)]
 mod tests;
 

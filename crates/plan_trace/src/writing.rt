@@ -323,7 +323,12 @@ pub fn write_trace<W: Sink>(alloc: Global, trace: &Trace, out: &mut W) -> Result
 {
     prints_join();
     match write_options(alloc, trace.options, out) {
-        Ok(()) => write_behind(alloc, trace.targets.as_slice(), trace.events.as_slice(), out),
+        Ok(()) => write_behind(
+            alloc,
+            trace.targets.as_slice(),
+            trace.events.as_slice(),
+            out,
+        ),
         Err(fault) => Err(fault),
     }
 }

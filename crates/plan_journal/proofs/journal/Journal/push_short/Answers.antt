@@ -1,7 +1,5 @@
-use Rattle.std.proofs.Common.{◌∷◌, [], ◌∙◌, ap, refl, sym, ◌++◌, ◌≡◌, List, ℕ}
+use Rattle.std.proofs.Common.{[], sym}
 use Rattle.std.proofs.lemmas.List.{append-nil}
-use Rattle.plan_machine.specs.declared.event.Event.{Event}
-use Rattle.plan_journal.specs.declared.sort.Sort.{Sort}
 use Rattle.plan_journal.proofs.ColumnLemmas.{events_more, fit_more, one_more}
 use Rattle.plan_journal.proofs.journal.Journal.push_short.Goals as goal
 

@@ -1,6 +1,4 @@
-use Rattle.std.proofs.Common.{◌≡◌, ◌≤◌, ◌∷◌, ◌++◌, [], ◌∙◌, ◌-◌, List, ℕ, ap, length, refl, sym, take, rules, arith}
-use Rattle.plan_journal.specs.declared.sort.Sort.{Sort}
-use Rattle.plan_journal.specs.Columns.{stamps_in, wholes_in}
+use Rattle.std.proofs.Common.{arith}
 use Rattle.plan_journal.proofs.ColumnLemmas.{events_less, fit_less, room_stamps, room_wholes}
 use Rattle.plan_journal.proofs.journal.Journal.remove_last.Goals as goal
 
