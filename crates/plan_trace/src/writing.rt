@@ -1,15 +1,15 @@
 //! Traces, written.
 
-ghost use Rattle.std.specs.Prelude.{◌≡◌, ◌<◌, ℕ, List, ◌∷◌, ◌++◌, [], IfErr, IfOk, IfSome, OnOk, Some, length, map, true};
+ghost use Rattle.std.specs.Prelude.{◌≡◌, ◌∷◌, ◌++◌, [], IfErr, IfOk, IfSome, OnOk, Some, map};
 ghost use Rattle.std.specs.Fmt.{decimal};
 ghost use Rattle.std.specs.List.{flat_map};
 ghost use Rattle.std.specs.Option.{IfNone};
 ghost use Rattle.std.specs.Result.{result_err};
-ghost use Rattle.plan_text.specs.Sinks.{Writes};
 ghost use Rattle.plan_image.specs.Listing.{hex};
 ghost use Rattle.plan_status.specs.Printing.{Prints};
 ghost use Rattle.plan_machine.specs.declared.event.Event.TheVariants.{Reply as Hear, Skip};
 ghost use Rattle.plan_trace.specs.Spelling as defined;
+ghost use Rattle.plan_trace.specs.Writing.{WritesFirst};
 
 use crate::hex::push_hex;
 use crate::trace::Trace;
@@ -247,10 +247,9 @@ fn write_first<'a, W: Sink>(
     events: Events<'a>,
     out: &mut W,
 ) -> Result<Option<Events<'a>>, PrintFault>
-    ensures some { IfOk result (λ found. IfSome found (λ behind. (line : List ℕ) × (line ++ flat_map defined.event_line behind ≡ flat_map defined.event_line events)
-        × Writes true (W.failures out.old, W.taken out.old) (W.failures out.new, W.taken out.new) line × (length behind < length events))) }
-    ensures none { IfOk result (λ found. IfNone found ((events ≡ []) × (out.new ≡ out.old))) }
-    ensures stopped { IfErr result (λ fault. Prints (flat_map defined.event_line events) (Some fault) (W.failures out.old, W.taken out.old) (W.failures out.new, W.taken out.new)) }
+    ensures some { IfOk result (λ found. IfSome found (λ behind. WritesFirst events.entry (W.failures out.old, W.taken out.old) (W.failures out.new, W.taken out.new) behind)) }
+    ensures none { IfOk result (λ found. IfNone found ((events.entry ≡ []) × (out.new ≡ out.old))) }
+    ensures stopped { IfErr result (λ fault. Prints (flat_map defined.event_line events.entry) (Some fault) (W.failures out.old, W.taken out.old) (W.failures out.new, W.taken out.new)) }
 {
     prints_join();
     let Some((event, behind)) = events.split_first()? else {
@@ -314,6 +313,23 @@ pub fn write_run<W: Sink>(
     }
 }
 
+/// Writes the text of a trace that is in parts.
+fn write_parts<W: Sink>(
+    alloc: Global,
+    options: Options,
+    targets: &[u32],
+    events: &[Event],
+    out: &mut W,
+) -> Result<(), PrintFault>
+    ensures { Prints (defined.run_text options targets.now events.now) (result_err result) (W.failures out.old, W.taken out.old) (W.failures out.new, W.taken out.new) }
+{
+    prints_join();
+    match write_options(alloc, options, out) {
+        Ok(()) => write_behind(alloc, targets, events, out),
+        Err(fault) => Err(fault),
+    }
+}
+
 /// Writes the text of a trace. It holds one line at a time.
 ///
 /// # Errors
@@ -321,14 +337,11 @@ pub fn write_run<W: Sink>(
 pub fn write_trace<W: Sink>(alloc: Global, trace: &Trace, out: &mut W) -> Result<(), PrintFault>
     ensures { Prints (defined.text_of trace.now) (result_err result) (W.failures out.old, W.taken out.old) (W.failures out.new, W.taken out.new) }
 {
-    prints_join();
-    match write_options(alloc, trace.options, out) {
-        Ok(()) => write_behind(
-            alloc,
-            trace.targets.as_slice(),
-            trace.events.as_slice(),
-            out,
-        ),
-        Err(fault) => Err(fault),
-    }
+    write_parts(
+        alloc,
+        trace.options,
+        trace.targets.as_slice(),
+        trace.events.as_slice(),
+        out,
+    )
 }
