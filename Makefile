@@ -8,7 +8,7 @@ SHELL = /bin/bash -o pipefail
 .PHONY: help
 help:
 	@echo "make          proves and builds the program ($(PROGRAM)); from nothing some 50 minutes on 4 cores"
-	@echo "make demo     runs the program, not yet proved, on examples/demo/build.ninja; from nothing about a minute"
+	@echo "make demo     compiles and runs examples/demo/build.ninja by the program, not yet proved; two to four minutes"
 	@echo "make quick    proves one crate, or one module of it (CRATE=plan_text ONLY=path); 5 to 60 seconds for a module"
 	@echo "make rows     runs the rows of the built program, or some (NAMES='tab_* scopes/*'); half a minute"
 	@echo "make tests    the tests of the built program, without proofs: documents, rows, builds, ninja, memory, trees; 3 to 5 minutes"
@@ -42,12 +42,15 @@ all: kit
 	@cd crates/plan_ninja && rt run -- --help > /dev/null
 	@echo "built and proved: $(PROGRAM)"
 
-# Runs the program, not yet proved, on the example.
+# Compiles and runs the example by the program, not yet proved.
+TRY = cd crates/plan_ninja && rt try --data build.ninja=../../examples/demo/build.ninja --
 .PHONY: demo
 demo: kit
-	@echo "compiling without the proofs (rt try), about a minute the first time; then: plan_ninja commands examples/demo/build.ninja" >&2
-	@log=$$(mktemp); cd crates/plan_ninja && rt try --data build.ninja=../../examples/demo/build.ninja -- commands build.ninja 2> $$log \
-	  || { cat $$log >&2; rm -f $$log; exit 1; }; rm -f $$log
+	@echo "without the proofs (rt try), one or two minutes each: plan_ninja compile examples/demo/build.ninja -o demo.img" >&2
+	@demo=$$(mktemp -d); trap "rm -rf $$demo" EXIT; \
+	  ($(TRY) compile build.ninja -o $$demo/demo.img) > $$demo/log 2>&1 || { cat $$demo/log >&2; exit 1; }; \
+	  echo "and then: plan_ninja run demo.img" >&2; \
+	  ($(TRY) run $$demo/demo.img --record $$demo/record) 2> $$demo/log || { cat $$demo/log >&2; exit 1; }
 	@echo "(run without the proofs; make proves and builds the program, make check is the whole gate)" >&2
 
 # Proves one crate, or one module of it.

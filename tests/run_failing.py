@@ -1,9 +1,12 @@
 #!/usr/bin/env python3
 """Runs a chain of two commands with each of its calls to the outside failing once, and then without a failure.
 
-The calls are those for a file's times, for a command's start, and for a write to the record (failing.c, which is
-preloaded). The run in which one fails has to end with status 1 and to say which edge failed and why; the next run has
-to make both files right, and the one behind it has nothing to do. The last line is `N passed, M failed`.
+The calls are those for a file's times, for a command's start, for a write to the record, for a thread, and for memory
+(failing.c, which is preloaded). A run in which one of the first three fails has to end with status 1 and to say which
+edge failed and why. A thread that can't be started is done without; where none can, that is 121. A run that is short of
+memory ends well, or says of an edge that it failed, or is refused by a fault of memory behind a front of its lines. The
+next run always has to make both files right, and the one behind it has nothing to do. The last line is
+`N passed, M failed`.
 """
 import pathlib
 import re
@@ -11,33 +14,50 @@ import shutil
 import subprocess
 import sys
 import tempfile
+from typing import NamedTuple
 
 import programs
 
 LIBRARY = pathlib.Path(__file__).resolve().parent / "failing.c"
 SECONDS = 60
 TREE = {
-    "build.ninja": "rule gen\n  command = sh gen.sh\n  restat = 1\nrule use\n  command = cat $in > $out\n"
-                   "build mid: gen src\nbuild out: use mid\n",
-    "gen.sh": "cmp -s src mid || cp src mid\n",
+    "build.ninja": "rule gen\n  command = sh gen.sh\n  depfile = mid.d\n  restat = 1\n"
+                   "rule use\n  command = cat $in > $out\nbuild mid: gen src\nbuild out: use mid\n",
+    "gen.sh": "cmp -s src mid || cp src mid\necho mid: header > mid.d\n",
     "src": "one\n",
+    "header": "two\n",
 }
-WHOLE = b"[1/2] sh gen.sh\n[2/2] cat mid > out\n"
-CAUSES = {"stat": ("stat fault",), "spawn": ("not started",), "write": ("not started", "record fault")}
+LINES = ("[1/2] sh gen.sh\n", "[2/2] cat mid > out\n")
+WHOLE = "".join(LINES)
+FRONTS = ("", LINES[0], WHOLE)
+# How many jobs a run has in which a call of this sort fails, and what it may say of an edge.
+JOBS = {"stat": "1", "spawn": "1", "write": "1", "thread": "2", "memory": "1"}
+CAUSES = {"stat": ("stat fault",), "spawn": ("not started",), "write": ("not started", "record fault"), "thread": (),
+          "memory": ("not started", "record fault")}
+REFUSALS = {f"plan: {number}\n" for number in ("22 Memory", "66 Memory", "86 Memory", "111 Memory", "120 NoMemory",
+                                               "131 Memory")}
 # What a run says in which one call fails: mid failed and out was skipped, or out failed behind mid.
 FIRST = re.compile(r"FAILED mid: (.+)\nSKIPPED out: needs mid\n")
 SECOND = re.compile(r"\[1/2\] sh gen\.sh\nFAILED out: (.+)\n")
 
 
-def run(program: str, folder: pathlib.Path, library: pathlib.Path, sort: str, failing: int) -> tuple[int, bytes, int]:
-    """The status of a run, what it printed, and how many calls of the sort it made."""
+class Ended(NamedTuple):
+    """How a run ended, what it said, and how many calls of the sort it made."""
+
+    status: int
+    printed: str
+    errors: str
+    calls: int
+
+
+def run(program: str, folder: pathlib.Path, library: pathlib.Path, sort: str, failing: int) -> Ended:
     calls = folder / "calls"
     calls.unlink(missing_ok=True)
     env = {"PATH": "/usr/bin:/bin", "LD_PRELOAD": str(library), "FAILED_SORT": sort, "FAILED_CALL": str(failing),
            "CALLS_FILE": str(calls)}
-    done = subprocess.run([program, "run", "plan.img", "-j", "1", "-k", "0"], cwd=folder, env=env, timeout=SECONDS,
-                          stdin=subprocess.DEVNULL, capture_output=True)
-    return done.returncode, done.stdout, len(calls.read_bytes()) if calls.exists() else 0
+    done = subprocess.run([program, "run", "plan.img", "-j", JOBS[sort], "-k", "0"], cwd=folder, env=env,
+                          timeout=SECONDS, stdin=subprocess.DEVNULL, capture_output=True, encoding="utf-8")
+    return Ended(done.returncode, done.stdout, done.stderr, len(calls.read_bytes()) if calls.exists() else 0)
 
 
 def begin(program: str, folder: pathlib.Path) -> None:
@@ -46,13 +66,24 @@ def begin(program: str, folder: pathlib.Path) -> None:
     programs.printed_lines([program, "compile", "build.ninja", "-o", "plan.img"], folder)
 
 
+def is_told(sort: str, failing: int, done: Ended) -> bool:
+    """Whether a run says what it has to where this call fails."""
+    if sort == "thread":
+        said = (2, "", "plan: 121 NoLane\n") if failing < 0 else (0, WHOLE, "")
+        return done[:3] == said
+    if sort == "memory" and done.status != 1:
+        return done[:3] == (0, WHOLE, "") or (
+            done.status == 2 and done.errors in REFUSALS and done.printed in FRONTS)
+    said = FIRST.fullmatch(done.printed) or SECOND.fullmatch(done.printed)
+    return done.status == 1 and done.errors == "" and said is not None and said[1] in CAUSES[sort]
+
+
 def fault(program: str, folder: pathlib.Path, library: pathlib.Path, sort: str, failing: int) -> str:
     """What is otherwise than it has to be where this call fails, or nothing."""
     begin(program, folder)
-    status, printed, _ = run(program, folder, library, sort, failing)
-    said = FIRST.fullmatch(printed.decode()) or SECOND.fullmatch(printed.decode())
-    if status != 1 or said is None or said[1] not in CAUSES[sort]:
-        return f"it ended with {status} and printed {printed!r}"
+    done = run(program, folder, library, sort, failing)
+    if not is_told(sort, failing, done):
+        return f"it ended so: {done}"
     again = programs.run([program, "run", "plan.img"], folder)
     if again.returncode != 0 or any((folder / name).read_text() != "one\n" for name in ("mid", "out")):
         return f"the next run ended with {again.returncode} and printed {again.stdout!r}"
@@ -64,10 +95,11 @@ def judged(program: str, home: pathlib.Path, library: pathlib.Path, sort: str) -
     """What is said of each call of a sort."""
     folder = home / sort
     begin(program, folder)
-    status, printed, calls = run(program, folder, library, sort, 0)
-    if status != 0 or printed != WHOLE or calls < 2:
-        return [f"without a failure: status {status}, {calls} calls, {printed!r}"]
-    return [fault(program, home / f"{sort}{number}", library, sort, number) for number in range(1, calls + 1)]
+    whole = run(program, folder, library, sort, 0)
+    if whole[:3] != (0, WHOLE, "") or whole.calls < 2:
+        return [f"without a failure: {whole}"]
+    failing = list(range(1, whole.calls + 1)) + ([-1] if sort == "thread" else [])
+    return [fault(program, home / f"{sort}{number}", library, sort, number) for number in failing]
 
 
 def main() -> None:

@@ -4,3 +4,4 @@ pub mod ReadingLemmas
 pub mod EventsLemmas
 pub mod WritingLemmas
 pub mod SpellingLaw
+pub mod ReadAgain

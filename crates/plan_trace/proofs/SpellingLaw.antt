@@ -57,7 +57,7 @@ mapped : {A B : Type 0} (f : A → B) (o : Option A) (b : B) → option_map f o 
 mapped f None b h = nothing h
 mapped f (Some a) b h = record { of = a; was = refl; is = some_same h }
 
-both : (a b : Bool) → (a && b) ≡ true → (a ≡ true) × (b ≡ true)
+pub both : (a b : Bool) → (a && b) ≡ true → (a ≡ true) × (b ≡ true)
 both true b h = (refl, h)
 both false b h = not_true h
 
@@ -72,10 +72,10 @@ number_spelled most word n h = spelled_by word (number_in most word) n h
 
 -- ---- bytes
 
-glyph_low : (v : ℕ) → v < 10 → digit_glyph false v ≡ 48 + v
+pub glyph_low : (v : ℕ) → v < 10 → digit_glyph false v ≡ 48 + v
 glyph_low v less = rw (lt-ltb v 10 less) refl
 
-glyph_high : (v : ℕ) → 10 ≤ v → digit_glyph false v ≡ 87 + v
+pub glyph_high : (v : ℕ) → 10 ≤ v → digit_glyph false v ≡ 87 + v
 glyph_high v more = rw (le-ltb v 10 more) refl
 
 digit_spelled : (b v : ℕ) → digit_value b ≡ Some v → (b ≡ digit_glyph false v) × (v < 16)

@@ -2,7 +2,7 @@
 //!
 //! - `Trace`: a run; `read_trace`: the trace that a text says, or its first bad line (`TraceFault`); `write_trace`: its text;
 //!   `write_run`: the text of a run that is in parts.
-//! - `traces_are_spelled_once`: what holds of all traces, for the proofs of the crates above.
+//! - `traces_are_spelled_once`, `traces_are_read_again`: what holds of all traces, for the proofs of the crates above.
 //!
 //! The format is this project's own choice; docs/REPLAY.md has it line by line.
 #![tactic(auto)]
@@ -19,7 +19,7 @@ mod words;
 mod writing;
 
 pub use fault::TraceFault;
-pub use laws::traces_are_spelled_once;
+pub use laws::{traces_are_read_again, traces_are_spelled_once};
 pub use reading::read_trace;
 pub use trace::Trace;
 pub use writing::{write_run, write_trace};
