@@ -30,13 +30,13 @@ class Run(NamedTuple):
         return self.status == OVER
 
 
-def measured(words: Sequence[str], folder: pathlib.Path) -> Run:
-    """One run of a program, whose output is thrown away."""
+def measured(words: Sequence[str], folder: pathlib.Path, limit: int = LIMIT) -> Run:
+    """One run of a program, whose output is thrown away, of at most so many seconds."""
     with tempfile.NamedTemporaryFile("r") as peak:
         before = [TIME, "-q", "-f", "%M", "-o", peak.name] if TIME else []
         null = subprocess.DEVNULL
         begun = time.monotonic()
-        done = subprocess.run([*before, "timeout", str(LIMIT), *words], cwd=folder, stdout=null, stderr=null)
+        done = subprocess.run([*before, "timeout", str(limit), *words], cwd=folder, stdout=null, stderr=null)
         seconds = time.monotonic() - begun
         return Run(seconds, int(peak.read()) / 1024 if TIME else 0.0, done.returncode)
 
