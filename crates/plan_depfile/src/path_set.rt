@@ -77,6 +77,7 @@ impl PathSet {
                 size: 0,
                 placed: 0,
                 room: 0,
+                ahead: 0,
             },
         }
     }
