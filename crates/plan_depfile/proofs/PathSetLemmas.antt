@@ -1,6 +1,6 @@
 -- What filling a slot does to the paths that are met.
-use Rattle.std.proofs.Common.{◌≡◌, ◌≢◌, ℕ, ◌+◌, ◌<◌, ◌≤◌, List, [], ◌∷◌, ◌++◌, length, take, get_or, Bool, true, false, nat_eq, refl, sym, ap, ◌∙◌, subst, ◌⊎◌, inl, inr, arith, length-append}
-use Rattle.std.proofs.Math.Seq.{get_or-append_seam}
+use Rattle.std.proofs.Common.{◌≡◌, ◌≢◌, ℕ, ◌+◌, ◌<◌, ◌≤◌, List, [], ◌∷◌, ◌++◌, length, take, get_or, Bool, true, false, nat_eq, refl, sym, ap, ◌∙◌, subst, if◌then◌else◌, ◌⊎◌, inl, inr, arith}
+use Rattle.std.proofs.Math.Seq.{get_or-append_seam, take-length, take-append_seam}
 use Rattle.std.proofs.lemmas.Bool.{cases_eq, cases_lt}
 use Rattle.std.proofs.lemmas.List.Elements.{All-from_get_or}
 use Rattle.std.proofs.lemmas.List.Folds.{list_any_none}
@@ -8,6 +8,7 @@ use Rattle.std.proofs.lemmas.Slice.Eq.{bytes_eq-Decides}
 use Rattle.std.specs.Cmp.Lexicographic.{pointwise}
 use Rattle.std.specs.List.{list_any}
 use Rattle.std.proofs.lemmas.List.{get_or_append_left, get_or-take}
+use Rattle.plan_depfile.specs.Depfile.{with_path, with_paths}
 use Rattle.plan_depfile.specs.PathSets.{hash_of, start_of, code_of, IsMet, IsVacant, IsPlaced, IsFilled, LeadElsewhere}
 
 code_filled : (number hash : ℕ) → 0 < code_of number hash
@@ -108,3 +109,16 @@ is_new paths slots path size count at v elsewhere all h = list_any_none (pointwi
 
     differs : (n : ℕ) → n < length paths → pointwise nat_eq path (get_or paths n []) ≡ false
     differs n lt = by n lt (pointwise nat_eq path (get_or paths n [])) refl
+
+kept : (paths : List (List ℕ)) (path : List ℕ) (t : Bool) → take (length paths) (if t then paths else paths ++ path ∷ []) ≡ paths
+kept paths path true = take-length paths
+kept paths path false = take-append_seam paths (path ∷ [])
+
+-- where one path more is added, those before stay
+pub paths_kept : (paths : List (List ℕ)) (path : List ℕ) → take (length paths) (with_path paths path) ≡ paths
+paths_kept paths path = kept paths path (list_any (pointwise nat_eq path) paths)
+
+-- a path behind others is added last
+pub added_last : (paths more : List (List ℕ)) (path : List ℕ) → with_paths paths (more ++ path ∷ []) ≡ with_path (with_paths paths more) path
+added_last paths [] path = refl
+added_last paths (next ∷ more) path = added_last (with_path paths next) more path

@@ -3,9 +3,19 @@ use Rattle.std.specs.Prelude.{◌≡◌, ◌≢◌, ℕ, ◌+◌, ◌*◌, ◌/�
 use Rattle.std.specs.Hash.FoldHasher as folding
 use Rattle.std.specs.Cmp.Lexicographic.{pointwise}
 use Rattle.std.specs.List.{list_any}
+use Rattle.plan_depfile.specs.Depfile.{with_paths}
 use Rattle.plan_depfile.specs.declared.place.Place.{Place}
 use Rattle.plan_depfile.specs.declared.place.Place.TheVariants.{Listed, Vacant}
 use Rattle.plan_depfile.specs.declared.slot_table.SlotTable.{SlotTable}
+
+-- the paths that were listed, and those that wait to be looked for among them
+pub record Found : Type 0 where
+  pub listed : List (List ℕ)
+  pub waiting : List (List ℕ)
+
+-- all paths, each once
+abbrev pub all_found : Found → List (List ℕ)
+all_found found = with_paths found.listed found.waiting
 
 -- the hash of a path
 unfoldable pub hash_of : List ℕ → ℕ

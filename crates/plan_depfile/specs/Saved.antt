@@ -1,12 +1,13 @@
 -- What a machine is put back to.
-use Rattle.std.specs.Prelude.{◌≡◌, length}
+use Rattle.std.specs.Prelude.{◌≡◌, [], length}
 use Rattle.plan_depfile.specs.declared.state.Machine.{Machine}
 use Rattle.plan_depfile.specs.declared.state.Saved.{Saved}
 
 -- this was kept of the machine
 pub record IsSaved (m : Machine) (saved : Saved) : Type 0 where
   pub word : saved.word.items ≡ m.word.items
-  pub paths : saved.paths ≡ length m.paths
+  pub paths : saved.paths ≡ length m.paths.listed
+  pub settled : m.paths.waiting ≡ []
   pub at : saved.at ≡ m.at
   pub held : saved.held ≡ m.held
   pub stand : saved.stand ≡ m.stand

@@ -1,33 +1,34 @@
 //! The paths found so far, each once.
 
 ghost use Rattle.std.specs.Prelude.{◌≡◌, [], OnOk, OnErr, length, take};
-ghost use Rattle.plan_depfile.specs.Depfile.{with_path};
-ghost use Rattle.plan_depfile.specs.PathSets.{ArePlaced, IsPlace};
+ghost use Rattle.plan_depfile.specs.Depfile.{with_path, with_paths};
+ghost use Rattle.plan_depfile.specs.PathSets.{ArePlaced, IsPlace, all_found};
 
 use crate::hash::{hash_of, start_of};
 use crate::lookup::find;
 use crate::place::Place;
-use crate::placing::{add, make_ready};
+use crate::placing::{AHEAD, add, make_ready, read_ahead};
 use crate::slot_table::SlotTable;
 use plan_text::RowList;
 use std::alloc::{AllocError, Global};
 use std::marker::Model;
 
-/// Paths in the order in which they were added, each once, which a contract sees as a list of texts. Their bytes are
-/// held one behind the other; each takes four bytes more, and eight to eleven for the slots by which it is found.
+/// Paths in the order in which they were added, each once. Their bytes are held one behind the other; each takes four
+/// bytes more, and about five to seven for the slots by which it is found. Some paths wait until there are several, so
+/// that all their slots are read at once; contracts see both.
 #[derive(Drop)]
 pub struct PathSet {
     paths: RowList<u8>,
+    waiting: RowList<u8>,
     table: SlotTable,
 }
 
 impl Model for PathSet {
-    ghost use Rattle.std.specs.Prelude.{List, ℕ};
-    ghost use Rattle.plan_depfile.specs.PathSets.{ArePlaced};
+    ghost use Rattle.plan_depfile.specs.PathSets.{ArePlaced, Found};
 
-    ghost Value = { List (List ℕ) };
+    ghost Value = { Found };
 
-    ghost view = { λ s. s.paths };
+    ghost view = { λ s. record { listed = s.paths; waiting = s.waiting } };
 
     ghost invariant = { λ s. ArePlaced s.paths s.table };
 }
@@ -55,6 +56,73 @@ fn insert_into(
     }
 }
 
+/// Adds paths, each unless it is there already. A refusal may leave some of them added.
+fn insert_all(
+    paths: &mut RowList<u8>,
+    table: &mut SlotTable,
+    more: &RowList<u8>,
+) -> Result<(), AllocError>
+    requires placed { ArePlaced paths.old table.old }
+    ensures placed { ArePlaced paths.new table.new }
+    ensures added { OnOk result (paths.new ≡ with_paths paths.old more.now) }
+    ensures stays { take (length paths.old) paths.new ≡ paths.old }
+{
+    table.ahead = read_ahead(more, 0, table);
+    for number in 0..more.len() {
+        insert_into(paths, table, more.row(number))?;
+    }
+    Ok(())
+}
+
+/// Adds the paths that wait. A refusal changes nothing.
+fn list_waiting(
+    paths: &mut RowList<u8>,
+    table: &mut SlotTable,
+    waiting: &mut RowList<u8>,
+) -> Result<(), AllocError>
+    requires placed { ArePlaced paths.old table.old }
+    ensures placed { ArePlaced paths.new table.new }
+    ensures listed { OnOk result (paths.new ≡ with_paths paths.old waiting.old) }
+    ensures none { OnOk result (waiting.new ≡ []) }
+    ensures same { OnErr result (paths.new ≡ paths.old) }
+    ensures still { OnErr result (waiting.new ≡ waiting.old) }
+    ensures stays { take (length paths.old) paths.new ≡ paths.old }
+{
+    let len = paths.len();
+    match insert_all(paths, table, waiting) {
+        Ok(()) => {
+            waiting.truncate(0);
+            Ok(())
+        }
+        Err(want) => {
+            cut(paths, table, len);
+            Err(want)
+        }
+    }
+}
+
+/// Has a path wait; if enough wait, they are added before.
+fn put_off(
+    paths: &mut RowList<u8>,
+    table: &mut SlotTable,
+    waiting: &mut RowList<u8>,
+    path: &[u8],
+) -> Result<(), AllocError>
+    requires placed { ArePlaced paths.old table.old }
+    ensures placed { ArePlaced paths.new table.new }
+    ensures added { OnOk result (with_paths paths.new waiting.new ≡ with_path (with_paths paths.old waiting.old) path.now) }
+    ensures same { OnErr result (with_paths paths.new waiting.new ≡ with_paths paths.old waiting.old) }
+    ensures stays { take (length paths.old) paths.new ≡ paths.old }
+{
+    if waiting.len() < AHEAD {
+        waiting.push(path)?;
+        return Ok(());
+    }
+    list_waiting(paths, table, waiting)?;
+    waiting.push(path)?;
+    Ok(())
+}
+
 /// Keeps the first paths, so many.
 fn cut(paths: &mut RowList<u8>, table: &SlotTable, len: usize)
     requires placed { ArePlaced paths.old table.now }
@@ -68,46 +136,64 @@ fn cut(paths: &mut RowList<u8>, table: &SlotTable, len: usize)
 impl PathSet {
     /// No path. It takes no memory.
     pub fn new(alloc: Global) -> Self
-        ensures { result ≡ [] }
+        ensures { result ≡ record { listed = []; waiting = [] } }
     {
         PathSet {
             paths: RowList::new(alloc),
+            waiting: RowList::new(alloc),
             table: SlotTable {
                 codes: Vec::new(alloc),
                 size: 0,
                 placed: 0,
                 room: 0,
+                ahead: 0,
             },
         }
     }
 
-    /// How many paths there are.
+    /// How many paths are listed.
     pub fn len(&self) -> usize
-        ensures { result ≡ length self.now }
+        ensures { result ≡ length self.now.listed }
     {
         self.paths.len()
     }
 
-    /// Adds a path that isn't there yet. A refusal changes nothing.
+    /// Adds a path unless it is there already. A refusal adds nothing.
     pub fn insert(&mut self, path: &[u8]) -> Result<(), AllocError>
-        ensures added { OnOk result (self.new ≡ with_path self.old path.now) }
-        ensures same { OnErr result (self.new ≡ self.old) }
+        ensures added { OnOk result (all_found self.new ≡ with_path (all_found self.old) path.now) }
+        ensures same { OnErr result (all_found self.new ≡ all_found self.old) }
+        ensures stays { take (length self.old.listed) self.new.listed ≡ self.old.listed }
     {
-        insert_into(&mut self.paths, &mut self.table, path)
+        put_off(&mut self.paths, &mut self.table, &mut self.waiting, path)
     }
 
-    /// Keeps the first paths, so many, and drops the others. Their slots stay filled until there are more slots.
+    /// Lists the paths that wait. A refusal changes nothing.
+    pub fn settle(&mut self) -> Result<(), AllocError>
+        ensures settled { OnOk result (self.new ≡ record { listed = all_found self.old; waiting = [] }) }
+        ensures same { all_found self.new ≡ all_found self.old }
+        ensures stays { take (length self.old.listed) self.new.listed ≡ self.old.listed }
+    {
+        list_waiting(&mut self.paths, &mut self.table, &mut self.waiting)
+    }
+
+    /// Keeps the first listed paths, so many, and drops the others and those that wait. Their slots stay filled until
+    /// there are more slots.
     pub fn truncate(&mut self, len: usize)
-        ensures { self.new ≡ take len self.old }
+        ensures { self.new ≡ record { listed = take len self.old.listed; waiting = [] } }
     {
         cut(&mut self.paths, &self.table, len);
+        self.waiting.truncate(0);
     }
 
-    /// The paths as rows.
+    /// The listed paths as rows.
     pub fn into_rows(self) -> RowList<u8>
-        ensures { result ≡ self }
+        ensures { result ≡ self.listed }
     {
-        let PathSet { paths, table: _ } = self;
+        let PathSet {
+            paths,
+            waiting: _,
+            table: _,
+        } = self;
         paths
     }
 }

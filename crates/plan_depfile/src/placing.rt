@@ -9,6 +9,9 @@ use crate::slot_table::SlotTable;
 use plan_text::RowList;
 use std::alloc::{AllocError, Global};
 
+/// For how many paths slots are read at once.
+pub const AHEAD: usize = 32;
+
 /// Fills an empty slot, or appends one.
 fn fill(slots: &mut Vec<u32>, at: usize, code: u32) -> Result<(), AllocError>
     requires { at ≤ length slots.old.items }
@@ -34,6 +37,29 @@ fn empty_slots(slots: &mut Vec<u32>, size: usize) -> Result<(), AllocError>
     Ok(())
 }
 
+/// Where the search for each of the next paths begins.
+fn next_starts(paths: &RowList<u8>, from: usize, size: usize) -> [usize; AHEAD] {
+    let mut starts = [0; AHEAD];
+    let mut number = from;
+    for start in starts.iter_mut() {
+        *start = start_of(size, hash_of(paths.row(number)));
+        number = number.saturating_add(1);
+    }
+    starts
+}
+
+/// Reads the slots at which the search for each of the next paths begins.
+pub fn read_ahead(paths: &RowList<u8>, from: usize, table: &SlotTable) -> u32 {
+    let starts = next_starts(paths, from, table.size);
+    let mut seen = 0;
+    for start in starts.iter() {
+        if *start < table.codes.len() {
+            seen ^= table.codes[*start];
+        }
+    }
+    seen
+}
+
 /// Gives the next path its slot.
 fn place_next(paths: &RowList<u8>, table: &mut SlotTable) -> Result<(), AllocError>
     requires next { table.old.placed < length paths.now }
@@ -56,6 +82,9 @@ fn place_rest(paths: &RowList<u8>, table: &mut SlotTable) -> Result<(), AllocErr
     ensures all { OnOk result (length paths.now ≤ table.new.placed) }
 {
     while table.placed < paths.len() {
+        if table.placed % AHEAD == 0 {
+            table.ahead = read_ahead(paths, table.placed, table);
+        }
         place_next(paths, table)?;
     }
     Ok(())
@@ -67,7 +96,7 @@ fn widen(paths: &RowList<u8>, table: &mut SlotTable) -> Result<(), AllocError>
     ensures placed { ArePlaced paths.now table.new }
 {
     let len = paths.len();
-    let room = len / 2 + 64;
+    let room = len / 2 + 57;
     let size = (len + room) / 7 * 8;
     empty_slots(&mut table.codes, size)?;
     table.size = size;

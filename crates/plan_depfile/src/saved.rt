@@ -1,6 +1,6 @@
 //! What a machine is put back to where memory runs out.
 
-ghost use Rattle.std.specs.Prelude.{◌≡◌, ◌≢◌, ℕ, List, Some, IfOk, length, take};
+ghost use Rattle.std.specs.Prelude.{◌≡◌, ◌≢◌, ℕ, List, Some, [], IfOk, length, take};
 ghost use Rattle.plan_depfile.specs.Machine.{answer};
 ghost use Rattle.plan_depfile.specs.Saved.{IsSaved};
 
@@ -9,10 +9,15 @@ use crate::state::{Machine, Saved};
 use std::alloc::AllocError;
 
 impl Machine {
-    /// What the machine can be put back to.
-    pub fn save(&self) -> Result<Saved, AllocError>
-        ensures { IfOk result (λ saved. IsSaved self.now saved) }
+    /// What the machine can be put back to. Paths that wait are listed before.
+    pub fn save(&mut self) -> Result<Saved, AllocError>
+        ensures saved { IfOk result (λ saved. IsSaved self.new saved) }
+        ensures same { (rest : List ℕ) → answer self.new rest ≡ answer self.old rest }
+        ensures place { self.new.at ≡ self.old.at }
+        ensures held { self.new.held ≡ self.old.held }
+        ensures fault { self.new.fault ≡ self.old.fault }
     {
+        self.paths.settle()?;
         let word = Vec::from_slice(self.alloc, &self.word)?;
         Ok(Saved {
             word,
@@ -27,7 +32,7 @@ impl Machine {
     /// Puts the machine back to what it was. Paths were only added since.
     pub fn restore(&mut self, saved: Saved)
         requires lasting { saved.fault ≢ Some DepFault.Memory }
-        ensures same { (was : Machine) → IsSaved was saved → take (length was.paths) self.old.paths ≡ was.paths → (rest : List ℕ) → answer self.new rest ≡ answer was rest }
+        ensures same { (was : Machine) → IsSaved was saved → take (length was.paths.listed) self.old.paths.listed ≡ was.paths.listed → (rest : List ℕ) → answer self.new rest ≡ answer was rest }
         ensures place { self.new.at ≡ saved.at }
         ensures held { self.new.held ≡ saved.held }
     {

@@ -12,4 +12,6 @@ pub struct SlotTable {
     pub placed: usize,
     /// How many slots may be filled before there are too few.
     pub room: usize,
+    /// What was read of slots that are looked at next, all at once, so that the processor needn't wait for each.
+    pub ahead: u32,
 }

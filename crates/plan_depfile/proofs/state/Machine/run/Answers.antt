@@ -1,7 +1,7 @@
 use Rattle.std.proofs.Common.{◌≤◌, ◌<◌, ◌+◌, ap, ◌∙◌, length, arith}
 use Rattle.std.specs.List.{prefix_len}
 use Rattle.plan_depfile.specs.Runs.{is_plain, past_run}
-use Rattle.plan_depfile.specs.Machine.{stand_at}
+use Rattle.plan_depfile.specs.Machine.{stand_at, paths_found}
 use Rattle.plan_depfile.proofs.RunLemmas.{run_answered}
 use Rattle.plan_depfile.proofs.state.Machine.run.Goals as goal
 
@@ -13,5 +13,5 @@ returns-clause-takes c rest =
     let plain : n ≤ prefix_len is_plain c.args.text.now = omega (arith, c.min-len.ensures, c.plain_len.ensures.len) in
     let within : n ≤ length c.args.text.now = omega (arith, c.min-len.ensures, c.plain_len.ensures.within) in
     run_answered c.args.self.now (record c.append.new.self { at = c.append.new.self.at + n }) n c.args.text.now rest (c.room-room.ensures.held some) (c.room-room.ensures.steady some) plain within
-    (ap (λ m. m.held) same) (ap (λ m. m.fault) same) (ap (λ m. m.at + n) same) (ap (λ m. m.paths) same)
+    (ap (λ m. m.held) same) (ap (λ m. m.fault) same) (ap (λ m. m.at + n) same) (ap (λ m. paths_found m) same)
     (c.in_ok-append.ensures.stand ∙ ap (λ run. past_run (stand_at c.args.self.now.stand c.args.self.now.word.items) run) c.split_at.ensures.front)
