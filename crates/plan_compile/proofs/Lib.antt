@@ -36,3 +36,4 @@ mod AssembleLemmas
 mod FitLemmas
 mod RefusalLemmas
 mod NameLemmas
+mod MatchLemmas

@@ -1,13 +1,16 @@
 -- The numbers of texts and pools, as the code keeps them, are those of the whole tables.
-use Rattle.std.proofs.Common.{◌≡◌, ℕ, zero, suc, ◌+◌, Bool, true, false, List, [], ◌∷◌, ◌++◌, drop, length, map, Option, Some, None, refl, sym, ap, subst, ◌∙◌, bytes_eq, arith}
+use Rattle.std.proofs.Common.{◌≡◌, ℕ, zero, suc, ◌+◌, Bool, true, false, List, [], ◌∷◌, ◌++◌, drop, length, map, Option, Some, None, refl, sym, ap, subst, ◌∙◌, bytes_eq, arith, cond}
 use Rattle.std.specs.Prelude.{◌==◌, flat_map, slice_get, if◌then◌else◌}
 use Rattle.std.proofs.lemmas.Bool.{eqb-true}
+use Rattle.std.proofs.lemmas.Slice.Eq.{bytes_eq-Decides}
+use Rattle.plan_scope.specs.declared.manifest.Pool.{Pool as ManifestPool}
 use Rattle.plan_scope.specs.declared.manifest.Edge.{Edge as ManifestEdge}
 use Rattle.plan_compile.specs.declared.numbers.Numbers.{Numbers}
 use Rattle.plan_compile.specs.Builds.{Build}
 use Rattle.plan_compile.specs.EdgeNumbers.{command_numbers, numbers_by, numbers_in}
-use Rattle.plan_compile.specs.Names.{Text, text_number, depfile_number, or_command, unless_empty, label_by, texts_by, texts_in, pool_by, pool_in}
+use Rattle.plan_compile.specs.Names.{Text, depth_of, text_number, depfile_number, or_command, unless_empty, label_by, texts_by, texts_in, pool_by, pool_in}
 use Rattle.plan_compile.specs.Numbering.{has, with_item, with_items}
+use Rattle.plan_compile.specs.PoolDepths.{or_zero}
 use Rattle.plan_compile.proofs.BuildLemmas.{drop_here, mapped_step}
 use Rattle.plan_compile.proofs.NumberingLemmas.{item_has, items_have, items_join, items_keep, texts_decide}
 
@@ -96,3 +99,27 @@ numbers_are old ts new pools e a b c q l k d p ha hb hc hq put hl hk more hd hp 
     same_numbers l (text_number new (or_command e.description e.command)) k (text_number new e.command) d (depfile_number new e.depfile) p (depfile_number pools e.pool)
     (first ∙ ap (λ (t : Text). text_number new (or_command t b)) ha ∙ ap (λ (t : Text). text_number new (or_command e.description t)) hb)
     (second ∙ ap (λ (t : Text). text_number new t) hb) (hd ∙ ap (λ (t : Text). depfile_number new t) hc) (hp ∙ ap (λ (t : Text). depfile_number pools t) hq)
+
+-- ---- the depths of pools
+
+-- texts are equal either way round
+texts_turned : (a b : Text) → bytes_eq a b ≡ bytes_eq b a
+texts_turned a b = by_test (bytes_eq a b) (bytes_eq b a) (λ h. (bytes_eq-Decides b a).1 (sym ((bytes_eq-Decides a b).0 h))) (λ h. (bytes_eq-Decides a b).1 (sym ((bytes_eq-Decides b a).0 h)))
+  where
+    by_test : (x y : Bool) → (x ≡ true → y ≡ true) → (y ≡ true → x ≡ true) → x ≡ y
+    by_test true true h g = refl
+    by_test true false h g = sym (h refl)
+    by_test false true h g = g refl
+    by_test false false h g = refl
+
+-- one pool more, in front of those whose depths are known
+pub depth_step : (pools : List ManifestPool) (n : ℕ) (p : ManifestPool) (key name : Text) (old new : Option ℕ) → slice_get pools n ≡ Some p → key ≡ p.name
+    → new ≡ cond (bytes_eq key name) (Some p.depth) old → or_zero old ≡ depth_of (drop (n + 1) pools) name → or_zero new ≡ depth_of (drop n pools) name
+depth_step pools n p key name old new at named is h =
+    let turned : bytes_eq key name ≡ bytes_eq name p.name = ap (λ (t : Text). bytes_eq t name) named ∙ texts_turned p.name name in
+    ap or_zero (is ∙ ap (λ (b : Bool). cond b (Some p.depth) old) turned)
+    ∙ by_test (bytes_eq name p.name) ∙ ap (λ (ps : List ManifestPool). depth_of ps name) (sym (drop_here pools n p at))
+  where
+    by_test : (b : Bool) → or_zero (cond b (Some p.depth) old) ≡ (if b then p.depth else depth_of (drop (n + 1) pools) name)
+    by_test true = refl
+    by_test false = h

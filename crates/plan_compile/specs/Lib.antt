@@ -17,3 +17,4 @@ pub mod Assembling
 pub mod Told
 pub mod Faults
 pub mod Refusals
+pub mod PoolDepths

@@ -129,7 +129,7 @@ struct Tables {
 /// The texts, files, pools and defaults of a manifest.
 fn tables_of<'a, 'b>(
     alloc: Global,
-    manifest: &Manifest,
+    manifest: &'a Manifest,
     graph: &Graph<'b>,
     names: &Names<'a>,
 ) -> Result<Tables, AllocError>

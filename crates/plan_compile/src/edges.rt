@@ -8,13 +8,13 @@ ghost use Rattle.plan_compile.specs.Images.{shared, sort_of, used_bodies};
 ghost use Rattle.plan_compile.specs.Numbering.{with_item};
 ghost use Rattle.plan_compile.specs.Refusals.{RefusesCodes};
 
-use crate::bodies::Bodies;
+use crate::bodies::{Bodies, operands_of};
 use crate::build::Build;
 use crate::edge_wiring::code;
 use crate::fault::CompileFault;
 use crate::numbers::Numbers;
 use crate::slots::Plan;
-use plan_image::{Edge, EdgeCode, Edges, Instr, Sort, split};
+use plan_image::{Edge, EdgeCode, Edges, Instr, Sort};
 use plan_text::{Items, Memory};
 use std::alloc::{AllocError, Global};
 
@@ -59,8 +59,8 @@ fn push_edge<'a>(
     ensures edges { OnOk result (edges.new ≡ edges.old ++ edge_in numbers (shared bodies.new code.now) build.now ∷ []) }
     ensures few { OnOk result (length bodies.new ≤ length bodies.old + 1) }
 {
-    let (body, operands) = split(alloc, code)?;
-    let number = bodies.put(alloc, body)?;
+    let number = bodies.put(alloc, code)?;
+    let operands = operands_of(alloc, code)?;
     let edge = edge_in(alloc, numbers, EdgeCode::Shared(number, operands), build)?;
     edges.push(alloc, &edge)?;
     Ok(())

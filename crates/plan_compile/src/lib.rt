@@ -11,6 +11,7 @@
 #![tactic(auto)]
 
 mod bodies;
+mod body_table;
 mod build;
 mod command;
 mod compiling;

@@ -3,13 +3,15 @@
 ghost use Rattle.std.specs.Prelude.{All, ◌≡◌, ◌≤◌, ◌+◌, ◌++◌, ◌∷◌, [], List, Some, ℕ, bytes_eq, IfOk, length, map, OnOk, option_map, slice_get};
 ghost use Rattle.plan_scope.specs.Edges.{max_depth};
 ghost use Rattle.plan_compile.specs.EdgeNumbers.{command_numbers, numbers_in};
+ghost use Rattle.plan_scope.specs.declared.manifest.Pool.{Pool as ManifestPool};
+ghost use Rattle.plan_compile.specs.PoolDepths.{AreDepths};
 ghost use Rattle.plan_compile.specs.Names.{all_texts, declared, depfile_number, depth_of, or_command, pool_in, text_number, texts_in, unless_empty, used_pools};
 ghost use Rattle.plan_compile.specs.Numbering.{with_item, with_items};
 
 use crate::build::{Build, word};
 use crate::key::Key;
 use crate::numbers::Numbers;
-use indexmap::IndexSet;
+use indexmap::{IndexMap, IndexSet};
 use plan_image::Pool;
 use plan_scope::Edge;
 use plan_text::{Items, RowList};
@@ -222,33 +224,48 @@ pub(crate) fn names_of<'a>(alloc: Global, builds: &[Build<'a>]) -> Result<Names<
     })
 }
 
-/// The depth that is declared of a name.
-fn depth_of(pools: &[plan_scope::Pool], name: &[u8]) -> u32
+/// The depths of pools by their names; of a name that is declared twice the first one's.
+fn depths_of<'a>(
+    alloc: Global,
+    pools: &'a [plan_scope::Pool],
+) -> Result<IndexMap<Key<'a>, u32>, AllocError>
     requires { All (λ p. p.depth ≤ max_depth) pools.now }
-    ensures { result ≡ depth_of pools.now name.now }
+    ensures { IfOk result (AreDepths pools.now) }
 {
-    for pool in pools {
-        if name == pool.name.as_slice() {
-            return pool.depth as u32;
-        }
+    let mut depths = IndexMap::new(alloc);
+    depths.reserve(pools.len())?;
+    for number in (0..pools.len()).rev() {
+        let pool = &pools[number];
+        let name = pool.name.as_slice();
+        depths.insert(Key { bytes: name }, pool.depth as u32)?;
     }
-    0
+    Ok(depths)
 }
 
-/// Appends a pool with the depth that is declared.
+/// The depth of a name, 0 where there is none.
+fn depth_in<'a>(depths: &IndexMap<Key<'a>, u32>, name: &'a [u8]) -> u32
+    ensures { (pools : List ManifestPool) → AreDepths pools depths.now → result ≡ depth_of pools name.now }
+{
+    match depths.get(&Key { bytes: name }) {
+        Some(depth) => *depth,
+        None => 0,
+    }
+}
+
+/// Appends the pool of this number, with its depth.
 fn push_pool<'a>(
     alloc: Global,
     pools: &mut Vec<Pool>,
-    known: &[plan_scope::Pool],
+    depths: &IndexMap<Key<'a>, u32>,
     names: &Texts<'a>,
     number: usize,
 ) -> Result<(), AllocError>
-    requires { All (λ p. p.depth ≤ max_depth) known.now }
-    ensures { (name : List ℕ) → slice_get names.now number ≡ Some name → OnOk result (pools.new.items ≡ pools.old.items ++ declared known.now name ∷ []) }
+    ensures { (known : List ManifestPool) (name : List ℕ) → AreDepths known depths.now → slice_get names.now number ≡ Some name
+        → OnOk result (pools.new.items ≡ pools.old.items ++ declared known name ∷ []) }
 {
     match names.get(number) {
         Some(name) => {
-            let depth = depth_of(known, name);
+            let depth = depth_in(depths, name);
             let name = Items::new(Vec::from_slice(alloc, name)?);
             pools.push(Pool { name, depth })?;
             Ok(())
@@ -260,15 +277,16 @@ fn push_pool<'a>(
 /// The pools of an image, of which these are the names.
 pub(crate) fn pool_table<'a>(
     alloc: Global,
-    known: &[plan_scope::Pool],
+    known: &'a [plan_scope::Pool],
     names: &Texts<'a>,
 ) -> Result<Items<Pool>, AllocError>
     requires { All (λ p. p.depth ≤ max_depth) known.now }
     ensures { IfOk result (λ pools. pools ≡ map (declared known.now) names.now) }
 {
+    let depths = depths_of(alloc, known)?;
     let mut pools = Vec::with_capacity(alloc, names.len())?;
     for number in 0..names.len() {
-        push_pool(alloc, &mut pools, known, names, number)?;
+        push_pool(alloc, &mut pools, &depths, names, number)?;
     }
     Ok(Items::new(pools))
 }

@@ -1,0 +1,90 @@
+-- A code and the key of its body, from the front; and a body that is there already.
+use Rattle.std.proofs.Common.{◌≡◌, ◌≢◌, ◌↔◌, ℕ, zero, suc, ◌+◌, ◌*◌, ◌<◌, Bool, true, false, List, [], ◌∷◌, ◌++◌, length, drop, map, Option, Some, None, refl, sym, ap, subst, ◌∙◌, arith}
+use Rattle.std.specs.Prelude.{slice_get, option_map, if◌then◌else◌}
+use Rattle.std.proofs.lemmas.Option.{slice_get-map}
+use Rattle.plan_image.specs.declared.instr.Instr.{Instr}
+use Rattle.plan_image.specs.declared.instr.BodyInstr.{BodyInstr}
+use Rattle.plan_image.specs.Bodies.{body_of, leave_open}
+use Rattle.plan_compile.specs.BodyKeys.{Body, numbers_of, key_of, same_body}
+use Rattle.plan_compile.specs.Numbering.{has, number, with_item}
+use Rattle.plan_compile.proofs.BodyKeyLemmas.{bodies_decide, body_back, body_at}
+use Rattle.plan_compile.proofs.BuildLemmas.{drop_here, get_at}
+use Rattle.plan_compile.proofs.ListLemmas.{or_left, or_right, some_is}
+use Rattle.plan_compile.proofs.NumberingLemmas.{leads, item_has}
+
+-- ---- from the front
+
+pub key_long : (code : List Instr) → length (key_of (body_of code)) ≡ 2 * length code
+key_long [] = refl
+key_long (i ∷ is) = let rest = key_long is in omega (arith, rest)
+
+-- the two numbers at a place, and those behind
+two_here : (key : List ℕ) (i k n : ℕ) → slice_get key (2 * i) ≡ Some k → slice_get key (2 * i + 1) ≡ Some n → drop (2 * i) key ≡ k ∷ n ∷ drop (2 * (i + 1)) key
+two_here key i k n first second =
+    let same : 2 * i + 1 + 1 ≡ 2 * (i + 1) = omega arith in
+    drop_here key (2 * i) k first ∙ ap (λ (ns : List ℕ). k ∷ ns) (drop_here key (2 * i + 1) n second) ∙ ap (λ (j : ℕ). k ∷ n ∷ drop j key) same
+
+code_here : (code : List Instr) (i : ℕ) (x : Instr) → slice_get code i ≡ Some x
+    → key_of (body_of (drop i code)) ≡ (numbers_of (leave_open x)).0 ∷ (numbers_of (leave_open x)).1 ∷ key_of (body_of (drop (i + 1) code))
+code_here code i x at = ap (λ (is : List Instr). key_of (body_of is)) (drop_here code i x at)
+
+-- the numbers at a place are those of the instruction
+pub step_on : (key : List ℕ) (code : List Instr) (i k n : ℕ) (x : Instr) → slice_get key (2 * i) ≡ Some k → slice_get key (2 * i + 1) ≡ Some n → slice_get code i ≡ Some x
+    → (k, n) ≡ numbers_of (leave_open x) → (drop (2 * (i + 1)) key ≡ key_of (body_of (drop (i + 1) code))) ↔ (drop (2 * i) key ≡ key_of (body_of (drop i code)))
+step_on key code i k n x first second at same =
+    let left : drop (2 * i) key ≡ k ∷ n ∷ drop (2 * (i + 1)) key = two_here key i k n first second in
+    let right = code_here code i x at in
+    let one : k ≡ (numbers_of (leave_open x)).0 = ap (λ (p : ℕ × ℕ). p.0) same in
+    let two : n ≡ (numbers_of (leave_open x)).1 = ap (λ (p : ℕ × ℕ). p.1) same in
+    (λ h. cc, λ h. cc)
+
+-- they aren't
+pub step_off : (key : List ℕ) (code : List Instr) (i k n : ℕ) (x : Instr) → slice_get key (2 * i) ≡ Some k → slice_get key (2 * i + 1) ≡ Some n → slice_get code i ≡ Some x
+    → ((k, n) ≡ numbers_of (leave_open x) → ⊥) → drop (2 * i) key ≡ key_of (body_of (drop i code)) → ⊥
+step_off key code i k n x first second at other h =
+    let left : drop (2 * i) key ≡ k ∷ n ∷ drop (2 * (i + 1)) key = two_here key i k n first second in
+    let right = code_here code i x at in
+    let one : k ≡ (numbers_of (leave_open x)).0 = cc in
+    let two : n ≡ (numbers_of (leave_open x)).1 = cc in
+    let both : (k, n) ≡ numbers_of (leave_open x) = ap (λ (a : ℕ). (a, n)) one ∙ ap (λ (b : ℕ). ((numbers_of (leave_open x)).0, b)) two in
+    other both
+
+-- ---- a body that is there
+
+module _ {K : Type 0} (items : K → List ℕ) where
+  pub key_there : (keys : List K) (bodies : List Body) (n : ℕ) (k : K) (code : List Instr) → map items keys ≡ map key_of bodies → slice_get keys n ≡ Some k
+      → (items k ≡ key_of (body_of code)) ↔ (slice_get bodies n ≡ Some (body_of code))
+  key_there keys bodies n k code all at =
+      let keyed : option_map key_of (slice_get bodies n) ≡ Some (items k) =
+      sym (slice_get-map key_of bodies n) ∙ ap (λ (ks : List (List ℕ)). slice_get ks n) (sym all) ∙ slice_get-map items keys n ∙ ap (option_map items) at in
+      by_body (slice_get bodies n) keyed
+    where
+      by_body : (o : Option Body) → option_map key_of o ≡ Some (items k) → (items k ≡ key_of (body_of code)) ↔ (o ≡ Some (body_of code))
+      by_body None h = absurd cc
+      by_body (Some b) h =
+          let is : key_of b ≡ items k = some_is (key_of b) (items k) h in
+          (λ e. ap (λ (x : Body). Some x) (sym (body_back b) ∙ ap body_at (is ∙ e) ∙ body_back (body_of code)), λ e. sym is ∙ ap key_of (some_is b (body_of code) e))
+
+  pub none_there : (keys : List K) (bodies : List Body) (n : ℕ) (b : Body) → map items keys ≡ map key_of bodies → slice_get keys n ≡ None → slice_get bodies n ≡ Some b → ⊥
+  none_there keys bodies n b all at h =
+      let keyed : option_map key_of (slice_get bodies n) ≡ None =
+      sym (slice_get-map key_of bodies n) ∙ ap (λ (ks : List (List ℕ)). slice_get ks n) (sym all) ∙ slice_get-map items keys n ∙ ap (option_map items) at in
+      let other : Some (key_of b) ≡ None = ap (option_map key_of) (sym h) ∙ keyed in
+      absurd cc
+
+has_there : (bodies : List Body) (n : ℕ) (b : Body) → slice_get bodies n ≡ Some b → has same_body bodies b ≡ true
+has_there [] n b h = absurd cc
+has_there (c ∷ bodies) zero b h = or_left (same_body b c) (has same_body bodies b) (ap (λ (x : Body). same_body b x) (some_is c b h) ∙ bodies_decide.self b)
+has_there (c ∷ bodies) (suc n) b h = or_right (same_body b c) (has same_body bodies b) (has_there bodies n b h)
+
+-- a body that is there isn't put again
+pub stays : (bodies : List Body) (n : ℕ) (b : Body) → slice_get bodies n ≡ Some b → bodies ≡ with_item same_body bodies b
+stays bodies n b h = ap (λ (t : Bool). if t then bodies else bodies ++ b ∷ []) (sym (has_there bodies n b h))
+
+-- a body has the number under which it was put
+pub first_there : (old new : List Body) (n : ℕ) (b c : Body) → new ≡ with_item same_body old b → n ≡ number same_body b new → slice_get new n ≡ Some c → n ≡ number same_body c new
+first_there old new n b c put is at =
+    let there : has same_body new b ≡ true = subst (λ (bs : List Body). has same_body bs b ≡ true) (sym put) (item_has same_body bodies_decide old b) in
+    let found : slice_get new n ≡ Some b = ap (λ (k : ℕ). slice_get new k) is ∙ leads same_body bodies_decide b new there in
+    let same : b ≡ c = some_is b c (sym found ∙ at) in
+    is ∙ ap (λ (x : Body). number same_body x new) same
