@@ -5,45 +5,53 @@ use plan_machine::{Event, Reply};
 use std::alloc::{AllocError, Global};
 use std::test::Fail;
 
-/// What an event says, in numbers: its sort, its edge, and what comes with it.
-type Said = (u8, u32, u64);
+/// What an event says.
+#[derive(Clone, Copy, Debug, PartialEq, Eq)]
+enum Said {
+    Start(u32),
+    Skip(u32, u32),
+    Stop(u32),
+    Step(u32),
+    Stamp(u32, u64),
+    Exit(u32, u8),
+    Other(u32),
+}
 
 /// What is put into the journal.
 const ALL: [Said; 8] = [
-    (0, 0, 0),
-    (3, 0, 0),
-    (4, 0, 7),
-    (5, 1, 3),
-    (1, 2, 1),
-    (2, 3, 0),
-    (4, 4, 9),
-    (6, 5, 0),
+    Said::Start(0),
+    Said::Step(0),
+    Said::Stamp(0, 7),
+    Said::Exit(1, 3),
+    Said::Skip(2, 1),
+    Said::Stop(3),
+    Said::Stamp(4, 9),
+    Said::Other(5),
 ];
 
 /// The event that says so.
 fn event(said: Said) -> Event {
-    let (sort, edge, more) = said;
-    match sort {
-        0 => Event::Start(edge),
-        1 => Event::Skip(edge, more as u32),
-        2 => Event::Stop(edge),
-        3 => Event::Step(edge),
-        4 => Event::Reply(edge, Reply::Stamp(more)),
-        5 => Event::Reply(edge, Reply::Exit(more as u8)),
-        _ => Event::Reply(edge, Reply::Nothing),
+    match said {
+        Said::Start(edge) => Event::Start(edge),
+        Said::Skip(edge, wait) => Event::Skip(edge, wait),
+        Said::Stop(edge) => Event::Stop(edge),
+        Said::Step(edge) => Event::Step(edge),
+        Said::Stamp(edge, stamp) => Event::Reply(edge, Reply::Stamp(stamp)),
+        Said::Exit(edge, status) => Event::Reply(edge, Reply::Exit(status)),
+        Said::Other(edge) => Event::Reply(edge, Reply::Nothing),
     }
 }
 
 /// What an event says.
-fn said(event: &Event) -> Said {
+fn said_by(event: &Event) -> Said {
     match event {
-        Event::Start(edge) => (0, *edge, 0),
-        Event::Skip(edge, wait) => (1, *edge, u64::from(*wait)),
-        Event::Stop(edge) => (2, *edge, 0),
-        Event::Step(edge) => (3, *edge, 0),
-        Event::Reply(edge, Reply::Stamp(stamp)) => (4, *edge, *stamp),
-        Event::Reply(edge, Reply::Exit(status)) => (5, *edge, u64::from(*status)),
-        Event::Reply(edge, _) => (6, *edge, 0),
+        Event::Start(edge) => Said::Start(*edge),
+        Event::Skip(edge, wait) => Said::Skip(*edge, *wait),
+        Event::Stop(edge) => Said::Stop(*edge),
+        Event::Step(edge) => Said::Step(*edge),
+        Event::Reply(edge, Reply::Stamp(stamp)) => Said::Stamp(*edge, *stamp),
+        Event::Reply(edge, Reply::Exit(status)) => Said::Exit(*edge, *status),
+        Event::Reply(edge, _) => Said::Other(*edge),
     }
 }
 
@@ -63,7 +71,7 @@ fn read(alloc: Global, journal: &Journal) -> Result<Vec<Said>, AllocError> {
     for _ in 0..journal.len() {
         match rest.split_first()? {
             Some((event, behind)) => {
-                all.push(said(&event))?;
+                all.push(said_by(&event))?;
                 rest = behind;
             }
             None => return Ok(all),
@@ -98,9 +106,9 @@ fn another_takes_its_place(rt: HostRuntime) -> Result<(), Fail> {
     let mut journal = full(rt.alloc())?;
     journal.remove_last();
     journal.remove_last();
-    journal.push(event((4, 6, 11)))?;
+    journal.push(event(Said::Stamp(6, 11)))?;
     let all = read(rt.alloc(), &journal)?;
-    assert_eq!(rt; all.last(), Some(&(4u8, 6u32, 11u64)));
+    assert_eq!(rt; all.last(), Some(&Said::Stamp(6, 11)));
     assert_eq!(rt; all.len(), 7);
     Ok(())
 }
