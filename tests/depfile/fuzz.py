@@ -18,7 +18,7 @@ import depfiles
 
 HERE = pathlib.Path(__file__).resolve().parent
 ROOT = HERE.parent.parent
-CRATES = "plan_text: memchr thiserror\nplan_depfile: plan_text indexmap\ndep_read: plan_depfile\n"
+CRATES = "plan_text: memchr thiserror\nplan_depfile: plan_text\ndep_read: plan_depfile\n"
 FRONTS = [b"", b"a: ", b"a:b\n", b"  ", b"# "]
 WORDS = [b"a", b"b", b"./a", b"../b", b"a//b", b"/", b"..", b"x" * 40, b" ", b"\t", b"\\", b"\n", b"\r", b"\r\n", b"\\\n",
          b"\\\r\n", b"$", b"$$", b":", b"#", b"\\ ", b"\\#", b"\\:", b"\\\\", b"\0", b"\xff", b"a: ", b" c", b"\n d:"]

@@ -1,0 +1,27 @@
+"""Builds a program over some crates of this repository, in a folder of its own."""
+import pathlib
+import shutil
+import subprocess
+from collections.abc import Sequence
+
+HERE = pathlib.Path(__file__).resolve().parent
+ROOT = HERE.parent
+
+
+def built(home: pathlib.Path, source: str, crates: Sequence[str]) -> pathlib.Path:
+    """The program of a source beside this file, proved and built (some minutes from nothing).
+
+    The crates have to be all that the program needs, its own last."""
+    lines = (ROOT / "crates.txt").read_text().splitlines()
+    wanted = [line for line in lines if line.partition(":")[0] in crates]
+    (home / "crates.txt").write_text("\n".join([*wanted, f"program: {' '.join(crates)}", ""]))
+    shutil.copy(ROOT / "HANDLES", home / "HANDLES")
+    for crate in crates:
+        shutil.copytree(ROOT / "crates" / crate, home / "crates" / crate)
+    program = home / "crates" / "program"
+    (program / "src").mkdir(parents=True)
+    shutil.copy(HERE / source, program / "src" / "main.rt")
+    (program / "stdin").write_bytes(b"")
+    (program / "record").write_bytes(b"")
+    subprocess.run(["rt", "run"], cwd=program, check=True, stdout=subprocess.DEVNULL)
+    return program / "out" / "program"
