@@ -1,13 +1,13 @@
 //! The paths found so far, each once.
 
-ghost use Rattle.std.specs.Prelude.{◌≡◌, [], OnOk, OnErr, length, take};
+ghost use Rattle.std.specs.Prelude.{◌≡◌, [], OnOk, OnErr, length, take, true};
 ghost use Rattle.plan_depfile.specs.Depfile.{with_path, with_paths};
 ghost use Rattle.plan_depfile.specs.PathSets.{ArePlaced, IsPlace, all_found};
 
 use crate::hash::{hash_of, start_of};
 use crate::lookup::find;
 use crate::place::Place;
-use crate::placing::{AHEAD, add, make_ready, read_ahead};
+use crate::placing::{AHEAD, FEW_SLOTS, add, make_ready, read_ahead};
 use crate::slot_table::SlotTable;
 use plan_text::RowList;
 use std::alloc::{AllocError, Global};
@@ -33,7 +33,7 @@ impl Model for PathSet {
     ghost invariant = { λ s. ArePlaced s.paths s.table };
 }
 
-/// Adds a path that isn't there yet.
+/// Adds a path unless it is there already.
 fn insert_into(
     paths: &mut RowList<u8>,
     table: &mut SlotTable,
@@ -101,7 +101,14 @@ fn list_waiting(
     }
 }
 
-/// Has a path wait; if enough wait, they are added before.
+/// Whether slots are so few that each is at hand soon, and no path waits.
+fn are_at_hand(table: &SlotTable, waiting: &RowList<u8>) -> bool
+    ensures { result ≡ true → waiting.now ≡ [] }
+{
+    (table.size < FEW_SLOTS) & (waiting.len() == 0)
+}
+
+/// Adds a path, unless it is there already, or has it wait; if enough wait, they are added before.
 fn put_off(
     paths: &mut RowList<u8>,
     table: &mut SlotTable,
@@ -114,6 +121,10 @@ fn put_off(
     ensures same { OnErr result (with_paths paths.new waiting.new ≡ with_paths paths.old waiting.old) }
     ensures stays { take (length paths.old) paths.new ≡ paths.old }
 {
+    if are_at_hand(table, waiting) {
+        insert_into(paths, table, path)?;
+        return Ok(());
+    }
     if waiting.len() < AHEAD {
         waiting.push(path)?;
         return Ok(());

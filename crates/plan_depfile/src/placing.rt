@@ -12,6 +12,9 @@ use std::alloc::{AllocError, Global};
 /// For how many paths slots are read at once.
 pub const AHEAD: usize = 32;
 
+/// Of fewer slots, less than 128 KiB, none is read ahead.
+pub const FEW_SLOTS: usize = 32_768;
+
 /// Fills an empty slot, or appends one.
 fn fill(slots: &mut Vec<u32>, at: usize, code: u32) -> Result<(), AllocError>
     requires { at ≤ length slots.old.items }
@@ -50,6 +53,9 @@ fn next_starts(paths: &RowList<u8>, from: usize, size: usize) -> [usize; AHEAD] 
 
 /// Reads the slots at which the search for each of the next paths begins.
 pub fn read_ahead(paths: &RowList<u8>, from: usize, table: &SlotTable) -> u32 {
+    if table.size < FEW_SLOTS {
+        return 0;
+    }
     let starts = next_starts(paths, from, table.size);
     let mut seen = 0;
     for start in starts.iter() {
