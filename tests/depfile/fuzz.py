@@ -1,6 +1,7 @@
 #!/usr/bin/env python3
 """Compares what plan_depfile says of depfiles with the plain reading of depfiles.py: random texts cut at random places,
-and what gcc and clang write for sources and headers with blanks, `#`, `$` and colons in their names.
+rules of up to 60,000 paths, and what gcc and clang write for sources and headers with blanks, `#`, `$` and colons in
+their names.
 
 The program of dep_read.rt.txt beside this file is proved and built in a copy of the two crates (some minutes from nothing).
 The last line is `N passed, M failed`.
@@ -22,6 +23,7 @@ CRATES = "plan_text: memchr thiserror\nplan_depfile: plan_text\ndep_read: plan_d
 FRONTS = [b"", b"a: ", b"a:b\n", b"  ", b"# "]
 WORDS = [b"a", b"b", b"./a", b"../b", b"a//b", b"/", b"..", b"x" * 40, b" ", b"\t", b"\\", b"\n", b"\r", b"\r\n", b"\\\n",
          b"\\\r\n", b"$", b"$$", b":", b"#", b"\\ ", b"\\#", b"\\:", b"\\\\", b"\0", b"\xff", b"a: ", b" c", b"\n d:"]
+MANY = 24  # texts of many paths
 NAMES = ["plain.h", "with blank.h", "with#hash.h", "with$dollar.h", "with:colon.h", "tab\there.h", "back\\slash.h", "é.h",
          "two  blanks.h", "$$.h", "a\\ b.h"]
 
@@ -43,6 +45,12 @@ def built(home):
 
 def random_text(rng):
     return rng.choice(FRONTS) + b"".join(rng.choice(WORDS) for _ in range(rng.randrange(24)))
+
+
+def many_paths(rng):
+    """A rule of many short paths, of which some stand more than once: they are told apart by hash."""
+    count = rng.choice([60, 1_000, 60_000])
+    return b"o:" + b"".join(b" %x" % rng.randrange(2 * count) for _ in range(count))
 
 
 def compilers_texts(home):
@@ -106,6 +114,7 @@ def main():
         real = list(compilers_texts(home / "sources"))
         print(f"{len(real)} depfiles of compilers")
         texts = [text for _, _, text in real] + [random_text(rng) for _ in range(asked.count)]
+        texts += [many_paths(rng) for _ in range(MANY)]
         passed, wrong = compare(program, home / "run", texts, rng)
     for text, said in wrong[:20]:
         print(f"{text!r}\n  program: {said}\n  reading: {depfiles.read(text)}")
