@@ -39,7 +39,7 @@ def counted(trace: pathlib.Path) -> tuple[int, int]:
 
 
 def refused(trace: pathlib.Path, other: pathlib.Path) -> None:
-    """The same trace, with an event in front that is enabled in no image: the whole of it is read before that is seen."""
+    """The same trace, with an event in front that is enabled in no image: all of it is read before that is seen."""
     with trace.open("rb") as lines, other.open("wb") as copy:
         copy.write(lines.readline())
         line = lines.readline()
