@@ -35,7 +35,7 @@ JOBS = {"stat": "1", "spawn": "1", "write": "1", "thread": "2", "memory": "1"}
 CAUSES = {"stat": ("stat fault",), "spawn": ("not started",), "write": ("not started", "record fault"), "thread": (),
           "memory": ("not started", "record fault")}
 REFUSALS = {f"plan: {number}\n" for number in ("22 Memory", "66 Memory", "86 Memory", "111 Memory", "120 NoMemory",
-                                               "131 Memory")}
+                                               "121 NoLane", "131 Memory")}
 # What a run says in which one call fails: mid failed and out was skipped, or out failed behind mid.
 FIRST = re.compile(r"FAILED mid: (.+)\nSKIPPED out: needs mid\n")
 SECOND = re.compile(r"\[1/2\] sh gen\.sh\nFAILED out: (.+)\n")
