@@ -26,15 +26,16 @@ fn push_operand(operands: &mut Vec<u32>, instr: Instr) -> Result<(), AllocError>
     }
 }
 
-/// The operands that the body of a code leaves open, in order.
-pub(crate) fn operands_of(alloc: Global, code: &[Instr]) -> Result<Items<u32>, AllocError>
-    ensures { IfOk result (λ operands. operands ≡ operands_of code.now) }
+/// Puts the operands that the body of a code leaves open into a buffer, in order.
+pub(crate) fn put_operands(operands: &mut Vec<u32>, code: &[Instr]) -> Result<(), AllocError>
+    ensures { OnOk result (operands.new.items ≡ operands_of code.now) }
 {
-    let mut operands = Vec::with_capacity(alloc, code.len())?;
+    operands.clear();
+    operands.reserve(code.len())?;
     for &instr in code {
-        push_operand(&mut operands, instr)?;
+        push_operand(operands, instr)?;
     }
-    Ok(Items::new(operands))
+    Ok(())
 }
 
 /// The bodies of codes, each once, in the order of first use. Most codes have the body of the one before, which is looked

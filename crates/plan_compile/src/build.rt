@@ -1,6 +1,6 @@
 //! The edges of a manifest, each with its files by their numbers.
 
-ghost use Rattle.std.specs.Prelude.{◌≡◌, ◌<◌, ◌≤◌, All, IfOk, drop, filter, get_or, length, not, slice_get, slice_index, take};
+ghost use Rattle.std.specs.Prelude.{◌≡◌, ◌<◌, ◌≤◌, ◌++◌, All, IfOk, OnOk, drop, filter, get_or, length, not, slice_get, slice_index, slice_range, take};
 ghost use Rattle.plan_scope.specs.declared.manifest.Edge.{Edge as EdgeMeant};
 ghost use Rattle.plan_graph.specs.Graph.{IsGraph};
 ghost use Rattle.plan_graph.specs.Files.{producer_at};
@@ -17,19 +17,31 @@ use std::marker::Model;
 #[derive(Drop)]
 pub(crate) struct Build<'a> {
     edge: &'a Edge,
-    outputs: Items<u32>,
-    named: Items<u32>,
-    order_only: Items<u32>,
-    waits: Items<u32>,
+    /// The outputs, the named inputs, the order-only ones and the waits, one list behind the other.
+    numbers: Vec<u32>,
+    named_at: usize,
+    order_only_at: usize,
+    waits_at: usize,
     rank: u32,
 }
 
 impl<'a> Model for Build<'a> {
+    ghost use Rattle.std.specs.Prelude.{◌≤◌, drop, length, slice_range};
     ghost use Rattle.plan_compile.specs.Builds.{Build};
 
     ghost Value = { Build };
 
-    ghost view = { λ b. record { edge = b.edge.now; outputs = b.outputs; named = b.named; order_only = b.order_only; waits = b.waits; rank = b.rank } };
+    ghost view = { λ b. record { edge = b.edge.now; outputs = slice_range b.numbers.items 0 b.named_at; named = slice_range b.numbers.items b.named_at b.order_only_at; order_only = slice_range b.numbers.items b.order_only_at b.waits_at; waits = drop b.waits_at b.numbers.items; rank = b.rank } };
+
+    ghost invariant = { λ b. (b.named_at ≤ b.order_only_at) × (b.order_only_at ≤ b.waits_at) × (b.waits_at ≤ length b.numbers.items) };
+}
+
+/// The numbers from a place on, up to another.
+fn cut(numbers: &[u32], start: usize, end: usize) -> &[u32]
+    requires { (start ≤ end) × (end ≤ length numbers.now) }
+    ensures { result.now ≡ slice_range numbers.now start end }
+{
+    &numbers[start..end]
 }
 
 impl<'a> Build<'a> {
@@ -46,28 +58,28 @@ impl<'a> Build<'a> {
     pub(crate) fn outputs(&self) -> &[u32]
         ensures { result.now ≡ self.now.outputs }
     {
-        self.outputs.as_slice()
+        cut(&self.numbers, 0, self.named_at)
     }
 
     /// The numbers of its explicit and implicit inputs.
     pub(crate) fn named(&self) -> &[u32]
         ensures { result.now ≡ self.now.named }
     {
-        self.named.as_slice()
+        cut(&self.numbers, self.named_at, self.order_only_at)
     }
 
     /// The numbers of its order-only inputs.
     pub(crate) fn order_only(&self) -> &[u32]
         ensures { result.now ≡ self.now.order_only }
     {
-        self.order_only.as_slice()
+        cut(&self.numbers, self.order_only_at, self.waits_at)
     }
 
     /// The edges that it waits for.
     pub(crate) fn waits(&self) -> &[u32]
         ensures { result.now ≡ self.now.waits }
     {
-        self.waits.as_slice()
+        &self.numbers[self.waits_at..]
     }
 
     /// Its rank.
@@ -98,6 +110,18 @@ pub(crate) fn words(alloc: Global, numbers: &[usize]) -> Result<Items<u32>, Allo
     Ok(Items::new(words))
 }
 
+/// Appends these numbers of 32 bits, and tells how many there are then.
+fn push_words(words: &mut Vec<u32>, numbers: &[usize]) -> Result<usize, AllocError>
+    requires { All IsWord numbers.now }
+    ensures more { OnOk result (words.new.items ≡ words.old.items ++ numbers.now) }
+    ensures len { IfOk result (λ len. len ≡ length words.new.items) }
+{
+    for number in numbers {
+        words.push(word(*number))?;
+    }
+    Ok(words.len())
+}
+
 /// Whether the edge of this number makes a file.
 fn makes<'a>(files: &Files<'a>, edge: usize, file: usize) -> bool
     ensures { result ≡ is_maker (producer_at files.now file) edge }
@@ -108,23 +132,23 @@ fn makes<'a>(files: &Files<'a>, edge: usize, file: usize) -> bool
     }
 }
 
-/// These numbers of files without those of files that the edge of this number makes.
-fn not_made_by<'a>(
-    alloc: Global,
+/// Appends these numbers of files without those of files that the edge of this number makes.
+fn push_not_made_by<'a>(
+    words: &mut Vec<u32>,
     files: &Files<'a>,
     edge: usize,
     numbers: &[usize],
-) -> Result<Items<u32>, AllocError>
+) -> Result<usize, AllocError>
     requires { All IsWord numbers.now }
-    ensures { IfOk result (λ ws. ws ≡ filter (λ f. not (is_maker (producer_at files.now f) edge)) numbers.now) }
+    ensures more { OnOk result (words.new.items ≡ words.old.items ++ filter (λ f. not (is_maker (producer_at files.now f) edge)) numbers.now) }
+    ensures len { IfOk result (λ len. len ≡ length words.new.items) }
 {
-    let mut words = Vec::new(alloc);
     for number in numbers {
         if !makes(files, edge, *number) {
             words.push(word(*number))?;
         }
     }
-    Ok(Items::new(words))
+    Ok(words.len())
 }
 
 /// The first of these, at most so many.
@@ -159,21 +183,22 @@ fn number_at(numbers: &[usize], place: usize) -> usize
     }
 }
 
-/// These numbers; of a phony without those of files that it makes.
-fn kept<'a>(
-    alloc: Global,
+/// Appends these numbers; of a phony without those of files that it makes.
+fn push_kept<'a>(
+    words: &mut Vec<u32>,
     files: &Files<'a>,
     edge: usize,
     phony: bool,
     numbers: &[usize],
-) -> Result<Items<u32>, AllocError>
+) -> Result<usize, AllocError>
     requires { All IsWord numbers.now }
-    ensures { IfOk result (λ ws. ws ≡ without_made files.now edge phony numbers.now) }
+    ensures more { OnOk result (words.new.items ≡ words.old.items ++ without_made files.now edge phony numbers.now) }
+    ensures len { IfOk result (λ len. len ≡ length words.new.items) }
 {
     if phony {
-        not_made_by(alloc, files, edge, numbers)
+        push_not_made_by(words, files, edge, numbers)
     } else {
-        words(alloc, numbers)
+        push_words(words, numbers)
     }
 }
 
@@ -193,24 +218,25 @@ fn numbered<'a, 'b>(
     producers_numbered();
     waits_ascend();
     let edge = &manifest.edges.as_slice()[number];
+    let outputs = graph.outputs.row(number);
     let inputs = graph.inputs.row(number);
+    let waits = graph.waits.row(number);
     let count = inputs
         .len()
         .saturating_sub(edge.paths.order_only_inputs.len());
-    let named = kept(
-        alloc,
-        &graph.files,
-        number,
-        edge.phony,
-        front(inputs, count),
-    )?;
-    let order_only = kept(alloc, &graph.files, number, edge.phony, back(inputs, count))?;
+    let mut numbers = Vec::with_capacity(alloc, outputs.len() + inputs.len() + waits.len())?;
+    let named_at = push_words(&mut numbers, outputs)?;
+    let named = front(inputs, count);
+    let order_only_at = push_kept(&mut numbers, &graph.files, number, edge.phony, named)?;
+    let order_only = back(inputs, count);
+    let waits_at = push_kept(&mut numbers, &graph.files, number, edge.phony, order_only)?;
+    push_words(&mut numbers, waits)?;
     Ok(Build {
         edge,
-        outputs: words(alloc, graph.outputs.row(number))?,
-        named,
-        order_only,
-        waits: words(alloc, graph.waits.row(number))?,
+        numbers,
+        named_at,
+        order_only_at,
+        waits_at,
         rank: word(number_at(graph.ranks.as_slice(), number)),
     })
 }

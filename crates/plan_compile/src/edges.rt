@@ -2,21 +2,23 @@
 
 ghost use Rattle.std.specs.Prelude.{◌≡◌, ◌<◌, ◌≤◌, ◌+◌, ◌++◌, ◌∷◌, [], IfErr, IfOk, length, OnOk, Some, slice_get};
 ghost use Rattle.plan_image.specs.Bodies.{body_of};
+ghost use Rattle.plan_image.specs.Columns.{lent};
+ghost use Rattle.plan_image.specs.declared.image.EdgeCode.TheVariants.{Shared};
 ghost use Rattle.plan_compile.specs.Assembling.{codes_in, edge_in, edges_in};
 ghost use Rattle.plan_compile.specs.BodyKeys.{same_body};
 ghost use Rattle.plan_compile.specs.Images.{shared, sort_of, used_bodies};
 ghost use Rattle.plan_compile.specs.Numbering.{with_item};
 ghost use Rattle.plan_compile.specs.Refusals.{RefusesCodes};
 
-use crate::bodies::{Bodies, operands_of};
+use crate::bodies::{Bodies, put_operands};
 use crate::build::Build;
 use crate::edge_wiring::code;
 use crate::fault::CompileFault;
 use crate::numbers::Numbers;
 use crate::slots::Plan;
-use plan_image::{Edge, EdgeCode, Edges, Instr, Sort};
-use plan_text::{Items, Memory};
-use std::alloc::{AllocError, Global};
+use plan_image::{CodeRef, EdgeRef, Edges, Instr, Sort};
+use plan_text::Memory;
+use std::alloc::Global;
 
 /// What an edge is.
 fn sort_of(phony: bool) -> Sort
@@ -25,31 +27,32 @@ fn sort_of(phony: bool) -> Sort
     if phony { Sort::Phony } else { Sort::Command }
 }
 
-/// An edge with these numbers and this code.
-fn edge_in<'a>(
-    alloc: Global,
+/// An edge with these numbers, this body and these operands.
+fn edge_in<'a, 'b>(
     numbers: Numbers,
-    code: EdgeCode,
-    build: &Build<'a>,
-) -> Result<Edge, AllocError>
-    ensures { IfOk result (λ edge. edge ≡ edge_in numbers code build.now) }
+    body: u32,
+    operands: &'b [u32],
+    build: &'b Build<'a>,
+) -> EdgeRef<'b>
+    ensures { lent result ≡ edge_in numbers (Shared body operands.now) build.now }
 {
-    Ok(Edge {
+    EdgeRef {
         sort: sort_of(build.edge().phony),
         pool: numbers.pool,
         rank: build.rank(),
         label: numbers.label,
-        outputs: Items::new(Vec::from_slice(alloc, build.outputs())?),
-        waits: Items::new(Vec::from_slice(alloc, build.waits())?),
-        code,
-    })
+        outputs: build.outputs(),
+        waits: build.waits(),
+        code: CodeRef::Shared(body, operands),
+    }
 }
 
-/// Appends an edge with these numbers and this code, whose body it shares.
+/// Appends an edge with these numbers and this code, whose body it shares. The operands are put into a buffer.
 fn push_edge<'a>(
     alloc: Global,
     edges: &mut Edges,
     bodies: &mut Bodies,
+    operands: &mut Vec<u32>,
     numbers: Numbers,
     code: &[Instr],
     build: &Build<'a>,
@@ -60,9 +63,8 @@ fn push_edge<'a>(
     ensures few { OnOk result (length bodies.new ≤ length bodies.old + 1) }
 {
     let number = bodies.put(alloc, code)?;
-    let operands = operands_of(alloc, code)?;
-    let edge = edge_in(alloc, numbers, EdgeCode::Shared(number, operands), build)?;
-    edges.push(alloc, &edge)?;
+    put_operands(operands, code)?;
+    edges.push_ref(edge_in(numbers, number, operands, build))?;
     Ok(())
 }
 
@@ -92,11 +94,20 @@ pub(crate) fn edges_of<'a>(
     let mut edges = Edges::new(alloc);
     edges.reserve(builds.len())?;
     let mut bodies = Bodies::new(alloc);
+    let mut operands = Vec::new(alloc);
     for number in 0..builds.len() {
         let build = &builds[number];
         let named = numbers_at(numbers, number);
         let code = code(alloc, named, &plan.table, plan.newest[number], build)?;
-        push_edge(alloc, &mut edges, &mut bodies, named, &code, build)?;
+        push_edge(
+            alloc,
+            &mut edges,
+            &mut bodies,
+            &mut operands,
+            named,
+            &code,
+            build,
+        )?;
     }
     Ok((edges, bodies))
 }

@@ -152,7 +152,7 @@ impl Edges {
     }
 
     /// Appends an edge that is lent. A refusal changes nothing.
-    pub(crate) fn push_ref(&mut self, edge: EdgeRef<'_>) -> Result<(), AllocError>
+    pub fn push_ref(&mut self, edge: EdgeRef<'_>) -> Result<(), AllocError>
         ensures more { OnOk result (self.new ≡ self.old ++ lent edge.entry ∷ []) }
         ensures refused { OnErr result (self.new ≡ self.old) }
     {
