@@ -21,8 +21,8 @@ pub record MachineLaws : Type 0 where
   pub frugal : IsFrugal depfile
 
 -- the report of a board
-pub run_so : (rule : Rule) (numbers : List ℕ) (p : Parts) (targets : List ℕ) (r : Report) (b : Progress) → IsKept rule numbers r.state (progress p targets r.state.going r.journal.items r.marks.items)
-    → progress p targets r.state.going r.journal.items r.marks.items ≡ b → IsWellShaped p → MachineLaws → IsRunOf rule b.opened r
+pub run_so : (rule : Rule) (numbers : List ℕ) (p : Parts) (targets : List ℕ) (r : Report) (b : Progress) → IsKept rule numbers r.state (progress p targets r.state.going r.journal r.marks.items)
+    → progress p targets r.state.going r.journal r.marks.items ≡ b → IsWellShaped p → MachineLaws → IsRunOf rule b.opened r
 run_so rule numbers p targets r b kept same shaped laws =
     let reached = kept.journaled.reached in
     let l = r.state.going.limits in
@@ -33,7 +33,7 @@ run_so rule numbers p targets r b kept same shaped laws =
       allowed = kept.journaled.allowed;
       state = kept.state;
       limits = refl;
-      safe = laws.wrong depfile p shaped l targets r.journal.items r.marks.items r.state.going.now reached;
-      orderly = laws.orderly depfile p shaped l targets r.journal.items r.marks.items r.state.going.now reached;
-      bounded = laws.budget depfile laws.frugal p shaped l targets r.journal.items r.marks.items r.state.going.now reached;
+      safe = laws.wrong depfile p shaped l targets r.journal r.marks.items r.state.going.now reached;
+      orderly = laws.orderly depfile p shaped l targets r.journal r.marks.items r.state.going.now reached;
+      bounded = laws.budget depfile laws.frugal p shaped l targets r.journal r.marks.items r.state.going.now reached;
     })

@@ -18,13 +18,13 @@ pub record IsRunOf (rule : Rule) (o : Opened) (r : Report) : Type 0 where
   -- the targets are edges of the image
   pub inside : any_outside o.parts o.targets ≡ false
   -- the journal runs from the opening state of this image, these options and targets to the reported state with the reported marks
-  pub reached : Reached depfile o.parts o.limits o.targets r.journal.items r.marks.items r.state.going.now
+  pub reached : Reached depfile o.parts o.limits o.targets r.journal r.marks.items r.state.going.now
   -- each reply in it is one that the rule allows for its question
-  pub allowed : IsAllowed rule o.parts o.limits o.targets r.journal.items
+  pub allowed : IsAllowed rule o.parts o.limits o.targets r.journal
   -- the state is one of this image, with these options
   pub state : IsStateOf o.parts r.state
   pub limits : r.state.going.limits ≡ o.limits
   -- what the machine's laws say of such a run: no event of the state can go wrong, the marks are orderly, and there are no more events than the image's budget and the bytes of dependencies
   pub safe : (event : Event) (flaw : Flaw) → step depfile o.parts o.limits r.state.going.now event ≢ Wrong flaw
   pub orderly : IsOrderly o.parts o.limits r.marks.items
-  pub bounded : length r.journal.items ≤ image_budget o.parts + all_bytes r.journal.items
+  pub bounded : length r.journal ≤ image_budget o.parts + all_bytes r.journal

@@ -21,6 +21,7 @@ ghost use Rattle.plan_lanes.specs.Reports.{IsRunOf};
 
 use crate::asked::{Asked, Question};
 use crate::world::{Permit, World};
+use plan_journal::Journal;
 use plan_machine::{
     Event, Mark, Options, Refused, Reply, State, depfiles_are_frugal, marks_are_orderly,
     never_wrong, stays_in_budget,
@@ -46,7 +47,7 @@ pub enum Advance {
 #[derive(Drop)]
 pub struct Report {
     pub state: State,
-    pub journal: Vec<Event>,
+    pub journal: Journal,
     pub marks: Vec<Mark>,
 }
 
@@ -58,7 +59,7 @@ pub struct Board<'v, W: World> {
     image: &'v Verified,
     targets: Vec<u32>,
     state: State,
-    journal: Vec<Event>,
+    journal: Journal,
     marks: Vec<Mark>,
     /// For each edge the position of its last event.
     numbers: Vec<u64>,
@@ -71,9 +72,9 @@ impl<'v, W: World> Model for Board<'v, W> {
 
     ghost Value = { Progress };
 
-    ghost view = { λ b. progress b.image.now b.targets.items b.state.going b.journal.items b.marks.items };
+    ghost view = { λ b. progress b.image.now b.targets.items b.state.going b.journal b.marks.items };
 
-    ghost invariant = { λ b. IsKept W.allows b.numbers.items b.state (progress b.image.now b.targets.items b.state.going b.journal.items b.marks.items) };
+    ghost invariant = { λ b. IsKept W.allows b.numbers.items b.state (progress b.image.now b.targets.items b.state.going b.journal b.marks.items) };
 }
 
 /// The edge that an event changes.
@@ -131,7 +132,7 @@ impl<'v, W: World> Board<'v, W> {
             image,
             targets,
             state,
-            journal: Vec::new(alloc),
+            journal: Journal::new(alloc),
             marks: Vec::new(alloc),
             numbers,
             world: PhantomData,
@@ -168,15 +169,21 @@ impl<'v, W: World> Board<'v, W> {
         ensures inside { IfErr result (λ r. r ≢ Refused.BadTarget) }
     {
         let edge = edge_of(&event);
-        let kept = event.copy()?;
-        self.journal.reserve(1)?;
-        self.marks.reserve(1)?;
-        let mark = self.state.apply(self.image, event)?;
         let number = self.journal.len() as u64;
-        put(&mut self.numbers, edge as usize, number);
-        self.journal.push_reserved(kept);
-        self.marks.push_reserved(mark);
-        Ok(mark)
+        let kept = event.copy()?;
+        self.marks.reserve(1)?;
+        self.journal.push(kept)?;
+        match self.state.apply(self.image, event) {
+            Ok(mark) => {
+                put(&mut self.numbers, edge as usize, number);
+                self.marks.push_reserved(mark);
+                Ok(mark)
+            }
+            Err(refused) => {
+                self.journal.remove_last();
+                Err(refused)
+            }
+        }
     }
 
     /// What an event would ask, exactly where it is enabled and asks.
@@ -274,7 +281,7 @@ impl<'v, W: World> Board<'v, W> {
 
     /// The run so far: its state, its events and their marks. It takes no memory.
     pub fn into_report(self) -> Report
-        ensures same { (result.state.going.now ≡ self.entry.state) × (result.journal.items ≡ self.entry.journal) × (result.marks.items ≡ self.entry.marks) }
+        ensures same { (result.state.going.now ≡ self.entry.state) × (result.journal ≡ self.entry.journal) × (result.marks.items ≡ self.entry.marks) }
         ensures run { IsRunOf W.allows self.entry.opened result }
     {
         never_wrong();

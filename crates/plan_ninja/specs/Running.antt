@@ -56,7 +56,7 @@ lines_in p r = lines_of p (total_of p r.state.going.now) r.marks.items
 -- The trace of a run was written, where it is to have one, as far as that went: its options, its targets, its events.
 abbrev pub Traces : Option Text → Limits → List ℕ → Report → Option PrintFault → (old new : SinkState) → Type 0
 Traces None limits edges r stop old new = (stop ≡ None) × (new ≡ old)
-Traces (Some path) limits edges r stop old new = Prints (run_text limits edges r.journal.items) stop old new
+Traces (Some path) limits edges r stop old new = Prints (run_text limits edges r.journal) stop old new
 
 -- the report of a run that has ended, or of one that has stopped
 abbrev pub report_in : Result Report LaneFault → Option Report

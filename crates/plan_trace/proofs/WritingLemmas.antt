@@ -1,5 +1,6 @@
 -- Lines written, one after another. Serves src/writing.rt.
 use Rattle.std.proofs.Common.{◌≡◌, ℕ, ◌+◌, ◌<◌, List, ◌∷◌, ◌++◌, Option, Some, true, length, get_or, drop, sym, ap, subst, ◌∙◌, append_assoc}
+use Rattle.std.specs.Prelude.{IfSome}
 use Rattle.std.proofs.lemmas.List.{drop_more}
 use Rattle.std.specs.List.{flat_map}
 use Rattle.plan_text.specs.Sinks.{Writes}
@@ -18,3 +19,7 @@ pub one_more : {X : Type 0} (text : X → List ℕ) (xs : List X) (i : ℕ) (x d
 one_more text xs i x d done lt is so_far =
     let left : drop i xs ≡ x ∷ drop (i + 1) xs = drop_more xs i d lt ∙ ap (λ y. y ∷ drop (i + 1) xs) (sym is) in
     append_assoc done (text x) (flat_map text (drop (i + 1) xs)) ∙ (ap (λ ys. done ++ flat_map text ys) (sym left) ∙ so_far)
+
+-- what is said of a value that is there
+pub said_of : {A : Type 0} (P : A → Type 0) (found : Option A) (x : A) → found ≡ Some x → IfSome found P → P x
+said_of P found x is said = subst (λ f. IfSome f P) is said

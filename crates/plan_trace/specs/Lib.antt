@@ -1,4 +1,5 @@
 pub mod Words
 pub mod Spelling
 pub mod Reading
+pub mod Writing
 pub mod Laws

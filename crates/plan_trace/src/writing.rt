@@ -1,16 +1,19 @@
 //! Traces, written.
 
-ghost use Rattle.std.specs.Prelude.{◌≡◌, ◌∷◌, ◌++◌, [], IfOk, OnOk, map};
+ghost use Rattle.std.specs.Prelude.{◌≡◌, ◌∷◌, ◌++◌, [], IfErr, IfOk, IfSome, OnOk, Some, map};
 ghost use Rattle.std.specs.Fmt.{decimal};
 ghost use Rattle.std.specs.List.{flat_map};
+ghost use Rattle.std.specs.Option.{IfNone};
 ghost use Rattle.std.specs.Result.{result_err};
 ghost use Rattle.plan_image.specs.Listing.{hex};
 ghost use Rattle.plan_status.specs.Printing.{Prints};
 ghost use Rattle.plan_machine.specs.declared.event.Event.TheVariants.{Reply as Hear, Skip};
 ghost use Rattle.plan_trace.specs.Spelling as defined;
+ghost use Rattle.plan_trace.specs.Writing.{WritesFirst};
 
 use crate::hex::push_hex;
 use crate::trace::Trace;
+use plan_journal::{Events, Journal};
 use plan_machine::{Event, Options, Recorded, Reply};
 use plan_status::{PrintFault, prints_join};
 use plan_text::{Sink, write_all, writes_join};
@@ -238,11 +241,80 @@ fn write_options<W: Sink>(alloc: Global, options: Options, out: &mut W) -> Resul
     Ok(())
 }
 
+/// Writes the line of the first of these events, where there is one, and gives those behind it.
+fn write_first<'a, W: Sink>(
+    alloc: Global,
+    events: Events<'a>,
+    out: &mut W,
+) -> Result<Option<Events<'a>>, PrintFault>
+    ensures some { IfOk result (λ found. IfSome found (λ behind. WritesFirst events.entry (W.failures out.old, W.taken out.old) (W.failures out.new, W.taken out.new) behind)) }
+    ensures none { IfOk result (λ found. IfNone found ((events.entry ≡ []) × (out.new ≡ out.old))) }
+    ensures stopped { IfErr result (λ fault. Prints (flat_map defined.event_line events.entry) (Some fault) (W.failures out.old, W.taken out.old) (W.failures out.new, W.taken out.new)) }
+{
+    prints_join();
+    let Some((event, behind)) = events.split_first()? else {
+        return Ok(None);
+    };
+    match write_event(alloc, &event, out) {
+        Ok(()) => Ok(Some(behind)),
+        Err(fault) => Err(fault),
+    }
+}
+
+/// Writes the lines of a journal's events.
+fn write_journal<W: Sink>(alloc: Global, journal: &Journal, out: &mut W) -> Result<(), PrintFault>
+    ensures { Prints (flat_map defined.event_line journal.now) (result_err result) (W.failures out.old, W.taken out.old) (W.failures out.new, W.taken out.new) }
+{
+    writes_join();
+    prints_join();
+    let mut rest = journal.events();
+    loop {
+        match write_first(alloc, rest, out) {
+            Ok(Some(behind)) => rest = behind,
+            Ok(None) => return Ok(()),
+            Err(fault) => return Err(fault),
+        }
+    }
+}
+
+/// Writes the lines behind the first of a run with a journal.
+fn write_run_behind<W: Sink>(
+    alloc: Global,
+    targets: &[u32],
+    journal: &Journal,
+    out: &mut W,
+) -> Result<(), PrintFault>
+    ensures { Prints (flat_map defined.target_line targets.now ++ flat_map defined.event_line journal.now) (result_err result) (W.failures out.old, W.taken out.old) (W.failures out.new, W.taken out.new) }
+{
+    prints_join();
+    match write_targets(alloc, targets, out) {
+        Ok(()) => write_journal(alloc, journal, out),
+        Err(fault) => Err(fault),
+    }
+}
+
 /// Writes the text of the trace of a run with these options, targets and events. It holds one line at a time.
 ///
 /// # Errors
 /// `Memory`, `Write`: then the sink took a front of the text.
 pub fn write_run<W: Sink>(
+    alloc: Global,
+    options: Options,
+    targets: &[u32],
+    journal: &Journal,
+    out: &mut W,
+) -> Result<(), PrintFault>
+    ensures { Prints (defined.run_text options targets.now journal.now) (result_err result) (W.failures out.old, W.taken out.old) (W.failures out.new, W.taken out.new) }
+{
+    prints_join();
+    match write_options(alloc, options, out) {
+        Ok(()) => write_run_behind(alloc, targets, journal, out),
+        Err(fault) => Err(fault),
+    }
+}
+
+/// Writes the text of a trace that is in parts.
+fn write_parts<W: Sink>(
     alloc: Global,
     options: Options,
     targets: &[u32],
@@ -258,14 +330,14 @@ pub fn write_run<W: Sink>(
     }
 }
 
-/// Writes the text of a trace, as `write_run` does.
+/// Writes the text of a trace. It holds one line at a time.
 ///
 /// # Errors
 /// `Memory`, `Write`: then the sink took a front of the text.
 pub fn write_trace<W: Sink>(alloc: Global, trace: &Trace, out: &mut W) -> Result<(), PrintFault>
     ensures { Prints (defined.text_of trace.now) (result_err result) (W.failures out.old, W.taken out.old) (W.failures out.new, W.taken out.new) }
 {
-    write_run(
+    write_parts(
         alloc,
         trace.options,
         trace.targets.as_slice(),

@@ -12,7 +12,7 @@ returns-in-Some-clause-ok g c = (
   record { own = c.requires.own; mark = c.in_ok-record.field-0; applies = c.in_ok-record.ensures.ok },
   sym c.edge_of-edge.ensures,
   asks_job c.args.self.now c.record.new.self c.args.event c.in_ok-record.field-0 c.in_ok-asked.asked c.in-Some.request c.edge_of-edge.result c.in-Some.is c.in_ok-asked.ensures c.in_ok-record.ensures.ok c.edge_of-edge.ensures,
-  c.len-number.ensures ∙ (c.self.inside.journal.ok.0 ∙ ap (λ (b : Progress). length b.journal) c.self.view_is),
+  c.len-number.ensures ∙ ap (λ (b : Progress). length b.journal) c.self.view_is,
   c.permit_for-permit.ensures.run,
   let same : c.self.inside.image.now ≡ c.args.self.now.opened.parts = ap (λ (b : Progress). b.opened.parts) c.self.view_is in
       subst (λ (p : Parts). IfSome c.permit_for-permit.result (λ x. x.console ≡ is_console p c.edge_of-edge.result)) same c.permit_for-permit.ensures.console,

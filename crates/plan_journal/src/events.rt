@@ -1,0 +1,101 @@
+//! What is left of a journal.
+
+ghost use Rattle.std.specs.Prelude.{◌≡◌, ◌≤◌, ◌<◌, ◌∷◌, [], IfOk, IfSome, get_or, length};
+ghost use Rattle.std.specs.Option.{IfNone};
+ghost use Rattle.plan_machine.specs.declared.event.Event.TheVariants.{Start};
+ghost use Rattle.plan_journal.specs.Columns as columns;
+ghost use Rattle.plan_journal.specs.Columns.{Fit};
+
+use crate::sort::Sort;
+use plan_machine::{Event, Reply};
+use std::alloc::AllocError;
+use std::marker::Model;
+
+/// The events of a journal that are left to be read, which a contract sees as their list.
+#[derive(Drop)]
+pub struct Events<'a> {
+    sorts: &'a [Sort],
+    edges: &'a [u32],
+    stamps: &'a [u64],
+    wholes: &'a [Event],
+}
+
+impl<'a> Model for Events<'a> {
+    ghost use Rattle.std.specs.Prelude.{List};
+    ghost use Rattle.plan_machine.specs.declared.event.Event.{Event as Happening};
+    ghost use Rattle.plan_journal.specs.Columns.{Fit, events};
+
+    ghost Value = { List Happening };
+
+    ghost view = { λ e. events e.sorts.now e.edges.now e.stamps.now e.wholes.now };
+
+    ghost invariant = { λ e. Fit e.sorts.now e.edges.now e.stamps.now e.wholes.now };
+}
+
+impl<'a> Events<'a> {
+    /// The events of these columns.
+    pub(crate) fn of(
+        sorts: &'a [Sort],
+        edges: &'a [u32],
+        stamps: &'a [u64],
+        wholes: &'a [Event],
+    ) -> Events<'a>
+        requires { Fit sorts.now edges.now stamps.now wholes.now }
+        ensures { result ≡ columns.events sorts.now edges.now stamps.now wholes.now }
+    {
+        Events {
+            sorts,
+            edges,
+            stamps,
+            wholes,
+        }
+    }
+
+    /// The first of them, and those behind it. It shares what a reply brings.
+    ///
+    /// # Errors
+    /// Want of memory, as `Event::copy`.
+    pub fn split_first(self) -> Result<Option<(Event, Events<'a>)>, AllocError>
+        ensures some { IfOk result (λ found. IfSome found (λ x. self.entry ≡ x.0 ∷ x.1)) }
+        ensures none { IfOk result (λ found. IfNone found (self.entry ≡ [])) }
+    {
+        let Events {
+            sorts,
+            edges,
+            stamps,
+            wholes,
+        } = self;
+        let Some(sort) = sorts.first() else {
+            return Ok(None);
+        };
+        let event = first_event(*sort, edges, stamps, wholes)?;
+        let behind = Events {
+            sorts: &sorts[1..],
+            edges: &edges[1..],
+            stamps: &stamps[sort.stamps()..],
+            wholes: &wholes[sort.wholes()..],
+        };
+        Ok(Some((event, behind)))
+    }
+}
+
+/// The event of this sort that stands first in the columns.
+fn first_event(
+    sort: Sort,
+    edges: &[u32],
+    stamps: &[u64],
+    wholes: &[Event],
+) -> Result<Event, AllocError>
+    requires edge { 0 < length edges.now }
+    requires stamp { columns.stamps_in sort ≤ length stamps.now }
+    requires whole { columns.wholes_in sort ≤ length wholes.now }
+    ensures { IfOk result (λ e. e ≡ columns.event_of sort (get_or edges.now 0 0) (get_or stamps.now 0 0) (get_or wholes.now 0 (Start 0))) }
+{
+    match sort {
+        Sort::Start => Ok(Event::Start(edges[0])),
+        Sort::Stop => Ok(Event::Stop(edges[0])),
+        Sort::Step => Ok(Event::Step(edges[0])),
+        Sort::Stamp => Ok(Event::Reply(edges[0], Reply::Stamp(stamps[0]))),
+        Sort::Whole => wholes[0].copy(),
+    }
+}

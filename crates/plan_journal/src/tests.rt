@@ -1,0 +1,114 @@
+//! A journal of an event of each sort.
+
+use crate::Journal;
+use plan_machine::{Event, Reply};
+use std::alloc::{AllocError, Global};
+use std::test::Fail;
+
+/// What an event says.
+#[derive(Clone, Copy, Debug, PartialEq, Eq)]
+enum Said {
+    Start(u32),
+    Skip(u32, u32),
+    Stop(u32),
+    Step(u32),
+    Stamp(u32, u64),
+    Exit(u32, u8),
+    Other(u32),
+}
+
+/// What is put into the journal.
+const ALL: [Said; 8] = [
+    Said::Start(0),
+    Said::Step(0),
+    Said::Stamp(0, 7),
+    Said::Exit(1, 3),
+    Said::Skip(2, 1),
+    Said::Stop(3),
+    Said::Stamp(4, 9),
+    Said::Other(5),
+];
+
+/// The event that says so.
+fn event(said: Said) -> Event {
+    match said {
+        Said::Start(edge) => Event::Start(edge),
+        Said::Skip(edge, wait) => Event::Skip(edge, wait),
+        Said::Stop(edge) => Event::Stop(edge),
+        Said::Step(edge) => Event::Step(edge),
+        Said::Stamp(edge, stamp) => Event::Reply(edge, Reply::Stamp(stamp)),
+        Said::Exit(edge, status) => Event::Reply(edge, Reply::Exit(status)),
+        Said::Other(edge) => Event::Reply(edge, Reply::Nothing),
+    }
+}
+
+/// What an event says.
+fn said_by(event: &Event) -> Said {
+    match event {
+        Event::Start(edge) => Said::Start(*edge),
+        Event::Skip(edge, wait) => Said::Skip(*edge, *wait),
+        Event::Stop(edge) => Said::Stop(*edge),
+        Event::Step(edge) => Said::Step(*edge),
+        Event::Reply(edge, Reply::Stamp(stamp)) => Said::Stamp(*edge, *stamp),
+        Event::Reply(edge, Reply::Exit(status)) => Said::Exit(*edge, *status),
+        Event::Reply(edge, _) => Said::Other(*edge),
+    }
+}
+
+/// A journal of all of them.
+fn full(alloc: Global) -> Result<Journal, AllocError> {
+    let mut journal = Journal::new(alloc);
+    for said in ALL {
+        journal.push(event(said))?;
+    }
+    Ok(journal)
+}
+
+/// What its events say, read from the first on.
+fn read(alloc: Global, journal: &Journal) -> Result<Vec<Said>, AllocError> {
+    let mut all = Vec::new(alloc);
+    let mut rest = journal.events();
+    for _ in 0..journal.len() {
+        match rest.split_first()? {
+            Some((event, behind)) => {
+                all.push(said_by(&event))?;
+                rest = behind;
+            }
+            None => return Ok(all),
+        }
+    }
+    Ok(all)
+}
+
+#[test]
+fn events_come_back(rt: HostRuntime) -> Result<(), Fail> {
+    let journal = full(rt.alloc())?;
+    assert_eq!(rt; journal.len(), 8);
+    assert_eq!(rt; read(rt.alloc(), &journal)?.as_slice(), ALL.as_slice());
+    Ok(())
+}
+
+#[test]
+fn the_last_ones_leave(rt: HostRuntime) -> Result<(), Fail> {
+    let mut journal = full(rt.alloc())?;
+    for left in 0..8 {
+        journal.remove_last();
+        assert_eq!(rt; journal.len(), 7 - left);
+        assert_eq!(rt; read(rt.alloc(), &journal)?.as_slice(), &ALL[..7 - left]);
+    }
+    journal.remove_last();
+    assert_eq!(rt; journal.len(), 0);
+    Ok(())
+}
+
+#[test]
+fn another_takes_its_place(rt: HostRuntime) -> Result<(), Fail> {
+    let mut journal = full(rt.alloc())?;
+    journal.remove_last();
+    journal.remove_last();
+    journal.push(event(Said::Stamp(6, 11)))?;
+    let all = read(rt.alloc(), &journal)?;
+    assert_eq!(rt; all.last(), Some(&Said::Stamp(6, 11)));
+    assert_eq!(rt; all.len(), 7);
+    Ok(())
+}
