@@ -124,6 +124,7 @@ bench: built
 	python3 bench/hostile.py $(PROGRAM)
 	python3 bench/images.py $(PROGRAM)
 	python3 bench/builds.py $(PROGRAM)
+	python3 bench/events.py $(PROGRAM)
 
 .PHONY: clean
 clean:

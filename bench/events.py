@@ -2,15 +2,14 @@
 """Times the events of a run that finds nothing to do: so many objects, each of a source and 21 headers on record.
 
 The tree is that of builds.py, built once. Printed are how many events such a run has (the lines of its trace), wall
-time and peak memory of `run` at -j 1 and at -j 4, without a trace, and of `replay` of the trace, all medians of five;
-and what is left of each for one event: of `run` all of it; of `replay` less the time of a replay that reads the same
-trace and is refused at its first event. `beside` is the peak less the image, journal and marks: of an event 5 bytes and
-16, of a stamp 8 more. The word is the number of objects. It is no test and asserts nothing.
+time, processor's time and peak memory of `run` at -j 1 and at -j 4, without a trace, and of `replay` of the trace, all
+the least of five; and the processor's time for one event: of `run` all of it; of `replay` less that of a replay which
+reads the same trace and is refused at its first event. `beside` is the peak less the image, journal and marks: of an
+event 5 bytes and 16, of a stamp 8 more. The word is the number of objects. It is no test and asserts nothing.
 """
 import os
 import pathlib
 import shutil
-import statistics
 import tempfile
 
 from builds import written
@@ -21,10 +20,11 @@ WHOLE = 1_800  # seconds
 MEBIBYTE = 1 << 20
 
 
-def median(words: list[str], folder: pathlib.Path) -> Run:
+def least(words: list[str], folder: pathlib.Path) -> Run:
+    """The least of each, of several runs: other work on the machine only adds."""
     runs = [measured(words, folder, WHOLE) for _ in range(ROUNDS)]
-    return Run(statistics.median(run.seconds for run in runs), statistics.median(run.mebibytes for run in runs),
-               max(run.status for run in runs))
+    return Run(min(run.seconds for run in runs), min(run.mebibytes for run in runs), max(run.status for run in runs),
+               min(run.processor for run in runs))
 
 
 def counted(trace: pathlib.Path) -> tuple[int, int]:
@@ -39,7 +39,7 @@ def counted(trace: pathlib.Path) -> tuple[int, int]:
 
 
 def refused(trace: pathlib.Path, other: pathlib.Path) -> None:
-    """The same trace, with an event in front that is enabled in no image: all of it is read before that is seen."""
+    """The same trace, with an event in front that no image enables: all of it is read before that is seen."""
     with trace.open("rb") as lines, other.open("wb") as copy:
         copy.write(lines.readline())
         line = lines.readline()
@@ -51,8 +51,9 @@ def refused(trace: pathlib.Path, other: pathlib.Path) -> None:
 
 
 def show(what: str, run: Run, events: int, other: float, beside: float) -> None:
-    left = (run.seconds - other) / events * 1e9
-    print(f"{what:24} {run.seconds:8.3f} s {left:6.0f} ns an event {run.mebibytes:8.1f} MiB, {beside:6.1f} beside"
+    left = (run.processor - other) / events * 1e9
+    print(f"{what:12} {run.seconds:8.3f} s, {run.processor:8.3f} s of a processor, {left:6.0f} ns an event; "
+          f"{run.mebibytes:8.1f} MiB, {beside:6.1f} beside"
           f"{'' if run.status == 0 else f'  status {run.status}'}", flush=True)
 
 
@@ -75,12 +76,13 @@ def main() -> None:
         image = os.path.getsize(folder / "plan.img") / MEBIBYTE
         print(f"{events} events, {stamps} of them stamps; report {report:.1f} MiB, image {image:.1f} MiB")
         for lanes in ("1", "4"):
-            ran = median([*run, lanes], folder)
+            ran = least([*run, lanes], folder)
             show(f"run -j {lanes}", ran, events, 0.0, ran.mebibytes - report - image)
-        read = measured([program, "replay", "plan.img", "refused"], folder, WHOLE)
-        replayed = median([program, "replay", "plan.img", "trace"], folder)
-        print(f"{'trace read':24} {read.seconds:8.3f} s {read.mebibytes:30.1f} MiB")
-        show("replay", replayed, events, read.seconds, replayed.mebibytes - report - image)
+        read = least([program, "replay", "plan.img", "refused"], folder)
+        replayed = least([program, "replay", "plan.img", "trace"], folder)
+        print(f"{'trace read':12} {read.seconds:8.3f} s, {read.processor:8.3f} s of a processor; "
+              f"{read.mebibytes:8.1f} MiB")
+        show("replay", replayed, events, read.processor, replayed.mebibytes - report - image)
 
 
 if __name__ == "__main__":

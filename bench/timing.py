@@ -18,11 +18,12 @@ OVER = 124  # the status of `timeout`
 
 
 class Run(NamedTuple):
-    """Wall time, peak memory (0 where no `time` is installed), and status of one run."""
+    """Wall time, peak memory, status and processor's time of one run; 0 where no `time` is there to tell them."""
 
     seconds: float
     mebibytes: float
     status: int
+    processor: float = 0.0
 
     @property
     def is_over(self) -> bool:
@@ -33,12 +34,13 @@ class Run(NamedTuple):
 def measured(words: Sequence[str], folder: pathlib.Path, limit: int = LIMIT) -> Run:
     """One run of a program, whose output is thrown away, of at most so many seconds."""
     with tempfile.NamedTemporaryFile("r") as peak:
-        before = [TIME, "-q", "-f", "%M", "-o", peak.name] if TIME else []
+        before = [TIME, "-q", "-f", "%M %U %S", "-o", peak.name] if TIME else []
         null = subprocess.DEVNULL
         begun = time.monotonic()
         done = subprocess.run([*before, "timeout", str(limit), *words], cwd=folder, stdout=null, stderr=null)
         seconds = time.monotonic() - begun
-        return Run(seconds, int(peak.read()) / 1024 if TIME else 0.0, done.returncode)
+        kibibytes, user, system = map(float, peak.read().split()) if TIME else (0.0, 0.0, 0.0)
+        return Run(seconds, kibibytes / 1024, done.returncode, user + system)
 
 
 __all__ = ["LIMIT", "Run", "measured", "programs"]
