@@ -1,9 +1,9 @@
 //! The paths of a depfile.
 
-ghost use Rattle.std.specs.Prelude.{◌≡◌, [], ◌∷◌, ◌++◌, IfOk, get_or, length, map};
+ghost use Rattle.std.specs.Prelude.{◌≡◌, [], IfOk, get_or, length};
 
 use plan_text::{Memory, RowList};
-use std::alloc::{AllocError, Global};
+use std::alloc::Global;
 use std::marker::Model;
 
 /// The canonical paths of a depfile in order of first appearance, each once, which a contract sees as a list of texts.

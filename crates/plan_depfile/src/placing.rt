@@ -1,13 +1,13 @@
 //! How paths get their slots.
 
-ghost use Rattle.std.specs.Prelude.{◌≡◌, ◌≤◌, ◌<◌, ◌+◌, ◌++◌, ◌∷◌, [], length, replicate, IfOk, OnOk, OnErr};
-ghost use Rattle.plan_depfile.specs.PathSets.{hash_of, most_paths, ArePlaced, IsFilled, IsVacant, LeadElsewhere, start_of};
+ghost use Rattle.std.specs.Prelude.{◌≡◌, ◌≤◌, ◌<◌, ◌+◌, ◌++◌, ◌∷◌, [], length, OnOk, OnErr};
+ghost use Rattle.plan_depfile.specs.PathSets.{hash_of, most_paths, ArePlaced, IsFilled, IsVacant, start_of};
 
 use crate::hash::{code_of, hash_of, start_of};
 use crate::lookup::vacant;
 use crate::slot_table::SlotTable;
 use plan_text::RowList;
-use std::alloc::{AllocError, Global};
+use std::alloc::AllocError;
 
 /// For how many paths slots are read at once.
 pub const AHEAD: usize = 32;
