@@ -11,6 +11,7 @@ use Rattle.plan_image.specs.Spelling.{HasSpelling, spelling}
 use Rattle.plan_image.specs.declared.fault.ImageFault.TheVariants as image
 use Rattle.plan_verify.specs.WellShaped.{IsWellShaped}
 use Rattle.plan_compile.specs.Images.{compiled}
+use Rattle.plan_compile.specs.Refusals as compiles
 use Rattle.plan_compile.specs.declared.fault.CompileFault.{CompileFault}
 use Rattle.plan_ninja.specs.declared.fault.PlanFault.{PlanFault}
 use Rattle.plan_ninja.specs.Faults.{printed_compile_fault, printed_image_fault, file_fault}
@@ -25,9 +26,11 @@ pub record SpellsImage (manifest : Manifest) (bytes : List ℕ) : Type 0 where
   pub shaped : IsWellShaped (compiled manifest graph)
   pub same : bytes ≡ spelling (compiled manifest graph)
 
--- the manifest has a graph, and no image of it is made, for this cause
+-- the manifest has a graph, and no image of it is made, for this cause: memory, or a limit, and then the image has no
+-- spelling
 abbrev pub LacksImageOf : Manifest → PlanFault → Type 0
-LacksImageOf manifest fault = (graph : Graph) × (cause : CompileFault) × IsGraph manifest graph × (fault ≡ printed_compile_fault cause)
+LacksImageOf manifest fault =
+    (graph : Graph) × (cause : CompileFault) × IsGraph manifest graph × compiles.IsRefused manifest graph cause × (fault ≡ printed_compile_fault cause)
 
 -- why there are no bytes to write of the manifest
 abbrev pub LacksBytes : Manifest → PlanFault → Type 0
