@@ -9,7 +9,6 @@ ghost use Rattle.plan_compile.specs.Images.{is_blank};
 ghost use Rattle.plan_compile.specs.Slots.{form_of as form_meant};
 
 use crate::build::Build;
-use crate::emitting::edge_code;
 use crate::fault::CompileFault;
 use crate::form::Form;
 use crate::lookups::{flags, inputs, outputs, sources};
@@ -116,16 +115,18 @@ fn wiring<'a>(
     }
 }
 
-/// The code of an edge.
-pub(crate) fn code<'a>(
+/// Puts the code of an edge into a buffer.
+pub(crate) fn put_code<'a>(
     alloc: Global,
+    code: &mut Vec<Instr>,
     numbers: Numbers,
     table: &[Option<Output>],
     newest: u32,
     build: &Build<'a>,
-) -> Result<Vec<Instr>, CompileFault>
-    ensures { Meets CompileFault.Memory (λ v. v.items) result (emitted (code_of (wire_in (form_meant build.now) numbers table.now newest build.now))) }
+) -> Result<(), CompileFault>
+    ensures { Meets CompileFault.Memory (λ _. code.new.items) result (emitted (code_of (wire_in (form_meant build.now) numbers table.now newest build.now))) }
 {
     let wiring = wiring(alloc, numbers, table, newest, form_of(build), build)?;
-    edge_code(alloc, &wiring)
+    crate::emitting::put_code(code, &wiring)?;
+    Ok(())
 }

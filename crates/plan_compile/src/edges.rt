@@ -12,7 +12,7 @@ ghost use Rattle.plan_compile.specs.Refusals.{RefusesCodes};
 
 use crate::bodies::{Bodies, put_operands};
 use crate::build::Build;
-use crate::edge_wiring::code;
+use crate::edge_wiring::put_code;
 use crate::fault::CompileFault;
 use crate::numbers::Numbers;
 use crate::slots::Plan;
@@ -95,10 +95,18 @@ pub(crate) fn edges_of<'a>(
     edges.reserve(builds.len())?;
     let mut bodies = Bodies::new(alloc);
     let mut operands = Vec::new(alloc);
+    let mut code = Vec::new(alloc);
     for number in 0..builds.len() {
         let build = &builds[number];
         let named = numbers_at(numbers, number);
-        let code = code(alloc, named, &plan.table, plan.newest[number], build)?;
+        put_code(
+            alloc,
+            &mut code,
+            named,
+            &plan.table,
+            plan.newest[number],
+            build,
+        )?;
         push_edge(
             alloc,
             &mut edges,

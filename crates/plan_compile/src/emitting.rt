@@ -1,6 +1,6 @@
 //! The code of an edge of any sort.
 
-ghost use Rattle.std.specs.Prelude.{◌≡◌, ◌++◌, OnOk};
+ghost use Rattle.std.specs.Prelude.{◌≡◌, ◌++◌, [], OnOk};
 ghost use Rattle.plan_text.specs.Outcome.{Meets};
 ghost use Rattle.plan_compile.specs.declared.fault.CompileFault.TheVariants as CompileFault;
 ghost use Rattle.plan_compile.specs.Emit.{alone_code, code_of, command_code, emitted, gather_code};
@@ -19,21 +19,21 @@ const MOST: usize = 65536;
 /// Room for the code of most edges.
 const ROOM: usize = 64;
 
-/// Code, unless it has too many places.
-fn limited(code: Vec<Instr>) -> Result<Vec<Instr>, CompileFault>
-    ensures { Meets CompileFault.Memory (λ v. v.items) result (emitted code.items) }
+/// Refuses code that has too many places.
+fn limited(code: &[Instr]) -> Result<(), CompileFault>
+    ensures { Meets CompileFault.Memory (λ _. code.now) result (emitted code.now) }
 {
     if code.len() > MOST {
         return Err(CompileFault::Limit);
     }
-    Ok(code)
+    Ok(())
 }
 
-fn command_edge(alloc: Global, wiring: &CommandWiring) -> Result<Vec<Instr>, CompileFault>
-    ensures { Meets CompileFault.Memory (λ v. v.items) result (emitted (command_code wiring.now)) }
+fn put_command(code: &mut Vec<Instr>, wiring: &CommandWiring) -> Result<(), CompileFault>
+    requires { code.old.items ≡ [] }
+    ensures { Meets CompileFault.Memory (λ _. code.new.items) result (emitted (command_code wiring.now)) }
 {
-    let mut code = Vec::with_capacity(alloc, ROOM)?;
-    push_front(&mut code, wiring)?;
+    push_front(code, wiring)?;
     if code.len() > MOST {
         return Err(CompileFault::Limit);
     }
@@ -44,7 +44,7 @@ fn command_edge(alloc: Global, wiring: &CommandWiring) -> Result<Vec<Instr>, Com
         return Err(CompileFault::Limit);
     }
     let at = code.len() as u32;
-    push_recalled(&mut code, wiring, at)?;
+    push_recalled(code, wiring, at)?;
     limited(code)
 }
 
@@ -60,20 +60,32 @@ fn push_gather(code: &mut Vec<Instr>, wiring: &GatherWiring) -> Result<(), Alloc
     Ok(())
 }
 
-fn gather_edge(alloc: Global, wiring: &GatherWiring) -> Result<Vec<Instr>, CompileFault>
-    ensures { Meets CompileFault.Memory (λ v. v.items) result (emitted (gather_code wiring.now)) }
+fn put_gather(code: &mut Vec<Instr>, wiring: &GatherWiring) -> Result<(), CompileFault>
+    requires { code.old.items ≡ [] }
+    ensures { Meets CompileFault.Memory (λ _. code.new.items) result (emitted (gather_code wiring.now)) }
 {
-    let mut code = Vec::with_capacity(alloc, ROOM)?;
-    push_gather(&mut code, wiring)?;
+    push_gather(code, wiring)?;
     limited(code)
 }
 
-fn alone_edge(alloc: Global, outputs: &[Output]) -> Result<Vec<Instr>, CompileFault>
-    ensures { Meets CompileFault.Memory (λ v. v.items) result (emitted (alone_code outputs.now)) }
+fn put_alone(code: &mut Vec<Instr>, outputs: &[Output]) -> Result<(), CompileFault>
+    requires { code.old.items ≡ [] }
+    ensures { Meets CompileFault.Memory (λ _. code.new.items) result (emitted (alone_code outputs.now)) }
 {
-    let mut code = Vec::with_capacity(alloc, ROOM)?;
-    push_alone(&mut code, outputs)?;
+    push_alone(code, outputs)?;
     limited(code)
+}
+
+/// Puts the code of an edge into a buffer.
+pub(crate) fn put_code(code: &mut Vec<Instr>, wiring: &Wiring) -> Result<(), CompileFault>
+    ensures { Meets CompileFault.Memory (λ _. code.new.items) result (emitted (code_of wiring.now)) }
+{
+    code.clear();
+    match wiring {
+        Wiring::Command(command) => put_command(code, command),
+        Wiring::Gather(gather) => put_gather(code, gather),
+        Wiring::Alone(outputs) => put_alone(code, outputs.as_slice()),
+    }
 }
 
 /// The code of an edge: what it asks, when its command runs, and what it keeps, by the out-of-date rule of
@@ -85,9 +97,7 @@ fn alone_edge(alloc: Global, outputs: &[Output]) -> Result<Vec<Instr>, CompileFa
 pub fn edge_code(alloc: Global, wiring: &Wiring) -> Result<Vec<Instr>, CompileFault>
     ensures { Meets CompileFault.Memory (λ v. v.items) result (emitted (code_of wiring.now)) }
 {
-    match wiring {
-        Wiring::Command(command) => command_edge(alloc, command),
-        Wiring::Gather(gather) => gather_edge(alloc, gather),
-        Wiring::Alone(outputs) => alone_edge(alloc, outputs.as_slice()),
-    }
+    let mut code = Vec::with_capacity(alloc, ROOM)?;
+    put_code(&mut code, wiring)?;
+    Ok(code)
 }

@@ -1,6 +1,6 @@
 //! Where the stamps of an edge's inputs come from.
 
-ghost use Rattle.std.specs.Prelude.{◌≡◌, ◌++◌, [], IfOk, OnOk, slice_get};
+ghost use Rattle.std.specs.Prelude.{◌≡◌, ◌++◌, [], IfOk, IsTrue, List, OnOk, slice_get, ℕ};
 ghost use Rattle.plan_image.specs.Spelling.{AscendsFrom};
 ghost use Rattle.plan_verify.specs.Members.{is_member};
 ghost use Rattle.plan_compile.specs.Means.{flags_of};
@@ -118,6 +118,19 @@ fn other_sources(
     Ok(Items::new(files))
 }
 
+/// Whether edges make all of these files.
+fn are_made(table: &[Option<Output>], files: &[u32]) -> bool
+    ensures { (named : List ℕ) → IsTrue result → sources_in table.now named files.now ≡ [] }
+{
+    for file in files {
+        match look(table, *file) {
+            Some(_output) => {}
+            None => return false,
+        }
+    }
+    true
+}
+
 /// The order-only sources that aren't named too.
 pub(crate) fn sources(
     alloc: Global,
@@ -127,7 +140,7 @@ pub(crate) fn sources(
 ) -> Result<Items<u32>, AllocError>
     ensures { IfOk result (λ files. files ≡ sources_in table.now named.now order_only.now) }
 {
-    if order_only.is_empty() {
+    if are_made(table, order_only) {
         return Ok(Items::empty(alloc));
     }
     let named = ascending(Vec::from_slice(alloc, named)?);

@@ -1,7 +1,7 @@
 use Rattle.std.proofs.Common.{length, arith}
 use Rattle.plan_compile.specs.Emit.{command_code}
 use Rattle.plan_compile.proofs.Lengths.{emitted_over, flags_within, outputs_within}
-use Rattle.plan_compile.proofs.emitting.command_edge.Goals as goal
+use Rattle.plan_compile.proofs.emitting.put_command.Goals as goal
 
 pub returns-then-len-gt-MOST-2 : goal.returns-then-len-gt-MOST-2
 returns-then-len-gt-MOST-2 c = λ limit.
