@@ -190,7 +190,6 @@ impl Edges {
     }
 
     /// The edge of this number.
-    #[inline]
     pub fn edge(&self, number: usize) -> EdgeRef<'_>
         requires { number < length self.now }
         ensures found { slice_get self.now number ≡ Some (lent result) }
