@@ -14,6 +14,7 @@ help:
 	@echo "make tests    the tests of the built program, without proofs: documents, rows, builds, ninja, memory, trees; 3 to 5 minutes"
 	@echo "make check    the whole gate: proofs, must-fail edits and these tests; docs/PROOF_NOTES.md has its time"
 	@echo "make edits    tries the must-fail edits that the gate leaves out (CRATES=plan_text for one crate); 5 to 40 minutes a crate"
+	@echo "make refusals refuses each allocation of the calls of depfiles and records in turn; five minutes"
 	@echo "make real     compares commands and builds of CMake's and Meson's trees with ninja's, upstream projects too; half an hour"
 	@echo "make bench    times the program beside ninja and make, and on hostile manifests; some minutes"
 	@echo "make install  copies the program to PREFIX/bin (PREFIX is $(PREFIX))"
@@ -105,6 +106,11 @@ CRATES = $(notdir $(wildcard crates/*))
 .PHONY: edits
 edits: kit
 	python3 tests/edits.py $(CRATES)
+
+# Refuses each allocation of the calls of depfiles and records, in a program that is proved first.
+.PHONY: refusals
+refusals: kit
+	python3 tests/refused_calls.py
 
 # Compares the commands of many trees of CMake and Meson with ninja's, upstream projects among them (from Debian's mirror); `make` first.
 .PHONY: real

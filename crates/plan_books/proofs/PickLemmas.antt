@@ -1,6 +1,6 @@
 -- What stands on a shelf can be done, and what can be done stands on one.
 use Rattle.std.proofs.Common.{◌≡◌, ◌≢◌, ℕ, zero, suc, ◌+◌, ◌<◌, ◌≤◌, List, [], ◌∷◌, length, refl, sym, ◌∙◌, ap, subst, arith, get_or, ◌⊎◌, inl, inr, Bool, true, false, cond, Some, None}
-use Rattle.std.specs.Prelude.{◌==◌, ◌||◌, if◌then◌else◌, nat_lt, not, All, Contains, IfNone, Option, count_by, slice_index}
+use Rattle.std.specs.Prelude.{◌==◌, ◌||◌, if◌then◌else◌, nat_lt, not, All, Contains, IfNone, IfSome, Option, count_by, slice_index}
 use Rattle.std.proofs.lemmas.Bool.{cases_eq, eq-eqb}
 use Rattle.std.proofs.lemmas.Bool.Decides.{eqb_tells}
 use Rattle.std.proofs.lemmas.List.{get_or_default}
@@ -17,7 +17,7 @@ use Rattle.plan_books.specs.Phases.{holds, is_ill, is_well, phase_at}
 use Rattle.plan_books.specs.Counts.{holders_of, one}
 use Rattle.plan_books.specs.Filed.{blame_at, pool_shelf_for, shelf_for, unbegun_shelf}
 use Rattle.plan_books.specs.Booking.{AreBooks, IsBlame, IsPlan, edges_of, unwell, waits_of}
-use Rattle.plan_books.specs.Picking.{AtTakeStays, IsBare, IsEnabled, MayTake, UnbegunStays, has_room, is_spent}
+use Rattle.plan_books.specs.Picking.{AtTakeStays, IsBare, IsEnabled, MayTake, StepsFirst, UnbegunStays, has_room, is_spent}
 use Rattle.plan_books.proofs.WaitLemmas.{in_standing, standing_in}
 
 -- where an edge stands that hasn't begun
@@ -162,6 +162,27 @@ at_take_stands : (plan : Plan) (b : Books) (e : ℕ) (h : Bool) → IsPlan plan 
 at_take_stands plan b e h is are lt at =
     some_stand b.shelves.shelf e (5 + slice_index plan.pools.items e) (subst (λ k. e < k) (sym are.kept.shelves.sized) lt) (stands plan b e (AtTake h) are lt at)
 
+-- where nobody goes and none at Take may do something, no step is enabled
+pub no_step : (plan : Plan) (b : Books) (jobs keep : ℕ) → IsPlan plan → AreBooks plan b → IsBare b.shelves.shelf 4 → AtTakeStays plan b jobs keep → (e : ℕ) → IsEnabled plan b.phases.items jobs keep (Step e) → ⊥
+no_step plan b jobs keep is are going at e on =
+    let lt : e < length b.shelves.shelf = subst (λ k. e < k) (sym are.kept.shelves.sized) on.0 in
+    let p = slice_index plan.pools.items e in
+    let pl : p < length plan.depths.items = is.in_pools e on.0 in
+    let pl' : p < length b.pool_shelves.shelf = subst (λ k. p < k) (sym are.kept.pool_shelves.sized) pl in
+    elim on.1 [
+      | inl (h, go) ↦ going e lt (stands plan b e (Going h) are on.0 go)
+      | inr ((h, take), may) ↦ elim at [
+        | inl s ↦ true_or_false (is_spent keep b.phases.items) s.0 may.2
+        | inr s ↦ elim s.1 [
+          | inl full ↦ omega (arith, full, may.1)
+          | inr bare ↦
+              let holders : slice_index b.counts.pool_holders.items p ≡ holders_of p plan.pools.items b.phases.items = are.kept.counts.pool_holders_are p (subst (λ k. p < k) (sym are.kept.holders_sized) pl) in
+              bare p pl' (are.kept.pools_filed p pl ∙ (ap (λ k. pool_shelf_for (standing (5 + p) b.shelves.shelf) k (slice_index plan.depths.items p)) holders
+              ∙ pool_free (standing (5 + p) b.shelves.shelf) (holders_of p plan.pools.items b.phases.items) (slice_index plan.depths.items p) (at_take_stands plan b e h is are on.0 take) may.0))
+        ]
+      ]
+    ]
+
 pub none_enabled : (plan : Plan) (b : Books) (jobs keep : ℕ) → IsPlan plan → AreBooks plan b → IsBare b.shelves.shelf 4 → AtTakeStays plan b jobs keep → UnbegunStays b keep
     → (pick : Pick) → IsEnabled plan b.phases.items jobs keep pick → ⊥
 none_enabled plan b jobs keep is are going at unbegun (Start e) on =
@@ -193,24 +214,7 @@ none_enabled plan b jobs keep is are going at unbegun (Stop e) on =
         | inr s ↦ true_or_false (is_spent keep b.phases.items) on.1 s.0
       ]
     ]
-none_enabled plan b jobs keep is are going at unbegun (Step e) on =
-    let lt : e < length b.shelves.shelf = subst (λ k. e < k) (sym are.kept.shelves.sized) on.0 in
-    let p = slice_index plan.pools.items e in
-    let pl : p < length plan.depths.items = is.in_pools e on.0 in
-    let pl' : p < length b.pool_shelves.shelf = subst (λ k. p < k) (sym are.kept.pool_shelves.sized) pl in
-    elim on.1 [
-      | inl (h, go) ↦ going e lt (stands plan b e (Going h) are on.0 go)
-      | inr ((h, take), may) ↦ elim at [
-        | inl s ↦ true_or_false (is_spent keep b.phases.items) s.0 may.2
-        | inr s ↦ elim s.1 [
-          | inl full ↦ omega (arith, full, may.1)
-          | inr bare ↦
-              let holders : slice_index b.counts.pool_holders.items p ≡ holders_of p plan.pools.items b.phases.items = are.kept.counts.pool_holders_are p (subst (λ k. p < k) (sym are.kept.holders_sized) pl) in
-              bare p pl' (are.kept.pools_filed p pl ∙ (ap (λ k. pool_shelf_for (standing (5 + p) b.shelves.shelf) k (slice_index plan.depths.items p)) holders
-              ∙ pool_free (standing (5 + p) b.shelves.shelf) (holders_of p plan.pools.items b.phases.items) (slice_index plan.depths.items p) (at_take_stands plan b e h is are on.0 take) may.0))
-        ]
-      ]
-    ]
+none_enabled plan b jobs keep is are going at unbegun (Step e) on = no_step plan b jobs keep is are going at e on
 
 pub may_take : (plan : Plan) (b : Books) (e : ℕ) → IsPlan plan → AreBooks plan b → e < edges_of plan → slice_index b.pool_shelves.shelf (slice_index plan.pools.items e) ≡ 1 → has_room plan b.phases.items (slice_index plan.pools.items e) ≡ true
 may_take plan b e is are lt one_is =
@@ -224,3 +228,23 @@ may_take plan b e is are lt one_is =
 pub none_then : {X : Type 0} (r : Option X) (P Q : Type 0) → IfNone r P → (P → Q) → IfNone r Q
 none_then None P Q p f = f p
 none_then (Some x) P Q p f = p
+
+-- where failures have reached the limit and nobody goes, no step is enabled
+spent_no_step : (plan : Plan) (b : Books) (jobs keep : ℕ) → AreBooks plan b → IsBare b.shelves.shelf 4 → is_spent keep b.phases.items ≡ true → (e : ℕ) → IsEnabled plan b.phases.items jobs keep (Step e) → ⊥
+spent_no_step plan b jobs keep are going spent e on =
+    elim on.1 [
+      | inl (h, go) ↦ going e (subst (λ k. e < k) (sym are.kept.shelves.sized) on.0) (stands plan b e (Going h) are on.0 go)
+      | inr (take, may) ↦ true_or_false (is_spent keep b.phases.items) spent may.2
+    ]
+
+-- then any pick is right
+pub spent_first : (plan : Plan) (b : Books) (jobs keep : ℕ) (x : Pick) → AreBooks plan b → is_spent keep b.phases.items ≡ true → IsBare b.shelves.shelf 4 → StepsFirst plan b.phases.items jobs keep x
+spent_first plan b jobs keep x are spent going e on = absurd (spent_no_step plan b jobs keep are going spent e on)
+
+pub any_first : (plan : Plan) (b : Books) (jobs keep : ℕ) (x : Pick) → IsPlan plan → AreBooks plan b → IsBare b.shelves.shelf 4 → AtTakeStays plan b jobs keep → StepsFirst plan b.phases.items jobs keep x
+any_first plan b jobs keep x is are going at e on = absurd (no_step plan b jobs keep is are going at e on)
+
+-- what holds of any value holds of the one that is there
+pub some_any : {X : Type 0} (r : Option X) (P : X → Type 0) → ((x : X) → P x) → IfSome r P
+some_any None P f = tt
+some_any (Some x) P f = f x

@@ -28,6 +28,14 @@ IsEnabled plan phases jobs keep (Skip e w) = (e < edges_of plan) × (phase_at ph
 IsEnabled plan phases jobs keep (Stop e) = (e < edges_of plan) × (is_spent keep phases ≡ true) × ((phase_at phases e ≡ Unbegun) ⊎ ((h : Bool) × (phase_at phases e ≡ AtTake h)))
 IsEnabled plan phases jobs keep (Step e) = (e < edges_of plan) × (((h : Bool) × (phase_at phases e ≡ Going h)) ⊎ (((h : Bool) × (phase_at phases e ≡ AtTake h)) × MayTake plan phases jobs keep e))
 
+abbrev pub is_step : Pick → Bool
+is_step (Step e) = true
+is_step _ = false
+
+-- a step, where one is enabled
+abbrev pub StepsFirst : Plan → List Phase → ℕ → ℕ → Pick → Type 0
+StepsFirst plan phases jobs keep pick = (e : ℕ) → IsEnabled plan phases jobs keep (Step e) → is_step pick ≡ true
+
 -- nobody stands there
 abbrev pub IsBare : List ℕ → ℕ → Type 0
 IsBare shelf s = (e : ℕ) → e < length shelf → slice_index shelf e ≢ s

@@ -3,7 +3,7 @@
 ghost use Rattle.std.specs.Prelude.{◌≡◌, ◌<◌, ◌≤◌, ◌⊎◌, Bool, ℕ, IfNone, IfSome, IsTrue, IsFalse, length, slice_index};
 ghost use Rattle.plan_books.specs.Booking.{AreBooks, IsPlan, edges_of};
 ghost use Rattle.plan_books.specs.Phases.{phase_at};
-ghost use Rattle.plan_books.specs.Picking.{AtTakeStays, IsBare, IsEnabled, UnbegunStays, is_spent};
+ghost use Rattle.plan_books.specs.Picking.{AtTakeStays, IsBare, IsEnabled, StepsFirst, UnbegunStays, is_spent};
 
 use crate::keeping::Books;
 use crate::phase::Phase;
@@ -61,6 +61,7 @@ impl Books {
         requires plan { IsPlan plan.now }
         requires books { AreBooks plan.now self.now }
         ensures some { IfSome result (λ pick. IsEnabled plan.now self.now.phases.items jobs keep pick) }
+        ensures steps { IsBare self.now.shelves.shelf 4 → IfSome result (λ pick. StepsFirst plan.now self.now.phases.items jobs keep pick) }
         ensures none { IfNone result (AtTakeStays plan.now self.now jobs keep) }
     {
         if self.is_spent(plan, keep) {
@@ -114,11 +115,13 @@ impl Books {
         }
     }
 
-    /// A Start, Skip, Stop or Step that is enabled; none where none is. An edge in work goes before one that hasn't begun.
+    /// A Start, Skip, Stop or Step that is enabled, a Step where one is; none where none is. An edge in work goes before
+    /// one that hasn't begun.
     pub fn pick(&self, plan: &Plan, jobs: u32, keep: u32) -> Option<Pick>
         requires plan { IsPlan plan.now }
         requires books { AreBooks plan.now self.now }
         ensures some { IfSome result (λ pick. IsEnabled plan.now self.now.phases.items jobs keep pick) }
+        ensures steps { IfSome result (λ pick. StepsFirst plan.now self.now.phases.items jobs keep pick) }
         ensures none { IfNone result ((pick : Pick) → IsEnabled plan.now self.now.phases.items jobs keep pick → ⊥) }
     {
         match self.on_shelf(plan, 4) {

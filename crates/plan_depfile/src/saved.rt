@@ -35,6 +35,7 @@ impl Machine {
         ensures same { (was : Machine) → IsSaved was saved → take (length was.paths.listed) self.old.paths.listed ≡ was.paths.listed → (rest : List ℕ) → answer self.new rest ≡ answer was rest }
         ensures place { self.new.at ≡ saved.at }
         ensures held { self.new.held ≡ saved.held }
+        ensures fault { self.new.fault ≡ saved.fault }
     {
         let Saved {
             word,

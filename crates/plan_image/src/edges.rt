@@ -57,12 +57,21 @@ fn columns_of(code: CodeRef<'_>) -> (Option<u32>, &[u8], &[u32])
     }
 }
 
-/// The code that the columns hold as these, lent.
-fn code_ref<'a>(body: Option<u32>, opcodes: &'a [u8], operands: &'a [u32]) -> CodeRef<'a>
-    ensures { lent_code result ≡ code_by body opcodes.now operands.now }
+/// The code of the edge of this number, which has this body or none, lent.
+fn code_in<'a>(
+    body: Option<u32>,
+    opcodes: &'a RowList<u8>,
+    operands: &'a RowList<u32>,
+    number: usize,
+) -> CodeRef<'a>
+    ensures { lent_code result ≡ code_by body (get_or opcodes.now number []) (get_or operands.now number []) }
 {
+    let operands = operands.row(number);
     match body {
-        None => CodeRef::Own(InstrsRef { opcodes, operands }),
+        None => CodeRef::Own(InstrsRef {
+            opcodes: opcodes.row(number),
+            operands,
+        }),
         Some(body) => CodeRef::Shared(body, operands),
     }
 }
@@ -203,11 +212,7 @@ impl Edges {
             label: head.label,
             outputs: self.outputs.row(number),
             waits: self.waits.row(number),
-            code: code_ref(
-                head.body,
-                self.opcodes.row(number),
-                self.operands.row(number),
-            ),
+            code: code_in(head.body, &self.opcodes, &self.operands, number),
         }
     }
 
@@ -219,7 +224,7 @@ impl Edges {
             return None;
         }
         let body = self.heads[number].body;
-        Some(code_ref(body, self.opcodes.row(number), self.operands.row(number)))
+        Some(code_in(body, &self.opcodes, &self.operands, number))
     }
 
     /// The rank of the edge of this number, where there are as many.

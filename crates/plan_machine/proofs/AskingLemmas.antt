@@ -39,6 +39,9 @@ module _ (p : Parts) (e : ℕ) (l : Local) (r : Answer) where
   pub works_in : (i : Instr) → l.asked ≡ true → Some i ≡ slice_get (code p e) l.place → IfSome (heard depfile p e l r) Works → IfSome (replied depfile l i r) Works
   works_in i loud at works = subst (λ (t : Option Turn). IfSome t Works) (heard_is (Some i) loud at) works
 
+  pub fits_in : (i : Instr) → l.asked ≡ true → Some i ≡ slice_get (code p e) l.place → IsSome (replied depfile l i r) → IsSome (heard depfile p e l r)
+  fits_in i loud at fits = subst (λ (t : Option Turn). IsSome t) (sym (heard_is (Some i) loud at)) fits
+
 next_silent : (l : Local) (stack : List Value) → request_of (next l stack) ≡ None
 next_silent l stack = when_either (λ (t : Turn). request_of t ≡ None) (nat_lt 64 (length stack)) _ _ (λ h. refl) (λ h. refl)
 

@@ -94,15 +94,11 @@ module _ (p : Parts) (limits : Limits) (first second : List Event) (end other : 
 
 pub fault_within : (p : Parts) (limits : Limits) (events : List Event) (n : ℕ) (r : Refused) → IsReplayFault p limits [] events n r → n ≤ length events
 fault_within p limits events n refused.NotEnabled h = let lt = slice_get_within events n h.2.event h.2.there in omega (arith, lt)
-fault_within p limits events n refused.Memory h = h
+fault_within p limits events n refused.Memory h = elim h.1 [ inl first ↦ omega (arith, first) | inr run ↦ run.2.within ]
 fault_within p limits events n refused.BadTarget h = absurd cc
 
 pub first_fault : (p : Parts) (limits : Limits) (first second : List Event) (n : ℕ) (r : Refused) → IsReplayFault p limits [] first n r → IsEndFault p limits first second n r
-first_fault p limits first second n refused.NotEnabled h = inl h
-first_fault p limits first second n refused.Memory h = omega (arith, h)
-first_fault p limits first second n refused.BadTarget h = absurd cc
+first_fault p limits first second n r h = inl h
 
 pub second_fault : (p : Parts) (limits : Limits) (first second : List Event) (end : State) (m n : ℕ) (r : Refused) → EndsIn p limits first end → n ≡ length first + m → IsReplayFault p limits [] second m r → IsEndFault p limits first second n r
-second_fault p limits first second end m n refused.NotEnabled ends is h = inr (end, ends, m, is, h)
-second_fault p limits first second end m n refused.Memory ends is h = omega (arith, is, h)
-second_fault p limits first second end m n refused.BadTarget ends is h = absurd cc
+second_fault p limits first second end m n r ends is h = inr (end, ends, m, is, h)

@@ -1,6 +1,6 @@
 -- What the books say of a state that they fit.
 use Rattle.std.proofs.Common.{◌≡◌, ℕ, zero, suc, ◌+◌, ◌<◌, Bool, true, false, not, List, [], ◌∷◌, length, map, Option, Some, None, refl, sym, ap, ◌∙◌, arith, inl, inr, cond}
-use Rattle.std.specs.Prelude.{◌&&◌, ◌==◌, slice_get, slice_set, slice_index, count_by, if◌then◌else◌}
+use Rattle.std.specs.Prelude.{◌&&◌, ◌==◌, option_map, slice_get, slice_set, slice_index, count_by, if◌then◌else◌}
 use Rattle.std.specs.List.{list_all}
 use Rattle.std.proofs.lemmas.Bool.{cases_eq, cases_Bool, eq-eqb, ne_eqb}
 use Rattle.std.proofs.lemmas.Option.{slice_get_within}
@@ -143,6 +143,32 @@ phase_there_by p e (suc k) (x ∷ l) st h = phase_there_by p (e + 1) k l st h �
 
 pub phase_there : (p : Parts) (k : ℕ) (l : List Status) (st : Status) → slice_get l k ≡ Some st → phase_at (phases_from p 0 l) k ≡ phase_of p k st
 phase_there p k l st h = let same : 0 + k ≡ k = omega arith in phase_there_by p 0 k l st h ∙ ap (λ (n : ℕ). phase_of p n st) same
+
+-- the phase that the books have of an edge
+phase_found_by : (p : Parts) (e k : ℕ) (l : List Status) → slice_get (phases_from p e l) k ≡ option_map (phase_of p (e + k)) (slice_get l k)
+phase_found_by p e k [] = refl
+phase_found_by p e zero (x ∷ l) = ap (λ (n : ℕ). Some (phase_of p n x)) (sym (zero_more e))
+phase_found_by p e (suc k) (x ∷ l) =
+    phase_found_by p (e + 1) k l ∙ ap (λ (n : ℕ). option_map (phase_of p n) (slice_get l k)) (sym (one_more e k))
+
+phase_found : (p : Parts) (k : ℕ) (l : List Status) → slice_get (phases_from p 0 l) k ≡ option_map (phase_of p k) (slice_get l k)
+phase_found p k l = let same : 0 + k ≡ k = omega arith in phase_found_by p 0 k l ∙ ap (λ (n : ℕ). option_map (phase_of p n) (slice_get l k)) same
+
+phase_some : (p : Parts) (e : ℕ) (status : Option Status) (x : Phase) → option_map (phase_of p e) status ≡ Some x → x ≡ phase_in p e status
+phase_some p e (Some status) x h = let same : phase_of p e status ≡ x = cc in sym same
+phase_some p e None x h = absurd cc
+
+phase_none : (p : Parts) (e : ℕ) (status : Option Status) → option_map (phase_of p e) status ≡ None → phase.NotWanted ≡ phase_in p e status
+phase_none p e (Some status) h = absurd cc
+phase_none p e None h = refl
+
+pub phase_known : (p : Parts) (s : State) (plan : Plan) (books : Books) → AreKept p s plan books → (e : ℕ) (x : Phase) → slice_get books.phases.items e ≡ Some x → x ≡ phase_in p e (slice_get s.edges e)
+phase_known p s plan books kept e x h =
+    phase_some p e (slice_get s.edges e) x (sym (phase_found p e s.edges) ∙ sym (ap (λ (ps : List Phase). slice_get ps e) kept.phases) ∙ h)
+
+pub phase_unknown : (p : Parts) (s : State) (plan : Plan) (books : Books) → AreKept p s plan books → (e : ℕ) → slice_get books.phases.items e ≡ None → phase.NotWanted ≡ phase_in p e (slice_get s.edges e)
+phase_unknown p s plan books kept e h =
+    phase_none p e (slice_get s.edges e) (sym (phase_found p e s.edges) ∙ sym (ap (λ (ps : List Phase). slice_get ps e) kept.phases) ∙ h)
 
 count_same : (f : Phase → Bool) (g : Status → Bool) (p : Parts) → ((e : ℕ) (st : Status) → f (phase_of p e st) ≡ g st) → (e : ℕ) (l : List Status) → count_by f (phases_from p e l) ≡ count_by g l
 count_same f g p same e [] = refl

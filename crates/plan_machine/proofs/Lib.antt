@@ -17,6 +17,7 @@ pub mod KeptLemmas
 pub mod PhaseLemmas
 pub mod PlanLemmas
 pub mod PickLemmas
+pub mod RefusalLemmas
 pub mod ReplayLemmas
 pub mod RequestLemmas
 pub mod AsksLemmas

@@ -23,7 +23,7 @@ use Rattle.plan_books.specs.declared.picking.Pick.TheVariants as pick
 use Rattle.plan_books.specs.Phases.{holds, has_failed as phase_failed, is_well as phase_well, phase_at}
 use Rattle.plan_books.specs.Counts.{holders_of}
 use Rattle.plan_books.specs.Booking.{edges_of, waits_of as waits_by}
-use Rattle.plan_books.specs.Picking.{IsEnabled as CanPick, has_room as pool_room, is_spent as spent_by}
+use Rattle.plan_books.specs.Picking.{IsEnabled as CanPick, StepsFirst as FirstSteps, has_room as pool_room, is_spent as spent_by, is_step as picks_step}
 use Rattle.plan_machine.specs.declared.event.Event.{Event}
 use Rattle.plan_machine.specs.declared.event.Event.TheVariants.{Start, Skip, Stop, Step, Reply as Hear}
 use Rattle.plan_machine.specs.declared.mark.Mark.TheVariants as mark
@@ -37,7 +37,7 @@ use Rattle.plan_machine.specs.Depfile.{depfile}
 use Rattle.plan_machine.specs.Standing.{IsUnderWay, Stands}
 use Rattle.plan_machine.specs.NeverStuck.{Awaits, CanGo, is_own}
 use Rattle.plan_machine.specs.Kept.{phase_over, phase_going, phase_active, phase_of, AreKept}
-use Rattle.plan_machine.specs.Picking.{IsEnabled, event_of}
+use Rattle.plan_machine.specs.Picking.{IsEnabled, StepsFirst, event_of, is_step}
 use Rattle.plan_machine.proofs.ListLemmas.{and_both, get_inside, member_contained, or_right, when_true, when_false}
 use Rattle.plan_machine.proofs.VerifyLaws.{VerifyLaws}
 use Rattle.plan_machine.proofs.StandingLemmas.{turn_safe}
@@ -145,6 +145,13 @@ depth_at : (pools : List Pool) (q holders : ℕ) → ((slice_index (map (λ (poo
 depth_at [] q holders = refl
 depth_at (pool ∷ pools) zero holders = refl
 depth_at (pool ∷ pools) (suc q) holders = depth_at pools q holders
+
+-- what the books pick as a step is one
+step_of : (x : Pick) → picks_step x ≡ true → is_step (event_of x) ≡ true
+step_of (pick.Step e) h = refl
+step_of (pick.Start e) h = absurd cc
+step_of (pick.Skip e w) h = absurd cc
+step_of (pick.Stop e) h = absurd cc
 
 module _ (p : Parts) (g : Going) (plan : Plan) (books : Books) (kept : AreKept p g.now plan books) where
   jobs : ℕ
@@ -363,6 +370,9 @@ module _ (p : Parts) (g : Going) (plan : Plan) (books : Books) (kept : AreKept p
         hear_picks event (Next s m) = tt
         hear_picks event (Wrong flaw) = tt
         hear_picks event NotEnabled = tt
+
+    pub step_first : (x : Pick) → FirstSteps plan books.phases.items g.limits.jobs g.limits.keep x → StepsFirst p g (event_of x)
+    step_first x first e on = step_of x (first e (let it : Picks (Step e) (Next on.after on.mark) = subst (Picks (Step e)) on.next (own_picks (Step e)) in it))
 
     pub none_picked : ((x : Pick) → CanPick plan books.phases.items g.limits.jobs g.limits.keep x → ⊥) → (event : Event) → is_own event ≡ true → IsEnabled p g event → ⊥
     none_picked none (Start e) own on = none (pick.Start e) (let it : Picks (Start e) (Next on.after on.mark) = subst (Picks (Start e)) on.next (own_picks (Start e)) in it)

@@ -1,6 +1,6 @@
 -- Runs, one event longer; a run from the opening.
-use Rattle.std.proofs.Common.{◌≡◌, ◌≢◌, ℕ, zero, suc, ◌+◌, ◌<◌, List, [], ◌∷◌, ◌++◌, length, take, Result, Ok, Err, Some, refl, sym, ap, ◌∙◌, subst, arith}
-use Rattle.std.specs.Prelude.{IfOk, OnOk, slice_get}
+use Rattle.std.proofs.Common.{◌≡◌, ◌≢◌, ℕ, zero, suc, ◌+◌, ◌<◌, List, [], ◌∷◌, ◌++◌, length, take, Result, Ok, Err, Some, refl, sym, ap, ◌∙◌, subst, arith, inl, inr, false, true}
+use Rattle.std.specs.Prelude.{◌⊎◌, IfOk, OnOk, slice_get}
 use Rattle.plan_image.specs.declared.image.Parts.{Parts}
 use Rattle.plan_verify.specs.WellShaped.{IsWellShaped}
 use Rattle.plan_machine.specs.Limits.{Limits}
@@ -13,7 +13,8 @@ use Rattle.plan_machine.specs.Step.{Next, NotEnabled, step}
 use Rattle.plan_machine.specs.Depfile.{depfile}
 use Rattle.plan_machine.specs.Runs.{Opens, Runs, Reached}
 use Rattle.plan_machine.specs.Applying.{Applied}
-use Rattle.plan_machine.specs.Replaying.{IsReplayFault, IsStop, RunsTo, StopsFrom, Went}
+use Rattle.plan_machine.specs.Replaying.{IsReplayFault, IsStop, RunsBefore, RunsTo, StopsFrom, Went}
+use Rattle.plan_machine.specs.Wanted.{any_outside}
 use Rattle.plan_machine.proofs.StateLemmas.{runs_more}
 
 pub went : (p : Parts) (old new : Going) (event : Event) (told : Mark) (marks after : List Mark) → Applied p old event (Ok told) new → after ≡ marks ++ told ∷ [] → Went p old event marks new after
@@ -54,7 +55,7 @@ pub stops : (p : Parts) (old mid : Going) (events : List Event) (i : ℕ) (event
     → (r ≡ refused.NotEnabled → step depfile p mid.limits mid.now event ≡ NotEnabled) → r ≢ refused.BadTarget → IsStop p old.limits old.now events i r
 stops p old mid events i event marks refused.NotEnabled at run lt why inside =
     record { marks = marks; before = mid.now; run = run.run; event = event; there = at; refused = subst (λ (l : Limits). step depfile p l mid.now event ≡ NotEnabled) run.limits (why refl) }
-stops p old mid events i event marks refused.Memory at run lt why inside = omega (arith, lt)
+stops p old mid events i event marks refused.Memory at run lt why inside = record { within = omega (arith, lt); marks = marks; before = mid.now; run = run.run }
 stops p old mid events i event marks refused.BadTarget at run lt why inside = absurd (inside refl)
 
 pub on_ok_more : {A E : Type 0} (P : A → Type 0) (Q : Type 0) (r : Result A E) → ((x : A) → P x → Q) → IfOk r P → OnOk r Q
@@ -67,7 +68,13 @@ module _ (p : Parts) (shaped : IsWellShaped p) (limits : Limits) (targets : List
   pub whole : (marks : List Mark) (end : Going) → RunsTo p start events marks end → Reached depfile p limits targets events marks end.now
   whole marks end r = record { start = start.now; opens = opens; run = subst (λ (l : Limits). Runs depfile p l start.now events marks end.now) same r.run }
 
-  pub fault : (n : ℕ) (r : Refused) → IsStop p start.limits start.now events n r → IsReplayFault p limits targets events n r
-  fault n refused.NotEnabled stop = (start.now, opens, subst (λ (l : Limits). StopsFrom p l start.now events n) same stop)
-  fault n refused.Memory stop = stop
-  fault n refused.BadTarget stop = absurd stop
+  pub fault : any_outside p targets ≡ false → (n : ℕ) (r : Refused) → IsStop p start.limits start.now events n r → IsReplayFault p limits targets events n r
+  fault inside n refused.NotEnabled stop = (start.now, opens, subst (λ (l : Limits). StopsFrom p l start.now events n) same stop)
+  fault inside n refused.Memory stop = (inside, inr (start.now, opens, subst (λ (l : Limits). RunsBefore p l start.now events n) same stop))
+  fault inside n refused.BadTarget stop = absurd stop
+
+-- the opening is refused before any event
+pub open_fault : (p : Parts) (limits : Limits) (targets : List ℕ) (events : List Event) (r : Refused)
+    → ((r ≡ refused.Memory) × (any_outside p targets ≡ false)) ⊎ ((r ≡ refused.BadTarget) × (any_outside p targets ≡ true)) → IsReplayFault p limits targets events 0 r
+open_fault p limits targets events r (inl h) = subst (IsReplayFault p limits targets events 0) (sym h.0) (h.1, inl refl)
+open_fault p limits targets events r (inr h) = subst (IsReplayFault p limits targets events 0) (sym h.0) (refl, h.1)

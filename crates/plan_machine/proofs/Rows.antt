@@ -1,8 +1,10 @@
 -- The definitions, computed on small images.
 use Rattle.std.proofs.Common.{◌≡◌, ℕ, true, false, List, [], ◌∷◌, Option, Some, None, refl}
+use Rattle.plan_image.specs.declared.instr.Instr.{Instr}
 use Rattle.plan_image.specs.declared.instr.Instr.TheVariants as op
 use Rattle.plan_image.specs.declared.image.Sort.TheVariants as sort
 use Rattle.plan_image.specs.declared.image.EdgeCode.TheVariants.{Own}
+use Rattle.plan_image.specs.declared.instr.Kind.TheVariants as kind
 use Rattle.plan_image.specs.declared.image.Edge.{Edge}
 use Rattle.plan_image.specs.declared.image.Parts.{Parts}
 use Rattle.plan_verify.specs.declared.value.Value.TheVariants.{Text}
@@ -99,3 +101,29 @@ phases = refl
 
 entry_is : answer_of (reply.Entry (record { command = 120 ∷ []; basis = 7; paths = (97 ∷ []) ∷ [] })) ≡ Entry (120 ∷ []) 7 ((97 ∷ []) ∷ [])
 entry_is = refl
+
+-- edge 0 runs, and its output keeps an old stamp; edge 1, which is newer, runs no command
+alone : ℕ → List ℕ → List Instr → Edge
+alone n waits code = record { sort = sort.Command; pool = None; rank = n; label = 0; outputs = n ∷ []; waits = waits; code = Own code }
+
+chain : Parts
+chain = record {
+  texts = (120 ∷ []) ∷ [];
+  files = (97 ∷ []) ∷ (98 ∷ []) ∷ [];
+  pools = [];
+  slots = record { owner = 0; kind = kind.Stamp } ∷ [];
+  bodies = None;
+  edges = alone 0 [] (op.Take ∷ op.Text 0 ∷ op.Run ∷ op.Release ∷ op.Stat 0 ∷ op.Store 0 ∷ op.End ∷ [])
+      ∷ alone 1 (0 ∷ []) (op.Load 0 ∷ op.Stat 1 ∷ op.Before ∷ op.JumpIf 8 ∷ op.Take ∷ op.Text 0 ∷ op.Run ∷ op.Release ∷ op.End ∷ []) ∷ [];
+  defaults = 1 ∷ [];
+}
+
+restat_chain :
+    marks_of chain (record { jobs = 1; keep = 1 }) (record { edges = Unbegun ∷ Unbegun ∷ []; slots = None ∷ [] })
+    (Start 1 ∷ Start 0 ∷ Step 0 ∷ Step 0 ∷ Step 0 ∷ Hear 0 (reply.Exit 0) ∷ Step 0 ∷ Step 0 ∷ Hear 0 (reply.Stamp 5) ∷ Step 0 ∷ Step 0
+    ∷ Start 1 ∷ Step 1 ∷ Step 1 ∷ Hear 1 (reply.Stamp 7) ∷ Step 1 ∷ Step 1 ∷ Step 1 ∷ [])
+    ≡ None ∷ Some (mark.Started 0) ∷ Some (mark.Took 0) ∷ Some (mark.Moved 0) ∷ Some (mark.Asked 0) ∷ Some (mark.Answered 0) ∷ Some (mark.Released 0) ∷ Some (mark.Asked 0) ∷ Some (mark.Answered 0)
+    ∷ Some (mark.Moved 0) ∷ Some (mark.Ended 0 true)
+    ∷ Some (mark.Started 1) ∷ Some (mark.Moved 1) ∷ Some (mark.Asked 1) ∷ Some (mark.Answered 1) ∷ Some (mark.Moved 1) ∷ Some (mark.Moved 1) ∷ Some (mark.Ended 1 false) ∷ []
+unfolding marks_of then_marks chain alone step turn heard
+restat_chain = refl

@@ -1,11 +1,10 @@
 -- What is told of the ends of two lists of events, each from the opening for the image's defaults.
-use Rattle.std.specs.Prelude.{◌≡◌, ◌↔◌, ◌⊎◌, ℕ, ◌+◌, ◌≤◌, Bool, true, List, [], length}
+use Rattle.std.specs.Prelude.{◌≡◌, ◌↔◌, ◌⊎◌, ℕ, ◌+◌, Bool, true, List, [], length}
 use Rattle.plan_image.specs.declared.image.Parts.{Parts}
 use Rattle.plan_machine.specs.Limits.{Limits}
 use Rattle.plan_machine.specs.declared.event.Event.{Event}
 use Rattle.plan_machine.specs.declared.mark.Mark.{Mark}
 use Rattle.plan_machine.specs.declared.refused.Refused.{Refused}
-use Rattle.plan_machine.specs.declared.refused.Refused.TheVariants as refused
 use Rattle.plan_machine.specs.State.{State, has_ended}
 use Rattle.plan_machine.specs.Runs.{Reached}
 use Rattle.plan_machine.specs.Depfile.{depfile}
@@ -31,11 +30,9 @@ NeverTellsApart p limits first second same =
     limits.keep ≡ 0 → (end other : State) → EndsIn p limits first end → has_ended end ≡ true → EndsIn p limits second other → has_ended other ≡ true
     → ((e : ℕ) → replies_to e first ≡ replies_to e second) → same ≡ true
 
--- Why two lists weren't compared, and where, counted through the first and then the second: the first event of the
--- first list that isn't enabled, of the second where the first replays, or want of memory.
+-- Why two lists weren't compared, and where, counted through the first and then the second: why the first wasn't
+-- replayed, or why the second wasn't where the first was.
 abbrev pub IsEndFault : Parts → Limits → List Event → List Event → ℕ → Refused → Type 0
-IsEndFault p limits first second n refused.NotEnabled =
-    IsReplayFault p limits [] first n refused.NotEnabled
-    ⊎ ((end : State) × EndsIn p limits first end × (m : ℕ) × (n ≡ length first + m) × IsReplayFault p limits [] second m refused.NotEnabled)
-IsEndFault p limits first second n refused.Memory = n ≤ length first + length second
-IsEndFault p limits first second n refused.BadTarget = ⊥
+IsEndFault p limits first second n refused =
+    IsReplayFault p limits [] first n refused
+    ⊎ ((end : State) × EndsIn p limits first end × (m : ℕ) × (n ≡ length first + m) × IsReplayFault p limits [] second m refused)

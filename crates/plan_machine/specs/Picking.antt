@@ -1,5 +1,5 @@
 -- What can happen next, by itself or by a reply.
-use Rattle.std.specs.Prelude.{◌≡◌}
+use Rattle.std.specs.Prelude.{◌≡◌, ℕ, Bool, true, false}
 use Rattle.plan_image.specs.declared.image.Parts.{Parts}
 use Rattle.plan_books.specs.declared.picking.Pick.{Pick}
 use Rattle.plan_books.specs.declared.picking.Pick.TheVariants as pick
@@ -22,3 +22,11 @@ event_of (pick.Start e) = Start e
 event_of (pick.Skip e w) = Skip e w
 event_of (pick.Stop e) = Stop e
 event_of (pick.Step e) = Step e
+
+abbrev pub is_step : Event → Bool
+is_step (Step e) = true
+is_step _ = false
+
+-- a step, where one is enabled
+abbrev pub StepsFirst : Parts → Going → Event → Type 0
+StepsFirst p g event = (e : ℕ) → IsEnabled p g (Step e) → is_step event ≡ true

@@ -1,5 +1,5 @@
 -- What replaying events comes to.
-use Rattle.std.specs.Prelude.{◌≡◌, ℕ, ◌≤◌, List, [], ◌∷◌, ◌++◌, length, take, slice_get, Some, true}
+use Rattle.std.specs.Prelude.{◌≡◌, ◌⊎◌, ℕ, ◌≤◌, List, [], ◌∷◌, ◌++◌, length, take, slice_get, Some, false, true}
 use Rattle.plan_image.specs.declared.image.Parts.{Parts}
 use Rattle.plan_machine.specs.Limits.{Limits}
 use Rattle.plan_machine.specs.declared.event.Event.{Event}
@@ -34,14 +34,21 @@ pub record StopsFrom (p : Parts) (limits : Limits) (start : State) (events : Lis
   pub there : slice_get events n ≡ Some event
   pub refused : step depfile p limits before event ≡ NotEnabled
 
--- why events weren't applied, and where: the first that isn't enabled, or want of memory
+-- the events before a place run
+pub record RunsBefore (p : Parts) (limits : Limits) (start : State) (events : List Event) (n : ℕ) : Type 0 where
+  pub within : n ≤ length events
+  pub marks : List Mark
+  pub before : State
+  pub run : Runs depfile p limits start (take n events) marks before
+
+-- why events weren't applied, and where: the first that isn't enabled, or want of memory behind those that ran
 abbrev pub IsStop : Parts → Limits → State → List Event → ℕ → Refused → Type 0
 IsStop p limits start events n refused.NotEnabled = StopsFrom p limits start events n
-IsStop p limits start events n refused.Memory = n ≤ length events
+IsStop p limits start events n refused.Memory = RunsBefore p limits start events n
 IsStop p limits start events n refused.BadTarget = ⊥
 
--- why events weren't replayed: a target is outside, or they weren't applied from the opening
+-- why events weren't replayed: a target is outside, or they weren't applied from the opening, or it wasn't made
 abbrev pub IsReplayFault : Parts → Limits → List ℕ → List Event → ℕ → Refused → Type 0
 IsReplayFault p limits targets events n refused.NotEnabled = (start : State) × Opens p targets start × StopsFrom p limits start events n
-IsReplayFault p limits targets events n refused.Memory = n ≤ length events
+IsReplayFault p limits targets events n refused.Memory = (any_outside p targets ≡ false) × ((n ≡ 0) ⊎ ((start : State) × Opens p targets start × RunsBefore p limits start events n))
 IsReplayFault p limits targets events n refused.BadTarget = (n ≡ 0) × (any_outside p targets ≡ true)

@@ -96,23 +96,23 @@ impl Activity {
     }
 
     /// Goes on elsewhere.
-    fn jump(&mut self, _len: usize, to: u32)
-        requires works { Works (jumps self.old _len to self.old.stack) }
-        ensures { IsMade Turned.Moved self.old self.new (jumps self.old _len to self.old.stack) }
+    fn jump(&mut self, _image: &Image, _edge: u32, to: u32)
+        requires works { Works (jumps self.old (length (code _image.now _edge)) to self.old.stack) }
+        ensures { IsMade Turned.Moved self.old self.new (jumps self.old (length (code _image.now _edge)) to self.old.stack) }
     {
         self.place = to;
         self.asked = false;
     }
 
     /// Goes on elsewhere where a flag is set.
-    fn branch(&mut self, len: usize, to: u32)
+    fn branch(&mut self, image: &Image, edge: u32, to: u32)
         requires place { self.old.place + 1 < 2 ^ 32 }
-        requires works { Works (branches self.old len to self.old.stack) }
-        ensures { IsMade Turned.Moved self.old self.new (branches self.old len to self.old.stack) }
+        requires works { Works (branches self.old (length (code image.now edge)) to self.old.stack) }
+        ensures { IsMade Turned.Moved self.old self.new (branches self.old (length (code image.now edge)) to self.old.stack) }
     {
         let on = self.stack.pop_flag();
         if on {
-            self.jump(len, to);
+            self.jump(image, edge, to);
         } else {
             self.go_on();
         }
@@ -138,28 +138,20 @@ impl Activity {
     }
 
     /// One instruction that reads no slot and takes no memory.
-    fn act(
-        &mut self,
-        _image: &Image,
-        _edge: u32,
-        _slots: &[Slot],
-        len: usize,
-        instr: Instr,
-    ) -> Turned
-        requires len { len ≡ length (code _image.now _edge) }
+    fn act(&mut self, image: &Image, edge: u32, _slots: &[Slot], instr: Instr) -> Turned
         requires place { self.old.place + 1 < 2 ^ 32 }
         requires simple { IsSimple instr }
-        requires works { Works (act _image.now _edge _slots.now self.old instr) }
-        ensures { IsMade result self.old self.new (act _image.now _edge _slots.now self.old instr) }
+        requires works { Works (act image.now edge _slots.now self.old instr) }
+        ensures { IsMade result self.old self.new (act image.now edge _slots.now self.old instr) }
     {
         match instr {
             Instr::End => Turned::Ended,
             Instr::Jump(to) => {
-                self.jump(len, to);
+                self.jump(image, edge, to);
                 Turned::Moved
             }
             Instr::JumpIf(to) => {
-                self.branch(len, to);
+                self.branch(image, edge, to);
                 Turned::Moved
             }
             Instr::Take => {
@@ -193,10 +185,8 @@ impl Activity {
         image: &Image,
         edge: u32,
         slots: &mut Vec<Slot>,
-        len: usize,
         instr: Instr,
     ) -> Result<Turned, AllocError>
-        requires len { len ≡ length (code image.now edge) }
         requires place { self.old.place + 1 < 2 ^ 32 }
         requires table { length slots.old.items ≡ length image.now.slots }
         requires works { Works (act image.now edge slots.old.items self.old instr) }
@@ -214,7 +204,7 @@ impl Activity {
                 Ok(Turned::Moved)
             }
             Instr::Join => self.join(alloc),
-            _ => Ok(self.act(image, edge, slots, len, instr)),
+            _ => Ok(self.act(image, edge, slots, instr)),
         }
     }
 
@@ -234,15 +224,14 @@ impl Activity {
         ensures ok { IfOk result (λ r. IsTurned r self.old self.new slots.old.items slots.new.items (turn image.now edge slots.old.items self.old)) }
         ensures err { OnErr result ((self.new ≡ self.old) × (slots.new.items ≡ slots.old.items)) }
     {
-        let len = image.code_len(edge);
         match image.instr(edge, self.place) {
-            Some(instr) => self.turn(alloc, image, edge, slots, len, instr),
+            Some(instr) => self.turn(alloc, image, edge, slots, instr),
             None => unreachable!(),
         }
     }
 
     /// What it does by a reply.
-    #[tactic(auto, using(crate::proofs::AskingLemmas::heard_unasked, crate::proofs::AskingLemmas::heard_in, crate::proofs::AskingLemmas::heard_out, crate::proofs::AskingLemmas::works_in, crate::proofs::AskingLemmas::sweeps_in))]
+    #[tactic(auto, using(crate::proofs::AskingLemmas::heard_unasked, crate::proofs::AskingLemmas::heard_in, crate::proofs::AskingLemmas::heard_out, crate::proofs::AskingLemmas::works_in, crate::proofs::AskingLemmas::sweeps_in, crate::proofs::AskingLemmas::fits_in))]
     pub(crate) fn hear(
         &mut self,
         alloc: Global,
@@ -255,6 +244,7 @@ impl Activity {
         requires asks { self.old.asked ≡ true → IsSome (question image.now edge [] self.old) }
         requires works { IfSome (heard depfile image.now edge self.old (answer_of reply)) Works }
         ensures ok { IfOk result (λ r. IsHeard r self.old self.new (heard depfile image.now edge self.old (answer_of reply))) }
+        ensures fits { OnErr result (IsSome (heard depfile image.now edge self.old (answer_of reply))) }
         ensures err { OnErr result (self.new ≡ self.old) }
     {
         if !self.asked {

@@ -36,8 +36,8 @@ fn end_of(
 /// and each edge got the same replies in both lists, ended lists are the same.
 ///
 /// # Errors
-/// With the place of the event, counted through the first list and then the second: `NotEnabled` where it isn't enabled,
-/// and those of its list before it ran; `Memory`.
+/// With the place of the event, counted through the first list and then the second, before which all ran: `NotEnabled`
+/// where it isn't enabled; `Memory`.
 pub fn same_end(
     alloc: Global,
     image: &Verified,

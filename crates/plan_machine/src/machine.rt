@@ -1,11 +1,11 @@
 //! Where each edge stands and what each slot has, without the books that are kept of it.
 
-ghost use Rattle.std.specs.Prelude.{◌≡◌, ◌≢◌, ◌<◌, ◌^◌, ◌&&◌, Err, IfOk, None, OnErr, Option, Some, length, map, option_map, replicate, slice_get};
+ghost use Rattle.std.specs.Prelude.{◌≡◌, ◌≢◌, ◌<◌, ◌^◌, ◌&&◌, Err, IfOk, IsSome, None, OnErr, Option, Some, length, map, option_map, replicate, slice_get};
 ghost use Rattle.std.specs.List.{list_all};
 ghost use Rattle.plan_image.specs.Code.{code};
 ghost use Rattle.plan_verify.specs.Members.{is_member};
 ghost use Rattle.plan_verify.specs.Tables.{waits_of};
-ghost use Rattle.plan_verify.specs.Turn.{Local, turn};
+ghost use Rattle.plan_verify.specs.Turn.{Local, heard, turn};
 ghost use Rattle.plan_verify.specs.declared.value.Value.{Value as Item};
 ghost use Rattle.plan_machine.specs.declared.event.Event.TheVariants.{Reply as Hear, Skip, Start, Step, Stop};
 ghost use Rattle.plan_machine.specs.declared.turned.Turned.TheVariants as turned;
@@ -16,7 +16,8 @@ ghost use Rattle.plan_machine.specs.Places.{is_spent};
 ghost use Rattle.plan_machine.specs.Requests.{asked_at, shown, step_asks};
 ghost use Rattle.plan_machine.specs.Runs.{at_first};
 ghost use Rattle.plan_machine.specs.State.{Active, is_ill, is_well, outcome_at, passes, stands, with_status};
-ghost use Rattle.plan_machine.specs.Step.{answer_of};
+ghost use Rattle.plan_machine.specs.Depfile.{depfile};
+ghost use Rattle.plan_machine.specs.Step.{NotEnabled, answer_of, step};
 ghost use Rattle.plan_machine.specs.Total.{is_wanted, total_of};
 ghost use Rattle.plan_machine.specs.Working.{Works};
 
@@ -210,7 +211,7 @@ impl Machine {
     }
 
     /// Starts an edge that may be started.
-    #[tactic(auto, using(crate::proofs::Applies::start_is, crate::proofs::Applies::start_not, crate::proofs::Applies::start_within))]
+    #[tactic(auto, using(crate::proofs::Applies::start_is, crate::proofs::Applies::start_not, crate::proofs::Applies::start_within, crate::proofs::RefusalLemmas::start_can))]
     pub(crate) fn start(
         &mut self,
         alloc: Global,
@@ -219,7 +220,8 @@ impl Machine {
         may: bool,
     ) -> Result<Mark, Refused>
         requires { may ≡ (passes is_unbegun (slice_get self.old.now.edges edge) && list_all (stands is_well self.old.now) (waits_of _image.now edge)) }
-        ensures { Applied _image.now self.old (Start edge) result self.new }
+        ensures applied { Applied _image.now self.old (Start edge) result self.new }
+        ensures memory { result ≡ Err Refused.Memory → step depfile _image.now self.old.limits self.old.now (Start edge) ≢ NotEnabled }
     {
         if !may {
             return Err(Refused::NotEnabled);
@@ -314,7 +316,7 @@ impl Machine {
     }
 
     /// One step of an edge that may make it.
-    #[tactic(auto, using(crate::proofs::Applies::step_is, crate::proofs::Applies::step_not, crate::proofs::Applies::step_active, crate::proofs::Applies::settle_within))]
+    #[tactic(auto, using(crate::proofs::Applies::step_is, crate::proofs::Applies::step_not, crate::proofs::Applies::step_active, crate::proofs::Applies::settle_within, crate::proofs::RefusalLemmas::step_can))]
     pub(crate) fn step(
         &mut self,
         alloc: Global,
@@ -325,7 +327,8 @@ impl Machine {
         requires short { length (code image.now edge) < 2 ^ 32 }
         requires may { may ≡ may_step_by image.now self.old.limits self.old.now edge (slice_get self.old.now.edges edge) }
         requires turns { (l : Local) → slice_get self.old.now.edges edge ≡ Some (Active l) → CanTurn image.now self.old.now.slots edge l }
-        ensures { Applied image.now self.old (Step edge) result self.new }
+        ensures applied { Applied image.now self.old (Step edge) result self.new }
+        ensures memory { result ≡ Err Refused.Memory → step depfile image.now self.old.limits self.old.now (Step edge) ≢ NotEnabled }
     {
         if !may {
             return Err(Refused::NotEnabled);
@@ -355,6 +358,7 @@ impl Machine {
         requires short { length (code image.now edge) < 2 ^ 32 }
         requires active { (l : Local) × (slice_get self.old.now.edges edge ≡ Some (Active l)) × CanHear image.now edge (answer_of reply) l }
         ensures ok { IfOk result (λ r. HasHeard image.now self.old edge (answer_of reply) r self.new) }
+        ensures fits { OnErr result ((l : Local) → slice_get self.old.now.edges edge ≡ Some (Active l) → IsSome (heard depfile image.now edge l (answer_of reply))) }
         ensures err { OnErr result (self.new ≡ self.old) }
     {
         let status = &mut self.edges[edge as usize];
@@ -387,7 +391,8 @@ impl Machine {
     ) -> Result<Mark, Refused>
         requires short { length (code image.now edge) < 2 ^ 32 }
         requires hears { (l : Local) → slice_get self.old.now.edges edge ≡ Some (Active l) → CanHear image.now edge (answer_of reply) l }
-        ensures { Applied image.now self.old (Hear edge reply) result self.new }
+        ensures applied { Applied image.now self.old (Hear edge reply) result self.new }
+        ensures memory { result ≡ Err Refused.Memory → step depfile image.now self.old.limits self.old.now (Hear edge reply) ≢ NotEnabled }
     {
         if !self.is_under_way(edge) {
             return Err(Refused::NotEnabled);

@@ -5,7 +5,7 @@ ghost use Rattle.plan_verify.specs.Turn.{Local};
 ghost use Rattle.plan_machine.specs.Applying.{CanTurn};
 ghost use Rattle.plan_machine.specs.Kept.{AreKept, IsStateOf};
 ghost use Rattle.plan_machine.specs.NeverStuck.{Awaits, is_own};
-ghost use Rattle.plan_machine.specs.Picking.{IsEnabled, event_of};
+ghost use Rattle.plan_machine.specs.Picking.{IsEnabled, StepsFirst, event_of};
 ghost use Rattle.plan_machine.specs.Requests.{Asks, AsksNothing, asked_at, asks_by, shown};
 ghost use Rattle.plan_machine.specs.State.{Active, has_ended};
 
@@ -38,6 +38,7 @@ impl State {
         requires { IsStateOf image.now self.now }
         ensures enabled { IfSome result (λ event. IsEnabled image.now self.now.going event) }
         ensures own { IfSome result (λ event. is_own event ≡ true) }
+        ensures steps { IfSome result (λ event. StepsFirst image.now self.now.going event) }
         ensures none { IfNone result ((event : Event) → is_own event ≡ true → IsEnabled image.now self.now.going event → ⊥) }
         ensures waits { IfNone result ((has_ended self.now.going.now ≡ true) ⊎ Awaits self.now.going.now) }
     {

@@ -91,8 +91,8 @@ fn replay_on(
 /// dependencies that its replies bring.
 ///
 /// # Errors
-/// With the place of the event, from 0: `NotEnabled` where it isn't enabled, and those before it ran; `Memory`. The
-/// opening's refusals stand at 0: `BadTarget`, where a target is no edge, and `Memory`.
+/// With the place of the event, from 0, before which all ran: `NotEnabled` where it isn't enabled; `Memory`. The opening's
+/// refusals stand at 0: `BadTarget`, where a target is no edge, and `Memory`.
 pub fn replay(
     alloc: Global,
     image: &Verified,

@@ -1,6 +1,6 @@
 //! What an edge does by a reply.
 
-ghost use Rattle.std.specs.Prelude.{◌≡◌, ◌<◌, ◌+◌, ◌^◌, ◌∷◌, [], IfOk, IfSome, OnErr, Some, drop, length};
+ghost use Rattle.std.specs.Prelude.{◌≡◌, ◌<◌, ◌+◌, ◌^◌, ◌∷◌, [], IfOk, IfSome, IsSome, OnErr, Some, drop, length};
 ghost use Rattle.plan_image.specs.declared.instr.Instr.TheVariants as op;
 ghost use Rattle.plan_verify.specs.Turn.{Goes, Moved, goes, merged, next, replied};
 ghost use Rattle.plan_depfile.specs.Faults.{number_of, offset_of};
@@ -178,6 +178,7 @@ impl Activity {
         requires place { self.old.place + 1 < 2 ^ 32 }
         requires works { IfSome (replied depfile self.old op.Recall (answer_of reply)) Works }
         ensures ok { IfOk result (λ r. IsHeard r self.old self.new (replied depfile self.old op.Recall (answer_of reply))) }
+        ensures fits { OnErr result (IsSome (replied depfile self.old op.Recall (answer_of reply))) }
         ensures err { OnErr result (self.new ≡ self.old) }
     {
         match reply {
@@ -263,6 +264,7 @@ impl Activity {
         requires place { self.old.place + 1 < 2 ^ 32 }
         requires works { IfSome (replied depfile self.old op.Deps (answer_of reply)) Works }
         ensures ok { IfOk result (λ r. IsHeard r self.old self.new (replied depfile self.old op.Deps (answer_of reply))) }
+        ensures fits { OnErr result (IsSome (replied depfile self.old op.Deps (answer_of reply))) }
         ensures err { OnErr result (self.new ≡ self.old) }
     {
         match reply {
@@ -316,6 +318,7 @@ impl Activity {
         requires sweeps { Sweeps instr self.old.stack }
         requires works { IfSome (replied depfile self.old instr (answer_of reply)) Works }
         ensures ok { IfOk result (λ r. IsHeard r self.old self.new (replied depfile self.old instr (answer_of reply))) }
+        ensures fits { OnErr result (IsSome (replied depfile self.old instr (answer_of reply))) }
         ensures err { OnErr result (self.new ≡ self.old) }
     {
         match instr {

@@ -8,11 +8,13 @@ ghost use Rattle.plan_verify.specs.Members.{is_member};
 ghost use Rattle.plan_verify.specs.Tables.{waits_of};
 ghost use Rattle.plan_verify.specs.Turn.{Local, Reply as Answer};
 ghost use Rattle.plan_machine.specs.Applying.{Applied, CanTurn, is_frugal, is_unbegun, may_step_by, may_stop_by};
+ghost use Rattle.plan_machine.specs.Depfile.{depfile};
 ghost use Rattle.plan_machine.specs.Hearing.{CanHear};
-ghost use Rattle.plan_machine.specs.Kept.{AreKept, IsBehind, IsStateOf};
+ghost use Rattle.plan_machine.specs.Kept.{AreKept, IsBehind, IsStateOf, phase_in};
 ghost use Rattle.plan_machine.specs.Places.{has_room, holders_from, is_free, is_spent};
 ghost use Rattle.plan_machine.specs.Runs.{Opens};
 ghost use Rattle.plan_machine.specs.State.{Active, has_ended, has_failed, is_holder, is_ill, is_well, outcome_at, passes, stands};
+ghost use Rattle.plan_machine.specs.Step.{NotEnabled, step};
 ghost use Rattle.plan_machine.specs.Total.{total_of};
 ghost use Rattle.plan_machine.specs.Wanted.{any_outside};
 
@@ -59,6 +61,13 @@ fn is_among(edge: u32, waits: &[u32]) -> bool
     ensures { result ≡ is_member edge waits.now }
 {
     waits.iter().any(|wait| *wait == edge)
+}
+
+/// The phase of an edge, where there are as many.
+fn phase_at(phases: &[Phase], edge: u32) -> Option<Phase>
+    ensures { result ≡ slice_get phases.now edge }
+{
+    phases.get(edge as usize).copied()
 }
 
 impl State {
@@ -206,12 +215,23 @@ impl State {
         self.is_spent(image) && self.machine.is_before_run(image, edge)
     }
 
+    /// Where an edge stands, as the books have it.
+    fn phase(&self, _image: &Image, edge: u32) -> Phase
+        requires { AreKept _image.now self.now.going.now self.now.plan self.now.books }
+        ensures { result ≡ phase_in _image.now edge (slice_get self.now.going.now.edges edge) }
+    {
+        match phase_at(&self.books.phases, edge) {
+            Some(phase) => phase,
+            None => Phase::NotWanted,
+        }
+    }
+
     /// Whether an edge may make a step.
     pub(crate) fn can_step(&self, image: &Image, edge: u32) -> bool
         requires { AreKept image.now self.now.going.now self.now.plan self.now.books }
         ensures { result ≡ may_step_by image.now self.now.going.limits self.now.going.now edge (slice_get self.now.going.now.edges edge) }
     {
-        match self.machine.phase(image, edge) {
+        match self.phase(image, edge) {
             Phase::Going(_) => true,
             Phase::AtTake(_) => self.is_free(image, edge),
             _ => false,
@@ -229,6 +249,7 @@ impl State {
         ensures books { self.new.books ≡ self.old.books }
         ensures total { self.new.total ≡ self.old.total }
         ensures frugal { is_frugal event ≡ true → result ≢ Err Refused.Memory }
+        ensures memory { result ≡ Err Refused.Memory → step depfile image.now self.old.going.limits self.old.going.now event ≢ NotEnabled }
     {
         match event {
             Event::Start(edge) => {
@@ -266,12 +287,15 @@ impl State {
     /// one which ends, and at what an edge waits for that is skipped.
     ///
     /// # Errors
-    /// `NotEnabled` exactly where the table says so, and `Memory`; then nothing changed. Skips and stops take no memory.
+    /// `NotEnabled` exactly where the table says so, and `Memory`, of an event that is enabled; then nothing changed. Skips
+    /// and stops take no memory.
+    #[tactic(auto, using(crate::proofs::RefusalLemmas::refused_so))]
     pub fn apply(&mut self, image: &Verified, event: Event) -> Result<Mark, Refused>
         requires { IsStateOf image.now self.old }
         ensures applied { Applied image.now self.old.going event result self.new.going }
         ensures same { OnErr result (self.new ≡ self.old) }
         ensures frugal { is_frugal event ≡ true → result ≢ Err Refused.Memory }
+        ensures refused { step depfile image.now self.old.going.limits self.old.going.now event ≡ NotEnabled → result ≡ Err Refused.NotEnabled }
         ensures state { IsStateOf image.now self.new }
     {
         all_turns_pay();

@@ -1,8 +1,9 @@
 //! Where an edge stands.
 
-ghost use Rattle.std.specs.Prelude.{◌≡◌, ◌<◌, ◌^◌, IfOk, OnErr, Some, length, option_map};
+ghost use Rattle.std.specs.Prelude.{◌≡◌, ◌<◌, ◌^◌, IfOk, IsSome, OnErr, Some, length, option_map};
 ghost use Rattle.plan_image.specs.Code.{code};
-ghost use Rattle.plan_verify.specs.Turn.{Local, turn};
+ghost use Rattle.plan_verify.specs.Turn.{Local, heard, turn};
+ghost use Rattle.plan_machine.specs.Depfile.{depfile};
 ghost use Rattle.plan_machine.specs.Applying.{CanTurn, HasStepped, is_active, is_unbegun, may_stop_by};
 ghost use Rattle.plan_machine.specs.Hearing.{CanHear, HasAnswered};
 ghost use Rattle.plan_machine.specs.Kept.{phase_of};
@@ -194,6 +195,7 @@ impl Status {
         requires short { length (code image.now edge) < 2 ^ 32 }
         requires hears { (l : Local) × (self.old ≡ Active l) × CanHear image.now edge (answer_of reply) l }
         ensures ok { IfOk result (λ r. HasAnswered image.now edge (answer_of reply) r self.old self.new) }
+        ensures fits { OnErr result ((l : Local) → self.old ≡ Active l → IsSome (heard depfile image.now edge l (answer_of reply))) }
         ensures err { OnErr result (self.new ≡ self.old) }
     {
         match &mut self.stage {

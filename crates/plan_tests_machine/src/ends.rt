@@ -25,7 +25,7 @@ fn push_run(events: &mut Vec<Plain>, edge: u32, status: u8) -> Result<(), AllocE
 }
 
 /// The events of edges, one after another, each with the status of its command; and then one more, where there is one.
-fn run_of(
+pub(crate) fn run_of(
     alloc: Global,
     edges: &[(u32, u8)],
     last: Option<Plain>,

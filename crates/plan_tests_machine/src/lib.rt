@@ -6,3 +6,5 @@
 mod ends;
 #[cfg(test)]
 mod machine;
+#[cfg(test)]
+mod places;

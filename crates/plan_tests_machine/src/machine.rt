@@ -20,7 +20,7 @@ pub(crate) enum Plain {
     Stamp(u32, u64),
 }
 
-fn event_of(plain: Plain) -> Event {
+pub(crate) fn event_of(plain: Plain) -> Event {
     match plain {
         Plain::Start(edge) => Event::Start(edge),
         Plain::Step(edge) => Event::Step(edge),
@@ -40,7 +40,7 @@ pub(crate) fn events_of(alloc: Global, plain: &[Plain]) -> Result<Vec<Event>, Al
 }
 
 /// An edge that runs a command in the pool.
-const RUNNING: SampleEdge<'static> = SampleEdge {
+pub(crate) const RUNNING: SampleEdge<'static> = SampleEdge {
     sort: Sort::Command,
     pool: Some(0),
     label: 0,
@@ -94,9 +94,15 @@ fn chain(alloc: Global) -> Option<Verified> {
 }
 
 /// How many marks events leave, the last one, and whether the run has ended; or where they stop.
-type Left = Result<(usize, Option<Mark>, bool), (usize, Refused)>;
+pub(crate) type Left = Result<(usize, Option<Mark>, bool), (usize, Refused)>;
 
-fn left_by(alloc: Global, image: &Verified, jobs: u8, keep: u32, events: &[Event]) -> Left {
+pub(crate) fn left_by(
+    alloc: Global,
+    image: &Verified,
+    jobs: u8,
+    keep: u32,
+    events: &[Event],
+) -> Left {
     let Some(options) = Options::new(jobs, keep) else {
         return Err((0, Refused::Memory));
     };
@@ -106,7 +112,7 @@ fn left_by(alloc: Global, image: &Verified, jobs: u8, keep: u32, events: &[Event
     }
 }
 
-fn ran(alloc: Global, image: &Verified, jobs: u8, keep: u32, plain: &[Plain]) -> Left {
+pub(crate) fn ran(alloc: Global, image: &Verified, jobs: u8, keep: u32, plain: &[Plain]) -> Left {
     match events_of(alloc, plain) {
         Ok(events) => left_by(alloc, image, jobs, keep, &events),
         Err(_) => Err((0, Refused::Memory)),
@@ -188,7 +194,7 @@ fn failures_and_skips(rt: HostRuntime) {
 }
 
 /// A depfile with these bytes.
-fn depfile(alloc: Global, bytes: &[u8]) -> Result<Reply, Refused> {
+pub(crate) fn depfile(alloc: Global, bytes: &[u8]) -> Result<Reply, Refused> {
     let bytes = Vec::from_slice(alloc, bytes)?;
     match Parsed::of(alloc, bytes) {
         Ok(parsed) => Ok(Reply::Bytes(Depfile::new(alloc, parsed)?)),
@@ -197,7 +203,7 @@ fn depfile(alloc: Global, bytes: &[u8]) -> Result<Reply, Refused> {
 }
 
 /// An edge that runs its command and reads its depfile.
-const READS: [Instr; 8] = [
+pub(crate) const READS: [Instr; 8] = [
     Instr::Take,
     Instr::Text(0),
     Instr::Run,
@@ -294,6 +300,8 @@ fn sweep(rt: HostRuntime) {
     assert_eq!(rt; image.budget(), 11);
     assert_eq!(rt; comes_to(rt.alloc(), &image, b"a:b"), Ok((13, clean)));
     assert_eq!(rt; comes_to(rt.alloc(), &image, b""), Ok((11, clean)));
+    let words = b"out: a.h \\\n b.h ./a.h";
+    assert_eq!(rt; comes_to(rt.alloc(), &image, words), Ok((15, clean)));
 }
 
 /// Applies what is picked, and counts it.
@@ -444,7 +452,7 @@ fn edges_that_the_targets_need(rt: HostRuntime) {
     );
 }
 
-/// Nothing is built by default.
+/// Nothing is built by default, and target 1 is no edge.
 #[test]
 fn nothing_wanted(rt: HostRuntime) {
     let Some(image) = image_of(rt.alloc(), &[RUNNING], &[]) else {
@@ -455,4 +463,5 @@ fn nothing_wanted(rt: HostRuntime) {
         opened(rt.alloc(), &image, &[]),
         Ok(([unwanted, None, None, None], true))
     );
+    assert_eq!(rt; opened(rt.alloc(), &image, &[1]), Err(Refused::BadTarget));
 }

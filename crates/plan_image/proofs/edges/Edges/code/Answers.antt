@@ -1,4 +1,4 @@
-use Rattle.std.proofs.Common.{◌<◌, ◌≤◌, ◌∙◌, Some, ap, arith, length, refl, sym}
+use Rattle.std.proofs.Common.{◌<◌, ◌≤◌, ◌∙◌, Some, ap, arith, length, sym}
 use Rattle.std.specs.Prelude.{option_map, slice_get}
 use Rattle.plan_image.specs.declared.image.Edge.{Edge}
 use Rattle.plan_image.specs.Columns.{edge_with}
@@ -19,4 +19,4 @@ returns c =
     let f = edge_with c.self.inside.outputs c.self.inside.waits c.self.inside.opcodes c.self.inside.operands in
     let n = c.args.number in
     let here : n < length heads = omega (arith, c.if-number-len.false, c.len.ensures, c.self.inside.heads.ok.0) in
-    ap Some c.code_ref.ensures ∙ (ap Some (rw (c.row.ensures, c.row-2.ensures) refl) ∙ (ap (option_map (λ (e : Edge). e.code)) (sym (found_by f heads n c.index.result.now here c.index.ensures)) ∙ ap (λ es. option_map (λ (e : Edge). e.code) (slice_get es n)) c.self.view_is))
+    ap Some c.code_in.ensures ∙ (ap (option_map (λ (e : Edge). e.code)) (sym (found_by f heads n c.index.result.now here c.index.ensures)) ∙ ap (λ es. option_map (λ (e : Edge). e.code) (slice_get es n)) c.self.view_is)

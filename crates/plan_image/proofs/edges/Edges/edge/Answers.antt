@@ -19,7 +19,7 @@ returns-clause-found c =
     let long : length c.args.self.now ≡ length heads = ap (λ es. length es) (sym c.self.view_is) ∙ length_by f 0 heads in
     let here : n < length heads = omega (arith, c.requires, long) in
     ap (λ es. slice_get es n) (sym c.self.view_is)
-    ∙ (found_by f heads n c.index-head.result.now here c.index-head.ensures ∙ rw (c.code_ref.ensures, c.row.ensures, c.row-2.ensures, c.row-3.ensures, c.row-4.ensures) refl)
+    ∙ (found_by f heads n c.index-head.result.now here c.index-head.ensures ∙ rw (c.code_in.ensures, c.row.ensures, c.row-2.ensures) refl)
 
 pub returns-clause-rest : goal.returns-clause-rest
 returns-clause-rest c =
@@ -28,8 +28,8 @@ returns-clause-rest c =
     let n = c.args.number in
     let long : length c.args.self.now ≡ length heads = ap (λ es. length es) (sym c.self.view_is) ∙ length_by f 0 heads in
     let here : n < length heads = omega (arith, c.requires, long) in
-    let shown : f n c.index-head.result.now ∷ drop (n + 1) c.args.self.now ≡ lent (record { sort = c.index-head.result.now.sort; pool = c.index-head.result.now.pool; rank = c.index-head.result.now.rank; label = c.index-head.result.now.label; outputs = c.row.result; waits = c.row-2.result; code = c.code_ref.result }) ∷ drop (n + 1) c.args.self.now
-    = rw (c.code_ref.ensures, c.row.ensures, c.row-2.ensures, c.row-3.ensures, c.row-4.ensures) refl in
+    let shown : f n c.index-head.result.now ∷ drop (n + 1) c.args.self.now ≡ lent (record { sort = c.index-head.result.now.sort; pool = c.index-head.result.now.pool; rank = c.index-head.result.now.rank; label = c.index-head.result.now.label; outputs = c.row.result; waits = c.row-2.result; code = c.code_in.result }) ∷ drop (n + 1) c.args.self.now
+    = rw (c.code_in.ensures, c.row.ensures, c.row-2.ensures) refl in
     ap (λ es. drop n es) (sym c.self.view_is)
     ∙ (drop_by f heads n c.index-head.result.now here c.index-head.ensures
     ∙ (ap (λ (es : List Edge). f n c.index-head.result.now ∷ drop (n + 1) es) c.self.view_is ∙ shown))

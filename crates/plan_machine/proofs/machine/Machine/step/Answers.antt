@@ -11,7 +11,7 @@ pub settle-requires : goal.settle-requires
 settle-requires c =
     settle_within c.args.image.now c.args.edge c.args.self.now c.make_turn.new.self c.make_turn.new.self c.in_ok-turned.turned (Moved c.args.edge) c.in_ok-turned.ensures.ok
 
-pub returns : goal.returns
-returns c =
+pub returns-clause-applied : goal.returns-clause-applied
+returns-clause-applied c =
     step_is c.args.image.now c.args.edge c.args.self.now c.make_turn.new.self c.settle.new.self c.in_ok-turned.turned c.settle.result c.in_ok-turned.ensures.ok
     c.args.may c.requires.may c.if-not-may.false c.settle.ensures
