@@ -1,7 +1,7 @@
 //! Items of one kind, read one after the other.
 
 ghost use Rattle.plan_image.specs.Reading.{Gives, items_at, table_at, ascending_at, numbers_at};
-ghost use Rattle.std.specs.Prelude.{◌≡◌, ◌+◌, ◌^◌, ◌<◌, ◌≤◌, length, IfOk, OnOk};
+ghost use Rattle.std.specs.Prelude.{◌≡◌, ◌+◌, ◌*◌, ◌^◌, ◌<◌, ◌≤◌, length, IfOk, OnOk};
 
 use crate::fault::Cause;
 use crate::reading::fields::{read_u32, read_u32_up_to};
@@ -90,6 +90,7 @@ impl InTurn for Ascending {
 /// So many items as the count says, but no more room than the bytes can fill.
 pub(crate) fn room(count: usize, rest: &[u8], shortest: usize) -> usize
     requires { 0 < shortest }
+    ensures fits { result * shortest ≤ length rest.now }
 {
     count.min(rest.len() / shortest)
 }
