@@ -1,16 +1,18 @@
 -- A code and the key of its body, from the front; and a body that is there already.
 use Rattle.std.proofs.Common.{◌≡◌, ◌≢◌, ◌↔◌, ℕ, zero, suc, ◌+◌, ◌*◌, ◌<◌, Bool, true, false, List, [], ◌∷◌, ◌++◌, length, drop, map, Option, Some, None, refl, sym, ap, subst, ◌∙◌, arith}
-use Rattle.std.specs.Prelude.{slice_get, option_map, if◌then◌else◌}
+use Rattle.std.specs.List.{AllByRecursion, IsDistinct}
+use Rattle.std.specs.Prelude.{bytes_eq, slice_get, option_map, if◌then◌else◌}
 use Rattle.std.proofs.lemmas.Option.{slice_get-map}
+use Rattle.std.proofs.lemmas.Slice.Eq.{bytes_eq-Decides}
 use Rattle.plan_image.specs.declared.instr.Instr.{Instr}
 use Rattle.plan_image.specs.declared.instr.BodyInstr.{BodyInstr}
 use Rattle.plan_image.specs.Bodies.{body_of, leave_open}
 use Rattle.plan_compile.specs.BodyKeys.{Body, numbers_of, key_of, same_body}
 use Rattle.plan_compile.specs.Numbering.{has, number, with_item}
 use Rattle.plan_compile.proofs.BodyKeyLemmas.{bodies_decide, body_back, body_at}
+use Rattle.plan_compile.proofs.BodyTableLemmas.{same_key}
 use Rattle.plan_compile.proofs.BuildLemmas.{drop_here, get_at}
 use Rattle.plan_compile.proofs.ListLemmas.{or_left, or_right, some_is}
-use Rattle.plan_compile.proofs.NumberingLemmas.{leads, item_has}
 
 -- ---- from the front
 
@@ -81,10 +83,35 @@ has_there (c ∷ bodies) (suc n) b h = or_right (same_body b c) (has same_body b
 pub stays : (bodies : List Body) (n : ℕ) (b : Body) → slice_get bodies n ≡ Some b → bodies ≡ with_item same_body bodies b
 stays bodies n b h = ap (λ (t : Bool). if t then bodies else bodies ++ b ∷ []) (sym (has_there bodies n b h))
 
--- a body has the number under which it was put
-pub first_there : (old new : List Body) (n : ℕ) (b c : Body) → new ≡ with_item same_body old b → n ≡ number same_body b new → slice_get new n ≡ Some c → n ≡ number same_body c new
-first_there old new n b c put is at =
-    let there : has same_body new b ≡ true = subst (λ (bs : List Body). has same_body bs b ≡ true) (sym put) (item_has same_body bodies_decide old b) in
-    let found : slice_get new n ≡ Some b = ap (λ (k : ℕ). slice_get new k) is ∙ leads same_body bodies_decide b new there in
-    let same : b ≡ c = some_is b c (sym found ∙ at) in
-    is ∙ ap (λ (x : Body). number same_body x new) same
+off : (t : Bool) → (t ≡ true → ⊥) → t ≡ false
+off true h = absurd (h refl)
+off false h = refl
+
+-- a body that is there has the number of its place, since no key comes twice
+module _ {K : Type 0} (items : K → List ℕ) where
+  apart : (k : K) (keys : List K) (bodies : List Body) (n : ℕ) (b : Body) → AllByRecursion (λ l. same_key items k l ≡ false) keys → map items keys ≡ map key_of bodies
+      → slice_get bodies n ≡ Some b → bytes_eq (items k) (key_of b) ≡ false
+  apart k keys [] n b others all at = absurd cc
+  apart k [] (c ∷ bodies) n b others all at = absurd cc
+  apart k (l ∷ keys) (c ∷ bodies) zero b others all at =
+      let first : items l ≡ key_of c = cc in
+      ap (λ (ns : List ℕ). bytes_eq (items k) ns) (sym (first ∙ ap key_of (some_is c b at))) ∙ others.0
+  apart k (l ∷ keys) (c ∷ bodies) (suc n) b others all at =
+      let rest : map items keys ≡ map key_of bodies = cc in
+      apart k keys bodies n b others.1 rest at
+
+  pub first_place : (keys : List K) (bodies : List Body) (n : ℕ) (b : Body) → IsDistinct (same_key items) keys → map items keys ≡ map key_of bodies
+      → slice_get bodies n ≡ Some b → n ≡ number same_body b bodies
+  unfolding IsDistinct
+  first_place keys [] n b distinct all at = absurd cc
+  first_place [] (c ∷ bodies) n b distinct all at = absurd cc
+  first_place (k ∷ keys) (c ∷ bodies) zero b distinct all at =
+      ap (λ (t : Bool). if t then zero else suc (number same_body b bodies)) (sym (ap (λ (x : Body). same_body b x) (some_is c b at) ∙ bodies_decide.self b))
+  first_place (k ∷ keys) (c ∷ bodies) (suc n) b distinct all at =
+      let first : items k ≡ key_of c = cc in
+      let rest : map items keys ≡ map key_of bodies = cc in
+      let other : bytes_eq (items k) (key_of b) ≡ false = apart k keys bodies n b distinct.0 rest at in
+      let same : same_body b c ≡ true → bytes_eq (items k) (key_of b) ≡ true =
+      λ t. (bytes_eq-Decides (items k) (key_of b)).1 (first ∙ ap key_of (sym (bodies_decide.tells b c t))) in
+      let differs : same_body b c ≡ false = off (same_body b c) (λ t. let e : bytes_eq (items k) (key_of b) ≡ true = same t in absurd cc) in
+      ap suc (first_place keys bodies n b distinct.1 rest at) ∙ ap (λ (t : Bool). if t then zero else suc (number same_body b bodies)) (sym differs)

@@ -1,6 +1,6 @@
 //! The bodies of codes, as they come.
 
-ghost use Rattle.std.specs.Prelude.{◌≡◌, ◌++◌, ◌∷◌, [], IfOk, OnOk};
+ghost use Rattle.std.specs.Prelude.{◌≡◌, ◌<◌, ◌++◌, ◌∷◌, [], IfOk, OnOk};
 ghost use Rattle.plan_image.specs.Bodies.{open_operand, operands_of};
 
 use crate::body_table::BodyTable;
@@ -38,25 +38,33 @@ pub(crate) fn put_operands(operands: &mut Vec<u32>, code: &[Instr]) -> Result<()
     Ok(())
 }
 
-/// The bodies of codes, each once, in the order of first use. Most codes have the body of the one before, which is looked
-/// at first: then no body is made, and none is looked up.
+/// How many bodies are remembered.
+const REMEMBERED: usize = 64;
+
+/// Under which place the body of a code is remembered: codes of different lengths, but for multiples, don't share one.
+fn memory_place(code: &[Instr]) -> usize
+    ensures { result < 64 }
+{
+    code.len() % REMEMBERED
+}
+
+/// The bodies of codes, each once, in the order of first use. Most codes have the body that a code of their length had
+/// last, which is looked at first: then no body is made, and none is looked up.
 #[derive(Drop)]
 pub(crate) struct Bodies {
     table: BodyTable,
-    /// The body that was put last.
-    last: Option<u32>,
+    /// The number that was given last, by the length of its code. Any number may stand here, since it is looked at before
+    /// it is taken.
+    remembered: [u32; REMEMBERED],
 }
 
 impl Model for Bodies {
-    ghost use Rattle.std.specs.Prelude.{◌≡◌, IfSome, List, slice_get, Some};
-    ghost use Rattle.plan_compile.specs.BodyKeys.{Body, same_body};
-    ghost use Rattle.plan_compile.specs.Numbering.{number};
+    ghost use Rattle.std.specs.Prelude.{List};
+    ghost use Rattle.plan_compile.specs.BodyKeys.{Body};
 
     ghost Value = { List Body };
 
     ghost view = { λ b. b.table };
-
-    ghost invariant = { λ b. IfSome b.last (λ n. (body : Body) → slice_get b.table n ≡ Some body → n ≡ number same_body body b.table) };
 }
 
 impl Bodies {
@@ -71,24 +79,20 @@ impl Bodies {
     {
         Bodies {
             table: BodyTable::new(alloc),
-            last: None,
+            remembered: [0; REMEMBERED],
         }
     }
 
-    /// The number of the body that was put last, where it is that of a code.
-    fn last_if_of(&self, code: &[Instr]) -> Option<u32>
+    /// The number of the body that is remembered, where it is the body of a code.
+    fn remembered_of(&self, code: &[Instr]) -> Option<u32>
         ensures there { IfSome result (λ n. slice_get self.now n ≡ Some (body_of code.now)) }
         ensures first { IfSome result (λ n. n ≡ number same_body (body_of code.now) self.now) }
     {
-        match self.last {
-            Some(number) => {
-                if self.table.has_at(number, code) {
-                    Some(number)
-                } else {
-                    None
-                }
-            }
-            None => None,
+        let number = self.remembered[memory_place(code)];
+        if self.table.has_at(number, code) {
+            Some(number)
+        } else {
+            None
         }
     }
 
@@ -99,10 +103,9 @@ impl Bodies {
         ensures number { IfOk result (λ n. n ≡ number same_body (body_of code.now) self.new) }
         ensures few { OnOk result (length self.new ≤ length self.old + 1) }
     {
-        self.last = None;
         let (body, _operands) = split(alloc, code)?;
         let number = self.table.put(alloc, body)?;
-        self.last = Some(number);
+        self.remembered[memory_place(code)] = number;
         Ok(number)
     }
 
@@ -113,7 +116,7 @@ impl Bodies {
         ensures number { IfOk result (λ n. n ≡ number same_body (body_of code.now) self.new) }
         ensures few { OnOk result (length self.new ≤ length self.old + 1) }
     {
-        match self.last_if_of(code) {
+        match self.remembered_of(code) {
             Some(number) => Ok(number),
             None => self.put_other(alloc, code),
         }

@@ -174,11 +174,12 @@ impl BodyTable {
         }
     }
 
-    /// Whether the body of this number is there, and is that of a code.
-    pub(crate) fn has_at(&self, number: u32, code: &[Instr]) -> bool
-        ensures { IsTrue result ↔ (slice_get self.now number ≡ Some (body_of code.now)) }
+    /// Whether the body at this place is there, and is that of a code.
+    pub(crate) fn has_at(&self, place: u32, code: &[Instr]) -> bool
+        ensures there { IsTrue result ↔ (slice_get self.now place ≡ Some (body_of code.now)) }
+        ensures first { IsTrue result → place ≡ number same_body (body_of code.now) self.now }
     {
-        match self.keys.get_index(number as usize) {
+        match self.keys.as_slice().get(place as usize) {
             Some(key) => has_key(code, key),
             None => false,
         }

@@ -11,7 +11,8 @@ ghost use Rattle.plan_compile.specs.Slots.{form_of as form_meant};
 use crate::build::Build;
 use crate::fault::CompileFault;
 use crate::form::Form;
-use crate::lookups::{flags, inputs, outputs, sources};
+use crate::lists::Lists;
+use crate::lookups;
 use crate::numbers::Numbers;
 use crate::slots::form_of;
 use crate::wiring::{CommandWiring, GatherWiring, Output, Wiring};
@@ -41,6 +42,7 @@ fn first_changed(outputs: &[Output]) -> u32
 /// An edge with a command.
 fn command_wiring<'a>(
     alloc: Global,
+    lists: Lists,
     numbers: Numbers,
     table: &[Option<Output>],
     newest: u32,
@@ -48,13 +50,21 @@ fn command_wiring<'a>(
 ) -> Result<CommandWiring, AllocError>
     ensures { IfOk result (λ w. w ≡ command_in numbers table.now newest build.now) }
 {
+    let Lists {
+        named,
+        order_only,
+        outputs,
+        flags,
+    } = lists;
     let edge = build.edge();
-    let named = inputs(alloc, table, build.named())?;
-    let flags = flags(alloc, named.as_slice())?;
+    let named = lookups::inputs(named, table, build.named())?;
+    let flags = lookups::flags(flags, named.as_slice())?;
+    let order_only = lookups::sources(alloc, order_only, table, build.named(), build.order_only())?;
+    let outputs = lookups::outputs(outputs, table, build.outputs())?;
     Ok(CommandWiring {
         named,
-        order_only: sources(alloc, table, build.named(), build.order_only())?,
-        outputs: outputs(alloc, table, build.outputs())?,
+        order_only,
+        outputs,
         flags,
         newest,
         command: numbers.command,
@@ -68,19 +78,27 @@ fn command_wiring<'a>(
 /// A phony with inputs.
 fn gather_wiring<'a>(
     alloc: Global,
+    lists: Lists,
     table: &[Option<Output>],
     newest: u32,
     build: &Build<'a>,
 ) -> Result<GatherWiring, AllocError>
     ensures { IfOk result (λ w. w ≡ gather_in table.now newest build.now) }
 {
-    let named = inputs(alloc, table, build.named())?;
-    let flags = flags(alloc, named.as_slice())?;
-    let outputs = outputs(alloc, table, build.outputs())?;
+    let Lists {
+        named,
+        order_only,
+        outputs,
+        flags,
+    } = lists;
+    let named = lookups::inputs(named, table, build.named())?;
+    let flags = lookups::flags(flags, named.as_slice())?;
+    let order_only = lookups::sources(alloc, order_only, table, build.named(), build.order_only())?;
+    let outputs = lookups::outputs(outputs, table, build.outputs())?;
     let changed = first_changed(outputs.as_slice());
     Ok(GatherWiring {
         named,
-        order_only: sources(alloc, table, build.named(), build.order_only())?,
+        order_only,
         outputs,
         flags,
         stamp: newest,
@@ -88,9 +106,10 @@ fn gather_wiring<'a>(
     })
 }
 
-/// An edge of any form.
+/// An edge of any form, in lists that are written anew.
 fn wiring<'a>(
     alloc: Global,
+    lists: Lists,
     numbers: Numbers,
     table: &[Option<Output>],
     newest: u32,
@@ -101,32 +120,33 @@ fn wiring<'a>(
 {
     match form {
         Form::OneFlag | Form::OwnFlags => {
-            let wiring = command_wiring(alloc, numbers, table, newest, build)?;
+            let wiring = command_wiring(alloc, lists, numbers, table, newest, build)?;
             Ok(Wiring::Command(wiring))
         }
         Form::Gathers => {
-            let wiring = gather_wiring(alloc, table, newest, build)?;
+            let wiring = gather_wiring(alloc, lists, table, newest, build)?;
             Ok(Wiring::Gather(wiring))
         }
         Form::Alone => {
-            let outputs = outputs(alloc, table, build.outputs())?;
+            let outputs = lookups::outputs(lists.outputs, table, build.outputs())?;
             Ok(Wiring::Alone(outputs))
         }
     }
 }
 
-/// Puts the code of an edge into a buffer.
+/// Puts the code of an edge into a buffer. The lists of its wiring are written over these, and given back.
 pub(crate) fn put_code<'a>(
     alloc: Global,
+    lists: Lists,
     code: &mut Vec<Instr>,
     numbers: Numbers,
     table: &[Option<Output>],
     newest: u32,
     build: &Build<'a>,
-) -> Result<(), CompileFault>
+) -> Result<Lists, CompileFault>
     ensures { Meets CompileFault.Memory (λ _. code.new.items) result (emitted (code_of (wire_in (form_meant build.now) numbers table.now newest build.now))) }
 {
-    let wiring = wiring(alloc, numbers, table, newest, form_of(build), build)?;
+    let wiring = wiring(alloc, lists, numbers, table, newest, form_of(build), build)?;
     crate::emitting::put_code(code, &wiring)?;
-    Ok(())
+    Ok(Lists::of(alloc, wiring))
 }

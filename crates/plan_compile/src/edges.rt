@@ -14,6 +14,7 @@ use crate::bodies::{Bodies, put_operands};
 use crate::build::Build;
 use crate::edge_wiring::put_code;
 use crate::fault::CompileFault;
+use crate::lists::Lists;
 use crate::numbers::Numbers;
 use crate::slots::Plan;
 use plan_image::{CodeRef, EdgeRef, Edges, Instr, Sort};
@@ -96,11 +97,13 @@ pub(crate) fn edges_of<'a>(
     let mut bodies = Bodies::new(alloc);
     let mut operands = Vec::new(alloc);
     let mut code = Vec::new(alloc);
+    let mut lists = Lists::new(alloc);
     for number in 0..builds.len() {
         let build = &builds[number];
         let named = numbers_at(numbers, number);
-        put_code(
+        lists = put_code(
             alloc,
+            lists,
             &mut code,
             named,
             &plan.table,

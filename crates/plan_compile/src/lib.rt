@@ -24,6 +24,7 @@ mod image_laws;
 mod inputs;
 mod key;
 mod laws;
+mod lists;
 mod lookups;
 mod names;
 mod numbers;

@@ -31,15 +31,16 @@ fn look(table: &[Option<Output>], file: u32) -> Option<Output>
     }
 }
 
-/// Where the stamps of inputs come from.
+/// Where the stamps of inputs come from, in a list that is written anew.
 pub(crate) fn inputs(
-    alloc: Global,
+    mut inputs: Vec<Input>,
     table: &[Option<Output>],
     files: &[u32],
 ) -> Result<Items<Input>, AllocError>
     ensures { IfOk result (λ inputs. inputs ≡ inputs_in table.now files.now) }
 {
-    let mut inputs = Vec::with_capacity(alloc, files.len())?;
+    inputs.clear();
+    inputs.reserve(files.len())?;
     for file in files {
         inputs.push(input(*file, look(table, *file)))?;
     }
@@ -66,11 +67,11 @@ fn has_number(numbers: &[u32], number: u32) -> bool
     }
 }
 
-/// The flag slots of inputs.
-fn all_flags(alloc: Global, inputs: &[Input]) -> Result<Vec<u32>, AllocError>
+/// The flag slots of inputs, in a list that is written anew.
+fn all_flags(mut flags: Vec<u32>, inputs: &[Input]) -> Result<Vec<u32>, AllocError>
     ensures { IfOk result (λ flags. flags.items ≡ flags_of inputs.now) }
 {
-    let mut flags = Vec::new(alloc);
+    flags.clear();
     for input in inputs {
         match *input {
             Input::Made(_stamp, changed) => flags.push(changed)?,
@@ -80,11 +81,11 @@ fn all_flags(alloc: Global, inputs: &[Input]) -> Result<Vec<u32>, AllocError>
     Ok(flags)
 }
 
-/// The flag slots of inputs, each once.
-pub(crate) fn flags(alloc: Global, inputs: &[Input]) -> Result<Items<u32>, AllocError>
+/// The flag slots of inputs, each once, in a list that is written anew.
+pub(crate) fn flags(flags: Vec<u32>, inputs: &[Input]) -> Result<Items<u32>, AllocError>
     ensures { IfOk result (λ flags. flags ≡ flags_once inputs.now) }
 {
-    let flags = all_flags(alloc, inputs)?;
+    let flags = all_flags(flags, inputs)?;
     Ok(Items::new(ascending(flags)))
 }
 
@@ -99,9 +100,9 @@ fn is_other_source(table: &[Option<Output>], named: &[u32], file: u32) -> bool
     }
 }
 
-/// The order-only sources that aren't named too, the named ones ascending.
+/// The order-only sources that aren't named too, the named ones ascending, in a list that is written anew.
 fn other_sources(
-    alloc: Global,
+    mut files: Vec<u32>,
     table: &[Option<Output>],
     named: &[u32],
     order_only: &[u32],
@@ -109,7 +110,7 @@ fn other_sources(
     requires { AscendsFrom 0 named.now }
     ensures { IfOk result (λ files. files ≡ sources_in table.now named.now order_only.now) }
 {
-    let mut files = Vec::new(alloc);
+    files.clear();
     for file in order_only {
         if is_other_source(table, named, *file) {
             files.push(*file)?;
@@ -131,9 +132,10 @@ fn are_made(table: &[Option<Output>], files: &[u32]) -> bool
     true
 }
 
-/// The order-only sources that aren't named too.
+/// The order-only sources that aren't named too, in a list that is written anew.
 pub(crate) fn sources(
     alloc: Global,
+    mut files: Vec<u32>,
     table: &[Option<Output>],
     named: &[u32],
     order_only: &[u32],
@@ -141,21 +143,23 @@ pub(crate) fn sources(
     ensures { IfOk result (λ files. files ≡ sources_in table.now named.now order_only.now) }
 {
     if are_made(table, order_only) {
-        return Ok(Items::empty(alloc));
+        files.clear();
+        return Ok(Items::new(files));
     }
     let named = ascending(Vec::from_slice(alloc, named)?);
-    other_sources(alloc, table, &named, order_only)
+    other_sources(files, table, &named, order_only)
 }
 
-/// The outputs that are these files.
+/// The outputs that are these files, in a list that is written anew.
 pub(crate) fn outputs(
-    alloc: Global,
+    mut outputs: Vec<Output>,
     table: &[Option<Output>],
     files: &[u32],
 ) -> Result<Items<Output>, AllocError>
     ensures { IfOk result (λ outputs. outputs ≡ outputs_in table.now files.now) }
 {
-    let mut outputs = Vec::with_capacity(alloc, files.len())?;
+    outputs.clear();
+    outputs.reserve(files.len())?;
     for file in files {
         match look(table, *file) {
             Some(output) => outputs.push(output)?,

@@ -30,7 +30,7 @@ loop-number-preserved c =
     let ltn : n < length ns = omega (arith, lt, c.requires.long) in
     let at : slice_get ns n ≡ Some slot = slice_get_read ns (length ns) n slot refl ltn c.index.ensures in
     let is : c.deref-in-loop-number.result.now ≡ code_of (wire_in (form_of x) k table slot x) =
-    c.deref-in-loop-number.ensures.value ∙ emitted_is (code_of (wire_in (form_of x) k c.deref.result.now slot x)) c.put_code.new.code.items c.in_ok-put_code.ensures ∙ ap (λ (t : Table). code_of (wire_in (form_of x) k t slot x)) c.deref.ensures.value in
+    c.deref-in-loop-number.ensures.value ∙ emitted_is (code_of (wire_in (form_of x) k c.deref.result.now slot x)) c.put_code.new.code.items c.in_ok-lists.ensures ∙ ap (λ (t : Table). code_of (wire_in (form_of x) k t slot x)) c.deref.ensures.value in
     let bodies = bodies_step table ks ns xs n slot k x c.deref-in-loop-number.result.now c.loop-number.bodies c.push_edge.new.bodies _ named at here is c.in_ok-push_edge.ensures.bodies c.loop-number.invariant.0 in (
       bodies,
       edges_step table ks ns xs n slot k x c.deref-in-loop-number.result.now c.loop-number.bodies c.push_edge.new.bodies _ c.loop-number.edges c.push_edge.new.edges _ named at here is
@@ -38,8 +38,8 @@ loop-number-preserved c =
       omega (arith, c.in_ok-push_edge.ensures.few, c.loop-number.invariant.2),
     )
 
-pub returns-in_err-put_code-clause-refused : goal.returns-in_err-put_code-clause-refused
-returns-in_err-put_code-clause-refused c =
+pub returns-in_err-lists-clause-refused : goal.returns-in_err-lists-clause-refused
+returns-in_err-lists-clause-refused c =
     let table : Table = c.args.plan.now.table.items in
     let ks : List Numbers = c.args.numbers.now in
     let ns : List ℕ = c.args.plan.now.newest.items in
@@ -53,7 +53,7 @@ returns-in_err-put_code-clause-refused c =
     let named : slice_get ks n ≡ Some k = c.numbers_at-named.ensures in
     let ltn : n < length ns = omega (arith, lt, c.requires.long) in
     let at : slice_get ns n ≡ Some slot = slice_get_read ns (length ns) n slot refl ltn c.index.ensures in
-    let p = err_from_is_err_and c.from_residual-in_err-put_code.result c.from_residual-in_err-put_code.ensures.1 in
+    let p = err_from_is_err_and c.from_residual-in_err-lists.result c.from_residual-in_err-lists.ensures.1 in
     subst (λ r. IfErr r (λ (fault : CompileFault). RefusesCodes fault (codes_in table ks ns xs))) (sym (p.1 ∙ ap (λ e. Err e) p.2))
-    (code_refused c.in_err-put_code.field-0.0 table ks ns xs n slot k x named at here
-    (subst (λ (t : Table). (c.in_err-put_code.field-0.0 ≡ Memory → ⊥) → emitted (code_of (wire_in (form_of x) k t slot x)) ≡ Err c.in_err-put_code.field-0.0) c.deref.ensures.value c.in_err-put_code.ensures))
+    (code_refused c.in_err-lists.field-0.0 table ks ns xs n slot k x named at here
+    (subst (λ (t : Table). (c.in_err-lists.field-0.0 ≡ Memory → ⊥) → emitted (code_of (wire_in (form_of x) k t slot x)) ≡ Err c.in_err-lists.field-0.0) c.deref.ensures.value c.in_err-lists.ensures))

@@ -1,0 +1,73 @@
+//! Memory for the lists of wirings.
+
+use crate::wiring::{CommandWiring, GatherWiring, Input, Output, Wiring};
+use plan_text::Items;
+use std::alloc::Global;
+
+/// The lists of a wiring, which the next edge's are written over, so that they are allocated once. What stands in them
+/// says nothing.
+#[derive(Drop)]
+pub(crate) struct Lists {
+    pub(crate) named: Vec<Input>,
+    pub(crate) order_only: Vec<u32>,
+    pub(crate) outputs: Vec<Output>,
+    pub(crate) flags: Vec<u32>,
+}
+
+/// Lists with no memory but that of these outputs.
+fn with_outputs(alloc: Global, outputs: Items<Output>) -> Lists {
+    Lists {
+        named: Vec::new(alloc),
+        order_only: Vec::new(alloc),
+        outputs: outputs.into_vec(),
+        flags: Vec::new(alloc),
+    }
+}
+
+impl Lists {
+    /// Lists with no memory.
+    pub(crate) fn new(alloc: Global) -> Lists {
+        with_outputs(alloc, Items::empty(alloc))
+    }
+
+    /// The lists of a wiring that is no longer used.
+    pub(crate) fn of(alloc: Global, wiring: Wiring) -> Lists {
+        match wiring {
+            Wiring::Command(command) => Lists::of_command(command),
+            Wiring::Gather(gather) => Lists::of_gather(gather),
+            Wiring::Alone(outputs) => with_outputs(alloc, outputs),
+        }
+    }
+
+    fn of_command(wiring: CommandWiring) -> Lists {
+        let CommandWiring {
+            named,
+            order_only,
+            outputs,
+            flags,
+            ..
+        } = wiring;
+        Lists {
+            named: named.into_vec(),
+            order_only: order_only.into_vec(),
+            outputs: outputs.into_vec(),
+            flags: flags.into_vec(),
+        }
+    }
+
+    fn of_gather(wiring: GatherWiring) -> Lists {
+        let GatherWiring {
+            named,
+            order_only,
+            outputs,
+            flags,
+            ..
+        } = wiring;
+        Lists {
+            named: named.into_vec(),
+            order_only: order_only.into_vec(),
+            outputs: outputs.into_vec(),
+            flags: flags.into_vec(),
+        }
+    }
+}
