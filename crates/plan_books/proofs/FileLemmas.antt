@@ -16,7 +16,7 @@ if_low : (b : Bool) (m n k : ℕ) → m < k → n < k → (if b then m else n) <
 if_low true m n k h g = h
 if_low false m n k h g = g
 
-unbegun_low : (w : ℕ) (b : Option ℕ) → unbegun_shelf w b < 5
+pub unbegun_low : (w : ℕ) (b : Option ℕ) → unbegun_shelf w b < 5
 unbegun_low w (Some x) = omega arith
 unbegun_low w None = if_low (w == 0) 2 1 5 (omega arith) (omega arith)
 

@@ -9,4 +9,5 @@ pub mod WaitLemmas
 pub mod PickLemmas
 pub mod OpenLemmas
 pub mod PhaseLemmas
+pub mod TalkLemmas
 mod Rows

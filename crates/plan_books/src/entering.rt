@@ -2,6 +2,7 @@
 
 ghost use Rattle.std.specs.Prelude.{◌≡◌, ◌<◌, ◌-◌, ℕ, Some, length, slice_index, slice_set};
 ghost use Rattle.plan_books.specs.Booking.{IsKept, IsPlan, edges_of};
+ghost use Rattle.plan_books.specs.Phases.{AreAlike, phase_at};
 
 use crate::filing::{refile, refile_pool};
 use crate::keeping::Books;
@@ -9,8 +10,32 @@ use crate::phase::Phase;
 use crate::plan::Plan;
 
 impl Books {
-    /// An edge goes to another phase; the edges that wait for it aren't told.
-    pub(crate) fn enter(&mut self, plan: &Plan, edge: u32, next: Phase)
+    /// An edge goes to a phase that is counted alike: its pool has as much to do as before.
+    fn talk(&mut self, plan: &Plan, edge: u32, next: Phase)
+        requires plan { IsPlan plan.now }
+        requires here { edge < edges_of plan.now }
+        requires kept { IsKept plan.now self.old }
+        requires alike { AreAlike (phase_at self.old.phases.items edge) next }
+        ensures kept { IsKept plan.now self.new }
+        ensures phases { self.new.phases.items ≡ slice_set self.old.phases.items edge next }
+        ensures waiting { self.new.waiting.items ≡ self.old.waiting.items }
+        ensures blame { self.new.blame.items ≡ self.old.blame.items }
+    {
+        let pool_count = plan.depths.len();
+        self.phases[edge as usize] = next;
+        refile(
+            &mut self.shelves,
+            &plan.pools,
+            &self.phases,
+            &self.waiting,
+            &self.blame,
+            pool_count,
+            edge,
+        );
+    }
+
+    /// An edge goes to any other phase: it is counted anew, and so is its pool.
+    fn recount(&mut self, plan: &Plan, edge: u32, next: Phase)
         requires plan { IsPlan plan.now }
         requires here { edge < edges_of plan.now }
         requires kept { IsKept plan.now self.old }
@@ -39,6 +64,23 @@ impl Books {
             &plan.depths,
             pool,
         );
+    }
+
+    /// An edge goes to another phase; the edges that wait for it aren't told.
+    pub(crate) fn enter(&mut self, plan: &Plan, edge: u32, next: Phase)
+        requires plan { IsPlan plan.now }
+        requires here { edge < edges_of plan.now }
+        requires kept { IsKept plan.now self.old }
+        ensures kept { IsKept plan.now self.new }
+        ensures phases { self.new.phases.items ≡ slice_set self.old.phases.items edge next }
+        ensures waiting { self.new.waiting.items ≡ self.old.waiting.items }
+        ensures blame { self.new.blame.items ≡ self.old.blame.items }
+    {
+        if self.phases[edge as usize].is_talk(next) {
+            self.talk(plan, edge, next);
+        } else {
+            self.recount(plan, edge, next);
+        }
     }
 
     /// An edge waits for one edge less.

@@ -1,7 +1,7 @@
 //! Where an edge stands.
 
-ghost use Rattle.std.specs.Prelude.{◌≡◌};
-ghost use Rattle.plan_books.specs.Phases.{has_failed, holds, is_ill, is_open};
+ghost use Rattle.std.specs.Prelude.{◌≡◌, true};
+ghost use Rattle.plan_books.specs.Phases.{AreAlike, has_failed, holds, is_ill, is_open};
 
 /// Where an edge stands, as far as the books need it. A flag says whether it holds a place.
 #[derive(Clone, Copy, Debug, PartialEq, Eq)]
@@ -57,5 +57,18 @@ impl Phase {
         ensures { result ≡ is_ill self }
     {
         matches!(self, Phase::Failed | Phase::Ill)
+    }
+
+    /// Whether an edge in work asks or is answered by going to another phase, and no more: most events do so.
+    pub(crate) fn is_talk(self, next: Phase) -> bool
+        ensures { result ≡ true → AreAlike self next }
+    {
+        match (self, next) {
+            (Phase::Going(true), Phase::Asked(true)) => true,
+            (Phase::Going(false), Phase::Asked(false)) => true,
+            (Phase::Asked(true), Phase::Going(true)) => true,
+            (Phase::Asked(false), Phase::Going(false)) => true,
+            _ => false,
+        }
     }
 }

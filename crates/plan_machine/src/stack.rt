@@ -11,6 +11,7 @@ use plan_image::Instr;
 use plan_verify::{PathList, Value, Words};
 use std::alloc::{AllocError, Global};
 use std::marker::Model;
+use std::mem::forget;
 
 /// A stack of at most 64 values, which has room for all of them; contracts see the topmost first.
 #[derive(Drop)]
@@ -78,26 +79,32 @@ impl Stack {
         let _ = self.values.pop();
     }
 
-    /// Takes a stamp.
+    /// Takes a stamp. It owns nothing, so that no drop code need look at its kind.
     pub(crate) fn pop_stamp(&mut self) -> u64
         requires { HasStamp self.old }
         ensures { self.old ≡ Value.Stamp result ∷ self.new }
     {
-        match self.pop() {
-            Value::Stamp(stamp) => stamp,
+        let value = self.pop();
+        let stamp = match &value {
+            Value::Stamp(stamp) => *stamp,
             _ => unreachable!(),
-        }
+        };
+        forget(value);
+        stamp
     }
 
-    /// Takes a flag.
+    /// Takes a flag, which owns nothing either.
     pub(crate) fn pop_flag(&mut self) -> bool
         requires { HasFlag self.old }
         ensures { self.old ≡ Value.Flag result ∷ self.new }
     {
-        match self.pop() {
-            Value::Flag(flag) => flag,
+        let value = self.pop();
+        let flag = match &value {
+            Value::Flag(flag) => *flag,
             _ => unreachable!(),
-        }
+        };
+        forget(value);
+        flag
     }
 
     /// Takes a text.

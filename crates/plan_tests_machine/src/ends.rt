@@ -1,44 +1,13 @@
 //! Whether two runs end alike, on images made by hand.
 
-use crate::machine::{Plain, events_of, image_of, three};
 use plan_image::{Instr, Sort};
 use plan_machine::{Options, Refused, same_end};
-use plan_samples::{RUNS, SampleEdge};
+use plan_samples::{Plain, RUNS, SampleEdge, events_of, image_of, run_of, three};
 use plan_verify::Verified;
-use std::alloc::{AllocError, Global};
+use std::alloc::Global;
 
 /// What is told of two runs, or which event is refused and why.
 type Answer = Result<bool, (usize, Refused)>;
-
-/// Adds the events of an edge whose command ends with this status: 7 where that is 0, else 5.
-fn push_run(events: &mut Vec<Plain>, edge: u32, status: u8) -> Result<(), AllocError> {
-    events.push(Plain::Start(edge))?;
-    for _i in 0..3usize {
-        events.push(Plain::Step(edge))?;
-    }
-    events.push(Plain::Exit(edge, status))?;
-    if status == 0 {
-        events.push(Plain::Step(edge))?;
-        events.push(Plain::Step(edge))?;
-    }
-    Ok(())
-}
-
-/// The events of edges, one after another, each with the status of its command; and then one more, where there is one.
-pub(crate) fn run_of(
-    alloc: Global,
-    edges: &[(u32, u8)],
-    last: Option<Plain>,
-) -> Result<Vec<Plain>, AllocError> {
-    let mut events = Vec::new(alloc);
-    for (edge, status) in edges {
-        push_run(&mut events, *edge, *status)?;
-    }
-    if let Some(event) = last {
-        events.push(event)?;
-    }
-    Ok(events)
-}
 
 /// What is told of two lists of events, with any number of failures borne.
 fn told(alloc: Global, image: &Verified, first: &[Plain], second: &[Plain]) -> Answer {

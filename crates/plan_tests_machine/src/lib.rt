@@ -6,5 +6,3 @@
 mod ends;
 #[cfg(test)]
 mod machine;
-#[cfg(test)]
-mod places;

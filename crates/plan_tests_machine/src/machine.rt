@@ -2,71 +2,11 @@
 
 ghost use Rattle.plan_machine.specs.Kept.{IsStateOf};
 
-use plan_depfile::Parsed;
 use plan_image::{Instr, Sort};
 use plan_machine::*;
-use plan_samples::{RUNS, SampleEdge, make_sample};
+use plan_samples::{Plain, READS, RUNNING, SampleEdge, depfile, image_of, ran, three};
 use plan_verify::Verified;
-use std::alloc::{AllocError, Global};
-
-/// An event that holds no text and no list.
-#[derive(Clone, Copy)]
-pub(crate) enum Plain {
-    Start(u32),
-    Step(u32),
-    Skip(u32, u32),
-    Stop(u32),
-    Exit(u32, u8),
-    Stamp(u32, u64),
-}
-
-pub(crate) fn event_of(plain: Plain) -> Event {
-    match plain {
-        Plain::Start(edge) => Event::Start(edge),
-        Plain::Step(edge) => Event::Step(edge),
-        Plain::Skip(edge, over) => Event::Skip(edge, over),
-        Plain::Stop(edge) => Event::Stop(edge),
-        Plain::Exit(edge, status) => Event::Reply(edge, Reply::Exit(status)),
-        Plain::Stamp(edge, stamp) => Event::Reply(edge, Reply::Stamp(stamp)),
-    }
-}
-
-pub(crate) fn events_of(alloc: Global, plain: &[Plain]) -> Result<Vec<Event>, AllocError> {
-    let mut events = Vec::with_capacity(alloc, plain.len())?;
-    for event in plain {
-        events.push(event_of(*event))?;
-    }
-    Ok(events)
-}
-
-/// An edge that runs a command in the pool.
-pub(crate) const RUNNING: SampleEdge<'static> = SampleEdge {
-    sort: Sort::Command,
-    pool: Some(0),
-    label: 0,
-    waits: &[],
-    code: &RUNS,
-};
-
-/// The image of these edges, with one pool of depth 1 and the text `x`.
-pub(crate) fn image_of(
-    alloc: Global,
-    edges: &[SampleEdge<'_>],
-    defaults: &[u32],
-) -> Option<Verified> {
-    make_sample(
-        alloc,
-        &[b"x".as_slice()],
-        &[(b"p".as_slice(), 1)],
-        edges,
-        defaults,
-    )
-}
-
-/// Three edges of the pool.
-pub(crate) fn three(alloc: Global) -> Option<Verified> {
-    image_of(alloc, &[RUNNING, RUNNING, RUNNING], &[0, 1, 2])
-}
+use std::alloc::Global;
 
 /// One edge of this code, which has no pool.
 fn alone(alloc: Global, code: &[Instr]) -> Option<Verified> {
@@ -91,32 +31,6 @@ fn chain(alloc: Global) -> Option<Verified> {
         ..RUNNING
     };
     image_of(alloc, &[RUNNING, second, third, RUNNING], &[2, 3])
-}
-
-/// How many marks events leave, the last one, and whether the run has ended; or where they stop.
-pub(crate) type Left = Result<(usize, Option<Mark>, bool), (usize, Refused)>;
-
-pub(crate) fn left_by(
-    alloc: Global,
-    image: &Verified,
-    jobs: u8,
-    keep: u32,
-    events: &[Event],
-) -> Left {
-    let Some(options) = Options::new(jobs, keep) else {
-        return Err((0, Refused::Memory));
-    };
-    match replay(alloc, image, options, &[], events) {
-        Ok((state, marks)) => Ok((marks.len(), marks.as_slice().last().copied(), state.ended())),
-        Err(refused) => Err(refused),
-    }
-}
-
-pub(crate) fn ran(alloc: Global, image: &Verified, jobs: u8, keep: u32, plain: &[Plain]) -> Left {
-    match events_of(alloc, plain) {
-        Ok(events) => left_by(alloc, image, jobs, keep, &events),
-        Err(_) => Err((0, Refused::Memory)),
-    }
 }
 
 /// The first edge of the pool holds its place until it gives it back: a step of the second is refused, and then isn't.
@@ -192,27 +106,6 @@ fn failures_and_skips(rt: HostRuntime) {
         Ok((8, Some(Mark::Stopped(3)), true))
     );
 }
-
-/// A depfile with these bytes.
-pub(crate) fn depfile(alloc: Global, bytes: &[u8]) -> Result<Reply, Refused> {
-    let bytes = Vec::from_slice(alloc, bytes)?;
-    match Parsed::of(alloc, bytes) {
-        Ok(parsed) => Ok(Reply::Bytes(Depfile::new(alloc, parsed)?)),
-        Err(_) => Err(Refused::Memory),
-    }
-}
-
-/// An edge that runs its command and reads its depfile.
-pub(crate) const READS: [Instr; 8] = [
-    Instr::Take,
-    Instr::Text(0),
-    Instr::Run,
-    Instr::Release,
-    Instr::Text(0),
-    Instr::Deps,
-    Instr::Drop,
-    Instr::End,
-];
 
 /// An edge that sweeps the paths of its depfile.
 const SWEEPS: [Instr; 9] = [

@@ -2,12 +2,11 @@
 
 ghost use Rattle.plan_machine.specs.Kept.{IsStateOf};
 
-use crate::ends::run_of;
-use crate::machine::{
-    Left, Plain, READS, RUNNING, depfile, event_of, events_of, image_of, left_by, ran, three,
-};
 use plan_machine::*;
-use plan_samples::SampleEdge;
+use plan_samples::{
+    Left, Plain, READS, RUNNING, SampleEdge, depfile, event_of, events_of, image_of, left_by, ran,
+    run_of, three,
+};
 use plan_verify::Verified;
 use std::alloc::Global;
 

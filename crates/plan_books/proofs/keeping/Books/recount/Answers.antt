@@ -6,7 +6,7 @@ use Rattle.plan_books.specs.Counts.{AreCounts}
 use Rattle.plan_books.specs.Filed.{pool_shelf_for}
 use Rattle.plan_books.specs.declared.phase.Phase.{Phase}
 use Rattle.plan_books.proofs.KeepLemmas.{its_same, kept_entered, pool_at, refiled}
-use Rattle.plan_books.proofs.keeping.Books.enter.Goals as goal
+use Rattle.plan_books.proofs.keeping.Books.recount.Goals as goal
 
 pub returns-clause-kept : goal.returns-clause-kept
 returns-clause-kept c =

@@ -1,0 +1,76 @@
+-- An edge that asks or is answered.
+use Rattle.std.proofs.Common.{◌≡◌, ◌≢◌, ℕ, ◌+◌, ◌<◌, List, length, refl, sym, ◌∙◌, ap, subst, arith, get_or, get_or-set_same, set, Some, None, true, false}
+use Rattle.std.specs.Prelude.{Option, slice_index}
+use Rattle.std.proofs.lemmas.List.{set-get_or}
+use Rattle.plan_books.specs.Filing.{Filing, standing}
+use Rattle.plan_books.specs.declared.phase.Phase.{Phase}
+use Rattle.plan_books.specs.declared.phase.Phase.TheVariants.{Unbegun, Going, AtTake, Asked, Well, Failed, Ill, NotWanted}
+use Rattle.plan_books.specs.declared.plan.Plan.{Plan}
+use Rattle.plan_books.specs.declared.counting.Counts.{Counts}
+use Rattle.plan_books.specs.declared.keeping.Books.{Books}
+use Rattle.plan_books.specs.Counts.{AreCounts, one}
+use Rattle.plan_books.specs.Phases.{AreAlike, has_failed, holds, is_at_take, is_open, phase_at}
+use Rattle.plan_books.specs.Filed.{its_shelf, pool_shelf_for, shelf_for, unbegun_shelf}
+use Rattle.plan_books.specs.Booking.{IsKept, IsPlan, edges_of}
+use Rattle.plan_books.proofs.CountLemmas.{counts_after}
+use Rattle.plan_books.proofs.FileLemmas.{unbegun_low}
+use Rattle.plan_books.proofs.KeepLemmas.{kept_entered, refiled}
+use Rattle.plan_books.proofs.SeatLemmas.{standing_else}
+
+-- what isn't at Take stands on no shelf of a pool
+off_pools : (phase : Phase) (w : ℕ) (b : Option ℕ) (pool q : ℕ) → is_at_take phase ≡ false → shelf_for phase w b pool ≢ 5 + q
+off_pools Unbegun w b pool q h at = let low : unbegun_shelf w b < 5 = unbegun_low w b in absurd (omega (arith, low, at))
+off_pools (Going x) w b pool q h at = absurd (omega (arith, at))
+off_pools (AtTake x) w b pool q h at = absurd (let clash : true ≡ false = h in cc)
+off_pools (Asked x) w b pool q h at = absurd (omega (arith, at))
+off_pools Well w b pool q h at = absurd (omega (arith, at))
+off_pools Failed w b pool q h at = absurd (omega (arith, at))
+off_pools Ill w b pool q h at = absurd (omega (arith, at))
+off_pools NotWanted w b pool q h at = absurd (omega (arith, at))
+
+-- all counts stay
+counts_alike : (pools : List ℕ) (phases : List Phase) (c : Counts) (e : ℕ) (next : Phase)
+    → AreCounts pools phases c.pool_holders.items c.holders c.failures c.open_edges → e < length phases → length pools ≡ length phases → slice_index pools e < length c.pool_holders.items
+    → AreAlike (phase_at phases e) next → AreCounts pools (set phases e next) c.pool_holders.items c.holders c.failures c.open_edges
+counts_alike pools phases c e next are here sized pool alike =
+    let q = slice_index pools e in
+    let held : one (holds (phase_at phases e)) ≡ one (holds next) = ap one alike.0 in
+    let failed : one (has_failed (phase_at phases e)) ≡ one (has_failed next) = ap one alike.1 in
+    let open_too : one (is_open (phase_at phases e)) ≡ one (is_open next) = ap one alike.2 in
+    subst (λ (l : List ℕ). AreCounts pools (set phases e next) l c.holders c.failures c.open_edges) (set-get_or c.pool_holders.items q 0)
+    (counts_after pools phases c.pool_holders.items c.holders c.failures c.open_edges e next (slice_index c.pool_holders.items q) c.holders c.failures c.open_edges
+    are here sized pool (omega (arith, held)) (omega (arith, held)) (omega (arith, failed)) (omega (arith, open_too)))
+
+refiled_same : (f : Filing) (p s : ℕ) → slice_index f.shelf p ≡ s → f ≡ refiled f p s
+refiled_same f p s is = sym (ap (λ (l : List ℕ). record f { shelf = l }) (ap (set f.shelf p) (sym is) ∙ set-get_or f.shelf p 0))
+
+-- an edge went to a phase that is counted alike
+pub kept_talked : (plan : Plan) (b b' : Books) (e : ℕ) (next : Phase) → IsPlan plan → IsKept plan b → e < edges_of plan → AreAlike (phase_at b.phases.items e) next
+    → b'.phases.items ≡ set b.phases.items e next → b'.waiting.items ≡ b.waiting.items → b'.blame.items ≡ b.blame.items → b'.counts ≡ b.counts → b'.pool_shelves ≡ b.pool_shelves
+    → b'.shelves ≡ refiled b.shelves e (its_shelf plan.pools.items b'.phases.items b'.waiting.items b'.blame.items e)
+    → IsKept plan b'
+kept_talked plan b b' e next is kept here alike ep ew eb ec eq es =
+    let p = slice_index plan.pools.items e in
+    let h : e < length b.phases.items = omega (arith, here, kept.phases_sized) in
+    let el : e < length b.shelves.shelf = omega (arith, here, kept.shelves.sized) in
+    let sized : length plan.pools.items ≡ length b.phases.items = is.pools_sized ∙ sym kept.phases_sized in
+    let within : p < length b.counts.pool_holders.items = subst (λ k. p < k) (sym kept.holders_sized) (is.in_pools e here) in
+    let to = its_shelf plan.pools.items b'.phases.items b'.waiting.items b'.blame.items e in
+    let now : phase_at b'.phases.items e ≡ next = ap (λ (l : List Phase). phase_at l e) ep ∙ get_or-set_same b.phases.items e next Unbegun h in
+    let off : is_at_take (phase_at b'.phases.items e) ≡ false = ap is_at_take now ∙ alike.4 in
+    let counted : AreCounts plan.pools.items (set b.phases.items e next) b.counts.pool_holders.items b.counts.holders b.counts.failures b.counts.open_edges
+    = counts_alike plan.pools.items b.phases.items b.counts e next kept.counts h sized within alike in
+    let counts : AreCounts plan.pools.items b'.phases.items b'.counts.pool_holders.items b'.counts.holders b'.counts.failures b'.counts.open_edges
+    = subst (λ (c : Counts). AreCounts plan.pools.items b'.phases.items c.pool_holders.items c.holders c.failures c.open_edges) (sym ec)
+    (subst (λ (l : List Phase). AreCounts plan.pools.items l b.counts.pool_holders.items b.counts.holders b.counts.failures b.counts.open_edges) (sym ep) counted) in
+    let stay : standing (5 + p) b'.shelves.shelf ≡ standing (5 + p) b.shelves.shelf
+    = ap (λ (f : Filing). standing (5 + p) f.shelf) es
+    ∙ standing_else b.shelves.shelf e to (5 + p) el
+    (λ at. off_pools (phase_at b.phases.items e) (slice_index b.waiting.items e) (get_or b.blame.items e None) p p alike.3 (sym (kept.filed e here) ∙ at))
+    (λ at. off_pools (phase_at b'.phases.items e) (slice_index b'.waiting.items e) (get_or b'.blame.items e None) p p off at) in
+    let pooled : slice_index b.pool_shelves.shelf p ≡ pool_shelf_for (standing (5 + p) b'.shelves.shelf) (slice_index b'.counts.pool_holders.items p) (slice_index plan.depths.items p)
+    = kept.pools_filed p (is.in_pools e here)
+    ∙ (ap (λ k. pool_shelf_for k (slice_index b.counts.pool_holders.items p) (slice_index plan.depths.items p)) (sym stay)
+    ∙ ap (λ (c : Counts). pool_shelf_for (standing (5 + p) b'.shelves.shelf) (slice_index c.pool_holders.items p) (slice_index plan.depths.items p)) (sym ec)) in
+    kept_entered plan b b' e next is kept here ep ew eb counts (ap (λ (c : Counts). length c.pool_holders.items) ec)
+    (λ q other. ap (λ (c : Counts). slice_index c.pool_holders.items q) ec) es (eq ∙ refiled_same b.pool_shelves p _ pooled)
