@@ -38,6 +38,18 @@ fn bytes_of(alloc: Global, bytes: &[u8]) -> Result<Items<u8>, AllocError>
     Ok(Items::new(Vec::from_slice(alloc, bytes)?))
 }
 
+/// The same bytes once more, in a room that is left where there is one.
+fn bytes_in(alloc: Global, rooms: &mut Vec<Vec<u8>>, bytes: &[u8]) -> Result<Items<u8>, AllocError>
+    ensures { IfOk result (λ items. items ≡ bytes.now) }
+{
+    let Some(mut room) = rooms.pop() else {
+        return bytes_of(alloc, bytes);
+    };
+    room.clear();
+    room.extend_from_slice(bytes)?;
+    Ok(Items::new(room))
+}
+
 /// The paths of the files that an edge makes.
 fn paths_of(alloc: Global, outputs: &Outputs<'_>) -> Result<RowList<u8>, AllocError>
     ensures { IfOk result (λ rows. rows ≡ outputs.now) }
@@ -82,12 +94,16 @@ fn are_paths(one: &PathList, other: &PathList) -> bool
 }
 
 impl Asked {
-    /// What a request asks.
-    pub(crate) fn of(alloc: Global, request: &Request<'_>) -> Result<Asked, AllocError>
+    /// What a request asks. Rooms that are left serve for its path.
+    pub(crate) fn of(
+        alloc: Global,
+        rooms: &mut Vec<Vec<u8>>,
+        request: &Request<'_>,
+    ) -> Result<Asked, AllocError>
         ensures { IfOk result (λ asked. shown asked ≡ request_shown request.now) }
     {
         match request {
-            Request::Stat(path) => Ok(Asked::Stat(bytes_of(alloc, path)?)),
+            Request::Stat(path) => Ok(Asked::Stat(bytes_in(alloc, rooms, path)?)),
             Request::Recall(output) => Ok(Asked::Recall(bytes_of(alloc, output)?)),
             Request::Run(command, outputs) => Ok(Asked::Run(
                 bytes_of(alloc, command)?,
@@ -121,6 +137,13 @@ impl Asked {
                     && are_paths(paths, p)
             }
             _ => false,
+        }
+    }
+
+    /// Leaves its room for a path to come, where memory can keep it.
+    pub(crate) fn leave(self, rooms: &mut Vec<Vec<u8>>) {
+        if let Asked::Stat(path) = self {
+            let _ = rooms.push(path.into_vec());
         }
     }
 

@@ -187,24 +187,24 @@ impl<'v, W: World> Board<'v, W> {
     }
 
     /// What an event would ask, exactly where it is enabled and asks.
-    fn question(&self, event: &Event) -> Result<Option<Asked>, AllocError>
+    fn question(&self, rooms: &mut Vec<Vec<u8>>, event: &Event) -> Result<Option<Asked>, AllocError>
         ensures { IfOk result (λ asked. WouldAsk self.now.opened.parts (going_of self.now) event.now asked) }
     {
         match self.state.asks(self.image, event) {
-            Some(request) => Ok(Some(Asked::of(self.alloc, &request)?)),
+            Some(request) => Ok(Some(Asked::of(self.alloc, rooms, &request)?)),
             None => Ok(None),
         }
     }
 
     /// Applies an event that needs no reply, and tells what it asked.
-    fn go_on(&mut self, event: Event) -> Result<Advance, Refused>
+    fn go_on(&mut self, rooms: &mut Vec<Vec<u8>>, event: Event) -> Result<Advance, Refused>
         requires own { is_own event ≡ true }
         requires enabled { IsEnabled self.old.opened.parts (going_of self.old) event }
         ensures ok { IfOk result (λ a. Advances self.old self.new a) }
         ensures err { OnErr result (self.new ≡ self.old) }
         ensures memory { IfErr result (λ r. r ≡ Refused.Memory) }
     {
-        let asked = self.question(&event)?;
+        let asked = self.question(rooms, &event)?;
         let image = self.image;
         let edge = edge_of(&event);
         let number = self.journal.len() as u64;
@@ -228,13 +228,23 @@ impl<'v, W: World> Board<'v, W> {
         ensures err { OnErr result (self.new ≡ self.old) }
         ensures memory { IfErr result (λ r. r ≡ Refused.Memory) }
     {
+        let mut rooms = Vec::new(self.alloc);
+        self.advance_in(&mut rooms)
+    }
+
+    /// The same. Rooms that are left serve for the path of a question.
+    pub(crate) fn advance_in(&mut self, rooms: &mut Vec<Vec<u8>>) -> Result<Advance, Refused>
+        ensures ok { IfOk result (λ a. Advances self.old self.new a) }
+        ensures err { OnErr result (self.new ≡ self.old) }
+        ensures memory { IfErr result (λ r. r ≡ Refused.Memory) }
+    {
         let Some(event) = self.state.pick(self.image) else {
             if self.state.ended() {
                 return Ok(Advance::Ended);
             }
             return Ok(Advance::Wait);
         };
-        self.go_on(event)
+        self.go_on(rooms, event)
     }
 
     /// Whether an advance would do an event. It takes as long for any image.
@@ -273,7 +283,23 @@ impl<'v, W: World> Board<'v, W> {
         ensures refused { IfErr result (λ r. r ≡ Refused.NotEnabled → IsOpen self.old edge question.number (shown question.request) → step depfile self.old.opened.parts self.old.opened.limits self.old.state (Hear edge reply) ≡ NotEnabled) }
         ensures inside { IfErr result (λ r. r ≢ Refused.BadTarget) }
     {
-        if !self.is_open(edge, &question) {
+        self.answer_to(edge, &question, reply)
+    }
+
+    /// The same, of a question that is lent.
+    pub(crate) fn answer_to(
+        &mut self,
+        edge: u32,
+        question: &Question,
+        reply: Reply,
+    ) -> Result<Mark, Refused>
+        requires { W.allows question.now.number (shown question.now.request) reply }
+        ensures ok { IfOk result (λ m. Applies self.old self.new (Hear edge reply) m × IsOpen self.old edge question.now.number (shown question.now.request)) }
+        ensures err { OnErr result (self.new ≡ self.old) }
+        ensures refused { IfErr result (λ r. r ≡ Refused.NotEnabled → IsOpen self.old edge question.now.number (shown question.now.request) → step depfile self.old.opened.parts self.old.opened.limits self.old.state (Hear edge reply) ≡ NotEnabled) }
+        ensures inside { IfErr result (λ r. r ≢ Refused.BadTarget) }
+    {
+        if !self.is_open(edge, question) {
             return Err(Refused::NotEnabled);
         }
         self.record(Event::Reply(edge, reply))

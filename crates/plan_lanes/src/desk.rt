@@ -79,28 +79,25 @@ impl<'v, W: World, J: Naming> Desk<'v, W, J> {
     }
 
     /// Shows the lines of the marks that may be told of, as far as there is room.
-    fn show(&mut self) {
+    pub fn show(&mut self) {
         ends_stay();
         if let Some(showing) = &mut self.showing {
             showing.show(self.board.image(), self.board.marks());
         }
     }
 
-    /// Does what can be done next without a reply, and shows its line.
-    pub fn advance(&mut self) -> Result<Advance, Refused> {
+    /// Does what can be done next without a reply. Rooms that are left serve for the path of a question.
+    pub fn advance(&mut self, rooms: &mut Vec<Vec<u8>>) -> Result<Advance, Refused> {
         marks_may_come();
-        let advanced = self.board.advance();
-        self.show();
-        advanced
+        self.board.advance_in(rooms)
     }
 
-    /// Hands a reply in that the world's rule allows, and shows its line. Where the board doesn't take it, lanes stop.
-    pub fn answer(&mut self, edge: u32, question: Question, reply: Reply)
-        requires { W.allows question.number (shown question.request) reply }
+    /// Hands a reply in that the world's rule allows. Where the board doesn't take it, lanes stop.
+    pub fn answer(&mut self, edge: u32, question: &Question, reply: Reply)
+        requires { W.allows question.now.number (shown question.now.request) reply }
     {
         marks_may_come();
-        let answered = self.board.answer(edge, question, reply);
-        self.show();
+        let answered = self.board.answer_to(edge, question, reply);
         match answered {
             Ok(_mark) => {}
             Err(Refused::Memory) => self.stop(Stopped::Memory),

@@ -4,10 +4,13 @@ ghost use Rattle.std.specs.Prelude.{IfSome};
 ghost use Rattle.plan_lanes.specs.Questions.{shown};
 
 use crate::asked::{Asked, Question};
+use crate::board::Advance;
 use crate::desk::{Desk, Naming, Stopped};
 use crate::world::World;
-use plan_machine::Reply;
+use plan_machine::{Refused, Reply};
+use std::alloc::{AllocError, Global};
 use std::marker::{Model, PhantomData};
+use std::mem;
 
 /// A question of an edge, and its reply once there is one: one that the world's rule allows for just this question.
 #[derive(Drop)]
@@ -75,30 +78,91 @@ impl<W: World> Member<W> {
     }
 
     /// Hands the reply in; where there is none, it is lost, and lanes stop.
-    pub fn hand_in<J: Naming>(self, desk: &mut Desk<'_, W, J>) {
-        let Member {
-            edge,
-            question,
-            reply,
-            ..
-        } = self;
-        match reply {
-            Some(reply) => desk.answer(edge, question, reply),
+    pub fn hand_in<J: Naming>(&mut self, desk: &mut Desk<'_, W, J>) {
+        match self.reply.take() {
+            Some(reply) => desk.answer(self.edge, &self.question, reply),
             None => desk.stop(Stopped::Memory),
         }
+    }
+
+    /// Leaves the room of its path for one to come.
+    pub fn leave(self, rooms: &mut Vec<Vec<u8>>) {
+        let Member { question, .. } = self;
+        question.request.leave(rooms);
     }
 }
 
 /// Asks the world all questions.
-pub fn ask_all<W: World>(hand: &mut Vec<Member<W>>, world: &W) {
-    for member in hand.iter_mut() {
+fn ask_all<W: World>(members: &mut Vec<Member<W>>, world: &W) {
+    for member in members.iter_mut() {
         member.ask(world);
     }
 }
 
 /// Hands all replies in.
-pub fn answer_all<W: World, J: Naming>(hand: &mut Vec<Member<W>>, desk: &mut Desk<'_, W, J>) {
-    for member in hand.drain(..) {
+fn answer_all<W: World, J: Naming>(members: &mut Vec<Member<W>>, desk: &mut Desk<'_, W, J>) {
+    for member in members.iter_mut() {
         member.hand_in(desk);
+    }
+}
+
+/// Lets members go, and keeps the rooms of their paths.
+fn leave_all<W: World>(members: &mut Vec<Member<W>>, rooms: &mut Vec<Vec<u8>>) {
+    for member in members.drain(..) {
+        member.leave(rooms);
+    }
+}
+
+/// The questions that a lane holds, and beside them those that it has handed in: these are let go without the lock, and
+/// the rooms of their paths serve for questions to come.
+#[derive(Drop)]
+pub struct Hand<W: World> {
+    held: Vec<Member<W>>,
+    told: Vec<Member<W>>,
+    rooms: Vec<Vec<u8>>,
+}
+
+impl<W: World> Hand<W> {
+    /// A hand of no questions, with room for so many.
+    pub fn new(alloc: Global, most: usize) -> Result<Hand<W>, AllocError> {
+        let mut held = Vec::new(alloc);
+        held.reserve(most)?;
+        let mut told = Vec::new(alloc);
+        told.reserve(most)?;
+        let mut rooms = Vec::new(alloc);
+        rooms.reserve(most)?;
+        Ok(Hand { held, told, rooms })
+    }
+
+    /// How many questions it holds.
+    pub fn len(&self) -> usize {
+        self.held.len()
+    }
+
+    /// One more question. False where memory ran out.
+    pub fn push(&mut self, member: Member<W>) -> bool {
+        self.held.push(member).is_ok()
+    }
+
+    /// Asks the world all questions.
+    pub fn ask(&mut self, world: &W) {
+        ask_all(&mut self.held, world);
+    }
+
+    /// Hands all replies in. It holds none of the questions any more.
+    pub fn hand_in<J: Naming>(&mut self, desk: &mut Desk<'_, W, J>) {
+        answer_all(&mut self.held, desk);
+        mem::swap(&mut self.held, &mut self.told);
+        self.held.clear();
+    }
+
+    /// What can be done next without a reply.
+    pub fn advance<J: Naming>(&mut self, desk: &mut Desk<'_, W, J>) -> Result<Advance, Refused> {
+        desk.advance(&mut self.rooms)
+    }
+
+    /// Lets go of what was handed in.
+    pub fn leave(&mut self) {
+        leave_all(&mut self.told, &mut self.rooms);
     }
 }

@@ -13,7 +13,7 @@ use crate::asked::{Asked, Question};
 use crate::board::{Advance, Board, Report};
 use crate::desk::{Desk, Naming, Stopped};
 use crate::fault::LaneFault;
-use crate::hand::{Member, answer_all, ask_all};
+use crate::hand::{Hand, Member};
 use crate::world::{Permit, World};
 use plan_machine::{Options, Refused};
 use plan_status::Showing;
@@ -151,23 +151,22 @@ fn lane<J: Naming, W: World, R: Wait>(
     moved: &Condvar,
     world: &W,
 ) {
-    let mut hand: Vec<Member<W>> = Vec::new(alloc);
-    if hand.reserve(HAND).is_err() {
+    let Ok(mut hand) = Hand::new(alloc, HAND) else {
         stop(rt, desk, moved);
         return;
-    }
+    };
     for _ in rt.forever() {
         match visit(rt, desk, moved, &mut hand) {
             Left::Nothing => return,
-            Left::Asks => ask_all(&mut hand, world),
+            Left::Asks => hand.ask(world),
             Left::Runs(edge, question, permit) => {
-                ask_all(&mut hand, world);
+                hand.ask(world);
                 if !hand_in(rt, desk, moved, &mut hand) {
                     permit.spend();
                     return;
                 }
                 let member = run(world, edge, question, permit);
-                if hand.push(member).is_err() {
+                if !hand.push(member) {
                     stop(rt, desk, moved);
                     return;
                 }
@@ -176,24 +175,27 @@ fn lane<J: Naming, W: World, R: Wait>(
     }
 }
 
-/// Hands in what is in the hand, and fills it again. It sleeps while nothing can be asked and the hand is empty.
+/// Hands in what is in the hand, fills it again, and shows the lines that came of it. It sleeps while nothing can be
+/// asked and the hand is empty.
 fn visit<J: Naming, W: World, R: Wait>(
     rt: &R,
     desk: &Mutex<Desk<'_, W, J>>,
     moved: &Condvar,
-    hand: &mut Vec<Member<W>>,
+    hand: &mut Hand<W>,
 ) -> Left {
     let mut guard = desk.lock(rt);
-    answer_all(hand, &mut guard);
+    hand.hand_in(&mut guard);
     for _ in rt.forever() {
         if guard.stopped() != Stopped::No {
             moved.notify_all();
             return Left::Nothing;
         }
-        let left = match take(rt, &mut guard, hand) {
+        let taken = take(rt, &mut guard, hand);
+        guard.show();
+        let left = match taken {
             Taken::Full => Left::Asks,
             Taken::Run(edge, question, permit) => Left::Runs(edge, question, permit),
-            Taken::Wait if hand.is_empty() => {
+            Taken::Wait if hand.len() == 0 => {
                 guard.sleeps();
                 guard = moved.wait(rt, guard);
                 guard.wakes_up();
@@ -214,23 +216,25 @@ fn visit<J: Naming, W: World, R: Wait>(
         if wakes {
             moved.notify_one();
         }
+        hand.leave();
         return left;
     }
     Left::Nothing
 }
 
-/// Hands in what is in the hand, and takes nothing. False where lanes stop.
+/// Hands in what is in the hand, shows the lines that came of it, and takes nothing. False where lanes stop.
 fn hand_in<J: Naming, W: World, R: Wait>(
     rt: &R,
     desk: &Mutex<Desk<'_, W, J>>,
     moved: &Condvar,
-    hand: &mut Vec<Member<W>>,
+    hand: &mut Hand<W>,
 ) -> bool {
-    if hand.is_empty() {
+    if hand.len() == 0 {
         return true;
     }
     let mut guard = desk.lock(rt);
-    answer_all(hand, &mut guard);
+    hand.hand_in(&mut guard);
+    guard.show();
     if guard.stopped() != Stopped::No {
         moved.notify_all();
         return false;
@@ -240,6 +244,7 @@ fn hand_in<J: Naming, W: World, R: Wait>(
     if wakes {
         moved.notify_one();
     }
+    hand.leave();
     true
 }
 
@@ -247,18 +252,18 @@ fn hand_in<J: Naming, W: World, R: Wait>(
 fn take<J: Naming, W: World, R: Wait>(
     rt: &R,
     desk: &mut Desk<'_, W, J>,
-    hand: &mut Vec<Member<W>>,
+    hand: &mut Hand<W>,
 ) -> Taken {
     for _ in rt.forever() {
         if hand.len() >= HAND {
             return Taken::Full;
         }
-        match desk.advance() {
+        match hand.advance(desk) {
             Ok(Advance::Moved) => {}
             Ok(Advance::Job(edge, question, permit)) => match permit {
                 Some(permit) => return Taken::Run(edge, question, permit),
                 None => {
-                    if hand.push(Member::open(edge, question)).is_err() {
+                    if !hand.push(Member::open(edge, question)) {
                         return Taken::NoMemory;
                     }
                 }

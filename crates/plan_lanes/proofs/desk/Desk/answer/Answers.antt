@@ -6,6 +6,6 @@ use Rattle.plan_lanes.proofs.desk.Desk.answer.Goals as goal
 
 pub invariant_of-self : goal.invariant_of-self
 invariant_of-self g c =
-    answered_so c.marks_may_come.ensures.shows g.J.Naming.run g.J.Naming.feed c.self.inside.board c.answer-answered.new.self (Hear c.args.edge c.args.reply)
-    (IsOpen c.self.inside.board c.args.edge c.args.question.number (shown c.args.question.request)) c.answer-answered.result c.self.inside.showing
-    c.answer-answered.ensures.ok c.answer-answered.ensures.err c.self.invariant
+    answered_so c.marks_may_come.ensures.shows g.J.Naming.run g.J.Naming.feed c.self.inside.board c.answer_to-answered.new.self (Hear c.args.edge c.args.reply)
+    (IsOpen c.self.inside.board c.args.edge c.args.question.now.number (shown c.args.question.now.request)) c.answer_to-answered.result c.self.inside.showing
+    c.answer_to-answered.ensures.ok c.answer_to-answered.ensures.err c.self.invariant
