@@ -1,11 +1,11 @@
 -- What stands at each place of a list that is made place by place. Serves src/edges.rt, src/edge_ref.rt.
-use Rattle.std.proofs.Common.{◌≡◌, ℕ, zero, suc, ◌+◌, ◌<◌, ◌≤◌, List, [], ◌∷◌, ◌++◌, length, get_or, drop, take, Some, None, refl, sym, ap, ◌∙◌, arith}
-use Rattle.std.specs.Prelude.{slice_get, option_map}
+use Rattle.std.proofs.Common.{◌≡◌, ℕ, zero, suc, ◌+◌, ◌<◌, ◌≤◌, List, [], ◌∷◌, ◌++◌, length, get_or, drop, take, Option, Some, None, true, refl, sym, ap, ◌∙◌, arith}
+use Rattle.std.specs.Prelude.{slice_get, option_map, is_some}
 use Rattle.std.proofs.lemmas.List.{get_or-take, get_or_at, get_or_append_left, length-take-le}
 use Rattle.plan_image.specs.declared.image.Edge.{Edge}
 use Rattle.plan_image.specs.declared.instr.Instr.{Instr}
 use Rattle.plan_image.specs.declared.edge_ref.Head.{Head}
-use Rattle.plan_image.specs.Columns.{by_place, instr_by, instr_with, instrs_by, edge_with, AreSameBelow}
+use Rattle.plan_image.specs.Columns.{by_place, code_by, instr_by, instr_with, instrs_by, edge_with, shared_body, shared_operands, AreSameBelow}
 
 pub at : {X : Type 0} (xs : List X) (i : ℕ) (x : X) → i < length xs → x ≡ get_or xs i x → slice_get xs i ≡ Some x
 at [] i x h e = absurd (omega (arith, h))
@@ -120,3 +120,18 @@ pub edges_more : (hs : List Head) (n : ℕ) (h : Head) (x : Edge) (a a' b b' c c
 edges_more hs n h x a a' b b' c c' d d' e p q r s shown =
     grows_by (edge_with a b c d) (edge_with a' b' c' d') hs h x (λ i z lt. edge_same a a' b b' c c' d d' n p q r s i z (omega (arith, e, lt)))
     (ap (λ k. edge_with a' b' c' d' k h) (sym e) ∙ shown)
+
+-- the body that stands in a column is the one that the code shares, and then the operands are those of their column
+pub shared_is : (b : Option ℕ) (os ns : List ℕ) → b ≡ shared_body (Some (code_by b os ns))
+shared_is None os ns = refl
+shared_is (Some b) os ns = refl
+
+operands_by : (b : Option ℕ) (os ns : List ℕ) → is_some (shared_body (Some (code_by b os ns))) ≡ true → ns ≡ shared_operands (Some (code_by b os ns))
+operands_by None os ns t = absurd cc
+operands_by (Some b) os ns t = refl
+
+pub operands_are : (outputs waits opcodes operands : List (List ℕ)) (e : ℕ) (o : Option Head)
+    → is_some (shared_body (option_map (λ (edge : Edge). edge.code) (option_map (edge_with outputs waits opcodes operands e) o))) ≡ true
+    → get_or operands e [] ≡ shared_operands (option_map (λ (edge : Edge). edge.code) (option_map (edge_with outputs waits opcodes operands e) o))
+operands_are outputs waits opcodes operands e None t = absurd cc
+operands_are outputs waits opcodes operands e (Some h) t = operands_by h.body (get_or opcodes e []) (get_or operands e []) t

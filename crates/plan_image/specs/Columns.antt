@@ -1,5 +1,5 @@
 -- Edges and instructions in columns: what stands at one place of each column makes one edge or one instruction.
-use Rattle.std.specs.Prelude.{◌≡◌, ◌<◌, ℕ, ◌+◌, List, [], ◌∷◌, Option, Some, None, get_or, ◌==◌, if◌then◌else◌}
+use Rattle.std.specs.Prelude.{◌≡◌, ◌<◌, ℕ, ◌+◌, List, [], ◌∷◌, Option, Some, None, get_or, option_map, slice_get, ◌==◌, if◌then◌else◌}
 use Rattle.plan_image.specs.declared.instr.Instr.{Instr}
 use Rattle.plan_image.specs.declared.instr.Instr.TheVariants as op
 use Rattle.plan_image.specs.declared.image.Edge.{Edge}
@@ -65,6 +65,20 @@ instrs_by os ns = by_place (instr_with ns) 0 os
 abbrev pub code_by : Option ℕ → List ℕ → List ℕ → EdgeCode
 code_by None os ns = code_form.Own (instrs_by os ns)
 code_by (Some b) os ns = code_form.Shared b ns
+
+-- the code of the edge of this number, where there are as many
+abbrev pub code_at : List Edge → ℕ → Option EdgeCode
+code_at es e = option_map (λ (edge : Edge). edge.code) (slice_get es e)
+
+-- the body that a code shares
+abbrev pub shared_body : Option EdgeCode → Option ℕ
+shared_body (Some (code_form.Shared b ns)) = Some b
+shared_body code = None
+
+-- the operands that it puts in
+abbrev pub shared_operands : Option EdgeCode → List ℕ
+shared_operands (Some (code_form.Shared b ns)) = ns
+shared_operands code = []
 
 abbrev pub edge_by : Head → List ℕ → List ℕ → List ℕ → List ℕ → Edge
 edge_by h outputs waits os ns =

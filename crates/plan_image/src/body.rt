@@ -59,7 +59,7 @@ pub(crate) const fn with_number(opening: Opening, number: u32) -> Instr
 }
 
 impl Body {
-    ghost use Rattle.std.specs.Prelude.{◌≡◌, length, IfOk, slice_get};
+    ghost use Rattle.std.specs.Prelude.{◌≡◌, ℕ, List, length, IfOk, slice_get};
     ghost use Rattle.plan_image.specs.Bodies.{opens, with_operands};
 
     /// The body of these instructions, in their order.
@@ -107,12 +107,21 @@ impl Body {
         self.len()
     }
 
+    /// What stands at a place, counted from 0, and how many open instructions are before it: its operand is that of this
+    /// rank.
+    pub(crate) fn member(&self, place: usize) -> (Option<BodyInstr>, usize)
+        ensures { (numbers : List ℕ) → Rattle.plan_image.specs.Bodies.instr_with_rank numbers result.0 result.1 ≡ slice_get (with_operands self.now numbers) place }
+    {
+        let instr = instr_at(self.instrs.as_slice(), place);
+        let rank = rank_at(self.ranks.as_slice(), place);
+        (instr, rank)
+    }
+
     /// The instruction at a place, counted from 0, with the operands of an edge put in; 0 for one that is missing.
     pub fn instr(&self, numbers: &[u32], place: usize) -> Option<Instr>
         ensures { result ≡ slice_get (with_operands self.now numbers.now) place }
     {
-        let instr = instr_at(self.instrs.as_slice(), place);
-        let rank = rank_at(self.ranks.as_slice(), place);
+        let (instr, rank) = self.member(place);
         instr_with_rank(numbers, instr, rank)
     }
 }
@@ -144,7 +153,7 @@ fn rank_at(ranks: &[usize], place: usize) -> usize
 }
 
 /// The number of that rank, 0 where there are too few.
-fn number_at(numbers: &[u32], rank: usize) -> u32
+pub(crate) fn number_at(numbers: &[u32], rank: usize) -> u32
     ensures { result ≡ get_or numbers.now rank 0 }
 {
     match numbers.get(rank) {

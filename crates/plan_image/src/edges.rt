@@ -1,8 +1,9 @@
 //! The table of edges.
 
-ghost use Rattle.std.specs.Prelude.{◌≡◌, ◌≤◌, ◌<◌, ◌+◌, ◌++◌, ◌∷◌, [], OnOk, OnErr, IfOk, Some, drop, get_or, length, option_map, slice_get};
-ghost use Rattle.plan_image.specs.Columns.{AreSameBelow, code_by, instrs_by, lent, lent_code};
+ghost use Rattle.std.specs.Prelude.{◌≡◌, ◌≤◌, ◌<◌, ◌+◌, ◌++◌, ◌∷◌, [], OnOk, OnErr, IfOk, Some, drop, get_or, is_some, length, option_map, slice_get, true};
+ghost use Rattle.plan_image.specs.Columns.{AreSameBelow, code_at, code_by, instrs_by, lent, lent_code, shared_body, shared_operands};
 
+use crate::body::number_at;
 use crate::edge_ref::{CodeRef, EdgeRef, Head, InstrsRef};
 use crate::image::{Edge, EdgeCode};
 use crate::instr::Instr;
@@ -105,9 +106,9 @@ fn with_code<'a>(edge: &'a Edge, code: CodeRef<'a>) -> EdgeRef<'a>
 }
 
 impl Edges {
-    ghost use Rattle.std.specs.Prelude.{◌≡◌, ◌<◌, ◌+◌, ◌++◌, ◌∷◌, [], OnOk, OnErr, Some, drop, length, option_map, slice_get};
+    ghost use Rattle.std.specs.Prelude.{◌≡◌, ◌<◌, ◌+◌, ◌++◌, ◌∷◌, [], OnOk, OnErr, Some, drop, get_or, is_some, length, option_map, slice_get, true};
     ghost use Rattle.plan_image.specs.declared.image.Edge.{Edge};
-    ghost use Rattle.plan_image.specs.Columns.{lent, lent_code};
+    ghost use Rattle.plan_image.specs.Columns.{code_at, lent, lent_code, shared_body, shared_operands};
 
     /// No edge.
     pub fn new(alloc: Global) -> Edges
@@ -225,6 +226,24 @@ impl Edges {
         }
         let body = self.heads[number].body;
         Some(code_in(body, &self.opcodes, &self.operands, number))
+    }
+
+    /// The body that the edge of this number shares, where it does.
+    pub(crate) fn shared_body(&self, number: usize) -> Option<u32>
+        ensures { result ≡ shared_body (code_at self.now number) }
+    {
+        if number >= self.heads.len() {
+            return None;
+        }
+        self.heads[number].body
+    }
+
+    /// The operand of this rank of an edge that shares a body, 0 where it has fewer.
+    pub(crate) fn operand(&self, number: usize, rank: usize) -> u32
+        requires { is_some (shared_body (code_at self.now number)) ≡ true }
+        ensures { result ≡ get_or (shared_operands (code_at self.now number)) rank 0 }
+    {
+        number_at(self.operands.row(number), rank)
     }
 
     /// The rank of the edge of this number, where there are as many.

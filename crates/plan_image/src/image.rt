@@ -1,16 +1,17 @@
 //! The tables of an image.
 
-ghost use Rattle.std.specs.Prelude.{◌≡◌, ◌↔◌, IsTrue, IsOk, IfOk, IfErr, length, slice_get};
-ghost use Rattle.plan_image.specs.Bodies.{with_operands};
+ghost use Rattle.std.specs.Prelude.{◌≡◌, ◌↔◌, ℕ, List, Option, None, Some, IsTrue, IsOk, IfOk, IfErr, length, slice_get};
+ghost use Rattle.plan_image.specs.declared.instr.BodyInstr.{BodyInstr};
+ghost use Rattle.plan_image.specs.Bodies.{instr_with_rank, with_operands};
 ghost use Rattle.plan_image.specs.Code.{instrs_of, body};
-ghost use Rattle.plan_image.specs.Columns.{lent_code};
+ghost use Rattle.plan_image.specs.Columns.{code_at, lent_code, shared_body};
 ghost use Rattle.plan_image.specs.Spelling.{HasSpelling, IsPrefixFree};
 
-use crate::body::Body;
+use crate::body::{Body, with_number};
 use crate::edge_ref::CodeRef;
 use crate::edges::Edges;
 use crate::fault::ImageFault;
-use crate::instr::{Instr, Kind};
+use crate::instr::{BodyInstr, Instr, Kind};
 use crate::limits::{is_filled, is_in_order, is_within_limits};
 use plan_text::{Items, RowList};
 use std::marker::Model;
@@ -122,29 +123,26 @@ fn filled_len(bodies: &Option<Items<Body>>, number: u32, numbers: &[u32]) -> usi
     }
 }
 
-/// The instruction at a place of an edge's code.
-fn instr_of(bodies: &Option<Items<Body>>, code: CodeRef<'_>, place: usize) -> Option<Instr>
-    ensures { result ≡ slice_get (instrs_of bodies.now (lent_code code.entry)) place }
+/// The instruction at a place of a code of its own.
+fn own_instr(code: CodeRef<'_>, place: usize) -> Option<Instr>
+    requires { shared_body (Some (lent_code code)) ≡ None }
+    ensures { (bodies : Option (List (List BodyInstr))) → result ≡ slice_get (instrs_of bodies (lent_code code.entry)) place }
 {
     match code {
         CodeRef::Own(instrs) => instrs.get(place),
-        CodeRef::Shared(number, numbers) => filled_instr(bodies, number, numbers, place),
+        CodeRef::Shared(_, _) => unreachable!(),
     }
 }
 
-fn filled_instr(
-    bodies: &Option<Items<Body>>,
-    number: u32,
-    numbers: &[u32],
-    place: usize,
-) -> Option<Instr>
-    ensures { result ≡ slice_get (with_operands (body bodies.now number) numbers.now) place }
+/// What stands at a place of the body of this number, and the rank of its operand.
+fn member_of(bodies: &Option<Items<Body>>, number: u32, place: usize) -> (Option<BodyInstr>, usize)
+    ensures { (numbers : List ℕ) → instr_with_rank numbers result.0 result.1 ≡ slice_get (with_operands (body bodies.now number) numbers) place }
 {
     match bodies {
-        None => None,
+        None => (None, 0),
         Some(bodies) => match bodies.as_slice().get(number as usize) {
-            None => None,
-            Some(body) => body.instr(numbers, place),
+            None => (None, 0),
+            Some(body) => body.member(place),
         },
     }
 }
@@ -169,10 +167,11 @@ impl Model for Image {
 }
 
 impl Image {
-    ghost use Rattle.std.specs.Prelude.{◌≡◌, IsTrue, ◌↔◌, IfOk, IfErr, length, slice_get};
+    ghost use Rattle.std.specs.Prelude.{◌≡◌, IsTrue, ◌↔◌, IfOk, IfErr, Some, length, slice_get};
     ghost use Rattle.plan_image.specs.Refusal.{IsPartsFault};
     ghost use Rattle.plan_image.specs.Spelling.{HasSpelling};
     ghost use Rattle.plan_image.specs.Code.{code};
+    ghost use Rattle.plan_image.specs.Columns.{code_at, shared_body};
 
     /// The image of these tables; else the tables back, and why: `Limit` before `BadOrder` before `BadBody`, all at 0.
     /// It takes no memory.
@@ -219,13 +218,31 @@ impl Image {
         }
     }
 
-    /// The instruction at a place of an edge's code, where there is one.
+    /// The instruction at a place of an edge's code, where there is one. Operands are looked up where it has one alone.
     pub fn instr(&self, edge: u32, place: u32) -> Option<Instr>
         ensures { result ≡ slice_get (code self.now edge) place }
     {
-        match self.parts.edges.code(edge as usize) {
-            Some(code) => instr_of(&self.parts.bodies, code, place as usize),
-            None => None,
+        match self.parts.edges.shared_body(edge as usize) {
+            Some(body) => self.shared_instr(edge, body, place),
+            None => match self.parts.edges.code(edge as usize) {
+                Some(code) => own_instr(code, place as usize),
+                None => None,
+            },
+        }
+    }
+
+    /// The instruction at a place of an edge that shares this body.
+    fn shared_instr(&self, edge: u32, body: u32, place: u32) -> Option<Instr>
+        requires { shared_body (code_at self.now.edges edge) ≡ Some body }
+        ensures { result ≡ slice_get (code self.now edge) place }
+    {
+        match member_of(&self.parts.bodies, body, place as usize) {
+            (None, _) => None,
+            (Some(BodyInstr::Fixed(instr)), _) => Some(instr),
+            (Some(BodyInstr::Open(opening)), rank) => {
+                let operand = self.parts.edges.operand(edge as usize, rank);
+                Some(with_number(opening, operand))
+            }
         }
     }
 
