@@ -2,11 +2,12 @@
 use Rattle.std.proofs.Common.{◌≡◌, ◌≢◌, ◌↔◌, ℕ, zero, suc, ◌+◌, ◌*◌, ◌<◌, Bool, true, false, List, [], ◌∷◌, ◌++◌, length, drop, map, Option, Some, None, refl, sym, ap, subst, ◌∙◌, arith}
 use Rattle.std.specs.List.{AllByRecursion, IsDistinct}
 use Rattle.std.specs.Prelude.{bytes_eq, slice_get, option_map, if◌then◌else◌}
+use Rattle.std.proofs.lemmas.List.{append_assoc}
 use Rattle.std.proofs.lemmas.Option.{slice_get-map}
 use Rattle.std.proofs.lemmas.Slice.Eq.{bytes_eq-Decides}
 use Rattle.plan_image.specs.declared.instr.Instr.{Instr}
 use Rattle.plan_image.specs.declared.instr.BodyInstr.{BodyInstr}
-use Rattle.plan_image.specs.Bodies.{body_of, leave_open}
+use Rattle.plan_image.specs.Bodies.{body_of, leave_open, open_operand, operands_of}
 use Rattle.plan_compile.specs.BodyKeys.{Body, numbers_of, key_of, same_body}
 use Rattle.plan_compile.specs.Numbering.{has, number, with_item}
 use Rattle.plan_compile.proofs.BodyKeyLemmas.{bodies_decide, body_back, body_at}
@@ -50,6 +51,15 @@ step_off key code i k n x first second at other h =
     let two : n ≡ (numbers_of (leave_open x)).1 = cc in
     let both : (k, n) ≡ numbers_of (leave_open x) = ap (λ (a : ℕ). (a, n)) one ∙ ap (λ (b : ℕ). ((numbers_of (leave_open x)).0, b)) two in
     other both
+
+-- the operands so far, and those behind
+pub operands_step : (old new : List ℕ) (code : List Instr) (i : ℕ) (x : Instr) → slice_get code i ≡ Some x → new ≡ old ++ open_operand x
+    → old ++ operands_of (drop i code) ≡ operands_of code → new ++ operands_of (drop (i + 1) code) ≡ operands_of code
+operands_step old new code i x at more so_far =
+    ap (λ (ns : List ℕ). ns ++ operands_of (drop (i + 1) code)) more
+    ∙ append_assoc old (open_operand x) (operands_of (drop (i + 1) code))
+    ∙ ap (λ (is : List Instr). old ++ operands_of is) (sym (drop_here code i x at))
+    ∙ so_far
 
 -- ---- a body that is there
 

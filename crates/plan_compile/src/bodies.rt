@@ -1,42 +1,13 @@
 //! The bodies of codes, as they come.
 
-ghost use Rattle.std.specs.Prelude.{◌≡◌, ◌<◌, ◌++◌, ◌∷◌, [], IfOk, OnOk};
-ghost use Rattle.plan_image.specs.Bodies.{open_operand, operands_of};
+ghost use Rattle.std.specs.Prelude.{◌<◌};
 
 use crate::body_table::BodyTable;
+use crate::operands::put_operands;
 use plan_image::{Body, Instr, split};
 use plan_text::{Items, Memory};
 use std::alloc::{AllocError, Global};
 use std::marker::Model;
-
-/// Appends the operand that a body leaves open.
-fn push_operand(operands: &mut Vec<u32>, instr: Instr) -> Result<(), AllocError>
-    ensures { OnOk result (operands.new.items ≡ operands.old.items ++ open_operand instr) }
-{
-    match instr {
-        Instr::Stat(operand)
-        | Instr::Need(operand)
-        | Instr::Load(operand)
-        | Instr::Store(operand)
-        | Instr::Text(operand) => {
-            operands.push(operand)?;
-            Ok(())
-        }
-        _fixed => Ok(()),
-    }
-}
-
-/// Puts the operands that the body of a code leaves open into a buffer, in order.
-pub(crate) fn put_operands(operands: &mut Vec<u32>, code: &[Instr]) -> Result<(), AllocError>
-    ensures { OnOk result (operands.new.items ≡ operands_of code.now) }
-{
-    operands.clear();
-    operands.reserve(code.len())?;
-    for &instr in code {
-        push_operand(operands, instr)?;
-    }
-    Ok(())
-}
 
 /// How many bodies are remembered.
 const REMEMBERED: usize = 64;
@@ -69,7 +40,7 @@ impl Model for Bodies {
 
 impl Bodies {
     ghost use Rattle.std.specs.Prelude.{◌≡◌, ◌≤◌, ◌+◌, [], IfOk, IfSome, length, OnOk, slice_get, Some};
-    ghost use Rattle.plan_image.specs.Bodies.{body_of};
+    ghost use Rattle.plan_image.specs.Bodies.{body_of, operands_of};
     ghost use Rattle.plan_compile.specs.BodyKeys.{same_body};
     ghost use Rattle.plan_compile.specs.Numbering.{number, with_item};
 
@@ -83,16 +54,22 @@ impl Bodies {
         }
     }
 
-    /// The number of the body that is remembered, where it is the body of a code.
-    fn remembered_of(&self, code: &[Instr]) -> Option<u32>
-        ensures there { IfSome result (λ n. slice_get self.now n ≡ Some (body_of code.now)) }
-        ensures first { IfSome result (λ n. n ≡ number same_body (body_of code.now) self.now) }
+    /// The number of the body that is remembered, where it is the body of a code. Then the operands of the code are put
+    /// into a buffer.
+    fn take_remembered(
+        &self,
+        operands: &mut Vec<u32>,
+        code: &[Instr],
+    ) -> Result<Option<u32>, AllocError>
+        ensures there { IfOk result (λ r. IfSome r (λ n. slice_get self.now n ≡ Some (body_of code.now))) }
+        ensures first { IfOk result (λ r. IfSome r (λ n. n ≡ number same_body (body_of code.now) self.now)) }
+        ensures operands { IfOk result (λ r. IfSome r (λ _. operands.new.items ≡ operands_of code.now)) }
     {
         let number = self.remembered[memory_place(code)];
-        if self.table.has_at(number, code) {
-            Some(number)
+        if self.table.take_at(number, operands, code)? {
+            Ok(Some(number))
         } else {
-            None
+            Ok(None)
         }
     }
 
@@ -109,16 +86,26 @@ impl Bodies {
         Ok(number)
     }
 
-    /// Puts the body of a code last, unless it is there, and gives its number.
-    pub(crate) fn put(&mut self, alloc: Global, code: &[Instr]) -> Result<u32, Memory>
+    /// Puts the body of a code last, unless it is there, and gives its number; the operands of the code are put into a
+    /// buffer.
+    pub(crate) fn put(
+        &mut self,
+        alloc: Global,
+        operands: &mut Vec<u32>,
+        code: &[Instr],
+    ) -> Result<u32, Memory>
         requires { length self.old ≤ 1048576 }
         ensures bodies { OnOk result (self.new ≡ with_item same_body self.old (body_of code.now)) }
         ensures number { IfOk result (λ n. n ≡ number same_body (body_of code.now) self.new) }
         ensures few { OnOk result (length self.new ≤ length self.old + 1) }
+        ensures operands { OnOk result (operands.new.items ≡ operands_of code.now) }
     {
-        match self.remembered_of(code) {
+        match self.take_remembered(operands, code)? {
             Some(number) => Ok(number),
-            None => self.put_other(alloc, code),
+            None => {
+                put_operands(operands, code)?;
+                self.put_other(alloc, code)
+            }
         }
     }
 

@@ -1,7 +1,8 @@
 //! The table of bodies.
 
 ghost use Rattle.std.specs.Prelude.{◌≡◌, ◌<◌, ◌+◌, ◌^◌, ◌↔◌, ◌++◌, ◌∷◌, [], IfOk, IsTrue, OnOk, Some, length, slice_get, ℕ};
-ghost use Rattle.plan_image.specs.Bodies.{body_of, leave_open};
+ghost use Rattle.plan_image.specs.declared.instr.BodyInstr.TheVariants as member;
+ghost use Rattle.plan_image.specs.Bodies.{body_of, leave_open, open_operand, operands_of};
 ghost use Rattle.plan_compile.specs.BodyKeys.{fixed_numbers, key_of, numbers_of, opening_number};
 
 use crate::build::word;
@@ -72,20 +73,6 @@ fn numbers_of(member: BodyInstr) -> (u32, u32)
     }
 }
 
-/// The same of what is left of an instruction in a body.
-fn left_numbers(instr: Instr) -> (u32, u32)
-    ensures { result ≡ numbers_of (leave_open instr) }
-{
-    match instr {
-        Instr::Stat(_file) => (29, 0),
-        Instr::Need(_file) => (30, 0),
-        Instr::Load(_slot) => (31, 0),
-        Instr::Store(_slot) => (32, 0),
-        Instr::Text(_text) => (33, 0),
-        fixed => fixed_numbers(fixed),
-    }
-}
-
 /// Appends two numbers.
 fn push_two(key: &mut Vec<u32>, numbers: (u32, u32)) -> Result<(), AllocError>
     ensures { OnOk result (key.new.items ≡ key.old.items ++ (numbers.0 ∷ numbers.1 ∷ [])) }
@@ -114,30 +101,70 @@ fn instr_at(code: &[Instr], place: usize) -> Instr
     code[place]
 }
 
-/// Whether the numbers at a place of a key are those of what is left of an instruction.
-fn has_numbers(key: &[u32], place: usize, instr: Instr) -> bool
+/// Whether these numbers stand at a place of a key.
+fn has_numbers(key: &[u32], place: usize, numbers: (u32, u32)) -> bool
     requires { place + 1 < length key.now }
-    ensures { (k n : ℕ) → slice_get key.now place ≡ Some k → slice_get key.now (place + 1) ≡ Some n → IsTrue result ↔ ((k, n) ≡ numbers_of (leave_open instr)) }
+    ensures { (k n : ℕ) → slice_get key.now place ≡ Some k → slice_get key.now (place + 1) ≡ Some n → IsTrue result ↔ ((k, n) ≡ numbers) }
 {
-    let (sort, operand) = left_numbers(instr);
-    key[place] == sort && key[place + 1] == operand
+    key[place] == numbers.0 && key[place + 1] == numbers.1
 }
 
-/// Whether a code has the body of this key.
-fn has_key(code: &[Instr], key: &[u32]) -> bool
+/// Appends an open operand, and tells whether an open instruction of this sort stands at a place of a key.
+fn take_open(
+    operands: &mut Vec<u32>,
+    key: &[u32],
+    place: usize,
+    opening: Opening,
+    operand: u32,
+) -> Result<bool, AllocError>
+    requires { place + 1 < length key.now }
+    ensures same { IfOk result (λ same. (k n : ℕ) → slice_get key.now place ≡ Some k → slice_get key.now (place + 1) ≡ Some n → IsTrue same ↔ ((k, n) ≡ numbers_of (member.Open opening))) }
+    ensures operands { OnOk result (operands.new.items ≡ operands.old.items ++ operand ∷ []) }
+{
+    operands.push(operand)?;
+    Ok(has_numbers(key, place, (opening_number(opening), 0)))
+}
+
+/// Appends the operand that an instruction leaves open, and tells whether what is left of it stands at a place of a key.
+fn take_operand(
+    operands: &mut Vec<u32>,
+    key: &[u32],
+    place: usize,
+    instr: Instr,
+) -> Result<bool, AllocError>
+    requires { place + 1 < length key.now }
+    ensures same { IfOk result (λ same. (k n : ℕ) → slice_get key.now place ≡ Some k → slice_get key.now (place + 1) ≡ Some n → IsTrue same ↔ ((k, n) ≡ numbers_of (leave_open instr))) }
+    ensures operands { OnOk result (operands.new.items ≡ operands.old.items ++ open_operand instr) }
+{
+    match instr {
+        Instr::Stat(file) => take_open(operands, key, place, Opening::Stat, file),
+        Instr::Need(file) => take_open(operands, key, place, Opening::Need, file),
+        Instr::Load(slot) => take_open(operands, key, place, Opening::Load, slot),
+        Instr::Store(slot) => take_open(operands, key, place, Opening::Store, slot),
+        Instr::Text(text) => take_open(operands, key, place, Opening::Text, text),
+        fixed => Ok(has_numbers(key, place, fixed_numbers(fixed))),
+    }
+}
+
+/// Whether a code has the body of this key. Then its operands are put into a buffer.
+fn take_operands(operands: &mut Vec<u32>, code: &[Instr], key: &[u32]) -> Result<bool, AllocError>
     requires { length code.now < 2 ^ 62 }
-    ensures { IsTrue result ↔ (key.now ≡ key_of (body_of code.now)) }
+    ensures same { IfOk result (λ same. IsTrue same ↔ (key.now ≡ key_of (body_of code.now))) }
+    ensures operands { IfOk result (λ same. IsTrue same → operands.new.items ≡ operands_of code.now) }
 {
     if key.len() != 2 * code.len() {
-        return false;
+        return Ok(false);
     }
+    operands.clear();
+    operands.reserve(code.len())?;
     for place in 0..code.len() {
         let instr = instr_at(code, place);
-        if !has_numbers(key, 2 * place, instr) {
-            return false;
+        let same = take_operand(operands, key, 2 * place, instr)?;
+        if !same {
+            return Ok(false);
         }
     }
-    true
+    Ok(true)
 }
 
 /// Bodies, each once, in the order in which they came.
@@ -160,7 +187,7 @@ impl Model for BodyTable {
 
 impl BodyTable {
     ghost use Rattle.std.specs.Prelude.{◌≡◌, ◌↔◌, ◌≤◌, ◌+◌, [], IfOk, IsTrue, length, OnOk, slice_get, Some};
-    ghost use Rattle.plan_image.specs.Bodies.{body_of};
+    ghost use Rattle.plan_image.specs.Bodies.{body_of, operands_of};
     ghost use Rattle.plan_compile.specs.BodyKeys.{same_body};
     ghost use Rattle.plan_compile.specs.Numbering.{number, with_item};
 
@@ -174,14 +201,24 @@ impl BodyTable {
         }
     }
 
-    /// Whether the body at this place is there, and is that of a code.
-    pub(crate) fn has_at(&self, place: u32, code: &[Instr]) -> bool
-        ensures there { IsTrue result ↔ (slice_get self.now place ≡ Some (body_of code.now)) }
-        ensures first { IsTrue result → place ≡ number same_body (body_of code.now) self.now }
+    /// Whether the body at this place is there, and is that of a code. Then the operands of the code are put into a
+    /// buffer.
+    pub(crate) fn take_at(
+        &self,
+        place: u32,
+        operands: &mut Vec<u32>,
+        code: &[Instr],
+    ) -> Result<bool, AllocError>
+        ensures there { IfOk result (λ same. IsTrue same ↔ (slice_get self.now place ≡ Some (body_of code.now))) }
+        ensures first { IfOk result (λ same. IsTrue same → place ≡ number same_body (body_of code.now) self.now) }
+        ensures operands { IfOk result (λ same. IsTrue same → operands.new.items ≡ operands_of code.now) }
     {
         match self.keys.as_slice().get(place as usize) {
-            Some(key) => has_key(code, key),
-            None => false,
+            Some(key) => {
+                let same = take_operands(operands, code, key)?;
+                Ok(same)
+            }
+            None => Ok(false),
         }
     }
 

@@ -10,7 +10,7 @@ ghost use Rattle.plan_compile.specs.Images.{shared, sort_of, used_bodies};
 ghost use Rattle.plan_compile.specs.Numbering.{with_item};
 ghost use Rattle.plan_compile.specs.Refusals.{RefusesCodes};
 
-use crate::bodies::{Bodies, put_operands};
+use crate::bodies::Bodies;
 use crate::build::Build;
 use crate::edge_wiring::put_code;
 use crate::fault::CompileFault;
@@ -63,8 +63,7 @@ fn push_edge<'a>(
     ensures edges { OnOk result (edges.new ≡ edges.old ++ edge_in numbers (shared bodies.new code.now) build.now ∷ []) }
     ensures few { OnOk result (length bodies.new ≤ length bodies.old + 1) }
 {
-    let number = bodies.put(alloc, code)?;
-    put_operands(operands, code)?;
+    let number = bodies.put(alloc, operands, code)?;
     edges.push_ref(edge_in(numbers, number, operands, build))?;
     Ok(())
 }

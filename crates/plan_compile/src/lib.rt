@@ -28,6 +28,7 @@ mod lists;
 mod lookups;
 mod names;
 mod numbers;
+mod operands;
 mod outputs;
 mod slots;
 mod wiring;

@@ -200,6 +200,7 @@ impl Edges {
     }
 
     /// The edge of this number.
+    #[inline(always)]
     pub fn edge(&self, number: usize) -> EdgeRef<'_>
         requires { number < length self.now }
         ensures found { slice_get self.now number ≡ Some (lent result) }
