@@ -78,6 +78,23 @@ impl Journal {
         }
     }
 
+    /// One more event, the same as this one. It shares what its reply brings.
+    ///
+    /// # Errors
+    /// Want of memory; then nothing changed.
+    pub fn push_copy(&mut self, event: &Event) -> Result<(), AllocError>
+        ensures ok { OnOk result (self.new ≡ self.old ++ event.now ∷ []) }
+        ensures err { OnErr result (self.new ≡ self.old) }
+    {
+        match event {
+            Event::Start(edge) => self.push_short(Sort::Start, *edge),
+            Event::Stop(edge) => self.push_short(Sort::Stop, *edge),
+            Event::Step(edge) => self.push_short(Sort::Step, *edge),
+            Event::Skip(edge, wait) => self.push_whole(*edge, Event::Skip(*edge, *wait)),
+            Event::Reply(edge, reply) => self.push_heard(*edge, reply),
+        }
+    }
+
     /// The event that came last leaves, if there is one.
     pub fn remove_last(&mut self)
         ensures { self.new ≡ take (length self.old - 1) self.old }
@@ -132,6 +149,20 @@ impl Journal {
         self.edges.push_reserved(edge);
         self.wholes.push_reserved(event);
         Ok(())
+    }
+
+    /// One more reply that an edge heard, the same as this one.
+    fn push_heard(&mut self, edge: u32, reply: &Reply) -> Result<(), AllocError>
+        ensures ok { OnOk result (self.new ≡ self.old ++ Hear edge reply.now ∷ []) }
+        ensures err { OnErr result (self.new ≡ self.old) }
+    {
+        match reply {
+            Reply::Stamp(stamp) => self.push_stamp(edge, *stamp),
+            reply => {
+                let kept = reply.copy()?;
+                self.push_whole(edge, Event::Reply(edge, kept))
+            }
+        }
     }
 
     /// One more reply that an edge heard.

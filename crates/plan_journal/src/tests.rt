@@ -89,6 +89,16 @@ fn events_come_back(rt: HostRuntime) -> Result<(), Fail> {
 }
 
 #[test]
+fn copies_come_back(rt: HostRuntime) -> Result<(), Fail> {
+    let mut journal = Journal::new(rt.alloc());
+    for said in ALL {
+        journal.push_copy(&event(said))?;
+    }
+    assert_eq!(rt; read(rt.alloc(), &journal)?.as_slice(), ALL.as_slice());
+    Ok(())
+}
+
+#[test]
 fn the_last_ones_leave(rt: HostRuntime) -> Result<(), Fail> {
     let mut journal = full(rt.alloc())?;
     for left in 0..8 {

@@ -170,9 +170,8 @@ impl<'v, W: World> Board<'v, W> {
     {
         let edge = edge_of(&event);
         let number = self.journal.len() as u64;
-        let kept = event.copy()?;
         self.marks.reserve(1)?;
-        self.journal.push(kept)?;
+        self.journal.push_copy(&event)?;
         match self.state.apply(self.image, event) {
             Ok(mark) => {
                 put(&mut self.numbers, edge as usize, number);

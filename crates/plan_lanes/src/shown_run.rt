@@ -91,8 +91,8 @@ impl<W: World + Send + Sync> ShownRun<'_, W> {
     ghost use Rattle.plan_lanes.specs.Faults.{FaultReports, report_of};
     ghost use Rattle.plan_lanes.specs.Reports.{IsRunOf};
 
-    /// Runs it as `run_lanes` does, and puts the status line of each event into the feed, under the lanes' lock, as soon
-    /// as there is room for it and no console command is under way. The feed comes back to be settled.
+    /// Runs it as `run_lanes` does, and puts the status line of each event into the feed before its lane gives the lock
+    /// back, or once there is room for it and no console command is under way. The feed comes back to be settled.
     ///
     /// # Errors
     /// The run so far, and why it hasn't ended.
@@ -130,9 +130,10 @@ impl<W: World + Send + Sync> ShownRun<'_, W> {
     }
 }
 
-/// Runs an image as `run_lanes` does, and puts the status line of each event into a feed, under the lanes' lock, as soon as
-/// there is room for it and no console command is under way. The lines that were put in are those of the first marks of the
-/// report, and the feed comes back to be settled, whatever came of the run. It never waits for who prints them.
+/// Runs an image as `run_lanes` does, and puts the status line of each event into a feed before its lane gives the lock
+/// back, or once there is room for it and no console command is under way. The lines that were put in are those of the
+/// first marks of the report, and the feed comes back to be settled, whatever came of the run. It never waits for who
+/// prints them.
 ///
 /// # Errors
 /// As `run_lanes`; where memory for the feed's books is wanted, `Opening` with `Memory`.
