@@ -11,7 +11,6 @@ use plan_image::Instr;
 use plan_verify::{PathList, Value, Words};
 use std::alloc::{AllocError, Global};
 use std::marker::Model;
-use std::mem::forget;
 
 /// A stack of at most 64 values, which has room for all of them; contracts see the topmost first.
 #[derive(Drop)]
@@ -79,32 +78,26 @@ impl Stack {
         let _ = self.values.pop();
     }
 
-    /// Takes a stamp. It owns nothing, so that no drop code need look at its kind.
+    /// Takes a stamp.
     pub(crate) fn pop_stamp(&mut self) -> u64
         requires { HasStamp self.old }
         ensures { self.old ≡ Value.Stamp result ∷ self.new }
     {
-        let value = self.pop();
-        let stamp = match &value {
-            Value::Stamp(stamp) => *stamp,
+        match self.pop() {
+            Value::Stamp(stamp) => stamp,
             _ => unreachable!(),
-        };
-        forget(value);
-        stamp
+        }
     }
 
-    /// Takes a flag, which owns nothing either.
+    /// Takes a flag.
     pub(crate) fn pop_flag(&mut self) -> bool
         requires { HasFlag self.old }
         ensures { self.old ≡ Value.Flag result ∷ self.new }
     {
-        let value = self.pop();
-        let flag = match &value {
-            Value::Flag(flag) => *flag,
+        match self.pop() {
+            Value::Flag(flag) => flag,
             _ => unreachable!(),
-        };
-        forget(value);
-        flag
+        }
     }
 
     /// Takes a text.
