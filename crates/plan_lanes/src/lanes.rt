@@ -25,7 +25,7 @@ use std::thread;
 use std::thread::Threads;
 
 /// The most questions that a lane takes at one visit.
-const HAND: usize = 128;
+const HAND: usize = 64;
 
 /// What a visit to the desk left to do.
 enum Left {
