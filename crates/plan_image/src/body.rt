@@ -107,22 +107,18 @@ impl Body {
         self.len()
     }
 
-    /// What stands at a place, counted from 0, and how many open instructions are before it: its operand is that of this
-    /// rank.
-    pub(crate) fn member(&self, place: usize) -> (Option<BodyInstr>, usize)
-        ensures { (numbers : List ℕ) → Rattle.plan_image.specs.Bodies.instr_with_rank numbers result.0 result.1 ≡ slice_get (with_operands self.now numbers) place }
+    /// How many open instructions are before a place: the operand of an open one there is that of this rank.
+    pub(crate) fn rank(&self, place: usize) -> usize
+        ensures { (numbers : List ℕ) → Rattle.plan_image.specs.Bodies.instr_with_rank numbers (slice_get self.now place) result ≡ slice_get (with_operands self.now numbers) place }
     {
-        let instr = instr_at(self.instrs.as_slice(), place);
-        let rank = rank_at(self.ranks.as_slice(), place);
-        (instr, rank)
+        rank_at(self.ranks.as_slice(), place)
     }
 
     /// The instruction at a place, counted from 0, with the operands of an edge put in; 0 for one that is missing.
     pub fn instr(&self, numbers: &[u32], place: usize) -> Option<Instr>
         ensures { result ≡ slice_get (with_operands self.now numbers.now) place }
     {
-        let (instr, rank) = self.member(place);
-        instr_with_rank(numbers, instr, rank)
+        instr_with_rank(numbers, instr_at(self.as_slice(), place), self.rank(place))
     }
 }
 

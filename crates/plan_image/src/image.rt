@@ -1,8 +1,8 @@
 //! The tables of an image.
 
-ghost use Rattle.std.specs.Prelude.{◌≡◌, ◌↔◌, ℕ, List, Option, None, Some, IsTrue, IsOk, IfOk, IfErr, length, slice_get};
+ghost use Rattle.std.specs.Prelude.{◌≡◌, ◌↔◌, [], List, Option, None, Some, IsTrue, IsOk, IfOk, IfErr, IfNone, IfSome, length, slice_get};
 ghost use Rattle.plan_image.specs.declared.instr.BodyInstr.{BodyInstr};
-ghost use Rattle.plan_image.specs.Bodies.{instr_with_rank, with_operands};
+ghost use Rattle.plan_image.specs.Bodies.{with_operands};
 ghost use Rattle.plan_image.specs.Code.{instrs_of, body};
 ghost use Rattle.plan_image.specs.Columns.{code_at, lent_code, shared_body};
 ghost use Rattle.plan_image.specs.Spelling.{HasSpelling, IsPrefixFree};
@@ -134,16 +134,14 @@ fn own_instr(code: CodeRef<'_>, place: usize) -> Option<Instr>
     }
 }
 
-/// What stands at a place of the body of this number, and the rank of its operand.
-fn member_of(bodies: &Option<Items<Body>>, number: u32, place: usize) -> (Option<BodyInstr>, usize)
-    ensures { (numbers : List ℕ) → instr_with_rank numbers result.0 result.1 ≡ slice_get (with_operands (body bodies.now number) numbers) place }
+/// The body of this number, where there are as many.
+fn body_at(bodies: &Option<Items<Body>>, number: u32) -> Option<&Body>
+    ensures there { IfSome result (λ b. b.now ≡ body bodies.now number) }
+    ensures none { IfNone result (body bodies.now number ≡ []) }
 {
     match bodies {
-        None => (None, 0),
-        Some(bodies) => match bodies.as_slice().get(number as usize) {
-            None => (None, 0),
-            Some(body) => body.member(place),
-        },
+        None => None,
+        Some(bodies) => bodies.as_slice().get(number as usize),
     }
 }
 
@@ -236,12 +234,14 @@ impl Image {
         requires { shared_body (code_at self.now.edges edge) ≡ Some body }
         ensures { result ≡ slice_get (code self.now edge) place }
     {
-        match member_of(&self.parts.bodies, body, place as usize) {
-            (None, _) => None,
-            (Some(BodyInstr::Fixed(instr)), _) => Some(instr),
-            (Some(BodyInstr::Open(opening)), rank) => {
+        let members = body_at(&self.parts.bodies, body)?;
+        let rank = members.rank(place as usize);
+        match members.as_slice().get(place as usize) {
+            None => None,
+            Some(BodyInstr::Fixed(instr)) => Some(*instr),
+            Some(BodyInstr::Open(opening)) => {
                 let operand = self.parts.edges.operand(edge as usize, rank);
-                Some(with_number(opening, operand))
+                Some(with_number(*opening, operand))
             }
         }
     }
