@@ -12,7 +12,7 @@ use std::marker::Model;
 /// How many bodies are remembered.
 const REMEMBERED: usize = 64;
 
-/// Under which place the body of a code is remembered: codes of different lengths, but for multiples, don't share one.
+/// Under which place the body of a code is remembered. Codes share one only if their lengths differ by a multiple of 64.
 fn memory_place(code: &[Instr]) -> usize
     ensures { result < 64 }
 {

@@ -216,7 +216,8 @@ impl Image {
         }
     }
 
-    /// The instruction at a place of an edge's code, where there is one. Operands are looked up where it has one alone.
+    /// The instruction at a place of an edge's code, where there is one. Only an open instruction of a body costs a look at
+    /// the edge's operands.
     pub fn instr(&self, edge: u32, place: u32) -> Option<Instr>
         ensures { result ≡ slice_get (code self.now edge) place }
     {

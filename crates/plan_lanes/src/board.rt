@@ -231,7 +231,7 @@ impl<'v, W: World> Board<'v, W> {
         self.advance_in(&mut rooms)
     }
 
-    /// The same. Rooms that are left serve for the path of a question.
+    /// As `advance`; rooms that are left serve for the path of a question.
     pub(crate) fn advance_in(&mut self, rooms: &mut Vec<Vec<u8>>) -> Result<Advance, Refused>
         ensures ok { IfOk result (λ a. Advances self.old self.new a) }
         ensures err { OnErr result (self.new ≡ self.old) }
@@ -285,7 +285,7 @@ impl<'v, W: World> Board<'v, W> {
         self.answer_to(edge, &question, reply)
     }
 
-    /// The same, of a question that is lent.
+    /// As `answer`, of a question that is lent.
     pub(crate) fn answer_to(
         &mut self,
         edge: u32,
