@@ -19,8 +19,8 @@ is_so false iff e = absurd cc
 pub over : (p : Parts) (t : Bool) → (IsTrue t ↔ IsWithinLimits p) → t ≡ false → IsPartsFault p (fault.Limit 0)
 over p t iff e = over_limit (is_not t iff e)
 
-pub disordered : (p : Parts) (t u : Bool) → (IsTrue t ↔ IsWithinLimits p) → t ≡ true → (IsTrue u ↔ IsInOrder p) → u ≡ false → IsPartsFault p (fault.BadOrder 0)
-disordered p t u iff e iff2 e2 = out_of_order (is_so t iff e) (is_not u iff2 e2)
+pub disordered : (p : Parts) (u : Bool) → IsWithinLimits p → (IsTrue u ↔ IsInOrder p) → u ≡ false → IsPartsFault p (fault.BadOrder 0)
+disordered p u within iff e = out_of_order within (is_not u iff e)
 
-pub not_filled : (p : Parts) (t u v : Bool) → (IsTrue t ↔ IsWithinLimits p) → t ≡ true → (IsTrue u ↔ IsInOrder p) → u ≡ true → (IsTrue v ↔ IsFilled p) → v ≡ false → IsPartsFault p (fault.BadBody 0)
-not_filled p t u v iff e iff2 e2 iff3 e3 = unfilled (is_so t iff e) (is_so u iff2 e2) (is_not v iff3 e3)
+pub not_filled : (p : Parts) (u v : Bool) → IsWithinLimits p → (IsTrue u ↔ IsInOrder p) → u ≡ true → (IsTrue v ↔ IsFilled p) → v ≡ false → IsPartsFault p (fault.BadBody 0)
+not_filled p u v within iff e iff2 e2 = unfilled within (is_so u iff e) (is_not v iff2 e2)

@@ -1,7 +1,7 @@
 //! Whether tables have a spelling.
 
 ghost use Rattle.std.specs.Prelude.{◌≡◌, ◌<◌, ◌≤◌, ◌^◌, ◌+◌, ◌↔◌, IsTrue, length};
-ghost use Rattle.std.specs.Prelude.{Option, Some, None, IfSome};
+ghost use Rattle.std.specs.Prelude.{Option, Some, None, IfSome, IsSome};
 ghost use Rattle.std.specs.List.{AllByRecursion};
 ghost use Rattle.plan_image.specs.Bodies.{opening_of, opens};
 ghost use Rattle.plan_image.specs.Code.{HasBody, body};
@@ -426,22 +426,35 @@ fn items_fit(parts: &Parts) -> bool
         && are_words(parts.defaults.as_slice())
 }
 
-fn fits_room(parts: &Parts) -> bool
-    ensures { IsTrue result ↔ (length (spelling parts.now) ≤ 268435456) }
+/// How many bytes the spelling has, where an image may have as many.
+fn spelling_len(parts: &Parts) -> Option<usize>
+    ensures len { IfSome result (λ len. len ≡ length (spelling parts.now)) }
+    ensures fits { IsSome result ↔ (length (spelling parts.now) ≤ 268435456) }
 {
     match parts_room(parts, MAX_IMAGE as u64) {
-        Some(_room) => true,
-        None => false,
+        Some(left) => Some(MAX_IMAGE - left as usize),
+        None => None,
     }
 }
 
-/// Whether no limit is passed.
-pub(crate) fn is_within_limits(parts: &Parts) -> bool
-    ensures { IsTrue result ↔ IsWithinLimits parts.now }
+/// Whether no limit is passed but that of the bytes.
+fn are_tables_within(parts: &Parts) -> bool
+    ensures { IsTrue result ↔ CountsFit parts.now × ItemsFit parts.now × IfSome parts.now.bodies BodiesFit × (instructions parts.now.bodies parts.now.edges ≤ Rattle.plan_image.specs.Spelling.most_code parts.now.bodies) }
 {
     counts_fit(parts)
         && items_fit(parts)
         && bodies_fit(&parts.bodies)
         && instructions_within(&parts.bodies, &parts.edges, most_code(&parts.bodies))
-        && fits_room(parts)
+}
+
+/// How many bytes the spelling has, where no limit is passed.
+pub(crate) fn len_within_limits(parts: &Parts) -> Option<usize>
+    ensures len { IfSome result (λ len. len ≡ length (spelling parts.now)) }
+    ensures within { IsSome result ↔ IsWithinLimits parts.now }
+{
+    if are_tables_within(parts) {
+        spelling_len(parts)
+    } else {
+        None
+    }
 }

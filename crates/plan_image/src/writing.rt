@@ -451,7 +451,7 @@ fn put_parts(out: &mut Vec<u8>, parts: &Parts) -> Result<(), AllocError>
 pub fn write_image(alloc: Global, image: &Image) -> Result<Vec<u8>, Memory>
     ensures { IfOk result (λ v. v.items ≡ spelling image.now) }
 {
-    let mut out = Vec::new(alloc);
+    let mut out = Vec::with_capacity(alloc, image.spelling_len())?;
     put_parts(&mut out, image.parts())?;
     Ok(out)
 }
