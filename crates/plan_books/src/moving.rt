@@ -10,16 +10,16 @@ use crate::plan::Plan;
 
 impl Books {
     /// An edge that goes on: it begins, comes to Take, takes a place, gives it back, asks or is answered.
-    pub fn go(&mut self, plan: &Plan, edge: u32, next: Phase)
+    pub fn go(&mut self, plan: &Plan, edge: u32, phase: Phase)
         requires plan { IsPlan plan.now }
         requires here { edge < edges_of plan.now }
         requires books { AreBooks plan.now self.old }
-        requires well { is_well (phase_at self.old.phases.items edge) ≡ is_well next }
-        requires ill { is_ill (phase_at self.old.phases.items edge) ≡ is_ill next }
+        requires well { is_well (phase_at self.old.phases.items edge) ≡ is_well phase }
+        requires ill { is_ill (phase_at self.old.phases.items edge) ≡ is_ill phase }
         ensures books { AreBooks plan.now self.new }
-        ensures phases { self.new.phases.items ≡ slice_set self.old.phases.items edge next }
+        ensures phases { self.new.phases.items ≡ slice_set self.old.phases.items edge phase }
     {
-        self.enter(plan, edge, next);
+        self.enter(plan, edge, phase);
     }
 
     /// An edge ends well, and those that wait for it wait for one less.

@@ -16,8 +16,8 @@ returns-clause-books c =
     record {
       kept = c.enter.ensures.kept;
       waiting = λ x lt. ap (λ (l : List ℕ). slice_index l x) c.enter.ensures.waiting ∙ (old.waiting x lt
-          ∙ (sym (unwell_same b.phases.items e c.args.next (waits_of plan x) h c.requires.well) ∙ ap (λ (l : List Phase). unwell l (waits_of plan x)) (sym c.enter.ensures.phases)));
+          ∙ (sym (unwell_same b.phases.items e c.args.phase (waits_of plan x) h c.requires.well) ∙ ap (λ (l : List Phase). unwell l (waits_of plan x)) (sym c.enter.ensures.phases)));
       blamed = λ x lt. subst (λ (l : List Phase). IsBlame l (waits_of plan x) (get_or n.blame.items x None)) (sym c.enter.ensures.phases)
-          (subst (λ (l : List (Option ℕ)). IsBlame (set b.phases.items e c.args.next) (waits_of plan x) (get_or l x None)) (sym c.enter.ensures.blame)
-          (blame_kept b.phases.items e c.args.next (waits_of plan x) (get_or b.blame.items x None) h c.requires.ill (old.blamed x lt)));
+          (subst (λ (l : List (Option ℕ)). IsBlame (set b.phases.items e c.args.phase) (waits_of plan x) (get_or l x None)) (sym c.enter.ensures.blame)
+          (blame_kept b.phases.items e c.args.phase (waits_of plan x) (get_or b.blame.items x None) h c.requires.ill (old.blamed x lt)));
     }
