@@ -1,13 +1,16 @@
 //! Journals: the events of a run in their order, in columns.
 //!
-//! `Journal`: a list of events that grows and is cut back at its end; `Events`: what is left of one, read from its front.
+//! `Diary`: a list of events that grows and is cut back at its end; `Journal`: what it comes to; `Events`: what is left of a
+//! journal, read from its front.
 #![tactic(auto)]
 
+mod diary;
 mod events;
 mod journal;
 mod sort;
 #[cfg(test)]
 mod tests;
 
+pub use diary::Diary;
 pub use events::Events;
 pub use journal::Journal;

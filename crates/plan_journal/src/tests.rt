@@ -1,6 +1,6 @@
 //! A journal of an event of each sort.
 
-use crate::Journal;
+use crate::{Diary, Journal};
 use plan_machine::{Event, Reply};
 use std::alloc::{AllocError, Global};
 use std::test::Fail;
@@ -55,13 +55,13 @@ fn said_by(event: &Event) -> Said {
     }
 }
 
-/// A journal of all of them.
-fn full(alloc: Global) -> Result<Journal, AllocError> {
-    let mut journal = Journal::new(alloc);
+/// A diary of all of them.
+fn full(alloc: Global) -> Result<Diary, AllocError> {
+    let mut diary = Diary::new(alloc);
     for said in ALL {
-        journal.push(event(said))?;
+        diary.push(&event(said))?;
     }
-    Ok(journal)
+    Ok(diary)
 }
 
 /// What its events say, read from the first on.
@@ -82,42 +82,74 @@ fn read(alloc: Global, journal: &Journal) -> Result<Vec<Said>, AllocError> {
 
 #[test]
 fn events_come_back(rt: HostRuntime) -> Result<(), Fail> {
-    let journal = full(rt.alloc())?;
+    let diary = full(rt.alloc())?;
+    assert_eq!(rt; diary.len(), 8);
+    let journal = diary.finish();
     assert_eq!(rt; journal.len(), 8);
     assert_eq!(rt; read(rt.alloc(), &journal)?.as_slice(), ALL.as_slice());
     Ok(())
 }
 
 #[test]
-fn copies_come_back(rt: HostRuntime) -> Result<(), Fail> {
-    let mut journal = Journal::new(rt.alloc());
-    for said in ALL {
-        journal.push_copy(&event(said))?;
-    }
-    assert_eq!(rt; read(rt.alloc(), &journal)?.as_slice(), ALL.as_slice());
+fn steps_come_together(rt: HostRuntime) -> Result<(), Fail> {
+    let mut diary = Diary::new(rt.alloc());
+    diary.push(&event(Said::Stamp(7, 3)))?;
+    diary.reserve(3)?;
+    diary.push_steps(7, 3);
+    let said = [
+        Said::Stamp(7, 3),
+        Said::Step(7),
+        Said::Step(7),
+        Said::Step(7),
+    ];
+    assert_eq!(rt;
+        read(rt.alloc(), &diary.finish())?.as_slice(),
+        said.as_slice()
+    );
+    Ok(())
+}
+
+#[test]
+fn replies_come_back(rt: HostRuntime) -> Result<(), Fail> {
+    let mut diary = Diary::new(rt.alloc());
+    diary.push_heard(4, &Reply::Stamp(9))?;
+    diary.push_heard(5, &Reply::Exit(3))?;
+    let said = [Said::Stamp(4, 9), Said::Exit(5, 3)];
+    assert_eq!(rt;
+        read(rt.alloc(), &diary.finish())?.as_slice(),
+        said.as_slice()
+    );
     Ok(())
 }
 
 #[test]
 fn the_last_ones_leave(rt: HostRuntime) -> Result<(), Fail> {
-    let mut journal = full(rt.alloc())?;
     for left in 0..8 {
-        journal.remove_last();
-        assert_eq!(rt; journal.len(), 7 - left);
-        assert_eq!(rt; read(rt.alloc(), &journal)?.as_slice(), &ALL[..7 - left]);
+        let mut diary = full(rt.alloc())?;
+        for _ in left..8 {
+            diary.remove_last();
+        }
+        assert_eq!(rt; diary.len(), left);
+        assert_eq!(rt; read(rt.alloc(), &diary.finish())?.as_slice(), &ALL[..left]);
     }
-    journal.remove_last();
-    assert_eq!(rt; journal.len(), 0);
+    Ok(())
+}
+
+#[test]
+fn nothing_is_left(rt: HostRuntime) -> Result<(), Fail> {
+    let mut diary = Diary::new(rt.alloc());
+    diary.remove_last();
+    assert_eq!(rt; diary.len(), 0);
     Ok(())
 }
 
 #[test]
 fn another_takes_its_place(rt: HostRuntime) -> Result<(), Fail> {
-    let mut journal = full(rt.alloc())?;
-    journal.remove_last();
-    journal.remove_last();
-    journal.push(event(Said::Stamp(6, 11)))?;
-    let all = read(rt.alloc(), &journal)?;
+    let mut diary = full(rt.alloc())?;
+    diary.remove_last();
+    diary.remove_last();
+    diary.push(&event(Said::Stamp(6, 11)))?;
+    let all = read(rt.alloc(), &diary.finish())?;
     assert_eq!(rt; all.last(), Some(&Said::Stamp(6, 11)));
     assert_eq!(rt; all.len(), 7);
     Ok(())

@@ -14,10 +14,10 @@ use Rattle.plan_machine.specs.Going.{Going}
 use Rattle.plan_machine.specs.Limits.{Limits}
 use Rattle.plan_machine.specs.Kept.{Running, IsStateOf}
 use Rattle.plan_machine.specs.Runs.{Opens, at_first}
-use Rattle.plan_machine.specs.State.{Status, Active}
+use Rattle.plan_machine.specs.State.{Status, Active, State}
 use Rattle.plan_machine.specs.Step.{Next, step}
 use Rattle.plan_machine.specs.Wanted.{any_outside}
-use Rattle.plan_lanes.specs.Boards.{IsKept, MayJournal}
+use Rattle.plan_lanes.specs.Boards.{AreNumbers, IsJournaled, IsKept, MayJournal}
 use Rattle.plan_lanes.specs.Journals.{Rule, IsLastOf}
 use Rattle.plan_lanes.specs.Progress.{Progress, progress}
 use Rattle.plan_lanes.proofs.JournalLemmas.{allowed_more, allowed_none, last_before, last_here}
@@ -47,56 +47,93 @@ kept_opened rule numbers p targets r journal marks opens state none bare all ins
       state = state;
     })
 
-module _ (rule : Rule) (numbers : List ℕ) (r next : Running) (b : Progress) (event : Event) (told : Mark) (kept : IsKept rule numbers r b) (may : MayJournal rule b event) where
+-- what a board keeps but for the books of its state
+pub record IsRecorded (rule : Rule) (numbers : List ℕ) (b : Progress) : Type 0 where
+  pub journaled : IsJournaled rule b
+  pub numbered : AreNumbers numbers b
+  pub all : length numbers ≡ length b.opened.parts.edges
+  pub long : length b.state.edges ≡ length b.opened.parts.edges
+
+-- a board one event later
+abbrev pub later_by : Progress → Event → Mark → State → Progress
+later_by b event told t = record { opened = b.opened; state = t; journal = b.journal ++ event ∷ []; marks = b.marks ++ told ∷ [] }
+
+module _ (rule : Rule) (numbers : List ℕ) (b : Progress) (event : Event) (told : Mark) (t : State) (kept : IsRecorded rule numbers b) (may : MayJournal rule b event)
+    (is : step depfile b.opened.parts b.opened.limits b.state event ≡ Next t told) where
   abbrev Numbers : List ℕ
   Numbers = slice_set numbers (edge_of event) (length b.journal)
 
   abbrev More : List Event
   More = b.journal ++ event ∷ []
 
-  module _ (long : length b.state.edges ≡ length b.opened.parts.edges) (alone : MovesAlone b.state next.going.now (edge_of event) (slice_get b.state.edges (edge_of event)) told) where
-    other : (e : ℕ) (l : Local) → slice_get next.going.now.edges e ≡ Some (Active l) → e ≢ edge_of event → (n : ℕ) × (slice_get Numbers e ≡ Some n) × IsLastOf e n More
-    other e l active apart =
-        let was : slice_get b.state.edges e ≡ Some (Active l) =
-        sym (get_other b.state.edges alone.status (edge_of event) e apart) ∙ sym (ap (λ (s : List Status). slice_get s e) alone.left) ∙ active in
-        let before = kept.numbered e l was in (
-          before.0,
-          get_other numbers (length b.journal) (edge_of event) e apart ∙ before.1,
-          last_before b.journal event e before.0 (λ h. apart (sym h)) before.2,
-        )
+  alone : MovesAlone b.state t (edge_of event) (slice_get b.state.edges (edge_of event)) told
+  alone = moves_alone depfile b.opened.parts b.opened.limits b.state t event told is
 
-    same : (e : ℕ) (l : Local) → slice_get next.going.now.edges e ≡ Some (Active l) → e ≡ edge_of event → (n : ℕ) × (slice_get Numbers e ≡ Some n) × IsLastOf e n More
-    same e l active is =
-        let within : e < length next.going.now.edges = slice_get_within next.going.now.edges e (Active l) active in
-        let lengths : length next.going.now.edges ≡ length b.state.edges = ap length alone.left ∙ length-set b.state.edges (edge_of event) alone.status in (
-          length b.journal,
-          rw is (get_set numbers (length b.journal) (edge_of event) (omega (arith, kept.all, within, is, lengths, long))),
-          rw is (last_here b.journal event),
-        )
+  lengths : length t.edges ≡ length b.state.edges
+  lengths = ap length alone.left ∙ length-set b.state.edges (edge_of event) alone.status
 
-    numbered : (e : ℕ) (l : Local) → slice_get next.going.now.edges e ≡ Some (Active l) → (n : ℕ) × (slice_get Numbers e ≡ Some n) × IsLastOf e n More
-    numbered e l active =
-        elim (cases_order e (edge_of event)) [
-          | inl is ↦ same e l active is
-          | inr (inl below) ↦ other e l active (λ h. absurd (omega (arith, below, h)))
-          | inr (inr above) ↦ other e l active (λ h. absurd (omega (arith, above, h)))
-        ]
+  other : (e : ℕ) (l : Local) → slice_get t.edges e ≡ Some (Active l) → e ≢ edge_of event → (n : ℕ) × (slice_get Numbers e ≡ Some n) × IsLastOf e n More
+  other e l active apart =
+      let was : slice_get b.state.edges e ≡ Some (Active l) =
+      sym (get_other b.state.edges alone.status (edge_of event) e apart) ∙ sym (ap (λ (s : List Status). slice_get s e) alone.left) ∙ active in
+      let before = kept.numbered e l was in (
+        before.0,
+        get_other numbers (length b.journal) (edge_of event) e apart ∙ before.1,
+        last_before b.journal event e before.0 (λ h. apart (sym h)) before.2,
+      )
 
-  -- a board that one event more was applied to
-  pub kept_more : r.going ≡ record { limits = b.opened.limits; now = b.state } → step depfile b.opened.parts b.opened.limits b.state event ≡ Next next.going.now told → next.going.limits ≡ r.going.limits → IsStateOf b.opened.parts next
-      → IsKept rule Numbers next (progress b.opened.parts b.opened.targets next.going More (b.marks ++ told ∷ []))
-  kept_more going is limits state =
-      let same_limits : next.going.limits ≡ b.opened.limits = limits ∙ ap (λ (g : Going). g.limits) going in
-      let long : length b.state.edges ≡ length b.opened.parts.edges = subst (λ (g : Going). length g.now.edges ≡ length b.opened.parts.edges) going kept.state.kept.long in
-      let alone = moves_alone depfile b.opened.parts b.opened.limits b.state next.going.now event told is in
-      subst (λ (l : Limits). IsKept rule Numbers next (record { opened = record { parts = b.opened.parts; limits = l; targets = b.opened.targets }; state = next.going.now; journal = More; marks = b.marks ++ told ∷ [] })) (sym same_limits)
-      (record {
-        inside = kept.inside;
+  same : (e : ℕ) (l : Local) → slice_get t.edges e ≡ Some (Active l) → e ≡ edge_of event → (n : ℕ) × (slice_get Numbers e ≡ Some n) × IsLastOf e n More
+  same e l active here =
+      let within : e < length t.edges = slice_get_within t.edges e (Active l) active in (
+        length b.journal,
+        rw here (get_set numbers (length b.journal) (edge_of event) (omega (arith, kept.all, within, here, lengths, kept.long))),
+        rw here (last_here b.journal event),
+      )
+
+  numbered : (e : ℕ) (l : Local) → slice_get t.edges e ≡ Some (Active l) → (n : ℕ) × (slice_get Numbers e ≡ Some n) × IsLastOf e n More
+  numbered e l active =
+      elim (cases_order e (edge_of event)) [
+        | inl here ↦ same e l active here
+        | inr (inl below) ↦ other e l active (λ h. absurd (omega (arith, below, h)))
+        | inr (inr above) ↦ other e l active (λ h. absurd (omega (arith, above, h)))
+      ]
+
+  -- one event more
+  pub recorded_more : IsRecorded rule Numbers (later_by b event told t)
+  recorded_more =
+      record {
         journaled = record {
-          reached = reached_more depfile b.opened.parts b.opened.limits b.opened.targets b.journal b.marks b.state next.going.now event told kept.journaled.reached is;
+          reached = reached_more depfile b.opened.parts b.opened.limits b.opened.targets b.journal b.marks b.state t event told kept.journaled.reached is;
           allowed = allowed_more rule b.opened.parts b.opened.limits b.opened.targets b.journal event b.state b.marks kept.journaled.reached kept.journaled.allowed may;
         };
-        numbered = numbered long alone;
+        numbered = numbered;
         all = length-set numbers (edge_of event) (length b.journal) ∙ kept.all;
-        state = state;
-      })
+        long = lengths ∙ kept.long;
+      }
+
+-- a board with its books, as it is recorded
+pub recorded_of : (rule : Rule) (numbers : List ℕ) (r : Running) (b : Progress) → IsKept rule numbers r b → r.going ≡ record { limits = b.opened.limits; now = b.state } → IsRecorded rule numbers b
+recorded_of rule numbers r b kept going =
+    record {
+      journaled = kept.journaled;
+      numbered = kept.numbered;
+      all = kept.all;
+      long = subst (λ (g : Going). length g.now.edges ≡ length b.opened.parts.edges) going kept.state.kept.long;
+    }
+
+-- and back
+pub kept_of : (rule : Rule) (numbers : List ℕ) (next : Running) (b : Progress) (journal : List Event) (marks : List Mark) → any_outside b.opened.parts b.opened.targets ≡ false
+    → IsRecorded rule numbers (record { opened = b.opened; state = next.going.now; journal = journal; marks = marks }) → next.going.limits ≡ b.opened.limits → IsStateOf b.opened.parts next
+    → IsKept rule numbers next (progress b.opened.parts b.opened.targets next.going journal marks)
+kept_of rule numbers next b journal marks inside recorded limits state =
+    subst (λ (l : Limits). IsKept rule numbers next (record { opened = record { parts = b.opened.parts; limits = l; targets = b.opened.targets }; state = next.going.now; journal = journal; marks = marks })) (sym limits)
+    (record { inside = inside; journaled = recorded.journaled; numbered = recorded.numbered; all = recorded.all; state = state })
+
+-- a board that one event more was applied to
+pub kept_more : (rule : Rule) (numbers : List ℕ) (r next : Running) (b : Progress) (event : Event) (told : Mark) → IsKept rule numbers r b → MayJournal rule b event
+    → r.going ≡ record { limits = b.opened.limits; now = b.state } → step depfile b.opened.parts b.opened.limits b.state event ≡ Next next.going.now told → next.going.limits ≡ r.going.limits → IsStateOf b.opened.parts next
+    → IsKept rule (slice_set numbers (edge_of event) (length b.journal)) next (progress b.opened.parts b.opened.targets next.going (b.journal ++ event ∷ []) (b.marks ++ told ∷ []))
+kept_more rule numbers r next b event told kept may going is limits state =
+    kept_of rule (slice_set numbers (edge_of event) (length b.journal)) next b (b.journal ++ event ∷ []) (b.marks ++ told ∷ []) kept.inside
+    (recorded_more rule numbers b event told next.going.now (recorded_of rule numbers r b kept going) may is)
+    (limits ∙ ap (λ (g : Going). g.limits) going) state

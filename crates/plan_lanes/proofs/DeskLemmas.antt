@@ -5,63 +5,46 @@ use Rattle.plan_image.specs.declared.image.Parts.{Parts}
 use Rattle.plan_machine.specs.declared.event.Event.{Event}
 use Rattle.plan_machine.specs.declared.mark.Mark.{Mark}
 use Rattle.plan_machine.specs.declared.refused.Refused.{Refused}
-use Rattle.plan_machine.specs.Depfile.{depfile}
 use Rattle.plan_machine.specs.State.{State}
 use Rattle.plan_machine.specs.Total.{total_of}
 use Rattle.plan_status.specs.declared.feed.Feed.{Feed}
 use Rattle.plan_status.specs.declared.showing.Showing.{Showing}
 use Rattle.plan_status.specs.Live.{FeedsJoin, IsFed, IsShowing, SameFeed, ShowingStays}
-use Rattle.plan_lanes.specs.declared.board.Advance.{Advance}
-use Rattle.plan_lanes.specs.declared.board.Advance.TheVariants.{Moved, Job, Wait, Ended}
 use Rattle.plan_lanes.specs.declared.board.Report.{Report}
 use Rattle.plan_lanes.specs.declared.fault.LaneFault.{LaneFault}
 use Rattle.plan_lanes.specs.declared.fault.LaneFault.TheVariants.{Opening, NotEnabled, NoMemory, NoLane, OtherBoard}
-use Rattle.plan_lanes.specs.Advances.{Advances}
 use Rattle.plan_lanes.specs.Boards.{Applies}
 use Rattle.plan_lanes.specs.Desks.{FaultIsFed, IsDesk, IsLeft, IsNamed, ReportIsFed, Shows}
 use Rattle.plan_lanes.specs.Faults.{FaultReports, report_of}
 use Rattle.plan_lanes.specs.Journals.{Rule}
 use Rattle.plan_lanes.specs.Progress.{Opened, Progress}
 use Rattle.plan_lanes.specs.Reports.{IsRunOf}
-use Rattle.plan_lanes.proofs.RunLemmas.{total_stays}
+use Rattle.plan_lanes.specs.Rushes.{AppliesAll, GoesOn}
+use Rattle.plan_lanes.proofs.RushLemmas.{goes_none, goes_one, total_runs}
 
--- ---- one event more
+-- ---- events more
 
-shows_after : ShowingStays → (named : Option Feed) (old new : Progress) (event : Event) (told : Mark) (s : Showing) → Applies old new event told → Shows named old s → Shows named new s
-shows_after stays named old new event told s h shows =
+shows_after : ShowingStays → (named : Option Feed) (old new : Progress) (events : List Event) (told : List Mark) (s : Showing) → AppliesAll old new events told → Shows named old s → Shows named new s
+shows_after stays named old new events told s h shows =
     let parts : old.opened.parts ≡ new.opened.parts = ap (λ (o : Opened). o.parts) (sym h.opened) in
-    let on : IsShowing old.opened.parts (old.marks ++ told ∷ []) s = stays old.opened.parts old.marks (told ∷ []) s shows.lines in
+    let on : IsShowing old.opened.parts (old.marks ++ told) s = stays old.opened.parts old.marks told s shows.lines in
     let marked : IsShowing old.opened.parts new.marks s = subst (λ (ms : List Mark). IsShowing old.opened.parts ms s) (sym h.marks) on in
     record {
       lines = subst (λ (p : Parts). IsShowing p new.marks s) parts marked;
-      total = shows.total ∙ (sym (total_stays depfile old.opened.parts old.opened.limits old.state new.state event told h.next) ∙ ap (λ (p : Parts). total_of p new.state) parts);
+      total = shows.total ∙ (sym (total_runs old.opened.parts old.opened.limits old.state new.state events told h.run) ∙ ap (λ (p : Parts). total_of p new.state) parts);
       feed = shows.feed;
     }
 
-pub desk_after : ShowingStays → (run : Opened) (named : Option Feed) (old new : Progress) (event : Event) (told : Mark) (showing : Option Showing) → Applies old new event told → IsDesk run named old showing → IsDesk run named new showing
-desk_after stays run named old new event told None h desk = record { run = h.opened ∙ desk.run; there = desk.there; shows = desk.shows }
-desk_after stays run named old new event told (Some s) h desk =
-    record { run = h.opened ∙ desk.run; there = desk.there; shows = shows_after stays named old new event told s h desk.shows }
-
-pub desk_same : (run : Opened) (named : Option Feed) (old new : Progress) (showing : Option Showing) → new ≡ old → IsDesk run named old showing → IsDesk run named new showing
-desk_same run named old new showing same desk = subst (λ (b : Progress). IsDesk run named b showing) (sym same) desk
-
--- after an advance
-pub desk_advanced : ShowingStays → (run : Opened) (named : Option Feed) (old new : Progress) (a : Advance) (showing : Option Showing) → Advances old new a → IsDesk run named old showing → IsDesk run named new showing
-desk_advanced stays run named old new Moved showing h desk = desk_after stays run named old new h.0 h.1.mark showing h.1.applies desk
-desk_advanced stays run named old new (Job e q p) showing h desk = desk_after stays run named old new h.0 h.1.mark showing h.1.applies desk
-desk_advanced stays run named old new Wait showing h desk = desk_same run named old new showing h.0 desk
-desk_advanced stays run named old new Ended showing h desk = desk_same run named old new showing h.0 desk
-
-pub advanced_so : ShowingStays → (run : Opened) (named : Option Feed) (old new : Progress) (result : Result Advance Refused) (showing : Option Showing)
-    → IfOk result (λ a. Advances old new a) → OnErr result (new ≡ old) → IsDesk run named old showing → IsDesk run named new showing
-advanced_so stays run named old new (Ok a) showing ok err desk = desk_advanced stays run named old new a showing ok desk
-advanced_so stays run named old new (Err refused) showing ok err desk = desk_same run named old new showing err desk
+-- after an advance, or a reply
+pub desk_goes : ShowingStays → (run : Opened) (named : Option Feed) (old new : Progress) (showing : Option Showing) → GoesOn old new → IsDesk run named old showing → IsDesk run named new showing
+desk_goes stays run named old new None h desk = record { run = h.applies.opened ∙ desk.run; there = desk.there; shows = desk.shows }
+desk_goes stays run named old new (Some s) h desk =
+    record { run = h.applies.opened ∙ desk.run; there = desk.there; shows = shows_after stays named old new h.events h.told s h.applies desk.shows }
 
 pub answered_so : ShowingStays → (run : Opened) (named : Option Feed) (old new : Progress) (event : Event) (also : Type 0) (result : Result Mark Refused) (showing : Option Showing)
     → IfOk result (λ told. Applies old new event told × also) → OnErr result (new ≡ old) → IsDesk run named old showing → IsDesk run named new showing
-answered_so stays run named old new event also (Ok told) showing ok err desk = desk_after stays run named old new event told showing ok.0 desk
-answered_so stays run named old new event also (Err refused) showing ok err desk = desk_same run named old new showing err desk
+answered_so stays run named old new event also (Ok told) showing ok err desk = desk_goes stays run named old new showing (goes_one old new event told ok.0) desk
+answered_so stays run named old new event also (Err refused) showing ok err desk = desk_goes stays run named old new showing (goes_none old new err) desk
 
 -- ---- feeds
 

@@ -4,6 +4,7 @@ mod RunLemmas
 mod JournalLemmas
 mod BoardLemmas
 mod StepLemmas
+mod RushLemmas
 mod ReportLemmas
 mod DeskLemmas
 mod Rows

@@ -1,6 +1,6 @@
 -- Lists with one item more, or one set.
 use Rattle.std.proofs.Common.{◌≡◌, ◌≢◌, ◌<◌, ℕ, zero, suc, Bool, true, false, List, [], ◌∷◌, ◌++◌, length, Option, Some, refl, ap, ◌∙◌, arith}
-use Rattle.std.specs.Prelude.{if◌then◌else◌, slice_get, slice_set}
+use Rattle.std.specs.Prelude.{◌&&◌, if◌then◌else◌, slice_get, slice_set}
 
 pub some_is : {A : Type 0} (x y : A) → ◌≡◌ {A = Option A} (Some x) (Some y) → x ≡ y
 some_is x y is = cc
@@ -33,6 +33,10 @@ get_other (x ∷ xs) y (suc i) (suc k) h = get_other xs y i k (λ e. h (ap suc e
 pub when_either : {A : Type 0} (P : A → Type 0) (b : Bool) (x y : A) → P x → P y → P (if b then x else y)
 when_either P true x y yes_x no_y = yes_x
 when_either P false x y yes_x no_y = no_y
+
+pub both_on : (a b : Bool) → (a && b) ≡ true → (a ≡ true) × (b ≡ true)
+both_on true b h = (refl, h)
+both_on false b h = absurd cc
 
 -- lists of flags that are raised at the same places
 pub same_flags : (xs ys : List Bool) → length xs ≡ length ys → ((e : ℕ) → slice_get xs e ≡ Some true → slice_get ys e ≡ Some true) → ((e : ℕ) → slice_get ys e ≡ Some true → slice_get xs e ≡ Some true) → xs ≡ ys

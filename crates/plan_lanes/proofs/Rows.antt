@@ -18,7 +18,9 @@ use Rattle.plan_lanes.specs.declared.board.Report.{Report}
 use Rattle.plan_lanes.specs.declared.fault.LaneFault.TheVariants.{NoLane}
 use Rattle.plan_lanes.specs.Faults.{number_of}
 use Rattle.plan_lanes.specs.Journals.{Rule, IsLastOf, IsAllowed}
+use Rattle.plan_lanes.specs.Progress.{Progress}
 use Rattle.plan_lanes.specs.Questions.{is_run, shown}
+use Rattle.plan_lanes.specs.Rushes.{AppliesAll}
 
 stat_is_no_run : is_run (shown (asked.Stat (97 ∷ []))) ≡ false
 stat_is_no_run = refl
@@ -74,3 +76,16 @@ not_allowed opens allowed =
     let given : reply.Stamp 7 ≡ reply.Stamp 8 =
     allowed 2 0 (reply.Stamp 7) asking (mark.Started 0 ∷ mark.Asked 0 ∷ []) (Stat (97 ∷ [])) 1 refl (record { start = first; opens = opens; run = (begun, refl, (asking, refl, refl)) }) refl asked_by_step in
     cc
+
+-- ---- many events at once
+
+fresh : Progress
+fresh = record { opened = record { parts = one; limits = record { jobs = 1; keep = 0 }; targets = 0 ∷ [] }; state = first; journal = []; marks = [] }
+
+later : Progress
+later = record { opened = record { parts = one; limits = record { jobs = 1; keep = 0 }; targets = 0 ∷ [] }; state = asking; journal = Start 0 ∷ Step 0 ∷ []; marks = mark.Started 0 ∷ mark.Asked 0 ∷ [] }
+
+-- the edge starts and asks
+both_applied : AppliesAll fresh later (Start 0 ∷ Step 0 ∷ []) (mark.Started 0 ∷ mark.Asked 0 ∷ [])
+unfolding one first begun asking fresh later step turn
+both_applied = record { opened = refl; run = (begun, refl, (asking, refl, refl)); journal = refl; marks = refl }

@@ -7,3 +7,4 @@ pub mod Advances
 pub mod Reports
 pub mod Faults
 pub mod Desks
+pub mod Rushes

@@ -19,9 +19,11 @@ ghost use Rattle.plan_lanes.specs.Progress.{Opened, going_of};
 ghost use Rattle.plan_lanes.specs.Questions.{is_run, shown};
 ghost use Rattle.plan_lanes.specs.Reports.{IsRunOf};
 
+mod rushing;
+
 use crate::asked::{Asked, Question};
 use crate::world::{Permit, World};
-use plan_journal::Journal;
+use plan_journal::{Diary, Journal};
 use plan_machine::{
     Event, Mark, Options, Refused, Reply, State, depfiles_are_frugal, marks_are_orderly,
     never_wrong, stays_in_budget,
@@ -59,7 +61,7 @@ pub struct Board<'v, W: World> {
     image: &'v Verified,
     targets: Vec<u32>,
     state: State,
-    journal: Journal,
+    diary: Diary,
     marks: Vec<Mark>,
     /// For each edge the position of its last event.
     numbers: Vec<u64>,
@@ -72,9 +74,9 @@ impl<'v, W: World> Model for Board<'v, W> {
 
     ghost Value = { Progress };
 
-    ghost view = { λ b. progress b.image.now b.targets.items b.state.going b.journal b.marks.items };
+    ghost view = { λ b. progress b.image.now b.targets.items b.state.going b.diary.events b.marks.items };
 
-    ghost invariant = { λ b. IsKept W.allows b.numbers.items b.state (progress b.image.now b.targets.items b.state.going b.journal b.marks.items) };
+    ghost invariant = { λ b. IsKept W.allows b.numbers.items b.state (progress b.image.now b.targets.items b.state.going b.diary.events b.marks.items) };
 }
 
 /// The edge that an event changes.
@@ -132,7 +134,7 @@ impl<'v, W: World> Board<'v, W> {
             image,
             targets,
             state,
-            journal: Journal::new(alloc),
+            diary: Diary::new(alloc),
             marks: Vec::new(alloc),
             numbers,
             world: PhantomData,
@@ -169,9 +171,9 @@ impl<'v, W: World> Board<'v, W> {
         ensures inside { IfErr result (λ r. r ≢ Refused.BadTarget) }
     {
         let edge = edge_of(&event);
-        let number = self.journal.len() as u64;
+        let number = self.diary.len() as u64;
         self.marks.reserve(1)?;
-        self.journal.push_copy(&event)?;
+        self.diary.push(&event)?;
         match self.state.apply(self.image, event) {
             Ok(mark) => {
                 put(&mut self.numbers, edge as usize, number);
@@ -179,7 +181,7 @@ impl<'v, W: World> Board<'v, W> {
                 Ok(mark)
             }
             Err(refused) => {
-                self.journal.remove_last();
+                self.diary.remove_last();
                 Err(refused)
             }
         }
@@ -206,7 +208,7 @@ impl<'v, W: World> Board<'v, W> {
         let asked = self.question(rooms, &event)?;
         let image = self.image;
         let edge = edge_of(&event);
-        let number = self.journal.len() as u64;
+        let number = self.diary.len() as u64;
         self.record(event)?;
         match asked {
             None => Ok(Advance::Moved),
@@ -316,13 +318,13 @@ impl<'v, W: World> Board<'v, W> {
         let _tables = self.image.image();
         let Board {
             state,
-            journal,
+            diary,
             marks,
             ..
         } = self;
         Report {
             state,
-            journal,
+            journal: diary.finish(),
             marks,
         }
     }

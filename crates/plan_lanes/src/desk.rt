@@ -89,7 +89,7 @@ impl<'v, W: World, J: Naming> Desk<'v, W, J> {
     /// Does what can be done next without a reply. Rooms that are left serve for the path of a question.
     pub fn advance(&mut self, rooms: &mut Vec<Vec<u8>>) -> Result<Advance, Refused> {
         marks_may_come();
-        self.board.advance_in(rooms)
+        self.board.proceed(rooms)
     }
 
     /// Hands a reply in that the world's rule allows. Where the board doesn't take it, lanes stop.
@@ -102,6 +102,44 @@ impl<'v, W: World, J: Naming> Desk<'v, W, J> {
             Ok(_mark) => {}
             Err(Refused::Memory) => self.stop(Stopped::Memory),
             Err(_refused) => self.stop(Stopped::Unfit),
+        }
+    }
+
+    /// Hands a reply in that the world's rule allows, and lets its edge go on by itself: the question that it asks then, if
+    /// it does. Where the board doesn't take the reply, lanes stop.
+    pub fn follow(
+        &mut self,
+        rooms: &mut Vec<Vec<u8>>,
+        edge: u32,
+        question: &Question,
+        reply: Reply,
+    ) -> Option<Question>
+        requires { W.allows question.now.number (shown question.now.request) reply }
+    {
+        marks_may_come();
+        let followed = self.board.follow(edge, question, reply);
+        match followed {
+            Ok(true) => self.next_question(rooms, edge),
+            Ok(false) => None,
+            Err(Refused::Memory) => {
+                self.stop(Stopped::Memory);
+                None
+            }
+            Err(_refused) => {
+                self.stop(Stopped::Unfit);
+                None
+            }
+        }
+    }
+
+    /// The question whose reply an edge awaits. Where memory ran out, lanes stop.
+    fn next_question(&mut self, rooms: &mut Vec<Vec<u8>>, edge: u32) -> Option<Question> {
+        match self.board.open_question(rooms, edge) {
+            Ok(question) => question,
+            Err(_error) => {
+                self.stop(Stopped::Memory);
+                None
+            }
         }
     }
 

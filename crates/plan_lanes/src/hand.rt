@@ -85,6 +85,27 @@ impl<W: World> Member<W> {
         }
     }
 
+    /// Hands the reply in, and takes the question that its edge asks then by itself: true where it does. Where there is no
+    /// reply, it is lost, and lanes stop.
+    pub fn follow<J: Naming>(
+        &mut self,
+        desk: &mut Desk<'_, W, J>,
+        rooms: &mut Vec<Vec<u8>>,
+    ) -> bool {
+        let Some(reply) = self.reply.take() else {
+            desk.stop(Stopped::Memory);
+            return false;
+        };
+        match desk.follow(rooms, self.edge, &self.question, reply) {
+            Some(question) => {
+                let told = mem::replace(&mut self.question, question);
+                told.request.leave(rooms);
+                true
+            }
+            None => false,
+        }
+    }
+
     /// Leaves the room of its path for one to come.
     pub fn leave(self, rooms: &mut Vec<Vec<u8>>) {
         let Member { question, .. } = self;
@@ -106,6 +127,25 @@ fn answer_all<W: World, J: Naming>(members: &mut Vec<Member<W>>, desk: &mut Desk
     }
 }
 
+/// Hands all replies in, and lets each edge go on by itself: those that ask again are kept, the others were told.
+fn follow_all<W: World, J: Naming>(
+    members: &mut Vec<Member<W>>,
+    kept: &mut Vec<Member<W>>,
+    told: &mut Vec<Member<W>>,
+    desk: &mut Desk<'_, W, J>,
+    rooms: &mut Vec<Vec<u8>>,
+) {
+    for mut member in members.drain(..) {
+        if member.follow(desk, rooms) {
+            if kept.push(member).is_err() {
+                desk.stop(Stopped::Memory);
+            }
+        } else {
+            let _ = told.push(member);
+        }
+    }
+}
+
 /// Lets members go, and keeps the rooms of their paths.
 fn leave_all<W: World>(members: &mut Vec<Member<W>>, rooms: &mut Vec<Vec<u8>>) {
     for member in members.drain(..) {
@@ -118,6 +158,8 @@ fn leave_all<W: World>(members: &mut Vec<Member<W>>, rooms: &mut Vec<Vec<u8>>) {
 #[derive(Drop)]
 pub struct Hand<W: World> {
     held: Vec<Member<W>>,
+    /// Those that are to be held next.
+    kept: Vec<Member<W>>,
     told: Vec<Member<W>>,
     rooms: Vec<Vec<u8>>,
 }
@@ -127,11 +169,18 @@ impl<W: World> Hand<W> {
     pub fn new(alloc: Global, most: usize) -> Result<Hand<W>, AllocError> {
         let mut held = Vec::new(alloc);
         held.reserve(most)?;
+        let mut kept = Vec::new(alloc);
+        kept.reserve(most)?;
         let mut told = Vec::new(alloc);
         told.reserve(most)?;
         let mut rooms = Vec::new(alloc);
         rooms.reserve(most)?;
-        Ok(Hand { held, told, rooms })
+        Ok(Hand {
+            held,
+            kept,
+            told,
+            rooms,
+        })
     }
 
     /// How many questions it holds.
@@ -154,6 +203,18 @@ impl<W: World> Hand<W> {
         answer_all(&mut self.held, desk);
         mem::swap(&mut self.held, &mut self.told);
         self.held.clear();
+    }
+
+    /// Hands all replies in, and holds the questions that their edges ask then by themselves.
+    pub fn follow<J: Naming>(&mut self, desk: &mut Desk<'_, W, J>) {
+        follow_all(
+            &mut self.held,
+            &mut self.kept,
+            &mut self.told,
+            desk,
+            &mut self.rooms,
+        );
+        mem::swap(&mut self.held, &mut self.kept);
     }
 
     /// What can be done next without a reply.

@@ -175,8 +175,8 @@ fn lane<J: Naming, W: World, R: Wait>(
     }
 }
 
-/// Hands in what is in the hand, fills it again, and shows the lines that came of it. It sleeps while nothing can be
-/// asked and the hand is empty.
+/// Hands in what is in the hand, keeps the questions that its edges ask next, fills it again, and shows the lines that came
+/// of it. It sleeps while nothing can be asked and the hand is empty.
 fn visit<J: Naming, W: World, R: Wait>(
     rt: &R,
     desk: &Mutex<Desk<'_, W, J>>,
@@ -184,7 +184,7 @@ fn visit<J: Naming, W: World, R: Wait>(
     hand: &mut Hand<W>,
 ) -> Left {
     let mut guard = desk.lock(rt);
-    hand.hand_in(&mut guard);
+    hand.follow(&mut guard);
     for _ in rt.forever() {
         if guard.stopped() != Stopped::No {
             moved.notify_all();

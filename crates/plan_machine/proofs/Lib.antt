@@ -29,3 +29,4 @@ pub mod AgreementLemmas
 pub mod PointwiseLemmas
 pub mod SamenessLemmas
 pub mod EndsLemmas
+pub mod RushLemmas

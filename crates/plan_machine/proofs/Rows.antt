@@ -21,6 +21,7 @@ use Rattle.plan_machine.specs.State.{Unbegun, Active, State}
 use Rattle.plan_machine.specs.Step.{Stepped, Next, Wrong, NotEnabled, answer_of, step}
 use Rattle.plan_machine.specs.Kept.{phases_from}
 use Rattle.plan_machine.specs.Requests.{asked_at, asks_by}
+use Rattle.plan_machine.specs.Rushes.{is_stride, rush_events, rush_marks}
 use Rattle.plan_machine.specs.Total.{total_of}
 use Rattle.plan_verify.specs.Budget.{image_budget}
 use Rattle.plan_machine.specs.Depfile.{depfile}
@@ -127,3 +128,20 @@ restat_chain :
     ∷ Some (mark.Started 1) ∷ Some (mark.Moved 1) ∷ Some (mark.Asked 1) ∷ Some (mark.Answered 1) ∷ Some (mark.Moved 1) ∷ Some (mark.Moved 1) ∷ Some (mark.Ended 1 false) ∷ []
 unfolding marks_of then_marks chain alone step turn heard
 restat_chain = refl
+
+-- ---- an edge that goes on by itself
+
+rush_of_three : rush_events 3 (record { steps = 2; asked = true }) ≡ Step 3 ∷ Step 3 ∷ Step 3 ∷ []
+rush_of_three = refl
+
+marks_of_three : rush_marks 3 (record { steps = 2; asked = true }) ≡ mark.Moved 3 ∷ mark.Moved 3 ∷ mark.Asked 3 ∷ []
+marks_of_three = refl
+
+still : rush_events 3 (record { steps = 0; asked = false }) ≡ []
+still = refl
+
+take_is_no_stride : is_stride op.Take ≡ false
+take_is_no_stride = refl
+
+sweep_is_a_stride : is_stride op.Sweep ≡ true
+sweep_is_a_stride = refl

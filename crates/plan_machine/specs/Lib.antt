@@ -31,3 +31,4 @@ pub mod Faults
 pub mod Agreement
 pub mod Sameness
 pub mod Ends
+pub mod Rushes

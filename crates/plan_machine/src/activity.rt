@@ -85,7 +85,7 @@ impl Activity {
     }
 
     /// Calculates on the stack.
-    fn calculate(&mut self, instr: Instr)
+    pub(crate) fn calculate(&mut self, instr: Instr)
         requires place { self.old.place + 1 < 2 ^ 32 }
         requires plain { IsPlain instr }
         requires works { Works (calculated self.old (calculate instr self.old.stack)) }
@@ -96,7 +96,7 @@ impl Activity {
     }
 
     /// Goes on elsewhere.
-    fn jump(&mut self, _image: &Image, _edge: u32, to: u32)
+    pub(crate) fn jump(&mut self, _image: &Image, _edge: u32, to: u32)
         requires works { Works (jumps self.old (length (code _image.now _edge)) to self.old.stack) }
         ensures { IsMade Turned.Moved self.old self.new (jumps self.old (length (code _image.now _edge)) to self.old.stack) }
     {
@@ -105,7 +105,7 @@ impl Activity {
     }
 
     /// Goes on elsewhere where a flag is set.
-    fn branch(&mut self, image: &Image, edge: u32, to: u32)
+    pub(crate) fn branch(&mut self, image: &Image, edge: u32, to: u32)
         requires place { self.old.place + 1 < 2 ^ 32 }
         requires works { Works (branches self.old (length (code image.now edge)) to self.old.stack) }
         ensures { IsMade Turned.Moved self.old self.new (branches self.old (length (code image.now edge)) to self.old.stack) }

@@ -1,6 +1,6 @@
 //! Where each edge stands and what each slot has, without the books that are kept of it.
 
-ghost use Rattle.std.specs.Prelude.{◌≡◌, ◌≢◌, ◌<◌, ◌^◌, ◌&&◌, Err, IfOk, IsSome, None, OnErr, Option, Some, length, map, option_map, replicate, slice_get};
+ghost use Rattle.std.specs.Prelude.{◌≡◌, ◌≢◌, ◌<◌, ◌^◌, ◌&&◌, Err, IfNone, IfOk, IfSome, IsSome, None, Ok, OnErr, Option, Some, length, map, option_map, replicate, slice_get};
 ghost use Rattle.std.specs.List.{list_all};
 ghost use Rattle.plan_image.specs.Code.{code};
 ghost use Rattle.plan_verify.specs.Members.{is_member};
@@ -15,6 +15,7 @@ ghost use Rattle.plan_machine.specs.Kept.{phase_in};
 ghost use Rattle.plan_machine.specs.Places.{is_spent};
 ghost use Rattle.plan_machine.specs.Requests.{asked_at, shown, step_asks};
 ghost use Rattle.plan_machine.specs.Runs.{at_first};
+ghost use Rattle.plan_machine.specs.Rushes.{HasRushed, stride_mark};
 ghost use Rattle.plan_machine.specs.State.{Active, is_ill, is_well, outcome_at, passes, stands, with_status};
 ghost use Rattle.plan_machine.specs.Depfile.{depfile};
 ghost use Rattle.plan_machine.specs.Step.{NotEnabled, answer_of, step};
@@ -335,6 +336,35 @@ impl Machine {
         }
         let turned = self.make_turn(alloc, image, edge)?;
         Ok(self.settle(edge, turned))
+    }
+
+    /// Makes a step of an edge that is under way, if it makes it by itself.
+    fn make_stride(&mut self, image: &Image, edge: u32) -> Option<Turned>
+        requires short { length (code image.now edge) < 2 ^ 32 }
+        requires active { (l : Local) × (slice_get self.old.now.edges edge ≡ Some (Active l)) × CanTurn image.now self.old.now.slots edge l }
+        ensures some { IfSome result (λ r. HasRushed image.now self.old edge r self.new) }
+        ensures none { IfNone result (self.new ≡ self.old) }
+    {
+        let status = &mut self.edges[edge as usize];
+        status.stride(image, edge, &mut self.slots)
+    }
+
+    /// One step of an edge, if it makes it by itself, and whether it asked: such a step looks at no other edge, and takes no
+    /// memory.
+    #[tactic(auto, using(crate::proofs::RushLemmas::stride_applied))]
+    pub(crate) fn stride(&mut self, image: &Image, edge: u32) -> Option<bool>
+        requires short { length (code image.now edge) < 2 ^ 32 }
+        requires turns { (l : Local) → slice_get self.old.now.edges edge ≡ Some (Active l) → CanTurn image.now self.old.now.slots edge l }
+        ensures some { IfSome result (λ asked. Applied image.now self.old (Step edge) (Ok (stride_mark edge asked)) self.new) }
+        ensures none { IfNone result (self.new ≡ self.old) }
+    {
+        if !self.is_under_way(edge) {
+            return None;
+        }
+        match self.make_stride(image, edge) {
+            Some(turned) => Some(turned.asks()),
+            None => None,
+        }
     }
 
     /// Whether an edge is under way.

@@ -239,7 +239,7 @@ impl State {
     }
 
     /// What an event does to edges and slots.
-    fn change(&mut self, image: &Image, event: Event) -> Result<Mark, Refused>
+    pub(crate) fn change(&mut self, image: &Image, event: Event) -> Result<Mark, Refused>
         requires short { (e : ℕ) → length (code image.now e) < 2 ^ 32 }
         requires kept { AreKept image.now self.old.going.now self.old.plan self.old.books }
         requires turns { (e : ℕ) (l : Local) → slice_get self.old.going.now.edges e ≡ Some (Active l) → CanTurn image.now self.old.going.now.slots e l }
@@ -273,7 +273,7 @@ impl State {
     }
 
     /// Brings the books up to where an edge stands now.
-    fn note(&mut self, image: &Image, edge: u32)
+    pub(crate) fn note(&mut self, image: &Image, edge: u32)
         requires { IsBehind image.now self.old edge }
         ensures going { self.new.going ≡ self.old.going }
         ensures total { self.new.total ≡ self.old.total }

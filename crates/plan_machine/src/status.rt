@@ -1,6 +1,6 @@
 //! Where an edge stands.
 
-ghost use Rattle.std.specs.Prelude.{◌≡◌, ◌<◌, ◌^◌, IfOk, IsSome, OnErr, Some, length, option_map};
+ghost use Rattle.std.specs.Prelude.{◌≡◌, ◌<◌, ◌^◌, IfNone, IfOk, IfSome, IsSome, OnErr, Some, length, option_map};
 ghost use Rattle.plan_image.specs.Code.{code};
 ghost use Rattle.plan_verify.specs.Turn.{Local, heard, turn};
 ghost use Rattle.plan_machine.specs.Depfile.{depfile};
@@ -9,6 +9,7 @@ ghost use Rattle.plan_machine.specs.Hearing.{CanHear, HasAnswered};
 ghost use Rattle.plan_machine.specs.Kept.{phase_of};
 ghost use Rattle.plan_machine.specs.Requests.{asked_by, shown, step_asks};
 ghost use Rattle.plan_machine.specs.Runs.{at_first};
+ghost use Rattle.plan_machine.specs.Rushes.{StandsOtherwise};
 ghost use Rattle.plan_machine.specs.State.{Active, Over, is_ill, outcome_at};
 ghost use Rattle.plan_machine.specs.Step.{answer_of};
 ghost use Rattle.plan_machine.specs.Total.{is_wanted};
@@ -180,6 +181,24 @@ impl Status {
     {
         match &mut self.stage {
             Stage::Active(activity) => activity.step(alloc, image, edge, slots),
+            _ => unreachable!(),
+        }
+    }
+
+    /// A step of the edge, which is under way, if it makes it by itself.
+    pub(crate) fn stride(
+        &mut self,
+        image: &Image,
+        edge: u32,
+        slots: &mut Vec<Slot>,
+    ) -> Option<Turned>
+        requires short { length (code image.now edge) < 2 ^ 32 }
+        requires turns { (l : Local) × (self.old ≡ Active l) × CanTurn image.now slots.old.items edge l }
+        ensures some { IfSome result (λ r. StandsOtherwise image.now edge r self.old self.new slots.old.items slots.new.items) }
+        ensures none { IfNone result ((self.new ≡ self.old) × (slots.new.items ≡ slots.old.items)) }
+    {
+        match &mut self.stage {
+            Stage::Active(activity) => activity.stride(image, edge, slots),
             _ => unreachable!(),
         }
     }

@@ -3,6 +3,7 @@
 ghost use Rattle.std.specs.Prelude.{◌≡◌, ◌<◌, ◌+◌, ◌^◌, ◌∷◌, ◌++◌, IfOk, OnErr, false, length, nat_lt, slice_get};
 ghost use Rattle.plan_image.specs.declared.instr.Instr.TheVariants as op;
 ghost use Rattle.plan_verify.specs.Turn.{Goes, Moved, calculate, calculated, loads, stores, sweep, writes};
+ghost use Rattle.plan_machine.specs.Rushes.{Strides};
 ghost use Rattle.plan_machine.specs.Turned.{IsMade, IsTurned};
 ghost use Rattle.plan_machine.specs.Working.{Works, filling};
 ghost use Rattle.plan_machine.specs.declared.turned.Turned.TheVariants as turned;
@@ -52,7 +53,8 @@ impl Activity {
         requires place { self.old.place + 1 < 2 ^ 32 }
         requires table { length slots.old.items ≡ length _image.now.slots }
         requires works { Works (stores self.old _edge slot (slice_get _image.now.slots slot) self.old.stack) }
-        ensures { IsTurned result self.old self.new slots.old.items slots.new.items (stores self.old _edge slot (slice_get _image.now.slots slot) self.old.stack) }
+        ensures stored { result ≡ turned.Stored }
+        ensures made { IsTurned result self.old self.new slots.old.items slots.new.items (stores self.old _edge slot (slice_get _image.now.slots slot) self.old.stack) }
     {
         let value = self.stack.pop();
         slots[slot as usize] = Slot::of(value);
@@ -127,7 +129,8 @@ impl Activity {
     pub(crate) fn sweep(&mut self) -> Turned
         requires place { self.old.place + 1 < 2 ^ 32 }
         requires works { Works (sweep self.old self.old.stack) }
-        ensures { IsMade result self.old self.new (sweep self.old self.old.stack) }
+        ensures strides { Strides result }
+        ensures made { IsMade result self.old self.new (sweep self.old self.old.stack) }
     {
         let _len = self.stack.len();
         let (swept, paths) = self.stack.pop_paths();

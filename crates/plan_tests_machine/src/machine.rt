@@ -265,6 +265,54 @@ fn questions_ahead(rt: HostRuntime) {
     assert_eq!(rt; opened_questions(rt.alloc(), &image), Ok((false, true)));
 }
 
+/// What two replies and a rush lead to, of an edge that asks for two stamps.
+fn rushes(image: &Verified, state: &mut State) -> Result<[(u32, bool); 3], Refused>
+    requires { IsStateOf image.now state.old }
+{
+    let _ = state.apply(image, Event::Start(0))?;
+    let _ = state.apply(image, Event::Step(0))?;
+    let (_answered, asks) = state.follow(image, 0, Reply::Stamp(5))?;
+    let (_again, ends) = state.follow(image, 0, Reply::Stamp(3))?;
+    let still = state.rush(image, 0);
+    Ok([
+        (asks.steps, asks.asked),
+        (ends.steps, ends.asked),
+        (still.steps, still.asked),
+    ])
+}
+
+/// The same, in a run of one job.
+fn opened_rushes(alloc: Global, image: &Verified) -> Result<[(u32, bool); 3], Refused> {
+    let Some(options) = Options::new(1, 0) else {
+        return Err(Refused::Memory);
+    };
+    let mut state = State::open(alloc, image, options, &[])?;
+    rushes(image, &mut state)
+}
+
+/// An edge asks again, then calculates up to its end, which it doesn't reach by itself.
+#[test]
+fn edge_rushes(rt: HostRuntime) {
+    let code = [
+        Instr::Stat(0),
+        Instr::Stat(0),
+        Instr::Older,
+        Instr::Drop,
+        Instr::End,
+    ];
+    let Some(image) = alone(rt.alloc(), &code) else {
+        panic!(&rt; "no image");
+    };
+    let gone = [(0, true), (2, false), (0, false)];
+    assert_eq!(rt; opened_rushes(rt.alloc(), &image), Ok(gone));
+    let counted = Rush {
+        steps: 2,
+        asked: true,
+    };
+    assert_eq!(rt; counted.count(), 3);
+    assert_eq!(rt; counted.is_still(), false);
+}
+
 #[test]
 fn numbers_of_refusals(rt: HostRuntime) {
     assert_eq!(rt; Refused::NotEnabled.number(), 110);

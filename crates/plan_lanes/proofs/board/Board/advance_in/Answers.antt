@@ -6,11 +6,11 @@ use Rattle.plan_lanes.proofs.board.Board.advance_in.Goals as goal
 pub returns-then-ended-clause-ok : goal.returns-then-ended-clause-ok
 returns-then-ended-clause-ok g c =
     let b = c.self.inside in
-    let v : Progress = progress b.image.now b.targets.items b.state.going b.journal b.marks.items in
+    let v : Progress = progress b.image.now b.targets.items b.state.going b.diary.events b.marks.items in
     (refl, ended_so v c.args.self.now c.ended.result c.self.view_is (c.ended.ensures b.image.now c.self.invariant.state) c.if-ended.true)
 
 pub returns-in_default-clause-ok : goal.returns-in_default-clause-ok
 returns-in_default-clause-ok g c =
     let b = c.self.inside in
-    let v : Progress = progress b.image.now b.targets.items b.state.going b.journal b.marks.items in
+    let v : Progress = progress b.image.now b.targets.items b.state.going b.diary.events b.marks.items in
     (refl, none_so v c.args.self.now c.self.view_is c.in_default.ensures.none, awaits_so v c.args.self.now c.ended.result c.self.view_is (c.ended.ensures b.image.now c.self.invariant.state) c.if-ended.false c.in_default.ensures.waits)

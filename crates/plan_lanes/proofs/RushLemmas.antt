@@ -1,0 +1,256 @@
+-- What a board keeps, many events of one edge later.
+use Rattle.std.proofs.Common.{◌≡◌, ◌<◌, ◌+◌, ◌-◌, ℕ, zero, suc, Bool, true, false, List, [], ◌∷◌, ◌++◌, length, length-append, refl, sym, ap, ◌∙◌, subst, arith}
+use Rattle.std.specs.Prelude.{◌==◌, ◌&&◌, not, IfOk, OnErr, Result, Ok, Err, slice_set}
+use Rattle.std.proofs.lemmas.Bool.{eqb-true}
+use Rattle.std.proofs.lemmas.List.{append-nil, append_assoc}
+use Rattle.plan_image.specs.declared.image.Parts.{Parts}
+use Rattle.plan_machine.specs.declared.event.Event.{Event}
+use Rattle.plan_machine.specs.declared.event.Event.TheVariants.{Step, Reply as Hear}
+use Rattle.plan_machine.specs.declared.mark.Mark.{Mark}
+use Rattle.plan_machine.specs.declared.refused.Refused.{Refused}
+use Rattle.plan_machine.specs.declared.reply.Reply.{Reply}
+use Rattle.plan_machine.specs.declared.rush.Rush.{Rush}
+use Rattle.plan_machine.specs.Depfile.{depfile}
+use Rattle.plan_machine.specs.Edges.{edge_of}
+use Rattle.plan_machine.specs.Going.{Going}
+use Rattle.plan_machine.specs.Kept.{Running, IsStateOf}
+use Rattle.plan_machine.specs.Limits.{Limits}
+use Rattle.plan_machine.specs.NeverStuck.{is_own}
+use Rattle.plan_machine.specs.Replaying.{RunsTo}
+use Rattle.plan_machine.specs.Runs.{Runs}
+use Rattle.plan_machine.specs.Rushes.{events_by, is_still, marks_by, rush_events, rush_marks, steps_of}
+use Rattle.plan_machine.specs.State.{State}
+use Rattle.plan_machine.specs.Step.{step}
+use Rattle.plan_machine.specs.Total.{total_of}
+
+use Rattle.plan_lanes.specs.declared.board.Advance.{Advance}
+use Rattle.plan_lanes.specs.declared.board.Advance.TheVariants.{Moved, Job, Wait, Ended}
+use Rattle.plan_lanes.specs.Advances.{Advances}
+use Rattle.plan_lanes.specs.Boards.{Applies, IsKept, MayJournal}
+use Rattle.plan_lanes.specs.Journals.{Rule}
+use Rattle.plan_lanes.specs.Progress.{Opened, Progress, progress}
+use Rattle.plan_lanes.specs.Rushes.{AppliesAll, GoesOn}
+use Rattle.plan_lanes.proofs.BoardLemmas.{IsRecorded, kept_of, later_by, recorded_more, recorded_of}
+use Rattle.plan_lanes.proofs.ListLemmas.{both_on}
+use Rattle.plan_lanes.proofs.RunLemmas.{total_stays}
+use Rattle.plan_lanes.proofs.StepLemmas.{own_may_journal}
+
+-- ---- steps of an edge
+
+abbrev pub AreSteps : ℕ → List Event → Type 0
+AreSteps e [] = Unit {0}
+AreSteps e (x ∷ xs) = (x ≡ Step e) × AreSteps e xs
+
+steps_more : (e : ℕ) (xs : List Event) → AreSteps e xs → AreSteps e (xs ++ Step e ∷ [])
+steps_more e [] all = (refl, tt)
+steps_more e (x ∷ xs) all = (all.0, steps_more e xs all.1)
+
+are_steps : (e n : ℕ) → AreSteps e (steps_of e n)
+are_steps e zero = tt
+are_steps e (suc n) = steps_more e (steps_of e n) (are_steps e n)
+
+pub rush_steps : (e : ℕ) (r : Rush) → AreSteps e (rush_events e r)
+rush_steps e r = by r.asked
+  where
+    by : (a : Bool) → AreSteps e (events_by e r.steps a)
+    by true = are_steps e (suc r.steps)
+    by false = are_steps e r.steps
+
+-- ---- many events more
+
+set_again : (xs : List ℕ) (i x y : ℕ) → slice_set (slice_set xs i x) i y ≡ slice_set xs i y
+set_again [] i x y = refl
+set_again (z ∷ xs) zero x y = refl
+set_again (z ∷ xs) (suc i) x y = ap (λ (l : List ℕ). z ∷ l) (set_again xs i x y)
+
+-- a board many events later
+abbrev pub after_all : Progress → List Event → List Mark → State → Progress
+after_all b events told t = record { opened = b.opened; state = t; journal = b.journal ++ events; marks = b.marks ++ told }
+
+last_place : (xs ys : List Event) (x : Event) → length xs ≡ length (xs ++ x ∷ []) - 1
+last_place xs ys x = omega (arith, length-append xs (x ∷ []))
+
+step_may : (rule : Rule) (b : Progress) (e : ℕ) (x : Event) → x ≡ Step e → MayJournal rule b x
+step_may rule b e x is = own_may_journal rule b x (subst (λ (y : Event). is_own y ≡ true) (sym is) refl)
+
+module _ (rule : Rule) (e : ℕ) where
+  -- an event of the edge, and then steps of it
+  pub recorded_all : (numbers : List ℕ) (b : Progress) (x : Event) (xs : List Event) (ms : List Mark) (t : State) → IsRecorded rule numbers b → edge_of x ≡ e → MayJournal rule b x → AreSteps e xs
+      → Runs depfile b.opened.parts b.opened.limits b.state (x ∷ xs) ms t → IsRecorded rule (slice_set numbers e (length (b.journal ++ x ∷ xs) - 1)) (after_all b (x ∷ xs) ms t)
+  recorded_all numbers b x xs [] t kept is may all run = absurd run
+  recorded_all numbers b x [] (m ∷ []) t kept is may all run =
+      let one = recorded_more rule numbers b x m run.0 kept may run.1 in
+      let last : length b.journal ≡ length (b.journal ++ x ∷ []) - 1 = last_place b.journal [] x in
+      subst (λ (n : ℕ). IsRecorded rule (slice_set numbers e n) (after_all b (x ∷ []) (m ∷ []) t)) last
+      (subst (λ (f : ℕ). IsRecorded rule (slice_set numbers f (length b.journal)) (after_all b (x ∷ []) (m ∷ []) t)) is
+      (subst (λ (s : State). IsRecorded rule (slice_set numbers (edge_of x) (length b.journal)) (after_all b (x ∷ []) (m ∷ []) s)) run.2 one))
+  recorded_all numbers b x [] (m ∷ (n ∷ ms)) t kept is may all run = absurd run.2
+  recorded_all numbers b x (y ∷ ys) (m ∷ ms) t kept is may all run =
+      let mid : Progress = later_by b x m run.0 in
+      let one : IsRecorded rule (slice_set numbers e (length b.journal)) mid =
+      subst (λ (f : ℕ). IsRecorded rule (slice_set numbers f (length b.journal)) mid) is (recorded_more rule numbers b x m run.0 kept may run.1) in
+      let rest = recorded_all (slice_set numbers e (length b.journal)) mid y ys ms t one (subst (λ (z : Event). edge_of z ≡ e) (sym all.0) refl) (step_may rule mid e y all.0) all.1 run.2 in
+      let events : (b.journal ++ x ∷ []) ++ y ∷ ys ≡ b.journal ++ x ∷ y ∷ ys = append_assoc b.journal (x ∷ []) (y ∷ ys) in
+      let marks : (b.marks ++ m ∷ []) ++ ms ≡ b.marks ++ m ∷ ms = append_assoc b.marks (m ∷ []) ms in
+      let joined : IsRecorded rule (slice_set (slice_set numbers e (length b.journal)) e (length (b.journal ++ x ∷ y ∷ ys) - 1)) (after_all b (x ∷ y ∷ ys) (m ∷ ms) t)
+      = subst (λ (l : List Event). IsRecorded rule (slice_set (slice_set numbers e (length b.journal)) e (length l - 1)) (record { opened = b.opened; state = t; journal = l; marks = b.marks ++ m ∷ ms })) events
+      (subst (λ (l : List Mark). IsRecorded rule (slice_set (slice_set numbers e (length b.journal)) e (length ((b.journal ++ x ∷ []) ++ y ∷ ys) - 1))
+      (record { opened = b.opened; state = t; journal = (b.journal ++ x ∷ []) ++ y ∷ ys; marks = l })) marks rest) in
+      subst (λ (ns : List ℕ). IsRecorded rule ns (after_all b (x ∷ y ∷ ys) (m ∷ ms) t)) (set_again numbers e (length b.journal) (length (b.journal ++ x ∷ y ∷ ys) - 1)) joined
+
+  -- a board with its books
+  pub kept_all : (numbers : List ℕ) (r next : Running) (b : Progress) (x : Event) (xs : List Event) (ms : List Mark) → IsKept rule numbers r b → r.going ≡ record { limits = b.opened.limits; now = b.state }
+      → edge_of x ≡ e → MayJournal rule b x → AreSteps e xs → RunsTo b.opened.parts r.going (x ∷ xs) ms next.going → IsStateOf b.opened.parts next
+      → IsKept rule (slice_set numbers e (length (b.journal ++ x ∷ xs) - 1)) next (progress b.opened.parts b.opened.targets next.going (b.journal ++ x ∷ xs) (b.marks ++ ms))
+  kept_all numbers r next b x xs ms kept going is may all run state =
+      let runs : Runs depfile b.opened.parts b.opened.limits b.state (x ∷ xs) ms next.going.now = subst (λ (g : Going). Runs depfile b.opened.parts g.limits g.now (x ∷ xs) ms next.going.now) going run.run in
+      kept_of rule (slice_set numbers e (length (b.journal ++ x ∷ xs) - 1)) next b (b.journal ++ x ∷ xs) (b.marks ++ ms) kept.inside
+      (recorded_all numbers b x xs ms next.going.now (recorded_of rule numbers r b kept going) is may all runs)
+      (run.limits ∙ ap (λ (g : Going). g.limits) going) state
+
+-- ---- what a board with these fields keeps and did
+
+steps_cons : (e n : ℕ) → steps_of e (suc n) ≡ Step e ∷ steps_of e n
+steps_cons e zero = refl
+steps_cons e (suc n) = ap (λ (l : List Event). l ++ Step e ∷ []) (steps_cons e n)
+
+-- a rush that isn't still begins with a step
+rush_cons : (e : ℕ) (r : Rush) → is_still r ≡ false → (n : ℕ) × (rush_events e r ≡ Step e ∷ steps_of e n)
+rush_cons e r moved = by r.steps r.asked moved
+  where
+    by : (n : ℕ) (a : Bool) → ((n == 0) && not a) ≡ false → (k : ℕ) × (events_by e n a ≡ Step e ∷ steps_of e k)
+    by n true h = (n, steps_cons e n)
+    by zero false h = absurd cc
+    by (suc n) false h = (n, steps_cons e n)
+
+pub rush_long : (e : ℕ) (r : Rush) → is_still r ≡ false → 0 < length (rush_events e r)
+rush_long e r moved =
+    let first = rush_cons e r moved in
+    let same : length (rush_events e r) ≡ suc (length (steps_of e first.0)) = ap (λ (l : List Event). length l) first.1 in
+    omega (arith, same)
+
+-- one that is still has no event
+rush_none : (e : ℕ) (r : Rush) → is_still r ≡ true → (rush_events e r ≡ []) × (rush_marks e r ≡ [])
+rush_none e r still = by r.steps r.asked (eqb-true r.steps 0 (both still).0) (off r.asked (both still).1)
+  where
+    both : is_still r ≡ true → ((r.steps == 0) ≡ true) × (not r.asked ≡ true)
+    both h = both_on (r.steps == 0) (not r.asked) h
+
+    off : (a : Bool) → not a ≡ true → a ≡ false
+    off true h = absurd cc
+    off false h = refl
+
+    by : (n : ℕ) (a : Bool) → n ≡ 0 → a ≡ false → (events_by e n a ≡ []) × (marks_by e n a ≡ [])
+    by zero false h k = (refl, refl)
+    by zero true h k = absurd cc
+    by (suc n) a h k = absurd (omega (arith, h))
+
+abbrev going_by : Limits → State → Going
+going_by limits now = record { limits = limits; now = now }
+
+still_same : (p : Parts) (old new : Going) (e : ℕ) (r : Rush) → is_still r ≡ true → RunsTo p old (rush_events e r) (rush_marks e r) new → new ≡ old
+still_same p old new e r still run =
+    let none = rush_none e r still in
+    let here : Runs depfile p old.limits old.now [] [] new.now =
+    subst (λ (l : List Mark). Runs depfile p old.limits old.now [] l new.now) none.1 (subst (λ (l : List Event). Runs depfile p old.limits old.now l (rush_marks e r) new.now) none.0 run.run) in
+    let stays : old.now ≡ new.now = here in
+    ap (λ (l : Limits). going_by l new.now) run.limits ∙ ap (λ (t : State). going_by old.limits t) (sym stays)
+
+module _ (rule : Rule) (numbers : List ℕ) (p : Parts) (targets : List ℕ) (r next : Running) (journal : List Event) (marks : List Mark) (e : ℕ) (rush : Rush)
+    (kept : IsKept rule numbers r (progress p targets r.going journal marks)) (state : IsStateOf p next) where
+  -- where the rush was still
+  pub kept_still : RunsTo p r.going (rush_events e rush) (rush_marks e rush) next.going → is_still rush ≡ true → IsKept rule numbers next (progress p targets next.going journal marks)
+  kept_still run still =
+      let k : IsKept rule numbers r (progress p targets next.going journal marks) =
+      subst (λ (g : Going). IsKept rule numbers r (progress p targets g journal marks)) (sym (still_same p r.going next.going e rush still run)) kept in
+      record { inside = k.inside; journaled = k.journaled; numbered = k.numbered; all = k.all; state = state }
+
+  module _ (after : List ℕ) (longer : List Event) (more : List Mark) (put : after ≡ slice_set numbers e (length longer - 1)) where
+    joined : (x : Event) (xs : List Event) (ms : List Mark) → longer ≡ journal ++ x ∷ xs → more ≡ marks ++ ms → edge_of x ≡ e → MayJournal rule (progress p targets r.going journal marks) x → AreSteps e xs
+        → RunsTo p r.going (x ∷ xs) ms next.going → IsKept rule after next (progress p targets next.going longer more)
+    joined x xs ms events told is may all run =
+        let whole = kept_all rule e numbers r next (progress p targets r.going journal marks) x xs ms kept refl is may all run state in
+        subst (λ (ns : List ℕ). IsKept rule ns next (progress p targets next.going longer more)) (sym put)
+        (subst (λ (l : List Mark). IsKept rule (slice_set numbers e (length longer - 1)) next (progress p targets next.going longer l)) (sym told)
+        (subst (λ (l : List Event). IsKept rule (slice_set numbers e (length l - 1)) next (progress p targets next.going l (marks ++ ms))) (sym events) whole))
+
+    -- where steps were made
+    pub kept_rushed : longer ≡ journal ++ rush_events e rush → more ≡ marks ++ rush_marks e rush → RunsTo p r.going (rush_events e rush) (rush_marks e rush) next.going → is_still rush ≡ false
+        → IsKept rule after next (progress p targets next.going longer more)
+    kept_rushed events told run moved =
+        let first = rush_cons e rush moved in
+        joined (Step e) (steps_of e first.0) (rush_marks e rush) (events ∙ ap (λ (l : List Event). journal ++ l) first.1) told refl
+        (step_may rule (progress p targets r.going journal marks) e (Step e) refl) (are_steps e first.0)
+        (subst (λ (l : List Event). RunsTo p r.going l (rush_marks e rush) next.going) first.1 run)
+
+    -- behind a reply
+    pub kept_followed : (reply : Reply) (told : Mark) → longer ≡ journal ++ Hear e reply ∷ rush_events e rush → more ≡ marks ++ told ∷ rush_marks e rush → MayJournal rule (progress p targets r.going journal marks) (Hear e reply)
+        → RunsTo p r.going (Hear e reply ∷ rush_events e rush) (told ∷ rush_marks e rush) next.going → IsKept rule after next (progress p targets next.going longer more)
+    kept_followed reply told events also may run = joined (Hear e reply) (rush_events e rush) (told ∷ rush_marks e rush) events also refl may (rush_steps e rush) run
+
+-- what a board did whose fields were these
+pub all_so : (p : Parts) (targets : List ℕ) (r next : Going) (journal longer : List Event) (marks more : List Mark) (b : Progress) (xs : List Event) (ms : List Mark) → progress p targets r journal marks ≡ b
+    → RunsTo p r xs ms next → longer ≡ journal ++ xs → more ≡ marks ++ ms → AppliesAll b (progress p targets next longer more) xs ms
+all_so p targets r next journal longer marks more b xs ms same run events told =
+    subst (λ (w : Progress). AppliesAll w (progress p targets next longer more) xs ms) same
+    (record {
+      opened = ap (λ (l : Limits). opened_by p l targets) run.limits;
+      run = run.run;
+      journal = events;
+      marks = told;
+    })
+  where
+    opened_by : Parts → Limits → List ℕ → Opened
+    opened_by parts limits all = record { parts = parts; limits = limits; targets = all }
+
+pub still_so : (p : Parts) (targets : List ℕ) (r next : Going) (journal : List Event) (marks : List Mark) (b : Progress) (e : ℕ) (rush : Rush) → progress p targets r journal marks ≡ b
+    → RunsTo p r (rush_events e rush) (rush_marks e rush) next → is_still rush ≡ true → AppliesAll b (progress p targets next journal marks) (rush_events e rush) (rush_marks e rush)
+still_so p targets r next journal marks b e rush same run still =
+    let none = rush_none e rush still in
+    all_so p targets r next journal journal marks marks b (rush_events e rush) (rush_marks e rush) same run
+    (sym (append-nil journal) ∙ ap (λ (l : List Event). journal ++ l) (sym none.0)) (sym (append-nil marks) ∙ ap (λ (l : List Mark). marks ++ l) (sym none.1))
+
+-- one behind a list, and a list behind that
+pub one_and_all : {X : Type 0} (a b c xs : List X) (x : X) → b ≡ a ++ x ∷ [] → c ≡ b ++ xs → c ≡ a ++ x ∷ xs
+one_and_all a b c xs x one all = all ∙ ap (λ l. l ++ xs) one ∙ append_assoc a (x ∷ []) xs
+
+-- ---- how many commands are wanted
+
+pub total_runs : (p : Parts) (limits : Limits) (s t : State) (xs : List Event) (ms : List Mark) → Runs depfile p limits s xs ms t → total_of p t ≡ total_of p s
+total_runs p limits s t [] [] run = ap (total_of p) (sym run)
+total_runs p limits s t (x ∷ xs) (m ∷ ms) run = total_runs p limits run.0 t xs ms run.2 ∙ total_stays depfile p limits s run.0 x m run.1
+total_runs p limits s t [] (m ∷ ms) run = absurd run
+total_runs p limits s t (x ∷ xs) [] run = absurd run
+
+-- ---- one event, or none, as many
+
+pub goes_one : (old new : Progress) (event : Event) (told : Mark) → Applies old new event told → GoesOn old new
+goes_one old new event told h =
+    record {
+      events = event ∷ [];
+      told = told ∷ [];
+      applies = record { opened = h.opened; run = (new.state, h.next, refl); journal = h.journal; marks = h.marks };
+    }
+
+pub goes_none : (old new : Progress) → new ≡ old → GoesOn old new
+goes_none old new same =
+    record {
+      events = [];
+      told = [];
+      applies = record {
+        opened = ap (λ (b : Progress). b.opened) same;
+        run = ap (λ (b : Progress). b.state) (sym same);
+        journal = ap (λ (b : Progress). b.journal) same ∙ sym (append-nil old.journal);
+        marks = ap (λ (b : Progress). b.marks) same ∙ sym (append-nil old.marks);
+      };
+    }
+
+pub goes_advanced : (old new : Progress) (a : Advance) → Advances old new a → GoesOn old new
+goes_advanced old new Moved h = goes_one old new h.0 h.1.mark h.1.applies
+goes_advanced old new (Job e q p) h = goes_one old new h.0 h.1.mark h.1.applies
+goes_advanced old new Wait h = goes_none old new h.0
+goes_advanced old new Ended h = goes_none old new h.0
+
+pub goes_by : (old new : Progress) (result : Result Advance Refused) → IfOk result (λ a. Advances old new a) → OnErr result (new ≡ old) → GoesOn old new
+goes_by old new (Ok a) ok err = goes_advanced old new a ok
+goes_by old new (Err refused) ok err = goes_none old new err

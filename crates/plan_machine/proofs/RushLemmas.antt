@@ -1,0 +1,240 @@
+-- What a rush leaves: a step that an edge makes by itself is an event, and events of one edge change that edge alone.
+use Rattle.std.proofs.Common.{◌≡◌, ℕ, zero, suc, ◌+◌, Bool, true, false, List, [], ◌∷◌, ◌++◌, Option, Some, refl, sym, ap, ◌∙◌, subst, arith}
+use Rattle.std.specs.Prelude.{Ok, ◌&&◌, not, ◌==◌, slice_get, slice_set}
+use Rattle.plan_image.specs.declared.image.Parts.{Parts}
+use Rattle.plan_image.specs.declared.instr.Instr.{Instr}
+use Rattle.plan_image.specs.declared.instr.Instr.TheVariants as op
+use Rattle.plan_image.specs.Code.{code}
+use Rattle.plan_verify.specs.Turn.{Local}
+use Rattle.plan_verify.specs.WellShaped.{IsWellShaped}
+use Rattle.plan_books.specs.declared.plan.Plan.{Plan}
+use Rattle.plan_books.specs.declared.keeping.Books.{Books}
+use Rattle.plan_machine.specs.Limits.{Limits}
+use Rattle.plan_machine.specs.declared.event.Event.{Event}
+use Rattle.plan_machine.specs.declared.event.Event.TheVariants.{Step}
+use Rattle.plan_machine.specs.declared.mark.Mark.{Mark}
+use Rattle.plan_machine.specs.declared.mark.Mark.TheVariants as mark
+use Rattle.plan_machine.specs.declared.rush.Rush.{Rush}
+use Rattle.plan_machine.specs.declared.turned.Turned.{Turned}
+use Rattle.plan_machine.specs.declared.turned.Turned.TheVariants as turned
+use Rattle.plan_machine.specs.State.{Status, Active, State}
+use Rattle.plan_machine.specs.Step.{Next, step}
+use Rattle.plan_machine.specs.Going.{Going}
+use Rattle.plan_machine.specs.Places.{at_take, is_take}
+use Rattle.plan_machine.specs.Runs.{Runs, Reached}
+use Rattle.plan_machine.specs.Replaying.{RunsTo}
+use Rattle.plan_machine.specs.Depfile.{depfile}
+use Rattle.plan_machine.specs.Edges.{edge_of}
+use Rattle.plan_machine.specs.Applying.{Applied, CanTurn, HasTurned, Settles, may_step_by}
+use Rattle.plan_machine.specs.Kept.{Running, AreKept, IsBehind, IsStateOf, Changed}
+use Rattle.plan_machine.specs.Total.{total_of}
+use Rattle.plan_machine.specs.Rushes.{HasRushed, Strides, asks_by, events_by, is_still, is_stride, marks_by, moves_of, rush_events, rush_marks, steps_of, stride_mark}
+use Rattle.std.proofs.lemmas.Bool.{eqb-true}
+use Rattle.plan_machine.proofs.Applies.{set_again, step_is}
+use Rattle.plan_machine.proofs.ListLemmas.{and_both}
+use Rattle.plan_machine.proofs.VerifyLaws.{VerifyLaws}
+use Rattle.plan_machine.proofs.OpensLemmas.{reached_stands}
+use Rattle.plan_machine.proofs.StateLemmas.{can_turn, changed, runs_more, same_total}
+
+-- ---- one step
+
+-- an edge whose next instruction it makes by itself isn't at Take
+pub elsewhere_so : (p : Parts) (e : ℕ) (l : Local) (i : Instr) → Some i ≡ slice_get (code p e) l.place → is_stride i ≡ true → at_take p e l ≡ false
+elsewhere_so p e l i at stride = ap is_take (sym at) ∙ by i stride
+  where
+    by : (i : Instr) → is_stride i ≡ true → is_take (Some i) ≡ false
+    by op.Take h = absurd cc
+    by _ h = refl
+
+module _ (p : Parts) (e : ℕ) (old new : Going) (r : Turned) (h : HasRushed p old e r new) where
+  turned_so : HasTurned p old e r new
+  turned_so = record { before = h.before; after = h.after; now = h.now; slots = h.slots; made = h.strode.made; left = h.left }
+
+  may : true ≡ may_step_by p old.limits old.now e (slice_get old.now.edges e)
+  may = subst (λ (o : Option Status). true ≡ may_step_by p old.limits old.now e o) (sym h.now) (rw (h.strode.silent, h.strode.elsewhere) refl)
+
+  settles_so : (q : Turned) → Strides q → Settles new e q (stride_mark e (asks_by q)) new
+  settles_so turned.Moved s = (refl, refl)
+  settles_so turned.Stored s = (refl, refl)
+  settles_so turned.Asked s = (refl, refl)
+  settles_so turned.Took s = absurd s
+  settles_so turned.Released s = absurd s
+  settles_so turned.Ended s = absurd s
+  settles_so (turned.Failed cause) s = absurd s
+
+  pub stride_applied : (asked : Bool) → asked ≡ asks_by r → Applied p old (Step e) (Ok (stride_mark e asked)) new
+  stride_applied asked is = rw is (step_is p e old new new r (stride_mark e (asks_by r)) turned_so true may refl (settles_so r h.strode.strides))
+
+-- ---- one step more
+
+module _ (p : Parts) (old mid new : Going) (e n : ℕ) (before : RunsTo p old (steps_of e n) (moves_of e n) mid) where
+  more : (told : Mark) → Applied p mid (Step e) (Ok told) new → RunsTo p old (steps_of e n ++ Step e ∷ []) (moves_of e n ++ told ∷ []) new
+  more told applied =
+      record {
+        run = runs_more p old.limits old.now mid.now new.now (steps_of e n) (moves_of e n) (Step e) told before.run
+            (subst (λ (l : Limits). step depfile p l mid.now (Step e) ≡ Next new.now told) before.limits applied.0);
+        limits = applied.1 ∙ before.limits;
+      }
+
+  pub one_more : (asked : Bool) → Applied p mid (Step e) (Ok (stride_mark e asked)) new → asked ≡ false → RunsTo p old (steps_of e (n + 1)) (moves_of e (n + 1)) new
+  one_more true applied is = absurd cc
+  one_more false applied is = let one : n + 1 ≡ suc n = omega arith in subst (λ (k : ℕ). RunsTo p old (steps_of e k) (moves_of e k) new) (sym one) (more (mark.Moved e) applied)
+
+  pub asks_more : (asked : Bool) → Applied p mid (Step e) (Ok (stride_mark e asked)) new → asked ≡ true → RunsTo p old (events_by e n asked) (marks_by e n asked) new
+  asks_more true applied is = more (mark.Asked e) applied
+  asks_more false applied is = absurd cc
+
+-- ---- runs, one behind the other
+
+pub runs_join : (p : Parts) (limits : Limits) (s mid end : State) (xs ys : List Event) (ms ns : List Mark)
+    → Runs depfile p limits s xs ms mid → Runs depfile p limits mid ys ns end → Runs depfile p limits s (xs ++ ys) (ms ++ ns) end
+runs_join p limits s mid end [] ys [] ns one two = subst (λ (t : State). Runs depfile p limits t ys ns end) (sym one) two
+runs_join p limits s mid end (x ∷ xs) ys (m ∷ ms) ns one two = (one.0, one.1, runs_join p limits one.0 mid end xs ys ms ns one.2 two)
+runs_join p limits s mid end [] ys (m ∷ ms) ns one two = absurd one
+runs_join p limits s mid end (x ∷ xs) ys [] ns one two = absurd one
+
+reached_on : (p : Parts) (limits : Limits) (targets : List ℕ) (events xs : List Event) (marks ms : List Mark) (s t : State)
+    → Reached depfile p limits targets events marks s → Runs depfile p limits s xs ms t → Reached depfile p limits targets (events ++ xs) (marks ++ ms) t
+reached_on p limits targets events xs marks ms s t reached run =
+    record { start = reached.start; opens = reached.opens; run = runs_join p limits reached.start s t events xs marks ms reached.run run }
+
+-- whatever a run leads to, an edge that is under way makes a turn that isn't wrong
+pub run_turns : VerifyLaws → (p : Parts) → IsWellShaped p → (r : Running) → IsStateOf p r → (xs : List Event) (ms : List Mark) (s : State) → Runs depfile p r.going.limits r.going.now xs ms s
+    → (e : ℕ) (l : Local) → slice_get s.edges e ≡ Some (Active l) → CanTurn p s.slots e l
+run_turns laws p shaped r is xs ms s run e l at =
+    can_turn laws p shaped r.going.limits s
+    (reached_stands laws depfile p shaped r.going.limits is.targets (is.events ++ xs) (is.marks ++ ms) s
+    (reached_on p r.going.limits is.targets is.events xs is.marks ms r.going.now s is.reached run)) e l at
+
+-- ---- events of one edge
+
+abbrev pub AllOf : ℕ → List Event → Type 0
+AllOf e [] = Unit {0}
+AllOf e (x ∷ xs) = (edge_of x ≡ e) × AllOf e xs
+
+all_more : (e : ℕ) (xs : List Event) → AllOf e xs → AllOf e (xs ++ Step e ∷ [])
+all_more e [] all = (refl, tt)
+all_more e (x ∷ xs) all = (all.0, all_more e xs all.1)
+
+all_steps : (e n : ℕ) → AllOf e (steps_of e n)
+all_steps e zero = tt
+all_steps e (suc n) = all_more e (steps_of e n) (all_steps e n)
+
+pub all_rush : (e : ℕ) (r : Rush) → AllOf e (rush_events e r)
+all_rush e r = by r.asked
+  where
+    by : (a : Bool) → AllOf e (events_by e r.steps a)
+    by true = all_steps e (suc r.steps)
+    by false = all_steps e r.steps
+
+module _ (p : Parts) (limits : Limits) (e : ℕ) where
+  one_changes : (s mid : State) (x : Event) (told : Mark) → edge_of x ≡ e → step depfile p limits s x ≡ Next mid told → Changed s mid e
+  one_changes s mid x told is next = subst (Changed s mid) is (changed depfile p limits s mid x told next)
+
+  twice : (s mid end : State) → Changed s mid e → Changed mid end e → Changed s end e
+  twice s mid end one two =
+      record {
+        before = one.before;
+        after = two.after;
+        now = one.now;
+        was_open = one.was_open;
+        still_wanted = two.still_wanted;
+        left = two.left ∙ ap (λ (l : List Status). slice_set l e two.after) one.left ∙ set_again s.edges e one.after two.after;
+      }
+
+  -- they change it alone
+  pub all_change : (s end : State) (x : Event) (xs : List Event) (ms : List Mark) → AllOf e (x ∷ xs) → Runs depfile p limits s (x ∷ xs) ms end → Changed s end e
+  all_change s end x xs [] all run = absurd run
+  all_change s end x [] (m ∷ []) all run = subst (λ (t : State). Changed s t e) run.2 (one_changes s run.0 x m all.0 run.1)
+  all_change s end x [] (m ∷ (n ∷ ms)) all run = absurd run.2
+  all_change s end x (y ∷ ys) (m ∷ ms) all run = twice s run.0 end (one_changes s run.0 x m all.0 run.1) (all_change run.0 end y ys ms all.1 run.2)
+
+  some_change : (s end : State) (xs : List Event) (ms : List Mark) → (xs ≡ [] → ⊥) → AllOf e xs → Runs depfile p limits s xs ms end → Changed s end e
+  some_change s end [] ms some all run = absurd (some refl)
+  some_change s end (x ∷ xs) ms some all run = all_change s end x xs ms all run
+
+not_none : (xs : List Event) (x : Event) → xs ++ x ∷ [] ≡ [] → ⊥
+not_none [] x h = cc
+not_none (y ∷ ys) x h = cc
+
+rush_some : (e : ℕ) (r : Rush) → is_still r ≡ false → rush_events e r ≡ [] → ⊥
+rush_some e r moved = by r.steps r.asked moved
+  where
+    by : (n : ℕ) (a : Bool) → ((n == 0) && not a) ≡ false → events_by e n a ≡ [] → ⊥
+    by n true h = not_none (steps_of e n) (Step e)
+    by zero false h = absurd cc
+    by (suc n) false h = not_none (steps_of e n) (Step e)
+
+-- ---- the books
+
+-- the books fit the state before a run of one edge
+run_behind : (p : Parts) (old new : Running) (e : ℕ) → AreKept p old.going.now old.plan old.books → Changed old.going.now new.going.now e → new.plan ≡ old.plan → new.books ≡ old.books → IsBehind p new e
+run_behind p old new e kept change plan books =
+    record {
+      old = old.going.now;
+      kept = subst (λ (x : Plan). AreKept p old.going.now x new.books) (sym plan) (subst (λ (x : Books). AreKept p old.going.now old.plan x) (sym books) kept);
+      changed = change;
+    }
+
+-- a rush that made steps
+pub rush_behind : (p : Parts) (old new : Running) (e : ℕ) (r : Rush) → AreKept p old.going.now old.plan old.books → RunsTo p old.going (rush_events e r) (rush_marks e r) new.going → is_still r ≡ false
+    → new.plan ≡ old.plan → new.books ≡ old.books → IsBehind p new e
+rush_behind p old new e r kept run moved plan books =
+    run_behind p old new e kept (some_change p old.going.limits e old.going.now new.going.now (rush_events e r) (rush_marks e r) (rush_some e r moved) (all_rush e r) run.run) plan books
+
+-- an event and a rush behind it
+pub follow_run : (p : Parts) (old mid new : Going) (x : Event) (told : Mark) (xs : List Event) (ms : List Mark) → Applied p old x (Ok told) mid → RunsTo p mid xs ms new → RunsTo p old (x ∷ xs) (told ∷ ms) new
+follow_run p old mid new x told xs ms applied run =
+    record { run = (mid.now, applied.0, subst (λ (l : Limits). Runs depfile p l mid.now xs ms new.now) applied.1 run.run); limits = run.limits ∙ applied.1 }
+
+pub follow_behind : (p : Parts) (old new : Running) (e : ℕ) (x : Event) (xs : List Event) (ms : List Mark) → AreKept p old.going.now old.plan old.books → RunsTo p old.going (x ∷ xs) ms new.going
+    → edge_of x ≡ e → AllOf e xs → new.plan ≡ old.plan → new.books ≡ old.books → IsBehind p new e
+follow_behind p old new e x xs ms kept run is all plan books =
+    run_behind p old new e kept (all_change p old.going.limits e old.going.now new.going.now x xs ms (is, all) run.run) plan books
+
+-- ---- states of the image
+
+module _ (p : Parts) (old new : Running) (is : IsStateOf p old) (xs : List Event) (ms : List Mark) (run : RunsTo p old.going xs ms new.going) where
+  pub run_state : total_of p new.going.now ≡ total_of p old.going.now → new.total ≡ old.total → AreKept p new.going.now new.plan new.books → IsStateOf p new
+  run_state same total kept =
+      record {
+        targets = is.targets;
+        events = is.events ++ xs;
+        marks = is.marks ++ ms;
+        reached = subst (λ (l : Limits). Reached depfile p l is.targets (is.events ++ xs) (is.marks ++ ms) new.going.now) (sym run.limits)
+            (reached_on p old.going.limits is.targets is.events xs is.marks ms old.going.now new.going.now is.reached run.run);
+        kept = kept;
+        counted = total ∙ is.counted ∙ sym same;
+      }
+
+  pub changed_state : (e : ℕ) → Changed old.going.now new.going.now e → new.total ≡ old.total → AreKept p new.going.now new.plan new.books → IsStateOf p new
+  changed_state e change total kept = run_state (same_total p old.going.now new.going.now e change) total kept
+
+pub rush_state : (p : Parts) (old new : Running) (e : ℕ) (r : Rush) → IsStateOf p old → RunsTo p old.going (rush_events e r) (rush_marks e r) new.going → is_still r ≡ false → new.total ≡ old.total
+    → AreKept p new.going.now new.plan new.books → IsStateOf p new
+rush_state p old new e r is run moved total kept =
+    changed_state p old new is (rush_events e r) (rush_marks e r) run e
+    (some_change p old.going.limits e old.going.now new.going.now (rush_events e r) (rush_marks e r) (rush_some e r moved) (all_rush e r) run.run) total kept
+
+pub follow_state : (p : Parts) (old new : Running) (e : ℕ) (x : Event) (xs : List Event) (ms : List Mark) → IsStateOf p old → RunsTo p old.going (x ∷ xs) ms new.going → edge_of x ≡ e → AllOf e xs → new.total ≡ old.total
+    → AreKept p new.going.now new.plan new.books → IsStateOf p new
+follow_state p old new e x xs ms is run of all total kept =
+    changed_state p old new is (x ∷ xs) ms run e (all_change p old.going.limits e old.going.now new.going.now x xs ms (of, all) run.run) total kept
+
+-- a rush without a step
+pub still_state : (p : Parts) (old new : Running) (e : ℕ) (r : Rush) → IsStateOf p old → RunsTo p old.going (rush_events e r) (rush_marks e r) new.going → is_still r ≡ true → new.total ≡ old.total
+    → new.plan ≡ old.plan → new.books ≡ old.books → IsStateOf p new
+still_state p old new e r is run still total plan books = by r.steps r.asked still run
+  where
+    kept_so : old.going.now ≡ new.going.now → AreKept p new.going.now new.plan new.books
+    kept_so same =
+        subst (λ (s : State). AreKept p s new.plan new.books) same
+        (subst (λ (x : Plan). AreKept p old.going.now x new.books) (sym plan) (subst (λ (x : Books). AreKept p old.going.now old.plan x) (sym books) is.kept))
+
+    not_still : (n : ℕ) (a : Bool) → ((suc n == 0) && not a) ≡ true → ⊥
+    not_still n a h = absurd (omega (arith, eqb-true (suc n) 0 (and_both (suc n == 0) (not a) h).0))
+
+    by : (n : ℕ) (a : Bool) → ((n == 0) && not a) ≡ true → RunsTo p old.going (events_by e n a) (marks_by e n a) new.going → IsStateOf p new
+    by zero false h none = run_state p old new is [] [] none (sym (ap (total_of p) none.run)) total (kept_so none.run)
+    by zero true h none = absurd (let clash : false ≡ true = h in cc)
+    by (suc n) a h none = absurd (not_still n a h)

@@ -1,0 +1,104 @@
+-- Rushes: steps that an edge makes by itself, one after another.
+use Rattle.std.specs.Prelude.{◌≡◌, ◌==◌, ℕ, zero, suc, Bool, true, false, not, ◌&&◌, List, [], ◌∷◌, ◌++◌, Some, slice_get, slice_set}
+use Rattle.plan_image.specs.declared.instr.Instr.{Instr}
+use Rattle.plan_image.specs.declared.instr.Instr.TheVariants as op
+use Rattle.plan_image.specs.declared.image.Parts.{Parts}
+use Rattle.plan_verify.specs.Turn.{Slots, Local, turn}
+use Rattle.plan_machine.specs.declared.event.Event.{Event}
+use Rattle.plan_machine.specs.declared.event.Event.TheVariants.{Step}
+use Rattle.plan_machine.specs.declared.mark.Mark.{Mark}
+use Rattle.plan_machine.specs.declared.mark.Mark.TheVariants as mark
+use Rattle.plan_machine.specs.declared.rush.Rush.{Rush}
+use Rattle.plan_machine.specs.declared.turned.Turned.{Turned}
+use Rattle.plan_machine.specs.declared.turned.Turned.TheVariants as turned
+use Rattle.plan_machine.specs.State.{Status, Active}
+use Rattle.plan_machine.specs.Going.{Going}
+use Rattle.plan_machine.specs.Places.{at_take}
+use Rattle.plan_machine.specs.Turned.{IsTurned}
+
+-- ---- the events and the marks of a rush
+
+-- so many steps of an edge
+abbrev pub steps_of : ℕ → ℕ → List Event
+steps_of e zero = []
+steps_of e (suc n) = steps_of e n ++ Step e ∷ []
+
+-- that asked nothing
+abbrev pub moves_of : ℕ → ℕ → List Mark
+moves_of e zero = []
+moves_of e (suc n) = moves_of e n ++ mark.Moved e ∷ []
+
+abbrev pub events_by : ℕ → ℕ → Bool → List Event
+events_by e n true = steps_of e (suc n)
+events_by e n false = steps_of e n
+
+abbrev pub marks_by : ℕ → ℕ → Bool → List Mark
+marks_by e n true = moves_of e n ++ mark.Asked e ∷ []
+marks_by e n false = moves_of e n
+
+-- the steps of a rush: so many that asked nothing, and one more where it asked
+abbrev pub rush_events : ℕ → Rush → List Event
+rush_events e r = events_by e r.steps r.asked
+
+abbrev pub rush_marks : ℕ → Rush → List Mark
+rush_marks e r = marks_by e r.steps r.asked
+
+-- ---- one step of it
+
+-- An instruction that looks at no other edge, takes and gives back no place, takes no memory, and asks for no command.
+abbrev pub is_stride : Instr → Bool
+is_stride op.End = false
+is_stride (op.Load s) = false
+is_stride (op.Text t) = false
+is_stride op.NoPaths = false
+is_stride op.Join = false
+is_stride op.Take = false
+is_stride op.Release = false
+is_stride op.Run = false
+is_stride _ = true
+
+-- what such an instruction does
+abbrev pub Strides : Turned → Type 0
+Strides turned.Moved = Unit {0}
+Strides turned.Stored = Unit {0}
+Strides turned.Asked = Unit {0}
+Strides _ = ⊥
+
+abbrev pub asks_by : Turned → Bool
+asks_by turned.Asked = true
+asks_by _ = false
+
+-- the mark of such a step, which asked or didn't
+abbrev pub stride_mark : ℕ → Bool → Mark
+stride_mark e true = mark.Asked e
+stride_mark e false = mark.Moved e
+
+-- an edge that awaited no reply and wasn't at Take made such a step
+pub record HasStrode (p : Parts) (e : ℕ) (r : Turned) (old new : Local) (slots after : Slots) : Type 0 where
+  pub strides : Strides r
+  pub silent : old.asked ≡ false
+  pub elsewhere : at_take p e old ≡ false
+  pub made : IsTurned r old new slots after (turn p e slots old)
+
+-- and stands otherwise
+pub record StandsOtherwise (p : Parts) (e : ℕ) (r : Turned) (old new : Status) (slots after : Slots) : Type 0 where
+  pub before : Local
+  pub later : Local
+  pub was : old ≡ Active before
+  pub is : new ≡ Active later
+  pub strode : HasStrode p e r before later slots after
+
+-- and the machine with it
+pub record HasRushed (p : Parts) (old : Going) (e : ℕ) (r : Turned) (new : Going) : Type 0 where
+  pub before : Local
+  pub after : Local
+  pub now : slice_get old.now.edges e ≡ Some (Active before)
+  pub slots : Slots
+  pub strode : HasStrode p e r before after old.now.slots slots
+  pub left : new ≡ record { limits = old.limits; now = record { edges = slice_set old.now.edges e (Active after); slots = slots } }
+
+-- ---- a whole rush
+
+-- no step was made
+abbrev pub is_still : Rush → Bool
+is_still r = (r.steps == 0) && not r.asked
