@@ -15,7 +15,7 @@ help:
 	@echo "make check    the whole gate: proofs, must-fail edits and these tests; docs/PROOF_NOTES.md has its time"
 	@echo "make edits    tries the must-fail edits that the gate leaves out (CRATES=plan_text for one crate); 5 to 40 minutes a crate"
 	@echo "make refusals refuses each allocation of the calls of depfiles and records in turn; five minutes"
-	@echo "make real     compares commands and builds of CMake's and Meson's trees with ninja's, upstream projects too; half an hour"
+	@echo "make real     compares commands and builds of CMake's and Meson's trees with ninja's, upstream projects too; more than an hour"
 	@echo "make bench    times the program beside ninja and make, and on hostile manifests; some minutes"
 	@echo "make install  copies the program to PREFIX/bin (PREFIX is $(PREFIX))"
 	@echo "make clean    takes away what checks and builds left"
@@ -77,6 +77,7 @@ tests: built
 	python3 tests/run_compiled.py $(PROGRAM)
 	python3 tests/run_machine.py $(PROGRAM)
 	python3 tests/run_orders.py $(PROGRAM)
+	python3 tests/run_chain.py $(PROGRAM)
 	python3 tests/run_builds.py $(PROGRAM)
 	python3 tests/run_interrupted.py $(PROGRAM)
 	python3 tests/run_failing.py $(PROGRAM)
@@ -117,6 +118,7 @@ refusals: kit
 real: built
 	python3 tests/real/real.py $(PROGRAM)
 	python3 tests/real/building.py $(PROGRAM)
+	python3 tests/real/using.py $(PROGRAM)
 
 .PHONY: install
 install: all

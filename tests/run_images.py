@@ -2,7 +2,7 @@
 """Compares what the program says of images with the cases of tests/images, and with a plain reading and verifier.
 
 Each case is given to `verify` and to `dump`: `verify` answers as the case says, `dump` prints the listing of what can
-be read. Three images are cut at each length, and each of their bits is turned; and COUNT random images are made; of
+be read. Four images are cut at each length, and each of their bits is turned; and COUNT random images are made; of
 these the plain reading (reading.py) and verifier (verifying.py) say what has to be printed.
 
 The last line is `N passed, M failed`.
@@ -24,7 +24,7 @@ import reading
 import verifying
 from cases import Case, cases
 
-TURNED = ("verifier/pool_of_one", "verifier/slot_loads", "verifier/loads_of_own_and_waited_for")
+TURNED = ("verifier/end_alone", "verifier/pool_of_one", "verifier/slot_loads", "verifier/loads_of_own_and_waited_for")
 
 
 def answer(data: bytes) -> str:

@@ -1,12 +1,13 @@
 #!/usr/bin/env python3
 """Goes through random runs of images with `replay`, beside the plain machine of tests/images/running.py.
 
-The images are those of random manifests, as the program compiles them; random ones; and three that are cut at each
-length and have each bit turned; all of these that are accepted. Each is run three times by the plain machine: always
-the first event that is enabled, or the last, or any; with random options, targets and replies. In each state it must
-have ended, have an event or await a reply, and its events stay within the image's budget and the bytes of
-dependencies. `replay` must then print the status lines and outcomes of that run; and, where the trace has one event
-changed, refuse the first that isn't enabled. The last line is `N passed, M failed`.
+The images are those of random manifests, as the program compiles them; random ones; and some that are cut at each
+length and have each bit turned, a chain of two edges as the program compiles it among them; all that are accepted.
+Each is run three times by the plain machine: always the first event that is enabled, or the last, or any; with random
+options, targets and replies. In each state it must have ended, have an event or await a reply, and its events stay
+within the image's budget and the bytes of dependencies. `replay` must then print the status lines and outcomes of that
+run; and, where the trace has one event changed, refuse the first that isn't enabled. The last line is
+`N passed, M failed`.
 """
 import concurrent.futures
 import itertools
@@ -23,13 +24,14 @@ import programs
 HERE = pathlib.Path(__file__).resolve().parent
 sys.path[:0] = [str(HERE / "images"), str(HERE / "compiler")]
 
+import chain
 import random_builds
 import random_images
 import reading
 import run_images
 import verifying
-from cases import cases
-from image import Image, hexed
+from cases import Case, cases
+from image import Image, code_of, hexed, spelled
 from replies import Replies
 from running import Activity, Cause, Event, Machine, Mark, Outcome, Reply
 
@@ -222,9 +224,8 @@ def fault(program: str, trial: Trial) -> str:
     return ""
 
 
-def compiled(program: str, seed: int) -> bytes:
-    """The image of a random manifest."""
-    _, _, text = random_builds.Writer(seed).manifest()
+def compiled(program: str, text: str) -> bytes:
+    """The image of a manifest."""
     with tempfile.TemporaryDirectory() as name:
         home = pathlib.Path(name)
         (home / "build.ninja").write_text(text)
@@ -233,12 +234,24 @@ def compiled(program: str, seed: int) -> bytes:
         return (home / "plan.img").read_bytes()
 
 
+def chains(program: str) -> Iterator[Case]:
+    """The chain of tests/compiler in both versions."""
+    data = compiled(program, chain.MANIFEST)
+    found = reading.read(data)
+    assert not isinstance(found, str)
+    edges = [edge._replace(code=code_of(found, edge)) for edge in found.edges]
+    for version, spelling in ((1, spelled(found._replace(edges=edges, bodies=None))), (2, data)):
+        yield run_images.made(f"chain (version {version})", spelling)
+
+
 def images(program: str, count: int, seed: int) -> Iterator[tuple[str, bytes]]:
     """Images by their names, accepted or not."""
     turned = [case for case in cases() if case.name.rpartition(" (")[0] in run_images.TURNED]
+    turned += chains(program)
     yield from ((case.name, case.data) for one in turned for case in (one, *run_images.changed(one)))
     yield from ((f"random image {number}", data) for number, data in enumerate(random_images.images(4 * count, seed)))
-    yield from ((f"manifest {number}", compiled(program, number)) for number in range(seed, seed + count))
+    manifests = ((number, random_builds.Writer(number).manifest()[2]) for number in range(seed, seed + count))
+    yield from ((f"manifest {number}", compiled(program, text)) for number, text in manifests)
 
 
 def trials(program: str, count: int, seed: int) -> Iterator[Trial]:

@@ -1,4 +1,6 @@
 """Projects of this repository's own that can be built by CMake and Meson: what a build makes depends on each source."""
+import buildable_cmake
+import buildable_meson
 import trees
 
 TOP = """\
@@ -105,9 +107,11 @@ TREES = [
     tree("built, Release", ONE, "-DCMAKE_BUILD_TYPE=Release"),
     tree("built, all shared", ONE, "-DBUILD_SHARED_LIBS=ON", "-DCMAKE_BUILD_TYPE=Debug"),
     tree("built by unity", ONE, "-DCMAKE_UNITY_BUILD=ON"),
-    tree("many", many(), short=True),
+    tree("many", many()),
     tree("many, -O2", many(), "-DCMAKE_C_FLAGS=-O2"),
     by_meson("built", ONE_BY_MESON, short=True),
     by_meson("built, release, static", ONE_BY_MESON, "--buildtype=release", "--default-library=static"),
     by_meson("built in unity", ONE_BY_MESON, "-Dunity=on"),
+    *buildable_cmake.TREES,
+    *buildable_meson.TREES,
 ]

@@ -14,7 +14,7 @@ import reading
 from image import SORTS, Code, Image, code_of
 
 PHONY = b"phony"
-QUERIED = 60  # outputs of which ninja is asked for inputs and users
+QUERIED = 2_000  # outputs of a tree of which ninja is asked for inputs and users: all, but for the largest trees
 Inputs = set[bytes]
 Users = set[bytes]
 

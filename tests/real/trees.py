@@ -14,17 +14,18 @@ SECONDS = 300
 class Tree:
     """Sources (texts by path, or a folder that is there), the tool that makes their manifests, and its options.
 
-    Where there is a text `above`, it is the manifest of the folder above the build folder, and stands for the whole.
+    The project is in the folder `place` of the sources. Where there is a text `above`, it is the manifest of the folder
+    above the build folder, and stands for the whole.
     """
 
     def __init__(
         self, name: str, tool: str, files: Mapping[str, str] | pathlib.Path, *options: str, short: bool = False,
         needs: Sequence[str] = (), build: str = "build", above: str | None = None,
-        environment: Mapping[str, str] | None = None,
+        environment: Mapping[str, str] | None = None, place: str = ".",
     ) -> None:
         self.name, self.tool, self.files, self.options, self.short = name, tool, files, options, short
         self.needs, self.build, self.above, self.environment = [tool, *needs], build, above, environment or {}
-        self.own = not isinstance(files, pathlib.Path)
+        self.own, self.place = not isinstance(files, pathlib.Path), place
 
 
 COMPILERS = ("cc", "c++")
@@ -81,7 +82,7 @@ def configured(tree: Tree, folder: pathlib.Path) -> pathlib.Path:
     else:
         source = tree.files
     environment = {**os.environ, "LC_ALL": "C.UTF-8", **tree.environment}
-    done = subprocess.run(command(tree, source, build), env=environment, stdin=subprocess.DEVNULL,
+    done = subprocess.run(command(tree, source / tree.place, build), env=environment, stdin=subprocess.DEVNULL,
                           stdout=subprocess.PIPE, stderr=subprocess.STDOUT, timeout=SECONDS)
     if done.returncode != 0 or not manifests(build):
         raise NotConfigured(done.stdout.decode(errors="replace").strip())

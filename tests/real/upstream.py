@@ -12,7 +12,7 @@ SECONDS = 20
 WIDTH = 300
 
 # A source package, the tool, the folder of its project, and options that keep out what is seldom installed.
-PROJECTS = [
+PROJECTS: list[tuple[str, ...]] = [
     ("zlib", "cmake", "."),
     ("lz4", "cmake", "build/cmake"),
     ("fmtlib", "cmake", ".", "-DFMT_TEST=OFF"),
@@ -39,7 +39,19 @@ PROJECTS = [
     ("pixman", "meson", ".", "-Dgtk=disabled"),
     ("harfbuzz", "meson", ".", "-Dauto_features=disabled", "-Dtests=enabled"),
     ("fribidi", "meson", ".", "-Ddocs=false"),
+    ("expat", "cmake", "expat", "-DEXPAT_BUILD_DOCS=OFF"),
+    ("cjson", "cmake", ".", "-DENABLE_CJSON_UTILS=ON"),
+    ("leveldb", "cmake", ".", "-DLEVELDB_BUILD_TESTS=OFF", "-DLEVELDB_BUILD_BENCHMARKS=OFF"),
+    ("snappy", "cmake", ".", "-DSNAPPY_BUILD_TESTS=OFF", "-DSNAPPY_BUILD_BENCHMARKS=OFF"),
+    ("double-conversion", "cmake", ".", "-DBUILD_TESTING=ON"),
+    ("check", "cmake", "."),
+    ("libyaml", "cmake", "."),
+    ("brotli", "cmake", "."),
+    ("inih", "meson", "."),
+    ("lz4", "meson", "build/meson", "-Dprograms=true"),
 ]
+TOO_LONG = ("abseil", "harfbuzz", "dav1d")  # to be built thrice
+BUILT = [project for project in PROJECTS if project[0] not in TOO_LONG]
 LEFT_OUT = {"zlib": ["win32/zlib1.rc"]}  # what Debian leaves out and a project wants to find
 
 
@@ -86,9 +98,12 @@ def title(project: Sequence[str]) -> str:
     return " ".join([package, "by", tool, *options])
 
 
-def fetched(folder: pathlib.Path, words: Sequence[str], skip: Callable[[str, str], None]) -> Iterator[Tree]:
+def fetched(
+    folder: pathlib.Path, words: Sequence[str], skip: Callable[[str, str], None],
+    projects: Sequence[tuple[str, ...]] = PROJECTS,
+) -> Iterator[Tree]:
     """The trees of upstream projects, one after the other, as they are fetched; with words, those with one in their name."""
-    projects = [project for project in PROJECTS if not words or any(word in title(project) for word in words)]
+    projects = [project for project in projects if not words or any(word in title(project) for word in words)]
     if not projects:
         return
     if shutil.which("apt-get") is None:
@@ -104,4 +119,4 @@ def fetched(folder: pathlib.Path, words: Sequence[str], skip: Callable[[str, str
             skip(title(project), f"not fetched: {mirror.said[:WIDTH]}")
             continue
         programs.write({path: "" for path in LEFT_OUT.get(package, [])}, source)
-        yield Tree(title(project), tool, source / place, *options)
+        yield Tree(title(project), tool, source, *options, place=place)
