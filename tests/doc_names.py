@@ -20,6 +20,8 @@ LOOKS_LIKE_A_NAME = re.compile(r"[a-z]\w*_\w*[a-z0-9]|[A-Z][a-z0-9]+(?:[A-Z][a-z
 
 # Lines that may be wider, by file: tables that can't be broken, and the texts of other tools that scripts write.
 WIDE = {
+    "tests/real/buildable_cmake.py": "CMake's own lines, and sources",
+    "tests/real/buildable_meson.py": "Meson's own lines, and sources",
     "tests/real/cmake_trees.py": "CMake's own lines",
     "tests/real/meson_trees.py": "Meson's own lines",
     "tests/real/odd_names.py": "a list of names",

@@ -22,7 +22,6 @@ use Rattle.plan_machine.specs.Rushes.{events_by, is_still, marks_by, rush_events
 use Rattle.plan_machine.specs.State.{State}
 use Rattle.plan_machine.specs.Step.{step}
 use Rattle.plan_machine.specs.Total.{total_of}
-
 use Rattle.plan_lanes.specs.declared.board.Advance.{Advance}
 use Rattle.plan_lanes.specs.declared.board.Advance.TheVariants.{Moved, Job, Wait, Ended}
 use Rattle.plan_lanes.specs.Advances.{Advances}

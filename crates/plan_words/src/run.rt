@@ -27,10 +27,9 @@ const LONG_ABOUT: &str = "\
 Reads a plan image, checks it as `verify` does, and builds the targets that are named, or the image's defaults: commands run \
 by /bin/sh where files or the build record say that something is out of date.
 
-When the last command has ended, a line is printed for each edge whose command ran, failed, was skipped or stopped: \
-`[n/m] LABEL`, `FAILED NAME: CAUSE`, `SKIPPED NAME: needs NAME`, `STOPPED NAME`. m is how many commands the targets have in \
-all, also of edges that are up to date; n is how many of these are settled so far. What a command prints comes before the \
-lines.
+A line is printed for each edge whose command ran, failed, was skipped or stopped, while others run: `[n/m] LABEL`, \
+`FAILED NAME: CAUSE`, `SKIPPED NAME: needs NAME`, `STOPPED NAME`. m is how many commands the targets have in all, also of \
+edges that are up to date; n is how many of these are settled so far. What a command prints comes before its line.
 
 The status is 0 where all that was asked for is built, 1 where an edge failed, was skipped or stopped, 2 where the run was \
 refused; then the reason is on standard error: `plan: NUMBER NAME` and its place. What failed or was interrupted runs again \
