@@ -3,7 +3,7 @@
 
 They run on a copy of the tree, crates side by side; a crate takes some minutes, and 20 to 60 seconds more for each
 edit. What `rt must-fail` says of each edit is printed; the last line is `N passed, M failed`. With --fit none is tried:
-each text that an edit replaces must stand once in its file.
+each text that an edit replaces must stand once in its file, also of those that tests/wrong_bodies.py tries.
 """
 import argparse
 import concurrent.futures
@@ -22,9 +22,15 @@ ROOT = pathlib.Path(__file__).resolve().parent.parent
 REFUSED = "refused, as it must be"
 
 
+def beside(crate: str) -> list[pathlib.Path]:
+    """The edits of a crate that stand beside the gate: those of tests/edits, and those that tests refuse."""
+    places = [ROOT / "tests" / name / crate for name in ("edits", "wrong_bodies")]
+    return [edit for place in places for edit in sorted(place.glob("*.edit"))]
+
+
 def misfits(crate: str) -> Iterator[str]:
-    """The texts that an edit of tests/edits replaces, where they don't stand once in their file."""
-    for edit in sorted((ROOT / "tests" / "edits" / crate).glob("*.edit")):
+    """The texts that an edit replaces, where they don't stand once in their file."""
+    for edit in beside(crate):
         text = old = ""
         for line in edit.read_text().splitlines():
             word, _, rest = line.partition(": ")
@@ -43,7 +49,7 @@ def look(crates: Sequence[str]) -> tuple[int, int]:
     found = [line for crate in crates for line in misfits(crate)]
     for line in found:
         print(line)
-    return sum(len(list((ROOT / "tests" / "edits" / crate).glob("*.edit"))) for crate in crates), len(found)
+    return sum(len(beside(crate)) for crate in crates), len(found)
 
 
 def lay(crate: str, home: pathlib.Path, whole: bool) -> int:
