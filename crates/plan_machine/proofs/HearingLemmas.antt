@@ -19,8 +19,15 @@ use Rattle.plan_machine.specs.Step.{Stepped, Next, NotEnabled, hears_by, hears, 
 use Rattle.plan_machine.specs.Going.{Going}
 use Rattle.plan_machine.specs.Depfile.{depfile}
 use Rattle.plan_machine.specs.Applying.{Applied, is_active}
-use Rattle.plan_machine.specs.Hearing.{IsHeard, HasHeard, SettlesReply}
+use Rattle.plan_machine.specs.declared.resting.Resting.{Resting}
+use Rattle.plan_machine.specs.Rested.{rested}
+use Rattle.plan_machine.specs.Hearing.{IsHeard, HasAnswered, HasHeard, SettlesReply}
+use Rattle.plan_machine.proofs.AskingLemmas.{heard_unasked}
 use Rattle.plan_machine.proofs.Applies.{set_again}
+
+-- no reply fits where none is awaited
+pub rests_on : (p : Parts) (e : ℕ) (a : Answer) (r : Resting) → HasAnswered p e a hearing.Unfit (Active (rested r)) (Active (rested r))
+rests_on p e a r = record { before = rested r; later = rested r; was = refl; is = refl; made = heard_unasked p e (rested r) a refl }
 
 set_same : {A : Type 0} (xs : List A) (i : ℕ) (x : A) → slice_get xs i ≡ Some x → slice_set xs i x ≡ xs
 set_same [] i x at = refl

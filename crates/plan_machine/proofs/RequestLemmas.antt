@@ -95,6 +95,16 @@ silent p e slots l op.Equal h = sym (calculated_quiet l (calculate op.Equal l.st
 silent p e slots l op.Drop h = sym (calculated_quiet l (calculate op.Drop l.stack))
 silent p e slots l op.Swap h = sym (calculated_quiet l (calculate op.Swap l.stack))
 
+-- where there are no values
+pub run_bare : (holding : Bool) (outputs : Option (List (List ℕ))) → None ≡ request_of (if holding then runs outputs [] else Wrong PlaceNotHeld)
+run_bare false outputs = refl
+run_bare true None = refl
+run_bare true (Some outputs) = refl
+
+pub keep_bare : (output : Option (List ℕ)) → None ≡ request_of (keeps output [])
+keep_bare None = refl
+keep_bare (Some output) = refl
+
 -- ---- a depfile
 
 pub deps_finds : (stack : List Value) → Works (reads stack) → HasTextAt 0 stack

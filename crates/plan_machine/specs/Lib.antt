@@ -16,6 +16,7 @@ pub mod Orderly
 pub mod InBudget
 pub mod Standing
 pub mod Going
+pub mod Rested
 pub mod Statuses
 pub mod Applying
 pub mod Hearing

@@ -2,17 +2,19 @@
 
 ghost use Rattle.std.specs.Prelude.{◌≡◌, ◌<◌, ◌+◌, ◌^◌, [], IfOk, IfSome, IsSome, OnErr, false, true, if◌then◌else◌, length};
 ghost use Rattle.plan_image.specs.Code.{code};
-ghost use Rattle.plan_verify.specs.Turn.{Goes, PlaceNotHeld, Released, Took, Wrong, act, begun, branches, calculate, calculated, heard, holds, jumps, question, turn};
+ghost use Rattle.plan_verify.specs.Turn.{Goes, PlaceNotHeld, Released, Took, Wrong, act, branches, calculate, calculated, heard, holds, jumps, question, turn};
 ghost use Rattle.plan_machine.specs.Depfile.{depfile};
 ghost use Rattle.plan_machine.specs.Hearing.{IsHeard};
 ghost use Rattle.plan_machine.specs.Kept.{phase_of};
 ghost use Rattle.plan_machine.specs.Places.{at_take};
+ghost use Rattle.plan_machine.specs.Rested.{rested};
 ghost use Rattle.plan_machine.specs.State.{Active};
 ghost use Rattle.plan_machine.specs.Step.{answer_of};
 ghost use Rattle.plan_machine.specs.Turned.{IsMade, IsTurned};
 ghost use Rattle.plan_machine.specs.Working.{IsPlain, IsSimple, Works};
 
 use crate::reply::Reply;
+use crate::resting::Resting;
 use crate::slot::Slot;
 use crate::stack::Stack;
 use crate::turned::{Heard, Turned};
@@ -41,20 +43,6 @@ impl Model for Activity {
 }
 
 impl Activity {
-    /// An edge at its first place.
-    pub(crate) fn begin(alloc: Global) -> Result<Activity, AllocError>
-        ensures { IfOk result (λ a. a ≡ begun) }
-    {
-        let stack = Stack::new(alloc)?;
-        Ok(Activity {
-            place: 0,
-            holding: false,
-            ran: false,
-            asked: false,
-            stack,
-        })
-    }
-
     /// Whether its next instruction takes a place.
     pub(crate) fn is_at_take(&self, image: &Image, edge: u32) -> bool
         ensures { result ≡ at_take image.now edge self.now }
@@ -73,6 +61,23 @@ impl Activity {
             return Phase::AtTake(self.holding);
         }
         Phase::Going(self.holding)
+    }
+
+    /// The same edge without a stack, where it awaits no reply and has no values.
+    pub(crate) fn rest(&self) -> Option<Resting>
+        ensures { IfSome result (λ r. rested r ≡ self.now) }
+    {
+        if self.asked {
+            return None;
+        }
+        if self.stack.len() > 0 {
+            return None;
+        }
+        Some(Resting {
+            place: self.place,
+            holding: self.holding,
+            ran: self.ran,
+        })
     }
 
     /// Goes on at the next place.

@@ -4,11 +4,13 @@ ghost use Rattle.std.specs.Prelude.{◌≡◌, if◌then◌else◌, option_map};
 ghost use Rattle.plan_verify.specs.Tables.{first_output, outputs_of, path_of, paths_of};
 ghost use Rattle.plan_verify.specs.Turn.{PlaceNotHeld, Recall, Stat, Wrong, act, asks_of, keeps, question, reads, request_of, runs, sweep, turn};
 ghost use Rattle.plan_machine.specs.Requests.{is_asking, shown};
+ghost use Rattle.plan_machine.specs.Rested.{rested};
 ghost use Rattle.plan_machine.specs.Working.{Works};
 
 use crate::activity::Activity;
 use crate::edges::outputs;
 use crate::request::{Outputs, Request};
+use crate::resting::Resting;
 use crate::slot::Slot;
 use plan_image::{Image, Instr};
 
@@ -146,6 +148,49 @@ impl Activity {
     ) -> Option<Request<'a>>
         requires { Works (turn image.now edge slots.now self.now) }
         ensures { option_map shown result ≡ question image.now edge slots.now self.now }
+    {
+        match image.instr(edge, self.place) {
+            Some(instr) => self.request_at(image, edge, slots, instr),
+            None => unreachable!(),
+        }
+    }
+}
+
+impl Resting {
+    /// What an instruction asks of an edge that has no values.
+    #[tactic(auto, using(crate::proofs::RequestLemmas::silent, crate::proofs::RequestLemmas::run_bare, crate::proofs::RequestLemmas::keep_bare))]
+    fn request_at<'a>(
+        self,
+        image: &'a Image,
+        edge: u32,
+        _slots: &[Slot],
+        instr: Instr,
+    ) -> Option<Request<'a>>
+        ensures { option_map shown result ≡ request_of (act image.now edge _slots.now (rested self) instr) }
+    {
+        if !is_asking(instr) {
+            return None;
+        }
+        match instr {
+            Instr::Stat(file) | Instr::Need(file) => stat(image, file),
+            Instr::Recall => recall(image, edge),
+            Instr::Sweep | Instr::Deps => None,
+            Instr::Run => None,
+            Instr::Keep => None,
+            _ => unreachable!(),
+        }
+    }
+
+    /// What the next step asks that isn't wrong.
+    #[tactic(auto, using(crate::proofs::Applies::turn_is, crate::proofs::Applies::turn_none))]
+    pub(crate) fn request<'a>(
+        self,
+        image: &'a Image,
+        edge: u32,
+        slots: &[Slot],
+    ) -> Option<Request<'a>>
+        requires { Works (turn image.now edge slots.now (rested self)) }
+        ensures { option_map shown result ≡ question image.now edge slots.now (rested self) }
     {
         match image.instr(edge, self.place) {
             Some(instr) => self.request_at(image, edge, slots, instr),

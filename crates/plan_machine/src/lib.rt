@@ -30,6 +30,7 @@ mod replaying;
 mod replies;
 mod reply;
 mod request;
+mod resting;
 mod rush;
 mod rushing;
 mod sameness;

@@ -22,7 +22,6 @@ ghost use Rattle.plan_machine.specs.Step.{NotEnabled, answer_of, step};
 ghost use Rattle.plan_machine.specs.Total.{is_wanted, total_of};
 ghost use Rattle.plan_machine.specs.Working.{Works};
 
-use crate::activity::Activity;
 use crate::edges::{edge_count, has_command};
 use crate::mark::{Mark, Outcome};
 use crate::options::Options;
@@ -213,22 +212,16 @@ impl Machine {
 
     /// Starts an edge that may be started.
     #[tactic(auto, using(crate::proofs::Applies::start_is, crate::proofs::Applies::start_not, crate::proofs::Applies::start_within, crate::proofs::RefusalLemmas::start_can))]
-    pub(crate) fn start(
-        &mut self,
-        alloc: Global,
-        _image: &Image,
-        edge: u32,
-        may: bool,
-    ) -> Result<Mark, Refused>
+    pub(crate) fn start(&mut self, _image: &Image, edge: u32, may: bool) -> Result<Mark, Refused>
         requires { may ≡ (passes is_unbegun (slice_get self.old.now.edges edge) && list_all (stands is_well self.old.now) (waits_of _image.now edge)) }
         ensures applied { Applied _image.now self.old (Start edge) result self.new }
+        ensures frugal { result ≢ Err Refused.Memory }
         ensures memory { result ≡ Err Refused.Memory → step depfile _image.now self.old.limits self.old.now (Start edge) ≢ NotEnabled }
     {
         if !may {
             return Err(Refused::NotEnabled);
         }
-        let activity = Activity::begin(alloc)?;
-        self.put(edge, Status::active(activity));
+        self.put(edge, Status::begun());
         Ok(Mark::Started(edge))
     }
 
@@ -264,6 +257,15 @@ impl Machine {
         }
         self.put(edge, Status::over(Outcome::Stopped));
         Ok(Mark::Stopped(edge))
+    }
+
+    /// Lets the stack of an edge go that awaits no reply and has no values.
+    pub(crate) fn rest(&mut self, edge: u32)
+        ensures { self.new ≡ self.old }
+    {
+        if (edge as usize) < self.edges.len() {
+            self.edges[edge as usize].rest();
+        }
     }
 
     /// Makes a turn of an edge that is under way.

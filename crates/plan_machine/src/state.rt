@@ -254,7 +254,7 @@ impl State {
         match event {
             Event::Start(edge) => {
                 let may = self.can_start(image, edge);
-                self.machine.start(self.alloc, image, edge, may)
+                self.machine.start(image, edge, may)
             }
             Event::Skip(edge, wait) => {
                 let may = self.can_skip(image, edge, wait);
@@ -272,8 +272,8 @@ impl State {
         }
     }
 
-    /// Brings the books up to where an edge stands now.
-    pub(crate) fn note(&mut self, image: &Image, edge: u32)
+    /// Brings the books up to where an edge stands now, its phase.
+    fn tell(&mut self, image: &Image, edge: u32) -> Phase
         requires { IsBehind image.now self.old edge }
         ensures going { self.new.going ≡ self.old.going }
         ensures total { self.new.total ≡ self.old.total }
@@ -281,6 +281,27 @@ impl State {
     {
         let phase = self.machine.phase(image, edge);
         self.books.change(&self.plan, edge, phase);
+        phase
+    }
+
+    /// An edge that waits for a place, and has no values, has no stack.
+    fn rest(&mut self, edge: u32, phase: Phase)
+        ensures { self.new ≡ self.old }
+    {
+        if matches!(phase, Phase::AtTake(_)) {
+            self.machine.rest(edge);
+        }
+    }
+
+    /// Brings the books up to where an edge stands now, and lets its stack go where it waits for a place.
+    pub(crate) fn note(&mut self, image: &Image, edge: u32)
+        requires { IsBehind image.now self.old edge }
+        ensures going { self.new.going ≡ self.old.going }
+        ensures total { self.new.total ≡ self.old.total }
+        ensures kept { AreKept image.now self.new.going.now self.new.plan self.new.books }
+    {
+        let phase = self.tell(image, edge);
+        self.rest(edge, phase);
     }
 
     /// Applies an event: what it does is the table's, and its mark. It looks at no other edges than those that wait for

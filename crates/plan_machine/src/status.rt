@@ -2,7 +2,7 @@
 
 ghost use Rattle.std.specs.Prelude.{◌≡◌, ◌<◌, ◌^◌, IfNone, IfOk, IfSome, IsSome, OnErr, Some, length, option_map};
 ghost use Rattle.plan_image.specs.Code.{code};
-ghost use Rattle.plan_verify.specs.Turn.{Local, heard, turn};
+ghost use Rattle.plan_verify.specs.Turn.{Local, begun, heard, turn};
 ghost use Rattle.plan_machine.specs.Depfile.{depfile};
 ghost use Rattle.plan_machine.specs.Applying.{CanTurn, HasStepped, is_active, is_unbegun, may_stop_by};
 ghost use Rattle.plan_machine.specs.Hearing.{CanHear, HasAnswered};
@@ -19,6 +19,7 @@ use crate::activity::Activity;
 use crate::mark::Outcome;
 use crate::reply::Reply;
 use crate::request::Request;
+use crate::resting::Resting;
 use crate::slot::Slot;
 use crate::turned::{Heard, Turned};
 use plan_books::Phase;
@@ -31,6 +32,8 @@ use std::marker::Model;
 pub(crate) enum Stage {
     /// It hasn't begun.
     Unbegun,
+    /// It is under way, and has no values.
+    Resting(Resting),
     /// It is under way.
     Active(Activity),
     /// It has an outcome.
@@ -66,12 +69,12 @@ impl Status {
         }
     }
 
-    /// An edge that is under way.
-    pub(crate) fn active(activity: Activity) -> Status
-        ensures { result ≡ Active activity }
+    /// An edge that has just begun.
+    pub(crate) fn begun() -> Status
+        ensures { result ≡ Active begun }
     {
         Status {
-            stage: Stage::Active(activity),
+            stage: Stage::Resting(Resting::begin()),
         }
     }
 
@@ -109,7 +112,7 @@ impl Status {
         ensures { result ≡ is_active self.now }
     {
         match &self.stage {
-            Stage::Active(_) => true,
+            Stage::Resting(_) | Stage::Active(_) => true,
             _ => false,
         }
     }
@@ -139,6 +142,7 @@ impl Status {
         ensures { (l : Local) → self.now ≡ Active l → result ≡ l.ran }
     {
         match &self.stage {
+            Stage::Resting(resting) => resting.ran,
             Stage::Active(activity) => activity.ran,
             _ => false,
         }
@@ -150,6 +154,7 @@ impl Status {
     {
         match &self.stage {
             Stage::Unbegun => true,
+            Stage::Resting(resting) => resting.is_at_take(image, edge),
             Stage::Active(activity) => activity.is_at_take(image, edge),
             _ => false,
         }
@@ -161,8 +166,24 @@ impl Status {
     {
         match &self.stage {
             Stage::Unbegun => Phase::Unbegun,
+            Stage::Resting(resting) => resting.phase(image, edge),
             Stage::Active(activity) => activity.phase(image, edge),
             Stage::Over(outcome) => outcome.phase(),
+        }
+    }
+
+    /// Lets its stack go, where it awaits no reply and has no values.
+    pub(crate) fn rest(&mut self)
+        ensures { self.new ≡ self.old }
+    {
+        match &self.stage {
+            Stage::Active(activity) => match activity.rest() {
+                Some(resting) => {
+                    self.stage = Stage::Resting(resting);
+                }
+                None => {}
+            },
+            _ => {}
         }
     }
 
@@ -180,6 +201,11 @@ impl Status {
         ensures err { OnErr result ((self.new ≡ self.old) × (slots.new.items ≡ slots.old.items)) }
     {
         match &mut self.stage {
+            Stage::Resting(resting) => {
+                let (activity, turned) = resting.step(alloc, image, edge, slots)?;
+                self.stage = Stage::Active(activity);
+                Ok(turned)
+            }
             Stage::Active(activity) => activity.step(alloc, image, edge, slots),
             _ => unreachable!(),
         }
@@ -198,12 +224,14 @@ impl Status {
         ensures none { IfNone result ((self.new ≡ self.old) × (slots.new.items ≡ slots.old.items)) }
     {
         match &mut self.stage {
+            Stage::Resting(_) => None,
             Stage::Active(activity) => activity.stride(image, edge, slots),
             _ => unreachable!(),
         }
     }
 
     /// A reply to the edge, which is under way.
+    #[tactic(auto, using(crate::proofs::HearingLemmas::rests_on))]
     pub(crate) fn hear(
         &mut self,
         alloc: Global,
@@ -218,6 +246,7 @@ impl Status {
         ensures err { OnErr result (self.new ≡ self.old) }
     {
         match &mut self.stage {
+            Stage::Resting(_) => Ok(Heard::Unfit),
             Stage::Active(activity) => activity.hear(alloc, image, edge, reply),
             _ => unreachable!(),
         }
@@ -255,6 +284,7 @@ impl Status {
         ensures { option_map shown result ≡ step_asks image.now edge slots.now (Some self.now) }
     {
         match &self.stage {
+            Stage::Resting(resting) => resting.request(image, edge, slots),
             Stage::Active(activity) => activity.request(image, edge, slots),
             _ => None,
         }

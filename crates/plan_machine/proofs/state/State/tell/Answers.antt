@@ -1,7 +1,7 @@
 use Rattle.std.proofs.Common.{sym, subst}
 use Rattle.plan_machine.specs.Kept.{IsBehind, Running}
 use Rattle.plan_machine.proofs.KeptLemmas.{caught_up, here_is, was_not_ill, was_unwell}
-use Rattle.plan_machine.proofs.state.State.note.Goals as goal
+use Rattle.plan_machine.proofs.state.State.tell.Goals as goal
 
 pub change-requires : goal.change-requires
 change-requires c =
