@@ -10,19 +10,24 @@ use Rattle.plan_image.specs.declared.image.Parts.{Parts}
 use Rattle.plan_verify.specs.declared.value.Value.TheVariants.{Text}
 use Rattle.plan_verify.specs.Turn.{Run, Entry, turn, heard}
 use Rattle.plan_books.specs.declared.phase.Phase.TheVariants as phase
-use Rattle.plan_verify.specs.declared.value.Cause.TheVariants.{Exit}
+use Rattle.plan_verify.specs.declared.value.Cause.TheVariants.{DepfileMalformed, Exit}
 use Rattle.plan_machine.specs.Limits.{Limits}
 use Rattle.plan_machine.specs.declared.reply.Reply.TheVariants as reply
 use Rattle.plan_machine.specs.declared.event.Event.{Event}
-use Rattle.plan_machine.specs.declared.event.Event.TheVariants.{Start, Stop, Step, Reply as Hear}
+use Rattle.plan_machine.specs.declared.event.Event.TheVariants.{Start, Skip, Stop, Step, Reply as Hear}
 use Rattle.plan_machine.specs.declared.mark.Mark.{Mark}
 use Rattle.plan_machine.specs.declared.mark.Mark.TheVariants as mark
-use Rattle.plan_machine.specs.State.{Unbegun, Active, State}
+use Rattle.plan_machine.specs.declared.mark.Outcome.TheVariants.{Failed}
+use Rattle.plan_machine.specs.declared.refused.Refused.TheVariants.{BadTarget}
+use Rattle.plan_machine.specs.Faults.{number_of}
+use Rattle.plan_machine.specs.State.{Unbegun, Active, Over, State}
 use Rattle.plan_machine.specs.Step.{Stepped, Next, Wrong, NotEnabled, answer_of, step}
 use Rattle.plan_machine.specs.Kept.{phases_from}
 use Rattle.plan_machine.specs.Requests.{asked_at, asks_by}
 use Rattle.plan_machine.specs.Rushes.{is_stride, rush_events, rush_marks}
+use Rattle.plan_machine.specs.Replaying.{IsReplayFault}
 use Rattle.plan_machine.specs.Total.{total_of}
+use Rattle.plan_machine.specs.Wanted.{any_outside}
 use Rattle.plan_verify.specs.Budget.{image_budget}
 use Rattle.plan_machine.specs.Depfile.{depfile}
 
@@ -128,6 +133,102 @@ restat_chain :
     ∷ Some (mark.Started 1) ∷ Some (mark.Moved 1) ∷ Some (mark.Asked 1) ∷ Some (mark.Answered 1) ∷ Some (mark.Moved 1) ∷ Some (mark.Moved 1) ∷ Some (mark.Ended 1 false) ∷ []
 unfolding marks_of then_marks chain alone step turn heard
 restat_chain = refl
+
+-- an edge that asked to run its command hears a stamp, which nothing has asked for
+wrong_replies :
+    marks_of three (record { jobs = 4; keep = 0 }) first (Start 0 ∷ Step 0 ∷ Step 0 ∷ Step 0 ∷ Hear 0 (reply.Stamp 1) ∷ Hear 0 (reply.Exit 0) ∷ [])
+    ≡ Some (mark.Started 0) ∷ Some (mark.Took 0) ∷ Some (mark.Moved 0) ∷ Some (mark.Asked 0) ∷ None ∷ Some (mark.Answered 0) ∷ []
+unfolding marks_of then_marks three edge first step turn heard
+wrong_replies = refl
+
+-- an edge that reads its depfile
+reading : Parts
+reading = record {
+  texts = (120 ∷ []) ∷ [];
+  files = (97 ∷ []) ∷ [];
+  pools = [];
+  slots = [];
+  bodies = None;
+  edges = alone 0 [] (op.Take ∷ op.Text 0 ∷ op.Run ∷ op.Release ∷ op.Text 0 ∷ op.Deps ∷ op.Drop ∷ op.End ∷ []) ∷ [];
+  defaults = 0 ∷ [];
+}
+
+-- there is no edge 1
+target_outside : any_outside reading (1 ∷ []) ≡ true
+unfolding reading
+target_outside = refl
+
+target_refused : (number_of BadTarget ≡ 112) × IsReplayFault reading (record { jobs = 1; keep = 0 }) (1 ∷ []) [] 0 BadTarget
+target_refused = (refl, (refl, target_outside))
+
+reading_budget : image_budget reading ≡ 11
+unfolding reading alone
+reading_budget = refl
+
+-- the state that events lead to
+then_state : State → (State → State) → Stepped → State
+then_state s next (Next mid told) = next mid
+then_state s next (Wrong flaw) = next s
+then_state s next NotEnabled = next s
+
+left_by : Parts → Limits → State → List Event → State
+left_by p limits s [] = s
+left_by p limits s (event ∷ events) = then_state s (λ t. left_by p limits t events) (step depfile p limits s event)
+
+-- the depfile `out a.h` has no colon
+malformed : List Event
+malformed = Start 0 ∷ Step 0 ∷ Step 0 ∷ Step 0 ∷ Hear 0 (reply.Exit 0) ∷ Step 0 ∷ Step 0 ∷ Step 0 ∷ Hear 0 (reply.Bytes (111 ∷ 117 ∷ 116 ∷ 32 ∷ 97 ∷ 46 ∷ 104 ∷ [])) ∷ []
+
+malformed_depfile :
+    marks_of reading (record { jobs = 1; keep = 0 }) (record { edges = Unbegun ∷ []; slots = [] }) malformed
+    ≡ Some (mark.Started 0) ∷ Some (mark.Took 0) ∷ Some (mark.Moved 0) ∷ Some (mark.Asked 0) ∷ Some (mark.Answered 0) ∷ Some (mark.Released 0) ∷ Some (mark.Moved 0)
+    ∷ Some (mark.Asked 0) ∷ Some (mark.Failed 0 (DepfileMalformed 90 0)) ∷ []
+unfolding marks_of then_marks reading alone malformed step turn heard
+malformed_depfile = refl
+
+-- no place is held then
+malformed_ends :
+    left_by reading (record { jobs = 1; keep = 0 }) (record { edges = Unbegun ∷ []; slots = [] }) malformed
+    ≡ record { edges = Over (Failed (DepfileMalformed 90 0)) ∷ []; slots = [] }
+unfolding left_by then_state reading alone malformed step turn heard
+malformed_ends = refl
+
+-- a chain of three, and one edge beside it
+waiting : ℕ → List ℕ → Edge
+waiting n waits = record { sort = sort.Command; pool = Some 0; rank = n; label = 0; outputs = n ∷ []; waits = waits; code = Own (op.Take ∷ op.Text 0 ∷ op.Run ∷ op.Release ∷ op.End ∷ []) }
+
+four : Parts
+four = record {
+  texts = (120 ∷ []) ∷ [];
+  files = (97 ∷ []) ∷ (98 ∷ []) ∷ (99 ∷ []) ∷ (100 ∷ []) ∷ [];
+  pools = record { name = 112 ∷ []; depth = 1 } ∷ [];
+  slots = [];
+  bodies = None;
+  edges = waiting 0 [] ∷ waiting 1 (0 ∷ []) ∷ waiting 2 (1 ∷ []) ∷ waiting 3 [] ∷ [];
+  defaults = 2 ∷ 3 ∷ [];
+}
+
+none_begun : State
+none_begun = record { edges = Unbegun ∷ Unbegun ∷ Unbegun ∷ Unbegun ∷ []; slots = [] }
+
+-- the first of the chain fails, the others are skipped; then the edge beside it is stopped
+failing : List Event
+failing = Start 0 ∷ Step 0 ∷ Step 0 ∷ Step 0 ∷ Hear 0 (reply.Exit 2) ∷ Start 1 ∷ Skip 1 0 ∷ Skip 2 0 ∷ Skip 2 1 ∷ Stop 3 ∷ []
+
+-- which isn't done where any number of failures is borne
+failures_and_skips :
+    marks_of four (record { jobs = 1; keep = 0 }) none_begun failing
+    ≡ Some (mark.Started 0) ∷ Some (mark.Took 0) ∷ Some (mark.Moved 0) ∷ Some (mark.Asked 0) ∷ Some (mark.Failed 0 (Exit 2))
+    ∷ None ∷ Some (mark.Skipped 1 0) ∷ None ∷ Some (mark.Skipped 2 1) ∷ None ∷ []
+unfolding marks_of then_marks four waiting none_begun failing step turn heard
+failures_and_skips = refl
+
+one_failure_borne :
+    marks_of four (record { jobs = 1; keep = 1 }) none_begun failing
+    ≡ Some (mark.Started 0) ∷ Some (mark.Took 0) ∷ Some (mark.Moved 0) ∷ Some (mark.Asked 0) ∷ Some (mark.Failed 0 (Exit 2))
+    ∷ None ∷ Some (mark.Skipped 1 0) ∷ None ∷ Some (mark.Skipped 2 1) ∷ Some (mark.Stopped 3) ∷ []
+unfolding marks_of then_marks four waiting none_begun failing step turn heard
+one_failure_borne = refl
 
 -- ---- an edge that goes on by itself
 
