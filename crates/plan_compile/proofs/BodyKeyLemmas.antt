@@ -1,40 +1,52 @@
 -- Bodies of the same numbers are equal.
-use Rattle.std.proofs.Common.{◌≡◌, ℕ, zero, suc, Bool, true, false, List, [], ◌∷◌, Option, Some, None, refl, sym, ap, ◌∙◌}
-use Rattle.std.specs.Prelude.{slice_get}
+use Rattle.std.proofs.Common.{◌≡◌, ℕ, ◌+◌, ◌*◌, ◌/◌, ◌<◌, true, false, [], ◌∷◌, refl, sym, ap, ◌∙◌, arith}
+use Rattle.std.proofs.lemmas.Nat.{div-mul-add, mod-mul-add}
 use Rattle.std.proofs.lemmas.Slice.Eq.{bytes_eq-Decides}
 use Rattle.plan_image.specs.declared.instr.Instr.TheVariants as op
 use Rattle.plan_image.specs.declared.instr.Opening.TheVariants as opening
 use Rattle.plan_image.specs.declared.instr.BodyInstr.{BodyInstr}
 use Rattle.plan_image.specs.declared.instr.BodyInstr.TheVariants as member
-use Rattle.plan_compile.specs.BodyKeys.{Body, numbers_of, key_of, same_body}
+use Rattle.plan_compile.specs.BodyKeys.{Body, numbers_of, member_by, member_number, member_at, body_at, key_of, same_body}
 use Rattle.plan_compile.proofs.NumberingLemmas.{Decides}
 
-abbrev pub is_one : ℕ → Bool
-is_one zero = false
-is_one (suc n) = true
+small : (m : BodyInstr) → (numbers_of m).0 < 64
+small (member.Fixed op.End) = omega arith
+small (member.Fixed (op.Stat n)) = omega arith
+small (member.Fixed (op.Need n)) = omega arith
+small (member.Fixed (op.Load n)) = omega arith
+small (member.Fixed (op.Store n)) = omega arith
+small (member.Fixed op.Older) = omega arith
+small (member.Fixed op.Newer) = omega arith
+small (member.Fixed op.Before) = omega arith
+small (member.Fixed op.Same) = omega arith
+small (member.Fixed op.IsMissing) = omega arith
+small (member.Fixed op.Or) = omega arith
+small (member.Fixed op.Not) = omega arith
+small (member.Fixed (op.Flag false)) = omega arith
+small (member.Fixed (op.Flag true)) = omega arith
+small (member.Fixed op.Zero) = omega arith
+small (member.Fixed op.NoPaths) = omega arith
+small (member.Fixed (op.Text n)) = omega arith
+small (member.Fixed op.Join) = omega arith
+small (member.Fixed op.Equal) = omega arith
+small (member.Fixed op.Recall) = omega arith
+small (member.Fixed op.Sweep) = omega arith
+small (member.Fixed (op.Jump n)) = omega arith
+small (member.Fixed (op.JumpIf n)) = omega arith
+small (member.Fixed op.Take) = omega arith
+small (member.Fixed op.Release) = omega arith
+small (member.Fixed op.Run) = omega arith
+small (member.Fixed op.Deps) = omega arith
+small (member.Fixed op.Keep) = omega arith
+small (member.Fixed op.Drop) = omega arith
+small (member.Fixed op.Swap) = omega arith
+small (member.Open opening.Stat) = omega arith
+small (member.Open opening.Need) = omega arith
+small (member.Open opening.Load) = omega arith
+small (member.Open opening.Store) = omega arith
+small (member.Open opening.Text) = omega arith
 
--- the instructions in the order of their numbers, each by its operand
-abbrev pub members : List (ℕ → BodyInstr)
-members =
-    (λ n. member.Fixed op.End) ∷ (λ n. member.Fixed (op.Stat n)) ∷ (λ n. member.Fixed (op.Need n)) ∷ (λ n. member.Fixed (op.Load n))
-    ∷ (λ n. member.Fixed (op.Store n)) ∷ (λ n. member.Fixed op.Older) ∷ (λ n. member.Fixed op.Newer) ∷ (λ n. member.Fixed op.Before)
-    ∷ (λ n. member.Fixed op.Same) ∷ (λ n. member.Fixed op.IsMissing) ∷ (λ n. member.Fixed op.Or) ∷ (λ n. member.Fixed op.Not)
-    ∷ (λ n. member.Fixed (op.Flag (is_one n))) ∷ (λ n. member.Fixed op.Zero) ∷ (λ n. member.Fixed op.NoPaths) ∷ (λ n. member.Fixed (op.Text n))
-    ∷ (λ n. member.Fixed op.Join) ∷ (λ n. member.Fixed op.Equal) ∷ (λ n. member.Fixed op.Recall) ∷ (λ n. member.Fixed op.Sweep)
-    ∷ (λ n. member.Fixed (op.Jump n)) ∷ (λ n. member.Fixed (op.JumpIf n)) ∷ (λ n. member.Fixed op.Take) ∷ (λ n. member.Fixed op.Release)
-    ∷ (λ n. member.Fixed op.Run) ∷ (λ n. member.Fixed op.Deps) ∷ (λ n. member.Fixed op.Keep) ∷ (λ n. member.Fixed op.Drop)
-    ∷ (λ n. member.Fixed op.Swap) ∷ (λ n. member.Open opening.Stat) ∷ (λ n. member.Open opening.Need) ∷ (λ n. member.Open opening.Load)
-    ∷ (λ n. member.Open opening.Store) ∷ (λ n. member.Open opening.Text) ∷ []
-
-abbrev pub made_by : Option (ℕ → BodyInstr) → ℕ → BodyInstr
-made_by (Some make) n = make n
-made_by None n = member.Fixed op.End
-
--- the instruction of a pair of numbers
-abbrev pub member_at : ℕ → ℕ → BodyInstr
-member_at k n = made_by (slice_get members k) n
-
-back : (m : BodyInstr) → member_at (numbers_of m).0 (numbers_of m).1 ≡ m
+back : (m : BodyInstr) → member_by (numbers_of m).0 (numbers_of m).1 ≡ m
 back (member.Fixed op.End) = refl
 back (member.Fixed (op.Stat n)) = refl
 back (member.Fixed (op.Need n)) = refl
@@ -71,14 +83,15 @@ back (member.Open opening.Load) = refl
 back (member.Open opening.Store) = refl
 back (member.Open opening.Text) = refl
 
--- the body of a key
-abbrev pub body_at : List ℕ → Body
-body_at (k ∷ n ∷ rest) = member_at k n ∷ body_at rest
-body_at _ = []
+member_back : (m : BodyInstr) → member_at (member_number m) ≡ m
+member_back m =
+    let k : ℕ = (numbers_of m).0 in
+    let n : ℕ = (numbers_of m).1 in
+    ap (λ (j : ℕ). member_by j ((n * 64 + k) / 64)) (mod-mul-add n 64 k (small m)) ∙ ap (λ (j : ℕ). member_by k j) (div-mul-add n 64 k (small m)) ∙ back m
 
 pub body_back : (b : Body) → body_at (key_of b) ≡ b
 body_back [] = refl
-body_back (m ∷ ms) = ap (λ (x : BodyInstr). x ∷ body_at (key_of ms)) (back m) ∙ ap (λ (xs : Body). m ∷ xs) (body_back ms)
+body_back (m ∷ ms) = ap (λ (x : BodyInstr). x ∷ body_at (key_of ms)) (member_back m) ∙ ap (λ (xs : Body). m ∷ xs) (body_back ms)
 
 pub bodies_decide : Decides same_body
 bodies_decide = record {

@@ -1,5 +1,5 @@
 -- The numbers of a graph fit their fields, where it has no more files than an image may have.
-use Rattle.std.proofs.Common.{◌≡◌, ℕ, zero, suc, ◌+◌, ◌<◌, ◌≤◌, ◌++◌, List, [], ◌∷◌, length, take, drop, get_or, Some, refl, sym, ap, subst, ◌∙◌, arith, inl, inr}
+use Rattle.std.proofs.Common.{◌≡◌, ℕ, zero, suc, ◌<◌, ◌≤◌, ◌++◌, List, [], ◌∷◌, length, take, drop, get_or, Some, refl, sym, subst, arith, inl, inr}
 use Rattle.std.specs.Prelude.{All, slice_get, slice_index}
 use Rattle.plan_scope.specs.declared.manifest.Edge.{Edge as ManifestEdge}
 use Rattle.plan_scope.specs.declared.manifest.Manifest.{Manifest}

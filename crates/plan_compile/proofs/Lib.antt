@@ -37,3 +37,4 @@ mod FitLemmas
 mod RefusalLemmas
 mod NameLemmas
 mod MatchLemmas
+mod CodeLemmas

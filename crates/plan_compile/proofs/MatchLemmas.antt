@@ -1,67 +1,16 @@
--- A code and the key of its body, from the front; and a body that is there already.
-use Rattle.std.proofs.Common.{◌≡◌, ◌≢◌, ◌↔◌, ℕ, zero, suc, ◌+◌, ◌*◌, ◌<◌, Bool, true, false, List, [], ◌∷◌, ◌++◌, length, drop, map, Option, Some, None, refl, sym, ap, subst, ◌∙◌, arith}
+-- A body that is there already.
+use Rattle.std.proofs.Common.{◌≡◌, ◌↔◌, ℕ, zero, suc, Bool, true, false, List, [], ◌∷◌, ◌++◌, map, Option, Some, None, refl, sym, ap, ◌∙◌}
 use Rattle.std.specs.List.{AllByRecursion, IsDistinct}
 use Rattle.std.specs.Prelude.{bytes_eq, slice_get, option_map, if◌then◌else◌}
-use Rattle.std.proofs.lemmas.List.{append_assoc}
 use Rattle.std.proofs.lemmas.Option.{slice_get-map}
 use Rattle.std.proofs.lemmas.Slice.Eq.{bytes_eq-Decides}
 use Rattle.plan_image.specs.declared.instr.Instr.{Instr}
-use Rattle.plan_image.specs.declared.instr.BodyInstr.{BodyInstr}
-use Rattle.plan_image.specs.Bodies.{body_of, leave_open, open_operand, operands_of}
-use Rattle.plan_compile.specs.BodyKeys.{Body, numbers_of, key_of, same_body}
+use Rattle.plan_image.specs.Bodies.{body_of}
+use Rattle.plan_compile.specs.BodyKeys.{Body, body_at, key_of, same_body}
 use Rattle.plan_compile.specs.Numbering.{has, number, with_item}
-use Rattle.plan_compile.proofs.BodyKeyLemmas.{bodies_decide, body_back, body_at}
+use Rattle.plan_compile.proofs.BodyKeyLemmas.{bodies_decide, body_back}
 use Rattle.plan_compile.proofs.BodyTableLemmas.{same_key}
-use Rattle.plan_compile.proofs.BuildLemmas.{drop_here, get_at}
 use Rattle.plan_compile.proofs.ListLemmas.{or_left, or_right, some_is}
-
--- ---- from the front
-
-pub key_long : (code : List Instr) → length (key_of (body_of code)) ≡ 2 * length code
-key_long [] = refl
-key_long (i ∷ is) = let rest = key_long is in omega (arith, rest)
-
--- the two numbers at a place, and those behind
-two_here : (key : List ℕ) (i k n : ℕ) → slice_get key (2 * i) ≡ Some k → slice_get key (2 * i + 1) ≡ Some n → drop (2 * i) key ≡ k ∷ n ∷ drop (2 * (i + 1)) key
-two_here key i k n first second =
-    let same : 2 * i + 1 + 1 ≡ 2 * (i + 1) = omega arith in
-    drop_here key (2 * i) k first ∙ ap (λ (ns : List ℕ). k ∷ ns) (drop_here key (2 * i + 1) n second) ∙ ap (λ (j : ℕ). k ∷ n ∷ drop j key) same
-
-code_here : (code : List Instr) (i : ℕ) (x : Instr) → slice_get code i ≡ Some x
-    → key_of (body_of (drop i code)) ≡ (numbers_of (leave_open x)).0 ∷ (numbers_of (leave_open x)).1 ∷ key_of (body_of (drop (i + 1) code))
-code_here code i x at = ap (λ (is : List Instr). key_of (body_of is)) (drop_here code i x at)
-
--- the numbers at a place are those of the instruction
-pub step_on : (key : List ℕ) (code : List Instr) (i k n : ℕ) (x : Instr) → slice_get key (2 * i) ≡ Some k → slice_get key (2 * i + 1) ≡ Some n → slice_get code i ≡ Some x
-    → (k, n) ≡ numbers_of (leave_open x) → (drop (2 * (i + 1)) key ≡ key_of (body_of (drop (i + 1) code))) ↔ (drop (2 * i) key ≡ key_of (body_of (drop i code)))
-step_on key code i k n x first second at same =
-    let left : drop (2 * i) key ≡ k ∷ n ∷ drop (2 * (i + 1)) key = two_here key i k n first second in
-    let right = code_here code i x at in
-    let one : k ≡ (numbers_of (leave_open x)).0 = ap (λ (p : ℕ × ℕ). p.0) same in
-    let two : n ≡ (numbers_of (leave_open x)).1 = ap (λ (p : ℕ × ℕ). p.1) same in
-    (λ h. cc, λ h. cc)
-
--- they aren't
-pub step_off : (key : List ℕ) (code : List Instr) (i k n : ℕ) (x : Instr) → slice_get key (2 * i) ≡ Some k → slice_get key (2 * i + 1) ≡ Some n → slice_get code i ≡ Some x
-    → ((k, n) ≡ numbers_of (leave_open x) → ⊥) → drop (2 * i) key ≡ key_of (body_of (drop i code)) → ⊥
-step_off key code i k n x first second at other h =
-    let left : drop (2 * i) key ≡ k ∷ n ∷ drop (2 * (i + 1)) key = two_here key i k n first second in
-    let right = code_here code i x at in
-    let one : k ≡ (numbers_of (leave_open x)).0 = cc in
-    let two : n ≡ (numbers_of (leave_open x)).1 = cc in
-    let both : (k, n) ≡ numbers_of (leave_open x) = ap (λ (a : ℕ). (a, n)) one ∙ ap (λ (b : ℕ). ((numbers_of (leave_open x)).0, b)) two in
-    other both
-
--- the operands so far, and those behind
-pub operands_step : (old new : List ℕ) (code : List Instr) (i : ℕ) (x : Instr) → slice_get code i ≡ Some x → new ≡ old ++ open_operand x
-    → old ++ operands_of (drop i code) ≡ operands_of code → new ++ operands_of (drop (i + 1) code) ≡ operands_of code
-operands_step old new code i x at more so_far =
-    ap (λ (ns : List ℕ). ns ++ operands_of (drop (i + 1) code)) more
-    ∙ append_assoc old (open_operand x) (operands_of (drop (i + 1) code))
-    ∙ ap (λ (is : List Instr). old ++ operands_of is) (sym (drop_here code i x at))
-    ∙ so_far
-
--- ---- a body that is there
 
 module _ {K : Type 0} (items : K → List ℕ) where
   pub key_there : (keys : List K) (bodies : List Body) (n : ℕ) (k : K) (code : List Instr) → map items keys ≡ map key_of bodies → slice_get keys n ≡ Some k

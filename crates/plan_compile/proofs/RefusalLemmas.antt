@@ -1,6 +1,6 @@
 -- Why an image has no spelling.
-use Rattle.std.proofs.Common.{◌≡◌, ℕ, zero, suc, ◌+◌, ◌<◌, ◌≤◌, Bool, true, false, List, [], ◌∷◌, length, map, Some, refl, sym, ap, subst, ◌∙◌, arith, inl, inr}
-use Rattle.std.specs.Prelude.{◌⊎◌, ◌||◌, slice_get, nat_lt}
+use Rattle.std.proofs.Common.{◌≡◌, ℕ, zero, suc, ◌<◌, ◌≤◌, true, false, List, [], ◌∷◌, length, map, Some, refl, sym, ap, subst, ◌∙◌, arith, inl, inr}
+use Rattle.std.specs.Prelude.{◌||◌, slice_get}
 use Rattle.std.specs.List.{list_any, AllByRecursion}
 use Rattle.std.proofs.lemmas.Bool.{ltb-true}
 use Rattle.plan_scope.specs.declared.manifest.Manifest.{Manifest}
@@ -15,12 +15,12 @@ use Rattle.plan_image.specs.Spelling.{BodyFits, HasSpelling}
 use Rattle.plan_compile.specs.declared.fault.CompileFault.{CompileFault}
 use Rattle.plan_compile.specs.declared.fault.CompileFault.TheVariants.{Limit, Memory}
 use Rattle.plan_compile.specs.BodyKeys.{Body, same_body}
-use Rattle.plan_compile.specs.Builds.{Build, Builds, builds}
+use Rattle.plan_compile.specs.Builds.{Builds, builds}
 use Rattle.plan_compile.specs.Images.{codes, compiled, image_of, used_bodies}
 use Rattle.plan_compile.specs.Names.{declared, used_pools}
-use Rattle.plan_compile.specs.Numbering.{number, once}
+use Rattle.plan_compile.specs.Numbering.{number}
 use Rattle.plan_compile.specs.Refusals.{IsRefused, RefusesEdges, is_too_long}
-use Rattle.plan_compile.specs.Slots.{own_kinds, own_len, owned, slot_count, slots_from}
+use Rattle.plan_compile.specs.Slots.{slot_count, slots_from}
 use Rattle.plan_compile.proofs.BodyKeyLemmas.{bodies_decide}
 use Rattle.plan_compile.proofs.BuildLemmas.{map_long}
 use Rattle.plan_compile.proofs.ListLemmas.{some_is}

@@ -1,6 +1,8 @@
--- When two bodies are the same: instruction by instruction, each as a number of its sort and its operand. The sorts of
--- open instructions come behind the others.
-use Rattle.std.specs.Prelude.{ℕ, Bool, true, false, List, [], ◌∷◌, bytes_eq}
+-- When two bodies are the same: instruction by instruction, each as one number of its sort and its operand. The sorts of
+-- open instructions come behind the others. And what a code is by the key of its body and the operands left open.
+use Rattle.std.specs.Prelude.{◌≡◌, ◌<◌, ◌^◌, ◌+◌, ◌*◌, ◌/◌, ◌%◌, ◌==◌, ℕ, Bool, true, false, List, [], ◌∷◌, bytes_eq, All, if◌then◌else◌}
+use Rattle.plan_image.specs.Bodies.{body_of, operands_of, with_operands}
+use Rattle.plan_image.specs.Columns.{instr_by}
 use Rattle.plan_image.specs.declared.instr.Instr.{Instr}
 use Rattle.plan_image.specs.declared.instr.Instr.TheVariants as op
 use Rattle.plan_image.specs.declared.instr.Opening.{Opening}
@@ -54,9 +56,46 @@ abbrev pub numbers_of : BodyInstr → ℕ × ℕ
 numbers_of (member.Fixed i) = fixed_numbers i
 numbers_of (member.Open o) = (opening_number o, 0)
 
+-- an instruction of a body as one number: its operand, and its sort in the last six bits
+abbrev pub member_number : BodyInstr → ℕ
+member_number m = (numbers_of m).1 * 64 + (numbers_of m).0
+
 abbrev pub key_of : Body → List ℕ
 key_of [] = []
-key_of (m ∷ ms) = (numbers_of m).0 ∷ (numbers_of m).1 ∷ key_of ms
+key_of (m ∷ ms) = member_number m ∷ key_of ms
 
 abbrev pub same_body : Body → Body → Bool
 same_body a b = bytes_eq (key_of a) (key_of b)
+
+-- ---- back again
+
+-- the instruction of a sort, with this operand
+abbrev pub member_by : ℕ → ℕ → BodyInstr
+member_by k n =
+    if k == 29 then member.Open opening.Stat
+    else if k == 30 then member.Open opening.Need
+    else if k == 31 then member.Open opening.Load
+    else if k == 32 then member.Open opening.Store
+    else if k == 33 then member.Open opening.Text
+    else member.Fixed (instr_by k n)
+
+-- the instruction of such a number
+abbrev pub member_at : ℕ → BodyInstr
+member_at x = member_by (x % 64) (x / 64)
+
+-- the body of a key
+abbrev pub body_at : List ℕ → Body
+body_at [] = []
+body_at (x ∷ xs) = member_at x ∷ body_at xs
+
+-- the code of a key and the operands left open
+abbrev pub code_at : List ℕ → List ℕ → List Instr
+code_at key operands = with_operands (body_at key) operands
+
+-- an operand is a word
+abbrev pub IsSmall : ℕ → Type 0
+IsSmall x = x < 2 ^ 38
+
+-- the key and the operands are those of a code
+abbrev pub AreOf : (key operands : List ℕ) → List Instr → Type 0
+AreOf key operands code = (key ≡ key_of (body_of code)) × (operands ≡ operands_of code) × All IsSmall key

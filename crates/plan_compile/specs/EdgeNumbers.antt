@@ -1,5 +1,5 @@
 -- The numbers of an edge's texts and of its pool.
-use Rattle.std.specs.Prelude.{ℕ, zero, Bool, true, false, List, [], None}
+use Rattle.std.specs.Prelude.{zero, Bool, true, false, List, [], None}
 use Rattle.plan_scope.specs.declared.manifest.Edge.{Edge as ManifestEdge}
 use Rattle.plan_compile.specs.declared.numbers.Numbers.{Numbers}
 use Rattle.plan_compile.specs.Builds.{Build}

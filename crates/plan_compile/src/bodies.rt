@@ -3,17 +3,17 @@
 ghost use Rattle.std.specs.Prelude.{◌<◌};
 
 use crate::body_table::BodyTable;
-use crate::operands::put_operands;
-use plan_image::{Body, Instr, split};
+use crate::code::Code;
+use plan_image::Body;
 use plan_text::{Items, Memory};
-use std::alloc::{AllocError, Global};
+use std::alloc::Global;
 use std::marker::Model;
 
 /// How many bodies are remembered.
 const REMEMBERED: usize = 64;
 
 /// Under which place the body of a code is remembered. Codes share one only if their lengths differ by a multiple of 64.
-fn memory_place(code: &[Instr]) -> usize
+fn memory_place(code: &Code) -> usize
     ensures { result < 64 }
 {
     code.len() % REMEMBERED
@@ -40,7 +40,7 @@ impl Model for Bodies {
 
 impl Bodies {
     ghost use Rattle.std.specs.Prelude.{◌≡◌, ◌≤◌, ◌+◌, [], IfOk, IfSome, length, OnOk, slice_get, Some};
-    ghost use Rattle.plan_image.specs.Bodies.{body_of, operands_of};
+    ghost use Rattle.plan_image.specs.Bodies.{body_of};
     ghost use Rattle.plan_compile.specs.BodyKeys.{same_body};
     ghost use Rattle.plan_compile.specs.Numbering.{number, with_item};
 
@@ -54,58 +54,41 @@ impl Bodies {
         }
     }
 
-    /// The number of the body that is remembered, where it is the body of a code. Then the operands of the code are put
-    /// into a buffer.
-    fn take_remembered(
-        &self,
-        operands: &mut Vec<u32>,
-        code: &[Instr],
-    ) -> Result<Option<u32>, AllocError>
-        ensures there { IfOk result (λ r. IfSome r (λ n. slice_get self.now n ≡ Some (body_of code.now))) }
-        ensures first { IfOk result (λ r. IfSome r (λ n. n ≡ number same_body (body_of code.now) self.now)) }
-        ensures operands { IfOk result (λ r. IfSome r (λ _. operands.new.items ≡ operands_of code.now)) }
+    /// The number of the body that is remembered, where it is the body of a code.
+    fn known(&self, code: &Code) -> Option<u32>
+        ensures there { IfSome result (λ n. slice_get self.now n ≡ Some (body_of code.now)) }
+        ensures first { IfSome result (λ n. n ≡ number same_body (body_of code.now) self.now) }
     {
         let number = self.remembered[memory_place(code)];
-        if self.table.take_at(number, operands, code)? {
-            Ok(Some(number))
+        if self.table.is_at(number, code) {
+            Some(number)
         } else {
-            Ok(None)
+            None
         }
     }
 
     /// Puts the body of a code last, unless it is there, and gives its number.
-    fn put_other(&mut self, alloc: Global, code: &[Instr]) -> Result<u32, Memory>
+    fn put_other(&mut self, alloc: Global, code: &Code) -> Result<u32, Memory>
         requires { length self.old ≤ 1048576 }
         ensures bodies { OnOk result (self.new ≡ with_item same_body self.old (body_of code.now)) }
         ensures number { IfOk result (λ n. n ≡ number same_body (body_of code.now) self.new) }
         ensures few { OnOk result (length self.new ≤ length self.old + 1) }
     {
-        let (body, _operands) = split(alloc, code)?;
-        let number = self.table.put(alloc, body)?;
+        let number = self.table.put(alloc, code)?;
         self.remembered[memory_place(code)] = number;
         Ok(number)
     }
 
-    /// Puts the body of a code last, unless it is there, and gives its number; the operands of the code are put into a
-    /// buffer.
-    pub(crate) fn put(
-        &mut self,
-        alloc: Global,
-        operands: &mut Vec<u32>,
-        code: &[Instr],
-    ) -> Result<u32, Memory>
+    /// Puts the body of a code last, unless it is there, and gives its number.
+    pub(crate) fn put(&mut self, alloc: Global, code: &Code) -> Result<u32, Memory>
         requires { length self.old ≤ 1048576 }
         ensures bodies { OnOk result (self.new ≡ with_item same_body self.old (body_of code.now)) }
         ensures number { IfOk result (λ n. n ≡ number same_body (body_of code.now) self.new) }
         ensures few { OnOk result (length self.new ≤ length self.old + 1) }
-        ensures operands { OnOk result (operands.new.items ≡ operands_of code.now) }
     {
-        match self.take_remembered(operands, code)? {
+        match self.known(code) {
             Some(number) => Ok(number),
-            None => {
-                put_operands(operands, code)?;
-                self.put_other(alloc, code)
-            }
+            None => self.put_other(alloc, code),
         }
     }
 

@@ -4,6 +4,7 @@ ghost use Rattle.std.specs.Prelude.{◌≡◌, ◌≤◌, ◌^◌, true, false, 
 ghost use Rattle.plan_compile.specs.Emit.{after_code, alarm_code, clean_code, clean_len, command_code, compare_code, deps_code, dirty_code, dirty_place, front, holders, judge_code, judged_code, known_place, oldest_code, other_code, pass_code, ready_len, recalled_code, run_code, same_code, same_place, stat_code, weighed_code};
 ghost use Rattle.plan_image.specs.declared.instr.Instr.TheVariants as op;
 
+use crate::code::Code;
 use crate::inputs::{has_source_file, push_any, push_newest, push_or, push_order};
 use crate::outputs::{push_held, push_oldest, push_restat, push_stats};
 use crate::wiring::{CommandWiring, Output};
@@ -14,12 +15,12 @@ use std::alloc::AllocError;
 
 /// Whether an output is missing or an input changed; the outputs are looked at where `looks` says so.
 fn push_alarm(
-    code: &mut Vec<Instr>,
+    code: &mut Code,
     looks: bool,
     outputs: &[Output],
     flags: &[u32],
 ) -> Result<(), AllocError>
-    ensures { OnOk result (code.new.items ≡ code.old.items ++ alarm_code looks outputs.now flags.now) }
+    ensures { OnOk result (code.new ≡ code.old ++ alarm_code looks outputs.now flags.now) }
 {
     if looks {
         push_oldest(code, outputs)?;
@@ -31,8 +32,8 @@ fn push_alarm(
 }
 
 /// What the sweep goes on from, and the recorded entry.
-fn push_weighed(code: &mut Vec<Instr>, wiring: &CommandWiring) -> Result<(), AllocError>
-    ensures { OnOk result (code.new.items ≡ code.old.items ++ weighed_code wiring.now.restat wiring.now (op.Recall ∷ [])) }
+fn push_weighed(code: &mut Code, wiring: &CommandWiring) -> Result<(), AllocError>
+    ensures { OnOk result (code.new ≡ code.old ++ weighed_code wiring.now.restat wiring.now (op.Recall ∷ [])) }
 {
     let outputs = wiring.outputs.as_slice();
     if wiring.restat {
@@ -49,16 +50,16 @@ fn push_weighed(code: &mut Vec<Instr>, wiring: &CommandWiring) -> Result<(), All
 }
 
 /// The outputs' stamps, and what the sweep goes on from.
-fn push_asked(code: &mut Vec<Instr>, wiring: &CommandWiring) -> Result<(), AllocError>
-    ensures { OnOk result (code.new.items ≡ code.old.items ++ (stat_code wiring.now.outputs ++ weighed_code wiring.now.restat wiring.now (op.Recall ∷ []))) }
+fn push_asked(code: &mut Code, wiring: &CommandWiring) -> Result<(), AllocError>
+    ensures { OnOk result (code.new ≡ code.old ++ (stat_code wiring.now.outputs ++ weighed_code wiring.now.restat wiring.now (op.Recall ∷ []))) }
 {
     push_stats(code, wiring.outputs.as_slice())?;
     push_weighed(code, wiring)
 }
 
 /// The questions up to the recorded entry.
-pub(crate) fn push_front(code: &mut Vec<Instr>, wiring: &CommandWiring) -> Result<(), AllocError>
-    ensures { OnOk result (code.new.items ≡ code.old.items ++ front wiring.now []) }
+pub(crate) fn push_front(code: &mut Code, wiring: &CommandWiring) -> Result<(), AllocError>
+    ensures { OnOk result (code.new ≡ code.old ++ front wiring.now []) }
 {
     push_order(code, wiring.order_only.as_slice())?;
     push_newest(code, wiring.named.as_slice())?;
@@ -69,8 +70,8 @@ pub(crate) fn push_front(code: &mut Vec<Instr>, wiring: &CommandWiring) -> Resul
 // ---- from the command on
 
 /// Reads the depfile and sweeps its paths.
-fn push_deps(code: &mut Vec<Instr>, depfile: Option<u32>) -> Result<(), AllocError>
-    ensures { OnOk result (code.new.items ≡ code.old.items ++ deps_code depfile) }
+fn push_deps(code: &mut Code, depfile: Option<u32>) -> Result<(), AllocError>
+    ensures { OnOk result (code.new ≡ code.old ++ deps_code depfile) }
 {
     match depfile {
         Some(text) => {
@@ -90,8 +91,8 @@ fn push_deps(code: &mut Vec<Instr>, depfile: Option<u32>) -> Result<(), AllocErr
 }
 
 /// The outputs after the command, and the end.
-fn push_after(code: &mut Vec<Instr>, restat: bool, outputs: &[Output]) -> Result<(), AllocError>
-    ensures { OnOk result (code.new.items ≡ code.old.items ++ after_code restat outputs.now (op.End ∷ [])) }
+fn push_after(code: &mut Code, restat: bool, outputs: &[Output]) -> Result<(), AllocError>
+    ensures { OnOk result (code.new ≡ code.old ++ after_code restat outputs.now (op.End ∷ [])) }
 {
     if restat {
         push_restat(code, outputs)?;
@@ -106,8 +107,8 @@ fn push_after(code: &mut Vec<Instr>, restat: bool, outputs: &[Output]) -> Result
 }
 
 /// From the place of the pool on.
-fn push_run(code: &mut Vec<Instr>, wiring: &CommandWiring) -> Result<(), AllocError>
-    ensures { OnOk result (code.new.items ≡ code.old.items ++ run_code wiring.now) }
+fn push_run(code: &mut Code, wiring: &CommandWiring) -> Result<(), AllocError>
+    ensures { OnOk result (code.new ≡ code.old ++ run_code wiring.now) }
 {
     code.push(Instr::Take)?;
     code.push(Instr::Text(wiring.command))?;
@@ -121,8 +122,8 @@ fn push_run(code: &mut Vec<Instr>, wiring: &CommandWiring) -> Result<(), AllocEr
 }
 
 /// From where the edge is known to be dirty.
-fn push_dirty(code: &mut Vec<Instr>, wiring: &CommandWiring) -> Result<(), AllocError>
-    ensures { OnOk result (code.new.items ≡ code.old.items ++ dirty_code wiring.now) }
+fn push_dirty(code: &mut Code, wiring: &CommandWiring) -> Result<(), AllocError>
+    ensures { OnOk result (code.new ≡ code.old ++ dirty_code wiring.now) }
 {
     code.push(Instr::Drop)?;
     code.push(Instr::Drop)?;
@@ -188,8 +189,8 @@ fn other_len(wiring: &CommandWiring) -> u32
 // ---- from the recorded entry on
 
 /// The flags and the end of a clean edge, and the dirty code.
-fn push_settled(code: &mut Vec<Instr>, wiring: &CommandWiring) -> Result<(), AllocError>
-    ensures { OnOk result (code.new.items ≡ code.old.items ++ (clean_code wiring.now ++ (op.End ∷ dirty_code wiring.now))) }
+fn push_settled(code: &mut Code, wiring: &CommandWiring) -> Result<(), AllocError>
+    ensures { OnOk result (code.new ≡ code.old ++ (clean_code wiring.now ++ (op.End ∷ dirty_code wiring.now))) }
 {
     push_held(code, false, wiring.restat, wiring.outputs.as_slice())?;
     code.push(Instr::End)?;
@@ -197,10 +198,10 @@ fn push_settled(code: &mut Vec<Instr>, wiring: &CommandWiring) -> Result<(), All
 }
 
 /// Sweeps, compares, and ends where the edge is clean; the code begins at that place.
-fn push_judge(code: &mut Vec<Instr>, wiring: &CommandWiring, at: u32) -> Result<(), AllocError>
+fn push_judge(code: &mut Code, wiring: &CommandWiring, at: u32) -> Result<(), AllocError>
     requires place { at ≤ 2 ^ 25 }
     requires few { length wiring.now.outputs ≤ 2 ^ 16 }
-    ensures { OnOk result (code.new.items ≡ code.old.items ++ judge_code wiring.now at) }
+    ensures { OnOk result (code.new ≡ code.old ++ judge_code wiring.now at) }
 {
     let clean = clean_len(wiring);
     code.push(Instr::Sweep)?;
@@ -212,11 +213,11 @@ fn push_judge(code: &mut Vec<Instr>, wiring: &CommandWiring, at: u32) -> Result<
 }
 
 /// Makes ready for the sweep, and judges; the code begins at that place.
-fn push_judged(code: &mut Vec<Instr>, wiring: &CommandWiring, at: u32) -> Result<(), AllocError>
+fn push_judged(code: &mut Code, wiring: &CommandWiring, at: u32) -> Result<(), AllocError>
     requires place { at ≤ 2 ^ 24 }
     requires few { length wiring.now.outputs ≤ 2 ^ 16 }
     requires few_flags { length wiring.now.flags ≤ 2 ^ 16 }
-    ensures { OnOk result (code.new.items ≡ code.old.items ++ judged_code wiring.now at) }
+    ensures { OnOk result (code.new ≡ code.old ++ judged_code wiring.now at) }
 {
     let judge = at + ready_len(wiring);
     if wiring.restat {
@@ -248,11 +249,11 @@ fn dirty_place(wiring: &CommandWiring, at: u32) -> u32
 }
 
 /// Sweeps all the same and goes to the dirty code; the judging stands behind it, at that place.
-fn push_swept(code: &mut Vec<Instr>, wiring: &CommandWiring, judged: u32) -> Result<(), AllocError>
+fn push_swept(code: &mut Code, wiring: &CommandWiring, judged: u32) -> Result<(), AllocError>
     requires place { judged ≤ 2 ^ 24 }
     requires few { length wiring.now.outputs ≤ 2 ^ 16 }
     requires few_flags { length wiring.now.flags ≤ 2 ^ 16 }
-    ensures { OnOk result (code.new.items ≡ code.old.items ++ (op.Sweep ∷ op.Drop ∷ op.Drop ∷ op.Jump (dirty_place wiring.now judged) ∷ judged_code wiring.now judged)) }
+    ensures { OnOk result (code.new ≡ code.old ++ (op.Sweep ∷ op.Drop ∷ op.Drop ∷ op.Jump (dirty_place wiring.now judged) ∷ judged_code wiring.now judged)) }
 {
     let dirty = dirty_place(wiring, judged);
     code.push(Instr::Sweep)?;
@@ -263,11 +264,11 @@ fn push_swept(code: &mut Vec<Instr>, wiring: &CommandWiring, judged: u32) -> Res
 }
 
 /// Where the recorded command is another, and behind it the judging, at that place.
-fn push_other(code: &mut Vec<Instr>, wiring: &CommandWiring, judged: u32) -> Result<(), AllocError>
+fn push_other(code: &mut Code, wiring: &CommandWiring, judged: u32) -> Result<(), AllocError>
     requires place { judged ≤ 2 ^ 24 }
     requires few { length wiring.now.outputs ≤ 2 ^ 16 }
     requires few_flags { length wiring.now.flags ≤ 2 ^ 16 }
-    ensures { OnOk result (code.new.items ≡ code.old.items ++ other_code wiring.now (dirty_place wiring.now judged) (judged_code wiring.now judged)) }
+    ensures { OnOk result (code.new ≡ code.old ++ other_code wiring.now (dirty_place wiring.now judged) (judged_code wiring.now judged)) }
 {
     if wiring.restat {
         code.push(Instr::Swap)?;
@@ -283,8 +284,8 @@ fn push_other(code: &mut Vec<Instr>, wiring: &CommandWiring, judged: u32) -> Res
 }
 
 /// Whether the recorded command is the edge's.
-fn push_same(code: &mut Vec<Instr>, blank: bool, command: u32) -> Result<(), AllocError>
-    ensures { OnOk result (code.new.items ≡ code.old.items ++ same_code blank command) }
+fn push_same(code: &mut Code, blank: bool, command: u32) -> Result<(), AllocError>
+    ensures { OnOk result (code.new ≡ code.old ++ same_code blank command) }
 {
     if blank {
         code.push(Instr::Not)?;
@@ -304,11 +305,11 @@ fn push_same(code: &mut Vec<Instr>, blank: bool, command: u32) -> Result<(), All
 }
 
 /// Compares the recorded command; the code begins at that place.
-fn push_compare(code: &mut Vec<Instr>, wiring: &CommandWiring, at: u32) -> Result<(), AllocError>
+fn push_compare(code: &mut Code, wiring: &CommandWiring, at: u32) -> Result<(), AllocError>
     requires place { at ≤ 2 ^ 20 }
     requires few { length wiring.now.outputs ≤ 2 ^ 16 }
     requires few_flags { length wiring.now.flags ≤ 2 ^ 16 }
-    ensures { OnOk result (code.new.items ≡ code.old.items ++ compare_code wiring.now at) }
+    ensures { OnOk result (code.new ≡ code.old ++ compare_code wiring.now at) }
 {
     let judged = at + same_len(wiring) + 1 + other_len(wiring);
     push_same(code, wiring.blank, wiring.command)?;
@@ -317,11 +318,11 @@ fn push_compare(code: &mut Vec<Instr>, wiring: &CommandWiring, at: u32) -> Resul
 }
 
 /// Looks for the baseline of a restat generator; the code begins at that place.
-fn push_baseline(code: &mut Vec<Instr>, wiring: &CommandWiring, at: u32) -> Result<(), AllocError>
+fn push_baseline(code: &mut Code, wiring: &CommandWiring, at: u32) -> Result<(), AllocError>
     requires place { at ≤ 2 ^ 20 }
     requires few { length wiring.now.outputs ≤ 2 ^ 16 }
     requires few_flags { length wiring.now.flags ≤ 2 ^ 16 }
-    ensures { OnOk result (code.new.items ≡ code.old.items ++ pass_code true wiring.now at) }
+    ensures { OnOk result (code.new ≡ code.old ++ pass_code true wiring.now at) }
 {
     let outputs = wiring.outputs.as_slice();
     let known = at + 4 + oldest_len(outputs);
@@ -335,11 +336,11 @@ fn push_baseline(code: &mut Vec<Instr>, wiring: &CommandWiring, at: u32) -> Resu
 }
 
 /// A generator compares no command; the code begins at that place.
-fn push_passed(code: &mut Vec<Instr>, wiring: &CommandWiring, at: u32) -> Result<(), AllocError>
+fn push_passed(code: &mut Code, wiring: &CommandWiring, at: u32) -> Result<(), AllocError>
     requires place { at ≤ 2 ^ 20 }
     requires few { length wiring.now.outputs ≤ 2 ^ 16 }
     requires few_flags { length wiring.now.flags ≤ 2 ^ 16 }
-    ensures { OnOk result (code.new.items ≡ code.old.items ++ pass_code wiring.now.restat wiring.now at) }
+    ensures { OnOk result (code.new ≡ code.old ++ pass_code wiring.now.restat wiring.now at) }
 {
     if wiring.restat {
         push_baseline(code, wiring, at)
@@ -352,14 +353,14 @@ fn push_passed(code: &mut Vec<Instr>, wiring: &CommandWiring, at: u32) -> Result
 
 /// From the recorded entry on; the code begins at that place.
 pub(crate) fn push_recalled(
-    code: &mut Vec<Instr>,
+    code: &mut Code,
     wiring: &CommandWiring,
     at: u32,
 ) -> Result<(), AllocError>
     requires place { at ≤ 2 ^ 20 }
     requires few { length wiring.now.outputs ≤ 2 ^ 16 }
     requires few_flags { length wiring.now.flags ≤ 2 ^ 16 }
-    ensures { OnOk result (code.new.items ≡ code.old.items ++ recalled_code wiring.now.generator wiring.now at) }
+    ensures { OnOk result (code.new ≡ code.old ++ recalled_code wiring.now.generator wiring.now at) }
 {
     if wiring.generator {
         push_passed(code, wiring, at)

@@ -9,6 +9,7 @@ ghost use Rattle.plan_compile.specs.Images.{is_blank};
 ghost use Rattle.plan_compile.specs.Slots.{form_of as form_meant};
 
 use crate::build::Build;
+use crate::code::Code;
 use crate::fault::CompileFault;
 use crate::form::Form;
 use crate::lists::Lists;
@@ -16,7 +17,6 @@ use crate::lookups;
 use crate::numbers::Numbers;
 use crate::slots::form_of;
 use crate::wiring::{CommandWiring, GatherWiring, Output, Wiring};
-use plan_image::Instr;
 use std::alloc::{AllocError, Global};
 
 /// Whether a text is empty.
@@ -138,13 +138,13 @@ fn wiring<'a>(
 pub(crate) fn put_code<'a>(
     alloc: Global,
     lists: Lists,
-    code: &mut Vec<Instr>,
+    code: &mut Code,
     numbers: Numbers,
     table: &[Option<Output>],
     newest: u32,
     build: &Build<'a>,
 ) -> Result<Lists, CompileFault>
-    ensures { Meets CompileFault.Memory (λ _. code.new.items) result (emitted (code_of (wire_in (form_meant build.now) numbers table.now newest build.now))) }
+    ensures { Meets CompileFault.Memory (λ _. code.new) result (emitted (code_of (wire_in (form_meant build.now) numbers table.now newest build.now))) }
 {
     let wiring = wiring(alloc, lists, numbers, table, newest, form_of(build), build)?;
     crate::emitting::put_code(code, &wiring)?;

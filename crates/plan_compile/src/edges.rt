@@ -12,12 +12,13 @@ ghost use Rattle.plan_compile.specs.Refusals.{RefusesCodes};
 
 use crate::bodies::Bodies;
 use crate::build::Build;
+use crate::code::Code;
 use crate::edge_wiring::put_code;
 use crate::fault::CompileFault;
 use crate::lists::Lists;
 use crate::numbers::Numbers;
 use crate::slots::Plan;
-use plan_image::{CodeRef, EdgeRef, Edges, Instr, Sort};
+use plan_image::{CodeRef, EdgeRef, Edges, Sort};
 use plan_text::Memory;
 use std::alloc::Global;
 
@@ -48,14 +49,13 @@ fn edge_in<'a, 'b>(
     }
 }
 
-/// Appends an edge with these numbers and this code, whose body it shares. The operands are put into a buffer.
+/// Appends an edge with these numbers and this code, whose body it shares.
 fn push_edge<'a>(
     alloc: Global,
     edges: &mut Edges,
     bodies: &mut Bodies,
-    operands: &mut Vec<u32>,
     numbers: Numbers,
-    code: &[Instr],
+    code: &Code,
     build: &Build<'a>,
 ) -> Result<(), Memory>
     requires { length bodies.old ≤ 1048576 }
@@ -63,8 +63,8 @@ fn push_edge<'a>(
     ensures edges { OnOk result (edges.new ≡ edges.old ++ edge_in numbers (shared bodies.new code.now) build.now ∷ []) }
     ensures few { OnOk result (length bodies.new ≤ length bodies.old + 1) }
 {
-    let number = bodies.put(alloc, operands, code)?;
-    edges.push_ref(edge_in(numbers, number, operands, build))?;
+    let number = bodies.put(alloc, code)?;
+    edges.push_ref(edge_in(numbers, number, code.operands(), build))?;
     Ok(())
 }
 
@@ -94,8 +94,7 @@ pub(crate) fn edges_of<'a>(
     let mut edges = Edges::new(alloc);
     edges.reserve(builds.len())?;
     let mut bodies = Bodies::new(alloc);
-    let mut operands = Vec::new(alloc);
-    let mut code = Vec::new(alloc);
+    let mut code = Code::new(alloc);
     let mut lists = Lists::new(alloc);
     for number in 0..builds.len() {
         let build = &builds[number];
@@ -109,15 +108,7 @@ pub(crate) fn edges_of<'a>(
             plan.newest[number],
             build,
         )?;
-        push_edge(
-            alloc,
-            &mut edges,
-            &mut bodies,
-            &mut operands,
-            named,
-            &code,
-            build,
-        )?;
+        push_edge(alloc, &mut edges, &mut bodies, named, &code, build)?;
     }
     Ok((edges, bodies))
 }

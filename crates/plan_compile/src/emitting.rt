@@ -5,6 +5,7 @@ ghost use Rattle.plan_text.specs.Outcome.{Meets};
 ghost use Rattle.plan_compile.specs.declared.fault.CompileFault.TheVariants as CompileFault;
 ghost use Rattle.plan_compile.specs.Emit.{alone_code, code_of, command_code, emitted, gather_code};
 
+use crate::code::Code;
 use crate::command::{push_front, push_recalled};
 use crate::fault::CompileFault;
 use crate::inputs::{push_any, push_newest, push_order};
@@ -16,11 +17,8 @@ use std::alloc::{AllocError, Global};
 /// No body of an image has more instructions.
 const MOST: usize = 65536;
 
-/// Room for the code of most edges.
-const ROOM: usize = 64;
-
 /// Refuses code that has too many places.
-fn limited(code: &[Instr]) -> Result<(), CompileFault>
+fn limited(code: &Code) -> Result<(), CompileFault>
     ensures { Meets CompileFault.Memory (λ _. code.now) result (emitted code.now) }
 {
     if code.len() > MOST {
@@ -29,9 +27,9 @@ fn limited(code: &[Instr]) -> Result<(), CompileFault>
     Ok(())
 }
 
-fn put_command(code: &mut Vec<Instr>, wiring: &CommandWiring) -> Result<(), CompileFault>
-    requires { code.old.items ≡ [] }
-    ensures { Meets CompileFault.Memory (λ _. code.new.items) result (emitted (command_code wiring.now)) }
+fn put_command(code: &mut Code, wiring: &CommandWiring) -> Result<(), CompileFault>
+    requires { code.old ≡ [] }
+    ensures { Meets CompileFault.Memory (λ _. code.new) result (emitted (command_code wiring.now)) }
 {
     push_front(code, wiring)?;
     if code.len() > MOST {
@@ -48,8 +46,8 @@ fn put_command(code: &mut Vec<Instr>, wiring: &CommandWiring) -> Result<(), Comp
     limited(code)
 }
 
-fn push_gather(code: &mut Vec<Instr>, wiring: &GatherWiring) -> Result<(), AllocError>
-    ensures { OnOk result (code.new.items ≡ code.old.items ++ gather_code wiring.now) }
+fn push_gather(code: &mut Code, wiring: &GatherWiring) -> Result<(), AllocError>
+    ensures { OnOk result (code.new ≡ code.old ++ gather_code wiring.now) }
 {
     push_order(code, wiring.order_only.as_slice())?;
     push_newest(code, wiring.named.as_slice())?;
@@ -60,25 +58,25 @@ fn push_gather(code: &mut Vec<Instr>, wiring: &GatherWiring) -> Result<(), Alloc
     Ok(())
 }
 
-fn put_gather(code: &mut Vec<Instr>, wiring: &GatherWiring) -> Result<(), CompileFault>
-    requires { code.old.items ≡ [] }
-    ensures { Meets CompileFault.Memory (λ _. code.new.items) result (emitted (gather_code wiring.now)) }
+fn put_gather(code: &mut Code, wiring: &GatherWiring) -> Result<(), CompileFault>
+    requires { code.old ≡ [] }
+    ensures { Meets CompileFault.Memory (λ _. code.new) result (emitted (gather_code wiring.now)) }
 {
     push_gather(code, wiring)?;
     limited(code)
 }
 
-fn put_alone(code: &mut Vec<Instr>, outputs: &[Output]) -> Result<(), CompileFault>
-    requires { code.old.items ≡ [] }
-    ensures { Meets CompileFault.Memory (λ _. code.new.items) result (emitted (alone_code outputs.now)) }
+fn put_alone(code: &mut Code, outputs: &[Output]) -> Result<(), CompileFault>
+    requires { code.old ≡ [] }
+    ensures { Meets CompileFault.Memory (λ _. code.new) result (emitted (alone_code outputs.now)) }
 {
     push_alone(code, outputs)?;
     limited(code)
 }
 
 /// Puts the code of an edge into a buffer.
-pub(crate) fn put_code(code: &mut Vec<Instr>, wiring: &Wiring) -> Result<(), CompileFault>
-    ensures { Meets CompileFault.Memory (λ _. code.new.items) result (emitted (code_of wiring.now)) }
+pub(crate) fn put_code(code: &mut Code, wiring: &Wiring) -> Result<(), CompileFault>
+    ensures { Meets CompileFault.Memory (λ _. code.new) result (emitted (code_of wiring.now)) }
 {
     code.clear();
     match wiring {
@@ -97,7 +95,8 @@ pub(crate) fn put_code(code: &mut Vec<Instr>, wiring: &Wiring) -> Result<(), Com
 pub fn edge_code(alloc: Global, wiring: &Wiring) -> Result<Vec<Instr>, CompileFault>
     ensures { Meets CompileFault.Memory (λ v. v.items) result (emitted (code_of wiring.now)) }
 {
-    let mut code = Vec::with_capacity(alloc, ROOM)?;
+    let mut code = Code::new(alloc);
     put_code(&mut code, wiring)?;
-    Ok(code)
+    let instrs = code.instrs(alloc)?;
+    Ok(instrs)
 }

@@ -3,13 +3,14 @@
 ghost use Rattle.std.specs.Prelude.{◌≡◌, ◌++◌, OnOk};
 ghost use Rattle.plan_compile.specs.Emit.{any_code, input_code, newer_code, newest_code, or_code, order_code};
 
+use crate::code::Code;
 use crate::wiring::Input;
 use plan_image::Instr;
 use std::alloc::AllocError;
 
 /// Order-only source files have to be there.
-pub(crate) fn push_order(code: &mut Vec<Instr>, files: &[u32]) -> Result<(), AllocError>
-    ensures { OnOk result (code.new.items ≡ code.old.items ++ order_code files.now) }
+pub(crate) fn push_order(code: &mut Code, files: &[u32]) -> Result<(), AllocError>
+    ensures { OnOk result (code.new ≡ code.old ++ order_code files.now) }
 {
     for file in files {
         code.push(Instr::Need(*file))?;
@@ -29,8 +30,8 @@ fn stamp_of(input: Input) -> Instr
 }
 
 /// The greatest of the stamp on the stack and the inputs' stamps.
-fn push_newer(code: &mut Vec<Instr>, inputs: &[Input]) -> Result<(), AllocError>
-    ensures { OnOk result (code.new.items ≡ code.old.items ++ newer_code inputs.now) }
+fn push_newer(code: &mut Code, inputs: &[Input]) -> Result<(), AllocError>
+    ensures { OnOk result (code.new ≡ code.old ++ newer_code inputs.now) }
 {
     for input in inputs {
         code.push(stamp_of(*input))?;
@@ -40,8 +41,8 @@ fn push_newer(code: &mut Vec<Instr>, inputs: &[Input]) -> Result<(), AllocError>
 }
 
 /// The greatest stamp of the inputs.
-pub(crate) fn push_newest(code: &mut Vec<Instr>, inputs: &[Input]) -> Result<(), AllocError>
-    ensures { OnOk result (code.new.items ≡ code.old.items ++ newest_code inputs.now) }
+pub(crate) fn push_newest(code: &mut Code, inputs: &[Input]) -> Result<(), AllocError>
+    ensures { OnOk result (code.new ≡ code.old ++ newest_code inputs.now) }
 {
     match inputs {
         [] => {
@@ -56,8 +57,8 @@ pub(crate) fn push_newest(code: &mut Vec<Instr>, inputs: &[Input]) -> Result<(),
 }
 
 /// Whether the flag on the stack is set, or one of these.
-pub(crate) fn push_or(code: &mut Vec<Instr>, flags: &[u32]) -> Result<(), AllocError>
-    ensures { OnOk result (code.new.items ≡ code.old.items ++ or_code flags.now) }
+pub(crate) fn push_or(code: &mut Code, flags: &[u32]) -> Result<(), AllocError>
+    ensures { OnOk result (code.new ≡ code.old ++ or_code flags.now) }
 {
     for flag in flags {
         code.push(Instr::Load(*flag))?;
@@ -67,8 +68,8 @@ pub(crate) fn push_or(code: &mut Vec<Instr>, flags: &[u32]) -> Result<(), AllocE
 }
 
 /// Whether one of these flags is set.
-pub(crate) fn push_any(code: &mut Vec<Instr>, flags: &[u32]) -> Result<(), AllocError>
-    ensures { OnOk result (code.new.items ≡ code.old.items ++ any_code flags.now) }
+pub(crate) fn push_any(code: &mut Code, flags: &[u32]) -> Result<(), AllocError>
+    ensures { OnOk result (code.new ≡ code.old ++ any_code flags.now) }
 {
     match flags {
         [] => {

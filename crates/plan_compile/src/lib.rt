@@ -13,6 +13,7 @@
 mod bodies;
 mod body_table;
 mod build;
+mod code;
 mod command;
 mod compiling;
 mod edge_wiring;
@@ -26,9 +27,9 @@ mod key;
 mod laws;
 mod lists;
 mod lookups;
+mod members;
 mod names;
 mod numbers;
-mod operands;
 mod outputs;
 mod slots;
 mod wiring;

@@ -3,13 +3,14 @@
 ghost use Rattle.std.specs.Prelude.{◌≡◌, ◌++◌, false, OnOk};
 ghost use Rattle.plan_compile.specs.Emit.{alone_code, flag_code, holders, older_code, oldest_code, restat_code, stat_code};
 
+use crate::code::Code;
 use crate::wiring::Output;
 use plan_image::Instr;
 use std::alloc::AllocError;
 
 /// Asks for the outputs' stamps and stores them.
-pub(crate) fn push_stats(code: &mut Vec<Instr>, outputs: &[Output]) -> Result<(), AllocError>
-    ensures { OnOk result (code.new.items ≡ code.old.items ++ stat_code outputs.now) }
+pub(crate) fn push_stats(code: &mut Code, outputs: &[Output]) -> Result<(), AllocError>
+    ensures { OnOk result (code.new ≡ code.old ++ stat_code outputs.now) }
 {
     for output in outputs {
         code.push(Instr::Stat(output.file))?;
@@ -19,8 +20,8 @@ pub(crate) fn push_stats(code: &mut Vec<Instr>, outputs: &[Output]) -> Result<()
 }
 
 /// The least of the stamp on the stack and the outputs' stamps.
-fn push_older(code: &mut Vec<Instr>, outputs: &[Output]) -> Result<(), AllocError>
-    ensures { OnOk result (code.new.items ≡ code.old.items ++ older_code outputs.now) }
+fn push_older(code: &mut Code, outputs: &[Output]) -> Result<(), AllocError>
+    ensures { OnOk result (code.new ≡ code.old ++ older_code outputs.now) }
 {
     for output in outputs {
         code.push(Instr::Load(output.stamp))?;
@@ -30,8 +31,8 @@ fn push_older(code: &mut Vec<Instr>, outputs: &[Output]) -> Result<(), AllocErro
 }
 
 /// The least stamp of the outputs.
-pub(crate) fn push_oldest(code: &mut Vec<Instr>, outputs: &[Output]) -> Result<(), AllocError>
-    ensures { OnOk result (code.new.items ≡ code.old.items ++ oldest_code outputs.now) }
+pub(crate) fn push_oldest(code: &mut Code, outputs: &[Output]) -> Result<(), AllocError>
+    ensures { OnOk result (code.new ≡ code.old ++ oldest_code outputs.now) }
 {
     match outputs {
         [] => {
@@ -46,8 +47,8 @@ pub(crate) fn push_oldest(code: &mut Vec<Instr>, outputs: &[Output]) -> Result<(
 }
 
 /// Stores a flag for each output.
-fn push_flags(code: &mut Vec<Instr>, on: bool, outputs: &[Output]) -> Result<(), AllocError>
-    ensures { OnOk result (code.new.items ≡ code.old.items ++ flag_code on outputs.now) }
+fn push_flags(code: &mut Code, on: bool, outputs: &[Output]) -> Result<(), AllocError>
+    ensures { OnOk result (code.new ≡ code.old ++ flag_code on outputs.now) }
 {
     for output in outputs {
         code.push(Instr::Flag(on))?;
@@ -57,8 +58,8 @@ fn push_flags(code: &mut Vec<Instr>, on: bool, outputs: &[Output]) -> Result<(),
 }
 
 /// Stores a flag once, for outputs that share its slot.
-fn push_shared(code: &mut Vec<Instr>, on: bool, outputs: &[Output]) -> Result<(), AllocError>
-    ensures { OnOk result (code.new.items ≡ code.old.items ++ flag_code on (holders false outputs.now)) }
+fn push_shared(code: &mut Code, on: bool, outputs: &[Output]) -> Result<(), AllocError>
+    ensures { OnOk result (code.new ≡ code.old ++ flag_code on (holders false outputs.now)) }
 {
     match outputs {
         [] => Ok(()),
@@ -72,12 +73,12 @@ fn push_shared(code: &mut Vec<Instr>, on: bool, outputs: &[Output]) -> Result<()
 
 /// Stores a flag in each flag slot of the outputs.
 pub(crate) fn push_held(
-    code: &mut Vec<Instr>,
+    code: &mut Code,
     on: bool,
     restat: bool,
     outputs: &[Output],
 ) -> Result<(), AllocError>
-    ensures { OnOk result (code.new.items ≡ code.old.items ++ flag_code on (holders restat outputs.now)) }
+    ensures { OnOk result (code.new ≡ code.old ++ flag_code on (holders restat outputs.now)) }
 {
     if restat {
         push_flags(code, on, outputs)
@@ -87,8 +88,8 @@ pub(crate) fn push_held(
 }
 
 /// The new stamps, and whether they differ from the old ones.
-pub(crate) fn push_restat(code: &mut Vec<Instr>, outputs: &[Output]) -> Result<(), AllocError>
-    ensures { OnOk result (code.new.items ≡ code.old.items ++ restat_code outputs.now) }
+pub(crate) fn push_restat(code: &mut Code, outputs: &[Output]) -> Result<(), AllocError>
+    ensures { OnOk result (code.new ≡ code.old ++ restat_code outputs.now) }
 {
     for output in outputs {
         code.push(Instr::Load(output.stamp))?;
@@ -103,8 +104,8 @@ pub(crate) fn push_restat(code: &mut Vec<Instr>, outputs: &[Output]) -> Result<(
 }
 
 /// Each output is as its file is, and that is all.
-pub(crate) fn push_alone(code: &mut Vec<Instr>, outputs: &[Output]) -> Result<(), AllocError>
-    ensures { OnOk result (code.new.items ≡ code.old.items ++ alone_code outputs.now) }
+pub(crate) fn push_alone(code: &mut Code, outputs: &[Output]) -> Result<(), AllocError>
+    ensures { OnOk result (code.new ≡ code.old ++ alone_code outputs.now) }
 {
     for output in outputs {
         code.push(Instr::Stat(output.file))?;

@@ -29,11 +29,11 @@ loop-number-preserved c =
     let named : slice_get ks n ≡ Some k = c.numbers_at-named.ensures in
     let ltn : n < length ns = omega (arith, lt, c.requires.long) in
     let at : slice_get ns n ≡ Some slot = slice_get_read ns (length ns) n slot refl ltn c.index.ensures in
-    let is : c.deref-in-loop-number.result.now ≡ code_of (wire_in (form_of x) k table slot x) =
-    c.deref-in-loop-number.ensures.value ∙ emitted_is (code_of (wire_in (form_of x) k c.deref.result.now slot x)) c.put_code.new.code.items c.in_ok-lists.ensures ∙ ap (λ (t : Table). code_of (wire_in (form_of x) k t slot x)) c.deref.ensures.value in
-    let bodies = bodies_step table ks ns xs n slot k x c.deref-in-loop-number.result.now c.loop-number.bodies c.push_edge.new.bodies _ named at here is c.in_ok-push_edge.ensures.bodies c.loop-number.invariant.0 in (
+    let is : c.put_code.new.code ≡ code_of (wire_in (form_of x) k table slot x) =
+    emitted_is (code_of (wire_in (form_of x) k c.deref.result.now slot x)) c.put_code.new.code c.in_ok-lists.ensures ∙ ap (λ (t : Table). code_of (wire_in (form_of x) k t slot x)) c.deref.ensures.value in
+    let bodies = bodies_step table ks ns xs n slot k x c.put_code.new.code c.loop-number.bodies c.push_edge.new.bodies _ named at here is c.in_ok-push_edge.ensures.bodies c.loop-number.invariant.0 in (
       bodies,
-      edges_step table ks ns xs n slot k x c.deref-in-loop-number.result.now c.loop-number.bodies c.push_edge.new.bodies _ c.loop-number.edges c.push_edge.new.edges _ named at here is
+      edges_step table ks ns xs n slot k x c.put_code.new.code c.loop-number.bodies c.push_edge.new.bodies _ c.loop-number.edges c.push_edge.new.edges _ named at here is
           c.in_ok-push_edge.ensures.bodies c.in_ok-push_edge.ensures.edges bodies c.loop-number.invariant.1,
       omega (arith, c.in_ok-push_edge.ensures.few, c.loop-number.invariant.2),
     )

@@ -3,4 +3,4 @@ use Rattle.plan_compile.specs.Emit.{order_code}
 use Rattle.plan_compile.proofs.inputs.push_order.Given as goal
 
 abbrev pub invariant-loop-file : goal.invariant-loop-file
-invariant-loop-file l = l.code.items ++ order_code (drop l.file-index l.files) ≡ l.fn.code.items ++ order_code l.files
+invariant-loop-file l = l.code ++ order_code (drop l.file-index l.files) ≡ l.fn.code ++ order_code l.files

@@ -1,4 +1,4 @@
-use Rattle.std.proofs.Common.{◌≡◌, List, ℕ, [], drop}
+use Rattle.std.proofs.Common.{◌≡◌, List, ℕ, drop}
 use Rattle.plan_compile.specs.OutputTable.{sources_in}
 use Rattle.plan_compile.proofs.lookups.are_made.Given as goal
 

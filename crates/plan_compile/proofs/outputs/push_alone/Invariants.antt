@@ -3,4 +3,4 @@ use Rattle.plan_compile.specs.Emit.{alone_code}
 use Rattle.plan_compile.proofs.outputs.push_alone.Given as goal
 
 abbrev pub invariant-loop-output : goal.invariant-loop-output
-invariant-loop-output l = l.code.items ++ alone_code (drop l.output-index l.outputs) ≡ l.fn.code.items ++ alone_code l.outputs
+invariant-loop-output l = l.code ++ alone_code (drop l.output-index l.outputs) ≡ l.fn.code ++ alone_code l.outputs

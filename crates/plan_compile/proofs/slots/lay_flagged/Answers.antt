@@ -1,4 +1,4 @@
-use Rattle.std.proofs.Common.{◌≡◌, ◌≤◌, ◌+◌, drop, length, arith}
+use Rattle.std.proofs.Common.{drop, arith}
 use Rattle.plan_compile.specs.Slots.{stamps}
 use Rattle.plan_compile.proofs.PlanLemmas.{room_left}
 use Rattle.plan_compile.proofs.slots.lay_flagged.Goals as goal

@@ -1,4 +1,4 @@
-use Rattle.std.proofs.Common.{◌+◌, ◌*◌, length, ap, arith}
+use Rattle.std.proofs.Common.{length, ap, arith}
 use Rattle.plan_compile.specs.declared.form.Form.{Form}
 use Rattle.plan_compile.specs.Slots.{kinds_by}
 use Rattle.plan_compile.proofs.PlanLemmas.{pairs_length, stamps_length}

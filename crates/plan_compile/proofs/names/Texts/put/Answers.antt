@@ -1,4 +1,4 @@
-use Rattle.std.proofs.Common.{◌≡◌, ◌∙◌, ◌≤◌, ◌+◌, List, ℕ, ap, sym, subst, arith, length, bytes_eq}
+use Rattle.std.proofs.Common.{◌≡◌, ◌∙◌, ◌≤◌, ◌+◌, List, ap, sym, subst, arith, length, bytes_eq}
 use Rattle.plan_compile.specs.declared.key.Key.{Key}
 use Rattle.plan_compile.specs.Names.{Text, text_number}
 use Rattle.plan_compile.specs.Numbering.{with_item}
