@@ -20,9 +20,11 @@ use Rattle.plan_machine.specs.Wanted.{any_outside}
 use Rattle.plan_lanes.specs.Boards.{AreNumbers, IsJournaled, IsKept, MayJournal}
 use Rattle.plan_lanes.specs.Journals.{Rule, IsLastOf}
 use Rattle.plan_lanes.specs.Progress.{Progress, progress}
+use Rattle.plan_lanes.specs.Telling.{telling}
 use Rattle.plan_lanes.proofs.JournalLemmas.{allowed_more, allowed_none, last_before, last_here}
 use Rattle.plan_lanes.proofs.ListLemmas.{get_other, get_set}
 use Rattle.plan_lanes.proofs.RunLemmas.{MovesAlone, moves_alone, reached_more}
+use Rattle.plan_lanes.proofs.TellingLemmas.{telling_append}
 
 -- no edge is under way at first
 none_active : (wanted : List Bool) (e : ℕ) (l : Local) → slice_get (map at_first wanted) e ≡ Some (Active l) → ⊥
@@ -39,7 +41,9 @@ kept_opened rule numbers p targets r journal marks opens state none bare all ins
     rw (none, bare) (record {
       inside = inside;
       journaled = record {
+        left = [];
         reached = record { start = r.going.now; opens = opens; run = refl };
+        kept = refl;
         allowed = allowed_none rule p r.going.limits targets;
       };
       numbered = λ e l active. absurd (none_active opens.wanted e l (subst (λ (s : List Status). slice_get s e ≡ Some (Active l)) opens.edges active));
@@ -56,7 +60,7 @@ pub record IsRecorded (rule : Rule) (numbers : List ℕ) (b : Progress) : Type 0
 
 -- a board one event later
 abbrev pub later_by : Progress → Event → Mark → State → Progress
-later_by b event told t = record { opened = b.opened; state = t; journal = b.journal ++ event ∷ []; marks = b.marks ++ told ∷ [] }
+later_by b event told t = record { opened = b.opened; state = t; journal = b.journal ++ event ∷ []; marks = b.marks ++ telling (told ∷ []) }
 
 module _ (rule : Rule) (numbers : List ℕ) (b : Progress) (event : Event) (told : Mark) (t : State) (kept : IsRecorded rule numbers b) (may : MayJournal rule b event)
     (is : step depfile b.opened.parts b.opened.limits b.state event ≡ Next t told) where
@@ -103,8 +107,10 @@ module _ (rule : Rule) (numbers : List ℕ) (b : Progress) (event : Event) (told
   recorded_more =
       record {
         journaled = record {
-          reached = reached_more depfile b.opened.parts b.opened.limits b.opened.targets b.journal b.marks b.state t event told kept.journaled.reached is;
-          allowed = allowed_more rule b.opened.parts b.opened.limits b.opened.targets b.journal event b.state b.marks kept.journaled.reached kept.journaled.allowed may;
+          left = kept.journaled.left ++ told ∷ [];
+          reached = reached_more depfile b.opened.parts b.opened.limits b.opened.targets b.journal kept.journaled.left b.state t event told kept.journaled.reached is;
+          kept = ap (λ (l : List Mark). l ++ telling (told ∷ [])) kept.journaled.kept ∙ sym (telling_append kept.journaled.left (told ∷ []));
+          allowed = allowed_more rule b.opened.parts b.opened.limits b.opened.targets b.journal event b.state kept.journaled.left kept.journaled.reached kept.journaled.allowed may;
         };
         numbered = numbered;
         all = length-set numbers (edge_of event) (length b.journal) ∙ kept.all;
@@ -132,8 +138,8 @@ kept_of rule numbers next b journal marks inside recorded limits state =
 -- a board that one event more was applied to
 pub kept_more : (rule : Rule) (numbers : List ℕ) (r next : Running) (b : Progress) (event : Event) (told : Mark) → IsKept rule numbers r b → MayJournal rule b event
     → r.going ≡ record { limits = b.opened.limits; now = b.state } → step depfile b.opened.parts b.opened.limits b.state event ≡ Next next.going.now told → next.going.limits ≡ r.going.limits → IsStateOf b.opened.parts next
-    → IsKept rule (slice_set numbers (edge_of event) (length b.journal)) next (progress b.opened.parts b.opened.targets next.going (b.journal ++ event ∷ []) (b.marks ++ told ∷ []))
+    → IsKept rule (slice_set numbers (edge_of event) (length b.journal)) next (progress b.opened.parts b.opened.targets next.going (b.journal ++ event ∷ []) (b.marks ++ telling (told ∷ [])))
 kept_more rule numbers r next b event told kept may going is limits state =
-    kept_of rule (slice_set numbers (edge_of event) (length b.journal)) next b (b.journal ++ event ∷ []) (b.marks ++ told ∷ []) kept.inside
+    kept_of rule (slice_set numbers (edge_of event) (length b.journal)) next b (b.journal ++ event ∷ []) (b.marks ++ telling (told ∷ [])) kept.inside
     (recorded_more rule numbers b event told next.going.now (recorded_of rule numbers r b kept going) may is)
     (limits ∙ ap (λ (g : Going). g.limits) going) state

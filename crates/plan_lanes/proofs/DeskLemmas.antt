@@ -1,5 +1,5 @@
 -- What lies under the lock keeps. Serves src/desk.rt and src/lanes.rt.
-use Rattle.std.proofs.Common.{◌≡◌, ℕ, List, [], ◌∷◌, ◌++◌, Option, Some, None, refl, sym, ap, subst, ◌∙◌}
+use Rattle.std.proofs.Common.{◌≡◌, ℕ, List, ◌++◌, Option, Some, None, refl, sym, ap, subst, ◌∙◌}
 use Rattle.std.specs.Prelude.{IfOk, OnErr, Result, Ok, Err}
 use Rattle.plan_image.specs.declared.image.Parts.{Parts}
 use Rattle.plan_machine.specs.declared.event.Event.{Event}
@@ -20,6 +20,7 @@ use Rattle.plan_lanes.specs.Journals.{Rule}
 use Rattle.plan_lanes.specs.Progress.{Opened, Progress}
 use Rattle.plan_lanes.specs.Reports.{IsRunOf}
 use Rattle.plan_lanes.specs.Rushes.{AppliesAll, GoesOn}
+use Rattle.plan_lanes.specs.Telling.{telling}
 use Rattle.plan_lanes.proofs.RushLemmas.{goes_none, goes_one, total_runs}
 
 -- ---- events more
@@ -27,7 +28,7 @@ use Rattle.plan_lanes.proofs.RushLemmas.{goes_none, goes_one, total_runs}
 shows_after : ShowingStays → (named : Option Feed) (old new : Progress) (events : List Event) (told : List Mark) (s : Showing) → AppliesAll old new events told → Shows named old s → Shows named new s
 shows_after stays named old new events told s h shows =
     let parts : old.opened.parts ≡ new.opened.parts = ap (λ (o : Opened). o.parts) (sym h.opened) in
-    let on : IsShowing old.opened.parts (old.marks ++ told) s = stays old.opened.parts old.marks told s shows.lines in
+    let on : IsShowing old.opened.parts (old.marks ++ telling told) s = stays old.opened.parts old.marks (telling told) s shows.lines in
     let marked : IsShowing old.opened.parts new.marks s = subst (λ (ms : List Mark). IsShowing old.opened.parts ms s) (sym h.marks) on in
     record {
       lines = subst (λ (p : Parts). IsShowing p new.marks s) parts marked;

@@ -2,6 +2,7 @@ mod AlikeLemmas
 mod ListLemmas
 mod RunLemmas
 mod JournalLemmas
+mod TellingLemmas
 mod BoardLemmas
 mod StepLemmas
 mod RushLemmas

@@ -83,9 +83,9 @@ fresh : Progress
 fresh = record { opened = record { parts = one; limits = record { jobs = 1; keep = 0 }; targets = 0 ∷ [] }; state = first; journal = []; marks = [] }
 
 later : Progress
-later = record { opened = record { parts = one; limits = record { jobs = 1; keep = 0 }; targets = 0 ∷ [] }; state = asking; journal = Start 0 ∷ Step 0 ∷ []; marks = mark.Started 0 ∷ mark.Asked 0 ∷ [] }
+later = record { opened = record { parts = one; limits = record { jobs = 1; keep = 0 }; targets = 0 ∷ [] }; state = asking; journal = Start 0 ∷ Step 0 ∷ []; marks = [] }
 
--- the edge starts and asks
+-- the edge starts and asks, of which nothing is told
 both_applied : AppliesAll fresh later (Start 0 ∷ Step 0 ∷ []) (mark.Started 0 ∷ mark.Asked 0 ∷ [])
 unfolding one first begun asking fresh later step turn
 both_applied = record { opened = refl; run = (begun, refl, (asking, refl, refl)); journal = refl; marks = refl }

@@ -1,5 +1,5 @@
 -- What a board keeps, many events of one edge later.
-use Rattle.std.proofs.Common.{◌≡◌, ◌<◌, ◌+◌, ◌-◌, ℕ, zero, suc, Bool, true, false, List, [], ◌∷◌, ◌++◌, length, length-append, refl, sym, ap, ◌∙◌, subst, arith}
+use Rattle.std.proofs.Common.{◌≡◌, ◌<◌, ◌-◌, ℕ, zero, suc, Bool, true, false, List, [], ◌∷◌, ◌++◌, length, length-append, refl, sym, ap, ◌∙◌, subst, arith}
 use Rattle.std.specs.Prelude.{◌==◌, ◌&&◌, not, IfOk, OnErr, Result, Ok, Err, slice_set}
 use Rattle.std.proofs.lemmas.Bool.{eqb-true}
 use Rattle.std.proofs.lemmas.List.{append-nil, append_assoc}
@@ -20,7 +20,6 @@ use Rattle.plan_machine.specs.Replaying.{RunsTo}
 use Rattle.plan_machine.specs.Runs.{Runs}
 use Rattle.plan_machine.specs.Rushes.{events_by, is_still, marks_by, rush_events, rush_marks, steps_of}
 use Rattle.plan_machine.specs.State.{State}
-use Rattle.plan_machine.specs.Step.{step}
 use Rattle.plan_machine.specs.Total.{total_of}
 use Rattle.plan_lanes.specs.declared.board.Advance.{Advance}
 use Rattle.plan_lanes.specs.declared.board.Advance.TheVariants.{Moved, Job, Wait, Ended}
@@ -29,10 +28,12 @@ use Rattle.plan_lanes.specs.Boards.{Applies, IsKept, MayJournal}
 use Rattle.plan_lanes.specs.Journals.{Rule}
 use Rattle.plan_lanes.specs.Progress.{Opened, Progress, progress}
 use Rattle.plan_lanes.specs.Rushes.{AppliesAll, GoesOn}
+use Rattle.plan_lanes.specs.Telling.{telling}
 use Rattle.plan_lanes.proofs.BoardLemmas.{IsRecorded, kept_of, later_by, recorded_more, recorded_of}
 use Rattle.plan_lanes.proofs.ListLemmas.{both_on}
 use Rattle.plan_lanes.proofs.RunLemmas.{total_stays}
 use Rattle.plan_lanes.proofs.StepLemmas.{own_may_journal}
+use Rattle.plan_lanes.proofs.TellingLemmas.{telling_append}
 
 -- ---- steps of an edge
 
@@ -64,7 +65,7 @@ set_again (z ∷ xs) (suc i) x y = ap (λ (l : List ℕ). z ∷ l) (set_again xs
 
 -- a board many events later
 abbrev pub after_all : Progress → List Event → List Mark → State → Progress
-after_all b events told t = record { opened = b.opened; state = t; journal = b.journal ++ events; marks = b.marks ++ told }
+after_all b events told t = record { opened = b.opened; state = t; journal = b.journal ++ events; marks = b.marks ++ telling told }
 
 last_place : (xs ys : List Event) (x : Event) → length xs ≡ length (xs ++ x ∷ []) - 1
 last_place xs ys x = omega (arith, length-append xs (x ∷ []))
@@ -90,9 +91,10 @@ module _ (rule : Rule) (e : ℕ) where
       subst (λ (f : ℕ). IsRecorded rule (slice_set numbers f (length b.journal)) mid) is (recorded_more rule numbers b x m run.0 kept may run.1) in
       let rest = recorded_all (slice_set numbers e (length b.journal)) mid y ys ms t one (subst (λ (z : Event). edge_of z ≡ e) (sym all.0) refl) (step_may rule mid e y all.0) all.1 run.2 in
       let events : (b.journal ++ x ∷ []) ++ y ∷ ys ≡ b.journal ++ x ∷ y ∷ ys = append_assoc b.journal (x ∷ []) (y ∷ ys) in
-      let marks : (b.marks ++ m ∷ []) ++ ms ≡ b.marks ++ m ∷ ms = append_assoc b.marks (m ∷ []) ms in
+      let marks : (b.marks ++ telling (m ∷ [])) ++ telling ms ≡ b.marks ++ telling (m ∷ ms) =
+      append_assoc b.marks (telling (m ∷ [])) (telling ms) ∙ ap (λ (l : List Mark). b.marks ++ l) (sym (telling_append (m ∷ []) ms)) in
       let joined : IsRecorded rule (slice_set (slice_set numbers e (length b.journal)) e (length (b.journal ++ x ∷ y ∷ ys) - 1)) (after_all b (x ∷ y ∷ ys) (m ∷ ms) t)
-      = subst (λ (l : List Event). IsRecorded rule (slice_set (slice_set numbers e (length b.journal)) e (length l - 1)) (record { opened = b.opened; state = t; journal = l; marks = b.marks ++ m ∷ ms })) events
+      = subst (λ (l : List Event). IsRecorded rule (slice_set (slice_set numbers e (length b.journal)) e (length l - 1)) (record { opened = b.opened; state = t; journal = l; marks = b.marks ++ telling (m ∷ ms) })) events
       (subst (λ (l : List Mark). IsRecorded rule (slice_set (slice_set numbers e (length b.journal)) e (length ((b.journal ++ x ∷ []) ++ y ∷ ys) - 1))
       (record { opened = b.opened; state = t; journal = (b.journal ++ x ∷ []) ++ y ∷ ys; marks = l })) marks rest) in
       subst (λ (ns : List ℕ). IsRecorded rule ns (after_all b (x ∷ y ∷ ys) (m ∷ ms) t)) (set_again numbers e (length b.journal) (length (b.journal ++ x ∷ y ∷ ys) - 1)) joined
@@ -100,10 +102,10 @@ module _ (rule : Rule) (e : ℕ) where
   -- a board with its books
   pub kept_all : (numbers : List ℕ) (r next : Running) (b : Progress) (x : Event) (xs : List Event) (ms : List Mark) → IsKept rule numbers r b → r.going ≡ record { limits = b.opened.limits; now = b.state }
       → edge_of x ≡ e → MayJournal rule b x → AreSteps e xs → RunsTo b.opened.parts r.going (x ∷ xs) ms next.going → IsStateOf b.opened.parts next
-      → IsKept rule (slice_set numbers e (length (b.journal ++ x ∷ xs) - 1)) next (progress b.opened.parts b.opened.targets next.going (b.journal ++ x ∷ xs) (b.marks ++ ms))
+      → IsKept rule (slice_set numbers e (length (b.journal ++ x ∷ xs) - 1)) next (progress b.opened.parts b.opened.targets next.going (b.journal ++ x ∷ xs) (b.marks ++ telling ms))
   kept_all numbers r next b x xs ms kept going is may all run state =
       let runs : Runs depfile b.opened.parts b.opened.limits b.state (x ∷ xs) ms next.going.now = subst (λ (g : Going). Runs depfile b.opened.parts g.limits g.now (x ∷ xs) ms next.going.now) going run.run in
-      kept_of rule (slice_set numbers e (length (b.journal ++ x ∷ xs) - 1)) next b (b.journal ++ x ∷ xs) (b.marks ++ ms) kept.inside
+      kept_of rule (slice_set numbers e (length (b.journal ++ x ∷ xs) - 1)) next b (b.journal ++ x ∷ xs) (b.marks ++ telling ms) kept.inside
       (recorded_all numbers b x xs ms next.going.now (recorded_of rule numbers r b kept going) is may all runs)
       (run.limits ∙ ap (λ (g : Going). g.limits) going) state
 
@@ -165,16 +167,16 @@ module _ (rule : Rule) (numbers : List ℕ) (p : Parts) (targets : List ℕ) (r 
       record { inside = k.inside; journaled = k.journaled; numbered = k.numbered; all = k.all; state = state }
 
   module _ (after : List ℕ) (longer : List Event) (more : List Mark) (put : after ≡ slice_set numbers e (length longer - 1)) where
-    joined : (x : Event) (xs : List Event) (ms : List Mark) → longer ≡ journal ++ x ∷ xs → more ≡ marks ++ ms → edge_of x ≡ e → MayJournal rule (progress p targets r.going journal marks) x → AreSteps e xs
+    joined : (x : Event) (xs : List Event) (ms : List Mark) → longer ≡ journal ++ x ∷ xs → more ≡ marks ++ telling ms → edge_of x ≡ e → MayJournal rule (progress p targets r.going journal marks) x → AreSteps e xs
         → RunsTo p r.going (x ∷ xs) ms next.going → IsKept rule after next (progress p targets next.going longer more)
     joined x xs ms events told is may all run =
         let whole = kept_all rule e numbers r next (progress p targets r.going journal marks) x xs ms kept refl is may all run state in
         subst (λ (ns : List ℕ). IsKept rule ns next (progress p targets next.going longer more)) (sym put)
         (subst (λ (l : List Mark). IsKept rule (slice_set numbers e (length longer - 1)) next (progress p targets next.going longer l)) (sym told)
-        (subst (λ (l : List Event). IsKept rule (slice_set numbers e (length l - 1)) next (progress p targets next.going l (marks ++ ms))) (sym events) whole))
+        (subst (λ (l : List Event). IsKept rule (slice_set numbers e (length l - 1)) next (progress p targets next.going l (marks ++ telling ms))) (sym events) whole))
 
     -- where steps were made
-    pub kept_rushed : longer ≡ journal ++ rush_events e rush → more ≡ marks ++ rush_marks e rush → RunsTo p r.going (rush_events e rush) (rush_marks e rush) next.going → is_still rush ≡ false
+    pub kept_rushed : longer ≡ journal ++ rush_events e rush → more ≡ marks ++ telling (rush_marks e rush) → RunsTo p r.going (rush_events e rush) (rush_marks e rush) next.going → is_still rush ≡ false
         → IsKept rule after next (progress p targets next.going longer more)
     kept_rushed events told run moved =
         let first = rush_cons e rush moved in
@@ -183,13 +185,13 @@ module _ (rule : Rule) (numbers : List ℕ) (p : Parts) (targets : List ℕ) (r 
         (subst (λ (l : List Event). RunsTo p r.going l (rush_marks e rush) next.going) first.1 run)
 
     -- behind a reply
-    pub kept_followed : (reply : Reply) (told : Mark) → longer ≡ journal ++ Hear e reply ∷ rush_events e rush → more ≡ marks ++ told ∷ rush_marks e rush → MayJournal rule (progress p targets r.going journal marks) (Hear e reply)
+    pub kept_followed : (reply : Reply) (told : Mark) → longer ≡ journal ++ Hear e reply ∷ rush_events e rush → more ≡ marks ++ telling (told ∷ rush_marks e rush) → MayJournal rule (progress p targets r.going journal marks) (Hear e reply)
         → RunsTo p r.going (Hear e reply ∷ rush_events e rush) (told ∷ rush_marks e rush) next.going → IsKept rule after next (progress p targets next.going longer more)
     kept_followed reply told events also may run = joined (Hear e reply) (rush_events e rush) (told ∷ rush_marks e rush) events also refl may (rush_steps e rush) run
 
 -- what a board did whose fields were these
 pub all_so : (p : Parts) (targets : List ℕ) (r next : Going) (journal longer : List Event) (marks more : List Mark) (b : Progress) (xs : List Event) (ms : List Mark) → progress p targets r journal marks ≡ b
-    → RunsTo p r xs ms next → longer ≡ journal ++ xs → more ≡ marks ++ ms → AppliesAll b (progress p targets next longer more) xs ms
+    → RunsTo p r xs ms next → longer ≡ journal ++ xs → more ≡ marks ++ telling ms → AppliesAll b (progress p targets next longer more) xs ms
 all_so p targets r next journal longer marks more b xs ms same run events told =
     subst (λ (w : Progress). AppliesAll w (progress p targets next longer more) xs ms) same
     (record {
@@ -207,7 +209,7 @@ pub still_so : (p : Parts) (targets : List ℕ) (r next : Going) (journal : List
 still_so p targets r next journal marks b e rush same run still =
     let none = rush_none e rush still in
     all_so p targets r next journal journal marks marks b (rush_events e rush) (rush_marks e rush) same run
-    (sym (append-nil journal) ∙ ap (λ (l : List Event). journal ++ l) (sym none.0)) (sym (append-nil marks) ∙ ap (λ (l : List Mark). marks ++ l) (sym none.1))
+    (sym (append-nil journal) ∙ ap (λ (l : List Event). journal ++ l) (sym none.0)) (sym (append-nil marks) ∙ ap (λ (l : List Mark). marks ++ telling l) (sym none.1))
 
 -- one behind a list, and a list behind that
 pub one_and_all : {X : Type 0} (a b c xs : List X) (x : X) → b ≡ a ++ x ∷ [] → c ≡ b ++ xs → c ≡ a ++ x ∷ xs
@@ -243,6 +245,20 @@ goes_none old new same =
         marks = ap (λ (b : Progress). b.marks) same ∙ sym (append-nil old.marks);
       };
     }
+
+-- a rush that was still changed nothing
+pub still_stays : (old new : Progress) (e : ℕ) (r : Rush) → AppliesAll old new (rush_events e r) (rush_marks e r) → is_still r ≡ true → new ≡ old
+still_stays old new e r h still =
+    let none = rush_none e r still in
+    let all : AppliesAll old new [] [] = subst (λ (l : List Mark). AppliesAll old new [] l) none.1 (subst (λ (l : List Event). AppliesAll old new l (rush_marks e r)) none.0 h) in
+    let stays : old.state ≡ new.state = all.run in
+    ap (λ (o : Opened). so o new.state new.journal new.marks) all.opened
+    ∙ ap (λ (s : State). so old.opened s new.journal new.marks) (sym stays)
+    ∙ ap (λ (l : List Event). so old.opened old.state l new.marks) (all.journal ∙ append-nil old.journal)
+    ∙ ap (λ (l : List Mark). so old.opened old.state old.journal l) (all.marks ∙ append-nil old.marks)
+  where
+    so : Opened → State → List Event → List Mark → Progress
+    so o s events marks = record { opened = o; state = s; journal = events; marks = marks }
 
 pub goes_advanced : (old new : Progress) (a : Advance) → Advances old new a → GoesOn old new
 goes_advanced old new Moved h = goes_one old new h.0 h.1.mark h.1.applies

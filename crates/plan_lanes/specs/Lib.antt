@@ -2,6 +2,7 @@ pub mod Questions
 pub mod Alike
 pub mod Journals
 pub mod Progress
+pub mod Telling
 pub mod Boards
 pub mod Advances
 pub mod Reports

@@ -13,7 +13,7 @@ pub record Opened : Type 0 where
   pub limits : Limits
   pub targets : List ℕ
 
--- and how far it is: its state, its events and their marks
+-- and how far it is: its state, its events, and those of their marks that tell of something
 pub record Progress : Type 0 where
   pub opened : Opened
   pub state : State

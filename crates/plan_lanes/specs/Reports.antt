@@ -1,8 +1,9 @@
 -- What a report says.
-use Rattle.std.specs.Prelude.{◌≡◌, ◌≢◌, ◌≤◌, ◌+◌, false, length}
+use Rattle.std.specs.Prelude.{◌≡◌, ◌≢◌, ◌≤◌, ◌+◌, List, false, length}
 use Rattle.plan_verify.specs.Budget.{image_budget}
 use Rattle.plan_verify.specs.Turn.{Flaw}
 use Rattle.plan_machine.specs.declared.event.Event.{Event}
+use Rattle.plan_machine.specs.declared.mark.Mark.{Mark}
 use Rattle.plan_machine.specs.Depfile.{depfile}
 use Rattle.plan_machine.specs.InBudget.{all_bytes}
 use Rattle.plan_machine.specs.Kept.{IsStateOf}
@@ -13,12 +14,16 @@ use Rattle.plan_machine.specs.Wanted.{any_outside}
 use Rattle.plan_lanes.specs.declared.board.Report.{Report}
 use Rattle.plan_lanes.specs.Journals.{Rule, IsAllowed}
 use Rattle.plan_lanes.specs.Progress.{Opened}
+use Rattle.plan_lanes.specs.Telling.{telling}
 
 pub record IsRunOf (rule : Rule) (o : Opened) (r : Report) : Type 0 where
   -- the targets are edges of the image
   pub inside : any_outside o.parts o.targets ≡ false
-  -- the journal runs from the opening state of this image, these options and targets to the reported state with the reported marks
-  pub reached : Reached depfile o.parts o.limits o.targets r.journal r.marks.items r.state.going.now
+  -- the journal runs from the opening state of this image, these options and targets to the reported state, and leaves these marks
+  pub left : List Mark
+  pub reached : Reached depfile o.parts o.limits o.targets r.journal left r.state.going.now
+  -- of which those are reported that tell of something
+  pub marks : r.marks.items ≡ telling left
   -- each reply in it is one that the rule allows for its question
   pub allowed : IsAllowed rule o.parts o.limits o.targets r.journal
   -- the state is one of this image, with these options
@@ -26,5 +31,5 @@ pub record IsRunOf (rule : Rule) (o : Opened) (r : Report) : Type 0 where
   pub limits : r.state.going.limits ≡ o.limits
   -- what the machine's laws say of such a run: no event of the state can go wrong, the marks are orderly, and there are no more events than the image's budget and the bytes of dependencies
   pub safe : (event : Event) (flaw : Flaw) → step depfile o.parts o.limits r.state.going.now event ≢ Wrong flaw
-  pub orderly : IsOrderly o.parts o.limits r.marks.items
+  pub orderly : IsOrderly o.parts o.limits left
   pub bounded : length r.journal ≤ image_budget o.parts + all_bytes r.journal

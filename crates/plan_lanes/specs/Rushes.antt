@@ -9,13 +9,14 @@ use Rattle.plan_machine.specs.Depfile.{depfile}
 use Rattle.plan_machine.specs.Runs.{Runs}
 use Rattle.plan_machine.specs.Rushes.{rush_events, rush_marks}
 use Rattle.plan_lanes.specs.Progress.{Progress}
+use Rattle.plan_lanes.specs.Telling.{telling}
 
--- events were applied, one after another, and are journaled with their marks
+-- events were applied, one after another, and are journaled, with those of their marks that tell of something
 pub record AppliesAll (old new : Progress) (events : List Event) (told : List Mark) : Type 0 where
   pub opened : new.opened ≡ old.opened
   pub run : Runs depfile old.opened.parts old.opened.limits old.state events told new.state
   pub journal : new.journal ≡ old.journal ++ events
-  pub marks : new.marks ≡ old.marks ++ told
+  pub marks : new.marks ≡ old.marks ++ telling told
 
 -- an edge rushed
 abbrev pub Rushes : Progress → Progress → ℕ → Rush → Type 0

@@ -22,6 +22,7 @@ ghost use Rattle.plan_lanes.specs.Reports.{IsRunOf};
 mod rushing;
 
 use crate::asked::{Asked, Question};
+use crate::telling::keep;
 use crate::world::{Permit, World};
 use plan_journal::{Diary, Journal};
 use plan_machine::{
@@ -45,7 +46,8 @@ pub enum Advance {
     Ended,
 }
 
-/// The state of a run, its events and their marks.
+/// The state of a run, its events, and those of their marks that tell of something: how an edge came out, and that it took
+/// or gave back a place. Status lines tell of no others.
 #[derive(Drop)]
 pub struct Report {
     pub state: State,
@@ -148,7 +150,7 @@ impl<'v, W: World> Board<'v, W> {
         self.image
     }
 
-    /// The marks of the events so far.
+    /// The marks of the events so far, as a report has them.
     pub fn marks(&self) -> &[Mark]
         ensures { result.now ≡ self.now.marks }
     {
@@ -162,7 +164,7 @@ impl<'v, W: World> Board<'v, W> {
         self.state.total()
     }
 
-    /// Applies one event and journals it with its mark. A refusal changes nothing.
+    /// Applies one event and journals it, with its mark where that tells of something. A refusal changes nothing.
     fn record(&mut self, event: Event) -> Result<Mark, Refused>
         requires { MayJournal W.allows self.old event }
         ensures ok { IfOk result (λ m. Applies self.old self.new event m) }
@@ -177,7 +179,7 @@ impl<'v, W: World> Board<'v, W> {
         match self.state.apply(self.image, event) {
             Ok(mark) => {
                 put(&mut self.numbers, edge as usize, number);
-                self.marks.push_reserved(mark);
+                keep(&mut self.marks, mark);
                 Ok(mark)
             }
             Err(refused) => {
@@ -306,7 +308,7 @@ impl<'v, W: World> Board<'v, W> {
         self.record(Event::Reply(edge, reply))
     }
 
-    /// The run so far: its state, its events and their marks. It takes no memory.
+    /// The run so far. It takes no memory.
     pub fn into_report(self) -> Report
         ensures same { (result.state.going.now ≡ self.entry.state) × (result.journal ≡ self.entry.journal) × (result.marks.items ≡ self.entry.marks) }
         ensures run { IsRunOf W.allows self.entry.opened result }

@@ -1,77 +1,52 @@
 //! Many events of one edge at once.
 
-ghost use Rattle.std.specs.Prelude.{◌≡◌, ◌≢◌, ◌≤◌, ◌+◌, ◌++◌, ◌∷◌, [], IfErr, IfOk, IfSome, OnErr, vec_capacity, vec_len};
+ghost use Rattle.std.specs.Prelude.{◌≡◌, IfOk, IfSome, OnErr};
 ghost use Rattle.plan_machine.specs.declared.event.Event.TheVariants.{Reply as Hear};
-ghost use Rattle.plan_machine.specs.Rushes.{moves_of, rush_marks};
 ghost use Rattle.plan_lanes.specs.Boards.{IsOpen, MayJournal};
 ghost use Rattle.plan_lanes.specs.Questions.{shown};
 ghost use Rattle.plan_lanes.specs.Rushes.{Follows, GoesOn, Rushes};
 
 use super::{Advance, Board, put};
 use crate::asked::{Asked, Question};
+use crate::telling::keep;
 use crate::world::World;
-use plan_machine::{Event, Mark, Refused, Reply, Rush};
+use plan_machine::{Event, Refused, Reply, Rush};
 use std::alloc::AllocError;
 
 /// Room for the events of a reply and a rush.
 const ROOM: usize = 66;
 
-/// Puts so many marks of steps that asked nothing behind others.
-fn push_moves(marks: &mut Vec<Mark>, edge: u32, count: u32)
-    requires { vec_len marks.old + count ≤ vec_capacity marks.old }
-    ensures items { marks.new.items ≡ marks.old.items ++ moves_of edge count }
-    ensures len { vec_len marks.new ≡ vec_len marks.old + count }
-    ensures capacity { vec_capacity marks.new ≡ vec_capacity marks.old }
-{
-    for _turn in 0..count {
-        marks.push_reserved(Mark::Moved(edge));
-    }
-}
-
-/// Puts the marks of a rush behind others.
-fn push_marks(marks: &mut Vec<Mark>, edge: u32, rush: Rush)
-    requires { vec_len marks.old + rush.steps + 1 ≤ vec_capacity marks.old }
-    ensures { marks.new.items ≡ marks.old.items ++ rush_marks edge rush }
-{
-    push_moves(marks, edge, rush.steps);
-    if rush.asked {
-        marks.push_reserved(Mark::Asked(edge));
-    }
-}
-
 impl<'v, W: World> Board<'v, W> {
-    /// Lets an edge rush, and journals its steps with their marks.
+    /// Lets an edge rush, and journals its steps, whose marks tell of nothing.
     fn record_rush(&mut self, edge: u32) -> Result<Rush, Refused>
         ensures ok { IfOk result (λ r. Rushes self.old self.new edge r) }
         ensures err { OnErr result (self.new ≡ self.old) }
     {
-        self.marks.reserve(ROOM)?;
         self.diary.reserve(ROOM)?;
         let rush = self.state.rush(self.image, edge);
         if rush.is_still() {
             return Ok(rush);
         }
         self.diary.push_steps(edge, rush.count());
-        push_marks(&mut self.marks, edge, rush);
         let number = self.diary.len() - 1;
         put(&mut self.numbers, edge as usize, number as u64);
         Ok(rush)
     }
 
-    /// Applies a reply, lets its edge rush, and journals all that with its marks. A refusal changes nothing.
+    /// Applies a reply, lets its edge rush, and journals all that, with the mark of the reply where it tells of something. A
+    /// refusal changes nothing.
     fn record_reply(&mut self, edge: u32, reply: Reply) -> Result<Rush, Refused>
         requires { MayJournal W.allows self.old (Hear edge reply) }
         ensures ok { IfOk result (λ r. Follows self.old self.new edge reply r) }
         ensures err { OnErr result (self.new ≡ self.old) }
     {
-        self.marks.reserve(ROOM)?;
+        self.marks.reserve(1)?;
         self.diary.reserve(ROOM)?;
         self.diary.push_heard(edge, &reply)?;
         match self.state.follow(self.image, edge, reply) {
             Ok((mark, rush)) => {
                 self.diary.push_steps(edge, rush.count());
-                self.marks.push_reserved(mark);
-                push_marks(&mut self.marks, edge, rush);
+                keep(&mut self.marks, mark);
                 let number = self.diary.len() - 1;
                 put(&mut self.numbers, edge as usize, number as u64);
                 Ok(rush)
@@ -142,10 +117,10 @@ impl<'v, W: World> Board<'v, W> {
         if rush.asked {
             return self.ask_of(rooms, edge);
         }
-        if rush.steps > 0 {
-            return Ok(Advance::Moved);
+        if rush.is_still() {
+            return self.advance_in(rooms);
         }
-        self.advance_in(rooms)
+        Ok(Advance::Moved)
     }
 
     /// The question of an edge that asked.
