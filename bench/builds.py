@@ -2,9 +2,10 @@
 """Times `plan_ninja run` beside ninja, in the same rounds, at -j 4: builds from nothing, and with nothing to do.
 
 A tree has so many objects, each of a source and 21 headers that its depfile names, and a library for every hundred; a
-command only makes its output, its depfile lies there before. Then a thousand times `true`. The image is compiled
-before; how long that takes is printed beside. The words name numbers of objects (1000 10000 without any). Printed are
-medians of seven rounds that take turns. It is no test and asserts nothing.
+command only makes its output, its depfile lies there before. Then 1,000 and 10,000 times `true`. The image is compiled
+before; how long that takes is printed beside. The words name numbers of objects (1000 10000 without any), and by
+OBJECTSxHEADERS another number of headers, 1000x200. Printed are medians of seven rounds that take turns. It is no test
+and asserts nothing.
 """
 import pathlib
 import shutil
@@ -29,12 +30,12 @@ rule ar
 """
 
 
-def headers_of(number: int) -> list[str]:
-    return [f"include/h{(number * 37 + step * 251) % HEADERS}.h" for step in range(OF_EACH)]
+def headers_of(number: int, each: int) -> list[str]:
+    return [f"include/h{(number * 37 + step * 251) % HEADERS}.h" for step in range(each)]
 
 
-def written(count: int, folder: pathlib.Path) -> None:
-    """A tree of so many objects."""
+def written(count: int, folder: pathlib.Path, each: int = OF_EACH) -> None:
+    """A tree of so many objects, of so many headers each."""
     for part in range(count // LIBRARY + 1):
         (folder / f"src/p{part}").mkdir(parents=True)
         (folder / f"out/p{part}").mkdir(parents=True)
@@ -45,7 +46,7 @@ def written(count: int, folder: pathlib.Path) -> None:
     for number in range(count):
         name = f"p{number // LIBRARY}/f{number}"
         (folder / f"src/{name}.c").touch()
-        (folder / f"out/{name}.o.d").write_text(f"out/{name}.o: src/{name}.c {' '.join(headers_of(number))}\n")
+        (folder / f"out/{name}.o.d").write_text(f"out/{name}.o: src/{name}.c {' '.join(headers_of(number, each))}\n")
         lines.append(f"build out/{name}.o: cc src/{name}.c\n")
     for part in range(0, count, LIBRARY):
         numbers = range(part, min(part + LIBRARY, count))
@@ -78,38 +79,45 @@ def rounds(ours: list[str], theirs: list[str], folders: Sequence[pathlib.Path], 
     return median([run[0] for run in runs]), median([run[1] for run in runs])
 
 
-def bench(program: str, ninja: str, count: int) -> None:
+def bench(program: str, ninja: str, count: int, each: int) -> None:
+    objects = f"{count} objects" if each == OF_EACH else f"{count} of {each} headers"
     with tempfile.TemporaryDirectory() as name:
         folders = pathlib.Path(name) / "ours", pathlib.Path(name) / "theirs"
         for folder in folders:
             folder.mkdir()
-            written(count, folder)
+            written(count, folder, each)
         made = measured([program, "compile", "build.ninja", "-o", "plan.img"], folders[0])
-        print(f"{count} objects: compiled in {made.seconds:.3f} s")
+        print(f"{objects}: compiled in {made.seconds:.3f} s")
         ours, theirs = [program, "run", "plan.img", "-j", "4"], [ninja, "-j", "4"]
-        show(f"{count} objects, first build", *rounds(ours, theirs, folders, 1))
-        show(f"{count} objects, nothing to do", *rounds(ours, theirs, folders, ROUNDS))
+        show(f"{objects}, first build", *rounds(ours, theirs, folders, 1))
+        show(f"{objects}, nothing to do", *rounds(ours, theirs, folders, ROUNDS))
         (folders[0] / "include/h0.h").touch()
         (folders[1] / "include/h0.h").touch()
-        show(f"{count} objects, a header changed", *rounds(ours, theirs, folders, 1))
+        show(f"{objects}, a header changed", *rounds(ours, theirs, folders, 1))
+
+
+def bench_truths(program: str, ninja: str, count: int) -> None:
+    with tempfile.TemporaryDirectory() as name:
+        folder = pathlib.Path(name)
+        truths(count, folder)
+        measured([program, "compile", "build.ninja", "-o", "plan.img"], folder)
+        ours, theirs = [program, "run", "plan.img", "-j", "4"], [ninja, "-j", "4"]
+        show(f"{count} times `true`", *rounds(ours, theirs, [folder, folder], ROUNDS))
 
 
 def main() -> None:
     parser = programs.arguments(__doc__)
-    parser.add_argument("counts", metavar="COUNT", nargs="*", type=int, default=[1_000, 10_000])
+    parser.add_argument("trees", metavar="OBJECTS[xHEADERS]", nargs="*", default=["1000", "10000"])
     asked = parser.parse_args()
     ninja = shutil.which("ninja")
     if ninja is None:
         sys.exit("no ninja")
     print(f"{'':32} {'plan_ninja':>10} {'ninja':>10} {'ratio':>6}   {'plan_ninja':>12} {'ninja':>12} {'ratio':>6}")
-    for count in asked.counts:
-        bench(asked.program, ninja, count)
-    with tempfile.TemporaryDirectory() as name:
-        folder = pathlib.Path(name)
-        truths(1_000, folder)
-        measured([asked.program, "compile", "build.ninja", "-o", "plan.img"], folder)
-        ours, theirs = [asked.program, "run", "plan.img", "-j", "4"], [ninja, "-j", "4"]
-        show("1000 times `true`", *rounds(ours, theirs, [folder, folder], ROUNDS))
+    for tree in asked.trees:
+        count, _, each = tree.partition("x")
+        bench(asked.program, ninja, int(count), int(each or OF_EACH))
+    for count in 1_000, 10_000:
+        bench_truths(asked.program, ninja, count)
 
 
 if __name__ == "__main__":

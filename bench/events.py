@@ -4,8 +4,9 @@
 The tree is that of builds.py, built once. Printed are how many events such a run has (the lines of its trace), wall
 time, processor's time and peak memory of `run` at -j 1 and at -j 4, without a trace, and of `replay` of the trace, all
 the least of five; and the processor's time for one event: of `run` all of it; of `replay` less that of a replay which
-reads the same trace and is refused at its first event. `beside` is the peak less the image, journal and marks: of an
-event 5 bytes and 16, of a stamp 8 more. The word is the number of objects. It is no test and asserts nothing.
+reads the same trace and is refused at its first event. `beside` is the peak less the image and the report: of an event
+of `run` 5 bytes and of a stamp 8 more, of an event of `replay` 24 in its list and 16 of its mark. The word is the
+number of objects. It is no test and asserts nothing.
 """
 import os
 import pathlib
@@ -72,9 +73,10 @@ def main() -> None:
         measured([*run, "1", "--trace", "trace"], folder, WHOLE)
         events, stamps = counted(folder / "trace")
         refused(folder / "trace", folder / "refused")
-        report = (21 * events + 8 * stamps) / MEBIBYTE
+        report, replayed_report = (5 * events + 8 * stamps) / MEBIBYTE, 40 * events / MEBIBYTE
         image = os.path.getsize(folder / "plan.img") / MEBIBYTE
-        print(f"{events} events, {stamps} of them stamps; report {report:.1f} MiB, image {image:.1f} MiB")
+        print(f"{events} events, {stamps} of them stamps; image {image:.1f} MiB, "
+              f"report {report:.1f}, of replay {replayed_report:.1f}")
         for lanes in ("1", "4"):
             ran = least([*run, lanes], folder)
             show(f"run -j {lanes}", ran, events, 0.0, ran.mebibytes - report - image)
@@ -82,7 +84,8 @@ def main() -> None:
         replayed = least([program, "replay", "plan.img", "trace"], folder)
         print(f"{'trace read':12} {read.seconds:8.3f} s, {read.processor:8.3f} s of a processor; "
               f"{read.mebibytes:8.1f} MiB")
-        show("replay", replayed, events, read.processor, replayed.mebibytes - report - image)
+        beside = replayed.mebibytes - replayed_report - image
+        show("replay", replayed, events, read.processor, beside)
 
 
 if __name__ == "__main__":
