@@ -130,6 +130,7 @@ install: all
 .PHONY: bench
 bench: built
 	python3 bench/run.py $(PROGRAM)
+	python3 bench/compiling.py $(PROGRAM)
 	python3 bench/hostile.py $(PROGRAM)
 	python3 bench/images.py $(PROGRAM)
 	python3 bench/builds.py $(PROGRAM)
