@@ -12,7 +12,7 @@ use std::alloc::{AllocError, Global};
 use std::marker::Model;
 
 /// Appends an instruction that a body fixes.
-#[inline]
+#[inline(always)]
 fn put_fixed(key: &mut Vec<u64>, instr: Instr) -> Result<(), AllocError>
     ensures key { OnOk result (key.new.items ≡ key.old.items ++ member_number (member.Fixed instr) ∷ []) }
     ensures small { IsSmall (member_number (member.Fixed instr)) }
@@ -22,7 +22,7 @@ fn put_fixed(key: &mut Vec<u64>, instr: Instr) -> Result<(), AllocError>
 }
 
 /// Appends an instruction that a body leaves open, and its operand.
-#[inline]
+#[inline(always)]
 fn put_open(
     key: &mut Vec<u64>,
     operands: &mut Vec<u32>,
@@ -39,7 +39,7 @@ fn put_open(
 }
 
 /// Appends what a body has of an instruction, and its operand where that is left open.
-#[inline]
+#[inline(always)]
 fn put(key: &mut Vec<u64>, operands: &mut Vec<u32>, instr: Instr) -> Result<(), AllocError>
     ensures key { OnOk result (key.new.items ≡ key.old.items ++ member_number (leave_open instr) ∷ []) }
     ensures operands { OnOk result (operands.new.items ≡ operands.old.items ++ open_operand instr) }
@@ -125,7 +125,7 @@ impl Code {
     }
 
     /// Appends an instruction. A code that there is no memory for is emptied.
-    #[inline]
+    #[inline(always)]
     pub(crate) fn push(&mut self, instr: Instr) -> Result<(), AllocError>
         ensures { OnOk result (self.new ≡ self.old ++ instr ∷ []) }
     {

@@ -9,6 +9,7 @@ ghost use Rattle.plan_compile.specs.BodyKeys.{fixed_numbers, IsSmall, member_at,
 use plan_image::{BodyInstr, Instr, Opening};
 
 /// The number of an instruction's sort, and its operand.
+#[inline(always)]
 fn fixed_numbers(instr: Instr) -> (u32, u32)
     ensures numbers { result ≡ fixed_numbers instr }
     ensures few { result.0 < 64 }
@@ -48,6 +49,7 @@ fn fixed_numbers(instr: Instr) -> (u32, u32)
 }
 
 /// The number of what an open instruction is.
+#[inline(always)]
 const fn opening_number(opening: Opening) -> u32
     ensures number { result ≡ opening_number opening }
     ensures few { result < 64 }
@@ -62,6 +64,7 @@ const fn opening_number(opening: Opening) -> u32
 }
 
 /// A sort and an operand as one number: the sort has the last six bits.
+#[inline(always)]
 fn joined(sort: u32, operand: u32) -> u64
     requires { sort < 64 }
     ensures number { result ≡ operand * 64 + sort }
@@ -71,6 +74,7 @@ fn joined(sort: u32, operand: u32) -> u64
 }
 
 /// The number of an instruction that a body fixes.
+#[inline(always)]
 pub(crate) fn fixed_number(instr: Instr) -> u64
     ensures number { result ≡ member_number (member.Fixed instr) }
     ensures small { IsSmall result }
@@ -80,6 +84,7 @@ pub(crate) fn fixed_number(instr: Instr) -> u64
 }
 
 /// The number of an instruction that a body leaves open.
+#[inline(always)]
 pub(crate) fn open_number(opening: Opening) -> u64
     ensures number { result ≡ member_number (member.Open opening) }
     ensures small { IsSmall result }
