@@ -1,3 +1,4 @@
 mod AnswerLemmas
 mod PathLemmas
+mod RecordingLemmas
 mod Rows

@@ -3,3 +3,4 @@ pub mod Begun
 pub mod Depfiles
 pub mod Shells
 pub mod Stamps
+pub mod Recording

@@ -1,6 +1,8 @@
 //! Commands, run by a shell.
 
-ghost use Rattle.std.specs.Prelude.{◌≡◌, IfOk, Some, slice_get};
+ghost use Rattle.std.specs.Prelude.{◌≡◌, ◌++◌, IfErr, IfOk, Ok, OnOk, Some, slice_get};
+ghost use Rattle.std.specs.Io.KnownBytes.{Appends};
+ghost use Rattle.plan_machine.specs.declared.reply.Reply.TheVariants.{NotStarted};
 ghost use Rattle.plan_verify.specs.Turn.{Run};
 ghost use Rattle.plan_world.specs.Answers.{IsAnswer};
 ghost use Rattle.plan_world.specs.Shells.{IsShellOf, ending};
@@ -38,6 +40,29 @@ fn how_ended(code: Option<i32>) -> Reply
     }
 }
 
+/// What is replied of a command that a shell was to run.
+fn replied(ended: io::Result<Option<i32>>) -> Result<Reply, AllocError>
+    ensures run { IfOk ended (λ code. result ≡ Ok (ending code)) }
+    ensures not { IfErr ended (λ _. IfOk result (λ r. r ≡ NotStarted)) }
+{
+    match ended {
+        Ok(code) => Ok(how_ended(code)),
+        Err(error) => match error.kind() {
+            ErrorKind::OutOfMemory => Err(AllocError),
+            _ => Ok(Reply::NotStarted),
+        },
+    }
+}
+
+/// Writes what a command printed, its standard output in front.
+fn write_printed<W: Write>(out: &mut W, printed: &Output) -> io::Result<()>
+    ensures { OnOk result (Appends (W.contents out.old) (W.contents out.new) (printed.now.stdout.items ++ printed.now.stderr.items)) }
+{
+    out.write_all(&printed.stdout)?;
+    out.write_all(&printed.stderr)?;
+    out.flush()
+}
+
 /// Writes what a command printed, its standard output in front, to this program's. The screen is locked meanwhile, so
 /// that no other command's output comes between. A write that fails is passed over: the status lines that come behind
 /// fail as well, and tell.
@@ -47,9 +72,7 @@ fn show<R: Print + Wait>(rt: &R, screen: &Mutex<()>, printed: &Output) {
     }
     let guard = screen.lock(rt);
     let mut out = io::writer(rt);
-    let _ = out.write_all(&printed.stdout);
-    let _ = out.write_all(&printed.stderr);
-    let _ = out.flush();
+    let _ = write_printed(&mut out, printed);
     drop(guard);
 }
 
@@ -123,11 +146,5 @@ pub(crate) fn run_shell<R: Processes + Print + Wait + AllocGlobal>(
     } else {
         run_aside(rt, screen, &mut shell)
     };
-    match ended {
-        Ok(code) => Ok(how_ended(code)),
-        Err(error) => match error.kind() {
-            ErrorKind::OutOfMemory => Err(AllocError),
-            _ => Ok(Reply::NotStarted),
-        },
-    }
+    replied(ended)
 }

@@ -1,20 +1,22 @@
 //! The world of real files and commands.
 
-ghost use Rattle.std.specs.Prelude.{◌≡◌, IfOk};
-ghost use Rattle.plan_verify.specs.Turn.{Recall, Run};
+ghost use Rattle.std.specs.Prelude.{◌≡◌, IfOk, IfSome};
+ghost use Rattle.plan_verify.specs.Turn.{Keep, Recall, Run};
 ghost use Rattle.plan_world.specs.Answers.{IsAnswer};
+ghost use Rattle.plan_world.specs.Recording.{edge_entry};
 
 use crate::depfile::read_depfile;
 use crate::fault::{DeviceFault, OpenFault};
-use crate::record_file::{RecordFile, open_record};
-use crate::recorded::{entry_of, recorded_of};
+use crate::record_file::{Kept, RecordFile, open_record};
+use crate::recorded::recorded_of;
 use crate::shell::{make_folders, run_shell};
 use crate::stamp::stat;
 use plan_lanes::{Permit, World};
 use plan_machine::Reply;
+use plan_record::Entry;
 use plan_text::RowList;
 use plan_verify::PathList;
-use std::alloc::AllocError;
+use std::alloc::{AllocError, Global};
 use std::fs::OpenFile;
 use std::io::{Read, Seek, Write};
 use std::process::Processes;
@@ -101,29 +103,50 @@ where
         }
     }
 
-    /// Appends an entry to the record.
-    fn append(
+    /// Appends the entry of an edge that ran to the record.
+    fn append<'a>(
         &self,
-        output: &[u8],
-        command: &[u8],
+        output: &'a [u8],
+        command: &'a [u8],
         basis: u64,
-        paths: &PathList,
-    ) -> Result<(), DeviceFault> {
+        paths: &'a PathList,
+    ) -> Result<Kept<'a>, DeviceFault>
+        ensures { IfOk result (λ k. k ≡ edge_entry output.now command.now basis paths.now) }
+    {
         let alloc = self.rt.alloc();
-        let entry = entry_of(alloc, output, command, basis, paths)?;
-        self.record.lock(&self.rt).keep(alloc, entry)
+        self.record
+            .lock(&self.rt)
+            .keep_edge(alloc, output, command, basis, paths)
     }
 
     /// The last entry of an output.
-    fn last(&self, output: &[u8]) -> Result<Reply, DeviceFault>
-        ensures { IfOk result (λ r. IsAnswer (Recall output.now) r) }
+    fn last(&self, output: &[u8]) -> Result<Option<Entry>, DeviceFault>
+        ensures { IfOk result (λ found. IfSome found (λ e. e.output ≡ output.now)) }
     {
-        let found = match self.record.lock(&self.rt).last(output) {
-            Some(entry) => entry.copy()?,
-            None => return Ok(Reply::Nothing),
-        };
-        Ok(Reply::Entry(recorded_of(self.rt.alloc(), &found)?))
+        match self.record.lock(&self.rt).last(output) {
+            Some(entry) => Ok(Some(entry.copy()?)),
+            None => Ok(None),
+        }
     }
+}
+
+/// What the record has for an output.
+fn recalled(alloc: Global, output: &[u8], found: Option<Entry>) -> Result<Reply, DeviceFault>
+    requires { IfSome found (λ e. e.output ≡ output.now) }
+    ensures { IfOk result (λ r. IsAnswer (Recall output.now) r) }
+{
+    match found {
+        Some(entry) => Ok(Reply::Entry(recorded_of(alloc, &entry)?)),
+        None => Ok(Reply::Nothing),
+    }
+}
+
+/// That the record has the entry of an edge.
+fn told(kept: Kept<'_>, output: &[u8], command: &[u8], basis: u64, paths: &PathList) -> Reply
+    requires { kept ≡ edge_entry output.now command.now basis paths.now }
+    ensures { IsAnswer (Keep output.now command.now basis paths.now) result }
+{
+    Reply::Kept
 }
 
 /// Replies by `IsAnswer`: their sort suits the question. What a file or a command does is no matter of a contract.
@@ -140,7 +163,11 @@ where
     }
 
     fn recall(&self, _number: u64, output: &[u8]) -> Result<Reply, AllocError> {
-        match self.last(output) {
+        let recalled = match self.last(output) {
+            Ok(found) => recalled(self.rt.alloc(), output, found),
+            Err(fault) => Err(fault),
+        };
+        match recalled {
             Ok(reply) => Ok(reply),
             Err(DeviceFault::Memory) => Err(AllocError),
             Err(DeviceFault::Device) => Ok(Reply::Fault),
@@ -172,7 +199,7 @@ where
         paths: &PathList,
     ) -> Result<Reply, AllocError> {
         match self.append(output, command, basis, paths) {
-            Ok(()) => Ok(Reply::Kept),
+            Ok(kept) => Ok(told(kept, output, command, basis, paths)),
             Err(DeviceFault::Memory) => Err(AllocError),
             Err(DeviceFault::Device) => Ok(Reply::Fault),
         }

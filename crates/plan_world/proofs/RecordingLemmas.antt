@@ -1,0 +1,31 @@
+-- What is kept of the record's file. Serves src/record_file.rt.
+use Rattle.std.proofs.Common.{◌≡◌, refl, ◌+◌, ℕ, Bool, true, false, List, [], ◌∷◌, ◌++◌, Option, Some, None, IfSome, length, option_map, ap, sym, subst, ◌∙◌, bytes_eq, length-append, length-take-le, if◌then◌else◌}
+use Rattle.std.specs.List.{flat_map}
+use Rattle.std.proofs.lemmas.List.{flat_map_more}
+use Rattle.std.proofs.lemmas.Slice.Eq.{bytes_eq-Decides}
+use Rattle.plan_record.specs.Entries.{EntryData, IsGoodFront, last_of, or_later, spelling}
+
+-- one entry more makes the front longer by its spelling
+pub one_more_spelled : (xs : List EntryData) (x : EntryData) → length (flat_map spelling (xs ++ x ∷ [])) ≡ length (flat_map spelling xs) + length (spelling x)
+one_more_spelled xs x = ap length (sym (flat_map_more spelling [] xs x)) ∙ length-append (flat_map spelling xs) (spelling x)
+
+-- the good front of a file is as long as the spellings of its entries
+pub front_spelled : (file : List ℕ) (entries : List EntryData) (len : ℕ) → IsGoodFront file entries len → len ≡ length (flat_map spelling entries)
+front_spelled file entries len h = sym (length-take-le len file h.whole.within) ∙ ap length h.whole.spelled
+
+-- ---- whose entry is recalled
+
+later_of : (output : List ℕ) (x : EntryData) (b : Bool) (later : Option EntryData) → bytes_eq x.output output ≡ b
+    → IfSome later (λ e. e.output ≡ output) → IfSome (or_later (if b then Some x else None) later) (λ e. e.output ≡ output)
+later_of output x b (Some y) same h = h
+later_of output x true None same h = (bytes_eq-Decides x.output output).0 same
+later_of output x false None same h = tt
+
+last_is_of : (output : List ℕ) (xs : List EntryData) → IfSome (last_of output xs) (λ e. e.output ≡ output)
+last_is_of output [] = tt
+last_is_of output (x ∷ xs) = later_of output x (bytes_eq x.output output) (last_of output xs) refl (last_is_of output xs)
+
+pub found_is_of : {R : Type 0} (entry : R → EntryData) (output : List ℕ) (xs : List EntryData) (found : Option R) → option_map entry found ≡ last_of output xs
+    → IfSome found (λ r. (entry r).output ≡ output)
+found_is_of entry output xs (Some r) same = subst (λ (e : Option EntryData). IfSome e (λ y. y.output ≡ output)) (sym same) (last_is_of output xs)
+found_is_of entry output xs None same = tt
