@@ -6,6 +6,8 @@ use Rattle.plan_machine.specs.Wanted.{any_outside}
 use Rattle.plan_lanes.specs.declared.board.Report.{Report}
 use Rattle.plan_lanes.specs.declared.fault.LaneFault.{LaneFault}
 use Rattle.plan_lanes.specs.declared.fault.LaneFault.TheVariants.{Opening, NotEnabled, NoMemory, NoLane, OtherBoard}
+use Rattle.plan_lanes.specs.declared.desk.Stopped.{Stopped}
+use Rattle.plan_lanes.specs.declared.desk.Stopped.TheVariants as stopped
 use Rattle.plan_lanes.specs.Journals.{Rule}
 use Rattle.plan_lanes.specs.Progress.{Opened}
 use Rattle.plan_lanes.specs.Reports.{IsRunOf}
@@ -27,6 +29,13 @@ report_of (NotEnabled r) = Some r
 report_of (NoMemory r) = Some r
 report_of (NoLane r) = Some r
 report_of (OtherBoard r) = Some r
+
+-- the fault of a run that hasn't ended, by why its lanes stopped
+abbrev pub fault_of : Stopped → Report → LaneFault
+fault_of stopped.No r = OtherBoard r
+fault_of stopped.Memory r = NoMemory r
+fault_of stopped.Unfit r = NotEnabled r
+fault_of stopped.NoLane r = NoLane r
 
 abbrev pub number_of : LaneFault → ℕ
 number_of (Opening refusal) = refusal_number refusal

@@ -284,6 +284,7 @@ impl<'v, W: World> Board<'v, W> {
         ensures ok { IfOk result (λ m. Applies self.old self.new (Hear edge reply) m × IsOpen self.old edge question.number (shown question.request)) }
         ensures err { OnErr result (self.new ≡ self.old) }
         ensures refused { IfErr result (λ r. r ≡ Refused.NotEnabled → IsOpen self.old edge question.number (shown question.request) → step depfile self.old.opened.parts self.old.opened.limits self.old.state (Hear edge reply) ≡ NotEnabled) }
+        ensures memory { IfErr result (λ r. r ≡ Refused.Memory → IsOpen self.old edge question.number (shown question.request)) }
         ensures inside { IfErr result (λ r. r ≢ Refused.BadTarget) }
     {
         self.answer_to(edge, &question, reply)
@@ -300,6 +301,7 @@ impl<'v, W: World> Board<'v, W> {
         ensures ok { IfOk result (λ m. Applies self.old self.new (Hear edge reply) m × IsOpen self.old edge question.now.number (shown question.now.request)) }
         ensures err { OnErr result (self.new ≡ self.old) }
         ensures refused { IfErr result (λ r. r ≡ Refused.NotEnabled → IsOpen self.old edge question.now.number (shown question.now.request) → step depfile self.old.opened.parts self.old.opened.limits self.old.state (Hear edge reply) ≡ NotEnabled) }
+        ensures memory { IfErr result (λ r. r ≡ Refused.Memory → IsOpen self.old edge question.now.number (shown question.now.request)) }
         ensures inside { IfErr result (λ r. r ≢ Refused.BadTarget) }
     {
         if !self.is_open(edge, question) {

@@ -1,11 +1,11 @@
 //! Lanes: threads that share one run.
 
-ghost use Rattle.std.specs.Prelude.{◌≡◌, IfErr, IfOk, IfSome, Some, is_some, true};
+ghost use Rattle.std.specs.Prelude.{◌≡◌, IfErr, IfOk, IfSome, OnOk, Some, is_some, true};
 ghost use Rattle.plan_image.specs.declared.image.Parts.{Parts as Image};
 ghost use Rattle.plan_machine.specs.Kept.{IsStateOf};
 ghost use Rattle.plan_machine.specs.State.{has_ended};
 ghost use Rattle.plan_lanes.specs.Desks.{IsDesk, IsLeft};
-ghost use Rattle.plan_lanes.specs.Faults.{FaultReports, report_of};
+ghost use Rattle.plan_lanes.specs.Faults.{FaultReports, fault_of, report_of};
 ghost use Rattle.plan_lanes.specs.Progress.{Opened};
 ghost use Rattle.plan_lanes.specs.Reports.{IsRunOf};
 
@@ -83,7 +83,9 @@ pub fn run_lanes<W: World + Send + Sync, R: Threads + Wait + Sync>(
 pub(crate) fn judged(report: Report, stopped: Stopped) -> Result<Report, LaneFault>
     ensures ok { IfOk result (λ r. r ≡ report) }
     ensures ended { (p : Image) → IsStateOf p report.state → IfOk result (λ r. has_ended r.state.going.now ≡ true) }
+    ensures well { OnOk result (stopped ≡ Stopped.No) }
     ensures fault { IfErr result (λ f. report_of f ≡ Some report) }
+    ensures cause { IfErr result (λ f. f ≡ fault_of stopped report) }
 {
     match stopped {
         Stopped::NoLane => return Err(LaneFault::NoLane(report)),

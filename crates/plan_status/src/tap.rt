@@ -2,6 +2,7 @@
 
 ghost use Rattle.std.specs.Prelude.{◌≡◌, ◌++◌, ℕ, List, Option, IfOk};
 ghost use Rattle.std.specs.Result.{result_err};
+ghost use Rattle.rtrb.specs.Ring.{producer_capacity};
 ghost use Rattle.plan_status.specs.Lines.{lines_of};
 ghost use Rattle.plan_status.specs.Live.{AreEnds, IsFed, IsUntapped, IsUnused, SameTap, received_text, sent_text};
 ghost use Rattle.plan_status.specs.Printing.{Prints};
@@ -33,6 +34,7 @@ pub struct Tap {
 pub fn live(alloc: Global, capacity: usize) -> Result<(Feed, Tap), AllocError>
     ensures ends { IfOk result (λ r. AreEnds r.0 r.1) }
     ensures begin { IfOk result (λ r. IsUnused r.0 × IsUntapped r.1) }
+    ensures room { IfOk result (λ r. producer_capacity r.0.ring ≡ capacity) }
 {
     let (producer, consumer) = RingBuffer::new(alloc, capacity)?;
     let feed = Feed {

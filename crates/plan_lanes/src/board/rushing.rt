@@ -1,7 +1,8 @@
 //! Many events of one edge at once.
 
-ghost use Rattle.std.specs.Prelude.{◌≡◌, IfOk, IfSome, OnErr};
+ghost use Rattle.std.specs.Prelude.{◌≡◌, IfOk, IfSome, None, OnErr};
 ghost use Rattle.plan_machine.specs.declared.event.Event.TheVariants.{Reply as Hear};
+ghost use Rattle.plan_machine.specs.Requests.{asked_at};
 ghost use Rattle.plan_lanes.specs.Boards.{IsOpen, MayJournal};
 ghost use Rattle.plan_lanes.specs.Questions.{shown};
 ghost use Rattle.plan_lanes.specs.Rushes.{Follows, GoesOn, Rushes};
@@ -81,7 +82,8 @@ impl<'v, W: World> Board<'v, W> {
         rooms: &mut Vec<Vec<u8>>,
         edge: u32,
     ) -> Result<Option<Question>, AllocError>
-        ensures { IfOk result (λ found. IfSome found (λ q. IsOpen self.now edge q.number (shown q.request))) }
+        ensures open { IfOk result (λ found. IfSome found (λ q. IsOpen self.now edge q.number (shown q.request))) }
+        ensures none { IfOk result (λ found. found ≡ None → asked_at self.now.opened.parts self.now.state edge ≡ None) }
     {
         let Some(request) = self.state.request(self.image, edge) else {
             return Ok(None);
