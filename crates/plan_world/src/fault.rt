@@ -36,24 +36,45 @@ pub(crate) enum DeviceFault {
 }
 
 impl From<AllocError> for DeviceFault {
+    ghost use Rattle.std.specs.Prelude.{◌≡◌};
+    ghost use Rattle.plan_world.specs.declared.fault.DeviceFault.TheVariants.{Memory};
+
+    ghost from_gives = { λ _ e. e ≡ Memory };
+
     fn from(_fault: AllocError) -> DeviceFault {
         DeviceFault::Memory
     }
 }
 
 impl<T: Drop> From<AllocFailed<T>> for DeviceFault {
+    ghost use Rattle.std.specs.Prelude.{◌≡◌};
+    ghost use Rattle.plan_world.specs.declared.fault.DeviceFault.TheVariants.{Memory};
+
+    ghost from_gives = { λ _ e. e ≡ Memory };
+
     fn from(_fault: AllocFailed<T>) -> DeviceFault {
         DeviceFault::Memory
     }
 }
 
 impl From<NoMemory> for DeviceFault {
+    ghost use Rattle.std.specs.Prelude.{◌≡◌};
+    ghost use Rattle.plan_world.specs.declared.fault.DeviceFault.TheVariants.{Memory};
+
+    ghost from_gives = { λ _ e. e ≡ Memory };
+
     fn from(_fault: NoMemory) -> DeviceFault {
         DeviceFault::Memory
     }
 }
 
 impl From<EntryFault> for DeviceFault {
+    ghost use Rattle.std.specs.Prelude.{◌≡◌, ◌≢◌};
+    ghost use Rattle.plan_record.specs.declared.fault.EntryFault.TheVariants as entry;
+    ghost use Rattle.plan_world.specs.declared.fault.DeviceFault.TheVariants.{Device};
+
+    ghost from_gives = { λ x e. e ≡ Device → x ≢ entry.Memory };
+
     fn from(fault: EntryFault) -> DeviceFault {
         match fault {
             EntryFault::OutsideLimits => DeviceFault::Device,

@@ -1,6 +1,6 @@
 //! The record's file as a sink, with its good front.
 
-ghost use Rattle.std.specs.Prelude.{◌≡◌, ◌≤◌, ◌<◌, ◌+◌, false, true, IfOk, OnErr, OnOk, length};
+ghost use Rattle.std.specs.Prelude.{◌≡◌, ◌≤◌, ◌<◌, ◌+◌, false, true, IfErr, IfOk, OnErr, OnOk, length};
 ghost use Rattle.std.specs.Io.KnownBytes.{Appends};
 ghost use Rattle.plan_record.specs.Appending.{AppendsSpelling};
 ghost use Rattle.plan_record.specs.Entries.{spelling};
@@ -15,7 +15,8 @@ use std::io::{Seek, SeekFrom, Write};
 
 /// The bytes of an entry's spelling.
 fn bytes_of(alloc: Global, entry: &Entry) -> Result<Vec<u8>, DeviceFault>
-    ensures { IfOk result (λ bytes. bytes.items ≡ spelling entry.now) }
+    ensures bytes { IfOk result (λ bytes. bytes.items ≡ spelling entry.now) }
+    ensures memory { IfErr result (λ f. f ≡ DeviceFault.Memory) }
 {
     let mut sink = Counted::new(Vec::new(alloc));
     match append(entry, &mut sink) {

@@ -1,7 +1,9 @@
 //! Entries of the record, as the machine and the record have them.
 
-ghost use Rattle.std.specs.Prelude.{◌≡◌, ◌++◌, IfOk, OnErr};
+ghost use Rattle.std.specs.Prelude.{◌≡◌, ◌++◌, IfErr, IfOk, OnErr};
+ghost use Rattle.plan_record.specs.Entries.{HasSpelling};
 ghost use Rattle.plan_world.specs.Begun.{begun};
+ghost use Rattle.plan_world.specs.Recording.{edge_entry};
 
 use crate::fault::DeviceFault;
 use plan_machine::Recorded;
@@ -31,7 +33,8 @@ fn rows_of(alloc: Global, paths: Paths) -> Result<RowList<u8>, AllocError>
 
 /// What an entry says, but for its output.
 pub(crate) fn recorded_of(alloc: Global, entry: &Entry) -> Result<Recorded, DeviceFault>
-    ensures { IfOk result (λ r. r ≡ record { command = entry.now.command; basis = entry.now.basis; paths = entry.now.paths }) }
+    ensures said { IfOk result (λ r. r ≡ record { command = entry.now.command; basis = entry.now.basis; paths = entry.now.paths }) }
+    ensures memory { IfErr result (λ f. f ≡ DeviceFault.Memory) }
 {
     let command = Words::of(alloc, entry.command())?;
     let paths = PathList::new(alloc, rows_of(alloc, entry.paths()?)?)?;
@@ -57,7 +60,8 @@ pub(crate) fn entry_of(
     basis: u64,
     paths: &PathList,
 ) -> Result<Entry, DeviceFault>
-    ensures { IfOk result (λ entry. entry ≡ record { output = output.now; command = command.now; basis = basis; paths = paths.now }) }
+    ensures made { IfOk result (λ entry. entry ≡ edge_entry output.now command.now basis paths.now) }
+    ensures outside { IfErr result (λ f. f ≡ DeviceFault.Device → HasSpelling (edge_entry output.now command.now basis paths.now) → ⊥) }
 {
     let paths = items_of(alloc, paths)?;
     Ok(Entry::new(alloc, output, command, basis, &paths)?)
@@ -65,7 +69,8 @@ pub(crate) fn entry_of(
 
 /// The entry of an edge whose command is about to start.
 pub(crate) fn begun_entry(alloc: Global, output: &[u8]) -> Result<Entry, DeviceFault>
-    ensures { IfOk result (λ entry. entry ≡ begun output.now) }
+    ensures made { IfOk result (λ entry. entry ≡ begun output.now) }
+    ensures outside { IfErr result (λ f. f ≡ DeviceFault.Device → HasSpelling (begun output.now) → ⊥) }
 {
     let mut paths = Vec::new(alloc);
     paths.push(Items::new(Vec::from_slice(alloc, &MISSING)?))?;
