@@ -31,13 +31,21 @@ fn rows_of(alloc: Global, paths: Paths) -> Result<RowList<u8>, AllocError>
     Ok(rows)
 }
 
+/// The same, with no more room than they take: a run keeps them to its end.
+fn exact_rows_of(alloc: Global, paths: Paths) -> Result<RowList<u8>, AllocError>
+    ensures { IfOk result (λ rows. rows ≡ paths) }
+{
+    let rows = rows_of(alloc, paths)?;
+    rows.copy(alloc)
+}
+
 /// What an entry says, but for its output.
 pub(crate) fn recorded_of(alloc: Global, entry: &Entry) -> Result<Recorded, DeviceFault>
     ensures said { IfOk result (λ r. r ≡ record { command = entry.now.command; basis = entry.now.basis; paths = entry.now.paths }) }
     ensures memory { IfErr result (λ f. f ≡ DeviceFault.Memory) }
 {
     let command = Words::of(alloc, entry.command())?;
-    let paths = PathList::new(alloc, rows_of(alloc, entry.paths()?)?)?;
+    let paths = PathList::new(alloc, exact_rows_of(alloc, entry.paths()?)?)?;
     Ok(Recorded::new(alloc, command, entry.basis(), paths)?)
 }
 
