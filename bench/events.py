@@ -4,9 +4,10 @@
 The tree is that of builds.py, built once. Printed are how many events such a run has (the lines of its trace), wall
 time, processor's time and peak memory of `run` at -j 1 and at -j 4, without a trace, and of `replay` of the trace, all
 the least of five; and the processor's time for one event: of `run` all of it; of `replay` less that of a replay which
-reads the same trace and is refused at its first event. `beside` is the peak less the image and the report: of an event
-of `run` 5 bytes and of a stamp 8 more, of an event of `replay` 24 in its list and 16 of its mark. The word is the
-number of objects. It is no test and asserts nothing.
+reads the same trace and is refused at its first event. `beside` is the peak less the image and the report (of an event
+of `run` 5 bytes and of a stamp 8 more, of an event of `replay` 24 in its list and 16 of its mark), and of `replay` less
+the text of the trace too, which it holds while it reads. The word is the number of objects. It is no test and asserts
+nothing.
 """
 import os
 import pathlib
@@ -75,7 +76,8 @@ def main() -> None:
         refused(folder / "trace", folder / "refused")
         report, replayed_report = (5 * events + 8 * stamps) / MEBIBYTE, 40 * events / MEBIBYTE
         image = os.path.getsize(folder / "plan.img") / MEBIBYTE
-        print(f"{events} events, {stamps} of them stamps; image {image:.1f} MiB, "
+        trace = os.path.getsize(folder / "trace") / MEBIBYTE
+        print(f"{events} events, {stamps} of them stamps; image {image:.1f} MiB, trace {trace:.1f}, "
               f"report {report:.1f}, of replay {replayed_report:.1f}")
         for lanes in ("1", "4"):
             ran = least([*run, lanes], folder)
@@ -84,7 +86,7 @@ def main() -> None:
         replayed = least([program, "replay", "plan.img", "trace"], folder)
         print(f"{'trace read':12} {read.seconds:8.3f} s, {read.processor:8.3f} s of a processor; "
               f"{read.mebibytes:8.1f} MiB")
-        beside = replayed.mebibytes - replayed_report - image
+        beside = replayed.mebibytes - replayed_report - image - trace
         show("replay", replayed, events, read.processor, beside)
 
 
