@@ -107,7 +107,7 @@ CRATES = $(notdir $(wildcard crates/*))
 .PHONY: edits
 edits: kit
 	python3 tests/edits.py $(CRATES)
-	python3 tests/wrong_bodies.py
+	python3 tests/wrong_bodies.py $(CRATES)
 
 # Refuses each allocation of the calls of depfiles and records, in a program that is proved first.
 .PHONY: refusals

@@ -3,8 +3,9 @@
 
 They say nothing wrong and are of no use: lanes that work one after another, or that never begin. Such an edit names, in
 its line `tests:`, a crate of tests and one of its tests. On a copy of the tree the test has to pass (`rt try`, which
-proves nothing), and has to fail once the edit is made. The last line is `N passed, M failed`. Half a minute each.
+proves nothing), and has to fail once the edit is made. The last line is `N passed, M failed`. A minute each.
 """
+import argparse
 import pathlib
 import shutil
 import subprocess
@@ -53,11 +54,16 @@ def refused(edit: Edit, home: pathlib.Path) -> bool:
 
 
 def main() -> None:
+    parser = argparse.ArgumentParser(description=__doc__, formatter_class=argparse.RawDescriptionHelpFormatter)
+    parser.add_argument("crates", metavar="CRATE", nargs="*", help="whose wrong bodies (of all crates without any)")
+    asked = parser.parse_args()
+    edits = sorted((ROOT / "tests" / "wrong_bodies").glob("*/*.edit"))
+    edits = [path for path in edits if not asked.crates or path.parent.name in asked.crates]
     passed = failed = 0
     with tempfile.TemporaryDirectory() as folder:
         home = pathlib.Path(folder) / "tree"
         shutil.copytree(ROOT, home, ignore=shutil.ignore_patterns(".git", "out"))
-        for path in sorted((ROOT / "tests" / "wrong_bodies").glob("*/*.edit")):
+        for path in edits:
             print(path.relative_to(ROOT), flush=True)
             if refused(read(path), home):
                 passed += 1
