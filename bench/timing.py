@@ -1,4 +1,5 @@
 """Runs a program under a limit of time, and measures it; and what the benches share of tests/."""
+import os
 import pathlib
 import shutil
 import subprocess
@@ -31,13 +32,13 @@ class Run(NamedTuple):
         return self.status == OVER
 
 
-def measured(words: Sequence[str], folder: pathlib.Path, limit: int = LIMIT) -> Run:
-    """One run of a program, whose output is thrown away, of at most so many seconds."""
-    with tempfile.NamedTemporaryFile("r") as peak:
+def measured(words: Sequence[str], folder: pathlib.Path, limit: int = LIMIT, output: str = os.devnull) -> Run:
+    """One run of a program, of at most so many seconds; its output is thrown away, or goes to a file of the folder."""
+    with tempfile.NamedTemporaryFile("r") as peak, (folder / output).open("wb") as out:
         before = [TIME, "-q", "-f", "%M %U %S", "-o", peak.name] if TIME else []
         null = subprocess.DEVNULL
         begun = time.monotonic()
-        done = subprocess.run([*before, "timeout", str(limit), *words], cwd=folder, stdout=null, stderr=null)
+        done = subprocess.run([*before, "timeout", str(limit), *words], cwd=folder, stdout=out, stderr=null)
         seconds = time.monotonic() - begun
         kibibytes, user, system = map(float, peak.read().split()) if TIME else (0.0, 0.0, 0.0)
         return Run(seconds, kibibytes / 1024, done.returncode, user + system)

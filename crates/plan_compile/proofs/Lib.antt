@@ -35,6 +35,7 @@ mod BodyTableLemmas
 mod AssembleLemmas
 mod FitLemmas
 mod RefusalLemmas
+mod SpellingLemmas
 mod NameLemmas
 mod MatchLemmas
 mod CodeLemmas

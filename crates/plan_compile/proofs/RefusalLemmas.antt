@@ -1,4 +1,4 @@
--- Why an image has no spelling.
+-- Which limit an image passes.
 use Rattle.std.proofs.Common.{◌≡◌, ℕ, zero, suc, ◌<◌, ◌≤◌, true, false, List, [], ◌∷◌, length, map, Some, refl, sym, ap, subst, ◌∙◌, arith, inl, inr}
 use Rattle.std.specs.Prelude.{◌||◌, slice_get}
 use Rattle.std.specs.List.{list_any, AllByRecursion}
@@ -11,15 +11,15 @@ use Rattle.plan_image.specs.declared.fault.ImageFault.{ImageFault}
 use Rattle.plan_image.specs.declared.image.Parts.{Parts}
 use Rattle.plan_image.specs.Bodies.{body_of}
 use Rattle.plan_image.specs.Refusal.{IsPartsFault, over_limit, out_of_order, unfilled}
-use Rattle.plan_image.specs.Spelling.{BodyFits, HasSpelling}
+use Rattle.plan_image.specs.Spelling.{BodyFits, HasSpelling, IsWithinLimits}
 use Rattle.plan_compile.specs.declared.fault.CompileFault.{CompileFault}
 use Rattle.plan_compile.specs.declared.fault.CompileFault.TheVariants.{Limit, Memory}
 use Rattle.plan_compile.specs.BodyKeys.{Body, same_body}
-use Rattle.plan_compile.specs.Builds.{Builds, builds}
+use Rattle.plan_compile.specs.Builds.{Build, Builds, builds}
 use Rattle.plan_compile.specs.Images.{codes, compiled, image_of, used_bodies}
 use Rattle.plan_compile.specs.Names.{declared, used_pools}
 use Rattle.plan_compile.specs.Numbering.{number}
-use Rattle.plan_compile.specs.Refusals.{IsRefused, RefusesEdges, is_too_long}
+use Rattle.plan_compile.specs.Refusals.{IsRefused, RefusesCodes, RefusesEdges, is_too_long}
 use Rattle.plan_compile.specs.Slots.{slot_count, slots_from}
 use Rattle.plan_compile.proofs.BodyKeyLemmas.{bodies_decide}
 use Rattle.plan_compile.proofs.BuildLemmas.{map_long}
@@ -27,29 +27,30 @@ use Rattle.plan_compile.proofs.ListLemmas.{some_is}
 use Rattle.plan_compile.proofs.NumberingLemmas.{found}
 use Rattle.plan_compile.proofs.PlanLemmas.{slots_length}
 
--- ---- what has no spelling
+-- ---- what passes a limit
 
-pub not_spelled : (p : Parts) (fault : ImageFault) → IsPartsFault p fault → HasSpelling p → ⊥
-not_spelled p fault (over_limit h) spelled = h spelled.limits
-not_spelled p fault (out_of_order w h) spelled = h spelled.order
-not_spelled p fault (unfilled w o h) spelled = h spelled.filled
+-- tables that are refused do, where else they have a spelling
+pub passes_limit : (p : Parts) (fault : ImageFault) → (IsWithinLimits p → HasSpelling p) → IsPartsFault p fault → IsWithinLimits p → ⊥
+passes_limit p fault spelled (over_limit h) within = h within
+passes_limit p fault spelled (out_of_order w h) within = h (spelled within).order
+passes_limit p fault spelled (unfilled w o h) within = h (spelled within).filled
 
-pub many_files : (m : Manifest) (g : Graph) → 4194304 < length g.files → HasSpelling (compiled m g) → ⊥
-many_files m g many spelled =
+pub many_files : (m : Manifest) (g : Graph) → 4194304 < length g.files → IsWithinLimits (compiled m g) → ⊥
+many_files m g many within =
     let same : length (paths_in g.files) ≡ length g.files = map_long (λ x. x.0) g.files in
-    let few : length (paths_in g.files) ≤ 4194304 = spelled.limits.counts.files in
+    let few : length (paths_in g.files) ≤ 4194304 = within.counts.files in
     omega (arith, same, few, many)
 
-pub many_pools : (t : Builds) → 4096 < length (used_pools t.edges) → HasSpelling (image_of t) → ⊥
-many_pools t many spelled =
+pub many_pools : (t : Builds) → 4096 < length (used_pools t.edges) → IsWithinLimits (image_of t) → ⊥
+many_pools t many within =
     let same : length (map (declared t.pools) (used_pools t.edges)) ≡ length (used_pools t.edges) = map_long (declared t.pools) (used_pools t.edges) in
-    let few : length (map (declared t.pools) (used_pools t.edges)) ≤ 4096 = spelled.limits.counts.pools in
+    let few : length (map (declared t.pools) (used_pools t.edges)) ≤ 4096 = within.counts.pools in
     omega (arith, same, few, many)
 
-many_slots : (t : Builds) → 16777216 < slot_count t.edges → HasSpelling (image_of t) → ⊥
-many_slots t many spelled =
+many_slots : (t : Builds) → 16777216 < slot_count t.edges → IsWithinLimits (image_of t) → ⊥
+many_slots t many within =
     let same : length (slots_from zero t.edges) ≡ slot_count t.edges = slots_length zero t.edges in
-    let few : length (slots_from zero t.edges) ≤ 16777216 = spelled.limits.counts.slots in
+    let few : length (slots_from zero t.edges) ≤ 16777216 = within.counts.slots in
     omega (arith, same, few, many)
 
 -- ---- codes that are too long
@@ -74,17 +75,22 @@ of_each [] k b h at = absurd cc
 of_each (c ∷ bs) zero b h at = subst BodyFits (some_is c b at) h.0
 of_each (c ∷ bs) (suc k) b h at = of_each bs k b h.1 at
 
-long_bodies : (t : Builds) → list_any is_too_long (codes t.edges) ≡ true → HasSpelling (image_of t) → ⊥
-long_bodies t h spelled =
+long_bodies : (t : Builds) → list_any is_too_long (codes t.edges) ≡ true → IsWithinLimits (image_of t) → ⊥
+long_bodies t h within =
     let c = long_code (codes t.edges) h in
     let there = found same_body bodies_decide (map body_of (codes t.edges)) c.0 (body_of c.1) (body_there (codes t.edges) c.0 c.1 c.2) in
-    let fits : BodyFits (body_of c.1) = of_each (used_bodies (codes t.edges)) (number same_body (body_of c.1) (used_bodies (codes t.edges))) (body_of c.1) spelled.limits.bodies.each there in
+    let fits : BodyFits (body_of c.1) = of_each (used_bodies (codes t.edges)) (number same_body (body_of c.1) (used_bodies (codes t.edges))) (body_of c.1) within.bodies.each there in
     let short : length (body_of c.1) ≤ 65536 = fits.0 in
     let same : length (body_of c.1) ≡ length c.1 = body_length c.1 in
     let long : 65536 < length c.1 = ltb-true 65536 (length c.1) c.3 in
     omega (arith, short, same, long)
 
-pub edges_refused : (m : Manifest) (g : Graph) (fault : CompileFault) (cs : List (List Instr)) → cs ≡ codes (builds m g).edges → RefusesEdges fault (builds m g).edges cs → IsRefused m g fault
-edges_refused m g Memory cs same h = tt
-edges_refused m g Limit cs same h =
+pub edges_refused : (m : Manifest) (g : Graph) (fault : CompileFault) (cs : List (List Instr)) → length g.files ≤ 4194304 → cs ≡ codes (builds m g).edges
+    → RefusesEdges fault (builds m g).edges cs → IsRefused m g fault
+edges_refused m g Memory cs few same h = few
+edges_refused m g Limit cs few same h =
     elim h [ inl many ↦ many_slots (builds m g) many | inr long ↦ long_bodies (builds m g) (ap (λ (xs : List (List Instr)). list_any is_too_long xs) (sym same) ∙ long) ]
+
+pub codes_refused : (fault : CompileFault) (xs : List Build) (cs : List (List Instr)) → slot_count xs ≤ 16777216 → RefusesCodes fault cs → RefusesEdges fault xs cs
+codes_refused Limit xs cs few h = inr h
+codes_refused Memory xs cs few h = few

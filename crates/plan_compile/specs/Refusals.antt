@@ -1,20 +1,26 @@
 -- Why a manifest has no image.
-use Rattle.std.specs.Prelude.{◌≡◌, ◌⊎◌, ◌<◌, Bool, true, List, length, nat_lt}
+use Rattle.std.specs.Prelude.{◌≡◌, ◌⊎◌, ◌<◌, ◌≤◌, Bool, true, List, length, nat_lt}
 use Rattle.std.specs.List.{list_any}
 use Rattle.plan_scope.specs.declared.manifest.Manifest.{Manifest}
 use Rattle.plan_graph.specs.declared.graph_data.Graph.{Graph}
+use Rattle.plan_graph.specs.Graph.{IsGraph}
 use Rattle.plan_image.specs.declared.instr.Instr.{Instr}
-use Rattle.plan_image.specs.Spelling.{HasSpelling}
+use Rattle.plan_image.specs.Spelling.{HasSpelling, IsWithinLimits}
 use Rattle.plan_compile.specs.declared.fault.CompileFault.{CompileFault}
 use Rattle.plan_compile.specs.declared.fault.CompileFault.TheVariants.{Limit, Memory}
 use Rattle.plan_compile.specs.Builds.{Build}
 use Rattle.plan_compile.specs.Images.{compiled}
 use Rattle.plan_compile.specs.Slots.{slot_count}
 
--- a limit is passed only where the image has no spelling
+-- An image is refused for a limit only where it passes one. Memory is asked for only where there are no more files than an
+-- image may have.
 abbrev pub IsRefused : Manifest → Graph → CompileFault → Type 0
-IsRefused m g Limit = HasSpelling (compiled m g) → ⊥
-IsRefused m g Memory = Unit {0}
+IsRefused m g Limit = IsWithinLimits (compiled m g) → ⊥
+IsRefused m g Memory = length g.files ≤ 4194304
+
+-- the image of a manifest that has a graph has a spelling, unless it passes a limit
+abbrev pub ImageIsSpelled : Type 0
+ImageIsSpelled = (m : Manifest) (g : Graph) → IsGraph m g → IsWithinLimits (compiled m g) → HasSpelling (compiled m g)
 
 -- more places than a body may have
 abbrev pub is_too_long : List Instr → Bool
@@ -25,7 +31,7 @@ abbrev pub RefusesCodes : CompileFault → List (List Instr) → Type 0
 RefusesCodes Limit codes = list_any is_too_long codes ≡ true
 RefusesCodes Memory codes = Unit {0}
 
--- so are edges, and for too many slots
+-- so are edges, and for too many slots, which are counted before memory is asked for
 abbrev pub RefusesEdges : CompileFault → List Build → List (List Instr) → Type 0
 RefusesEdges Limit xs codes = (16777216 < slot_count xs) ⊎ (list_any is_too_long codes ≡ true)
-RefusesEdges Memory xs codes = Unit {0}
+RefusesEdges Memory xs codes = slot_count xs ≤ 16777216

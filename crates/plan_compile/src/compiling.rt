@@ -19,7 +19,7 @@ use crate::bodies::Bodies;
 use crate::build::{Build, builds, words};
 use crate::edges::edges_of;
 use crate::fault::CompileFault;
-use crate::image_laws::manifests_are_sound;
+use crate::image_laws::{image_is_spelled, manifests_are_sound};
 use crate::names::{Names, Texts, names_of, pool_table};
 use crate::slots::{planned, slot_count};
 use plan_graph::{Files, Graph, defaults_ascend};
@@ -193,8 +193,8 @@ fn parts<'a>(alloc: Global, manifest: &Manifest, graph: &Graph<'a>) -> Result<Pa
 ///
 /// # Errors
 ///
-/// `Limit` only where the image would pass a limit of images (docs/IMAGE.md), so that it has no spelling; `Memory`
-/// where memory runs out.
+/// `Limit` only where the image would pass a limit of images (docs/IMAGE.md); `Memory` where memory runs out, which is
+/// asked for only where there are no more files than an image may have.
 pub fn compile<'a>(
     alloc: Global,
     manifest: &Manifest,
@@ -205,6 +205,7 @@ pub fn compile<'a>(
     ensures image { IfOk result (λ image. image ≡ compiled manifest.now graph.now) }
     ensures refused { IfErr result (λ fault. IsRefused manifest.now graph.now fault) }
 {
+    image_is_spelled();
     let parts = parts(alloc, manifest, graph)?;
     match Image::new(parts) {
         Ok(image) => Ok(image),

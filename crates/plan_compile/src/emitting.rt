@@ -1,7 +1,7 @@
 //! The code of an edge of any sort.
 
 ghost use Rattle.std.specs.Prelude.{◌≡◌, ◌++◌, [], OnOk};
-ghost use Rattle.plan_text.specs.Outcome.{Meets};
+ghost use Rattle.plan_text.specs.Outcome.{Meets, seen_by};
 ghost use Rattle.plan_compile.specs.declared.fault.CompileFault.TheVariants as CompileFault;
 ghost use Rattle.plan_compile.specs.Emit.{alone_code, code_of, command_code, emitted, gather_code};
 
@@ -19,12 +19,13 @@ const MOST: usize = 65536;
 
 /// Refuses code that has too many places.
 fn limited(code: &Code) -> Result<(), CompileFault>
-    ensures { Meets CompileFault.Memory (λ _. code.now) result (emitted code.now) }
+    ensures { seen_by (λ _. code.now) result ≡ emitted code.now }
 {
-    if code.len() > MOST {
-        return Err(CompileFault::Limit);
+    if code.len() <= MOST {
+        Ok(())
+    } else {
+        Err(CompileFault::Limit)
     }
-    Ok(())
 }
 
 fn put_command(code: &mut Code, wiring: &CommandWiring) -> Result<(), CompileFault>

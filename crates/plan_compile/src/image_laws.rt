@@ -1,5 +1,6 @@
 //! Laws of the images of all manifests.
 ghost use Rattle.plan_compile.specs.Faithful.{ImageIsFaithful, ManifestsAreSound, OneAssignment};
+ghost use Rattle.plan_compile.specs.Refusals.{ImageIsSpelled};
 ghost use Rattle.plan_compile.specs.Told.{ImageIsShaped, ImageMeans};
 
 use crate::laws::{command_means, command_shaped, phony_means, phony_shaped};
@@ -44,4 +45,14 @@ pub fn image_is_shaped()
     split_law();
     command_shaped();
     phony_shaped();
+}
+
+/// The image of a manifest that has a graph has a spelling, unless it passes a limit of images: waits and defaults
+/// ascend, and each edge has a body with as many numbers as that leaves open.
+pub fn image_is_spelled()
+    ensures { ImageIsSpelled }
+{
+    split_law();
+    waits_ascend();
+    defaults_ascend();
 }

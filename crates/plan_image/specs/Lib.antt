@@ -2,6 +2,7 @@ pub mod Bodies
 pub mod Code
 pub mod Columns
 pub mod Spelling
+pub mod Printing
 pub mod Reading
 pub mod Faults
 pub mod Refusal

@@ -12,7 +12,7 @@ use crate::edge_ref::CodeRef;
 use crate::edges::Edges;
 use crate::fault::ImageFault;
 use crate::instr::{BodyInstr, Instr, Kind};
-use crate::limits::{is_filled, is_in_order, len_within_limits};
+use crate::limits::{is_filled, is_in_order, is_within_limits};
 use plan_text::{Items, RowList};
 use std::marker::Model;
 
@@ -150,8 +150,6 @@ fn body_at(bodies: &Option<Items<Body>>, number: u32) -> Option<&Body>
 #[derive(Debug, Drop)]
 pub struct Image {
     parts: Parts,
-    /// How many bytes the spelling has.
-    len: usize,
 }
 
 impl Model for Image {
@@ -159,12 +157,11 @@ impl Model for Image {
 
     ghost Value = { Parts };
 
-    ghost use Rattle.std.specs.Prelude.{◌≡◌, length};
-    ghost use Rattle.plan_image.specs.Spelling.{HasSpelling, spelling};
+    ghost use Rattle.plan_image.specs.Spelling.{HasSpelling};
 
     ghost view = { λ i. i.parts };
 
-    ghost invariant = { λ i. HasSpelling i.parts × (i.len ≡ length (spelling i.parts)) };
+    ghost invariant = { λ i. HasSpelling i.parts };
 }
 
 impl Image {
@@ -181,27 +178,16 @@ impl Image {
         ensures back { IfErr result (λ e. e.0 ≡ parts) }
         ensures fault { IfErr result (λ e. IsPartsFault parts e.1) }
     {
-        match len_within_limits(&parts) {
-            Some(len) => Image::with_len(parts, len),
-            None => Err((parts, ImageFault::Limit(0))),
+        if !is_within_limits(&parts) {
+            return Err((parts, ImageFault::Limit(0)));
         }
-    }
-
-    /// The image of these tables, whose spelling has so many bytes; else the tables back, and why.
-    fn with_len(parts: Parts, len: usize) -> Result<Image, (Parts, ImageFault)>
-        requires within { IsWithinLimits parts }
-        requires len { len ≡ length (spelling parts) }
-        ensures made { IfOk result (λ i. i ≡ parts) }
-        ensures back { IfErr result (λ e. e.0 ≡ parts) }
-        ensures fault { IfErr result (λ e. IsPartsFault parts e.1) }
-    {
         if !is_in_order(&parts) {
             return Err((parts, ImageFault::BadOrder(0)));
         }
         if !is_filled(&parts) {
             return Err((parts, ImageFault::BadBody(0)));
         }
-        Ok(Image::with_spelling(parts, len))
+        Ok(Image::with_spelling(parts))
     }
 
     /// The tables.
@@ -261,20 +247,12 @@ impl Image {
         }
     }
 
-    /// The image of these tables, whose spelling has so many bytes.
-    pub(crate) fn with_spelling(parts: Parts, len: usize) -> Image
-        requires spelled { HasSpelling parts }
-        requires len { len ≡ length (spelling parts) }
+    /// The image of these tables.
+    pub(crate) fn with_spelling(parts: Parts) -> Image
+        requires { HasSpelling parts }
         ensures { result ≡ parts }
     {
-        Image { parts, len }
-    }
-
-    /// How many bytes its spelling has.
-    pub(crate) fn spelling_len(&self) -> usize
-        ensures { result ≡ length (spelling self.now) }
-    {
-        self.len
+        Image { parts }
     }
 }
 

@@ -1,6 +1,6 @@
 //! Images: the tables of a build plan and the code of its edges, in bytes and as text.
 //!
-//! - `read_image`: the image that bytes spell, or their first fault; `write_image`: its bytes; `listing`: its text.
+//! - `read_image`: the image that bytes spell, or their first fault; `print_image`: its bytes, printed; `listing`: its text.
 //! - `Image`: tables that have a spelling; `Parts`, `Edge`, `EdgeCode`, `Pool`, `Slot`, `Sort`, `Version`: the tables.
 //!   `MAX_IMAGE`: the most bytes of an image. `Edges`: the table of edges, in columns; `EdgeRef`, `CodeRef`, `InstrsRef`: what it lends.
 //! - `Instr`, `Kind`: the instructions of an edge, and the kinds of their values. `Body`, `BodyInstr`, `Opening`:
@@ -35,4 +35,4 @@ pub use instr::{BodyInstr, Instr, Kind, Opening};
 pub use lister::{WriteFault, listing};
 pub use makers::edge_of;
 pub use reading::read_image;
-pub use writing::write_image;
+pub use writing::print_image;

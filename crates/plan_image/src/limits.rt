@@ -426,15 +426,11 @@ fn items_fit(parts: &Parts) -> bool
         && are_words(parts.defaults.as_slice())
 }
 
-/// How many bytes the spelling has, where an image may have as many.
-fn spelling_len(parts: &Parts) -> Option<usize>
-    ensures len { IfSome result (λ len. len ≡ length (spelling parts.now)) }
-    ensures fits { IsSome result ↔ (length (spelling parts.now) ≤ 268435456) }
+/// Whether the spelling has no more bytes than an image may have.
+fn is_spelling_within(parts: &Parts) -> bool
+    ensures { IsTrue result ↔ (length (spelling parts.now) ≤ 268435456) }
 {
-    match parts_room(parts, MAX_IMAGE as u64) {
-        Some(left) => Some(MAX_IMAGE - left as usize),
-        None => None,
-    }
+    parts_room(parts, MAX_IMAGE as u64).is_some()
 }
 
 /// Whether no limit is passed but that of the bytes.
@@ -447,14 +443,9 @@ fn are_tables_within(parts: &Parts) -> bool
         && instructions_within(&parts.bodies, &parts.edges, most_code(&parts.bodies))
 }
 
-/// How many bytes the spelling has, where no limit is passed.
-pub(crate) fn len_within_limits(parts: &Parts) -> Option<usize>
-    ensures len { IfSome result (λ len. len ≡ length (spelling parts.now)) }
-    ensures within { IsSome result ↔ IsWithinLimits parts.now }
+/// Whether no limit is passed.
+pub(crate) fn is_within_limits(parts: &Parts) -> bool
+    ensures { IsTrue result ↔ IsWithinLimits parts.now }
 {
-    if are_tables_within(parts) {
-        spelling_len(parts)
-    } else {
-        None
-    }
+    are_tables_within(parts) && is_spelling_within(parts)
 }

@@ -47,5 +47,5 @@ pub fn read_image(alloc: Global, bytes: &[u8]) -> Result<Image, ImageFault>
     ensures fault { Meets ImageFault.Memory (λ i. i) result (read_of bytes.now) }
 {
     let parts = read_within_limit(alloc, bytes)?;
-    Ok(Image::with_spelling(parts, bytes.len()))
+    Ok(Image::with_spelling(parts))
 }

@@ -1,6 +1,6 @@
 -- What a board keeps, many events of one edge later.
-use Rattle.std.proofs.Common.{◌≡◌, ◌<◌, ◌-◌, ℕ, zero, suc, Bool, true, false, List, [], ◌∷◌, ◌++◌, length, length-append, refl, sym, ap, ◌∙◌, subst, arith}
-use Rattle.std.specs.Prelude.{◌==◌, ◌&&◌, not, IfOk, OnErr, Result, Ok, Err, slice_set}
+use Rattle.std.proofs.Common.{◌≡◌, ◌<◌, ◌-◌, ℕ, zero, suc, Bool, true, false, List, [], ◌∷◌, ◌++◌, Some, length, length-append, refl, sym, ap, ◌∙◌, subst, arith}
+use Rattle.std.specs.Prelude.{◌==◌, ◌&&◌, not, IfOk, OnErr, Result, Ok, Err, slice_get, slice_set}
 use Rattle.std.proofs.lemmas.Bool.{eqb-true}
 use Rattle.std.proofs.lemmas.List.{append-nil, append_assoc}
 use Rattle.plan_image.specs.declared.image.Parts.{Parts}
@@ -8,7 +8,10 @@ use Rattle.plan_machine.specs.declared.event.Event.{Event}
 use Rattle.plan_machine.specs.declared.event.Event.TheVariants.{Step, Reply as Hear}
 use Rattle.plan_machine.specs.declared.mark.Mark.{Mark}
 use Rattle.plan_machine.specs.declared.refused.Refused.{Refused}
+use Rattle.plan_verify.specs.Turn.{Request, Stat}
 use Rattle.plan_machine.specs.declared.reply.Reply.{Reply}
+use Rattle.plan_machine.specs.declared.reply.Reply.TheVariants as reply
+use Rattle.plan_machine.specs.Requests.{asked_at}
 use Rattle.plan_machine.specs.declared.rush.Rush.{Rush}
 use Rattle.plan_machine.specs.Depfile.{depfile}
 use Rattle.plan_machine.specs.Edges.{edge_of}
@@ -20,19 +23,21 @@ use Rattle.plan_machine.specs.Replaying.{RunsTo}
 use Rattle.plan_machine.specs.Runs.{Runs}
 use Rattle.plan_machine.specs.Rushes.{events_by, is_still, marks_by, rush_events, rush_marks, steps_of}
 use Rattle.plan_machine.specs.State.{State}
+use Rattle.plan_machine.specs.Sweeping.{sweep_events, sweep_marks}
 use Rattle.plan_machine.specs.Total.{total_of}
 use Rattle.plan_lanes.specs.declared.board.Advance.{Advance}
 use Rattle.plan_lanes.specs.declared.board.Advance.TheVariants.{Moved, Job, Wait, Ended}
 use Rattle.plan_lanes.specs.Advances.{Advances}
-use Rattle.plan_lanes.specs.Boards.{Applies, IsKept, MayJournal}
-use Rattle.plan_lanes.specs.Journals.{Rule}
+use Rattle.plan_lanes.specs.Boards.{Applies, AreNumbers, IsKept, IsNumbered, MayJournal}
+use Rattle.plan_lanes.specs.Journals.{IsLastOf, Rule}
 use Rattle.plan_lanes.specs.Progress.{Opened, Progress, progress}
-use Rattle.plan_lanes.specs.Rushes.{AppliesAll, GoesOn}
+use Rattle.plan_lanes.specs.Rushes.{AppliesAll, GoesOn, Sweeps}
 use Rattle.plan_lanes.specs.Telling.{telling}
 use Rattle.plan_lanes.proofs.BoardLemmas.{IsRecorded, kept_of, later_by, recorded_more, recorded_of}
 use Rattle.plan_lanes.proofs.ListLemmas.{both_on}
 use Rattle.plan_lanes.proofs.RunLemmas.{total_stays}
-use Rattle.plan_lanes.proofs.StepLemmas.{own_may_journal}
+use Rattle.plan_lanes.proofs.JournalLemmas.{last_same}
+use Rattle.plan_lanes.proofs.StepLemmas.{asked_active, own_may_journal}
 use Rattle.plan_lanes.proofs.TellingLemmas.{telling_append}
 
 -- ---- steps of an edge
@@ -215,6 +220,27 @@ still_so p targets r next journal marks b e rush same run still =
 pub one_and_all : {X : Type 0} (a b c xs : List X) (x : X) → b ≡ a ++ x ∷ [] → c ≡ b ++ xs → c ≡ a ++ x ∷ xs
 one_and_all a b c xs x one all = all ∙ ap (λ l. l ++ xs) one ∙ append_assoc a (x ∷ []) xs
 
+-- ---- a sweep that goes on
+
+-- the stamp of a path that an edge asked for, as the event at this position, may be journaled where the rule allows it
+pub sweep_may : (rule : Rule) (b : Progress) (e number stamp : ℕ) (path : List ℕ) → rule number (Stat path) (reply.Stamp stamp) → asked_at b.opened.parts b.state e ≡ Some (Stat path) → IsNumbered b e number
+    → MayJournal rule b (Hear e (reply.Stamp stamp))
+sweep_may rule b e number stamp path allows asked numbered f r q n is at last =
+    let same_edge : e ≡ f = cc in
+    let same_reply : reply.Stamp stamp ≡ r = cc in
+    let under_way = asked_active b.opened.parts b.state e (Stat path) asked in
+    let same_number : number ≡ n = last_same b.journal e number n (numbered under_way.0 under_way.1) (subst (λ (g : ℕ). IsLastOf g n b.journal) (sym same_edge) last) in
+    let both : Some (Stat path) ≡ Some q = sym asked ∙ ap (asked_at b.opened.parts b.state) same_edge ∙ at in
+    let same_question : Stat path ≡ q = cc in
+    subst (λ (k : ℕ). rule k q r) same_number (subst (λ (x : Request). rule number x r) same_question (subst (λ (x : Reply). rule number (Stat path) x) same_reply allows))
+
+-- what is kept of the numbers tells of each edge's last event
+pub numbered_so : (numbers : List ℕ) (b : Progress) (e number : ℕ) → AreNumbers numbers b → slice_get numbers e ≡ Some number → IsNumbered b e number
+numbered_so numbers b e number are at l active =
+    let known = are e l active in
+    let same : known.0 ≡ number = let both : Some known.0 ≡ Some number = sym known.1 ∙ at in cc in
+    subst (λ (n : ℕ). IsLastOf e n b.journal) same known.2
+
 -- ---- how many commands are wanted
 
 pub total_runs : (p : Parts) (limits : Limits) (s t : State) (xs : List Event) (ms : List Mark) → Runs depfile p limits s xs ms t → total_of p t ≡ total_of p s
@@ -269,3 +295,10 @@ goes_advanced old new Ended h = goes_none old new h.0
 pub goes_by : (old new : Progress) (result : Result Advance Refused) → IfOk result (λ a. Advances old new a) → OnErr result (new ≡ old) → GoesOn old new
 goes_by old new (Ok a) ok err = goes_advanced old new a ok
 goes_by old new (Err refused) ok err = goes_none old new err
+
+-- a sweep went on, or didn't
+pub goes_swept : (old new : Progress) (e stamp : ℕ) (result : Result Bool Refused) → IfOk result (λ swept. swept ≡ true → Sweeps old new e stamp) → IfOk result (λ swept. swept ≡ false → new ≡ old)
+    → OnErr result (new ≡ old) → GoesOn old new
+goes_swept old new e stamp (Ok true) on off err = record { events = sweep_events e stamp; told = sweep_marks e; applies = on refl }
+goes_swept old new e stamp (Ok false) on off err = goes_none old new (off refl)
+goes_swept old new e stamp (Err refused) on off err = goes_none old new err

@@ -36,6 +36,10 @@ pub record IsOpen (b : Progress) (e number : ℕ) (q : Request) : Type 0 where
   pub asked : asked_at b.opened.parts b.state e ≡ Some q
   pub position : IsLastOf e number b.journal
 
+-- the last event of an edge that is under way is at this position
+abbrev pub IsNumbered : Progress → ℕ → ℕ → Type 0
+IsNumbered b e number = (l : Local) → slice_get b.state.edges e ≡ Some (Active l) → IsLastOf e number b.journal
+
 -- ---- what a board keeps
 
 -- of each edge that is under way the position of its last event is known

@@ -8,6 +8,7 @@ use Rattle.plan_machine.specs.declared.rush.Rush.{Rush}
 use Rattle.plan_machine.specs.Depfile.{depfile}
 use Rattle.plan_machine.specs.Runs.{Runs}
 use Rattle.plan_machine.specs.Rushes.{rush_events, rush_marks}
+use Rattle.plan_machine.specs.Sweeping.{sweep_events, sweep_marks}
 use Rattle.plan_lanes.specs.Progress.{Progress}
 use Rattle.plan_lanes.specs.Telling.{telling}
 
@@ -25,6 +26,10 @@ Rushes old new e r = AppliesAll old new (rush_events e r) (rush_marks e r)
 -- an edge heard a reply, and then rushed
 abbrev pub Follows : Progress → Progress → ℕ → Reply → Rush → Type 0
 Follows old new e reply r = (told : Mark) × AppliesAll old new (Hear e reply ∷ rush_events e r) (told ∷ rush_marks e r)
+
+-- an edge heard the stamp of a path that it sweeps, and asked for the next
+abbrev pub Sweeps : Progress → Progress → ℕ → ℕ → Type 0
+Sweeps old new e stamp = AppliesAll old new (sweep_events e stamp) (sweep_marks e)
 
 -- only events were applied
 pub record GoesOn (old new : Progress) : Type 0 where

@@ -1,6 +1,7 @@
 //! Questions, as lanes carry them.
 
-ghost use Rattle.std.specs.Prelude.{◌≡◌, ◌↔◌, IfOk, IsTrue, length};
+ghost use Rattle.std.specs.Prelude.{◌≡◌, ◌↔◌, IfOk, IsTrue, length, true};
+ghost use Rattle.plan_verify.specs.Turn.{Stat};
 ghost use Rattle.plan_machine.specs.Requests.{shown as request_shown};
 ghost use Rattle.plan_lanes.specs.Questions.{is_run, shown};
 
@@ -8,6 +9,7 @@ use plan_machine::{Outputs, Request};
 use plan_text::{Items, RowList};
 use plan_verify::PathList;
 use std::alloc::{AllocError, Global};
+use std::mem;
 
 /// What an edge asked, with texts and paths of its own.
 #[derive(Drop)]
@@ -38,16 +40,23 @@ fn bytes_of(alloc: Global, bytes: &[u8]) -> Result<Items<u8>, AllocError>
     Ok(Items::new(Vec::from_slice(alloc, bytes)?))
 }
 
+/// Bytes in a room.
+fn refilled(mut room: Vec<u8>, bytes: &[u8]) -> Result<Items<u8>, AllocError>
+    ensures { IfOk result (λ items. items ≡ bytes.now) }
+{
+    room.clear();
+    room.extend_from_slice(bytes)?;
+    Ok(Items::new(room))
+}
+
 /// The same bytes once more, in a room that is left where there is one.
 fn bytes_in(alloc: Global, rooms: &mut Vec<Vec<u8>>, bytes: &[u8]) -> Result<Items<u8>, AllocError>
     ensures { IfOk result (λ items. items ≡ bytes.now) }
 {
-    let Some(mut room) = rooms.pop() else {
-        return bytes_of(alloc, bytes);
-    };
-    room.clear();
-    room.extend_from_slice(bytes)?;
-    Ok(Items::new(room))
+    match rooms.pop() {
+        Some(room) => refilled(room, bytes),
+        None => bytes_of(alloc, bytes),
+    }
 }
 
 /// The paths of the files that an edge makes.
@@ -137,6 +146,21 @@ impl Asked {
                     && are_paths(paths, p)
             }
             _ => false,
+        }
+    }
+
+    /// Asks for the stamp of another path, whose bytes take the room of the one before. False where it asks for something
+    /// else than a stamp; then nothing changed.
+    pub(crate) fn renew(&mut self, alloc: Global, path: &[u8]) -> Result<bool, AllocError>
+        ensures { IfOk result (λ renewed. renewed ≡ true → shown self.new ≡ Stat path.now) }
+    {
+        match self {
+            Asked::Stat(items) => {
+                let before = mem::replace(items, Items::new(Vec::new(alloc)));
+                *items = refilled(before.into_vec(), path)?;
+                Ok(true)
+            }
+            _ => Ok(false),
         }
     }
 

@@ -9,6 +9,7 @@ use crate::world::World;
 use plan_machine::{Refused, Reply};
 use plan_status::{Showing, ends_stay, marks_may_come};
 use std::marker::{Brand, Model, PhantomData};
+use std::mem;
 
 /// Which run it is: what the run that lies under a lock was opened with, and the feed that gets its lines, where one does.
 /// Each call of `run_lanes` picks it.
@@ -105,30 +106,51 @@ impl<'v, W: World, J: Naming> Desk<'v, W, J> {
         }
     }
 
-    /// Hands a reply in that the world's rule allows, and lets its edge go on by itself: the question that it asks then, if
-    /// it does. Where the board doesn't take the reply, lanes stop.
+    /// Hands a reply in that the world's rule allows, and lets its edge go on by itself. True where it asks again: then that
+    /// question stands in the place of the one before. Where the board doesn't take the reply, lanes stop.
     pub fn follow(
         &mut self,
         rooms: &mut Vec<Vec<u8>>,
         edge: u32,
-        question: &Question,
+        question: &mut Question,
         reply: Reply,
-    ) -> Option<Question>
-        requires { W.allows question.now.number (shown question.now.request) reply }
+    ) -> bool
+        requires { W.allows question.old.number (shown question.old.request) reply }
     {
         marks_may_come();
         let followed = self.board.follow(edge, question, reply);
         match followed {
-            Ok(true) => self.next_question(rooms, edge),
-            Ok(false) => None,
+            Ok(true) => self.ask_again(rooms, edge, question),
+            Ok(false) => false,
             Err(Refused::Memory) => {
                 self.stop(Stopped::Memory);
-                None
+                false
             }
             Err(_refused) => {
                 self.stop(Stopped::Unfit);
-                None
+                false
             }
+        }
+    }
+
+    /// The question whose reply an edge awaits, in the place of the one before, whose room serves again. Where memory ran
+    /// out, lanes stop.
+    fn ask_again(&mut self, rooms: &mut Vec<Vec<u8>>, edge: u32, question: &mut Question) -> bool {
+        match self.board.renew(edge, question) {
+            Ok(true) => return true,
+            Ok(false) => {}
+            Err(_error) => {
+                self.stop(Stopped::Memory);
+                return false;
+            }
+        }
+        match self.next_question(rooms, edge) {
+            Some(next) => {
+                let told = mem::replace(question, next);
+                told.request.leave(rooms);
+                true
+            }
+            None => false,
         }
     }
 

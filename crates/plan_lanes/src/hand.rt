@@ -1,6 +1,6 @@
 //! What a lane holds between two visits to the desk.
 
-ghost use Rattle.std.specs.Prelude.{IfSome};
+ghost use Rattle.std.specs.Prelude.{◌≤◌, IfSome, length};
 ghost use Rattle.plan_lanes.specs.Questions.{shown};
 
 use crate::asked::{Asked, Question};
@@ -96,14 +96,7 @@ impl<W: World> Member<W> {
             desk.stop(Stopped::Memory);
             return false;
         };
-        match desk.follow(rooms, self.edge, &self.question, reply) {
-            Some(question) => {
-                let told = mem::replace(&mut self.question, question);
-                told.request.leave(rooms);
-                true
-            }
-            None => false,
-        }
+        desk.follow(rooms, self.edge, &mut self.question, reply)
     }
 
     /// Leaves the room of its path for one to come.
@@ -127,22 +120,30 @@ fn answer_all<W: World, J: Naming>(members: &mut Vec<Member<W>>, desk: &mut Desk
     }
 }
 
-/// Hands all replies in, and lets each edge go on by itself: those that ask again are kept, the others were told.
+/// Hands all replies in, and lets each edge go on by itself: how many ask again, which stand in front then.
 fn follow_all<W: World, J: Naming>(
     members: &mut Vec<Member<W>>,
-    kept: &mut Vec<Member<W>>,
-    told: &mut Vec<Member<W>>,
     desk: &mut Desk<'_, W, J>,
     rooms: &mut Vec<Vec<u8>>,
-) {
-    for mut member in members.drain(..) {
-        if member.follow(desk, rooms) {
-            if kept.push(member).is_err() {
-                desk.stop(Stopped::Memory);
-            }
-        } else {
-            let _ = told.push(member);
+) -> usize
+    ensures { result ≤ length members.new.items }
+{
+    let mut kept = 0;
+    for at in 0..members.len() {
+        if members[at].follow(desk, rooms) {
+            members.swap(kept, at);
+            kept += 1;
         }
+    }
+    kept
+}
+
+/// Takes those behind a place out of members, as told.
+fn tell_rest<W: World>(members: &mut Vec<Member<W>>, told: &mut Vec<Member<W>>, kept: usize)
+    requires { kept ≤ length members.old.items }
+{
+    for member in members.drain(kept..) {
+        let _ = told.push(member);
     }
 }
 
@@ -158,8 +159,6 @@ fn leave_all<W: World>(members: &mut Vec<Member<W>>, rooms: &mut Vec<Vec<u8>>) {
 #[derive(Drop)]
 pub struct Hand<W: World> {
     held: Vec<Member<W>>,
-    /// Those that are to be held next.
-    kept: Vec<Member<W>>,
     told: Vec<Member<W>>,
     rooms: Vec<Vec<u8>>,
 }
@@ -169,18 +168,11 @@ impl<W: World> Hand<W> {
     pub fn new(alloc: Global, most: usize) -> Result<Hand<W>, AllocError> {
         let mut held = Vec::new(alloc);
         held.reserve(most)?;
-        let mut kept = Vec::new(alloc);
-        kept.reserve(most)?;
         let mut told = Vec::new(alloc);
         told.reserve(most)?;
         let mut rooms = Vec::new(alloc);
         rooms.reserve(most)?;
-        Ok(Hand {
-            held,
-            kept,
-            told,
-            rooms,
-        })
+        Ok(Hand { held, told, rooms })
     }
 
     /// How many questions it holds.
@@ -207,14 +199,8 @@ impl<W: World> Hand<W> {
 
     /// Hands all replies in, and holds the questions that their edges ask then by themselves.
     pub fn follow<J: Naming>(&mut self, desk: &mut Desk<'_, W, J>) {
-        follow_all(
-            &mut self.held,
-            &mut self.kept,
-            &mut self.told,
-            desk,
-            &mut self.rooms,
-        );
-        mem::swap(&mut self.held, &mut self.kept);
+        let kept = follow_all(&mut self.held, desk, &mut self.rooms);
+        tell_rest(&mut self.held, &mut self.told, kept);
     }
 
     /// What can be done next without a reply.

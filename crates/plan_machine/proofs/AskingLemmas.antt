@@ -22,7 +22,7 @@ use Rattle.plan_machine.specs.Working.{Works, HasText, HasPaths, IsSweeping, Swe
 use Rattle.plan_machine.specs.Hearing.{IsHeard}
 
 module _ (p : Parts) (e : ℕ) (l : Local) (r : Answer) where
-  heard_is : (o : Option Instr) → l.asked ≡ true → o ≡ slice_get (code p e) l.place → heard depfile p e l r ≡ replied_at depfile l o r
+  pub heard_is : (o : Option Instr) → l.asked ≡ true → o ≡ slice_get (code p e) l.place → heard depfile p e l r ≡ replied_at depfile l o r
   unfolding heard
   heard_is o loud at = when_true (λ (t : Option Turn). t ≡ replied_at depfile l o r) l.asked _ _ loud (ap (λ (x : Option Instr). replied_at depfile l x r) (sym at))
 

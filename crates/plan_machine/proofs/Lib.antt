@@ -30,3 +30,4 @@ pub mod PointwiseLemmas
 pub mod SamenessLemmas
 pub mod EndsLemmas
 pub mod RushLemmas
+pub mod SweepLemmas

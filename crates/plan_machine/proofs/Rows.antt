@@ -1,5 +1,5 @@
 -- The definitions, computed on small images.
-use Rattle.std.proofs.Common.{◌≡◌, ℕ, true, false, List, [], ◌∷◌, Option, Some, None, refl}
+use Rattle.std.proofs.Common.{◌≡◌, ℕ, true, false, List, [], ◌∷◌, Option, Some, None, refl, arith}
 use Rattle.plan_image.specs.declared.instr.Instr.{Instr}
 use Rattle.plan_image.specs.declared.instr.Instr.TheVariants as op
 use Rattle.plan_image.specs.declared.image.Sort.TheVariants as sort
@@ -7,7 +7,7 @@ use Rattle.plan_image.specs.declared.image.EdgeCode.TheVariants.{Own}
 use Rattle.plan_image.specs.declared.instr.Kind.TheVariants as kind
 use Rattle.plan_image.specs.declared.image.Edge.{Edge}
 use Rattle.plan_image.specs.declared.image.Parts.{Parts}
-use Rattle.plan_verify.specs.declared.value.Value.TheVariants.{Text}
+use Rattle.plan_verify.specs.declared.value.Value.TheVariants.{Stamp, Flag, Text, Paths}
 use Rattle.plan_verify.specs.Turn.{Run, Entry, turn, heard}
 use Rattle.plan_books.specs.declared.phase.Phase.TheVariants as phase
 use Rattle.plan_verify.specs.declared.value.Cause.TheVariants.{DepfileMalformed, Exit}
@@ -25,6 +25,7 @@ use Rattle.plan_machine.specs.Step.{Stepped, Next, Wrong, NotEnabled, answer_of,
 use Rattle.plan_machine.specs.Kept.{phases_from}
 use Rattle.plan_machine.specs.Requests.{asked_at, asks_by}
 use Rattle.plan_machine.specs.Rushes.{is_stride, rush_events, rush_marks}
+use Rattle.plan_machine.specs.Sweeping.{HasNext, sweep_events}
 use Rattle.plan_machine.specs.Replaying.{IsReplayFault}
 use Rattle.plan_machine.specs.Total.{total_of}
 use Rattle.plan_machine.specs.Wanted.{any_outside}
@@ -246,3 +247,21 @@ take_is_no_stride = refl
 
 sweep_is_a_stride : is_stride op.Sweep ≡ true
 sweep_is_a_stride = refl
+
+load_is_a_stride : is_stride (op.Load 7) ≡ true
+load_is_a_stride = refl
+
+-- two texts may be too long together
+join_is_no_stride : is_stride op.Join ≡ false
+join_is_no_stride = refl
+
+-- ---- an edge that sweeps on
+
+sweep_of_two : sweep_events 3 7 ≡ Hear 3 (reply.Stamp 7) ∷ Step 3 ∷ []
+sweep_of_two = refl
+
+second_of_three : HasNext (98 ∷ []) (Paths 1 ((97 ∷ []) ∷ (98 ∷ []) ∷ (99 ∷ []) ∷ []) ∷ Flag false ∷ Stamp 0 ∷ [])
+second_of_three = (refl, omega arith)
+
+last_of_three : HasNext (99 ∷ []) (Paths 2 ((97 ∷ []) ∷ (98 ∷ []) ∷ (99 ∷ []) ∷ []) ∷ Flag false ∷ Stamp 0 ∷ []) → ⊥
+last_of_three next = absurd (omega (arith, next.1))

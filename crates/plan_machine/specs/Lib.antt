@@ -33,3 +33,4 @@ pub mod Agreement
 pub mod Sameness
 pub mod Ends
 pub mod Rushes
+pub mod Sweeping

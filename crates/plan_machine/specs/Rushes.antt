@@ -45,12 +45,9 @@ rush_marks e r = marks_by e r.steps r.asked
 
 -- ---- one step of it
 
--- An instruction that looks at no other edge, takes and gives back no place, takes no memory, and asks for no command.
+-- An instruction that looks at no other edge, takes and gives back no place, can't fail, and asks for no command.
 abbrev pub is_stride : Instr → Bool
 is_stride op.End = false
-is_stride (op.Load s) = false
-is_stride (op.Text t) = false
-is_stride op.NoPaths = false
 is_stride op.Join = false
 is_stride op.Take = false
 is_stride op.Release = false

@@ -39,6 +39,7 @@ mod stack;
 mod state;
 mod status;
 mod strides;
+mod sweeping;
 mod turned;
 mod turns;
 mod wanted;

@@ -340,21 +340,21 @@ impl Machine {
         Ok(self.settle(edge, turned))
     }
 
-    /// Makes a step of an edge that is under way, if it makes it by itself.
-    fn make_stride(&mut self, image: &Image, edge: u32) -> Option<Turned>
+    /// Makes a step of an edge that is under way, if it makes it by itself and memory isn't wanting for it.
+    fn make_stride(&mut self, alloc: Global, image: &Image, edge: u32) -> Option<Turned>
         requires short { length (code image.now edge) < 2 ^ 32 }
         requires active { (l : Local) × (slice_get self.old.now.edges edge ≡ Some (Active l)) × CanTurn image.now self.old.now.slots edge l }
         ensures some { IfSome result (λ r. HasRushed image.now self.old edge r self.new) }
         ensures none { IfNone result (self.new ≡ self.old) }
     {
         let status = &mut self.edges[edge as usize];
-        status.stride(image, edge, &mut self.slots)
+        status.stride(alloc, image, edge, &mut self.slots)
     }
 
-    /// One step of an edge, if it makes it by itself, and whether it asked: such a step looks at no other edge, and takes no
-    /// memory.
+    /// One step of an edge, if it makes it by itself and memory isn't wanting for it, and whether it asked: such a step looks
+    /// at no other edge.
     #[tactic(auto, using(crate::proofs::RushLemmas::stride_applied))]
-    pub(crate) fn stride(&mut self, image: &Image, edge: u32) -> Option<bool>
+    pub(crate) fn stride(&mut self, alloc: Global, image: &Image, edge: u32) -> Option<bool>
         requires short { length (code image.now edge) < 2 ^ 32 }
         requires turns { (l : Local) → slice_get self.old.now.edges edge ≡ Some (Active l) → CanTurn image.now self.old.now.slots edge l }
         ensures some { IfSome result (λ asked. Applied image.now self.old (Step edge) (Ok (stride_mark edge asked)) self.new) }
@@ -363,14 +363,14 @@ impl Machine {
         if !self.is_under_way(edge) {
             return None;
         }
-        match self.make_stride(image, edge) {
+        match self.make_stride(alloc, image, edge) {
             Some(turned) => Some(turned.asks()),
             None => None,
         }
     }
 
     /// Whether an edge is under way.
-    fn is_under_way(&self, edge: u32) -> bool
+    pub(crate) fn is_under_way(&self, edge: u32) -> bool
         ensures { result ≡ passes is_active (slice_get self.now.now.edges edge) }
     {
         match self.edges.as_slice().get(edge as usize) {

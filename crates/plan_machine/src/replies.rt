@@ -276,7 +276,7 @@ impl Activity {
     }
 
     /// Merges the stamp of a swept path.
-    fn merge(&mut self, stamp: u64)
+    pub(crate) fn merge(&mut self, stamp: u64)
         requires sweeping { IsSweeping self.old.stack }
         requires works { Works (goes self.old self.old.place (merged stamp self.old.stack)) }
         ensures { goes self.old self.old.place (merged stamp self.old.stack) ≡ Goes Moved self.new }

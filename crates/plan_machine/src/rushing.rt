@@ -62,7 +62,7 @@ impl State {
     {
         let mut steps = 0;
         for _turn in 0..MOST {
-            match self.machine.stride(image, edge) {
+            match self.machine.stride(self.alloc, image, edge) {
                 None => {
                     return Rush {
                         steps,
@@ -84,8 +84,8 @@ impl State {
     }
 
     /// Steps of an edge in a row, as long as it makes them by itself, up to one that asks: so many events are applied at
-    /// once, and the books are told of the last. A step that looks at another edge, takes or gives back a place, wants
-    /// memory or asks for a command isn't made; `apply` makes it. It takes no memory.
+    /// once, and the books are told of the last. A step that looks at another edge, takes or gives back a place, joins texts
+    /// or asks for a command isn't made, nor one that memory is wanting for: `apply` makes it, or says why it can't.
     pub fn rush(&mut self, image: &Verified, edge: u32) -> Rush
         requires { IsStateOf image.now self.old }
         ensures runs { RunsTo image.now self.old.going (rush_events edge result) (rush_marks edge result) self.new.going }

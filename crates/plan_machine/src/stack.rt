@@ -1,10 +1,11 @@
 //! A stack of values, whose kinds the verifier knows.
 
-ghost use Rattle.std.specs.Prelude.{◌≡◌, ◌<◌, ◌≤◌, ◌∷◌, [], IfOk, Some, drop, length, slice_get};
+ghost use Rattle.std.specs.Prelude.{◌≡◌, ◌<◌, ◌≤◌, ◌∷◌, [], IfOk, Some, drop, length, slice_get, true};
 ghost use Rattle.plan_image.specs.declared.instr.Instr.TheVariants as op;
 ghost use Rattle.plan_verify.specs.Turn.{calculate, same_text, On};
 ghost use Rattle.plan_machine.specs.Requests.{HasPathsAt, HasStampAt, HasSweptAt, HasTextAt};
-ghost use Rattle.plan_machine.specs.Working.{Computes, HasFlag, HasPaths, HasStamp, HasText, IsPlain, IsShallow};
+ghost use Rattle.plan_machine.specs.Sweeping.{HasNext};
+ghost use Rattle.plan_machine.specs.Working.{Computes, HasFlag, HasPaths, HasStamp, HasText, IsPlain, IsShallow, IsSweeping};
 
 use arrayvec::ArrayVec;
 use plan_image::Instr;
@@ -229,6 +230,19 @@ impl Stack {
             Value::Paths(swept, paths) => (*swept, paths),
             _ => unreachable!(),
         }
+    }
+
+    /// Whether this is the first path that wasn't swept, and another is left.
+    #[tactic(auto, using(crate::proofs::SweepLemmas::sweeping_has))]
+    pub(crate) fn has_next(&self, path: &[u8]) -> bool
+        requires { IsSweeping self.now }
+        ensures { result ≡ true → HasNext path.now self.now }
+    {
+        let (swept, paths) = self.paths_at();
+        if paths.len() - swept < 2 {
+            return false;
+        }
+        paths.path(swept) == path
     }
 
     /// The topmost swept paths.

@@ -43,7 +43,7 @@ pub(crate) enum Stage {
 /// Where an edge stands, as the definitions speak of it.
 #[derive(Drop)]
 pub(crate) struct Status {
-    stage: Stage,
+    pub(crate) stage: Stage,
 }
 
 impl Model for Status {
@@ -211,9 +211,10 @@ impl Status {
         }
     }
 
-    /// A step of the edge, which is under way, if it makes it by itself.
+    /// A step of the edge, which is under way, if it makes it by itself and memory isn't wanting for it.
     pub(crate) fn stride(
         &mut self,
+        alloc: Global,
         image: &Image,
         edge: u32,
         slots: &mut Vec<Slot>,
@@ -224,8 +225,12 @@ impl Status {
         ensures none { IfNone result ((self.new ≡ self.old) × (slots.new.items ≡ slots.old.items)) }
     {
         match &mut self.stage {
-            Stage::Resting(_) => None,
-            Stage::Active(activity) => activity.stride(image, edge, slots),
+            Stage::Resting(resting) => {
+                let (activity, turned) = resting.stride(alloc, image, edge, slots)?;
+                self.stage = Stage::Active(activity);
+                Some(turned)
+            }
+            Stage::Active(activity) => activity.stride(alloc, image, edge, slots),
             _ => unreachable!(),
         }
     }

@@ -15,7 +15,7 @@ use Rattle.plan_compile.specs.Refusals as compiles
 use Rattle.plan_compile.specs.declared.fault.CompileFault.{CompileFault}
 use Rattle.plan_ninja.specs.declared.fault.PlanFault.{PlanFault}
 use Rattle.plan_ninja.specs.Faults.{printed_compile_fault, printed_image_fault, file_fault}
-use Rattle.plan_ninja.specs.Commands.{MayLoad, IsRefused, LacksGraph}
+use Rattle.plan_ninja.specs.Commands.{MayLoad, IsRefused}
 use Rattle.plan_ninja.specs.Images.{SinkState}
 
 -- the bytes are those of the image of the manifest with a graph of it, and the verifier accepts that image
@@ -31,10 +31,6 @@ pub record SpellsImage (manifest : Manifest) (bytes : List ℕ) : Type 0 where
 abbrev pub LacksImageOf : Manifest → PlanFault → Type 0
 LacksImageOf manifest fault =
     (graph : Graph) × (cause : CompileFault) × IsGraph manifest graph × compiles.IsRefused manifest graph cause × (fault ≡ printed_compile_fault cause)
-
--- why there are no bytes to write of the manifest
-abbrev pub LacksBytes : Manifest → PlanFault → Type 0
-LacksBytes manifest fault = LacksGraph manifest fault ⊎ (LacksImageOf manifest fault ⊎ (fault ≡ printed_image_fault image.Memory))
 
 -- no image is made of the manifest that some lines mean which may be loaded from the path, for this cause
 pub record RefusesImage (loads : MayLoad) (path : Text) (fault : PlanFault) : Type 0 where

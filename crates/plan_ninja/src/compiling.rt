@@ -3,8 +3,9 @@
 ghost use Rattle.std.specs.Prelude.{◌≡◌, ◌⊎◌, IfOk, IfErr, OnOk};
 ghost use Rattle.plan_scope.specs.Sound.{IsSound};
 ghost use Rattle.plan_graph.specs.Graph.{IsGraph};
+ghost use Rattle.plan_image.specs.Spelling.{spelling};
 ghost use Rattle.plan_ninja.specs.Commands.{LacksGraph, loading_by};
-ghost use Rattle.plan_ninja.specs.Compiling.{SpellsImage, LacksBytes, IsNotCompiled, Compiles, FailsToCompile};
+ghost use Rattle.plan_ninja.specs.Compiling.{SpellsImage, LacksImageOf, IsNotCompiled, Compiles, FailsToCompile};
 
 use crate::commands::manifest_at;
 use crate::compile_fault::printed_compile_fault;
@@ -13,9 +14,9 @@ use crate::graph_fault::printed_graph_fault;
 use crate::image_fault::printed_image_fault;
 use plan_compile::{compile, image_is_shaped, manifests_are_sound};
 use plan_graph::{Graph, graph};
-use plan_image::{ImageFault, write_image};
+use plan_image::{Image, ImageFault, print_image};
 use plan_scope::{Manifest, Source, loaded_manifests_are_sound};
-use plan_text::{Sink, write_all};
+use plan_text::Sink;
 use std::alloc::Global;
 use std::mem::forget;
 
@@ -30,22 +31,21 @@ fn graph_of<'a>(alloc: Global, manifest: &'a Manifest) -> Result<Graph<'a>, Plan
     }
 }
 
-/// The bytes of the image of the manifest. The verifier accepts it.
-fn image_bytes(alloc: Global, manifest: &Manifest) -> Result<Vec<u8>, PlanFault>
+/// How many bytes of an image are written at once.
+const ROOM: usize = 65_536;
+
+/// The image of the manifest. The verifier accepts it.
+fn image_of(alloc: Global, manifest: &Manifest) -> Result<Image, PlanFault>
     requires { IsSound manifest.now }
-    ensures image { IfOk result (λ bytes. SpellsImage manifest.now bytes.items) }
-    ensures refused { IfErr result (λ fault. LacksBytes manifest.now fault) }
+    ensures image { IfOk result (λ image. SpellsImage manifest.now (spelling image)) }
+    ensures refused { IfErr result (λ fault. LacksGraph manifest.now fault ⊎ LacksImageOf manifest.now fault) }
 {
     let graph = graph_of(alloc, manifest)?;
     manifests_are_sound();
     image_is_shaped();
-    let image = match compile(alloc, manifest, &graph) {
-        Ok(image) => image,
-        Err(fault) => return Err(printed_compile_fault(alloc, fault)),
-    };
-    match write_image(alloc, &image) {
-        Ok(bytes) => Ok(bytes),
-        Err(_) => Err(printed_image_fault(alloc, ImageFault::Memory)),
+    match compile(alloc, manifest, &graph) {
+        Ok(image) => Ok(image),
+        Err(fault) => Err(printed_compile_fault(alloc, fault)),
     }
 }
 
@@ -70,13 +70,16 @@ pub fn do_compile<S: Source, W: Sink>(
 {
     let manifest = manifest_at(alloc, source, path)?;
     loaded_manifests_are_sound::<S>();
-    let bytes = image_bytes(alloc, &manifest)?;
+    let image = image_of(alloc, &manifest)?;
     // It is not freed piece by piece: the program ends soon.
     forget(manifest);
     let Ok(failed) = write_fault(alloc, output) else {
         return Err(no_memory(alloc));
     };
-    match write_all(out, &bytes) {
+    let Ok(mut room) = Vec::with_capacity(alloc, ROOM) else {
+        return Err(printed_image_fault(alloc, ImageFault::Memory));
+    };
+    match print_image(&image, &mut room, out) {
         Ok(()) => Ok(0),
         Err(_) => Err(failed),
     }

@@ -26,16 +26,21 @@ fn fault_of(alloc: Global, bytes: &[u8]) -> Option<ImageFault> {
     }
 }
 
-/// Whether an image that is read, taken apart and made again is written as it was.
+/// Whether an image is printed as these bytes, where so many are held back.
+fn is_printed(alloc: Global, image: &Image, room: usize, bytes: &[u8]) -> Result<bool, ImageFault> {
+    let mut room = Vec::with_capacity(alloc, room)?;
+    let mut out = Counted::new(Vec::new(alloc));
+    Ok(print_image(image, &mut room, &mut out).is_ok() && out.into_writer().as_slice() == bytes)
+}
+
+/// Whether an image that is read, taken apart and made again is printed as it was.
 fn comes_back(alloc: Global, bytes: &[u8]) -> Result<bool, ImageFault> {
     let image = read_image(alloc, bytes)?;
-    let written = write_image(alloc, &image)?;
-    let again = match Image::new(image.into_parts()) {
-        Ok(image) => image,
-        Err((_, fault)) => return Err(fault),
-    };
-    let same = write_image(alloc, &again)?;
-    Ok(written.as_slice() == bytes && same.as_slice() == bytes)
+    let printed = is_printed(alloc, &image, 7, bytes)?;
+    match Image::new(image.into_parts()) {
+        Ok(again) => Ok(printed && is_printed(alloc, &again, 65_536, bytes)?),
+        Err((_, fault)) => Err(fault),
+    }
 }
 
 /// Whether the bytes are those of an image with this listing.
@@ -272,6 +277,28 @@ fn failed_writes(rt: HostRuntime) -> Result<(), Fail> {
     }
     let mut out = Counted::new(Failing { left: 1000 });
     assert!(rt; listing(&image, &mut out).is_ok());
+    Ok(())
+}
+
+#[test]
+fn failed_prints(rt: HostRuntime) -> Result<(), Fail> {
+    let image = read_image(rt.alloc(), ONE_EDGE.as_slice())?;
+    let mut room = Vec::with_capacity(rt.alloc(), 16)?;
+    for left in 0..5 {
+        let mut out = Counted::new(Failing { left });
+        assert!(rt; matches!(print_image(&image, &mut room, &mut out), Err(WriteFault)));
+    }
+    let mut out = Counted::new(Failing { left: 5 });
+    assert!(rt; print_image(&image, &mut room, &mut out).is_ok());
+    Ok(())
+}
+
+#[test]
+fn room_is_filled(rt: HostRuntime) -> Result<(), Fail> {
+    let image = read_image(rt.alloc(), OPEN.as_slice())?;
+    for room in 0..OPEN.len() + 2 {
+        assert!(rt; is_printed(rt.alloc(), &image, room, OPEN.as_slice())?);
+    }
     Ok(())
 }
 

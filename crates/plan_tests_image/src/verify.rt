@@ -1,9 +1,9 @@
 //! Each public function once, on images made by hand.
 
 use plan_image::{
-    Edge, EdgeCode, Edges, Image, Instr, Kind, Parts, Pool, Slot, Sort, split, write_image,
+    Edge, EdgeCode, Edges, Image, Instr, Kind, Parts, Pool, Slot, Sort, print_image, split,
 };
-use plan_text::{Items, Memory, RowList};
+use plan_text::{Counted, Items, Memory, RowList};
 use plan_verify::*;
 use std::alloc::{AllocError, Global};
 use std::test::Fail;
@@ -334,8 +334,18 @@ fn bytes_back(alloc: Global, parts: Parts) -> Result<Vec<u8>, Memory> {
         return Err(Memory);
     };
     match verify(alloc, image) {
-        Ok(verified) => write_image(alloc, verified.image()),
-        Err((image, _)) => write_image(alloc, &image),
+        Ok(verified) => printed(alloc, verified.image()),
+        Err((image, _)) => printed(alloc, &image),
+    }
+}
+
+/// The bytes that are printed of an image.
+fn printed(alloc: Global, image: &Image) -> Result<Vec<u8>, Memory> {
+    let mut room = Vec::with_capacity(alloc, 64)?;
+    let mut out = Counted::new(Vec::new(alloc));
+    match print_image(image, &mut room, &mut out) {
+        Ok(()) => Ok(out.into_writer()),
+        Err(_) => Err(Memory),
     }
 }
 

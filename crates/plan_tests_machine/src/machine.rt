@@ -265,16 +265,17 @@ fn questions_ahead(rt: HostRuntime) {
     assert_eq!(rt; opened_questions(rt.alloc(), &image), Ok((false, true)));
 }
 
-/// What two replies and a rush lead to, of an edge that asks for two stamps.
-fn rushes(image: &Verified, state: &mut State) -> Result<[(u32, bool); 3], Refused>
+/// What a rush, two replies and a rush lead to, of an edge that asks for two stamps.
+fn rushes(image: &Verified, state: &mut State) -> Result<[(u32, bool); 4], Refused>
     requires { IsStateOf image.now state.old }
 {
     let _ = state.apply(image, Event::Start(0))?;
-    let _ = state.apply(image, Event::Step(0))?;
+    let first = state.rush(image, 0);
     let (_answered, asks) = state.follow(image, 0, Reply::Stamp(5))?;
     let (_again, ends) = state.follow(image, 0, Reply::Stamp(3))?;
     let still = state.rush(image, 0);
     Ok([
+        (first.steps, first.asked),
         (asks.steps, asks.asked),
         (ends.steps, ends.asked),
         (still.steps, still.asked),
@@ -282,7 +283,7 @@ fn rushes(image: &Verified, state: &mut State) -> Result<[(u32, bool); 3], Refus
 }
 
 /// The same, in a run of one job.
-fn opened_rushes(alloc: Global, image: &Verified) -> Result<[(u32, bool); 3], Refused> {
+fn opened_rushes(alloc: Global, image: &Verified) -> Result<[(u32, bool); 4], Refused> {
     let Some(options) = Options::new(1, 0) else {
         return Err(Refused::Memory);
     };
@@ -290,7 +291,7 @@ fn opened_rushes(alloc: Global, image: &Verified) -> Result<[(u32, bool); 3], Re
     rushes(image, &mut state)
 }
 
-/// An edge asks again, then calculates up to its end, which it doesn't reach by itself.
+/// An edge asks from its first place on, asks again, then calculates up to its end, which it doesn't reach by itself.
 #[test]
 fn edge_rushes(rt: HostRuntime) {
     let code = [
@@ -303,7 +304,7 @@ fn edge_rushes(rt: HostRuntime) {
     let Some(image) = alone(rt.alloc(), &code) else {
         panic!(&rt; "no image");
     };
-    let gone = [(0, true), (2, false), (0, false)];
+    let gone = [(0, true), (0, true), (2, false), (0, false)];
     assert_eq!(rt; opened_rushes(rt.alloc(), &image), Ok(gone));
     let counted = Rush {
         steps: 2,
@@ -405,4 +406,56 @@ fn nothing_wanted(rt: HostRuntime) {
         Ok(([unwanted, None, None, None], true))
     );
     assert_eq!(rt; opened(rt.alloc(), &image, &[1]), Err(Refused::BadTarget));
+}
+
+/// Whether stamps are heard in a sweep, of an edge that reads a depfile of the paths `b` and `c`: another path, the first,
+/// the first again, and the last.
+fn sweeps(alloc: Global, image: &Verified, state: &mut State) -> Result<([bool; 4], Rush), Refused>
+    requires { IsStateOf image.now state.old }
+{
+    let _ = state.apply(image, Event::Start(0))?;
+    let read = state.rush(image, 0);
+    let _ = state.follow(image, 0, depfile(alloc, b"a: b c\n")?)?;
+    let swept = [
+        state.sweep_on(image, 0, b"c", 5),
+        state.sweep_on(image, 0, b"b", 5),
+        state.sweep_on(image, 0, b"b", 5),
+        state.sweep_on(image, 0, b"c", 7),
+    ];
+    let (_answered, _ends) = state.follow(image, 0, Reply::Stamp(7))?;
+    Ok((swept, read))
+}
+
+/// The same, in a run of one job.
+fn opened_sweeps(alloc: Global, image: &Verified) -> Result<([bool; 4], Rush), Refused> {
+    let Some(options) = Options::new(1, 0) else {
+        return Err(Refused::Memory);
+    };
+    let mut state = State::open(alloc, image, options, &[])?;
+    sweeps(alloc, image, &mut state)
+}
+
+/// A stamp goes on where it is of the path that was asked for, and another is left.
+#[test]
+fn edge_sweeps_on(rt: HostRuntime) {
+    let code = [
+        Instr::Zero,
+        Instr::Flag(false),
+        Instr::Text(0),
+        Instr::Deps,
+        Instr::Sweep,
+        Instr::Drop,
+        Instr::Drop,
+        Instr::Drop,
+        Instr::End,
+    ];
+    let Some(image) = alone(rt.alloc(), &code) else {
+        panic!(&rt; "no image");
+    };
+    let read = Rush {
+        steps: 3,
+        asked: true,
+    };
+    let told = ([false, true, false, false], read);
+    assert_eq!(rt; opened_sweeps(rt.alloc(), &image), Ok(told));
 }

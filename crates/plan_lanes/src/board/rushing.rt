@@ -1,17 +1,18 @@
 //! Many events of one edge at once.
 
-ghost use Rattle.std.specs.Prelude.{◌≡◌, IfOk, IfSome, None, OnErr};
+ghost use Rattle.std.specs.Prelude.{◌≡◌, IfOk, IfSome, None, OnErr, false, true};
+ghost use Rattle.plan_verify.specs.Turn.{Stat};
 ghost use Rattle.plan_machine.specs.declared.event.Event.TheVariants.{Reply as Hear};
 ghost use Rattle.plan_machine.specs.Requests.{asked_at};
-ghost use Rattle.plan_lanes.specs.Boards.{IsOpen, MayJournal};
+ghost use Rattle.plan_lanes.specs.Boards.{IsNumbered, IsOpen, MayJournal};
 ghost use Rattle.plan_lanes.specs.Questions.{shown};
-ghost use Rattle.plan_lanes.specs.Rushes.{Follows, GoesOn, Rushes};
+ghost use Rattle.plan_lanes.specs.Rushes.{Follows, GoesOn, Rushes, Sweeps};
 
 use super::{Advance, Board, put};
 use crate::asked::{Asked, Question};
 use crate::telling::keep;
 use crate::world::World;
-use plan_machine::{Event, Refused, Reply, Rush};
+use plan_machine::{Event, Refused, Reply, Request, Rush};
 use std::alloc::AllocError;
 
 /// Room for the events of a reply and a rush.
@@ -59,6 +60,62 @@ impl<'v, W: World> Board<'v, W> {
         }
     }
 
+    /// Whether the last event of an edge is at this position.
+    #[tactic(auto, using(crate::proofs::RushLemmas::numbered_so))]
+    fn is_numbered(&self, edge: u32, number: u64) -> bool
+        ensures { result ≡ true → IsNumbered self.now edge number }
+    {
+        match self.numbers.get(edge as usize) {
+            Some(last) => *last == number,
+            None => false,
+        }
+    }
+
+    /// The stamp of a path that an edge asked for as one of those that it goes through, and the step that asks for the next:
+    /// both are applied and journaled, and tell of nothing. False where that isn't what the event at this position asked, or
+    /// no path is left; then, and where it is refused, nothing changed.
+    fn record_sweep(
+        &mut self,
+        edge: u32,
+        number: u64,
+        path: &[u8],
+        stamp: u64,
+    ) -> Result<bool, Refused>
+        requires { W.allows number (Stat path.now) (Reply.Stamp stamp) }
+        ensures on { IfOk result (λ swept. swept ≡ true → Sweeps self.old self.new edge stamp) }
+        ensures off { IfOk result (λ swept. swept ≡ false → self.new ≡ self.old) }
+        ensures err { OnErr result (self.new ≡ self.old) }
+    {
+        if !self.is_numbered(edge, number) {
+            return Ok(false);
+        }
+        self.diary.reserve(ROOM)?;
+        self.diary.push_heard(edge, &Reply::Stamp(stamp))?;
+        if !self.state.sweep_on(self.image, edge, path, stamp) {
+            self.diary.remove_last();
+            return Ok(false);
+        }
+        self.diary.push_steps(edge, 1);
+        let last = self.diary.len() - 1;
+        put(&mut self.numbers, edge as usize, last as u64);
+        Ok(true)
+    }
+
+    /// Hands in the reply to a question of a sweep that goes on. False where it is none; then, and where it is refused,
+    /// nothing changed.
+    fn sweep_on(&mut self, edge: u32, question: &Question, reply: &Reply) -> Result<bool, Refused>
+        requires { W.allows question.now.number (shown question.now.request) reply.now }
+        ensures goes { GoesOn self.old self.new }
+        ensures off { IfOk result (λ swept. swept ≡ false → self.new ≡ self.old) }
+    {
+        match (&question.request, reply) {
+            (Asked::Stat(path), Reply::Stamp(stamp)) => {
+                self.record_sweep(edge, question.number, path.as_slice(), *stamp)
+            }
+            _ => Ok(false),
+        }
+    }
+
     /// Hands a reply in, as `answer_to`, and lets its edge go on as far as it does so by itself. True where it asks again.
     pub(crate) fn follow(
         &mut self,
@@ -66,6 +123,18 @@ impl<'v, W: World> Board<'v, W> {
         question: &Question,
         reply: Reply,
     ) -> Result<bool, Refused>
+        requires { W.allows question.now.number (shown question.now.request) reply }
+        ensures { GoesOn self.old self.new }
+    {
+        let swept = self.sweep_on(edge, question, &reply)?;
+        if swept {
+            return Ok(true);
+        }
+        self.follow_open(edge, question, reply)
+    }
+
+    /// The same of a question that needn't be one of a sweep.
+    fn follow_open(&mut self, edge: u32, question: &Question, reply: Reply) -> Result<bool, Refused>
         requires { W.allows question.now.number (shown question.now.request) reply }
         ensures { GoesOn self.old self.new }
     {
@@ -97,6 +166,23 @@ impl<'v, W: World> Board<'v, W> {
                 }))
             }
             None => Ok(None),
+        }
+    }
+
+    /// The question whose reply an edge awaits, in the place of one before, where both ask for a stamp. Else it answers
+    /// false.
+    pub(crate) fn renew(&self, edge: u32, question: &mut Question) -> Result<bool, AllocError>
+        ensures { IfOk result (λ renewed. renewed ≡ true → IsOpen self.now edge question.new.number (shown question.new.request)) }
+    {
+        let Some(Request::Stat(path)) = self.state.request(self.image, edge) else {
+            return Ok(false);
+        };
+        match self.numbers.get(edge as usize) {
+            Some(number) => {
+                question.number = *number;
+                question.request.renew(self.alloc, path)
+            }
+            None => Ok(false),
         }
     }
 

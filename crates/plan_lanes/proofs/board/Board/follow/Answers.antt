@@ -1,9 +1,7 @@
-use Rattle.std.proofs.Common.{refl}
-use Rattle.plan_lanes.proofs.RushLemmas.{goes_none}
+use Rattle.std.proofs.Common.{subst}
+use Rattle.plan_lanes.specs.Progress.{Progress}
+use Rattle.plan_lanes.specs.Rushes.{GoesOn}
 use Rattle.plan_lanes.proofs.board.Board.follow.Goals as goal
 
-pub returns-then-not-is_open : goal.returns-then-not-is_open
-returns-then-not-is_open g c = goes_none c.args.self.now c.args.self.now refl
-
-pub returns-in_err-rush : goal.returns-in_err-rush
-returns-in_err-rush g c = goes_none c.args.self.now c.record_reply.new.self c.in_err-rush.ensures.err
+pub returns : goal.returns
+returns g c = subst (λ (b : Progress). GoesOn b c.follow_open.new.self) (c.in_ok-swept.ensures.off c.if-swept.false) c.follow_open.ensures

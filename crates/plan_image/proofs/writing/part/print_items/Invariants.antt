@@ -1,0 +1,10 @@
+use Rattle.std.proofs.Common.{◌≡◌, ◌++◌, ℕ, true, List, drop}
+use Rattle.std.specs.List.{flat_map}
+use Rattle.plan_image.specs.Printing.{Prints}
+use Rattle.plan_image.proofs.writing.part.print_items.Given as goal
+
+-- what was printed, and what is still printed behind it
+abbrev pub invariant-loop-number : goal.invariant-loop-number
+invariant-loop-number g l =
+    (done : List ℕ) × (done ++ flat_map g.T.Spelled.spell (drop l.number l.items) ≡ flat_map g.T.Spelled.spell l.items)
+    × Prints true (l.fn.held.items, (g.W.Sink.failures l.fn.out, g.W.Sink.taken l.fn.out)) (l.held.items, (g.W.Sink.failures l.out, g.W.Sink.taken l.out)) done

@@ -1,0 +1,126 @@
+-- A sweep that goes on is a reply and a step behind it.
+use Rattle.std.proofs.Common.{◌≡◌, ℕ, ◌+◌, ◌<◌, Bool, true, false, List, [], ◌∷◌, length, Option, Some, refl, sym, ap, ◌∙◌, subst, arith}
+use Rattle.std.specs.Prelude.{◌||◌, ◌==◌, ◌-◌, ◌≤◌, Ok, bytes_eq, get_or, nat_lt, slice_get, if◌then◌else◌}
+use Rattle.std.proofs.lemmas.Option.{slice_get-get_or, slice_get_within}
+use Rattle.std.proofs.lemmas.Slice.Eq.{bytes_eq-Decides}
+use Rattle.plan_image.specs.declared.instr.Instr.{Instr}
+use Rattle.plan_image.specs.declared.instr.Instr.TheVariants as op
+use Rattle.plan_image.specs.declared.image.Parts.{Parts}
+use Rattle.plan_image.specs.Code.{code}
+use Rattle.plan_verify.specs.declared.value.Value.{Value}
+use Rattle.plan_verify.specs.declared.value.Value.TheVariants.{Stamp, Flag, Paths}
+use Rattle.plan_verify.specs.Turn.{Slots, Request, Stat, Local, Moved, Turn, Goes, Asks, Wrong, TooDeep, StampIs, goes, merged, later, sweeps, sweep, act_at, turn, request_of, question, heard}
+use Rattle.plan_verify.specs.Sound.{asking}
+use Rattle.plan_machine.specs.declared.event.Event.TheVariants.{Step, Reply as Hear}
+use Rattle.plan_machine.specs.declared.reply.Reply.TheVariants as reply
+use Rattle.plan_machine.specs.declared.mark.Mark.TheVariants as mark
+use Rattle.plan_machine.specs.declared.turned.Turned.TheVariants as turned
+use Rattle.plan_machine.specs.declared.turned.Heard.TheVariants as hearing
+use Rattle.plan_machine.specs.State.{Status, Active, with_status}
+use Rattle.plan_machine.specs.Going.{Going}
+use Rattle.plan_machine.specs.Depfile.{depfile}
+use Rattle.plan_machine.specs.Turned.{IsMade}
+use Rattle.plan_machine.specs.Hearing.{HasHeard}
+use Rattle.plan_machine.specs.Applying.{Applied}
+use Rattle.plan_machine.specs.Replaying.{RunsTo}
+use Rattle.plan_machine.specs.Requests.{asked_by, asked_at, HasPathsAt}
+use Rattle.plan_machine.specs.Rushes.{HasStrode, HasRushed}
+use Rattle.plan_machine.specs.Sweeping.{sweep_events, sweep_marks, HasNext, Sweeps, HasSwept, SweepsOn}
+use Rattle.plan_machine.specs.Working.{IsSweeping}
+use Rattle.plan_machine.proofs.ListLemmas.{get_inside, get_same, when_true}
+use Rattle.plan_machine.proofs.Applies.{set_again}
+use Rattle.plan_machine.proofs.AskingLemmas.{heard_is}
+use Rattle.plan_machine.proofs.HearingLemmas.{hear_is}
+use Rattle.plan_machine.proofs.RushLemmas.{elsewhere_so, follow_run, stride_applied}
+
+-- ---- one edge
+
+goes_so : (l mid : Local) (stack : List Value) → goes l l.place stack ≡ Goes Moved mid → mid ≡ record { place = l.place; stack = stack; holding = l.holding; ran = l.ran; asked = false }
+goes_so l mid stack is = by (nat_lt 64 (length stack)) is
+  where
+    by : (b : Bool) → (if b then Wrong TooDeep else Goes Moved (record { place = l.place; stack = stack; holding = l.holding; ran = l.ran; asked = false })) ≡ Goes Moved mid
+        → mid ≡ record { place = l.place; stack = stack; holding = l.holding; ran = l.ran; asked = false }
+    by true h = cc
+    by false h = cc
+
+module _ (p : Parts) (e : ℕ) (path : List ℕ) (l : Local) (s : Sweeps p e path l) where
+  question_by : (slots : Slots) (stack : List Value) → HasNext path stack → request_of (sweep l stack) ≡ Some (Stat path)
+  question_by slots (Paths swept all ∷ Flag b ∷ Stamp n ∷ below) next = ap (λ (o : Option (List ℕ)). request_of (sweeps l all (Flag b ∷ Stamp n ∷ below) o)) next.0
+  question_by slots _ next = absurd next
+
+  pub question_so : (slots : Slots) → question p e slots l ≡ Some (Stat path)
+  unfolding turn
+  question_so slots = ap (λ (o : Option Instr). request_of (act_at p e slots l o)) (sym s.at) ∙ question_by slots l.stack s.next
+
+  module _ (stamp : ℕ) (mid : Local) (is : goes l l.place (merged stamp l.stack) ≡ Goes Moved mid) where
+    hears_so : heard depfile p e l (StampIs stamp) ≡ Some (Goes Moved mid)
+    hears_so = heard_is p e l (StampIs stamp) (Some op.Sweep) s.asked s.at ∙ ap (λ (t : Turn). Some t) is
+
+    asks_by : (m : Local) (stack : List Value) → HasNext path stack → (q : Request) × (sweep m (merged stamp stack) ≡ Asks q)
+    asks_by m (Paths swept all ∷ Flag b ∷ Stamp n ∷ below) next =
+        let one = get_inside all (swept + 1) next.1 in
+        (Stat one.0, ap (sweeps m all (Flag (b || (stamp == 0)) ∷ Stamp (later n stamp) ∷ below)) one.1)
+    asks_by m _ next = absurd next
+
+    mid_is : mid ≡ record { place = l.place; stack = merged stamp l.stack; holding = l.holding; ran = l.ran; asked = false }
+    mid_is = goes_so l mid (merged stamp l.stack) is
+
+    at_mid : Some op.Sweep ≡ slice_get (code p e) mid.place
+    at_mid = s.at ∙ ap (λ (m : Local). slice_get (code p e) m.place) (sym mid_is)
+
+    made_so : (slots : Slots) → IsMade turned.Asked mid (asking mid) (turn p e slots mid)
+    unfolding turn
+    made_so slots =
+        let asks = asks_by mid l.stack s.next in
+        (asks.0, ap (act_at p e slots mid) (sym at_mid) ∙ ap (λ (m : Local). sweep mid m.stack) mid_is ∙ asks.1, refl)
+
+    pub swept_on : (new : Local) → new ≡ asking mid → HasSwept p e path stamp l new
+    swept_on new same =
+        record {
+          sweeps = s;
+          between = mid;
+          hears = hears_so;
+          strode = λ slots. subst (λ (n : Local). HasStrode p e turned.Asked mid n slots slots) (sym same)
+              (record { strides = tt; silent = ap (λ (m : Local). m.asked) mid_is; elsewhere = elsewhere_so p e mid op.Sweep at_mid refl; made = (made_so slots, refl) });
+        }
+
+-- what stands on the stack of an edge that sweeps
+pub sweeping_has : (stack : List Value) → IsSweeping stack → HasPathsAt stack
+sweeping_has (Paths swept all ∷ Flag b ∷ Stamp n ∷ below) s = (swept, all, refl)
+sweeping_has _ s = absurd s
+
+-- the first path that wasn't swept, where another is left
+pub next_so : (path : List ℕ) (swept : ℕ) (all : List (List ℕ)) (stack : List Value) → IsSweeping stack → slice_get stack 0 ≡ Some (Paths swept all) → 2 ≤ length all - swept
+    → bytes_eq (get_or all swept []) path ≡ true → HasNext path stack
+next_so path swept all (Paths k xs ∷ Flag b ∷ Stamp n ∷ below) sweeping is more same =
+    let same_k : k ≡ swept = cc in
+    let same_xs : xs ≡ all = cc in
+    let here : slice_get all swept ≡ Some path = slice_get-get_or all swept [] (omega (arith, more)) ∙ ap Some ((bytes_eq-Decides (get_or all swept []) path).0 same) in
+    let lt : swept + 1 < length all = omega (arith, more) in
+    subst (λ (j : ℕ). (slice_get xs j ≡ Some path) × (j + 1 < length xs)) (sym same_k) (subst (λ (ys : List (List ℕ)). (slice_get ys swept ≡ Some path) × (swept + 1 < length ys)) (sym same_xs) (here, lt))
+next_so path swept all _ sweeping is more same = absurd sweeping
+
+-- ---- the machine
+
+module _ (p : Parts) (old new : Going) (e : ℕ) (path : List ℕ) (stamp : ℕ) (h : SweepsOn p old e path stamp new) where
+  pub asked_so : asked_at p old.now e ≡ Some (Stat path)
+  asked_so =
+      ap (asked_by p e old.now.slots) h.now
+      ∙ when_true (λ (q : Option Request). q ≡ Some (Stat path)) h.before.asked _ _ h.swept.sweeps.asked (question_so p e path h.before h.swept.sweeps old.now.slots)
+
+  pub runs_so : RunsTo p old (sweep_events e stamp) (sweep_marks e) new
+  runs_so =
+      let between : Going = record { limits = old.limits; now = with_status old.now e (Active h.swept.between) } in
+      let heard_so : HasHeard p old e (StampIs stamp) hearing.On between = record { before = h.before; after = h.swept.between; now = h.now; made = h.swept.hears; left = refl } in
+      let one : Applied p old (Hear e (reply.Stamp stamp)) (Ok (mark.Answered e)) between = hear_is p e (StampIs stamp) old between hearing.On heard_so (reply.Stamp stamp) (Ok (mark.Answered e)) between refl (refl, refl) in
+      let rushed : HasRushed p between e turned.Asked new =
+      record {
+        before = h.swept.between;
+        after = h.after;
+        now = get_same old.now.edges e (Active h.swept.between) (slice_get_within old.now.edges e (Active h.before) h.now);
+        slots = old.now.slots;
+        strode = h.swept.strode old.now.slots;
+        left = h.left ∙ ap (λ (xs : List Status). record { limits = old.limits; now = record { edges = xs; slots = old.now.slots } }) (sym (set_again old.now.edges e (Active h.swept.between) (Active h.after)));
+      } in
+      let two : Applied p between (Step e) (Ok (mark.Asked e)) new = stride_applied p e between new turned.Asked rushed true refl in
+      follow_run p old between new (Hear e (reply.Stamp stamp)) (mark.Answered e) (Step e ∷ []) (mark.Asked e ∷ []) one (record { run = (new.now, two.0, refl); limits = two.1 })
