@@ -3,6 +3,7 @@ import argparse
 import collections
 import io
 import pathlib
+import signal
 import subprocess
 import sys
 from collections.abc import Mapping, Sequence
@@ -25,7 +26,12 @@ def program(path: str) -> str:
 
 
 def arguments(usage: str) -> argparse.ArgumentParser:
-    """A script's command line: its docstring as help, and PROGRAM as its first word."""
+    """A script's command line: its docstring as help, and PROGRAM as its first word.
+
+    SIGINT ends what the script starts, also where a shell started the script in the background, which lets it ignore
+    that signal: what is ignored stays so in other programs, what is caught doesn't.
+    """
+    signal.signal(signal.SIGINT, signal.default_int_handler)
     parser = argparse.ArgumentParser(description=usage, formatter_class=argparse.RawDescriptionHelpFormatter)
     parser.add_argument("program", metavar="PROGRAM", type=program, help="plan_ninja, as make built it")
     return parser

@@ -3,7 +3,8 @@
 
 By SIGINT and SIGTERM to the builder and its commands, as a terminal sends them, by SIGKILL to all of them, and by
 SIGKILL to the builder alone, whose command then goes on. Before each the source is changed, and the output was built
-well once, so that its record has an entry. The last line is `N passed, M failed`.
+well once, so that its record has an entry. A command goes on from its first write to its second only where a file
+`go` is there, so that none ends before it is to be interrupted. The last line is `N passed, M failed`.
 """
 import os
 import pathlib
@@ -16,7 +17,8 @@ from collections.abc import Callable
 
 import programs
 
-MANIFEST = "rule w\n  command = echo one > $out; touch begun; sleep 0.4; cat in >> $out\nbuild out: w in\n"
+COMMAND = "echo one > $out; touch begun; while ! [ -e go ]; do sleep 0.05; done; cat in >> $out"
+MANIFEST = f"rule w\n  command = {COMMAND}\nbuild out: w in\n"
 PATIENCE = 20.0  # seconds for a command to begin, or a process to end
 
 
@@ -38,8 +40,9 @@ def alive(group: int) -> bool:
 
 
 def ended(program: str, folder: pathlib.Path, number: int, alone: bool) -> None:
-    """Starts a build, and ends it once its command has written half of the output."""
-    (folder / "begun").unlink(missing_ok=True)
+    """Starts a build, and ends it once its command has written half of the output; what goes on then ends by itself."""
+    for name in ["begun", "go"]:
+        (folder / name).unlink(missing_ok=True)
     child = subprocess.Popen([program, "run", "plan.img"], cwd=folder, stdin=subprocess.DEVNULL,
                              stdout=subprocess.DEVNULL, process_group=0)
     until(lambda at: (at / "begun").exists(), folder)
@@ -48,6 +51,7 @@ def ended(program: str, folder: pathlib.Path, number: int, alone: bool) -> None:
     else:
         os.killpg(child.pid, number)
     child.wait()
+    (folder / "go").touch()
     until(lambda _: not alive(child.pid), folder)
 
 
@@ -70,7 +74,7 @@ def main() -> None:
     passed = failed = 0
     with tempfile.TemporaryDirectory() as name:
         folder = pathlib.Path(name)
-        programs.write({"build.ninja": MANIFEST, "in": "first\n"}, folder)
+        programs.write({"build.ninja": MANIFEST, "in": "first\n", "go": ""}, folder)
         programs.printed_lines([program, "compile", "build.ninja", "-o", "plan.img"], folder)
         programs.printed_lines([program, "run", "plan.img"], folder)
         for word, number, alone in [("interrupted", signal.SIGINT, False), ("terminated", signal.SIGTERM, False),
