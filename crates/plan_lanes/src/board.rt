@@ -19,7 +19,7 @@ ghost use Rattle.plan_lanes.specs.Progress.{Opened, going_of};
 ghost use Rattle.plan_lanes.specs.Questions.{is_run, shown};
 ghost use Rattle.plan_lanes.specs.Reports.{IsRunOf};
 
-mod rushing;
+pub(crate) mod rushing;
 
 use crate::asked::{Asked, Question};
 use crate::telling::keep;

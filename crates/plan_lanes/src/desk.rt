@@ -4,6 +4,7 @@ ghost use Rattle.plan_lanes.specs.Desks.{IsDesk};
 ghost use Rattle.plan_lanes.specs.Questions.{shown};
 
 use crate::asked::Question;
+use crate::board::rushing::Followed;
 use crate::board::{Advance, Board};
 use crate::world::World;
 use plan_machine::{Refused, Reply};
@@ -120,8 +121,9 @@ impl<'v, W: World, J: Naming> Desk<'v, W, J> {
         marks_may_come();
         let followed = self.board.follow(edge, question, reply);
         match followed {
-            Ok(true) => self.ask_again(rooms, edge, question),
-            Ok(false) => false,
+            Ok(Followed::Renewed) => true,
+            Ok(Followed::Asks) => self.ask_again(rooms, edge, question),
+            Ok(Followed::Rests) => false,
             Err(Refused::Memory) => {
                 self.stop(Stopped::Memory);
                 false

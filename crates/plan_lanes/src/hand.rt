@@ -131,7 +131,9 @@ fn follow_all<W: World, J: Naming>(
     let mut kept = 0;
     for at in 0..members.len() {
         if members[at].follow(desk, rooms) {
-            members.swap(kept, at);
+            if kept < at {
+                members.swap(kept, at);
+            }
             kept += 1;
         }
     }

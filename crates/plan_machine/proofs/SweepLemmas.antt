@@ -16,7 +16,7 @@ use Rattle.plan_machine.specs.declared.reply.Reply.TheVariants as reply
 use Rattle.plan_machine.specs.declared.mark.Mark.TheVariants as mark
 use Rattle.plan_machine.specs.declared.turned.Turned.TheVariants as turned
 use Rattle.plan_machine.specs.declared.turned.Heard.TheVariants as hearing
-use Rattle.plan_machine.specs.State.{Status, Active, with_status}
+use Rattle.plan_machine.specs.State.{Status, Active, State, with_status}
 use Rattle.plan_machine.specs.Going.{Going}
 use Rattle.plan_machine.specs.Depfile.{depfile}
 use Rattle.plan_machine.specs.Turned.{IsMade}
@@ -25,7 +25,7 @@ use Rattle.plan_machine.specs.Applying.{Applied}
 use Rattle.plan_machine.specs.Replaying.{RunsTo}
 use Rattle.plan_machine.specs.Requests.{asked_by, asked_at, HasPathsAt}
 use Rattle.plan_machine.specs.Rushes.{HasStrode, HasRushed}
-use Rattle.plan_machine.specs.Sweeping.{sweep_events, sweep_marks, HasNext, Sweeps, HasSwept, SweepsOn}
+use Rattle.plan_machine.specs.Sweeping.{sweep_events, sweep_marks, AwaitsSwept, HasNext, HasSwept, IsNext, IsSweptAt, Sweeps, SweepsOn}
 use Rattle.plan_machine.specs.Working.{IsSweeping}
 use Rattle.plan_machine.proofs.ListLemmas.{get_inside, get_same, when_true}
 use Rattle.plan_machine.proofs.Applies.{set_again}
@@ -43,14 +43,21 @@ goes_so l mid stack is = by (nat_lt 64 (length stack)) is
     by true h = cc
     by false h = cc
 
-module _ (p : Parts) (e : ℕ) (path : List ℕ) (l : Local) (s : Sweeps p e path l) where
-  question_by : (slots : Slots) (stack : List Value) → HasNext path stack → request_of (sweep l stack) ≡ Some (Stat path)
-  question_by slots (Paths swept all ∷ Flag b ∷ Stamp n ∷ below) next = ap (λ (o : Option (List ℕ)). request_of (sweeps l all (Flag b ∷ Stamp n ∷ below) o)) next.0
-  question_by slots _ next = absurd next
+question_by : (l : Local) (path : List ℕ) (stack : List Value) → IsNext path stack → request_of (sweep l stack) ≡ Some (Stat path)
+question_by l path (Paths swept all ∷ Flag b ∷ Stamp n ∷ below) next = ap (λ (o : Option (List ℕ)). request_of (sweeps l all (Flag b ∷ Stamp n ∷ below) o)) next
+question_by l path _ next = absurd next
 
+question_is : (p : Parts) (e : ℕ) (path : List ℕ) (l : Local) → Some op.Sweep ≡ slice_get (code p e) l.place → IsNext path l.stack → (slots : Slots) → question p e slots l ≡ Some (Stat path)
+unfolding turn
+question_is p e path l at next slots = ap (λ (o : Option Instr). request_of (act_at p e slots l o)) (sym at) ∙ question_by l path l.stack next
+
+next_is : (path : List ℕ) (stack : List Value) → HasNext path stack → IsNext path stack
+next_is path (Paths swept all ∷ Flag b ∷ Stamp n ∷ below) next = next.0
+next_is path _ next = absurd next
+
+module _ (p : Parts) (e : ℕ) (path : List ℕ) (l : Local) (s : Sweeps p e path l) where
   pub question_so : (slots : Slots) → question p e slots l ≡ Some (Stat path)
-  unfolding turn
-  question_so slots = ap (λ (o : Option Instr). request_of (act_at p e slots l o)) (sym s.at) ∙ question_by slots l.stack s.next
+  question_so = question_is p e path l s.at (next_is path l.stack s.next)
 
   module _ (stamp : ℕ) (mid : Local) (is : goes l l.place (merged stamp l.stack) ≡ Goes Moved mid) where
     hears_so : heard depfile p e l (StampIs stamp) ≡ Some (Goes Moved mid)
@@ -74,6 +81,13 @@ module _ (p : Parts) (e : ℕ) (path : List ℕ) (l : Local) (s : Sweeps p e pat
         let asks = asks_by mid l.stack s.next in
         (asks.0, ap (act_at p e slots mid) (sym at_mid) ∙ ap (λ (m : Local). sweep mid m.stack) mid_is ∙ asks.1, refl)
 
+    left_by : (stack : List Value) → HasNext path stack → IsSweeping (merged stamp stack)
+    left_by (Paths swept all ∷ Flag b ∷ Stamp n ∷ below) next = next.1
+    left_by _ next = absurd next
+
+    later_so : AwaitsSwept p e (asking mid)
+    later_so = record { asked = refl; at = at_mid; left = subst (λ (m : Local). IsSweeping m.stack) (sym mid_is) (left_by l.stack s.next) }
+
     pub swept_on : (new : Local) → new ≡ asking mid → HasSwept p e path stamp l new
     swept_on new same =
         record {
@@ -82,6 +96,7 @@ module _ (p : Parts) (e : ℕ) (path : List ℕ) (l : Local) (s : Sweeps p e pat
           hears = hears_so;
           strode = λ slots. subst (λ (n : Local). HasStrode p e turned.Asked mid n slots slots) (sym same)
               (record { strides = tt; silent = ap (λ (m : Local). m.asked) mid_is; elsewhere = elsewhere_so p e mid op.Sweep at_mid refl; made = (made_so slots, refl) });
+          later = subst (λ (n : Local). AwaitsSwept p e n) (sym same) later_so;
         }
 
 -- what stands on the stack of an edge that sweeps
@@ -89,7 +104,17 @@ pub sweeping_has : (stack : List Value) → IsSweeping stack → HasPathsAt stac
 sweeping_has (Paths swept all ∷ Flag b ∷ Stamp n ∷ below) s = (swept, all, refl)
 sweeping_has _ s = absurd s
 
--- the first path that wasn't swept, where another is left
+-- the first path that wasn't swept
+pub is_next : (path : List ℕ) (swept : ℕ) (all : List (List ℕ)) (stack : List Value) → IsSweeping stack → slice_get stack 0 ≡ Some (Paths swept all) → path ≡ get_or all swept [] → IsNext path stack
+is_next path swept all (Paths k xs ∷ Flag b ∷ Stamp n ∷ below) sweeping is same =
+    let same_k : k ≡ swept = cc in
+    let same_xs : xs ≡ all = cc in
+    let lt : swept < length all = subst (λ (j : ℕ). j < length all) same_k (subst (λ (ys : List (List ℕ)). k < length ys) same_xs sweeping) in
+    let here : slice_get all swept ≡ Some path = slice_get-get_or all swept [] lt ∙ ap Some (sym same) in
+    subst (λ (j : ℕ). slice_get xs j ≡ Some path) (sym same_k) (subst (λ (ys : List (List ℕ)). slice_get ys swept ≡ Some path) (sym same_xs) here)
+is_next path swept all _ sweeping is same = absurd sweeping
+
+-- the same, where another is left
 pub next_so : (path : List ℕ) (swept : ℕ) (all : List (List ℕ)) (stack : List Value) → IsSweeping stack → slice_get stack 0 ≡ Some (Paths swept all) → 2 ≤ length all - swept
     → bytes_eq (get_or all swept []) path ≡ true → HasNext path stack
 next_so path swept all (Paths k xs ∷ Flag b ∷ Stamp n ∷ below) sweeping is more same =
@@ -102,11 +127,24 @@ next_so path swept all _ sweeping is more same = absurd sweeping
 
 -- ---- the machine
 
+-- what an edge that sweeps asked
+pub swept_asked : (p : Parts) (s : State) (e : ℕ) (path : List ℕ) → IsSweptAt p s e → ((l : Local) → slice_get s.edges e ≡ Some (Active l) → IsNext path l.stack) → asked_at p s e ≡ Some (Stat path)
+swept_asked p s e path is next =
+    ap (asked_by p e s.slots) is.1
+    ∙ when_true (λ (q : Option Request). q ≡ Some (Stat path)) is.0.asked _ _ is.2.asked (question_is p e path is.0 is.2.at (next is.0 is.1) s.slots)
+
 module _ (p : Parts) (old new : Going) (e : ℕ) (path : List ℕ) (stamp : ℕ) (h : SweepsOn p old e path stamp new) where
   pub asked_so : asked_at p old.now e ≡ Some (Stat path)
   asked_so =
       ap (asked_by p e old.now.slots) h.now
       ∙ when_true (λ (q : Option Request). q ≡ Some (Stat path)) h.before.asked _ _ h.swept.sweeps.asked (question_so p e path h.before h.swept.sweeps old.now.slots)
+
+  pub awaits_so : IsSweptAt p new.now e
+  awaits_so = (
+    h.after,
+    ap (λ (g : Going). slice_get g.now.edges e) h.left ∙ get_same old.now.edges e (Active h.after) (slice_get_within old.now.edges e (Active h.before) h.now),
+    h.swept.later,
+  )
 
   pub runs_so : RunsTo p old (sweep_events e stamp) (sweep_marks e) new
   runs_so =

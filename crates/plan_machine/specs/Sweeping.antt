@@ -15,7 +15,8 @@ use Rattle.plan_machine.specs.declared.turned.Turned.TheVariants as turned
 use Rattle.plan_machine.specs.Depfile.{depfile}
 use Rattle.plan_machine.specs.Going.{Going}
 use Rattle.plan_machine.specs.Rushes.{HasStrode}
-use Rattle.plan_machine.specs.State.{Status, Active, with_status}
+use Rattle.plan_machine.specs.State.{Status, Active, State, with_status}
+use Rattle.plan_machine.specs.Working.{IsSweeping}
 
 -- the events of it, and their marks
 abbrev pub sweep_events : ℕ → ℕ → List Event
@@ -29,6 +30,20 @@ abbrev pub HasNext : List ℕ → List Value → Type 0
 HasNext path (Paths swept all ∷ Flag b ∷ Stamp n ∷ below) = (slice_get all swept ≡ Some path) × (swept + 1 < length all)
 HasNext path stack = ⊥
 
+-- paths are being swept, and this is the first that wasn't
+abbrev pub IsNext : List ℕ → List Value → Type 0
+IsNext path (Paths swept all ∷ Flag b ∷ Stamp n ∷ below) = slice_get all swept ≡ Some path
+IsNext path stack = ⊥
+
+-- an edge awaits the stamp of a path of a sweep
+pub record AwaitsSwept (p : Parts) (e : ℕ) (l : Local) : Type 0 where
+  pub asked : l.asked ≡ true
+  pub at : Some op.Sweep ≡ slice_get (code p e) l.place
+  pub left : IsSweeping l.stack
+
+abbrev pub IsSweptAt : Parts → State → ℕ → Type 0
+IsSweptAt p s e = (l : Local) × (slice_get s.edges e ≡ Some (Active l)) × AwaitsSwept p e l
+
 -- an edge awaits the stamp of this path of a sweep, and another is left
 pub record Sweeps (p : Parts) (e : ℕ) (path : List ℕ) (l : Local) : Type 0 where
   pub asked : l.asked ≡ true
@@ -41,6 +56,7 @@ pub record HasSwept (p : Parts) (e : ℕ) (path : List ℕ) (stamp : ℕ) (old n
   pub between : Local
   pub hears : heard depfile p e old (StampIs stamp) ≡ Some (Goes Moved between)
   pub strode : (slots : Slots) → HasStrode p e turned.Asked between new slots slots
+  pub later : AwaitsSwept p e new
 
 -- and stands otherwise
 pub record StandsSwept (p : Parts) (e : ℕ) (path : List ℕ) (stamp : ℕ) (old new : Status) : Type 0 where

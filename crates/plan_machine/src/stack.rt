@@ -4,7 +4,7 @@ ghost use Rattle.std.specs.Prelude.{◌≡◌, ◌<◌, ◌≤◌, ◌∷◌, []
 ghost use Rattle.plan_image.specs.declared.instr.Instr.TheVariants as op;
 ghost use Rattle.plan_verify.specs.Turn.{calculate, same_text, On};
 ghost use Rattle.plan_machine.specs.Requests.{HasPathsAt, HasStampAt, HasSweptAt, HasTextAt};
-ghost use Rattle.plan_machine.specs.Sweeping.{HasNext};
+ghost use Rattle.plan_machine.specs.Sweeping.{HasNext, IsNext};
 ghost use Rattle.plan_machine.specs.Working.{Computes, HasFlag, HasPaths, HasStamp, HasText, IsPlain, IsShallow, IsSweeping};
 
 use arrayvec::ArrayVec;
@@ -243,6 +243,16 @@ impl Stack {
             return false;
         }
         paths.path(swept) == path
+    }
+
+    /// The first path that wasn't swept.
+    #[tactic(auto, using(crate::proofs::SweepLemmas::sweeping_has, crate::proofs::SweepLemmas::is_next))]
+    pub(crate) fn next_path(&self) -> &[u8]
+        requires { IsSweeping self.now }
+        ensures { IsNext result.now self.now }
+    {
+        let (count, paths) = self.paths_at();
+        paths.path(count)
     }
 
     /// The topmost swept paths.

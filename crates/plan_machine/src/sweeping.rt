@@ -9,7 +9,7 @@ ghost use Rattle.plan_machine.specs.Kept.{IsStateOf};
 ghost use Rattle.plan_machine.specs.Replaying.{RunsTo};
 ghost use Rattle.plan_machine.specs.Requests.{asked_at};
 ghost use Rattle.plan_machine.specs.State.{Active};
-ghost use Rattle.plan_machine.specs.Sweeping.{HasSwept, StandsSwept, Sweeps, SweepsOn, sweep_events, sweep_marks};
+ghost use Rattle.plan_machine.specs.Sweeping.{AwaitsSwept, HasSwept, IsNext, IsSweptAt, StandsSwept, Sweeps, SweepsOn, sweep_events, sweep_marks};
 ghost use Rattle.plan_machine.specs.Working.{Works};
 
 use crate::activity::Activity;
@@ -56,6 +56,16 @@ impl Activity {
     }
 }
 
+impl Activity {
+    /// The path whose stamp it awaits of a sweep.
+    fn swept(&self, _image: &Image, _edge: u32) -> &[u8]
+        requires { AwaitsSwept _image.now _edge self.now }
+        ensures { IsNext result.now self.now.stack }
+    {
+        self.stack.next_path()
+    }
+}
+
 impl Status {
     /// The stamp of this path of a sweep of the edge, which is under way, and then the question of the next.
     pub(crate) fn sweep_on(&mut self, image: &Image, edge: u32, path: &[u8], stamp: u64) -> bool
@@ -70,7 +80,31 @@ impl Status {
     }
 }
 
+impl Status {
+    /// The path whose stamp the edge awaits, which sweeps.
+    pub(crate) fn swept(&self, image: &Image, edge: u32) -> &[u8]
+        requires { (l : Local) × (self.now ≡ Active l) × AwaitsSwept image.now edge l }
+        ensures { (l : Local) → self.now ≡ Active l → IsNext result.now l.stack }
+    {
+        match &self.stage {
+            Stage::Active(activity) => activity.swept(image, edge),
+            _ => unreachable!(),
+        }
+    }
+}
+
 impl Machine {
+    /// The path whose stamp an edge awaits, which sweeps.
+    fn swept(&self, image: &Image, edge: u32) -> &[u8]
+        requires { IsSweptAt image.now self.now.now edge }
+        ensures { asked_at image.now self.now.now edge ≡ Some (Stat result.now) }
+    {
+        match self.edges.as_slice().get(edge as usize) {
+            Some(status) => status.swept(image, edge),
+            None => unreachable!(),
+        }
+    }
+
     /// The stamp of this path of a sweep of an edge that is under way, and then the question of the next.
     fn make_sweep(&mut self, image: &Image, edge: u32, path: &[u8], stamp: u64) -> bool
         requires active { (l : Local) × (slice_get self.old.now.edges edge ≡ Some (Active l)) × CanHear image.now edge (StampIs stamp) l }
@@ -115,6 +149,7 @@ impl State {
         requires { IsStateOf image.now self.old }
         ensures asked { result ≡ true → asked_at image.now self.old.going.now edge ≡ Some (Stat path.now) }
         ensures runs { result ≡ true → RunsTo image.now self.old.going (sweep_events edge stamp) (sweep_marks edge) self.new.going }
+        ensures next { result ≡ true → IsSweptAt image.now self.new.going.now edge }
         ensures same { result ≡ false → self.new ≡ self.old }
         ensures state { IsStateOf image.now self.new }
     {
@@ -133,5 +168,13 @@ impl State {
         }
         self.note(tables, edge);
         true
+    }
+
+    /// The path whose stamp an edge awaits, which sweeps. It takes no memory.
+    pub fn swept(&self, image: &Verified, edge: u32) -> &[u8]
+        requires { IsSweptAt image.now self.now.going.now edge }
+        ensures { asked_at image.now self.now.going.now edge ≡ Some (Stat result.now) }
+    {
+        self.machine.swept(image.image(), edge)
     }
 }

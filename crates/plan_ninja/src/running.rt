@@ -15,7 +15,7 @@ ghost use Rattle.plan_ninja.specs.Running.{FailsToRun, IsNotBegun, IsOpened, Run
 use crate::fault::{PlanFault, file_fault, no_memory, output_fault};
 use crate::playing::{Played, play, report_of};
 use crate::targets::targets_of;
-use crate::verdicts::verified_at;
+use crate::verdicts::verified_by;
 use plan_lanes::{LaneFault, Report, World};
 use plan_machine::Options;
 use plan_scope::Source;
@@ -144,8 +144,9 @@ fn printed_lane_fault(alloc: Global, fault: &LaneFault) -> PlanFault
     }
 }
 
-/// The image at a path, and the edges that make its targets.
-fn opened_at<S: Source>(
+/// The image at a path, which so many threads verify as may run commands, and the edges that make its targets.
+fn opened_at<S: Source, R: Threads + Sync>(
+    rt: &R,
     alloc: Global,
     source: &mut S,
     build: &Build<'_>,
@@ -157,7 +158,7 @@ fn opened_at<S: Source>(
         let wanted = defined.wanted build.now.image.now build.now.options (map (λ n. n.now) build.now.targets.now) (option_map (λ t. t.now) build.now.trace) in
         IfErr result (λ fault. IsNotBegun (S.gives source.old) missing wanted fault) }
 {
-    let image = match verified_at(alloc, source, build.image) {
+    let image = match verified_by(rt, alloc, build.options.jobs(), source, build.image) {
         Ok(image) => image,
         Err(fault) => return Err(fault),
     };
@@ -230,7 +231,7 @@ pub fn do_run<
         ⊎ FailsToRun (S.gives source.old) W.allows wanted
         ((O.failures out, O.taken out), (T.failures trace.old, T.taken trace.old)) ((O.failures result.1, O.taken result.1), (T.failures trace.new, T.taken trace.new)) fault) }
 {
-    let (image, targets) = match opened_at(alloc, source, build) {
+    let (image, targets) = match opened_at(rt, alloc, source, build) {
         Ok(opened) => opened,
         Err(fault) => return (Err(fault), out),
     };

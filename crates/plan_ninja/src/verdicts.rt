@@ -11,9 +11,10 @@ use crate::image_fault::printed_verify_fault;
 use crate::images::image_at;
 use plan_scope::Source;
 use plan_text::{Sink, write_all};
-use plan_verify::{Verified, verify};
+use plan_verify::{Verified, verify, verify_by};
 use std::alloc::{AllocError, Global};
 use std::mem::forget;
+use std::thread::Threads;
 
 /// The image at the path, which is well shaped.
 pub fn verified_at<S: Source>(
@@ -28,6 +29,26 @@ pub fn verified_at<S: Source>(
 {
     let image = image_at(alloc, source, path)?;
     match verify(alloc, image) {
+        Ok(verified) => Ok(verified),
+        Err((_, fault)) => Err(printed_verify_fault(alloc, fault)),
+    }
+}
+
+/// The same image, verified by so many threads.
+pub fn verified_by<S: Source, R: Threads + Sync>(
+    rt: &R,
+    alloc: Global,
+    threads: u8,
+    source: &mut S,
+    path: &[u8],
+) -> Result<Verified, PlanFault>
+    ensures image { IfOk result (λ image. IsImageAt (S.gives source.old) path.now image × IsWellShaped image) }
+    ensures read { OnOk result (S.failures source.new ≡ S.failures source.old) }
+    ensures refused { let missing = IsMissing (S.gives source.old) (S.fails source.old) (S.failures source.old) (S.failures source.new) in
+        IfErr result (λ fault. IsRejected (S.gives source.old) missing path.now fault) }
+{
+    let image = image_at(alloc, source, path)?;
+    match verify_by(rt, alloc, threads, image) {
         Ok(verified) => Ok(verified),
         Err((_, fault)) => Err(printed_verify_fault(alloc, fault)),
     }

@@ -6,6 +6,7 @@ pub mod ScopeLemmas
 pub mod ExpansionLemmas
 pub mod PlainTable
 pub mod MemoLemmas
+pub mod CompiledLemmas
 pub mod PathLemmas
 pub mod VariableLemmas
 pub mod ListLemmas

@@ -122,7 +122,7 @@ both_empty : (a : Option Text) → both a (Some []) ≡ both (Some []) a
 both_empty None = refl
 both_empty (Some x) = ap (λ (t : Text). Some t) (append-nil x)
 
-joined_more : (f : Name → Option Text) (ps : List Piece) (p : Piece) → joined f (ps ++ p ∷ []) ≡ both (joined f ps) (text_of_piece f p)
+pub joined_more : (f : Name → Option Text) (ps : List Piece) (p : Piece) → joined f (ps ++ p ∷ []) ≡ both (joined f ps) (text_of_piece f p)
 joined_more f [] p = both_empty (text_of_piece f p)
 joined_more f (q ∷ ps) p = ap (both (text_of_piece f q)) (joined_more f ps p) ∙ both_last (text_of_piece f q) (joined f ps) (text_of_piece f p)
 

@@ -1,5 +1,5 @@
 -- Worked examples of scopes and expansion, from the bytes of files on.
-use Rattle.std.proofs.Common.{◌≡◌, ℕ, List, [], ◌∷◌, ◌++◌, ◌⊎◌, inl, inr, map, Option, Some, Result, Ok, Err, refl}
+use Rattle.std.proofs.Common.{◌≡◌, ℕ, Bor, List, [], ◌∷◌, ◌++◌, ◌⊎◌, inl, inr, map, Option, Some, Result, Ok, Err, refl}
 use Rattle.std.specs.Prelude.{codes, true, false}
 use Rattle.plan_parse.specs.declared.fault.ParseFault.{ParseFault}
 use Rattle.plan_parse.specs.declared.statement.Statement.{Statement}
@@ -8,7 +8,12 @@ use Rattle.plan_scope.specs.declared.fault.Cause.TheVariants.{IncludeDepth, Dupl
 use Rattle.plan_scope.specs.declared.fault.ScopeFault.{ScopeFault}
 use Rattle.plan_scope.specs.declared.fault.ScopeFault.TheVariants.{Refused, SourceMissing}
 use Rattle.plan_scope.specs.declared.manifest.Manifest.{Manifest}
+use Rattle.plan_scope.specs.declared.edge.compiled.VariablePart.{VariablePart}
+use Rattle.plan_scope.specs.declared.edge.compiled.VariablePart.TheVariants as part
 use Rattle.plan_scope.specs.Trees.{TreeStatement}
+use Rattle.plan_scope.specs.Scopes.{Text, Bindings}
+use Rattle.plan_scope.specs.Expansion.{EdgeEnvironment, plain, quoted}
+use Rattle.plan_scope.specs.Compiled.{text_of_parts}
 use Rattle.plan_scope.specs.Edges.{manifest_of, commands_of}
 use Rattle.plan_scope.specs.Loading.{LoadsFirst, MayLoad, whole_file, is_read, is_missing, is_refused, is_added, includes_file, ends, fresh_scope}
 
@@ -247,3 +252,25 @@ too_deep = is_read 0 name (0 ∷ []) [] (codes "subninja c") _ _ (inl (refl, ref
 
 missing_file : LoadsFirst gives (λ path. path ≡ codes "d") (codes "d") (Err (SourceMissing (codes "d")))
 missing_file = is_missing 63 (codes "d") (0 ∷ []) [] refl
+
+-- === Rules compiled for a file ===
+
+abbrev lent : List ℕ → Bor (List ℕ)
+lent bytes = record { ref_ptr = (0, 0); now = bytes }
+
+-- an edge with two inputs, one with a space in it
+abbrev edge_in : Bindings Text → EdgeEnvironment
+edge_in block = record { inputs = codes "a b" ∷ codes "c" ∷ []; outputs = codes "o" ∷ []; block = block; rule = []; file = λ name. [] }
+
+abbrev compile_parts : List VariablePart
+compile_parts = part.Near (lent (codes "cc")) (lent (codes "gcc")) ∷ part.Literal (lent (codes " -o ")) ∷ part.Outputs ∷ part.Literal (lent (codes " ")) ∷ part.Inputs ∷ []
+
+parts_in_turn : text_of_parts quoted (edge_in []) compile_parts ≡ codes "gcc -o o 'a b' c"
+parts_in_turn = refl
+
+-- what the block binds, in place of what is known in the file; paths as they are
+parts_by_block : text_of_parts plain (edge_in ((codes "cc", codes "clang") ∷ [])) compile_parts ≡ codes "clang -o o a b c"
+parts_by_block = refl
+
+parts_by_line : text_of_parts quoted (edge_in []) (part.InputsByLine ∷ []) ≡ codes "'a b'" ++ lf ++ codes "c"
+parts_by_line = refl

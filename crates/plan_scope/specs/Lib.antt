@@ -16,6 +16,8 @@ pub mod ShellQuoting
 pub mod HeldEnvironment
 pub mod Outcomes
 pub mod Memo
+pub mod Compiled
+pub mod Found
 pub mod Paths
 pub mod Parts
 pub mod Evaluation

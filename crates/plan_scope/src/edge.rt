@@ -1,8 +1,10 @@
 //! The edges of build lines: their paths, and their variables.
 
 pub(crate) mod build_line;
+pub(crate) mod compiled;
 pub(crate) mod expansion;
 mod memo;
 pub(crate) mod paths;
+pub(crate) mod rule_compiler;
 pub(crate) mod rule_variables;
 mod variables;

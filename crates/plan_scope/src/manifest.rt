@@ -3,6 +3,7 @@
 pub(crate) mod commands;
 mod defaults;
 pub(crate) mod evaluator;
+pub(crate) mod found_rules;
 pub(crate) mod pool_names;
 mod pools;
 mod rules;

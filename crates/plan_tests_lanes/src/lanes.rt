@@ -5,7 +5,7 @@ use plan_lanes::*;
 use plan_machine::{Mark, Options, Outcome, Refused, Reply};
 use plan_status::{ends_stay, live};
 use plan_text::{Counted as Sinks, Items, RowList, Sink};
-use plan_verify::{PathList, Verified, verify};
+use plan_verify::{PathList, Refusal, Verified, VerifyFault, verify, verify_by};
 use std::alloc::{AllocError, Global};
 use std::mem::forget;
 use std::rt::Clock;
@@ -46,8 +46,8 @@ fn edge(alloc: Global, n: u32, waits: &[u32], looks: u32) -> Result<Edge, AllocE
     })
 }
 
-/// The image of these edges, all of which are built by default.
-fn image_of(alloc: Global, edges: &[Edge]) -> Result<Verified, Refused> {
+/// The tables of these edges, all of which are built by default.
+fn parts_of(alloc: Global, edges: &[Edge]) -> Result<Parts, AllocError> {
     let mut texts = RowList::new(alloc);
     texts.push(b"x")?;
     let mut files = RowList::new(alloc);
@@ -60,7 +60,7 @@ fn image_of(alloc: Global, edges: &[Edge]) -> Result<Verified, Refused> {
         defaults.push(n)?;
         n = n.saturating_add(1);
     }
-    let parts = Parts {
+    Ok(Parts {
         texts,
         files,
         pools: Items::empty(alloc),
@@ -68,11 +68,31 @@ fn image_of(alloc: Global, edges: &[Edge]) -> Result<Verified, Refused> {
         bodies: None,
         edges: table,
         defaults: Items::new(defaults),
-    };
-    let Ok(image) = Image::new(parts) else {
+    })
+}
+
+/// Their image.
+fn image_of(alloc: Global, edges: &[Edge]) -> Result<Verified, Refused> {
+    let Ok(image) = Image::new(parts_of(alloc, edges)?) else {
         return Err(Refused::BadTarget);
     };
     verify(alloc, image).map_err(|_| Refused::BadTarget)
+}
+
+/// 300 edges, of which those from one on take from an empty stack.
+fn edges_bad_from(alloc: Global, bad: u32) -> Result<Image, Refused> {
+    let mut edges = Vec::new(alloc);
+    for n in 0..300 {
+        let mut next = edge(alloc, n, &[], 0)?;
+        if n >= bad {
+            next.code = EdgeCode::Own(Items::new(Vec::from_slice(
+                alloc,
+                [Instr::Drop].as_slice(),
+            )?));
+        }
+        edges.push(next)?;
+    }
+    Image::new(parts_of(alloc, &edges)?).map_err(|_| Refused::BadTarget)
 }
 
 /// So many edges; each waits for the one so many before it (0: for none).
@@ -324,6 +344,28 @@ fn each_edge_once(rt: HostRuntime) -> Result<(), Fail> {
 }
 
 /// All lanes end where memory runs out at any call.
+#[test]
+fn same_verdict_by_threads(rt: HostRuntime) -> Result<(), Fail> {
+    for threads in [0u8, 1, 2, 4, 64] {
+        for bad in [0u32, 74, 75, 149, 150, 225, 299, 300] {
+            let Ok(image) = edges_bad_from(rt.alloc(), bad) else {
+                panic!(&rt; "no image");
+            };
+            let verdict = match verify_by(&rt, rt.alloc(), threads, image) {
+                Ok(verified) => Ok(verified.budget()),
+                Err((_image, fault)) => Err(fault),
+            };
+            if bad < 300 {
+                let fault = VerifyFault::Refused(Refusal::EmptyStack, bad, 0);
+                assert_eq!(rt; verdict, Err(fault));
+            } else {
+                assert_eq!(rt; verdict, Ok(2_100));
+            }
+        }
+    }
+    Ok(())
+}
+
 #[test]
 fn memory_runs_out(rt: HostRuntime) -> Result<(), Fail> {
     let Ok(image) = edges_of(rt.alloc(), 100, 3, 2) else {

@@ -409,25 +409,24 @@ fn nothing_wanted(rt: HostRuntime) {
 }
 
 /// Whether stamps are heard in a sweep, of an edge that reads a depfile of the paths `b` and `c`: another path, the first,
-/// the first again, and the last.
-fn sweeps(alloc: Global, image: &Verified, state: &mut State) -> Result<([bool; 4], Rush), Refused>
+/// behind which the last is asked for, the first again, and the last.
+fn sweeps(alloc: Global, image: &Verified, state: &mut State) -> Result<([bool; 5], Rush), Refused>
     requires { IsStateOf image.now state.old }
 {
     let _ = state.apply(image, Event::Start(0))?;
     let read = state.rush(image, 0);
     let _ = state.follow(image, 0, depfile(alloc, b"a: b c\n")?)?;
-    let swept = [
-        state.sweep_on(image, 0, b"c", 5),
-        state.sweep_on(image, 0, b"b", 5),
-        state.sweep_on(image, 0, b"b", 5),
-        state.sweep_on(image, 0, b"c", 7),
-    ];
+    let another = state.sweep_on(image, 0, b"c", 5);
+    let first = state.sweep_on(image, 0, b"b", 5);
+    let next = first && state.swept(image, 0) == b"c".as_slice();
+    let again = state.sweep_on(image, 0, b"b", 5);
+    let last = state.sweep_on(image, 0, b"c", 7);
     let (_answered, _ends) = state.follow(image, 0, Reply::Stamp(7))?;
-    Ok((swept, read))
+    Ok(([another, first, next, again, last], read))
 }
 
 /// The same, in a run of one job.
-fn opened_sweeps(alloc: Global, image: &Verified) -> Result<([bool; 4], Rush), Refused> {
+fn opened_sweeps(alloc: Global, image: &Verified) -> Result<([bool; 5], Rush), Refused> {
     let Some(options) = Options::new(1, 0) else {
         return Err(Refused::Memory);
     };
@@ -456,6 +455,6 @@ fn edge_sweeps_on(rt: HostRuntime) {
         steps: 3,
         asked: true,
     };
-    let told = ([false, true, false, false], read);
+    let told = ([false, true, true, false, false], read);
     assert_eq!(rt; opened_sweeps(rt.alloc(), &image), Ok(told));
 }

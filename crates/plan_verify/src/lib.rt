@@ -1,7 +1,7 @@
 //! Which images are well shaped, and what one edge of them does.
 //!
 //! - `verify`: an image as a `Verified` one with its budget, or the image back with a `VerifyFault`: the first check that
-//!   fails, a `Refusal`, with edge and place.
+//!   fails, a `Refusal`, with edge and place. `verify_by`: the same by several threads.
 //! - `Value`, `Cause`: what stands on an edge's stack, and why an edge fails. `Shape`: what is known of an edge at a place.
 //! - The laws say what holds of each edge of a verified image, for the proofs of the crates above: run alone it never
 //!   goes wrong and stays in its budget, its tables are in range.
@@ -15,6 +15,7 @@ mod flow;
 mod kinds;
 mod laws;
 mod own_slots;
+mod parts;
 mod pass;
 mod place_checks;
 mod shape;
@@ -35,4 +36,4 @@ pub use laws::{
 pub use shape::Shape;
 pub use slot_set::SlotSet;
 pub use value::{Cause, PathList, Value, Words};
-pub use verified::{Verified, verify};
+pub use verified::{Verified, verify, verify_by};

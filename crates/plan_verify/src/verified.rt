@@ -1,19 +1,18 @@
 //! Images that are well shaped.
 
-ghost use Rattle.std.specs.Prelude.{◌≡◌, ◌≢◌, ◌<◌, ◌≤◌, ◌^◌, IfOk, OnOk, IfErr, IsOk, length};
-ghost use Rattle.plan_image.specs.Columns.{lent};
-ghost use Rattle.plan_verify.specs.OwnSlots.{AreOwnSlots};
-ghost use Rattle.plan_verify.specs.WellShaped.{IsShapedEdge, IsWellShaped};
-ghost use Rattle.plan_verify.specs.Budget.{edge_budget, image_budget};
-ghost use Rattle.plan_verify.specs.Verdict.{IsEdgeFault, IsVerifyFault};
+ghost use Rattle.std.specs.Prelude.{◌≡◌, ◌≢◌, IfErr, IfOk, IsOk, OnOk, length};
+ghost use Rattle.plan_verify.specs.WellShaped.{IsWellShaped};
+ghost use Rattle.plan_verify.specs.Budget.{image_budget};
+ghost use Rattle.plan_verify.specs.Verdict.{IsPart, IsVerifyFault};
 
-use crate::fault::{CodeFault, VerifyFault};
-use crate::own_slots::{OwnSlots, own_slots_of_all};
-use crate::pass::pass_code;
-use crate::table_checks::{refusal_of_all, table_refusal};
-use plan_image::{EdgeRef, Image};
+use crate::fault::VerifyFault;
+use crate::own_slots::own_slots_of_all;
+use crate::parts::{halvings, verify_halves, verify_part};
+use crate::table_checks::refusal_of_all;
+use plan_image::Image;
 use std::alloc::Global;
 use std::marker::Model;
+use std::thread::Threads;
 
 /// An image that is well shaped, with its budget.
 #[derive(Debug, Drop)]
@@ -52,37 +51,19 @@ impl Verified {
     }
 }
 
-/// A fault of an edge's places as one of the image.
-fn fault_at(edge: u32, fault: CodeFault) -> VerifyFault
-    ensures { result ≡ Rattle.plan_verify.specs.Verdict.fault_at edge fault }
+/// What tables of all edges together leave of a verdict on each edge.
+fn with_tables(image: &Image, budget: Result<u64, VerifyFault>) -> Result<u64, VerifyFault>
+    requires { IsPart image.now 0 (length image.now.edges) budget }
+    ensures ok { OnOk result (IsWellShaped image.now) }
+    ensures budget { IfOk result (λ b. b ≡ image_budget image.now) }
+    ensures err { IfErr result (λ f. IsVerifyFault image.now f) }
 {
-    match fault {
-        CodeFault::Refused(refusal, place) => VerifyFault::Refused(refusal, edge, place),
-        CodeFault::Memory => VerifyFault::Memory,
-    }
-}
-
-/// The budget of an edge that has shapes, or its first check that fails.
-fn verify_edge(
-    alloc: Global,
-    image: &Image,
-    edge: u32,
-    entry: EdgeRef<'_>,
-    own: OwnSlots,
-) -> Result<u64, VerifyFault>
-    requires entry { Rattle.std.specs.Prelude.slice_get image.now.edges edge ≡ Rattle.std.specs.Prelude.Some (lent entry) }
-    requires own { Rattle.plan_verify.specs.OwnSlots.IsOwn image.now edge own }
-    ensures ok { OnOk result (IsShapedEdge image.now edge) }
-    ensures budget { IfOk result (λ b. b ≡ edge_budget image.now edge) }
-    ensures small { IfOk result (λ b. b ≤ 2 ^ 28) }
-    ensures err { IfErr result (λ f. IsEdgeFault image.now edge f) }
-{
-    if let Some(refusal) = table_refusal(image.parts(), edge, entry, own) {
-        return Err(VerifyFault::Refused(refusal, edge, 0));
-    }
-    match pass_code(alloc, image, edge, own.count) {
-        Ok(budget) => Ok(budget),
-        Err(fault) => Err(fault_at(edge, fault)),
+    match budget {
+        Ok(budget) => match refusal_of_all(image.parts()) {
+            None => Ok(budget),
+            Some(refusal) => Err(VerifyFault::Refused(refusal, 0, 0)),
+        },
+        Err(fault) => Err(fault),
     }
 }
 
@@ -92,19 +73,44 @@ fn verify_all(alloc: Global, image: &Image) -> Result<u64, VerifyFault>
     ensures budget { IfOk result (λ b. b ≡ image_budget image.now) }
     ensures err { IfErr result (λ f. IsVerifyFault image.now f) }
 {
-    let parts = image.parts();
-    let owns = own_slots_of_all(alloc, parts)?;
-    let mut budget = 0u64;
-    for number in 0..parts.edges.len() {
-        let entry = parts.edges.edge(number);
-        match verify_edge(alloc, image, number as u32, entry, owns[number]) {
-            Ok(more) => budget += more,
-            Err(fault) => return Err(fault),
-        }
-    }
-    match refusal_of_all(parts) {
-        None => Ok(budget),
-        Some(refusal) => Err(VerifyFault::Refused(refusal, 0, 0)),
+    let owns = own_slots_of_all(alloc, image.parts())?;
+    let len = image.parts().edges.len();
+    with_tables(image, verify_part(alloc, image, &owns, 0, len))
+}
+
+/// The same by several threads.
+fn verify_all_by<R: Threads + Sync>(
+    rt: &R,
+    alloc: Global,
+    threads: u8,
+    image: &Image,
+) -> Result<u64, VerifyFault>
+    ensures ok { OnOk result (IsWellShaped image.now) }
+    ensures budget { IfOk result (λ b. b ≡ image_budget image.now) }
+    ensures err { IfErr result (λ f. IsVerifyFault image.now f) }
+{
+    let owns = own_slots_of_all(alloc, image.parts())?;
+    let len = image.parts().edges.len();
+    with_tables(
+        image,
+        verify_halves(rt, alloc, image, &owns, 0, len, halvings(threads)),
+    )
+}
+
+/// The image with its budget, or back with its fault.
+fn judged(image: Image, verdict: Result<u64, VerifyFault>) -> Result<Verified, (Image, VerifyFault)>
+    requires ok { OnOk verdict (IsWellShaped image) }
+    requires budget { IfOk verdict (λ b. b ≡ image_budget image) }
+    requires err { IfErr verdict (λ f. IsVerifyFault image f) }
+    ensures same { IfOk result (λ v. v ≡ image) }
+    ensures shaped { IsOk result → IsWellShaped image }
+    ensures back { IfErr result (λ e. e.0 ≡ image) }
+    ensures fault { IfErr result (λ e. IsVerifyFault image e.1) }
+    ensures only { IfErr result (λ e. e.1 ≢ VerifyFault.Memory → IsWellShaped image → ⊥) }
+{
+    match verdict {
+        Ok(budget) => Ok(Verified { image, budget }),
+        Err(fault) => Err((image, fault)),
     }
 }
 
@@ -118,8 +124,24 @@ pub fn verify(alloc: Global, image: Image) -> Result<Verified, (Image, VerifyFau
     ensures fault { IfErr result (λ e. IsVerifyFault image e.1) }
     ensures only { IfErr result (λ e. e.1 ≢ VerifyFault.Memory → IsWellShaped image → ⊥) }
 {
-    match verify_all(alloc, &image) {
-        Ok(budget) => Ok(Verified { image, budget }),
-        Err(fault) => Err((image, fault)),
-    }
+    let verdict = verify_all(alloc, &image);
+    judged(image, verdict)
+}
+
+/// The image as `verify` gives it, and with the same faults. Its edges are halved, the halves again, and verified at once,
+/// as long as there are so many threads for it and enough edges.
+pub fn verify_by<R: Threads + Sync>(
+    rt: &R,
+    alloc: Global,
+    threads: u8,
+    image: Image,
+) -> Result<Verified, (Image, VerifyFault)>
+    ensures same { IfOk result (λ v. v ≡ image) }
+    ensures shaped { IsOk result → IsWellShaped image }
+    ensures back { IfErr result (λ e. e.0 ≡ image) }
+    ensures fault { IfErr result (λ e. IsVerifyFault image e.1) }
+    ensures only { IfErr result (λ e. e.1 ≢ VerifyFault.Memory → IsWellShaped image → ⊥) }
+{
+    let verdict = verify_all_by(rt, alloc, threads, &image);
+    judged(image, verdict)
 }

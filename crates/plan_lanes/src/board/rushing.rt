@@ -1,9 +1,10 @@
 //! Many events of one edge at once.
 
-ghost use Rattle.std.specs.Prelude.{◌≡◌, IfOk, IfSome, None, OnErr, false, true};
+ghost use Rattle.std.specs.Prelude.{◌≡◌, ◌≢◌, IfOk, IfSome, None, OnErr, Some, false, true};
 ghost use Rattle.plan_verify.specs.Turn.{Stat};
 ghost use Rattle.plan_machine.specs.declared.event.Event.TheVariants.{Reply as Hear};
 ghost use Rattle.plan_machine.specs.Requests.{asked_at};
+ghost use Rattle.plan_machine.specs.Sweeping.{IsSweptAt};
 ghost use Rattle.plan_lanes.specs.Boards.{IsNumbered, IsOpen, MayJournal};
 ghost use Rattle.plan_lanes.specs.Questions.{shown};
 ghost use Rattle.plan_lanes.specs.Rushes.{Follows, GoesOn, Rushes, Sweeps};
@@ -14,6 +15,17 @@ use crate::telling::keep;
 use crate::world::World;
 use plan_machine::{Event, Refused, Reply, Request, Rush};
 use std::alloc::AllocError;
+
+/// What an edge does by itself behind a reply.
+#[derive(Clone, Copy)]
+pub(crate) enum Followed {
+    /// It asks again: the question stands in the place of the one before.
+    Renewed,
+    /// It asks again.
+    Asks,
+    /// It asks nothing.
+    Rests,
+}
 
 /// Room for the events of a reply and a rush.
 const ROOM: usize = 66;
@@ -83,6 +95,7 @@ impl<'v, W: World> Board<'v, W> {
     ) -> Result<bool, Refused>
         requires { W.allows number (Stat path.now) (Reply.Stamp stamp) }
         ensures on { IfOk result (λ swept. swept ≡ true → Sweeps self.old self.new edge stamp) }
+        ensures next { IfOk result (λ swept. swept ≡ true → IsSweptAt self.new.opened.parts self.new.state edge) }
         ensures off { IfOk result (λ swept. swept ≡ false → self.new ≡ self.old) }
         ensures err { OnErr result (self.new ≡ self.old) }
     {
@@ -101,48 +114,93 @@ impl<'v, W: World> Board<'v, W> {
         Ok(true)
     }
 
-    /// Hands in the reply to a question of a sweep that goes on. False where it is none; then, and where it is refused,
-    /// nothing changed.
-    fn sweep_on(&mut self, edge: u32, question: &Question, reply: &Reply) -> Result<bool, Refused>
-        requires { W.allows question.now.number (shown question.now.request) reply.now }
-        ensures goes { GoesOn self.old self.new }
-        ensures off { IfOk result (λ swept. swept ≡ false → self.new ≡ self.old) }
+    /// The question for the stamp of a path, which an edge awaits, in the place of one before. False where that asked for
+    /// something else than a stamp.
+    fn renew_for(&self, edge: u32, question: &mut Question, path: &[u8]) -> Result<bool, AllocError>
+        requires { asked_at self.now.opened.parts self.now.state edge ≡ Some (Stat path.now) }
+        ensures { IfOk result (λ renewed. renewed ≡ true → IsOpen self.now edge question.new.number (shown question.new.request)) }
     {
-        match (&question.request, reply) {
-            (Asked::Stat(path), Reply::Stamp(stamp)) => {
-                self.record_sweep(edge, question.number, path.as_slice(), *stamp)
+        match self.numbers.get(edge as usize) {
+            Some(number) => {
+                question.number = *number;
+                question.request.renew(self.alloc, path)
             }
-            _ => Ok(false),
+            None => Ok(false),
         }
     }
 
-    /// Hands a reply in, as `answer_to`, and lets its edge go on as far as it does so by itself. True where it asks again.
+    /// The question of an edge that sweeps, in the place of one before, where that asked for a stamp too.
+    fn renew_swept(&self, edge: u32, question: &mut Question) -> Result<Followed, AllocError>
+        requires { IsSweptAt self.now.opened.parts self.now.state edge }
+        ensures { IfOk result (λ r. r ≡ Followed.Renewed → IsOpen self.now edge question.new.number (shown question.new.request)) }
+    {
+        let path = self.state.swept(self.image, edge);
+        if self.renew_for(edge, question, path)? {
+            return Ok(Followed::Renewed);
+        }
+        Ok(Followed::Asks)
+    }
+
+    /// Hands in the reply to a question of a sweep that goes on, and asks the next in its place. None where it is none;
+    /// then nothing changed.
+    fn sweep_on(
+        &mut self,
+        edge: u32,
+        question: &mut Question,
+        reply: &Reply,
+    ) -> Result<Option<Followed>, Refused>
+        requires { W.allows question.old.number (shown question.old.request) reply.now }
+        ensures goes { GoesOn self.old self.new }
+        ensures on { IfOk result (λ r. r ≡ Some Followed.Renewed → IsOpen self.new edge question.new.number (shown question.new.request)) }
+        ensures off { IfOk result (λ r. r ≡ None → (self.new ≡ self.old) × (question.new ≡ question.old)) }
+    {
+        match (&question.request, reply) {
+            (Asked::Stat(path), Reply::Stamp(stamp)) => {
+                if !self.record_sweep(edge, question.number, path.as_slice(), *stamp)? {
+                    return Ok(None);
+                }
+            }
+            _ => return Ok(None),
+        }
+        Ok(Some(self.renew_swept(edge, question)?))
+    }
+
+    /// Hands a reply in, as `answer_to`, and lets its edge go on as far as it does so by itself.
     pub(crate) fn follow(
+        &mut self,
+        edge: u32,
+        question: &mut Question,
+        reply: Reply,
+    ) -> Result<Followed, Refused>
+        requires { W.allows question.old.number (shown question.old.request) reply }
+        ensures goes { GoesOn self.old self.new }
+        ensures renewed { IfOk result (λ r. r ≡ Followed.Renewed → IsOpen self.new edge question.new.number (shown question.new.request)) }
+    {
+        match self.sweep_on(edge, question, &reply)? {
+            Some(followed) => Ok(followed),
+            None => self.follow_open(edge, question, reply),
+        }
+    }
+
+    /// The same of a question that needn't be one of a sweep.
+    fn follow_open(
         &mut self,
         edge: u32,
         question: &Question,
         reply: Reply,
-    ) -> Result<bool, Refused>
+    ) -> Result<Followed, Refused>
         requires { W.allows question.now.number (shown question.now.request) reply }
-        ensures { GoesOn self.old self.new }
-    {
-        let swept = self.sweep_on(edge, question, &reply)?;
-        if swept {
-            return Ok(true);
-        }
-        self.follow_open(edge, question, reply)
-    }
-
-    /// The same of a question that needn't be one of a sweep.
-    fn follow_open(&mut self, edge: u32, question: &Question, reply: Reply) -> Result<bool, Refused>
-        requires { W.allows question.now.number (shown question.now.request) reply }
-        ensures { GoesOn self.old self.new }
+        ensures goes { GoesOn self.old self.new }
+        ensures other { IfOk result (λ r. r ≢ Followed.Renewed) }
     {
         if !self.is_open(edge, question) {
             return Err(Refused::NotEnabled);
         }
         let rush = self.record_reply(edge, reply)?;
-        Ok(rush.asked)
+        if rush.asked {
+            return Ok(Followed::Asks);
+        }
+        Ok(Followed::Rests)
     }
 
     /// The question whose reply an edge awaits. Rooms that are left serve for its path.
@@ -177,13 +235,7 @@ impl<'v, W: World> Board<'v, W> {
         let Some(Request::Stat(path)) = self.state.request(self.image, edge) else {
             return Ok(false);
         };
-        match self.numbers.get(edge as usize) {
-            Some(number) => {
-                question.number = *number;
-                question.request.renew(self.alloc, path)
-            }
-            None => Ok(false),
-        }
+        self.renew_for(edge, question, path)
     }
 
     /// Does what can be done next without a reply, as `advance`; where that is the step of an edge which goes on by itself,

@@ -4,11 +4,13 @@ ghost use Rattle.std.specs.Prelude.{◌≡◌, [], List, IfOk, true, false};
 ghost use Rattle.plan_scope.specs.Scopes.{Name, Text};
 ghost use Rattle.plan_scope.specs.Edges.{causes_of, edge_of, edge_or_refusal, first_of, names_no_pool, or_refused, phony_variables, environment_of, variables_of};
 ghost use Rattle.plan_scope.specs.Kept.{EqNames, KeptEqLookup};
+ghost use Rattle.plan_scope.specs.Compiled.{IsCompiledRule};
 ghost use Rattle.plan_scope.specs.HeldEnvironment.{environment_of as held_environment};
 ghost use Rattle.plan_scope.specs.Parts.{IsRead, environment_from};
 ghost use Rattle.plan_scope.specs.Outcomes.{Gives};
 ghost use Rattle.plan_scope.specs.ScopeNames.{names_in};
 
+use crate::edge::compiled::CompiledRule;
 use crate::edge::expansion::EdgeEnvironment;
 use crate::edge::paths::{BlockTexts, PathTexts, block, read_paths};
 use crate::edge::rule_variables::RuleVariables;
@@ -136,21 +138,23 @@ fn environment_with<'a>(
     }
 }
 
-/// The edge of a build line with this rule, by the pools of the tree and by what names stand for above the statement
-/// and, once the whole tree was read, in its file.
+/// The edge of a build line with this rule, which is compiled for its file, by the pools of the tree and by what names
+/// stand for above the statement and, once the whole tree was read, in its file.
 pub fn edge<'a>(
     alloc: Global,
     pools: &PoolNames<'a>,
     here: Scope<'a>,
     file: Scope<'a>,
     rule: &'a RuleVariables<'a>,
+    compiled: &CompiledRule,
     build: &'a Build,
 ) -> Result<Edge, StatementFault>
+    requires { IsCompiledRule rule.now (names_in file) compiled.now }
     ensures { (names : List Name) (h f : Name → Text) → EqNames pools.now names → KeptEqLookup (names_in here.entry) h → KeptEqLookup (names_in file.entry) f → Gives result (edge_or_refusal names h build.now (variables_of (environment_of h f build.now rule.now)) false) }
 {
     let parts = read_parts(alloc, here, build)?;
     let environment = environment_with(&parts, &*rule, file);
-    let variables = variables_of_rule(alloc, &environment)?;
+    let variables = variables_of_rule(alloc, &environment, compiled)?;
     edge_or_refusal(pools, parts, variables, false)
 }
 

@@ -1,13 +1,14 @@
 //! The variables of a rule by name.
 
-ghost use Rattle.std.specs.Prelude.{◌≡◌, [], length, IfOk, option_map};
+ghost use Rattle.std.specs.Prelude.{◌≡◌, [], length, IfOk, option_map, true};
 ghost use Rattle.plan_scope.specs.Scopes.{last_of};
 ghost use Rattle.plan_scope.specs.Edges.{late};
+ghost use Rattle.plan_scope.specs.Compiled.{LeavesRule};
 
 use crate::scope::scoped_map::{MARKS, mark};
 use crate::scope::small_map::SmallMap;
 use plan_parse::Binding;
-use plan_text::Piece;
+use plan_text::{Items, Piece};
 use std::alloc::{AllocError, Global};
 use std::marker::Model;
 
@@ -82,5 +83,18 @@ impl<'a> RuleVariables<'a> {
             Some(pieces) => Some(*pieces),
             None => None,
         }
+    }
+
+    /// Whether a block binds none of them.
+    pub fn are_left_by<'b>(&self, block: &SmallMap<'b, Items<u8>>) -> bool
+        ensures { result ≡ true → LeavesRule self.now block.now }
+    {
+        for binding in self.bindings {
+            match block.get(binding.name.as_slice()) {
+                Some(_) => return false,
+                None => {}
+            }
+        }
+        true
     }
 }

@@ -7,9 +7,11 @@ ghost use Rattle.plan_scope.specs.Expansion.{Known, listed, meaning_of, variable
 ghost use Rattle.plan_scope.specs.Edges.{is_other_deps, is_present, phony_variables, text_of_variable, texts_of_variables, variables_of};
 ghost use Rattle.plan_scope.specs.Kept.{kept, KeptEqVariables};
 ghost use Rattle.plan_scope.specs.HeldEnvironment.{environment_of};
+ghost use Rattle.plan_scope.specs.Compiled.{AreCompiled, IsCompiledRule, LeavesRule};
 ghost use Rattle.plan_scope.specs.Memo.{IsMemo};
 ghost use Rattle.plan_scope.specs.ShellQuoting.{quoted_as};
 
+use crate::edge::compiled::{CompiledRule, RuleParts, text_of_parts};
 use crate::edge::expansion::{EdgeEnvironment, append_whole};
 use crate::edge::memo::MemoEntry;
 use crate::fault::StatementFault;
@@ -114,8 +116,8 @@ fn variable<'a>(
     }
 }
 
-/// The variables of an edge with a rule. Paths in its command and its description are quoted.
-pub fn variables_of_rule<'a>(
+/// The variables of an edge with a rule, each expanded. Paths in its command and its description are quoted.
+fn expanded_variables<'a>(
     alloc: Global,
     edge: &'a EdgeEnvironment<'a>,
 ) -> Result<Variables, AllocError>
@@ -136,6 +138,50 @@ pub fn variables_of_rule<'a>(
         rspfile: variable(alloc, edge, Plain, &mut plain, b"rspfile", &mut buffer)?,
         has_cycle: quoted.has_cycle | plain.has_cycle,
     })
+}
+
+/// The variables of an edge with a rule, by their parts. Paths in its command and its description are quoted.
+fn compiled_variables<'a>(
+    alloc: Global,
+    edge: &EdgeEnvironment<'a>,
+    parts: &RuleParts,
+) -> Result<Variables, AllocError>
+    requires compiled { AreCompiled (environment_of edge.now).rule (environment_of edge.now).file parts.now }
+    requires left { LeavesRule (environment_of edge.now).rule (environment_of edge.now).block }
+    ensures { IfOk result (λ v. KeptEqVariables v (variables_of (environment_of edge.now))) }
+{
+    let mut buffer = Vec::with_capacity(alloc, BUFFER)?;
+    Ok(Variables {
+        command: text_of_parts(alloc, edge, Shell, &parts.command, &mut buffer)?,
+        depfile: text_of_parts(alloc, edge, Plain, &parts.depfile, &mut buffer)?,
+        deps: text_of_parts(alloc, edge, Plain, &parts.deps, &mut buffer)?,
+        description: text_of_parts(alloc, edge, Shell, &parts.description, &mut buffer)?,
+        dyndep: text_of_parts(alloc, edge, Plain, &parts.dyndep, &mut buffer)?,
+        generator: text_of_parts(alloc, edge, Plain, &parts.generator, &mut buffer)?,
+        pool: text_of_parts(alloc, edge, Plain, &parts.pool, &mut buffer)?,
+        restat: text_of_parts(alloc, edge, Plain, &parts.restat, &mut buffer)?,
+        rspfile: text_of_parts(alloc, edge, Plain, &parts.rspfile, &mut buffer)?,
+        has_cycle: false,
+    })
+}
+
+/// The variables of an edge with a rule: by the rule as it was compiled, where it was and the edge's block binds none of
+/// the rule's variables.
+pub fn variables_of_rule<'a>(
+    alloc: Global,
+    edge: &'a EdgeEnvironment<'a>,
+    compiled: &CompiledRule,
+) -> Result<Variables, AllocError>
+    requires { IsCompiledRule (environment_of edge.now).rule (environment_of edge.now).file compiled.now }
+    ensures { IfOk result (λ v. KeptEqVariables v (variables_of (environment_of edge.now))) }
+{
+    if !edge.rule.are_left_by(edge.block) {
+        return expanded_variables(alloc, edge);
+    }
+    match compiled {
+        CompiledRule::Whole(parts) => compiled_variables(alloc, edge, parts),
+        CompiledRule::Unknown => expanded_variables(alloc, edge),
+    }
 }
 
 /// The variables of a phony edge: it looks up `dyndep` alone.

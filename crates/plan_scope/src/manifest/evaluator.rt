@@ -1,21 +1,25 @@
 //! What the statements of a tree mean.
 
-ghost use Rattle.std.specs.Prelude.{◌≡◌, ◌≢◌, ◌≤◌, ◌+◌, ℕ, List, [], ◌∷◌, ◌++◌, length, OnOk, IfOk, option_map};
+ghost use Rattle.std.specs.Prelude.{◌≡◌, ◌≢◌, ◌≤◌, ◌+◌, ℕ, List, [], ◌∷◌, ◌++◌, length, OnOk, IfOk, Some, false};
 ghost use Rattle.plan_text.specs.Outcome.{Meets};
 ghost use Rattle.plan_parse.specs.declared.statement.Binding.{Binding};
 ghost use Rattle.plan_parse.specs.declared.statement.StatementKind.TheVariants as kinds;
 ghost use Rattle.plan_scope.specs.Trees.{TreeStatement as StatementMeant};
-ghost use Rattle.plan_scope.specs.Scopes.{Name, Text, expand, lookup};
-ghost use Rattle.plan_scope.specs.Edges.{edge_of_build, builds_in, builds_of, console, defaults_alone, edge_alone, edge_of_rule, manifest_of_kind, manifest_past, is_among, manifest_of, map_ok, paths_of, pool_alone, pool_by, targets_by, with_front};
+ghost use Rattle.plan_text.specs.declared.piece_reader.Piece.{Piece};
+ghost use Rattle.plan_scope.specs.Scopes.{Bindings, Name, ScopedBindings, Text, expand, lookup, nearest};
+ghost use Rattle.plan_scope.specs.Edges.{edge_of_build, edge_or_refusal, environment_of, variables_of, builds_in, builds_of, console, defaults_alone, edge_alone, manifest_of_kind, manifest_past, is_among, manifest_of, map_ok, paths_of, pool_alone, pool_by, targets_by, with_front};
 ghost use Rattle.plan_scope.specs.Kept.{EqNames, KeptEqLookup};
 ghost use Rattle.plan_scope.specs.ScopeNames.{names_in};
 ghost use Rattle.plan_scope.specs.Outcomes.{Gives};
 ghost use Rattle.plan_scope.specs.Evaluation.{Fits, GivesMore, IsLocated, Knows, manifest_in};
+ghost use Rattle.plan_scope.specs.Found.{AreFound};
 
 use crate::edge::build_line::{edge, phony_edge};
+use crate::edge::rule_compiler::compile_rule;
 use crate::edge::rule_variables::RuleVariables;
 use crate::fault::{Cause, ScopeFault, StatementFault};
 use crate::manifest::defaults::targets;
+use crate::manifest::found_rules::{FoundRule, find_rule, keep_rule};
 use crate::manifest::pool_names::{CONSOLE, PoolNames};
 use crate::manifest::pools::pool;
 use crate::manifest::rules::{declare, is_phony};
@@ -119,39 +123,55 @@ fn initial_evaluation<'a>(alloc: Global, edges: usize) -> Result<Evaluation<'a>,
     })
 }
 
-/// The edge of a build line whose rule was looked up.
-fn edge_of_rule<'a>(
+/// The edge of a build line with a rule that isn't kept yet; from now on it is.
+fn edge_of_new_rule<'b, 'a>(
     alloc: Global,
-    pools: &PoolNames<'a>,
-    here: Scope<'a>,
+    pools: &PoolNames<'b>,
+    found: &mut Vec<FoundRule<'a>>,
+    here: Scope<'b>,
     file: Scope<'a>,
-    rule: Option<&'a RuleVariables<'a>>,
+    rule: &'b RuleVariables<'a>,
     build: &'a Build,
 ) -> Result<Edge, StatementFault>
-    ensures { (names : List Name) (h f : Name → Text) → EqNames pools.now names → KeptEqLookup (names_in here.entry) h → KeptEqLookup (names_in file.entry) f → Gives result (edge_of_rule names h f build.now (option_map (λ r. r.now) rule.entry)) }
+    ensures edge { (names : List Name) (h f : Name → Text) → EqNames pools.now names → KeptEqLookup (names_in here.entry) h → KeptEqLookup (names_in file.entry) f → Gives result (edge_or_refusal names h build.now (variables_of (environment_of h f build.now rule.now)) false) }
+    ensures found { OnOk result ((rules : ScopedBindings (Bindings (List Piece))) → nearest rules file.entry.scopes.now build.now.rule ≡ Some rule.now → AreFound rules file.entry.bound.now found.old.items → AreFound rules file.entry.bound.now found.new.items) }
 {
-    match rule {
-        Some(rule) => edge(alloc, pools, here, file, rule, build),
-        None => Err(StatementFault::Refused(Cause::UnknownRule)),
-    }
+    let compiled = compile_rule(alloc, &*rule, file)?;
+    let edge = edge(alloc, &*pools, here, file, &*rule, &compiled, &*build);
+    let found_rule = FoundRule {
+        scopes: file.scopes,
+        name: build.rule.as_slice(),
+        compiled,
+    };
+    keep_rule(found, found_rule)?;
+    edge
 }
 
 /// The edge of a build line.
-fn edge_of_build<'a>(
+fn edge_of_build<'b, 'a>(
     alloc: Global,
-    pools: &PoolNames<'a>,
-    rules: &'a ScopedMap<RuleVariables<'a>>,
-    here: Scope<'a>,
+    pools: &PoolNames<'b>,
+    rules: &'b ScopedMap<RuleVariables<'a>>,
+    found: &mut Vec<FoundRule<'a>>,
+    here: Scope<'b>,
     file: Scope<'a>,
     build: &'a Build,
 ) -> Result<Edge, StatementFault>
-    ensures { (names : List Name) (h f : Name → Text) → EqNames pools.now names → KeptEqLookup (names_in here.entry) h → KeptEqLookup (names_in file.entry) f → Gives result (edge_of_build names rules.now here.entry.scopes.now h f build.now) }
+    requires scopes { file.scopes.now ≡ here.scopes.now }
+    requires found { AreFound rules.now file.bound.now found.old.items }
+    ensures edge { (names : List Name) (h f : Name → Text) → EqNames pools.now names → KeptEqLookup (names_in here.entry) h → KeptEqLookup (names_in file.entry) f → Gives result (edge_of_build names rules.now here.entry.scopes.now h f build.now) }
+    ensures found { OnOk result (AreFound rules.now file.entry.bound.now found.new.items) }
 {
     if is_phony(build.rule.as_slice()) {
-        return phony_edge(alloc, pools, here, file, build);
+        return phony_edge(alloc, &*pools, here, file, &*build);
     }
-    let rule = rules.nearest(here.scopes, build.rule.as_slice());
-    edge_of_rule(alloc, pools, here, file, rule, build)
+    let Some(rule) = rules.nearest(here.scopes, build.rule.as_slice()) else {
+        return Err(StatementFault::Refused(Cause::UnknownRule));
+    };
+    match find_rule(found, file.scopes, build.rule.as_slice()) {
+        Some(compiled) => edge(alloc, &*pools, here, file, &*rule, compiled, &*build),
+        None => edge_of_new_rule(alloc, pools, found, here, file, rule, build),
+    }
 }
 
 /// Adds what a build line gives.
@@ -159,15 +179,18 @@ fn add_build<'a>(
     alloc: Global,
     facts: &TreeFacts<'a>,
     so_far: &mut Evaluation<'a>,
+    found: &mut Vec<FoundRule<'a>>,
     scopes: &'a [usize],
     build: &'a Build,
 ) -> Result<(), StatementFault>
+    requires { AreFound so_far.old.rules facts.now.bound.now found.old.items }
     ensures given { (names : List Name) (h f : Name → Text) → EqNames facts.now.pool_names names → KeptEqLookup (lookup so_far.old.bound scopes.now) h → KeptEqLookup (lookup facts.now.bound.now scopes.now) f
         → GivesMore (manifest_in so_far.old) (manifest_in so_far.new) result (map_ok edge_alone (edge_of_build names so_far.old.rules scopes.now h f build.now)) }
     ensures count { OnOk result (length so_far.new.edges.items ≡ length so_far.old.edges.items + 1) }
     ensures bound { so_far.new.bound ≡ so_far.old.bound }
     ensures rules { so_far.new.rules ≡ so_far.old.rules }
     ensures names { so_far.new.pool_names ≡ so_far.old.pool_names }
+    ensures found { OnOk result (AreFound so_far.old.rules facts.now.bound.now found.new.items) }
 {
     let here = Scope {
         bound: &so_far.bound,
@@ -177,7 +200,15 @@ fn add_build<'a>(
         bound: facts.bound,
         scopes,
     };
-    let edge = edge_of_build(alloc, &facts.pool_names, &so_far.rules, here, file, build)?;
+    let edge = edge_of_build(
+        alloc,
+        &facts.pool_names,
+        &so_far.rules,
+        found,
+        here,
+        file,
+        build,
+    )?;
     so_far.edges.push(edge)?;
     Ok(())
 }
@@ -236,6 +267,7 @@ fn add_binding<'a>(
     statement: &'a TreeStatement,
 ) -> Result<(), StatementFault>
     requires { (b : Binding) × (statement.now.kind ≡ kinds.Binding b) }
+    ensures rules { so_far.new.rules ≡ so_far.old.rules }
     ensures given { (all above : List StatementMeant) → GivesMore (manifest_in so_far.old) (manifest_in so_far.new) result (manifest_of_kind all above statement.now.scopes statement.now.kind) }
     ensures fits { OnOk result ((above : List StatementMeant) → Fits so_far.old above → Fits so_far.new (above ++ statement.now ∷ [])) }
 {
@@ -248,17 +280,23 @@ fn add_kind<'a>(
     alloc: Global,
     facts: &TreeFacts<'a>,
     so_far: &mut Evaluation<'a>,
+    found: &mut Vec<FoundRule<'a>>,
     statement: &'a TreeStatement,
     kind: &'a StatementKind,
 ) -> Result<(), StatementFault>
-    requires { statement.now.kind ≡ kind.now }
+    requires kind { statement.now.kind ≡ kind.now }
+    requires found { AreFound so_far.old.rules facts.now.bound.now found.old.items }
+    ensures found { OnOk result (AreFound so_far.new.rules facts.now.bound.now found.new.items) }
     ensures given { (all above : List StatementMeant) → Fits so_far.old above → Knows facts.now all → GivesMore (manifest_in so_far.old) (manifest_in so_far.new) result (manifest_of_kind all above statement.now.scopes statement.now.kind) }
     ensures fits { OnOk result ((above : List StatementMeant) → Fits so_far.old above → Fits so_far.new (above ++ statement.now ∷ [])) }
 {
     let scopes = statement.scopes();
     match kind {
-        StatementKind::Rule(rule) => declare(alloc, &mut so_far.rules, scopes, rule),
-        StatementKind::Build(build) => add_build(alloc, facts, so_far, scopes, build),
+        StatementKind::Rule(rule) => {
+            found.clear();
+            declare(alloc, &mut so_far.rules, scopes, rule)
+        }
+        StatementKind::Build(build) => add_build(alloc, facts, so_far, found, scopes, build),
         StatementKind::Pool(declared) => add_pool(alloc, so_far, scopes, declared),
         StatementKind::Default(paths) => add_default(alloc, so_far, scopes, paths.as_slice()),
         StatementKind::Include(_) => Ok(()),
@@ -272,13 +310,16 @@ fn add_statement<'a>(
     alloc: Global,
     facts: &TreeFacts<'a>,
     so_far: &mut Evaluation<'a>,
+    found: &mut Vec<FoundRule<'a>>,
     statement: &'a TreeStatement,
 ) -> Result<(), StatementFault>
+    requires { AreFound so_far.old.rules facts.now.bound.now found.old.items }
+    ensures found { OnOk result (AreFound so_far.new.rules facts.now.bound.now found.new.items) }
     ensures given { (all above : List StatementMeant) → Fits so_far.old above → Knows facts.now all → GivesMore (manifest_in so_far.old) (manifest_in so_far.new) result (manifest_of_kind all above statement.now.scopes statement.now.kind) }
     ensures fits { OnOk result ((above : List StatementMeant) → Fits so_far.old above → Fits so_far.new (above ++ statement.now ∷ [])) }
 {
     match statement.kept_kind() {
-        Some(kind) => add_kind(alloc, facts, so_far, statement, kind),
+        Some(kind) => add_kind(alloc, facts, so_far, found, statement, kind),
         None => add_binding(alloc, so_far, statement),
     }
 }
@@ -306,8 +347,9 @@ fn evaluate_statements<'a>(
     requires { Fits so_far [] × Knows facts.now statements.now }
     ensures { Meets ScopeFault.Memory manifest_in result (with_front (manifest_in so_far.entry) (manifest_past statements.now [] statements.now)) }
 {
+    let mut found = Vec::new(alloc);
     for statement in statements {
-        match add_statement(alloc, facts, &mut so_far, statement) {
+        match add_statement(alloc, facts, &mut so_far, &mut found, statement) {
             Ok(()) => {}
             Err(fault) => return Err(fault_at(alloc, statement, fault)),
         }

@@ -38,3 +38,6 @@ returns-clause-on g c is =
     all_so b.image.now b.targets.items b.state.going next.going b.diary.events c.push_steps.new.self.events b.marks.items b.marks.items c.args.self.now (x ∷ Step e ∷ []) (mark.Answered e ∷ mark.Asked e ∷ [])
     c.self.view_is (c.sweep_on.ensures.runs c.if-not-sweep_on.false)
     (one_and_all b.diary.events c.push_heard.new.self.events c.push_steps.new.self.events (Step e ∷ []) x one c.push_steps.ensures) (sym (append-nil b.marks.items))
+
+pub returns-clause-next : goal.returns-clause-next
+returns-clause-next g c is = c.sweep_on.ensures.next c.if-not-sweep_on.false

@@ -2,12 +2,16 @@ use Rattle.std.proofs.Common.{refl}
 use Rattle.plan_lanes.proofs.RushLemmas.{goes_none, goes_swept}
 use Rattle.plan_lanes.proofs.board.Board.sweep_on.Goals as goal
 
-pub returns-in-Stat-Stamp-clause-goes : goal.returns-in-Stat-Stamp-clause-goes
-returns-in-Stat-Stamp-clause-goes g c =
+pub returns-in_err-record_sweep-in-Stat-Stamp-clause-goes : goal.returns-in_err-record_sweep-in-Stat-Stamp-clause-goes
+returns-in_err-record_sweep-in-Stat-Stamp-clause-goes g c =
     goes_swept c.args.self.now c.record_sweep.new.self c.args.edge c.in-Stat-Stamp.stamp c.record_sweep.result c.record_sweep.ensures.on c.record_sweep.ensures.off c.record_sweep.ensures.err
 
-pub returns-in_default : goal.returns-in_default
-returns-in_default g c = record { goes = goes_none c.args.self.now c.args.self.now refl; off = λ is. refl }
+pub returns-then-not-branch-clause-goes : goal.returns-then-not-branch-clause-goes
+returns-then-not-branch-clause-goes g c =
+    goes_swept c.args.self.now c.record_sweep.new.self c.args.edge c.in-Stat-Stamp.stamp c.record_sweep.result c.record_sweep.ensures.on c.record_sweep.ensures.off c.record_sweep.ensures.err
 
-pub returns-in_default-2 : goal.returns-in_default-2
-returns-in_default-2 g c = record { goes = goes_none c.args.self.now c.args.self.now refl; off = λ is. refl }
+pub returns-in_default-clause-goes : goal.returns-in_default-clause-goes
+returns-in_default-clause-goes g c = goes_none c.args.self.now c.args.self.now refl
+
+pub returns-in_default-2-clause-goes : goal.returns-in_default-2-clause-goes
+returns-in_default-2-clause-goes g c = goes_none c.args.self.now c.args.self.now refl

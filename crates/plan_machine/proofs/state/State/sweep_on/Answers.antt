@@ -9,11 +9,11 @@ use Rattle.plan_machine.specs.Hearing.{CanHear}
 use Rattle.plan_machine.specs.Kept.{AreKept}
 use Rattle.plan_machine.specs.Replaying.{RunsTo}
 use Rattle.plan_machine.specs.Requests.{asked_at}
-use Rattle.plan_machine.specs.Sweeping.{sweep_events, sweep_marks}
+use Rattle.plan_machine.specs.Sweeping.{IsSweptAt, sweep_events, sweep_marks}
 use Rattle.plan_machine.proofs.VerifyLaws.{VerifyLaws}
 use Rattle.plan_machine.proofs.RushLemmas.{follow_behind, follow_state}
 use Rattle.plan_machine.proofs.StateLemmas.{can_hear, state_stands}
-use Rattle.plan_machine.proofs.SweepLemmas.{asked_so, runs_so}
+use Rattle.plan_machine.proofs.SweepLemmas.{asked_so, awaits_so, runs_so}
 use Rattle.plan_machine.proofs.state.State.sweep_on.Goals as goal
 
 pub sweep-requires : goal.sweep-requires
@@ -59,6 +59,15 @@ returns-clause-runs c is =
     let ran : RunsTo p r.going (sweep_events e s) (sweep_marks e) c.sweep.new.self.going = runs_so p r.going c.sweep.new.self.going e c.args.path.now s (c.sweep.ensures.on c.if-not-sweep.false) in
     subst (λ (y : Parts). RunsTo y r.going (sweep_events e s) (sweep_marks e) c.note.new.self.going) c.image-tables.ensures.same
     (subst (λ (g : Going). RunsTo p r.going (sweep_events e s) (sweep_marks e) g) (sym c.note.ensures.going) ran)
+
+pub returns-clause-next : goal.returns-clause-next
+returns-clause-next c is =
+    let r = c.args.self.now in
+    let e = c.args.edge in
+    let p = c.image-tables.result.now in
+    let awaits : IsSweptAt p c.sweep.new.self.going.now e = awaits_so p r.going c.sweep.new.self.going e c.args.path.now c.args.stamp (c.sweep.ensures.on c.if-not-sweep.false) in
+    subst (λ (y : Parts). IsSweptAt y c.note.new.self.going.now e) c.image-tables.ensures.same
+    (subst (λ (g : Going). IsSweptAt p g.now e) (sym c.note.ensures.going) awaits)
 
 pub returns-clause-state : goal.returns-clause-state
 returns-clause-state c =

@@ -17,7 +17,7 @@ returns-in-Rule-clause-fits c =
     let rule = c.in-Rule.rule in
     on_ok_weaker c.declare.result
     (λ (known : EqScoped c.declare.new.rules (e.rules ++ in_own c.scopes-scopes.result.now rule.name (late rule.bindings))) above fits.
-    let k = known_more e.bound c.declare.new.rules e.rules e.pool_names e.pool_names (length e.edges.items) (length e.edges.items) above l _ (c.requires ∙ c.in-Rule.is)
+    let k = known_more e.bound c.declare.new.rules e.rules e.pool_names e.pool_names (length e.edges.items) (length e.edges.items) above l _ (c.requires.kind ∙ c.in-Rule.is)
     (same_bound e.bound (bound_by above) fits.bound) fits.rules
     (λ s n. known s n ∙ ap (λ (x : List ℕ). last_of n (frame s (e.rules ++ in_own x rule.name (late rule.bindings)))) c.scopes-scopes.ensures)
     fits.names (names_end e.pool_names) fits.count (omega arith) in
@@ -34,7 +34,7 @@ returns-in-Build-clause-given c = λ all above fits facts.
     let held = c.add_build.ensures.given (pools_of all) (lookup (bound_by above) scopes) (lookup (bound_by all) scopes) facts.names (stands e.bound (bound_by above) fits.bound scopes) (stands c.args.facts.now.bound.now (bound_by all) facts.bound scopes) in
     let ruled = subst (λ r. GivesMore before now c.add_build.result (map_ok edge_alone r)) (built_same (pools_of all) e.rules (rules_of above) scopes (lookup (bound_by above) scopes) (lookup (bound_by all) scopes) b fits.rules) held in
     let seen = subst (λ (x : List ℕ). GivesMore before now c.add_build.result (map_ok edge_alone (edge_of_build (pools_of all) (rules_of above) x (lookup (bound_by above) x) (lookup (bound_by all) x) b))) c.scopes-scopes.ensures ruled in
-    subst (λ (k : StatementKind). GivesMore before now c.add_build.result (manifest_of_kind all above c.args.statement.now.scopes k)) (sym (c.requires ∙ c.in-Build.is)) seen
+    subst (λ (k : StatementKind). GivesMore before now c.add_build.result (manifest_of_kind all above c.args.statement.now.scopes k)) (sym (c.requires.kind ∙ c.in-Build.is)) seen
 
 pub returns-in-Build-clause-fits : goal.returns-in-Build-clause-fits
 returns-in-Build-clause-fits c =
@@ -42,7 +42,7 @@ returns-in-Build-clause-fits c =
     let now = c.add_build.new.so_far in
     on_ok_weaker c.add_build.result
     (λ (count : length now.edges.items ≡ length e.edges.items + 1) above fits.
-    let k = known_more now.bound now.rules e.rules now.pool_names e.pool_names (length now.edges.items) (length e.edges.items) above c.args.statement.now _ (c.requires ∙ c.in-Build.is)
+    let k = known_more now.bound now.rules e.rules now.pool_names e.pool_names (length now.edges.items) (length e.edges.items) above c.args.statement.now _ (c.requires.kind ∙ c.in-Build.is)
     (subst (λ (x : ScopedBindings Text). KeptEqScoped x (bound_by above ++ [])) (sym c.add_build.ensures.bound) (same_bound e.bound (bound_by above) fits.bound)) fits.rules
     (subst (λ (x : ScopedBindings (Bindings (List Piece))). EqScoped x (e.rules ++ [])) (sym c.add_build.ensures.rules) (same_end e.rules))
     fits.names
@@ -59,7 +59,7 @@ returns-in-Pool-clause-given c = λ all above fits facts.
     let p = c.in-Pool.declared in
     let held = c.add_pool.ensures.given (pools_of above) (lookup (bound_by above) scopes) fits.names (stands e.bound (bound_by above) fits.bound scopes) in
     let seen = subst (λ (x : List ℕ). GivesMore before now c.add_pool.result (map_ok pool_alone (pool_by (pools_of above) p.name (expand (lookup (bound_by above) x) p.depth)))) c.scopes-scopes.ensures held in
-    subst (λ (k : StatementKind). GivesMore before now c.add_pool.result (manifest_of_kind all above c.args.statement.now.scopes k)) (sym (c.requires ∙ c.in-Pool.is)) seen
+    subst (λ (k : StatementKind). GivesMore before now c.add_pool.result (manifest_of_kind all above c.args.statement.now.scopes k)) (sym (c.requires.kind ∙ c.in-Pool.is)) seen
 
 pub returns-in-Pool-clause-fits : goal.returns-in-Pool-clause-fits
 returns-in-Pool-clause-fits c =
@@ -67,7 +67,7 @@ returns-in-Pool-clause-fits c =
     let now = c.add_pool.new.so_far in
     on_ok_weaker c.add_pool.result
     (λ (names : (n : Name) → is_among now.pool_names n ≡ is_among (e.pool_names ++ c.in-Pool.declared.name ∷ []) n) above fits.
-    let k = known_more now.bound now.rules e.rules now.pool_names e.pool_names (length now.edges.items) (length e.edges.items) above c.args.statement.now _ (c.requires ∙ c.in-Pool.is)
+    let k = known_more now.bound now.rules e.rules now.pool_names e.pool_names (length now.edges.items) (length e.edges.items) above c.args.statement.now _ (c.requires.kind ∙ c.in-Pool.is)
     (subst (λ (x : ScopedBindings Text). KeptEqScoped x (bound_by above ++ [])) (sym c.add_pool.ensures.bound) (same_bound e.bound (bound_by above) fits.bound)) fits.rules
     (subst (λ (x : ScopedBindings (Bindings (List Piece))). EqScoped x (e.rules ++ [])) (sym c.add_pool.ensures.rules) (same_end e.rules))
     fits.names names fits.count (let z = ap (λ v. length v.items) c.add_pool.ensures.count in omega (arith, z)) in
@@ -84,7 +84,7 @@ returns-in-Default-clause-given c = λ all above fits facts.
     let counted = subst (λ (n : ℕ). GivesMore before now c.add_default.result (map_ok defaults_alone (targets_by n (paths_of (lookup (bound_by above) scopes) c.as_slice.result.now)))) fits.count held in
     let paths = subst (λ (ps : List (List Piece)). GivesMore before now c.add_default.result (map_ok defaults_alone (targets_by (length (builds_of above)) (paths_of (lookup (bound_by above) scopes) ps)))) c.as_slice.ensures counted in
     let seen = subst (λ (x : List ℕ). GivesMore before now c.add_default.result (map_ok defaults_alone (targets_by (length (builds_of above)) (paths_of (lookup (bound_by above) x) c.in-Default.paths)))) c.scopes-scopes.ensures paths in
-    subst (λ (k : StatementKind). GivesMore before now c.add_default.result (manifest_of_kind all above c.args.statement.now.scopes k)) (sym (c.requires ∙ c.in-Default.is)) seen
+    subst (λ (k : StatementKind). GivesMore before now c.add_default.result (manifest_of_kind all above c.args.statement.now.scopes k)) (sym (c.requires.kind ∙ c.in-Default.is)) seen
 
 pub returns-in-Default-clause-fits : goal.returns-in-Default-clause-fits
 returns-in-Default-clause-fits c =
@@ -92,7 +92,7 @@ returns-in-Default-clause-fits c =
     let now = c.add_default.new.so_far in
     on_ok_always c.add_default.result
     (λ above fits.
-    let k = known_more now.bound now.rules e.rules now.pool_names e.pool_names (length now.edges.items) (length e.edges.items) above c.args.statement.now _ (c.requires ∙ c.in-Default.is)
+    let k = known_more now.bound now.rules e.rules now.pool_names e.pool_names (length now.edges.items) (length e.edges.items) above c.args.statement.now _ (c.requires.kind ∙ c.in-Default.is)
     (subst (λ (x : ScopedBindings Text). KeptEqScoped x (bound_by above ++ [])) (sym c.add_default.ensures.bound) (same_bound e.bound (bound_by above) fits.bound)) fits.rules
     (subst (λ (x : ScopedBindings (Bindings (List Piece))). EqScoped x (e.rules ++ [])) (sym c.add_default.ensures.rules) (same_end e.rules))
     fits.names
@@ -102,25 +102,25 @@ returns-in-Default-clause-fits c =
 pub returns-in-Include-clause-given : goal.returns-in-Include-clause-given
 returns-in-Include-clause-given c = λ all above fits facts. (
   empty_manifest,
-  ap (λ (k : StatementKind). manifest_of_kind all above c.args.statement.now.scopes k) (c.requires ∙ c.in-Include.is),
+  ap (λ (k : StatementKind). manifest_of_kind all above c.args.statement.now.scopes k) (c.requires.kind ∙ c.in-Include.is),
   nothing_behind (manifest_in c.args.so_far.now),
 )
 
 pub returns-in-Include-clause-fits : goal.returns-in-Include-clause-fits
 returns-in-Include-clause-fits c = λ above fits.
     let e = c.args.so_far.now in
-    let k = known_same e.bound e.rules e.pool_names (length e.edges.items) above c.args.statement.now _ (c.requires ∙ c.in-Include.is) refl refl refl refl fits.bound fits.rules fits.names fits.count in
+    let k = known_same e.bound e.rules e.pool_names (length e.edges.items) above c.args.statement.now _ (c.requires.kind ∙ c.in-Include.is) refl refl refl refl fits.bound fits.rules fits.names fits.count in
     record { bound = k.0; rules = k.1; names = k.2; count = k.3 }
 
 pub returns-in-Subninja-clause-given : goal.returns-in-Subninja-clause-given
 returns-in-Subninja-clause-given c = λ all above fits facts. (
   empty_manifest,
-  ap (λ (k : StatementKind). manifest_of_kind all above c.args.statement.now.scopes k) (c.requires ∙ c.in-Subninja.is),
+  ap (λ (k : StatementKind). manifest_of_kind all above c.args.statement.now.scopes k) (c.requires.kind ∙ c.in-Subninja.is),
   nothing_behind (manifest_in c.args.so_far.now),
 )
 
 pub returns-in-Subninja-clause-fits : goal.returns-in-Subninja-clause-fits
 returns-in-Subninja-clause-fits c = λ above fits.
     let e = c.args.so_far.now in
-    let k = known_same e.bound e.rules e.pool_names (length e.edges.items) above c.args.statement.now _ (c.requires ∙ c.in-Subninja.is) refl refl refl refl fits.bound fits.rules fits.names fits.count in
+    let k = known_same e.bound e.rules e.pool_names (length e.edges.items) above c.args.statement.now _ (c.requires.kind ∙ c.in-Subninja.is) refl refl refl refl fits.bound fits.rules fits.names fits.count in
     record { bound = k.0; rules = k.1; names = k.2; count = k.3 }

@@ -15,6 +15,7 @@ loop-statement-preserved c =
     let meant = with_front (manifest_in c.args.so_far) (manifest_past all [] all) in (
       subst (λ (x : List TreeStatement). Fits c.add_statement.new.so_far x) (sym (taken_more all i l lt c.statement-item.is)) (c.in-Ok.ensures.fits (take i all) inv.0),
       next_given all i l (manifest_in c.loop-statement.so_far) (manifest_in c.add_statement.new.so_far) meant lt c.statement-item.is (c.in-Ok.ensures.given all (take i all) inv.0 c.requires.1) inv.1,
+      c.in-Ok.ensures.found,
     )
 
 pub returns-in-Err : goal.returns-in-Err

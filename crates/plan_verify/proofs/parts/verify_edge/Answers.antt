@@ -4,7 +4,7 @@ use Rattle.plan_image.specs.Columns.{lent}
 use Rattle.plan_verify.specs.Shape.{table_refusal_of}
 use Rattle.plan_verify.specs.WellShaped.{tables_fail}
 use Rattle.plan_verify.proofs.VerifiedLemmas.{table_refusal_is}
-use Rattle.plan_verify.proofs.verified.verify_edge.Goals as goal
+use Rattle.plan_verify.proofs.parts.verify_edge.Goals as goal
 
 pub returns-in-Some-clause-err : goal.returns-in-Some-clause-err
 returns-in-Some-clause-err c = (

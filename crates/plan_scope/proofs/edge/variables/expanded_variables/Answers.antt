@@ -5,7 +5,7 @@ use Rattle.plan_scope.specs.Expansion.{plain, quoted, variable}
 use Rattle.plan_scope.specs.Edges.{plain_names, quoted_names}
 use Rattle.plan_scope.specs.HeldEnvironment.{environment_of}
 use Rattle.plan_scope.proofs.VariableLemmas.{◌∷≡◌, also, any_past_is, or_both}
-use Rattle.plan_scope.proofs.edge.variables.variables_of_rule.Goals as goal
+use Rattle.plan_scope.proofs.edge.variables.expanded_variables.Goals as goal
 
 pub returns : goal.returns
 returns c =

@@ -1,0 +1,122 @@
+//! Rules compiled for a file: what of their variables is known before an edge is.
+
+ghost use Rattle.std.specs.Prelude.{◌≡◌, ◌++◌, IfOk, OnOk, unwrap_or};
+ghost use Rattle.plan_scope.specs.Scopes.{last_of};
+ghost use Rattle.plan_scope.specs.Compiled.{text_of_part, text_of_parts};
+ghost use Rattle.plan_scope.specs.HeldEnvironment.{environment_of};
+ghost use Rattle.plan_scope.specs.Kept.{kept};
+ghost use Rattle.plan_scope.specs.ShellQuoting.{quoted_as};
+
+use crate::edge::expansion::EdgeEnvironment;
+use crate::scope::small_map::SmallMap;
+use crate::scope::text::{Quoting, append, append_paths, copy_of};
+use plan_text::Items;
+use std::alloc::{AllocError, Global};
+
+/// A part of a variable of a rule, as far as it is known in a file.
+#[derive(Clone, Copy)]
+pub enum VariablePart<'a> {
+    /// A text.
+    Literal(&'a [u8]),
+    /// The explicit inputs, a space between each two.
+    Inputs,
+    /// The explicit inputs, each on a line of its own.
+    InputsByLine,
+    /// The explicit outputs, a space between each two.
+    Outputs,
+    /// What the edge's block binds to this name, or else this text.
+    Near(&'a [u8], &'a [u8]),
+}
+
+/// The parts of the variables that an edge with a rule looks up.
+#[derive(Drop)]
+pub struct RuleParts<'a> {
+    /// What runs.
+    pub command: Vec<VariablePart<'a>>,
+    /// The path of its depfile.
+    pub depfile: Vec<VariablePart<'a>>,
+    /// How its depfile is handled.
+    pub deps: Vec<VariablePart<'a>>,
+    /// What is shown in place of the command.
+    pub description: Vec<VariablePart<'a>>,
+    /// The path of a file with more outputs and inputs.
+    pub dyndep: Vec<VariablePart<'a>>,
+    /// Not empty where it makes the manifest's own files.
+    pub generator: Vec<VariablePart<'a>>,
+    /// The name of its pool.
+    pub pool: Vec<VariablePart<'a>>,
+    /// Not empty where outputs that it leaves alone count as built.
+    pub restat: Vec<VariablePart<'a>>,
+    /// The path of a response file.
+    pub rspfile: Vec<VariablePart<'a>>,
+}
+
+/// A rule in a file.
+#[derive(Drop)]
+pub enum CompiledRule<'a> {
+    /// Its parts, for the edges whose blocks bind no variable of the rule.
+    Whole(RuleParts<'a>),
+    /// A variable has a cycle, very many parts, or many others one inside another.
+    Unknown,
+}
+
+/// What a block binds to a name, or else this text.
+fn near_text<'b, 'a>(block: &'b SmallMap<'a, Items<u8>>, name: &[u8], text: &'b [u8]) -> &'b [u8]
+    ensures { result.now ≡ unwrap_or (last_of name.now block.now) text.now }
+{
+    match block.get(name) {
+        Some(bound) => bound.as_slice(),
+        None => text,
+    }
+}
+
+/// Appends a part as it stands in an edge.
+fn append_part<'a>(
+    out: &mut Vec<u8>,
+    edge: &EdgeEnvironment<'a>,
+    quoting: Quoting,
+    part: VariablePart,
+) -> Result<(), AllocError>
+    ensures { OnOk result (kept out.new.items ≡ kept (out.old.items ++ text_of_part (quoted_as quoting) (environment_of edge.now) part.entry)) }
+{
+    match part {
+        VariablePart::Literal(text) => append(out, text),
+        VariablePart::Inputs => append_paths(out, quoting, edge.inputs, b' '),
+        VariablePart::InputsByLine => append_paths(out, quoting, edge.inputs, b'\n'),
+        VariablePart::Outputs => append_paths(out, quoting, edge.outputs, b' '),
+        VariablePart::Near(name, text) => append(out, near_text(edge.block, name, text)),
+    }
+}
+
+/// The texts of parts as they stand in an edge, joined. They are put together in a buffer, whatever that held.
+fn joined_parts<'a>(
+    alloc: Global,
+    edge: &EdgeEnvironment<'a>,
+    quoting: Quoting,
+    parts: &[VariablePart],
+    buffer: &mut Vec<u8>,
+) -> Result<Items<u8>, AllocError>
+    ensures { IfOk result (λ text. kept text ≡ kept (text_of_parts (quoted_as quoting) (environment_of edge.now) parts.now)) }
+{
+    buffer.clear();
+    for part in parts {
+        append_part(buffer, edge, quoting, *part)?;
+    }
+    copy_of(alloc, buffer)
+}
+
+/// The text of parts as they stand in an edge; a name alone needs no buffer.
+pub fn text_of_parts<'a>(
+    alloc: Global,
+    edge: &EdgeEnvironment<'a>,
+    quoting: Quoting,
+    parts: &[VariablePart],
+    buffer: &mut Vec<u8>,
+) -> Result<Items<u8>, AllocError>
+    ensures { IfOk result (λ text. kept text ≡ kept (text_of_parts (quoted_as quoting) (environment_of edge.now) parts.now)) }
+{
+    match parts {
+        [VariablePart::Near(name, text)] => copy_of(alloc, near_text(edge.block, name, text)),
+        _ => joined_parts(alloc, edge, quoting, parts, buffer),
+    }
+}

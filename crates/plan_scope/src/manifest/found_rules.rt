@@ -1,0 +1,52 @@
+//! The rules of the latest build lines, compiled.
+
+ghost use Rattle.std.specs.Prelude.{◌≡◌, List, IfSome, OnOk};
+ghost use Rattle.plan_text.specs.declared.piece_reader.Piece.{Piece};
+ghost use Rattle.plan_scope.specs.Scopes.{Bindings, ScopedBindings, Text};
+ghost use Rattle.plan_scope.specs.Found.{AreFound, IsCompiledFrom};
+
+use crate::edge::compiled::CompiledRule;
+use std::alloc::AllocError;
+
+/// A rule that a build line found.
+#[derive(Drop)]
+pub struct FoundRule<'a> {
+    /// The scopes that are seen from the build line.
+    pub scopes: &'a [usize],
+    /// The rule's name.
+    pub name: &'a [u8],
+    /// What is known of its variables in the file.
+    pub compiled: CompiledRule<'a>,
+}
+
+/// How many rules are kept. Most files take turns with few of theirs.
+const MOST_RULES: usize = 16;
+
+/// The rule of this name that was found from these scopes.
+pub fn find_rule<'b, 'a>(
+    found: &'b [FoundRule<'a>],
+    scopes: &[usize],
+    name: &[u8],
+) -> Option<&'b CompiledRule<'a>>
+    ensures { (rules : ScopedBindings (Bindings (List Piece))) (bound : ScopedBindings Text) → AreFound rules bound found.now → IfSome result (λ compiled. IsCompiledFrom rules bound scopes.now name.now compiled.now) }
+{
+    for rule in found {
+        if rule.scopes == scopes {
+            if rule.name == name {
+                return Some(&rule.compiled);
+            }
+        }
+    }
+    None
+}
+
+/// Keeps a rule; where there are many others, in place of them.
+pub fn keep_rule<'a>(found: &mut Vec<FoundRule<'a>>, rule: FoundRule<'a>) -> Result<(), AllocError>
+    ensures { OnOk result ((rules : ScopedBindings (Bindings (List Piece))) (bound : ScopedBindings Text) → AreFound rules bound found.old.items → IsCompiledFrom rules bound rule.entry.scopes.now rule.entry.name.now rule.entry.compiled → AreFound rules bound found.new.items) }
+{
+    if found.len() >= MOST_RULES {
+        found.clear();
+    }
+    found.push(rule)?;
+    Ok(())
+}
