@@ -6,6 +6,7 @@ mod TellingLemmas
 mod BoardLemmas
 mod StepLemmas
 mod RushLemmas
+mod RestLemmas
 mod ReportLemmas
 mod DeskLemmas
 mod Rows

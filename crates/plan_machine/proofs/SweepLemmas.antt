@@ -125,6 +125,18 @@ next_so path swept all (Paths k xs ∷ Flag b ∷ Stamp n ∷ below) sweeping is
     subst (λ (j : ℕ). (slice_get xs j ≡ Some path) × (j + 1 < length xs)) (sym same_k) (subst (λ (ys : List (List ℕ)). (slice_get ys swept ≡ Some path) × (swept + 1 < length ys)) (sym same_xs) (here, lt))
 next_so path swept all _ sweeping is more same = absurd sweeping
 
+-- and so it is told
+pub next_must : (path : List ℕ) (swept : ℕ) (all : List (List ℕ)) (stack : List Value) → slice_get stack 0 ≡ Some (Paths swept all) → HasNext path stack → (2 ≤ length all - swept) × (bytes_eq (get_or all swept []) path ≡ true)
+next_must path swept all (Paths k xs ∷ Flag b ∷ Stamp n ∷ below) is next =
+    let same_k : k ≡ swept = cc in
+    let same_xs : xs ≡ all = cc in
+    let here : slice_get all swept ≡ Some path = subst (λ (j : ℕ). slice_get all j ≡ Some path) same_k (subst (λ (ys : List (List ℕ)). slice_get ys k ≡ Some path) same_xs next.0) in
+    let lt : swept + 1 < length all = subst (λ (j : ℕ). j + 1 < length all) same_k (subst (λ (ys : List (List ℕ)). k + 1 < length ys) same_xs next.1) in
+    let both : Some (get_or all swept []) ≡ Some path = sym (slice_get-get_or all swept [] (omega (arith, lt))) ∙ here in
+    let same : get_or all swept [] ≡ path = cc in
+    (omega (arith, lt), (bytes_eq-Decides (get_or all swept []) path).1 same)
+next_must path swept all _ is next = absurd next
+
 -- ---- the machine
 
 -- what an edge that sweeps asked

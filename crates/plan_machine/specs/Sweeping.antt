@@ -50,6 +50,9 @@ pub record Sweeps (p : Parts) (e : ℕ) (path : List ℕ) (l : Local) : Type 0 w
   pub at : Some op.Sweep ≡ slice_get (code p e) l.place
   pub next : HasNext path l.stack
 
+abbrev pub CanSweep : Parts → State → ℕ → List ℕ → Type 0
+CanSweep p s e path = (l : Local) × (slice_get s.edges e ≡ Some (Active l)) × Sweeps p e path l
+
 -- it heard that stamp, and asked again
 pub record HasSwept (p : Parts) (e : ℕ) (path : List ℕ) (stamp : ℕ) (old new : Local) : Type 0 where
   pub sweeps : Sweeps p e path old

@@ -236,7 +236,8 @@ impl Stack {
     #[tactic(auto, using(crate::proofs::SweepLemmas::sweeping_has))]
     pub(crate) fn has_next(&self, path: &[u8]) -> bool
         requires { IsSweeping self.now }
-        ensures { result ≡ true → HasNext path.now self.now }
+        ensures on { result ≡ true → HasNext path.now self.now }
+        ensures must { HasNext path.now self.now → result ≡ true }
     {
         let (swept, paths) = self.paths_at();
         if paths.len() - swept < 2 {

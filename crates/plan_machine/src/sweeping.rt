@@ -9,7 +9,7 @@ ghost use Rattle.plan_machine.specs.Kept.{IsStateOf};
 ghost use Rattle.plan_machine.specs.Replaying.{RunsTo};
 ghost use Rattle.plan_machine.specs.Requests.{asked_at};
 ghost use Rattle.plan_machine.specs.State.{Active};
-ghost use Rattle.plan_machine.specs.Sweeping.{AwaitsSwept, HasSwept, IsNext, IsSweptAt, StandsSwept, Sweeps, SweepsOn, sweep_events, sweep_marks};
+ghost use Rattle.plan_machine.specs.Sweeping.{AwaitsSwept, CanSweep, HasSwept, IsNext, IsSweptAt, StandsSwept, Sweeps, SweepsOn, sweep_events, sweep_marks};
 ghost use Rattle.plan_machine.specs.Working.{Works};
 
 use crate::activity::Activity;
@@ -27,7 +27,8 @@ impl Activity {
     #[tactic(auto, using(crate::proofs::AskingLemmas::sweeps_in))]
     fn sweeps(&self, image: &Image, edge: u32, path: &[u8]) -> bool
         requires asks { self.now.asked ≡ true → IsSome (question image.now edge [] self.now) }
-        ensures { result ≡ true → Sweeps image.now edge path.now self.now }
+        ensures on { result ≡ true → Sweeps image.now edge path.now self.now }
+        ensures must { Sweeps image.now edge path.now self.now → result ≡ true }
     {
         if !self.asked {
             return false;
@@ -45,6 +46,7 @@ impl Activity {
         requires asks { self.old.asked ≡ true → IsSome (question image.now edge [] self.old) }
         requires works { IfSome (heard depfile image.now edge self.old (StampIs stamp)) Works }
         ensures on { result ≡ true → HasSwept image.now edge path.now stamp self.old self.new }
+        ensures must { Sweeps image.now edge path.now self.old → result ≡ true }
         ensures off { result ≡ false → self.new ≡ self.old }
     {
         if !self.sweeps(image, edge, path) {
@@ -71,6 +73,7 @@ impl Status {
     pub(crate) fn sweep_on(&mut self, image: &Image, edge: u32, path: &[u8], stamp: u64) -> bool
         requires hears { (l : Local) × (self.old ≡ Active l) × CanHear image.now edge (StampIs stamp) l }
         ensures on { result ≡ true → StandsSwept image.now edge path.now stamp self.old self.new }
+        ensures must { (l : Local) → self.old ≡ Active l → Sweeps image.now edge path.now l → result ≡ true }
         ensures off { result ≡ false → self.new ≡ self.old }
     {
         match &mut self.stage {
@@ -109,6 +112,7 @@ impl Machine {
     fn make_sweep(&mut self, image: &Image, edge: u32, path: &[u8], stamp: u64) -> bool
         requires active { (l : Local) × (slice_get self.old.now.edges edge ≡ Some (Active l)) × CanHear image.now edge (StampIs stamp) l }
         ensures on { result ≡ true → SweepsOn image.now self.old edge path.now stamp self.new }
+        ensures must { CanSweep image.now self.old.now edge path.now → result ≡ true }
         ensures off { result ≡ false → self.new ≡ self.old }
     {
         let status = &mut self.edges[edge as usize];
@@ -120,6 +124,7 @@ impl Machine {
     pub(crate) fn sweep_on(&mut self, image: &Image, edge: u32, path: &[u8], stamp: u64) -> bool
         requires hears { (l : Local) → slice_get self.old.now.edges edge ≡ Some (Active l) → CanHear image.now edge (StampIs stamp) l }
         ensures on { result ≡ true → SweepsOn image.now self.old edge path.now stamp self.new }
+        ensures must { CanSweep image.now self.old.now edge path.now → result ≡ true }
         ensures off { result ≡ false → self.new ≡ self.old }
     {
         if !self.is_under_way(edge) {
@@ -134,6 +139,7 @@ impl State {
     fn sweep(&mut self, image: &Image, edge: u32, path: &[u8], stamp: u64) -> bool
         requires hears { (l : Local) → slice_get self.old.going.now.edges edge ≡ Some (Active l) → CanHear image.now edge (StampIs stamp) l }
         ensures on { result ≡ true → SweepsOn image.now self.old.going edge path.now stamp self.new.going }
+        ensures must { CanSweep image.now self.old.going.now edge path.now → result ≡ true }
         ensures off { result ≡ false → self.new ≡ self.old }
         ensures plan { self.new.plan ≡ self.old.plan }
         ensures books { self.new.books ≡ self.old.books }
@@ -147,6 +153,7 @@ impl State {
     /// awaits that stamp, and another path is left; else nothing changes, and `follow` takes the reply. It takes no memory.
     pub fn sweep_on(&mut self, image: &Verified, edge: u32, path: &[u8], stamp: u64) -> bool
         requires { IsStateOf image.now self.old }
+        ensures must { CanSweep image.now self.old.going.now edge path.now → result ≡ true }
         ensures asked { result ≡ true → asked_at image.now self.old.going.now edge ≡ Some (Stat path.now) }
         ensures runs { result ≡ true → RunsTo image.now self.old.going (sweep_events edge stamp) (sweep_marks edge) self.new.going }
         ensures next { result ≡ true → IsSweptAt image.now self.new.going.now edge }

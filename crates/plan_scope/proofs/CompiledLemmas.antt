@@ -1,6 +1,6 @@
 -- What parts give in the edges that use a rule in a file. Serves src/edge/rule_compiler.rt and src/edge/compiled.rt.
 use Rattle.std.proofs.Common.{◌≡◌, ℕ, zero, suc, Bool, true, false, ◌&&◌, ◌||◌, ◌<◌, ◌≤◌, ◌-◌, ◌+◌, List, [], ◌∷◌, ◌++◌, length, take, get_or, Option, Some, None, Result, Ok, Err, refl, ap, sym, subst, cond, bytes_eq, ◌∙◌, option_map, append-nil, append_assoc, arith}
-use Rattle.std.specs.Prelude.{IfOk, OnOk, is_none, unwrap_or}
+use Rattle.std.specs.Prelude.{IfOk, OnOk, is_none, slice_set, unwrap_or}
 use Rattle.std.proofs.lemmas.Slice.Eq.{bytes_eq-Decides}
 use Rattle.std.proofs.lemmas.List.{take_more}
 use Rattle.plan_text.specs.declared.piece_reader.Piece.{Piece}
@@ -194,6 +194,12 @@ compiled_from rules bound scopes name other rule compiled e n h = λ seen f.
 pub found_more : (rules : ScopedBindings Rule) (bound : ScopedBindings Text) (fs : List FoundRule) (f : FoundRule) → AreFound rules bound fs → IsCompiledFrom rules bound f.scopes.now f.name.now f.compiled → AreFound rules bound (fs ++ f ∷ [])
 found_more rules bound [] f a h = (h, tt {0})
 found_more rules bound (x ∷ fs) f a h = (a.0, found_more rules bound fs f a.1 h)
+
+-- one in place of another
+pub found_set : (rules : ScopedBindings Rule) (bound : ScopedBindings Text) (fs : List FoundRule) (i : ℕ) (f : FoundRule) → AreFound rules bound fs → IsCompiledFrom rules bound f.scopes.now f.name.now f.compiled → AreFound rules bound (slice_set fs i f)
+found_set rules bound [] i f a h = a
+found_set rules bound (x ∷ fs) zero f a h = (h, a.1)
+found_set rules bound (x ∷ fs) (suc i) f a h = (a.0, found_set rules bound fs i f a.1 h)
 
 -- a block that binds none of the variables so far, nor the next
 pub left_more : (rule : Rule) (block : Bindings Text) (name : Name) (pieces : List Piece) → LeavesRule rule block → last_of name block ≡ None → LeavesRule (rule ++ (name, pieces) ∷ []) block

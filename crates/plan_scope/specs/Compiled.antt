@@ -7,7 +7,7 @@ use Rattle.plan_scope.specs.declared.edge.compiled.VariablePart.{VariablePart}
 use Rattle.plan_scope.specs.declared.edge.compiled.VariablePart.TheVariants.{Literal, Inputs, InputsByLine, Outputs, Near}
 use Rattle.plan_scope.specs.declared.edge.compiled.RuleParts.{RuleParts}
 use Rattle.plan_scope.specs.declared.edge.compiled.CompiledRule.{CompiledRule}
-use Rattle.plan_scope.specs.declared.edge.compiled.CompiledRule.TheVariants.{Whole, Unknown}
+use Rattle.plan_scope.specs.declared.edge.compiled.CompiledRule.TheVariants.{Met, Whole, Unknown}
 use Rattle.plan_scope.specs.Scopes.{Text, Name, Bindings, last_of}
 use Rattle.plan_scope.specs.Expansion.{EdgeEnvironment, Meaning, meaning_of, variable}
 
@@ -57,5 +57,6 @@ pub record AreCompiled (rule : Bindings (List Piece)) (file : Name → Text) (pa
 
 -- a rule in a file, where it was compiled
 abbrev pub IsCompiledRule : Bindings (List Piece) → (Name → Text) → CompiledRule → Type 0
+IsCompiledRule rule file Met = Unit {0}
 IsCompiledRule rule file (Whole parts) = AreCompiled rule file parts
 IsCompiledRule rule file Unknown = Unit {0}

@@ -276,6 +276,15 @@ fn many_variables_of_a_block(rt: HostRuntime) {
 }
 
 #[test]
+fn rules_of_one_edge_and_of_three(rt: HostRuntime) {
+    let text =
+        b"flags = -g\nrule once\n  command = list $in > $out\nrule thrice\n  command = cc $flags -D$name -c $in -o $out\nbuild a: once x\nbuild b: thrice b.c\nbuild c: thrice c.c\n  name = C\nbuild d: thrice d.c\n  flags = -O2\n";
+    let wanted =
+        b"list x > a\ncc -g -D -c b.c -o b\ncc -g -DC -c c.c -o c\ncc -O2 -D -c d.c -o d\n";
+    assert!(rt; prints(rt.alloc(), text, wanted));
+}
+
+#[test]
 fn lists_of_an_edge(rt: HostRuntime) -> Result<(), Fail> {
     let text = b"rule r\n  command = c\nbuild ./a | b//c: r d | e/../f || g\n";
     let Ok(manifest) = meaning(rt.alloc(), text) else {

@@ -1,10 +1,33 @@
--- Replies that suit their questions. Serves src/depfile.rt.
-use Rattle.std.proofs.Common.{◌≡◌, ◌≤◌, ℕ, List, length, refl, subst}
-use Rattle.plan_verify.specs.Turn.{Deps}
-use Rattle.plan_machine.specs.declared.reply.Reply.TheVariants.{Bytes}
-use Rattle.plan_world.specs.Answers.{IsAnswer}
-use Rattle.plan_world.specs.Depfiles.{longest}
+-- Replies that suit their questions. Serves src/depfile.rt and src/world.rt.
+use Rattle.std.proofs.Common.{◌≡◌, List, ℕ, [], Option, Result, Ok, Err, sym, subst}
+use Rattle.std.specs.Prelude.{IfOk, IsUtf8}
+use Rattle.plan_verify.specs.Turn.{Stat, Run, Deps}
+use Rattle.plan_machine.specs.declared.reply.Reply.{Reply}
+use Rattle.plan_machine.specs.declared.reply.Reply.TheVariants.{Bytes, Fault, NotStarted}
+use Rattle.plan_world.specs.Answers.{IsAnswer, MayAnswer}
+use Rattle.plan_world.specs.Depfiles.{IsDepfileOf, IsFrontOf, longest}
+use Rattle.plan_world.specs.Shells.{AreTexts}
 
-pub bytes_answer : (path bytes : List ℕ) → length bytes ≤ 16777217 → IsAnswer (Deps path) (Bytes bytes)
+-- what was gathered is a depfile
+pub gathered_depfile : (old new : Option (List ℕ)) (bytes : List ℕ) (r : Reply) → r ≡ Bytes bytes → IsFrontOf 16777217 bytes old new → IsDepfileOf old new r
 unfolding longest
-bytes_answer path bytes h = record { suits = refl; short = λ others e. let same : bytes ≡ others = cc in subst (λ (bs : List ℕ). length bs ≤ 16777217) same h }
+gathered_depfile old new bytes r same h = subst (λ (x : Reply). IsDepfileOf old new x) (sym same) h
+
+-- ---- the rule of the world
+
+pub may_stat : {E : Type 0} (path : List ℕ) (told : Result Reply E) → IfOk told (λ r. IsAnswer (Stat path) r) → (¬ (IsUtf8 path) → told ≡ Ok Fault)
+    → IfOk told (λ r. MayAnswer (Stat path) r)
+may_stat path (Ok r) answer text = record { answer = answer; texts = λ no. let same = text no in cc }
+may_stat path (Err e) answer text = tt
+
+pub may_read : {E : Type 0} (path : List ℕ) (told : Result Reply E) → IfOk told (λ r. IsAnswer (Deps path) r) → (¬ (IsUtf8 path) → told ≡ Ok Fault)
+    → IfOk told (λ r. MayAnswer (Deps path) r)
+may_read path (Ok r) answer text = record { answer = answer; texts = λ no. let same = text no in cc }
+may_read path (Err e) answer text = tt
+
+pub may_run : {E : Type 0} (command : List ℕ) (outputs : List (List ℕ)) (told : Result Reply E) → IfOk told (λ r. IsAnswer (Run command outputs) r)
+    → (outputs ≡ [] → told ≡ Ok NotStarted) → (¬ (AreTexts outputs) → told ≡ Ok NotStarted) → (¬ (IsUtf8 command) → IfOk told (λ r. r ≡ NotStarted))
+    → IfOk told (λ r. MayAnswer (Run command outputs) r)
+may_run command outputs (Ok r) answer some paths text =
+    record { answer = answer; texts = record { some = λ none. let same = some none in cc; paths = λ no. let same = paths no in cc; text = text } }
+may_run command outputs (Err e) answer some paths text = tt

@@ -1,13 +1,33 @@
 -- What the real world may answer.
-use Rattle.std.specs.Prelude.{◌≡◌, ℕ, ◌≤◌, true, List, length}
-use Rattle.plan_verify.specs.Turn.{Request}
+use Rattle.std.specs.Prelude.{◌≡◌, ℕ, ◌≤◌, true, List, [], length, IsUtf8}
+use Rattle.plan_verify.specs.Turn.{Request, Stat, Recall, Run, Deps, Keep}
 use Rattle.plan_verify.specs.Seam.{suits}
 use Rattle.plan_machine.specs.Step.{answer_of}
 use Rattle.plan_machine.specs.declared.reply.Reply.{Reply}
 use Rattle.plan_machine.specs.declared.reply.Reply.TheVariants as reply
 use Rattle.plan_world.specs.Depfiles.{longest}
+use Rattle.plan_world.specs.Shells.{AreTexts}
 
 -- A reply that suits the question; a depfile is lent no further than one byte past the limit of depfiles.
 pub record IsAnswer (question : Request) (r : Reply) : Type 0 where
   pub suits : suits question (answer_of r) ≡ true
   pub short : (bytes : List ℕ) → r ≡ reply.Bytes bytes → length bytes ≤ longest
+
+-- a command without outputs isn't started, nor one that isn't UTF-8, in its outputs too
+pub record StartsTexts (command : List ℕ) (outputs : List (List ℕ)) (r : Reply) : Type 0 where
+  pub some : outputs ≡ [] → r ≡ reply.NotStarted
+  pub paths : ¬ (AreTexts outputs) → r ≡ reply.NotStarted
+  pub text : ¬ (IsUtf8 command) → r ≡ reply.NotStarted
+
+-- of what isn't UTF-8 nothing is known, and nothing is started
+abbrev pub IsOfTexts : Request → Reply → Type 0
+IsOfTexts (Stat path) r = ¬ (IsUtf8 path) → r ≡ reply.Fault
+IsOfTexts (Recall output) r = Unit {0}
+IsOfTexts (Run command outputs) r = StartsTexts command outputs r
+IsOfTexts (Deps path) r = ¬ (IsUtf8 path) → r ≡ reply.Fault
+IsOfTexts (Keep output command basis paths) r = Unit {0}
+
+-- the rule of this world
+pub record MayAnswer (question : Request) (r : Reply) : Type 0 where
+  pub answer : IsAnswer question r
+  pub texts : IsOfTexts question r

@@ -1,6 +1,8 @@
 -- Which front of a depfile is read.
 use Rattle.std.specs.Prelude.{◌≡◌, ℕ, ◌≤◌, ◌⊎◌, List, length, Option}
 use Rattle.std.specs.Io.KnownBytes.{Consumes, IsAtEnd}
+use Rattle.plan_machine.specs.declared.reply.Reply.{Reply}
+use Rattle.plan_machine.specs.declared.reply.Reply.TheVariants.{Bytes}
 
 -- one byte more than a depfile may have, so that one which is too long is seen to be
 unfoldable pub longest : ℕ
@@ -11,3 +13,8 @@ pub record IsFrontOf (most : ℕ) (bytes : List ℕ) (old new : Option (List ℕ
   pub within : length bytes ≤ most
   pub front : Consumes old new bytes
   pub all : (length bytes ≡ most) ⊎ IsAtEnd new
+
+-- the reply is a depfile: the bytes that were taken of a reader
+abbrev pub IsDepfileOf : (old new : Option (List ℕ)) → Reply → Type 0
+IsDepfileOf old new (Bytes bytes) = IsFrontOf longest bytes old new
+IsDepfileOf old new r = ⊥

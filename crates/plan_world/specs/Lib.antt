@@ -1,6 +1,7 @@
 pub mod Answers
 pub mod Begun
 pub mod Depfiles
+pub mod Faults
 pub mod Shells
 pub mod Stamps
 pub mod Recording

@@ -1,5 +1,5 @@
 -- How a command is given to a shell, and what its end means.
-use Rattle.std.specs.Prelude.{◌≡◌, ℕ, nat_lt, List, [], ◌∷◌, Option, Some, None, false, if◌then◌else◌, ℤ, pos}
+use Rattle.std.specs.Prelude.{◌≡◌, ℕ, ◌<◌, nat_lt, List, [], ◌∷◌, length, get_or, Option, Some, None, false, if◌then◌else◌, IsUtf8, ℤ, pos}
 use Rattle.std.specs.declared.alloc.Global.{Global}
 use Rattle.std.specs.declared.process.command.Command.{Command}
 use Rattle.std.specs.Process.{command_program, command_args, command_dir, command_var, clears_env}
@@ -26,3 +26,7 @@ pub record IsShellOf (command : Command Global) (text : List ℕ) : Type 0 where
 abbrev pub ending : Option ℤ → Reply
 ending (Some (pos status)) = if nat_lt status 256 then reply.Exit status else reply.Signal
 ending _ = reply.Signal
+
+-- each of these paths is UTF-8
+abbrev pub AreTexts : List (List ℕ) → Type 0
+AreTexts paths = (number : ℕ) → number < length paths → IsUtf8 (get_or paths number [])

@@ -1,16 +1,17 @@
 //! Depfiles, read in pieces.
 
-ghost use Rattle.std.specs.Prelude.{◌≡◌, ◌≤◌, ◌<◌, ℕ, List, IfOk, length};
+ghost use Rattle.std.specs.Prelude.{◌≡◌, ◌≤◌, ◌<◌, IfOk, IsUtf8, Ok, length};
 ghost use Rattle.std.specs.Io.KnownBytes.{Consumes, IsAtEnd};
+ghost use Rattle.plan_machine.specs.declared.reply.Reply.TheVariants.{Bytes, Fault};
 ghost use Rattle.plan_verify.specs.Turn.{Deps};
 ghost use Rattle.plan_world.specs.Answers.{IsAnswer};
-ghost use Rattle.plan_world.specs.Depfiles.{IsFrontOf, longest};
+ghost use Rattle.plan_world.specs.Depfiles.{IsDepfileOf, IsFrontOf};
 
-use crate::fault::DeviceFault;
+use crate::fault::{DeviceFault, without};
 use plan_depfile::Gather;
 use plan_machine::{Depfile, Reply};
 use std::alloc::{AllocError, Global};
-use std::io::{ErrorKind, Read};
+use std::io::Read;
 use std::rt::Files;
 use std::{fs, str};
 
@@ -50,14 +51,22 @@ fn gather<F: Read>(alloc: Global, file: &mut F, most: usize) -> Result<Gather, D
     Ok(gathered)
 }
 
-/// What a depfile that was opened says.
-fn parse<F: Read>(alloc: Global, file: &mut F) -> Result<Reply, DeviceFault>
-    ensures { IfOk result (λ r. (path : List ℕ) → IsAnswer (Deps path) r) }
+/// A depfile that was gathered, as a reply.
+fn lent(alloc: Global, gathered: Gather) -> Result<Reply, AllocError>
+    ensures { IfOk result (λ r. r ≡ Bytes gathered) }
 {
-    match gather(alloc, file, MOST)?.finish() {
+    match gathered.finish() {
         Ok(parsed) => Ok(Reply::Bytes(Depfile::new(alloc, parsed)?)),
-        Err(_) => Err(DeviceFault::Memory),
+        Err(_) => Err(AllocError),
     }
+}
+
+/// What a depfile that was opened says: its bytes, up to its end or one more than it may have.
+fn parse<F: Read>(alloc: Global, file: &mut F) -> Result<Reply, DeviceFault>
+    ensures { IfOk result (λ r. IsDepfileOf (F.remaining file.old) (F.remaining file.new) r) }
+{
+    let gathered = gather(alloc, file, MOST)?;
+    Ok(lent(alloc, gathered)?)
 }
 
 /// The depfile of a path, read in pieces; `Nothing` where it is missing.
@@ -65,7 +74,8 @@ fn parse<F: Read>(alloc: Global, file: &mut F) -> Result<Reply, DeviceFault>
 /// # Errors
 /// Want of memory alone: what can't be read otherwise, or isn't UTF-8, is answered by `Fault`.
 pub(crate) fn read_depfile<R: Files + AllocGlobal>(rt: &R, path: &[u8]) -> Result<Reply, AllocError>
-    ensures { IfOk result (λ r. IsAnswer (Deps path.now) r) }
+    ensures suits { IfOk result (λ r. IsAnswer (Deps path.now) r) }
+    ensures no_text { ¬ (IsUtf8 path.now) → result ≡ Ok Fault }
 {
     let Ok(path) = str::from_utf8(path) else {
         return Ok(Reply::Fault);
@@ -73,13 +83,8 @@ pub(crate) fn read_depfile<R: Files + AllocGlobal>(rt: &R, path: &[u8]) -> Resul
     match fs::open(rt, path) {
         Ok(mut file) => match parse(rt.alloc(), &mut file) {
             Ok(reply) => Ok(reply),
-            Err(DeviceFault::Memory) => Err(AllocError),
-            Err(DeviceFault::Device) => Ok(Reply::Fault),
+            Err(fault) => fault.replied(Reply::Fault),
         },
-        Err(error) => match error.kind() {
-            ErrorKind::NotFound | ErrorKind::NotADirectory => Ok(Reply::Nothing),
-            ErrorKind::OutOfMemory => Err(AllocError),
-            _ => Ok(Reply::Fault),
-        },
+        Err(error) => without(error, Reply::Nothing),
     }
 }

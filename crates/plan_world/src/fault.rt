@@ -1,5 +1,10 @@
 //! Why the real world can't be asked.
 
+ghost use Rattle.std.specs.Prelude.{◌≡◌, ◌↔◌, IfOk, IsErr};
+ghost use Rattle.std.specs.IoError.{error_kind};
+ghost use Rattle.plan_world.specs.Faults.{IsToldOf};
+
+use plan_machine::Reply;
 use plan_record::EntryFault;
 use plan_text::Memory as NoMemory;
 use std::alloc::{AllocError, AllocFailed};
@@ -18,6 +23,12 @@ pub enum OpenFault {
 }
 
 impl From<DeviceFault> for OpenFault {
+    ghost use Rattle.std.specs.Prelude.{◌≡◌, ◌↔◌};
+    ghost use Rattle.plan_world.specs.declared.fault.DeviceFault.TheVariants as device;
+    ghost use Rattle.plan_world.specs.declared.fault.OpenFault.TheVariants.{Memory};
+
+    ghost from_gives = { λ x e. (e ≡ Memory) ↔ (x ≡ device.Memory) };
+
     fn from(fault: DeviceFault) -> OpenFault {
         match fault {
             DeviceFault::Memory => OpenFault::Memory,
@@ -69,11 +80,11 @@ impl From<NoMemory> for DeviceFault {
 }
 
 impl From<EntryFault> for DeviceFault {
-    ghost use Rattle.std.specs.Prelude.{◌≡◌, ◌≢◌};
+    ghost use Rattle.std.specs.Prelude.{◌≡◌, ◌↔◌};
     ghost use Rattle.plan_record.specs.declared.fault.EntryFault.TheVariants as entry;
-    ghost use Rattle.plan_world.specs.declared.fault.DeviceFault.TheVariants.{Device};
+    ghost use Rattle.plan_world.specs.declared.fault.DeviceFault.TheVariants.{Memory};
 
-    ghost from_gives = { λ x e. e ≡ Device → x ≢ entry.Memory };
+    ghost from_gives = { λ x e. (e ≡ Memory) ↔ (x ≡ entry.Memory) };
 
     fn from(fault: EntryFault) -> DeviceFault {
         match fault {
@@ -84,10 +95,42 @@ impl From<EntryFault> for DeviceFault {
 }
 
 impl From<io::Error> for DeviceFault {
+    ghost use Rattle.std.specs.Prelude.{◌≡◌, ◌↔◌};
+    ghost use Rattle.std.specs.IoError.{error_kind};
+    ghost use Rattle.std.specs.declared.io.ErrorKind.TheVariants.{OutOfMemory};
+    ghost use Rattle.plan_world.specs.declared.fault.DeviceFault.TheVariants.{Memory};
+
+    ghost from_gives = { λ x e. (e ≡ Memory) ↔ (error_kind x ≡ OutOfMemory) };
+
     fn from(error: io::Error) -> DeviceFault {
         match error.kind() {
             ErrorKind::OutOfMemory => DeviceFault::Memory,
             _ => DeviceFault::Device,
         }
+    }
+}
+
+impl DeviceFault {
+    /// What is replied to a question at which this came: `otherwise`, and nothing where memory ran out.
+    pub(crate) fn replied(self, otherwise: Reply) -> Result<Reply, AllocError>
+        ensures memory { IsErr result ↔ (self ≡ DeviceFault.Memory) }
+        ensures device { IfOk result (λ r. r ≡ otherwise) }
+    {
+        match self {
+            DeviceFault::Memory => Err(AllocError),
+            DeviceFault::Device => Ok(otherwise),
+        }
+    }
+}
+
+/// What is replied of a file that can't be had: `missing` where there is none, else that it is unknown.
+pub(crate) fn without(error: io::Error, missing: Reply) -> Result<Reply, AllocError>
+    ensures memory { IsErr result ↔ (error_kind error ≡ ErrorKind.OutOfMemory) }
+    ensures told { IfOk result (λ r. IsToldOf (error_kind error) missing r) }
+{
+    match error.kind() {
+        ErrorKind::NotFound | ErrorKind::NotADirectory => Ok(missing),
+        ErrorKind::OutOfMemory => Err(AllocError),
+        _ => Ok(Reply::Fault),
     }
 }

@@ -2,7 +2,7 @@
 
 ghost use Rattle.std.specs.Prelude.{◌≡◌, ◌++◌, ◌∷◌, [], false, IfOk, IfSome, OnOk, OnErr, option_map};
 ghost use Rattle.std.specs.Io.KnownBytes.{Appends};
-ghost use Rattle.plan_record.specs.Entries.{IsGoodFront, last_of, spelling};
+ghost use Rattle.plan_record.specs.Entries.{HasSpelling, IsGoodFront, last_of, spelling};
 ghost use Rattle.plan_world.specs.Begun.{begun};
 ghost use Rattle.plan_world.specs.Recording.{edge_entry};
 
@@ -100,6 +100,7 @@ pub(crate) fn open_record<R: Files + AllocGlobal>(
 ) -> Result<RecordFile<R::File>, DeviceFault>
 where
     R::File: Read + Write + Seek + OpenFile + Drop,
+    ensures whole { IfOk result (λ r. r.torn ≡ false) }
 {
     let file = OpenOptions::new()
         .read(true)
@@ -154,8 +155,10 @@ impl<F: Write + Seek + OpenFile> RecordFile<F> {
         paths: &'a PathList,
     ) -> Result<Kept<'a>, DeviceFault>
         ensures proof { IfOk result (λ k. k ≡ edge_entry output.now command.now basis paths.now) }
+        ensures within { OnOk result (HasSpelling (edge_entry output.now command.now basis paths.now)) }
         ensures kept { OnOk result (self.new.entries ≡ self.old.entries ++ edge_entry output.now command.now basis paths.now ∷ []) }
         ensures written { OnOk result (self.old.torn ≡ false → Appends (F.contents self.old.file) (F.contents self.new.file) (spelling (edge_entry output.now command.now basis paths.now))) }
+        ensures whole { OnOk result (self.new.torn ≡ false) }
         ensures unchanged { OnErr result (self.new.entries ≡ self.old.entries) }
     {
         let entry = entry_of(alloc, output, command, basis, paths)?;
@@ -175,8 +178,10 @@ impl<F: Write + Seek + OpenFile> RecordFile<F> {
         output: &'a [u8],
     ) -> Result<Begun<'a>, DeviceFault>
         ensures proof { IfOk result (λ b. b ≡ output.now) }
+        ensures within { OnOk result (HasSpelling (begun output.now)) }
         ensures kept { OnOk result (self.new.entries ≡ self.old.entries ++ begun output.now ∷ []) }
         ensures written { OnOk result (self.old.torn ≡ false → Appends (F.contents self.old.file) (F.contents self.new.file) (spelling (begun output.now))) }
+        ensures whole { OnOk result (self.new.torn ≡ false) }
         ensures unchanged { OnErr result (self.new.entries ≡ self.old.entries) }
     {
         let begun = begun_entry(alloc, output)?;

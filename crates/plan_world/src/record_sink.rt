@@ -84,6 +84,7 @@ impl<F: Write + Seek + OpenFile> RecordSink<F> {
         ensures cut { OnOk result (self.old.torn ≡ true → self.new.len ≡ self.old.good) }
         ensures place { OnOk result (self.old.torn ≡ true → StandsAt (F.stream_position self.old.file) (F.stream_position self.new.file) self.old.good) }
         ensures torn { OnErr result (self.new.torn ≡ true) }
+        ensures left { OnErr result (self.new.len ≡ self.old.len) }
     {
         if !self.torn {
             return Ok(());

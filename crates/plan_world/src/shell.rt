@@ -1,12 +1,14 @@
 //! Commands, run by a shell.
 
-ghost use Rattle.std.specs.Prelude.{◌≡◌, ◌++◌, IfErr, IfOk, Ok, OnOk, Some, slice_get};
+ghost use Rattle.std.specs.Prelude.{◌≡◌, ◌↔◌, ◌++◌, true, IfErr, IfOk, IsErr, IsUtf8, Ok, OnOk, Some, slice_get};
 ghost use Rattle.std.specs.Io.KnownBytes.{Appends};
+ghost use Rattle.std.specs.IoError.{error_kind};
 ghost use Rattle.plan_machine.specs.declared.reply.Reply.TheVariants.{NotStarted};
 ghost use Rattle.plan_verify.specs.Turn.{Run};
 ghost use Rattle.plan_world.specs.Answers.{IsAnswer};
-ghost use Rattle.plan_world.specs.Shells.{IsShellOf, ending};
+ghost use Rattle.plan_world.specs.Shells.{AreTexts, IsShellOf, ending};
 
+use crate::fault::DeviceFault;
 use crate::record_file::Begun;
 use plan_machine::Reply;
 use plan_text::RowList;
@@ -44,13 +46,11 @@ fn how_ended(code: Option<i32>) -> Reply
 fn replied(ended: io::Result<Option<i32>>) -> Result<Reply, AllocError>
     ensures run { IfOk ended (λ code. result ≡ Ok (ending code)) }
     ensures not { IfErr ended (λ _. IfOk result (λ r. r ≡ NotStarted)) }
+    ensures memory { IfErr ended (λ e. IsErr result ↔ (error_kind e ≡ ErrorKind.OutOfMemory)) }
 {
     match ended {
         Ok(code) => Ok(how_ended(code)),
-        Err(error) => match error.kind() {
-            ErrorKind::OutOfMemory => Err(AllocError),
-            _ => Ok(Reply::NotStarted),
-        },
+        Err(error) => DeviceFault::from(error).replied(Reply::NotStarted),
     }
 }
 
@@ -77,7 +77,9 @@ fn show<R: Print + Wait>(rt: &R, screen: &Mutex<()>, printed: &Output) {
 }
 
 /// Makes the folder of a file, where it isn't there, and tells whether it is there.
-fn make_folder<R: Files>(rt: &R, file: &[u8]) -> bool {
+fn make_folder<R: Files>(rt: &R, file: &[u8]) -> bool
+    ensures { result ≡ true → IsUtf8 file.now }
+{
     let Ok(path) = str::from_utf8(file) else {
         return false;
     };
@@ -88,7 +90,9 @@ fn make_folder<R: Files>(rt: &R, file: &[u8]) -> bool {
 }
 
 /// Makes the folders of files, and tells whether all are there.
-pub(crate) fn make_folders<R: Files>(rt: &R, files: &RowList<u8>) -> bool {
+pub(crate) fn make_folders<R: Files>(rt: &R, files: &RowList<u8>) -> bool
+    ensures { result ≡ true → AreTexts files.now }
+{
     for number in 0..files.len() {
         if !make_folder(rt, files.row(number)) {
             return false;
@@ -135,7 +139,8 @@ pub(crate) fn run_shell<R: Processes + Print + Wait + AllocGlobal>(
     begun: Begun<'_>,
 ) -> Result<Reply, AllocError>
     requires { slice_get outputs.now 0 ≡ Some begun }
-    ensures { IfOk result (λ r. IsAnswer (Run command.now outputs.now) r) }
+    ensures suits { IfOk result (λ r. IsAnswer (Run command.now outputs.now) r) }
+    ensures no_text { ¬ (IsUtf8 command.now) → result ≡ Ok NotStarted }
 {
     let Ok(text) = str::from_utf8(command) else {
         return Ok(Reply::NotStarted);

@@ -1,13 +1,18 @@
 //! When a file was last changed.
 
-ghost use Rattle.std.specs.Prelude.{◌≡◌, IfOk};
+ghost use Rattle.std.specs.Prelude.{◌≡◌, ◌≤◌, ◌↔◌, List, ℕ, IfErr, IfOk, IsErr, IsOkAnd, IsUtf8, Ok, OnOk};
+ghost use Rattle.std.specs.IoError.{error_kind};
+ghost use Rattle.plan_machine.specs.declared.reply.Reply.TheVariants.{Fault, Stamp};
 ghost use Rattle.plan_verify.specs.Turn.{Stat};
 ghost use Rattle.plan_world.specs.Answers.{IsAnswer};
-ghost use Rattle.plan_world.specs.Stamps.{stamp_of};
+ghost use Rattle.plan_world.specs.Faults.{IsToldOf};
+ghost use Rattle.plan_world.specs.Stamps.{IsThere, stamp_of};
 
+use crate::fault::without;
 use plan_machine::Reply;
 use std::alloc::AllocError;
-use std::io::ErrorKind;
+use std::fs::Metadata;
+use std::io::{self, ErrorKind};
 use std::os::unix::fs::MetadataExt;
 use std::rt::Files;
 use std::{fs, str};
@@ -17,7 +22,8 @@ const SECOND: u64 = 1_000_000_000;
 
 /// Nanoseconds since 1970, of seconds and nanoseconds: at least 1 and at most the greatest stamp.
 fn stamp_at(seconds: i64, nanoseconds: i64) -> u64
-    ensures { result ≡ stamp_of seconds nanoseconds }
+    ensures stamp { result ≡ stamp_of seconds nanoseconds }
+    ensures there { 1 ≤ result }
 {
     let (Ok(seconds), Ok(nanoseconds)) = (u64::try_from(seconds), u64::try_from(nanoseconds)) else {
         return 1;
@@ -28,22 +34,29 @@ fn stamp_at(seconds: i64, nanoseconds: i64) -> u64
         .max(1)
 }
 
+/// What is replied of a file that was looked for.
+fn seen(found: io::Result<Metadata>) -> Result<Reply, AllocError>
+    ensures there { OnOk found (IsOkAnd result IsThere) }
+    ensures memory { IfErr found (λ e. IsErr result ↔ (error_kind e ≡ ErrorKind.OutOfMemory)) }
+    ensures told { IfErr found (λ e. IfOk result (λ r. IsToldOf (error_kind e) (Stamp 0) r)) }
+    ensures suits { (path : List ℕ) → IfOk result (λ r. IsAnswer (Stat path) r) }
+{
+    match found {
+        Ok(file) => Ok(Reply::Stamp(stamp_at(file.mtime(), file.mtime_nsec()))),
+        Err(error) => without(error, Reply::Stamp(0)),
+    }
+}
+
 /// The stamp of the file at a path, links followed, in nanoseconds since 1970; 0 where it is missing.
 ///
 /// # Errors
 /// Want of memory alone: what can't be known otherwise, or isn't UTF-8, is answered by `Fault`.
 pub(crate) fn stat<R: Files>(rt: &R, path: &[u8]) -> Result<Reply, AllocError>
-    ensures { IfOk result (λ r. IsAnswer (Stat path.now) r) }
+    ensures suits { IfOk result (λ r. IsAnswer (Stat path.now) r) }
+    ensures no_text { ¬ (IsUtf8 path.now) → result ≡ Ok Fault }
 {
     let Ok(path) = str::from_utf8(path) else {
         return Ok(Reply::Fault);
     };
-    match fs::metadata(rt, path) {
-        Ok(found) => Ok(Reply::Stamp(stamp_at(found.mtime(), found.mtime_nsec()))),
-        Err(error) => match error.kind() {
-            ErrorKind::NotFound | ErrorKind::NotADirectory => Ok(Reply::Stamp(0)),
-            ErrorKind::OutOfMemory => Err(AllocError),
-            _ => Ok(Reply::Fault),
-        },
-    }
+    seen(fs::metadata(rt, path))
 }

@@ -1,9 +1,11 @@
 //! The world of real files and commands.
 
-ghost use Rattle.std.specs.Prelude.{◌≡◌, IfOk, IfSome};
+ghost use Rattle.std.specs.Prelude.{◌≡◌, [], IfErr, IfOk, IfSome, IsUtf8, None, Ok};
+ghost use Rattle.plan_machine.specs.declared.reply.Reply.TheVariants as reply;
 ghost use Rattle.plan_verify.specs.Turn.{Keep, Recall, Run};
 ghost use Rattle.plan_world.specs.Answers.{IsAnswer};
 ghost use Rattle.plan_world.specs.Recording.{edge_entry};
+ghost use Rattle.plan_world.specs.Shells.{AreTexts};
 
 use crate::depfile::read_depfile;
 use crate::fault::{DeviceFault, OpenFault};
@@ -86,7 +88,10 @@ where
         console: bool,
         outputs: &RowList<u8>,
     ) -> Result<Reply, AllocError>
-        ensures { IfOk result (λ r. IsAnswer (Run command.now outputs.now) r) }
+        ensures suits { IfOk result (λ r. IsAnswer (Run command.now outputs.now) r) }
+        ensures no_output { outputs.now ≡ [] → result ≡ Ok reply.NotStarted }
+        ensures no_path { ¬ (AreTexts outputs.now) → result ≡ Ok reply.NotStarted }
+        ensures no_text { ¬ (IsUtf8 command.now) → IfOk result (λ r. r ≡ reply.NotStarted) }
     {
         if outputs.len() == 0 || !make_folders(&self.rt, outputs) {
             return Ok(Reply::NotStarted);
@@ -98,8 +103,7 @@ where
             .begin(self.rt.alloc(), outputs.row(0));
         match begun {
             Ok(begun) => run_shell(&self.rt, &self.screen, command, console, outputs, begun),
-            Err(DeviceFault::Memory) => Err(AllocError),
-            Err(DeviceFault::Device) => Ok(Reply::NotStarted),
+            Err(fault) => fault.replied(Reply::NotStarted),
         }
     }
 
@@ -121,7 +125,8 @@ where
 
     /// The last entry of an output.
     fn last(&self, output: &[u8]) -> Result<Option<Entry>, DeviceFault>
-        ensures { IfOk result (λ found. IfSome found (λ e. e.output ≡ output.now)) }
+        ensures own { IfOk result (λ found. IfSome found (λ e. e.output ≡ output.now)) }
+        ensures memory { IfErr result (λ f. f ≡ DeviceFault.Memory) }
     {
         match self.record.lock(&self.rt).last(output) {
             Some(entry) => Ok(Some(entry.copy()?)),
@@ -133,7 +138,10 @@ where
 /// What the record has for an output.
 fn recalled(alloc: Global, output: &[u8], found: Option<Entry>) -> Result<Reply, DeviceFault>
     requires { IfSome found (λ e. e.output ≡ output.now) }
-    ensures { IfOk result (λ r. IsAnswer (Recall output.now) r) }
+    ensures suits { IfOk result (λ r. IsAnswer (Recall output.now) r) }
+    ensures nothing { found ≡ None → result ≡ Ok reply.Nothing }
+    ensures said { IfSome found (λ e. IfOk result (λ r. r ≡ reply.Entry (record { command = e.command; basis = e.basis; paths = e.paths }))) }
+    ensures memory { IfErr result (λ f. f ≡ DeviceFault.Memory) }
 {
     match found {
         Some(entry) => Ok(Reply::Entry(recorded_of(alloc, &entry)?)),
@@ -144,19 +152,21 @@ fn recalled(alloc: Global, output: &[u8], found: Option<Entry>) -> Result<Reply,
 /// That the record has the entry of an edge.
 fn told(kept: Kept<'_>, output: &[u8], command: &[u8], basis: u64, paths: &PathList) -> Reply
     requires { kept ≡ edge_entry output.now command.now basis paths.now }
-    ensures { IsAnswer (Keep output.now command.now basis paths.now) result }
+    ensures suits { IsAnswer (Keep output.now command.now basis paths.now) result }
+    ensures kept { result ≡ reply.Kept }
 {
     Reply::Kept
 }
 
-/// Replies by `IsAnswer`: their sort suits the question. What a file or a command does is no matter of a contract.
+/// Replies by `MayAnswer`: their sort suits the question, and of what isn't UTF-8 nothing is known or started. What a
+/// file or a command does is no matter of a contract.
 impl<R: Files + Processes + Print + Wait + AllocGlobal> World for RealWorld<R>
 where
     R::File: Write + Seek + OpenFile,
 {
-    ghost use Rattle.plan_world.specs.Answers.{IsAnswer};
+    ghost use Rattle.plan_world.specs.Answers.{MayAnswer};
 
-    ghost allows = { λ _ question reply. IsAnswer question reply };
+    ghost allows = { λ _ question reply. MayAnswer question reply };
 
     fn stat(&self, _number: u64, path: &[u8]) -> Result<Reply, AllocError> {
         stat(&self.rt, path)
@@ -169,8 +179,7 @@ where
         };
         match recalled {
             Ok(reply) => Ok(reply),
-            Err(DeviceFault::Memory) => Err(AllocError),
-            Err(DeviceFault::Device) => Ok(Reply::Fault),
+            Err(fault) => fault.replied(Reply::Fault),
         }
     }
 
@@ -200,8 +209,7 @@ where
     ) -> Result<Reply, AllocError> {
         match self.append(output, command, basis, paths) {
             Ok(kept) => Ok(told(kept, output, command, basis, paths)),
-            Err(DeviceFault::Memory) => Err(AllocError),
-            Err(DeviceFault::Device) => Ok(Reply::Fault),
+            Err(fault) => fault.replied(Reply::Fault),
         }
     }
 }

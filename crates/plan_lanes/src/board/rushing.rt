@@ -132,7 +132,8 @@ impl<'v, W: World> Board<'v, W> {
     /// The question of an edge that sweeps, in the place of one before, where that asked for a stamp too.
     fn renew_swept(&self, edge: u32, question: &mut Question) -> Result<Followed, AllocError>
         requires { IsSweptAt self.now.opened.parts self.now.state edge }
-        ensures { IfOk result (λ r. r ≡ Followed.Renewed → IsOpen self.now edge question.new.number (shown question.new.request)) }
+        ensures renewed { IfOk result (λ r. r ≡ Followed.Renewed → IsOpen self.now edge question.new.number (shown question.new.request)) }
+        ensures asks { IfOk result (λ r. r ≢ Followed.Rests) }
     {
         let path = self.state.swept(self.image, edge);
         if self.renew_for(edge, question, path)? {
@@ -152,6 +153,7 @@ impl<'v, W: World> Board<'v, W> {
         requires { W.allows question.old.number (shown question.old.request) reply.now }
         ensures goes { GoesOn self.old self.new }
         ensures on { IfOk result (λ r. r ≡ Some Followed.Renewed → IsOpen self.new edge question.new.number (shown question.new.request)) }
+        ensures asks { IfOk result (λ r. r ≢ Some Followed.Rests) }
         ensures off { IfOk result (λ r. r ≡ None → (self.new ≡ self.old) × (question.new ≡ question.old)) }
     {
         match (&question.request, reply) {
@@ -175,6 +177,7 @@ impl<'v, W: World> Board<'v, W> {
         requires { W.allows question.old.number (shown question.old.request) reply }
         ensures goes { GoesOn self.old self.new }
         ensures renewed { IfOk result (λ r. r ≡ Followed.Renewed → IsOpen self.new edge question.new.number (shown question.new.request)) }
+        ensures rests { IfOk result (λ r. r ≡ Followed.Rests → asked_at self.new.opened.parts self.new.state edge ≡ None) }
     {
         match self.sweep_on(edge, question, &reply)? {
             Some(followed) => Ok(followed),
@@ -192,6 +195,7 @@ impl<'v, W: World> Board<'v, W> {
         requires { W.allows question.now.number (shown question.now.request) reply }
         ensures goes { GoesOn self.old self.new }
         ensures other { IfOk result (λ r. r ≢ Followed.Renewed) }
+        ensures rests { IfOk result (λ r. r ≡ Followed.Rests → asked_at self.new.opened.parts self.new.state edge ≡ None) }
     {
         if !self.is_open(edge, question) {
             return Err(Refused::NotEnabled);

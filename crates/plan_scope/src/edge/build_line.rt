@@ -138,7 +138,7 @@ fn environment_with<'a>(
     }
 }
 
-/// The edge of a build line with this rule, which is compiled for its file, by the pools of the tree and by what names
+/// The edge of a build line with this rule, compiled for its file or not, by the pools of the tree and by what names
 /// stand for above the statement and, once the whole tree was read, in its file.
 pub fn edge<'a>(
     alloc: Global,

@@ -54,6 +54,8 @@ pub struct RuleParts<'a> {
 /// A rule in a file.
 #[derive(Drop)]
 pub enum CompiledRule<'a> {
+    /// One build line used it so far, for which it wasn't compiled.
+    Met,
     /// Its parts, for the edges whose blocks bind no variable of the rule.
     Whole(RuleParts<'a>),
     /// A variable has a cycle, very many parts, or many others one inside another.

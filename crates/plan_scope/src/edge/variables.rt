@@ -175,12 +175,11 @@ pub fn variables_of_rule<'a>(
     requires { IsCompiledRule (environment_of edge.now).rule (environment_of edge.now).file compiled.now }
     ensures { IfOk result (λ v. KeptEqVariables v (variables_of (environment_of edge.now))) }
 {
-    if !edge.rule.are_left_by(edge.block) {
-        return expanded_variables(alloc, edge);
-    }
     match compiled {
-        CompiledRule::Whole(parts) => compiled_variables(alloc, edge, parts),
-        CompiledRule::Unknown => expanded_variables(alloc, edge),
+        CompiledRule::Whole(parts) if edge.rule.are_left_by(edge.block) => {
+            compiled_variables(alloc, edge, parts)
+        }
+        _ => expanded_variables(alloc, edge),
     }
 }
 

@@ -15,11 +15,12 @@ ghost use Rattle.plan_scope.specs.Evaluation.{Fits, GivesMore, IsLocated, Knows,
 ghost use Rattle.plan_scope.specs.Found.{AreFound};
 
 use crate::edge::build_line::{edge, phony_edge};
+use crate::edge::compiled::CompiledRule;
 use crate::edge::rule_compiler::compile_rule;
 use crate::edge::rule_variables::RuleVariables;
 use crate::fault::{Cause, ScopeFault, StatementFault};
 use crate::manifest::defaults::targets;
-use crate::manifest::found_rules::{FoundRule, find_rule, keep_rule};
+use crate::manifest::found_rules::{FoundRule, find_rule, keep_rule, replace_rule};
 use crate::manifest::pool_names::{CONSOLE, PoolNames};
 use crate::manifest::pools::pool;
 use crate::manifest::rules::{declare, is_phony};
@@ -123,8 +124,32 @@ fn initial_evaluation<'a>(alloc: Global, edges: usize) -> Result<Evaluation<'a>,
     })
 }
 
-/// The edge of a build line with a rule that isn't kept yet; from now on it is.
+/// The edge of a build line with a rule that isn't kept yet; from now on it is, but not compiled.
 fn edge_of_new_rule<'b, 'a>(
+    alloc: Global,
+    pools: &PoolNames<'b>,
+    found: &mut Vec<FoundRule<'a>>,
+    here: Scope<'b>,
+    file: Scope<'a>,
+    rule: &'b RuleVariables<'a>,
+    build: &'a Build,
+) -> Result<Edge, StatementFault>
+    ensures edge { (names : List Name) (h f : Name → Text) → EqNames pools.now names → KeptEqLookup (names_in here.entry) h → KeptEqLookup (names_in file.entry) f → Gives result (edge_or_refusal names h build.now (variables_of (environment_of h f build.now rule.now)) false) }
+    ensures found { OnOk result ((rules : ScopedBindings (Bindings (List Piece))) → nearest rules file.entry.scopes.now build.now.rule ≡ Some rule.now → AreFound rules file.entry.bound.now found.old.items → AreFound rules file.entry.bound.now found.new.items) }
+{
+    let compiled = CompiledRule::Met;
+    let edge = edge(alloc, &*pools, here, file, &*rule, &compiled, &*build);
+    let found_rule = FoundRule {
+        scopes: file.scopes,
+        name: build.rule.as_slice(),
+        compiled,
+    };
+    keep_rule(found, found_rule)?;
+    edge
+}
+
+/// The edge of a build line with a rule that one other used; from now on it is compiled.
+fn edge_of_met_rule<'b, 'a>(
     alloc: Global,
     pools: &PoolNames<'b>,
     found: &mut Vec<FoundRule<'a>>,
@@ -143,7 +168,7 @@ fn edge_of_new_rule<'b, 'a>(
         name: build.rule.as_slice(),
         compiled,
     };
-    keep_rule(found, found_rule)?;
+    replace_rule(found, found_rule);
     edge
 }
 
@@ -169,6 +194,9 @@ fn edge_of_build<'b, 'a>(
         return Err(StatementFault::Refused(Cause::UnknownRule));
     };
     match find_rule(found, file.scopes, build.rule.as_slice()) {
+        Some(CompiledRule::Met) => {
+            edge_of_met_rule(alloc, pools, found, here, file, rule, build)
+        }
         Some(compiled) => edge(alloc, &*pools, here, file, &*rule, compiled, &*build),
         None => edge_of_new_rule(alloc, pools, found, here, file, rule, build),
     }

@@ -1,4 +1,4 @@
-//! The rules of the latest build lines, compiled.
+//! The rules of the latest build lines, compiled where two used them.
 
 ghost use Rattle.std.specs.Prelude.{◌≡◌, List, IfSome, OnOk};
 ghost use Rattle.plan_text.specs.declared.piece_reader.Piece.{Piece};
@@ -49,4 +49,15 @@ pub fn keep_rule<'a>(found: &mut Vec<FoundRule<'a>>, rule: FoundRule<'a>) -> Res
     }
     found.push(rule)?;
     Ok(())
+}
+
+/// Puts a rule in the place of the one of its name that was found from its scopes.
+pub fn replace_rule<'a>(found: &mut Vec<FoundRule<'a>>, rule: FoundRule<'a>)
+    ensures { (rules : ScopedBindings (Bindings (List Piece))) (bound : ScopedBindings Text) → AreFound rules bound found.old.items → IsCompiledFrom rules bound rule.entry.scopes.now rule.entry.name.now rule.entry.compiled → AreFound rules bound found.new.items }
+{
+    let place = found.iter().position(|other| other.scopes == rule.scopes
+        && other.name == rule.name);
+    if let Some(place) = place {
+        found[place] = rule;
+    }
 }

@@ -1,4 +1,5 @@
 use Rattle.std.proofs.Common.{refl}
+use Rattle.plan_lanes.proofs.RestLemmas.{follows_rests}
 use Rattle.plan_lanes.proofs.RushLemmas.{goes_none}
 use Rattle.plan_lanes.proofs.board.Board.follow_open.Goals as goal
 
@@ -7,3 +8,6 @@ returns-then-not-is_open-clause-goes g c = goes_none c.args.self.now c.args.self
 
 pub returns-in_err-rush-clause-goes : goal.returns-in_err-rush-clause-goes
 returns-in_err-rush-clause-goes g c = goes_none c.args.self.now c.record_reply.new.self c.in_err-rush.ensures.err
+
+pub returns-clause-rests : goal.returns-clause-rests
+returns-clause-rests g c same = follows_rests c.args.self.now c.record_reply.new.self c.args.edge c.args.reply c.in_ok-rush.rush c.in_ok-rush.ensures.ok c.if-rush.false

@@ -41,3 +41,11 @@ returns-in-None-clause-edge c = λ names h f s a b.
     let is : bytes_eq c.args.build.now.rule (codes "phony") ≡ false = sym (ap (λ n. bytes_eq n (codes "phony")) c.as_slice.ensures) ∙ (sym c.is_phony.ensures ∙ c.if-is_phony.false) in
     let rule : Some c.in-Some.rule.now ≡ nearest c.args.rules.now c.args.here.scopes.now c.args.build.now.rule = c.in-Some.ensures ∙ ap (nearest c.args.rules.now c.args.here.scopes.now) c.as_slice-2.ensures in
     subst (Gives c.edge_of_new_rule.result) (ap (edge_of_rule names h f c.args.build.now) rule ∙ sym (ap (λ (t : Bool). cond t phony other) is)) (c.edge_of_new_rule.ensures.edge names h f s a b)
+
+pub returns-in-Some-Met-clause-edge : goal.returns-in-Some-Met-clause-edge
+returns-in-Some-Met-clause-edge c = λ names h f s a b.
+    let phony : Result Edge Cause = edge_or_refusal names h c.args.build.now (phony_variables (environment_of h f c.args.build.now [])) true in
+    let other = edge_of_rule names h f c.args.build.now (nearest c.args.rules.now c.args.here.scopes.now c.args.build.now.rule) in
+    let is : bytes_eq c.args.build.now.rule (codes "phony") ≡ false = sym (ap (λ n. bytes_eq n (codes "phony")) c.as_slice.ensures) ∙ (sym c.is_phony.ensures ∙ c.if-is_phony.false) in
+    let rule : Some c.in-Some.rule.now ≡ nearest c.args.rules.now c.args.here.scopes.now c.args.build.now.rule = c.in-Some.ensures ∙ ap (nearest c.args.rules.now c.args.here.scopes.now) c.as_slice-2.ensures in
+    subst (Gives c.edge_of_met_rule.result) (ap (edge_of_rule names h f c.args.build.now) rule ∙ sym (ap (λ (t : Bool). cond t phony other) is)) (c.edge_of_met_rule.ensures.edge names h f s a b)

@@ -1,11 +1,5 @@
-use Rattle.plan_scope.proofs.CompiledLemmas.{compiled_from}
 use Rattle.plan_scope.proofs.EvaluatorLemmas.{on_ok_always}
 use Rattle.plan_scope.proofs.manifest.evaluator.edge_of_new_rule.Goals as goal
 
 pub returns-clause-found : goal.returns-clause-found
-returns-clause-found c =
-    on_ok_always c.edge-edge.result
-    (λ rules seen a.
-    let bound = c.args.file.bound.now in
-    c.in_ok-keep_rule.ensures rules bound a
-    (compiled_from rules bound c.args.file.scopes.now c.args.build.now.rule c.as_slice.result.now c.args.rule.now c.in_ok-compiled.compiled c.as_slice.ensures seen c.in_ok-compiled.ensures))
+returns-clause-found c = on_ok_always c.edge-edge.result (λ rules seen a. c.in_ok-keep_rule.ensures rules c.args.file.bound.now a (λ rule is. tt {0}))

@@ -1,0 +1,14 @@
+-- What is told of a file that can't be had.
+use Rattle.std.specs.Prelude.{◌≡◌, ◌⊎◌}
+use Rattle.std.specs.declared.io.ErrorKind.{ErrorKind}
+use Rattle.std.specs.declared.io.ErrorKind.TheVariants.{NotFound, NotADirectory}
+use Rattle.plan_machine.specs.declared.reply.Reply.{Reply}
+use Rattle.plan_machine.specs.declared.reply.Reply.TheVariants.{Fault}
+
+-- there is no file of that path, or something above it is no folder
+abbrev pub IsMissing : ErrorKind → Type 0
+IsMissing kind = (kind ≡ NotFound) ⊎ (kind ≡ NotADirectory)
+
+-- this reply where it is missing, else that it can't be known
+abbrev pub IsToldOf : ErrorKind → (missing told : Reply) → Type 0
+IsToldOf kind missing told = (IsMissing kind × (told ≡ missing)) ⊎ (¬ (IsMissing kind) × (told ≡ Fault))

@@ -1,0 +1,74 @@
+#!/usr/bin/env python3
+"""Checks functions of a crate over the sources of the crates below, which needn't be proved yet.
+
+`rt check` proves all crates below first, from nothing some half an hour on a new machine. Here their contracts count as
+they stand, so that a crate and those above it can be worked on side by side; what they call of each other is checked
+too, once. It gives no verdict, and the gate keeps nothing of it. What was checked is kept in a folder of the temporary
+folder, by crate; with --holes it goes past open goals and prints each, with --fix-imports it mends `use` lines.
+"""
+import argparse
+import os
+import pathlib
+import sys
+import tempfile
+
+ROOT = pathlib.Path(__file__).resolve().parent.parent
+KIT = pathlib.Path("/opt/rattle")
+LIBRARIES = KIT / "rlibs"
+
+
+def crates() -> dict[str, list[str]]:
+    """What each crate stands on, as crates.txt says."""
+    lines = [line.partition("#")[0] for line in (ROOT / "crates.txt").read_text().splitlines()]
+    split = [line.partition(":") for line in lines if line.strip()]
+    return {name.strip(): below.split() for name, _, below in split}
+
+
+def below(crate: str, listed: dict[str, list[str]], found: list[str]) -> list[str]:
+    """The crates of this repository below a crate, lowest first."""
+    for name in listed[crate]:
+        if name in listed and name not in found:
+            below(name, listed, found)
+            found.append(name)
+    return found
+
+
+def words(crate: str, listed: dict[str, list[str]]) -> list[str]:
+    """The checker's command line, without what is to be checked."""
+    own = below(crate, listed, [])
+    kit = sorted({"core", "std"} | {name for it in [crate, *own] for name in listed[it] if name not in listed})
+    root = "src/lib.rt" if (ROOT / "crates" / crate / "src" / "lib.rt").is_file() else "src/main.rt"
+    said = [str(KIT / "bin" / "rattle"), "check", "--crate-name", crate, root, "-L", f"dependency={LIBRARIES}"]
+    for name in kit:
+        said += ["--extern", f"{name}={LIBRARIES / name}.rlib"]
+    for name in own:
+        source = ROOT / "crates" / name / "src" / "lib.rt"
+        said += ["--lib", f"{name}:{','.join(['core', 'std', *listed[name]])}={source}"]
+    said += ["--antt-project", str(KIT / "rattle" / "logic" / "antt-project.json")]
+    said += ["--logic-built", str(KIT / "logic_built"), "--links", f"{crate}=", "--progress"]
+    return said
+
+
+def main() -> None:
+    parser = argparse.ArgumentParser(description=__doc__, formatter_class=argparse.RawDescriptionHelpFormatter)
+    parser.add_argument("crate")
+    parser.add_argument("only", nargs="*", help="modules or functions, as board::rushing or stack::Stack::has_next")
+    parser.add_argument("--holes", action="store_true")
+    parser.add_argument("--fix-imports", action="store_true")
+    parser.add_argument("--jobs", type=int, default=1)
+    asked = parser.parse_args()
+    listed = crates()
+    if asked.crate not in listed:
+        sys.exit(f"no crate {asked.crate}, of: {' '.join(listed)}")
+    said = words(asked.crate, listed)
+    said += ["--incremental", str(pathlib.Path(tempfile.gettempdir()) / f"over_sources-{asked.crate}")]
+    said += ["--jobs", str(asked.jobs)]
+    said += ["--allow-holes"] * asked.holes + ["--fix-imports"] * asked.fix_imports
+    for name in asked.only:
+        said += ["--only", name]
+    os.chdir(ROOT / "crates" / asked.crate)
+    os.execv(said[0], said)
+
+
+if __name__ == "__main__":
+    main()
