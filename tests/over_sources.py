@@ -9,11 +9,12 @@ folder, by crate; with --holes it goes past open goals and prints each, with --f
 import argparse
 import os
 import pathlib
+import shutil
 import sys
 import tempfile
 
 ROOT = pathlib.Path(__file__).resolve().parent.parent
-KIT = pathlib.Path("/opt/rattle")
+KIT = pathlib.Path(shutil.which("rt") or "/opt/rattle/bin/rt").resolve().parents[1]
 LIBRARIES = KIT / "rlibs"
 
 
