@@ -1,68 +1,116 @@
--- A statement that is a binding is read again from its line. Serves src/compact.rt.
-use Rattle.std.proofs.Common.{◌≡◌, ℕ, Bool, true, false, if◌then◌else◌, List, length, Result, Ok, Err, refl, subst, codes}
-use Rattle.std.specs.Str.{bytes_eq}
+-- What is left of a line is read again from its text. Serves src/reading.rt, src/statement_reader.rt.
+use Rattle.std.proofs.Common.{◌≡◌, ℕ, ◌+◌, ◌-◌, ◌≤◌, ◌==◌, Bool, true, false, ◌&&◌, not, ◌||◌, cond, List, [], ◌∷◌, length, take, drop, Result, Ok, Err, refl, sym, ap, subst, ◌∙◌, arith}
+use Rattle.std.specs.List.{prefix_len}
+use Rattle.std.proofs.lemmas.List.{take-take, drop-take, drop-drop, length-drop}
+use Rattle.std.proofs.lemmas.List.Sums.{prefix_len-le-length}
+use Rattle.plan_text.specs.Bytes.{bar, at_sign, is_name_byte, begins_with}
+use Rattle.plan_text.specs.Lines.{gap_unit, gap_len}
+use Rattle.plan_text.specs.declared.piece_reader.Piece.{Piece}
 use Rattle.plan_parse.specs.declared.fault.ParseFault.{ParseFault}
-use Rattle.plan_parse.specs.declared.statement.Statement.{Statement}
-use Rattle.plan_text.specs.Outcome.{◌>>=◌, each}
-use Rattle.plan_parse.specs.Reading.{Place, past, past_gap, name_at, name_of}
-use Rattle.plan_parse.specs.Blocks.{BlockLine}
-use Rattle.plan_parse.specs.Statements.{statement_of, rule_of, build_of, pool_of, default_of, include_of, subninja_of, binding_of, outputs_at, inputs_at, block_line_at, targets_at, file_at, no_block_allowed, binding_at, named_block}
-use Rattle.plan_parse.specs.declared.block_kind.BlockKind.TheVariants.{Rule, Pool}
-use Rattle.plan_parse.specs.Compact.{ReadsAgain}
+use Rattle.plan_parse.specs.declared.span.Span.{Span}
+use Rattle.plan_parse.specs.declared.statement.Binding.{Binding}
+use Rattle.plan_parse.specs.declared.compact.CompactPath.TheVariants as path
+use Rattle.plan_parse.specs.Kinds.{Statement}
+use Rattle.plan_parse.specs.Kinds as kind
+use Rattle.plan_parse.specs.Reading.{Place, past, past_gap, name_of, name_at, byte_at, path_at}
+use Rattle.plan_parse.specs.Statements.{binding_at, is_bar, is_two_bars}
+use Rattle.plan_parse.specs.Compact.{StandsIn, line_in, path_pieces, pieces_or_none, path_in, binding_or_empty, binding_in}
+use Rattle.plan_parse.proofs.ReadingLemmas.{run_within}
 
--- what is read, if anything, is read again from what is left of a line
-record Again (p : Place) (read : Result Statement ParseFault) : Type 0 where
-  of : (s : Statement) → read ≡ Ok s → ReadsAgain p s
+-- past some of its bytes, what is left of a line is a line of the text still
+pub past_stands : (text : List ℕ) (n : ℕ) (p : Place) → n ≤ length p.bytes → StandsIn text p → StandsIn text (past n p)
+past_stands text n p within stands =
+    let m = length p.bytes - n in
+    let all : length p.bytes ≡ n + m = omega (arith, within) in
+    ap (drop n) stands
+    ∙ ap (λ (k : ℕ). drop n (take k (drop p.at text))) all
+    ∙ drop-take n m (drop p.at text)
+    ∙ ap (take m) (drop-drop n p.at text)
+    ∙ ap (λ (k : ℕ). take k (drop (p.at + n) text)) (sym (length-drop n p.bytes))
 
-nothing : (p : Place) (e : ParseFault) → Again p (Err e)
-nothing p e = record { of = λ s same. absurd cc }
+-- past a gap
+pub gap_stands : (text : List ℕ) (p : Place) → StandsIn text p → StandsIn text (past_gap p)
+gap_stands text p stands = past_stands text (gap_len p.bytes) p (run_within gap_unit p.bytes 0) stands
 
-one : (p : Place) (s : Statement) → ReadsAgain p s → Again p (Ok s)
-one p s h = record { of = λ t same. let e : s ≡ t = cc in subst (ReadsAgain p) e h }
+unless : {A : Type 0} (t : Bool) (e : ParseFault) (y x : A) → cond t (Err e) (Ok y) ≡ Ok x → y ≡ x
+unless true e y x h = absurd cc
+unless false e y x h = cc
 
-along : {A : Type 0} {m : Result A ParseFault} {f : A → Result Statement ParseFault} → (p : Place) → ((x : A) → m ≡ Ok x → Again p (f x)) → Again p (m >>= f)
-along {m = Ok x} p h = h x refl
-along {m = Err e} p h = nothing p e
+where_true : {A : Type 0} (t : Bool) (e : ParseFault) (y x : A) → cond t (Ok y) (Err e) ≡ Ok x → (t ≡ true) × (y ≡ x)
+where_true true e y x h = (refl, cc)
+where_true false e y x h = absurd cc
 
-either : (p : Place) (b : Bool) {x y : Result Statement ParseFault} → Again p x → Again p y → Again p (if b then x else y)
-either p true hx hy = hx
-either p false hx hy = hy
+begun : (b : ℕ) (v : List ℕ) → begins_with b v ≡ true → 1 ≤ length v
+begun b [] h = absurd cc
+begun b (c ∷ v) h = omega arith
 
-again_rule : (p : Place) (at : ℕ) (behind : Place) (lines : List BlockLine) → Again p (rule_of at behind lines)
-again_rule p at behind lines = along {m = named_block Rule at behind lines} p (λ x e. one p _ tt)
+begun_twice : (a b : ℕ) (v : List ℕ) → begins_with a v ≡ true → begins_with b (drop 1 v) ≡ true → 2 ≤ length v
+begun_twice a b [] h k = absurd cc
+begun_twice a b (c ∷ []) h k = absurd cc
+begun_twice a b (c ∷ d ∷ v) h k = omega arith
 
-again_pool : (p : Place) (at : ℕ) (behind : Place) (lines : List BlockLine) → Again p (pool_of at behind lines)
-again_pool p at behind lines = along {m = named_block Pool at behind lines} p (λ x e. one p _ tt)
+both_true : (a b : Bool) → (a && b) ≡ true → (a ≡ true) × (b ≡ true)
+both_true true b h = (refl, h)
+both_true false b h = absurd cc
 
-again_build : (p : Place) (at : ℕ) (behind : Place) (lines : List BlockLine) → Again p (build_of at behind lines)
-again_build p at behind lines =
-    along {m = outputs_at behind} p (λ outputs e. along {m = name_at outputs.2} p (λ rule e.
-    along {m = inputs_at rule.1} p (λ inputs e. along {m = each block_line_at lines} p (λ bindings e. one p _ tt))))
+-- past a name
+pub name_stands : (text : List ℕ) (p : Place) (x : List ℕ × Place) → StandsIn text p → name_at p ≡ Ok x → StandsIn text x.1
+name_stands text p x stands read =
+    let n = prefix_len is_name_byte p.bytes in
+    let same : (name_of p, past_gap (past n p)) ≡ x = unless (n == 0) _ (name_of p, past_gap (past n p)) x read in
+    let here : past_gap (past n p) ≡ x.1 = ap (λ (y : List ℕ × Place). y.1) same in
+    subst (StandsIn text) here (gap_stands text (past n p) (past_stands text n p (prefix_len-le-length is_name_byte p.bytes) stands))
 
-again_default : (p : Place) (at : ℕ) (behind : Place) (lines : List BlockLine) → Again p (default_of at behind lines)
-again_default p at behind lines = along {m = targets_at behind} p (λ targets e. along {m = no_block_allowed lines} p (λ x e. one p _ tt))
+-- past a byte
+pub byte_stands : (text : List ℕ) (b : ℕ) (expected : ℕ → ParseFault) (p q : Place) → StandsIn text p → byte_at b expected p ≡ Ok q → StandsIn text q
+byte_stands text b expected p q stands read =
+    let found = where_true (begins_with b p.bytes) _ (past_gap (past 1 p)) q read in
+    subst (StandsIn text) found.1 (gap_stands text (past 1 p) (past_stands text 1 p (begun b p.bytes found.0) stands))
 
-again_include : (p : Place) (at : ℕ) (behind : Place) (lines : List BlockLine) → Again p (include_of at behind lines)
-again_include p at behind lines = along {m = file_at behind} p (λ path e. along {m = no_block_allowed lines} p (λ x e. one p _ tt))
+-- past `|`
+pub bar_stands : (text : List ℕ) (p : Place) → StandsIn text p → is_bar p ≡ true → StandsIn text (past 1 p)
+bar_stands text p stands is = past_stands text 1 p (begun bar p.bytes (both_true (begins_with bar p.bytes) (not (begins_with bar (drop 1 p.bytes) || begins_with at_sign (drop 1 p.bytes))) is).0) stands
 
-again_subninja : (p : Place) (at : ℕ) (behind : Place) (lines : List BlockLine) → Again p (subninja_of at behind lines)
-again_subninja p at behind lines = along {m = file_at behind} p (λ path e. along {m = no_block_allowed lines} p (λ x e. one p _ tt))
+-- past `||`
+pub bars_stand : (text : List ℕ) (p : Place) → StandsIn text p → is_two_bars p ≡ true → StandsIn text (past 2 p)
+bars_stand text p stands is =
+    let both = both_true (begins_with bar p.bytes) (begins_with bar (drop 1 p.bytes)) is in
+    past_stands text 2 p (begun_twice bar bar p.bytes both.0 both.1) stands
 
-again_binding : (p : Place) (lines : List BlockLine) → Again p (binding_of p lines)
-again_binding p lines = along {m = binding_at p} p (λ b bound. along {m = no_block_allowed lines} p (λ x e. one p _ (refl, bound)))
+-- the place of a path of so many bytes
+pub path_place : (text : List ℕ) (span : Span) (p : Place) (n : ℕ) → n ≤ length p.bytes → StandsIn text p → span.at ≡ p.at → span.len ≡ n
+    → line_in text span ≡ record { at = p.at; bytes = take n p.bytes }
+path_place text span p n within stands at len =
+    let bytes : take n (drop p.at text) ≡ take n p.bytes = sym (ap (take n) stands ∙ take-take n (length p.bytes) (drop p.at text) within) in
+    ap (λ (k : ℕ). record { at = span.at; bytes = take k (drop span.at text) }) len
+    ∙ ap (λ (k : ℕ). record { at = k; bytes = take n (drop k text) }) at
+    ∙ ap (λ (v : List ℕ). record { at = p.at; bytes = v }) bytes
 
-again : (p : Place) (lines : List BlockLine) → Again p (statement_of p lines)
-again p lines =
-    let word = name_of (past_gap p) in
-    let behind = past_gap (past (length word) (past_gap p)) in
-    either p (bytes_eq word (codes "rule")) (again_rule p p.at behind lines)
-    (either p (bytes_eq word (codes "build")) (again_build p p.at behind lines)
-    (either p (bytes_eq word (codes "pool")) (again_pool p p.at behind lines)
-    (either p (bytes_eq word (codes "default")) (again_default p p.at behind lines)
-    (either p (bytes_eq word (codes "include")) (again_include p p.at behind lines)
-    (either p (bytes_eq word (codes "subninja")) (again_subninja p p.at behind lines)
-    (again_binding p lines))))))
+whole : (r : Result (List Piece) ParseFault) (v : List Piece) → r ≡ Ok v → r ≡ Ok (pieces_or_none r)
+whole r v h = h ∙ ap (λ (q : Result (List Piece) ParseFault). Ok (pieces_or_none q)) (sym h)
 
--- what was read of a line, if anything, is read again from it
-pub reads_again : (p : Place) (lines : List BlockLine) (s : Statement) → statement_of p lines ≡ Ok s → ReadsAgain p s
-reads_again p lines s e = (again p lines).of s e
+-- a path is read again as it was
+pub path_again : (text : List ℕ) (span : Span) (p : Place) (n : ℕ) (v : List Piece) → n ≤ length p.bytes → StandsIn text p → span.at ≡ p.at → span.len ≡ n
+    → path_pieces (line_in text span) ≡ Ok v → path_at p n ≡ Ok (path_in text (path.Pieces span))
+path_again text span p n v within stands at len read =
+    sym (ap (λ (q : Place). path_pieces q) (path_place text span p n within stands at len)) ∙ whole (path_pieces (line_in text span)) v read
+
+-- and so is its fault
+pub fault_again : (text : List ℕ) (span : Span) (p : Place) (n : ℕ) (e : ParseFault) → n ≤ length p.bytes → StandsIn text p → span.at ≡ p.at → span.len ≡ n
+    → path_pieces (line_in text span) ≡ Err e → path_at p n ≡ Err e
+fault_again text span p n e within stands at len read = sym (ap (λ (q : Place). path_pieces q) (path_place text span p n within stands at len)) ∙ read
+
+-- the place of what is left of a line
+line_place : (text : List ℕ) (span : Span) (p : Place) → StandsIn text p → span.at ≡ p.at → span.len ≡ length p.bytes → line_in text span ≡ p
+line_place text span p stands at len =
+    ap (λ (k : ℕ). record { at = span.at; bytes = take k (drop span.at text) }) len
+    ∙ ap (λ (k : ℕ). record { at = k; bytes = take (length p.bytes) (drop k text) }) at
+    ∙ ap (λ (v : List ℕ). record { at = p.at; bytes = v }) (sym stands)
+
+-- a binding is read again as it was
+pub binding_again : (text : List ℕ) (span : Span) (p : Place) (b : Binding) → StandsIn text p → span.at ≡ p.at → span.len ≡ length p.bytes → binding_at p ≡ Ok b
+    → record { offset = p.at; kind = kind.Binding b } ≡ binding_in text span
+binding_again text span p b stands at len read =
+    let same : binding_at (line_in text span) ≡ Ok b = ap (λ (q : Place). binding_at q) (line_place text span p stands at len) ∙ read in
+    ap (λ (k : ℕ). record { offset = k; kind = kind.Binding b }) (sym at)
+    ∙ ap (λ (r : Result Binding ParseFault). record { offset = span.at; kind = kind.Binding (binding_or_empty r) }) (sym same)

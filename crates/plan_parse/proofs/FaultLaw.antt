@@ -20,8 +20,8 @@ use Rattle.plan_parse.specs.declared.fault.ParseFault.TheVariants as fault
 use Rattle.plan_parse.specs.declared.block_kind.BlockKind.{BlockKind}
 use Rattle.plan_parse.specs.declared.block_kind.BlockKind.TheVariants.{Rule, Pool}
 use Rattle.plan_parse.specs.declared.statement.Binding.{Binding}
-use Rattle.plan_parse.specs.declared.statement.StatementKind.TheVariants as kind
-use Rattle.plan_parse.specs.declared.statement.Statement.{Statement}
+use Rattle.plan_parse.specs.Kinds as kind
+use Rattle.plan_parse.specs.Kinds.{Statement}
 use Rattle.plan_parse.specs.Faults.{offset_of}
 use Rattle.plan_parse.specs.Reading.{Place, past, past_gap, refusal, refuse, name_of, name_at, byte_at, line_end_at, value_at, lift_fault, path_len, path_at, path_onto, paths_past, paths_at}
 use Rattle.plan_parse.specs.Blocks.{BlockLine, Text, Refused, LineRole, Head, Below, is_indented, role_of_line, roles_of_lines, below, blocks_of}

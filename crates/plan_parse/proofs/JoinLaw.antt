@@ -12,8 +12,8 @@ use Rattle.plan_text.specs.Outcome.{◌>>=◌, each}
 use Rattle.plan_text.specs.declared.fault.TextFault.TheVariants.{NulByte, SourceTooLong}
 use Rattle.plan_parse.specs.declared.fault.ParseFault.{ParseFault}
 use Rattle.plan_parse.specs.declared.fault.ParseFault.TheVariants as fault
-use Rattle.plan_parse.specs.declared.statement.Statement.{Statement}
-use Rattle.plan_parse.specs.declared.statement.StatementKind.{StatementKind}
+use Rattle.plan_parse.specs.Kinds.{Statement}
+use Rattle.plan_parse.specs.Kinds.{StatementKind}
 use Rattle.plan_parse.specs.Blocks.{BlockLine, Text, Refused, LineRole, Head, Below, Block, is_indented, role_of_line, roles_of_lines, below, blocks_of}
 use Rattle.plan_parse.specs.Statements.{no_block_allowed, statement_of, statement_in, statements_of}
 use Rattle.plan_parse.specs.Laws.{moved, leads, begins_block}

@@ -4,6 +4,8 @@ mod PlainTable
 pub mod BlockLemmas
 pub mod ParserLemmas
 pub mod CompactLemmas
+pub mod WordLemmas
+pub mod PartLemmas
 pub mod WholeLaw
 pub mod LikeLemmas
 pub mod StatementLemmas

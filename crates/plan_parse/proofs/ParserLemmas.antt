@@ -3,7 +3,7 @@ use Rattle.std.proofs.Common.{◌≡◌, List, [], ◌∷◌, ◌++◌, Result, 
 use Rattle.std.proofs.lemmas.List.{append-nil}
 use Rattle.plan_text.specs.Outcome.{◌>>=◌, each}
 use Rattle.plan_parse.specs.declared.fault.ParseFault.{ParseFault}
-use Rattle.plan_parse.specs.declared.statement.Statement.{Statement}
+use Rattle.plan_parse.specs.Kinds.{Statement}
 use Rattle.plan_parse.specs.Reading.{Place}
 use Rattle.plan_parse.specs.Blocks.{BlockLine, LineRole, Head, Below, below, blocks_of}
 use Rattle.plan_parse.specs.Statements.{statement_of, statement_in}

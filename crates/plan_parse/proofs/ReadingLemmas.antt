@@ -45,7 +45,7 @@ within_front more len zero h = omega arith
 within_front more len (suc n) h = let e = h n in omega (arith, e)
 
 -- a run ends with its text
-run_within : (size : List ℕ → ℕ) (text : List ℕ) (n : ℕ) → run_past size text n ≤ length text
+pub run_within : (size : List ℕ → ℕ) (text : List ℕ) (n : ℕ) → run_past size text n ≤ length text
 run_within size [] n = omega arith
 run_within size (b ∷ rest) (suc n) = let e = run_within size rest n in omega (arith, e)
 run_within size (b ∷ rest) zero = within_front (λ n. run_past size rest n) (length rest) (size (b ∷ rest)) (λ n. run_within size rest n)

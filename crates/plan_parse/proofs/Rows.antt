@@ -6,8 +6,8 @@ use Rattle.plan_text.specs.declared.piece_reader.Piece.TheVariants.{Literal, Ref
 use Rattle.plan_text.specs.declared.fault.TextFault.TheVariants.{BadEscape, NulByte, TabBlank}
 use Rattle.plan_parse.specs.declared.fault.ParseFault.TheVariants.{Text, NoCommand, BadPool, Validation, UnexpectedIndent, ExpectedColon, ExpectedPath, UnknownRuleVariable, ExpectedLineEnd, ExpectedName, ExpectedEquals}
 use Rattle.plan_parse.specs.declared.statement.Binding.{Binding}
-use Rattle.plan_parse.specs.declared.statement.Statement.{Statement}
-use Rattle.plan_parse.specs.declared.statement.StatementKind.TheVariants as kind
+use Rattle.plan_parse.specs.Kinds.{Statement}
+use Rattle.plan_parse.specs.Kinds as kind
 use Rattle.plan_text.specs.Lines.{has_ended_lines}
 use Rattle.plan_parse.specs.Laws.{begins_block}
 use Rattle.plan_parse.specs.Statements.{statements_of}

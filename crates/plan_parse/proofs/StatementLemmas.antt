@@ -11,8 +11,8 @@ use Rattle.plan_parse.specs.declared.fault.ParseFault.TheVariants as fault
 use Rattle.plan_parse.specs.declared.block_kind.BlockKind.{BlockKind}
 use Rattle.plan_parse.specs.declared.block_kind.BlockKind.TheVariants.{Rule, Pool}
 use Rattle.plan_parse.specs.declared.statement.Binding.{Binding}
-use Rattle.plan_parse.specs.declared.statement.StatementKind.TheVariants as kind
-use Rattle.plan_parse.specs.declared.statement.Statement.{Statement}
+use Rattle.plan_parse.specs.Kinds as kind
+use Rattle.plan_parse.specs.Kinds.{Statement}
 use Rattle.plan_parse.specs.Reading.{Place, past, past_gap, name_of, name_at, byte_at, line_end_at, value_at, path_len, path_at, paths_at}
 use Rattle.plan_parse.specs.Blocks.{BlockLine, Text, Refused}
 use Rattle.plan_parse.specs.Statements.{binding_at, block_line_at, no_block_allowed, is_named, required_name, unknown_variable, missing_or_repeated, may_bind, block_variable_at, block_variables_at, has_required, named_line, named_block, rule_of, pool_of, depth_of, is_bar, is_two_bars, is_validation, implicit_at, order_only_at, no_validation, some_path, outputs_at, inputs_at, build_of, targets_at, default_of, some_byte, file_at, include_of, subninja_of, binding_of, statement_of}

@@ -17,8 +17,8 @@ use Rattle.plan_parse.specs.declared.fault.ParseFault.{ParseFault}
 use Rattle.plan_parse.specs.declared.fault.ParseFault.TheVariants as fault
 use Rattle.plan_parse.specs.declared.block_kind.BlockKind.TheVariants.{Rule, Pool}
 use Rattle.plan_parse.specs.declared.statement.Binding.{Binding}
-use Rattle.plan_parse.specs.declared.statement.Statement.{Statement}
-use Rattle.plan_parse.specs.declared.statement.StatementKind.TheVariants as kind
+use Rattle.plan_parse.specs.Kinds.{Statement}
+use Rattle.plan_parse.specs.Kinds as kind
 use Rattle.plan_parse.specs.Reading.{Place, past, past_gap, name_of, name_at, byte_at, value_at, paths_at, refuse, line_end_at}
 use Rattle.plan_parse.specs.Blocks.{BlockLine, Text, Refused, Block, roles_of_lines, below, blocks_of}
 use Rattle.plan_parse.specs.Statements as parsing

@@ -1,14 +1,24 @@
 -- Statements as they are kept beside their text.
-use Rattle.std.specs.Prelude.{◌≡◌, ℕ, List, [], length, take, drop, Result, Ok, Err}
+use Rattle.std.specs.Prelude.{◌≡◌, ℕ, List, [], length, map, take, drop, Result, Ok, Err}
+use Rattle.plan_text.specs.Pieces.{literal_of, pieces_from}
+use Rattle.plan_text.specs.declared.piece_reader.Mode.TheVariants as mode
+use Rattle.plan_text.specs.declared.piece_reader.Piece.{Piece}
 use Rattle.plan_parse.specs.declared.fault.ParseFault.{ParseFault}
 use Rattle.plan_parse.specs.declared.span.Span.{Span}
 use Rattle.plan_parse.specs.declared.statement.Binding.{Binding}
-use Rattle.plan_parse.specs.declared.statement.Statement.{Statement}
-use Rattle.plan_parse.specs.declared.statement.StatementKind.{StatementKind}
-use Rattle.plan_parse.specs.declared.statement.StatementKind.TheVariants as kind
+use Rattle.plan_parse.specs.declared.statement.Directive.{Directive}
+use Rattle.plan_parse.specs.declared.statement.DirectiveKind.{DirectiveKind}
+use Rattle.plan_parse.specs.declared.statement.DirectiveKind.TheVariants as directive
+use Rattle.plan_parse.specs.declared.compact.CompactPath.{CompactPath}
+use Rattle.plan_parse.specs.declared.compact.CompactPath.TheVariants as path
+use Rattle.plan_parse.specs.declared.compact.CompactBuild.{CompactBuild}
 use Rattle.plan_parse.specs.declared.compact.CompactStatement.{CompactStatement}
 use Rattle.plan_parse.specs.declared.compact.CompactStatement.TheVariants as kept
-use Rattle.plan_parse.specs.Reading.{Place}
+use Rattle.plan_parse.specs.PathLists.{map_lists}
+use Rattle.plan_parse.specs.Build.{Build}
+use Rattle.plan_parse.specs.Kinds.{Statement, StatementKind}
+use Rattle.plan_parse.specs.Kinds as kind
+use Rattle.plan_parse.specs.Reading.{Place, lift_fault}
 use Rattle.plan_parse.specs.Statements.{binding_at}
 
 -- a line of a text
@@ -23,24 +33,55 @@ binding_or_empty (Err e) = record { name = []; value = [] }
 abbrev pub bound_in : List ℕ → Span → Binding
 bound_in text span = binding_or_empty (binding_at (line_in text span))
 
+abbrev pub pieces_or_none : Result (List Piece) ParseFault → List Piece
+pieces_or_none (Ok v) = v
+pieces_or_none (Err e) = []
+
+-- the pieces of the path that is all of this
+abbrev pub path_pieces : Place → Result (List Piece) ParseFault
+path_pieces p = lift_fault (pieces_from mode.Path p.at p.bytes)
+
+-- the pieces of a path of a text: its bytes, where each stands for itself, else what they are read as, none where they
+-- are no path
+abbrev pub path_in : List ℕ → CompactPath → List Piece
+path_in text (path.Plain span) = literal_of (line_in text span).bytes
+path_in text (path.Pieces span) = pieces_or_none (path_pieces (line_in text span))
+
+-- a build line of a text
+abbrev pub build_in : List ℕ → CompactBuild → Build
+build_in text b = record { paths = map_lists (map (path_in text)) b.paths; rule = b.rule; bindings = b.bindings }
+
+-- the statement of a build line of a text
+abbrev pub built_in : List ℕ → CompactBuild → Statement
+built_in text b = record { offset = b.offset; kind = kind.Build (build_in text b) }
+
+-- the statement of a binding of a text
+abbrev pub binding_in : List ℕ → Span → Statement
+binding_in text span = record { offset = span.at; kind = kind.Binding (bound_in text span) }
+
+-- a directive, among all sorts of statements
+abbrev pub kind_of : DirectiveKind → StatementKind
+kind_of (directive.Rule r) = kind.Rule r
+kind_of (directive.Pool p) = kind.Pool p
+kind_of (directive.Default targets) = kind.Default targets
+kind_of (directive.Include p) = kind.Include p
+kind_of (directive.Subninja p) = kind.Subninja p
+
+-- the statement of a directive
+abbrev pub directive_said : Directive → Statement
+directive_said d = record { offset = d.offset; kind = kind_of d.kind }
+
 -- a statement that is kept beside its text
 abbrev pub said_in : List ℕ → CompactStatement → Statement
-said_in text (kept.Binding span) = record { offset = span.at; kind = kind.Binding (bound_in text span) }
-said_in text (kept.Whole statement) = statement.value
+said_in text (kept.Binding span) = binding_in text span
+said_in text (kept.Build b) = built_in text b.value
+said_in text (kept.Directive d) = directive_said d.value
 
 -- what is left of a line is a line of the text
 abbrev pub StandsIn : List ℕ → Place → Type 0
 StandsIn text p = p.bytes ≡ take (length p.bytes) (drop p.at text)
 
--- what is left of a line gives a statement again, where that is a binding
-abbrev pub ReadsKind : Place → ℕ → StatementKind → Type 0
-ReadsKind p offset (kind.Binding b) = (offset ≡ p.at) × (binding_at p ≡ Ok b)
-ReadsKind p offset (kind.Rule r) = Unit {0}
-ReadsKind p offset (kind.Build b) = Unit {0}
-ReadsKind p offset (kind.Pool q) = Unit {0}
-ReadsKind p offset (kind.Default targets) = Unit {0}
-ReadsKind p offset (kind.Include path) = Unit {0}
-ReadsKind p offset (kind.Subninja path) = Unit {0}
-
-abbrev pub ReadsAgain : Place → Statement → Type 0
-ReadsAgain p s = ReadsKind p s.offset s.kind
+-- whether a line of a text is a path, or has this fault
+abbrev pub IsSound : List ℕ → Span → Result (Unit {0}) ParseFault → Type 0
+IsSound text span (Ok x) = (pieces : List Piece) × (path_pieces (line_in text span) ≡ Ok pieces)
+IsSound text span (Err e) = path_pieces (line_in text span) ≡ Err e

@@ -5,9 +5,9 @@ use Rattle.std.specs.Str.{bytes_eq}
 use Rattle.plan_text.specs.Limits.{max_source}
 use Rattle.plan_text.specs.Lines.{has_ended_lines, raw_lines}
 use Rattle.plan_parse.specs.declared.fault.ParseFault.{ParseFault}
-use Rattle.plan_parse.specs.declared.statement.Statement.{Statement}
-use Rattle.plan_parse.specs.declared.statement.StatementKind.{StatementKind}
-use Rattle.plan_parse.specs.declared.statement.StatementKind.TheVariants as kind
+use Rattle.plan_parse.specs.Kinds.{Statement}
+use Rattle.plan_parse.specs.Kinds.{StatementKind}
+use Rattle.plan_parse.specs.Kinds as kind
 use Rattle.plan_parse.specs.Blocks.{LineRole, Head, Below, roles_of_lines}
 use Rattle.plan_parse.specs.Faults.{offset_of}
 use Rattle.plan_parse.specs.Statements.{statements_of}

@@ -2,10 +2,14 @@ pub mod Faults
 pub mod Reading
 pub mod Blocks
 pub mod PathLists
+pub mod Build
+pub mod Kinds
 pub mod Statements
 pub mod Views
 pub mod BlockLines
 pub mod PlainPaths
+pub mod Parts
 pub mod Compact
+pub mod Lines
 pub mod Progress
 pub mod Laws

@@ -4,7 +4,7 @@ use Rattle.plan_text.specs.Outcome.{◌>>=◌, each}
 use Rattle.plan_text.specs.Lines.{Raw}
 use Rattle.plan_parse.specs.declared.fault.ParseFault.{ParseFault}
 use Rattle.plan_parse.specs.declared.fault.ParseFault.TheVariants as fault
-use Rattle.plan_parse.specs.declared.statement.Statement.{Statement}
+use Rattle.plan_parse.specs.Kinds.{Statement}
 use Rattle.plan_parse.specs.declared.parser.Reader.{Reader}
 use Rattle.plan_parse.specs.declared.cursor.Cursor.{Cursor}
 use Rattle.plan_parse.specs.Reading.{Place}

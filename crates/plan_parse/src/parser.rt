@@ -12,7 +12,7 @@ use crate::block::{BlockLine, LineRole, no_block_allowed, role_of_line};
 use crate::compact::CompactStatement;
 use crate::cursor::Cursor;
 use crate::fault::ParseFault;
-use crate::statement_reader::compact_of;
+use crate::statement_reader::statement_of;
 use plan_text::{MAX_SOURCE, TextFault, split_line};
 use std::alloc::Global;
 
@@ -34,7 +34,7 @@ impl<'a> Reader<'a> {
         ensures text { self.new.text ≡ self.old.text }
         ensures head { self.new.head ≡ self.old.head }
     {
-        let statement = compact_of(self.alloc, head, &self.lines)?;
+        let statement = statement_of(self.alloc, self.text, head, &self.lines)?;
         self.statements.push(statement)?;
         Ok(())
     }

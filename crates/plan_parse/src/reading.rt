@@ -1,15 +1,20 @@
 //! Reading a line from left to right.
 
-ghost use Rattle.std.specs.Prelude.{◌≡◌, ◌≤◌, true, [], ◌∷◌, ◌++◌, length, OnOk};
+ghost use Rattle.std.specs.Prelude.{◌≡◌, ◌≤◌, true, List, [], ◌∷◌, ◌++◌, length, map, IfOk, OnOk};
 ghost use Rattle.std.specs.List.{prefix_len};
 ghost use Rattle.plan_text.specs.Outcome.{Meets, seen_by};
+ghost use Rattle.plan_text.specs.declared.piece_reader.Piece.{Piece};
 ghost use Rattle.plan_parse.specs.Reading as syntax;
+ghost use Rattle.plan_parse.specs.Compact.{IsSound, StandsIn, line_in, path_in};
 ghost use Rattle.plan_parse.specs.PlainPaths.{is_plain};
 ghost use Rattle.plan_parse.specs.Statements as statements;
 ghost use Rattle.plan_parse.specs.Views.{place_of};
 
+use crate::compact::CompactPath;
 use crate::cursor::Cursor;
 use crate::fault::ParseFault;
+use crate::path_parts::check_path;
+use crate::span::Span;
 use crate::statement::Binding;
 use plan_text::{
     Mode, PieceList, SmallText, TextFault, Unit, begins, escape_len, gap_len, name_len, pieces_at,
@@ -19,6 +24,25 @@ use std::alloc::{AllocError, Global};
 
 /// The paths of a list, each as its pieces.
 type Paths = Vec<PieceList>;
+
+/// The paths of a list, kept beside their text.
+pub type CompactPaths = Vec<CompactPath>;
+
+/// A line of a text.
+pub fn line_in(text: &[u8], span: Span) -> Cursor<'_>
+    ensures { place_of result ≡ line_in text.now span }
+{
+    let at = span.at as usize;
+    let rest = match text.get(at..) {
+        Some(rest) => rest,
+        None => &[],
+    };
+    let line = match rest.get(..span.len as usize) {
+        Some(line) => line,
+        None => rest,
+    };
+    Cursor { at, bytes: line }
+}
 
 /// What is left past so many bytes.
 pub fn past(p: Cursor<'_>, n: usize) -> Cursor<'_>
@@ -156,7 +180,7 @@ fn is_plain(byte: u8) -> bool
 }
 
 /// How many bytes a text begins with that belong to a path and stand for themselves.
-fn plain_len(text: &[u8]) -> usize
+pub fn plain_len(text: &[u8]) -> usize
     ensures len { result ≡ prefix_len is_plain text.now }
     ensures within { result ≤ length text.now }
 {
@@ -232,8 +256,35 @@ fn path_at(alloc: Global, p: Cursor<'_>, extent: Extent) -> Result<PieceList, Pa
     }
 }
 
+/// The fault of a path that is all of a line of a text, if it has one.
+fn check_line(text: &[u8], span: Span) -> Result<(), ParseFault>
+    ensures { IsSound text.now span result }
+{
+    let p = line_in(text, span);
+    match check_path(p.bytes, p.at) {
+        Ok(()) => Ok(()),
+        Err(fault) => Err(of_text(fault)),
+    }
+}
+
+/// The path that takes so many bytes, kept beside its text.
+fn compact_path_at(text: &[u8], p: Cursor<'_>, extent: Extent) -> Result<CompactPath, ParseFault>
+    requires within { extent.len ≤ length p.bytes.now }
+    requires plain { extent.is_plain ≡ true → extent.len ≤ prefix_len is_plain p.bytes.now }
+    requires stands { StandsIn text.now (place_of p) }
+    ensures { Meets ParseFault.Memory (path_in text.now) result (syntax.path_at (place_of p.entry) extent.len) }
+{
+    let span = Span::new(p.at, extent.len)?;
+    plain_is_read();
+    if extent.is_plain {
+        return Ok(CompactPath::Plain(span));
+    }
+    check_line(text, span)?;
+    Ok(CompactPath::Pieces(span))
+}
+
 /// Appends a path. The first takes no more room than it needs, since most lists have one.
-fn add_path(paths: &mut Paths, path: PieceList) -> Result<(), AllocError>
+fn add_path<T: Drop>(paths: &mut Vec<T>, path: T) -> Result<(), AllocError>
     ensures { OnOk result (paths.new.items ≡ paths.old.items ++ path ∷ []) }
 {
     if paths.is_empty() {
@@ -261,6 +312,29 @@ fn paths_at(alloc: Global, p: Cursor<'_>) -> Result<(Paths, Cursor<'_>), ParseFa
     }
 }
 
+/// The same, kept beside their text.
+fn compact_paths_at<'a>(
+    alloc: Global,
+    text: &[u8],
+    p: Cursor<'a>,
+) -> Result<(CompactPaths, Cursor<'a>), ParseFault>
+    requires { StandsIn text.now (place_of p) }
+    ensures read { Meets ParseFault.Memory (λ x. (map (path_in text.now) x.0.items, place_of x.1)) result (syntax.paths_at (place_of p.entry)) }
+    ensures stands { IfOk result (λ x. StandsIn text.now (place_of x.1)) }
+{
+    let mut paths = Vec::new(alloc);
+    let mut left = past_gap(p);
+    loop {
+        let extent = path_extent(left.bytes);
+        if extent.len == 0 {
+            paths.shrink_to_fit();
+            return Ok((paths, left));
+        }
+        add_path(&mut paths, compact_path_at(text, left, extent)?)?;
+        left = past_gap(past(left, extent.len));
+    }
+}
+
 /// `|`, and not `||` or `|@`.
 fn is_bar(p: Cursor<'_>) -> bool
     ensures { result ≡ statements.is_bar (place_of p.entry) }
@@ -283,22 +357,33 @@ fn is_validation(p: Cursor<'_>) -> bool
 }
 
 /// The list behind `|`, empty where none stands here.
-fn implicit_at(alloc: Global, p: Cursor<'_>) -> Result<(Paths, Cursor<'_>), ParseFault>
-    ensures { Meets ParseFault.Memory (λ x. (x.0.items, place_of x.1)) result (statements.implicit_at (place_of p.entry)) }
+fn implicit_at<'a>(
+    alloc: Global,
+    text: &[u8],
+    p: Cursor<'a>,
+) -> Result<(CompactPaths, Cursor<'a>), ParseFault>
+    requires { StandsIn text.now (place_of p) }
+    ensures read { Meets ParseFault.Memory (λ x. (map (path_in text.now) x.0.items, place_of x.1)) result (statements.implicit_at (place_of p.entry)) }
+    ensures stands { IfOk result (λ x. StandsIn text.now (place_of x.1)) }
 {
     if is_bar(p) {
-        paths_at(alloc, past(p, 1))
+        compact_paths_at(alloc, text, past(p, 1))
     } else {
         Ok((Vec::new(alloc), p))
     }
 }
 
 /// The list behind `||`, empty where none stands here.
-fn order_only_at(alloc: Global, p: Cursor<'_>) -> Result<(Paths, Cursor<'_>), ParseFault>
-    ensures { Meets ParseFault.Memory (λ x. (x.0.items, place_of x.1)) result (statements.order_only_at (place_of p.entry)) }
+fn order_only_at<'a>(
+    alloc: Global,
+    text: &[u8],
+    p: Cursor<'a>,
+) -> Result<(CompactPaths, Cursor<'a>), ParseFault>
+    requires { StandsIn text.now (place_of p) }
+    ensures { Meets ParseFault.Memory (λ x. (map (path_in text.now) x.0.items, place_of x.1)) result (statements.order_only_at (place_of p.entry)) }
 {
     if is_two_bars(p) {
-        paths_at(alloc, past(p, 2))
+        compact_paths_at(alloc, text, past(p, 2))
     } else {
         Ok((Vec::new(alloc), p))
     }
@@ -314,9 +399,9 @@ fn no_validation(p: Cursor<'_>) -> Result<(), ParseFault>
     Ok(())
 }
 
-/// One path or more in both lists.
-fn some_path(p: Cursor<'_>, paths: &[PieceList], more: &[PieceList]) -> Result<(), ParseFault>
-    ensures { result ≡ statements.some_path (place_of p.entry) paths.now more.now }
+/// One path or more in both lists, of which these are as long.
+fn some_path<T: Drop>(p: Cursor<'_>, paths: &[T], more: &[T]) -> Result<(), ParseFault>
+    ensures { (xs ys : List (List Piece)) → length xs ≡ length paths.now → length ys ≡ length more.now → result ≡ statements.some_path (place_of p.entry) xs ys }
 {
     if paths.is_empty() && more.is_empty() {
         return Err(refusal(p, ParseFault::ExpectedPath(p.at as u64)));
@@ -325,25 +410,36 @@ fn some_path(p: Cursor<'_>, paths: &[PieceList], more: &[PieceList]) -> Result<(
 }
 
 /// `outputs | implicit_outputs:`, and the place behind it.
-pub fn outputs_at(alloc: Global, p: Cursor<'_>) -> Result<(Paths, Paths, Cursor<'_>), ParseFault>
-    ensures { Meets ParseFault.Memory (λ x. (x.0.items, x.1.items, place_of x.2)) result (statements.outputs_at (place_of p.entry)) }
+pub fn outputs_at<'a>(
+    alloc: Global,
+    text: &[u8],
+    p: Cursor<'a>,
+) -> Result<(CompactPaths, CompactPaths, Cursor<'a>), ParseFault>
+    requires { StandsIn text.now (place_of p) }
+    ensures read { Meets ParseFault.Memory (λ x. (map (path_in text.now) x.0.items, map (path_in text.now) x.1.items, place_of x.2)) result (statements.outputs_at (place_of p.entry)) }
+    ensures stands { IfOk result (λ x. StandsIn text.now (place_of x.2)) }
 {
-    let (outputs, rest) = paths_at(alloc, p)?;
-    let (implicit, rest) = implicit_at(alloc, rest)?;
-    some_path(rest, &outputs, &implicit)?;
-    let behind = byte_at(rest, b':', ParseFault::ExpectedColon(rest.at as u64))?;
+    let (outputs, left) = compact_paths_at(alloc, text, p)?;
+    let (implicit, left) = implicit_at(alloc, text, left)?;
+    some_path(left, &outputs, &implicit)?;
+    let behind = byte_at(left, b':', ParseFault::ExpectedColon(left.at as u64))?;
     Ok((outputs, implicit, behind))
 }
 
 /// `inputs | implicit_inputs || order_only_inputs` and the end of the line.
-pub fn inputs_at(alloc: Global, p: Cursor<'_>) -> Result<(Paths, Paths, Paths), ParseFault>
-    ensures { Meets ParseFault.Memory (λ x. (x.0.items, x.1.items, x.2.items)) result (statements.inputs_at (place_of p.entry)) }
+pub fn inputs_at(
+    alloc: Global,
+    text: &[u8],
+    p: Cursor<'_>,
+) -> Result<(CompactPaths, CompactPaths, CompactPaths), ParseFault>
+    requires { StandsIn text.now (place_of p) }
+    ensures { Meets ParseFault.Memory (λ x. (map (path_in text.now) x.0.items, map (path_in text.now) x.1.items, map (path_in text.now) x.2.items)) result (statements.inputs_at (place_of p.entry)) }
 {
-    let (inputs, rest) = paths_at(alloc, p)?;
-    let (implicit, rest) = implicit_at(alloc, rest)?;
-    let (order_only, rest) = order_only_at(alloc, rest)?;
-    no_validation(rest)?;
-    line_end_at(rest)?;
+    let (inputs, left) = compact_paths_at(alloc, text, p)?;
+    let (implicit, left) = implicit_at(alloc, text, left)?;
+    let (order_only, left) = order_only_at(alloc, text, left)?;
+    no_validation(left)?;
+    line_end_at(left)?;
     Ok((inputs, implicit, order_only))
 }
 

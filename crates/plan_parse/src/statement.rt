@@ -1,6 +1,5 @@
 //! What a manifest says.
 
-use crate::path_lists::PathLists;
 use plan_text::{Items, PieceList, SmallText};
 
 /// A name and its value: `name = value`.
@@ -30,24 +29,11 @@ pub struct Pool {
     pub depth: PieceList,
 }
 
-/// A build line and the lines below it.
+/// What a directive says: a statement that is neither a binding nor a build line.
 #[derive(Debug, Drop)]
-pub struct Build {
-    /// The pieces of each path; there is at least one output, explicit or implicit.
-    pub paths: PathLists<Items<PieceList>>,
-    /// The name of its rule.
-    pub rule: SmallText,
-    /// Its own variables in order.
-    pub bindings: Items<Binding>,
-}
-
-/// The sorts of statements.
-#[derive(Debug, Drop)]
-pub enum StatementKind {
+pub enum DirectiveKind {
     /// `rule name` and its block.
     Rule(Rule),
-    /// `build outputs: rule inputs` and its block.
-    Build(Build),
     /// `pool name` and its block.
     Pool(Pool),
     /// `default targets`: the pieces of each target, at least one.
@@ -56,15 +42,13 @@ pub enum StatementKind {
     Include(PieceList),
     /// `subninja path`: the pieces of the path.
     Subninja(PieceList),
-    /// `name = value`.
-    Binding(Binding),
 }
 
-/// A statement, with the offset of its first byte.
+/// A directive, with the offset of its first byte.
 #[derive(Debug, Drop)]
-pub struct Statement {
+pub struct Directive {
     /// How many bytes stand before it.
     pub offset: u64,
     /// What it says.
-    pub kind: StatementKind,
+    pub kind: DirectiveKind,
 }

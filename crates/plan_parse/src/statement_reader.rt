@@ -1,15 +1,17 @@
 //! Statements: the line that begins one, by its first word, and the lines below it.
 
-ghost use Rattle.std.specs.Prelude.{◌≡◌, ℕ, List};
+ghost use Rattle.std.specs.Prelude.{◌≡◌, ℕ, List, Result};
+ghost use Rattle.plan_parse.specs.Kinds.{Statement};
+ghost use Rattle.plan_parse.specs.declared.fault.ParseFault as the_fault;
 ghost use Rattle.plan_text.specs.Outcome.{Meets, seen_by};
 ghost use Rattle.plan_parse.specs.Statements as statements;
 ghost use Rattle.plan_parse.specs.Views.{place_of};
 ghost use Rattle.plan_parse.specs.BlockLines.{block_lines_of};
-ghost use Rattle.plan_parse.specs.Compact.{StandsIn, said_in};
+ghost use Rattle.plan_parse.specs.Compact.{StandsIn, binding_in, built_in, directive_said, said_in};
 
 use crate::block::{BlockLine, bindings_at, block_variables_at, has_required, no_block_allowed};
 use crate::block_kind::BlockKind;
-use crate::compact::{CompactStatement, compact_statement};
+use crate::compact::{CompactBuild, CompactStatement};
 use crate::cursor::Cursor;
 use crate::fault::ParseFault;
 use crate::path_lists::PathLists;
@@ -17,7 +19,8 @@ use crate::reading::{
     binding_at, file_at, inputs_at, line_end_at, name_at, name_of, outputs_at, past, past_gap,
     targets_at,
 };
-use crate::statement::{Binding, Build, Pool, Rule, Statement, StatementKind};
+use crate::span::Span;
+use crate::statement::{Binding, Directive, DirectiveKind, Pool, Rule};
 use plan_text::{Items, PieceList, SmallText};
 use std::alloc::Global;
 
@@ -53,13 +56,13 @@ fn rule_of(
     at: usize,
     p: Cursor<'_>,
     lines: &[BlockLine<'_>],
-) -> Result<Statement, ParseFault>
-    ensures { Meets ParseFault.Memory (λ s. s) result (statements.rule_of at (place_of p.entry) (block_lines_of lines.now)) }
+) -> Result<Directive, ParseFault>
+    ensures { Meets ParseFault.Memory directive_said result (statements.rule_of at (place_of p.entry) (block_lines_of lines.now)) }
 {
     let (name, bindings) = named_block(alloc, BlockKind::Rule, at, p, lines)?;
-    Ok(Statement {
+    Ok(Directive {
         offset: at as u64,
-        kind: StatementKind::Rule(Rule {
+        kind: DirectiveKind::Rule(Rule {
             name,
             bindings: Items::new(bindings),
         }),
@@ -82,44 +85,44 @@ fn pool_of(
     at: usize,
     p: Cursor<'_>,
     lines: &[BlockLine<'_>],
-) -> Result<Statement, ParseFault>
-    ensures { Meets ParseFault.Memory (λ s. s) result (statements.pool_of at (place_of p.entry) (block_lines_of lines.now)) }
+) -> Result<Directive, ParseFault>
+    ensures { Meets ParseFault.Memory directive_said result (statements.pool_of at (place_of p.entry) (block_lines_of lines.now)) }
 {
     let (name, bindings) = named_block(alloc, BlockKind::Pool, at, p, lines)?;
     let depth = depth_of(alloc, bindings);
-    Ok(Statement {
+    Ok(Directive {
         offset: at as u64,
-        kind: StatementKind::Pool(Pool { name, depth }),
+        kind: DirectiveKind::Pool(Pool { name, depth }),
     })
 }
 
 /// `build outputs: rule inputs`, from its outputs on, and the lines below it.
 fn build_of(
     alloc: Global,
+    text: &[u8],
     at: usize,
     p: Cursor<'_>,
     lines: &[BlockLine<'_>],
-) -> Result<Statement, ParseFault>
-    ensures { Meets ParseFault.Memory (λ s. s) result (statements.build_of at (place_of p.entry) (block_lines_of lines.now)) }
+) -> Result<CompactBuild, ParseFault>
+    requires { StandsIn text.now (place_of p) }
+    ensures { Meets ParseFault.Memory (built_in text.now) result (statements.build_of at (place_of p.entry) (block_lines_of lines.now)) }
 {
-    let (outputs, implicit_outputs, rest) = outputs_at(alloc, p)?;
+    let (outputs, implicit_outputs, rest) = outputs_at(alloc, text, p)?;
     let (rule, rest) = name_at(rest)?;
-    let (inputs, implicit_inputs, order_only_inputs) = inputs_at(alloc, rest)?;
+    let (inputs, implicit_inputs, order_only_inputs) = inputs_at(alloc, text, rest)?;
     let bindings = bindings_at(alloc, lines)?;
     let rule = SmallText::new(alloc, rule)?;
-    Ok(Statement {
+    Ok(CompactBuild {
         offset: at as u64,
-        kind: StatementKind::Build(Build {
-            paths: PathLists {
-                outputs: Items::new(outputs),
-                implicit_outputs: Items::new(implicit_outputs),
-                inputs: Items::new(inputs),
-                implicit_inputs: Items::new(implicit_inputs),
-                order_only_inputs: Items::new(order_only_inputs),
-            },
-            rule,
-            bindings: Items::new(bindings),
-        }),
+        paths: PathLists {
+            outputs: Items::new(outputs),
+            implicit_outputs: Items::new(implicit_outputs),
+            inputs: Items::new(inputs),
+            implicit_inputs: Items::new(implicit_inputs),
+            order_only_inputs: Items::new(order_only_inputs),
+        },
+        rule,
+        bindings: Items::new(bindings),
     })
 }
 
@@ -129,14 +132,14 @@ fn default_of(
     at: usize,
     p: Cursor<'_>,
     lines: &[BlockLine<'_>],
-) -> Result<Statement, ParseFault>
-    ensures { Meets ParseFault.Memory (λ s. s) result (statements.default_of at (place_of p.entry) (block_lines_of lines.now)) }
+) -> Result<Directive, ParseFault>
+    ensures { Meets ParseFault.Memory directive_said result (statements.default_of at (place_of p.entry) (block_lines_of lines.now)) }
 {
     let targets = targets_at(alloc, p)?;
     no_block_allowed(lines)?;
-    Ok(Statement {
+    Ok(Directive {
         offset: at as u64,
-        kind: StatementKind::Default(Items::new(targets)),
+        kind: DirectiveKind::Default(Items::new(targets)),
     })
 }
 
@@ -146,14 +149,14 @@ fn include_of(
     at: usize,
     p: Cursor<'_>,
     lines: &[BlockLine<'_>],
-) -> Result<Statement, ParseFault>
-    ensures { Meets ParseFault.Memory (λ s. s) result (statements.include_of at (place_of p.entry) (block_lines_of lines.now)) }
+) -> Result<Directive, ParseFault>
+    ensures { Meets ParseFault.Memory directive_said result (statements.include_of at (place_of p.entry) (block_lines_of lines.now)) }
 {
     let path = file_at(alloc, p)?;
     no_block_allowed(lines)?;
-    Ok(Statement {
+    Ok(Directive {
         offset: at as u64,
-        kind: StatementKind::Include(path),
+        kind: DirectiveKind::Include(path),
     })
 }
 
@@ -163,69 +166,60 @@ fn subninja_of(
     at: usize,
     p: Cursor<'_>,
     lines: &[BlockLine<'_>],
-) -> Result<Statement, ParseFault>
-    ensures { Meets ParseFault.Memory (λ s. s) result (statements.subninja_of at (place_of p.entry) (block_lines_of lines.now)) }
+) -> Result<Directive, ParseFault>
+    ensures { Meets ParseFault.Memory directive_said result (statements.subninja_of at (place_of p.entry) (block_lines_of lines.now)) }
 {
     let path = file_at(alloc, p)?;
     no_block_allowed(lines)?;
-    Ok(Statement {
+    Ok(Directive {
         offset: at as u64,
-        kind: StatementKind::Subninja(path),
+        kind: DirectiveKind::Subninja(path),
     })
 }
 
-/// `name = value`, and nothing below it.
-fn binding_of(
-    alloc: Global,
-    p: Cursor<'_>,
-    lines: &[BlockLine<'_>],
-) -> Result<Statement, ParseFault>
-    ensures { Meets ParseFault.Memory (λ s. s) result (statements.binding_of (place_of p.entry) (block_lines_of lines.now)) }
+/// `name = value`, and nothing below it: its place.
+fn binding_of(alloc: Global, p: Cursor<'_>, lines: &[BlockLine<'_>]) -> Result<Span, ParseFault>
+    ensures { (text : List ℕ) → StandsIn text (place_of p.entry) → Meets ParseFault.Memory (binding_in text) result (statements.binding_of (place_of p.entry) (block_lines_of lines.now)) }
 {
-    let binding = binding_at(alloc, p)?;
+    binding_at(alloc, p)?;
     no_block_allowed(lines)?;
-    Ok(Statement {
-        offset: p.at as u64,
-        kind: StatementKind::Binding(binding),
-    })
+    Ok(Span::new(p.at, p.bytes.len())?)
 }
 
-/// A statement, by the word that it begins with, and the lines below it.
+/// A directive that was read, as it is kept.
+fn keep(alloc: Global, read: Result<Directive, ParseFault>) -> Result<CompactStatement, ParseFault>
+    ensures { (text : List ℕ) (said : Result Statement the_fault.ParseFault) → Meets ParseFault.Memory directive_said read said → Meets ParseFault.Memory (said_in text) result said }
+{
+    Ok(CompactStatement::Directive(Box::new(alloc, read?)?))
+}
+
+/// A statement, by the word that it begins with, and the lines below it, kept beside its text.
 pub fn statement_of(
     alloc: Global,
+    text: &[u8],
     p: Cursor<'_>,
     lines: &[BlockLine<'_>],
-) -> Result<Statement, ParseFault>
-    ensures { Meets ParseFault.Memory (λ s. s) result (statements.statement_of (place_of p.entry) (block_lines_of lines.now)) }
+) -> Result<CompactStatement, ParseFault>
+    requires { StandsIn text.now (place_of p) }
+    ensures { Meets ParseFault.Memory (said_in text.now) result (statements.statement_of (place_of p.entry) (block_lines_of lines.now)) }
 {
     let start = past_gap(p);
     let word = name_of(start);
     let behind = past_gap(past(start, word.len()));
     if word == b"rule".as_slice() {
-        rule_of(alloc, p.at, behind, lines)
+        keep(alloc, rule_of(alloc, p.at, behind, lines))
     } else if word == b"build".as_slice() {
-        build_of(alloc, p.at, behind, lines)
+        let build = build_of(alloc, text, p.at, behind, lines)?;
+        Ok(CompactStatement::Build(Box::new(alloc, build)?))
     } else if word == b"pool".as_slice() {
-        pool_of(alloc, p.at, behind, lines)
+        keep(alloc, pool_of(alloc, p.at, behind, lines))
     } else if word == b"default".as_slice() {
-        default_of(alloc, p.at, behind, lines)
+        keep(alloc, default_of(alloc, p.at, behind, lines))
     } else if word == b"include".as_slice() {
-        include_of(alloc, p.at, behind, lines)
+        keep(alloc, include_of(alloc, p.at, behind, lines))
     } else if word == b"subninja".as_slice() {
-        subninja_of(alloc, p.at, behind, lines)
+        keep(alloc, subninja_of(alloc, p.at, behind, lines))
     } else {
-        binding_of(alloc, p, lines)
+        Ok(CompactStatement::Binding(binding_of(alloc, p, lines)?))
     }
-}
-
-/// The same, kept beside its text.
-pub fn compact_of(
-    alloc: Global,
-    p: Cursor<'_>,
-    lines: &[BlockLine<'_>],
-) -> Result<CompactStatement, ParseFault>
-    ensures { (text : List ℕ) → StandsIn text (place_of p.entry) → Meets ParseFault.Memory (said_in text) result (statements.statement_of (place_of p.entry) (block_lines_of lines.now)) }
-{
-    let statement = statement_of(alloc, p, lines)?;
-    Ok(compact_statement(alloc, p, statement)?)
 }

@@ -5,8 +5,8 @@ use Rattle.std.proofs.lemmas.List.{take_more}
 use Rattle.std.proofs.lemmas.List.Concat.{flat_map-append}
 use Rattle.std.proofs.lemmas.List.Folds.{list_any-append}
 use Rattle.plan_text.specs.declared.piece_reader.Piece.{Piece}
-use Rattle.plan_parse.specs.declared.statement.Build.{Build}
-use Rattle.plan_parse.specs.declared.statement.StatementKind.{StatementKind}
+use Rattle.plan_parse.specs.Build.{Build}
+use Rattle.plan_parse.specs.Kinds.{StatementKind}
 use Rattle.plan_scope.specs.declared.fault.Cause.{Cause}
 use Rattle.plan_scope.specs.declared.fault.StatementFault.{StatementFault}
 use Rattle.plan_scope.specs.declared.fault.StatementFault.TheVariants.{Refused, Memory}

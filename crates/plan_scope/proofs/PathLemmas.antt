@@ -1,13 +1,14 @@
 -- Blocks and paths of which as much is kept. Serves src/edge/paths.rt.
-use Rattle.std.proofs.Common.{◌≡◌, ℕ, ◌+◌, ◌<◌, ◌≤◌, Bool, true, false, ◌||◌, List, [], ◌∷◌, ◌++◌, length, map, Ok, Err, refl, ap, sym, ◌∙◌, cond, inl, inr, arith, take, get_or, subst}
+use Rattle.std.proofs.Common.{◌≡◌, ℕ, zero, suc, ◌+◌, ◌<◌, ◌≤◌, Bool, true, false, ◌||◌, List, [], ◌∷◌, ◌++◌, length, map, Ok, Err, refl, ap, sym, ◌∙◌, cond, inl, inr, arith, take, get_or, subst}
 use Rattle.std.specs.List.{list_any}
 use Rattle.std.proofs.lemmas.Bool.{lt-ltb, ltb-false, ne_eqb}
-use Rattle.std.proofs.lemmas.List.{map_more, map-append}
+use Rattle.std.proofs.lemmas.List.{append-nil, map_more, map-append}
 use Rattle.std.proofs.lemmas.List.Folds.{list_any-append}
 use Rattle.plan_parse.specs.declared.path_lists.PathLists.{PathLists}
 use Rattle.plan_parse.specs.PathLists.{all_in, map_lists}
 use Rattle.plan_parse.specs.declared.statement.Binding.{Binding}
 use Rattle.plan_text.specs.Path.{canonical_of}
+use Rattle.plan_text.specs.Pieces.{literal_of}
 use Rattle.plan_scope.specs.Scopes.{Text, Name, Bindings, last_of, expand, is_too_long, is_long_path, is_empty}
 use Rattle.plan_text.specs.Limits.{max_text, max_path}
 use Rattle.plan_scope.specs.declared.fault.Cause.TheVariants.{EmptyPath, PathTooLong}
@@ -205,6 +206,17 @@ targets_made n held meant made e f g h =
 
 any_push : (test : Text → Bool) (xs : List Text) (x : Text) → list_any test (xs ++ x ∷ []) ≡ (list_any test xs || test x)
 any_push test xs x = list_any-append test xs (x ∷ []) ∙ ap (λ (t : Bool). list_any test xs || t) (or_false (test x))
+
+-- an element of a list, whatever stands for none
+pub same_item : {X : Type 0} (xs : List X) (i : ℕ) (d e : X) → i < length xs → get_or xs i d ≡ get_or xs i e
+same_item [] i d e h = absurd (omega arith)
+same_item (x ∷ xs) zero d e h = refl
+same_item (x ∷ xs) (suc i) d e h = same_item xs i d e (omega arith)
+
+-- the text of a literal
+pub expand_literal : (here : Name → Text) (bytes : Text) → expand here (literal_of bytes) ≡ bytes
+expand_literal here [] = refl
+expand_literal here (b ∷ bytes) = append-nil (b ∷ bytes)
 
 -- one more path that is read
 pub list_more : (texts forms now : List Text) (empty long e l : Bool) (t f : Text) → IsListOf texts forms empty long → f ≡ path_of t → now ≡ forms ++ f ∷ [] → e ≡ is_empty t → l ≡ is_long_path t

@@ -1,7 +1,10 @@
 -- What names stand for, as far as texts are kept. Serves src/scope.rt.
 use Rattle.std.proofs.Common.{◌≡◌, ℕ, ◌+◌, ◌<◌, true, false, List, [], ◌∷◌, ◌++◌, length, Option, Some, None, refl, ap, sym, ◌∙◌, cond, option_map, take, get_or, append-nil}
 use Rattle.std.proofs.lemmas.List.{take_more}
-use Rattle.plan_parse.specs.declared.statement.StatementKind.{StatementKind}
+use Rattle.plan_parse.specs.declared.statement.DirectiveKind.{DirectiveKind}
+use Rattle.plan_parse.specs.declared.statement.DirectiveKind.TheVariants as directive
+use Rattle.plan_parse.specs.Compact.{kind_of}
+use Rattle.plan_parse.specs.Kinds.{StatementKind}
 use Rattle.plan_scope.specs.Trees.{TreeStatement}
 use Rattle.plan_scope.specs.Scopes.{Text, Name, ScopedBindings, or_else, last_of, frame, nearest, lookup, bound_in, bound_past, bound_by}
 use Rattle.plan_scope.specs.Kept.{kept, KeptEqScoped, KeptEqLookup}
@@ -63,3 +66,11 @@ agrees_taken : (now : ScopedBindings Text) (all : List TreeStatement) (i : ℕ) 
 agrees_taken now all i l scopes kind lt g e f h s n =
     agrees_more now (take i all) l scopes kind e f h s n
     ∙ ap (λ (ls : List TreeStatement). option_map kept (last_of n (frame s (bound_by ls)))) (sym (take_more all i l lt ∙ ap (λ (x : TreeStatement). take i all ++ x ∷ []) (sym g)))
+
+-- a directive binds nothing
+pub directive_binds_nothing : (above : ScopedBindings Text) (scopes : List ℕ) (k : DirectiveKind) → bound_in above scopes (kind_of k) ≡ []
+directive_binds_nothing above scopes (directive.Rule r) = refl
+directive_binds_nothing above scopes (directive.Pool p) = refl
+directive_binds_nothing above scopes (directive.Default targets) = refl
+directive_binds_nothing above scopes (directive.Include p) = refl
+directive_binds_nothing above scopes (directive.Subninja p) = refl

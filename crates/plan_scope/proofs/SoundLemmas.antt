@@ -10,9 +10,9 @@ use Rattle.plan_text.specs.Laws.{CanonicalStays}
 use Rattle.plan_text.specs.Path.{canonical_of}
 use Rattle.plan_text.specs.declared.piece_reader.Piece.{Piece}
 use Rattle.plan_parse.specs.PathLists.{all_in}
-use Rattle.plan_parse.specs.declared.statement.Build.{Build}
-use Rattle.plan_parse.specs.declared.statement.StatementKind.{StatementKind}
-use Rattle.plan_parse.specs.declared.statement.StatementKind.TheVariants as kind
+use Rattle.plan_parse.specs.Build.{Build}
+use Rattle.plan_parse.specs.Kinds.{StatementKind}
+use Rattle.plan_parse.specs.Kinds as kind
 use Rattle.plan_scope.specs.declared.fault.Cause.{Cause}
 use Rattle.plan_scope.specs.declared.fault.Cause.TheVariants.{BadDepth, DuplicatePool, DuplicateRule, EmptyPath, PathTooLong, TextTooLong}
 use Rattle.plan_scope.specs.declared.fault.ScopeFault.{ScopeFault}

@@ -145,7 +145,7 @@ kept_taken f pieces i p out now t lt e h v k =
     ∙ ap kept (sym (flat_map_taken (value_of f) pieces i p lt)))
 
 -- one more path
-pub paths_taken : (f : List Piece → Text) (paths : List (List Piece)) (i : ℕ) (p : List Piece) (texts now : List Text) (t : Text) → i < length paths → p ≡ get_or paths i p
+pub paths_taken : {X : Type 0} (f : X → Text) (paths : List X) (i : ℕ) (p : X) (texts now : List Text) (t : Text) → i < length paths → p ≡ get_or paths i p
     → map kept texts ≡ map kept (map f (take i paths)) → kept t ≡ kept (f p) → now ≡ texts ++ t ∷ []
     → map kept now ≡ map kept (map f (take (i + 1) paths))
 paths_taken f paths i p texts now t lt e h k n =

@@ -3,8 +3,8 @@
 use Rattle.std.proofs.Common.{ℕ, suc, List, [], ◌∷◌, ◌++◌, Ok, Err}
 use Rattle.std.specs.List.{All, AllByRecursion}
 use Rattle.std.proofs.lemmas.List.Elements.{All-nil, All-cons, All-append}
-use Rattle.plan_parse.specs.declared.statement.StatementKind.{StatementKind}
-use Rattle.plan_parse.specs.declared.statement.StatementKind.TheVariants as kind
+use Rattle.plan_parse.specs.Kinds.{StatementKind}
+use Rattle.plan_parse.specs.Kinds as kind
 use Rattle.plan_parse.specs.Laws.{IsWhole, IsWholeKind, StatementsAreWhole}
 use Rattle.plan_scope.specs.Trees.{TreeStatement}
 use Rattle.plan_scope.specs.Scopes.{Text}

@@ -9,9 +9,9 @@ use Rattle.plan_text.specs.declared.piece_reader.Piece.{Piece}
 use Rattle.plan_parse.specs.declared.path_lists.PathLists.{PathLists}
 use Rattle.plan_parse.specs.PathLists.{all_in, map_lists}
 use Rattle.plan_parse.specs.declared.statement.Binding.{Binding}
-use Rattle.plan_parse.specs.declared.statement.Build.{Build}
-use Rattle.plan_parse.specs.declared.statement.StatementKind.{StatementKind}
-use Rattle.plan_parse.specs.declared.statement.StatementKind.TheVariants as kind
+use Rattle.plan_parse.specs.Build.{Build}
+use Rattle.plan_parse.specs.Kinds.{StatementKind}
+use Rattle.plan_parse.specs.Kinds as kind
 use Rattle.plan_scope.specs.declared.fault.Cause.{Cause}
 use Rattle.plan_scope.specs.declared.fault.Cause.TheVariants.{DuplicateRule, UnknownRule, DuplicatePool, UnknownPool, RuleCycle, EmptyPath, Dyndep, Rspfile, DepsKind, PathTooLong, TextTooLong, BadDepth}
 use Rattle.plan_scope.specs.declared.fault.ScopeFault.{ScopeFault}

@@ -19,6 +19,7 @@ pub mod Memo
 pub mod Compiled
 pub mod Found
 pub mod Paths
+pub mod PathParts
 pub mod Parts
 pub mod Evaluation
 pub mod KindSaid

@@ -1,6 +1,6 @@
 -- What the functions of the loader answer.
 use Rattle.std.specs.Prelude.{◌≡◌, ℕ, zero, suc, Bool, false, List, [], ◌∷◌, ◌++◌, Option, Some, None, Result, Ok, Err}
-use Rattle.plan_parse.specs.declared.statement.Statement.{Statement}
+use Rattle.plan_parse.specs.Kinds.{Statement}
 use Rattle.plan_parse.specs.Statements.{statements_of}
 use Rattle.plan_scope.specs.declared.fault.Cause.{Cause}
 use Rattle.plan_scope.specs.declared.fault.Cause.TheVariants.{TextTooLong}

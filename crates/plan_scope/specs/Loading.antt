@@ -1,9 +1,9 @@
 -- The statements of a file and of all files that it includes.
 use Rattle.std.specs.Prelude.{◌≡◌, ℕ, suc, ◌+◌, ◌⊎◌, ◌==◌, Bool, true, false, max, List, [], ◌∷◌, ◌++◌, Option, Some, None, Result, Ok, Err, if◌then◌else◌}
 use Rattle.plan_parse.specs.declared.fault.ParseFault.{ParseFault}
-use Rattle.plan_parse.specs.declared.statement.Statement.{Statement}
-use Rattle.plan_parse.specs.declared.statement.StatementKind.{StatementKind}
-use Rattle.plan_parse.specs.declared.statement.StatementKind.TheVariants as kind
+use Rattle.plan_parse.specs.Kinds.{Statement}
+use Rattle.plan_parse.specs.Kinds.{StatementKind}
+use Rattle.plan_parse.specs.Kinds as kind
 use Rattle.plan_parse.specs.Statements.{statements_of}
 use Rattle.plan_scope.specs.declared.fault.Cause.{Cause}
 use Rattle.plan_scope.specs.declared.fault.Cause.TheVariants.{IncludeDepth, EmptyPath, PathTooLong, TextTooLong}

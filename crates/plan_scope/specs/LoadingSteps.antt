@@ -1,7 +1,7 @@
 -- Loading in steps, as the loader does it: by the rules of Loading (proofs/RuleLemmas).
 use Rattle.std.specs.Prelude.{◌≡◌, ℕ, zero, suc, ◌⊎◌, List, [], ◌∷◌, ◌++◌, Option, Some, None, Result, Ok, Err}
 use Rattle.plan_parse.specs.declared.fault.ParseFault.{ParseFault}
-use Rattle.plan_parse.specs.declared.statement.Statement.{Statement}
+use Rattle.plan_parse.specs.Kinds.{Statement}
 use Rattle.plan_parse.specs.Statements.{statements_of}
 use Rattle.plan_scope.specs.declared.fault.Cause.{Cause}
 use Rattle.plan_scope.specs.declared.fault.ScopeFault.TheVariants.{SourceMissing, Parse, Refused}

@@ -2,7 +2,7 @@
 use Rattle.std.specs.Prelude.{◌≡◌, false, List}
 use Rattle.std.specs.List.{list_any}
 use Rattle.plan_text.specs.declared.piece_reader.Piece.{Piece}
-use Rattle.plan_parse.specs.declared.statement.Build.{Build}
+use Rattle.plan_parse.specs.Build.{Build}
 use Rattle.plan_scope.specs.declared.edge.build_line.Parts.{Parts}
 use Rattle.plan_scope.specs.Scopes.{Text, Name, Bindings, is_too_long}
 use Rattle.plan_scope.specs.Expansion.{EdgeEnvironment}

@@ -2,8 +2,8 @@
 use Rattle.std.specs.Prelude.{ℕ, Bool, List, [], ◌∷◌, ◌++◌, Option, Some, None, ◌==◌, bytes_eq, nat_lt, length, if◌then◌else◌, unwrap_or, flat_map}
 use Rattle.plan_text.specs.declared.piece_reader.Piece.{Piece}
 use Rattle.plan_text.specs.declared.piece_reader.Piece.TheVariants.{Literal, Reference}
-use Rattle.plan_parse.specs.declared.statement.StatementKind.{StatementKind}
-use Rattle.plan_parse.specs.declared.statement.StatementKind.TheVariants as kind
+use Rattle.plan_parse.specs.Kinds.{StatementKind}
+use Rattle.plan_parse.specs.Kinds as kind
 use Rattle.plan_scope.specs.Trees.{TreeStatement}
 use Rattle.plan_text.specs.Limits.{max_path, max_text}
 

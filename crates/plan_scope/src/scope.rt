@@ -15,7 +15,7 @@ pub(crate) mod text;
 use crate::scope::scoped_map::ScopedMap;
 use crate::scope::text::{append, is_long};
 use crate::tree::{Said, TreeStatement};
-use plan_parse::{Binding, StatementKind};
+use plan_parse::Binding;
 use plan_text::{Items, MAX_TEXT, Piece};
 use std::alloc::{AllocError, Global};
 
@@ -117,27 +117,6 @@ fn bind_own(
     }
 }
 
-/// Binds what a statement of a file binds, by what is bound above it. Answers whether a text is too long.
-fn bind(
-    alloc: Global,
-    bound: &mut ScopedMap<Items<u8>>,
-    scopes: &[usize],
-    kind: &StatementKind,
-) -> Result<bool, AllocError>
-    ensures bound { OnOk result ((meant : Bound Text) → KeptEqScoped bound.old meant → KeptEqScoped bound.new (meant ++ bound_in meant scopes.now kind.now)) }
-    ensures long { IfOk result (λ long. (meant : Bound Text) → KeptEqScoped bound.old meant → long ≡ list_any (λ b. is_too_long b.1.1) (bound_in meant scopes.now kind.now)) }
-{
-    match kind {
-        StatementKind::Binding(binding) => bind_own(alloc, bound, scopes, binding),
-        StatementKind::Rule(_) => Ok(false),
-        StatementKind::Build(_) => Ok(false),
-        StatementKind::Pool(_) => Ok(false),
-        StatementKind::Default(_) => Ok(false),
-        StatementKind::Include(_) => Ok(false),
-        StatementKind::Subninja(_) => Ok(false),
-    }
-}
-
 /// Binds what a statement binds, by what is bound above it. Answers whether a text is too long.
 pub fn bind_statement(
     alloc: Global,
@@ -147,8 +126,9 @@ pub fn bind_statement(
     ensures bound { OnOk result ((meant : Bound Text) → KeptEqScoped bound.old meant → KeptEqScoped bound.new (meant ++ bound_in meant statement.now.scopes statement.now.kind)) }
     ensures long { IfOk result (λ long. (meant : Bound Text) → KeptEqScoped bound.old meant → long ≡ list_any (λ b. is_too_long b.1.1) (bound_in meant statement.now.scopes statement.now.kind)) }
 {
-    match statement.said(alloc)? {
-        Said::Kept(kind) => bind(alloc, bound, statement.scopes(), kind),
-        Said::Read(binding) => bind_own(alloc, bound, statement.scopes(), &binding),
+    match statement.said() {
+        Said::Binding(line) => bind_own(alloc, bound, statement.scopes(), &line.read(alloc)?),
+        Said::Build(_) => Ok(false),
+        Said::Directive(_) => Ok(false),
     }
 }

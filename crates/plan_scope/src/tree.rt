@@ -1,7 +1,6 @@
 //! Trees of statements.
 
-ghost use Rattle.std.specs.Prelude.{◌≡◌, IfOk, option_map};
-ghost use Rattle.plan_scope.specs.Trees.{IsKeptKind};
+ghost use Rattle.std.specs.Prelude.{◌≡◌, IfOk};
 ghost use Rattle.plan_scope.specs.Scopes.{bound_by};
 ghost use Rattle.plan_scope.specs.Kept.{KeptEqScoped};
 ghost use Rattle.plan_scope.specs.KindSaid.{kind_said};
@@ -15,7 +14,7 @@ pub(crate) mod source;
 use crate::fault::{Cause, ScopeFault};
 use crate::scope::scoped_map::ScopedMap;
 use crate::scope::text::copy_of;
-use plan_parse::{Binding, CompactStatement, StatementKind, read_binding};
+use plan_parse::{BindingLine, BuildLine, CompactStatement, DirectiveKind};
 use plan_text::Items;
 use std::alloc::{AllocError, Global};
 use std::marker::Model;
@@ -28,7 +27,7 @@ pub struct File {
     pub path: Items<u8>,
     /// The scopes that its statements see, their own first.
     pub scopes: Items<usize>,
-    /// Its bytes: bindings are read again from there.
+    /// Its bytes: bindings, and the paths of build lines, are read again from there.
     pub text: Items<u8>,
 }
 
@@ -78,37 +77,29 @@ impl TreeStatement {
     {
         Ok(ScopeFault::Refused(copy_of(alloc, self.path())?, self.offset(), cause))
     }
-
-    /// What it says, unless it is a binding whose place alone is kept.
-    pub fn kept_kind(&self) -> Option<&StatementKind>
-        ensures { IsKeptKind self.now.kind (option_map (λ k. k.now) result) }
-    {
-        match &self.statement {
-            CompactStatement::Binding(_) => None,
-            CompactStatement::Whole(statement) => Some(&statement.kind),
-        }
-    }
 }
 
 /// What a statement says.
+#[derive(Drop)]
 pub enum Said<'a> {
-    /// A statement that is kept.
-    Kept(&'a StatementKind),
-    /// A binding that was read again.
-    Read(Binding),
+    /// A binding.
+    Binding(BindingLine<'a>),
+    /// A build line.
+    Build(BuildLine<'a>),
+    /// Any other statement.
+    Directive(&'a DirectiveKind),
 }
 
 impl TreeStatement {
     /// What it says.
-    pub fn said(&self, alloc: Global) -> Result<Said<'_>, AllocError>
-        ensures { IfOk result (λ said. kind_said said ≡ self.now.kind) }
+    pub fn said(&self) -> Said<'_>
+        ensures { kind_said result ≡ self.now.kind }
     {
+        let text = self.file.as_ref().text.as_slice();
         match &self.statement {
-            CompactStatement::Binding(span) => {
-                let text = self.file.as_ref().text.as_slice();
-                Ok(Said::Read(read_binding(alloc, text, *span)?))
-            }
-            CompactStatement::Whole(statement) => Ok(Said::Kept(&statement.kind)),
+            CompactStatement::Binding(span) => Said::Binding(BindingLine::new(text, *span)),
+            CompactStatement::Build(build) => Said::Build(BuildLine::new(text, build)),
+            CompactStatement::Directive(directive) => Said::Directive(&directive.kind),
         }
     }
 }

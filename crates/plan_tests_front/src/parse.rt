@@ -38,9 +38,9 @@ fn lists(alloc: Global, paths: &Items<PieceList>, want: &[u8]) -> Result<bool, A
 }
 
 /// A text, and whether bindings spell it, each as `name=value;`.
-fn binds(alloc: Global, bindings: &Items<Binding>, want: &[u8]) -> Result<bool, AllocError> {
+fn binds(alloc: Global, bindings: &[Binding], want: &[u8]) -> Result<bool, AllocError> {
     let mut text = Vec::new(alloc);
-    for binding in bindings.as_slice() {
+    for binding in bindings {
         text.extend_from_slice(binding.name.as_slice())?;
         text.push(b'=')?;
         spell(&mut text, &binding.value)?;
@@ -49,24 +49,50 @@ fn binds(alloc: Global, bindings: &Items<Binding>, want: &[u8]) -> Result<bool, 
     Ok(text.as_slice() == want)
 }
 
-/// A statement, by the text beside which it is kept.
-fn whole(alloc: Global, text: &[u8], statement: CompactStatement) -> Result<Statement, ParseFault> {
-    match statement {
-        CompactStatement::Binding(span) => Ok(Statement {
-            offset: u64::from(span.at),
-            kind: StatementKind::Binding(read_binding(alloc, text, span)?),
-        }),
-        CompactStatement::Whole(statement) => Ok(Box::into_inner(statement)),
+/// Appends a path part by part, each reference as `<name>`, and `!` for a fault. Each part has a byte, so there are no
+/// more parts than bytes.
+fn spell_parts(text: &mut Vec<u8>, at: usize, path: &[u8]) -> Result<(), AllocError> {
+    let mut rest = path;
+    for _ in path {
+        if rest.is_empty() {
+            return Ok(());
+        }
+        let Ok((part, len)) = part_at(rest, at) else {
+            text.push(b'!')?;
+            return Ok(());
+        };
+        match part {
+            PathPart::Text(bytes) => text.extend_from_slice(bytes)?,
+            PathPart::Name(name) => {
+                text.push(b'<')?;
+                text.extend_from_slice(name)?;
+                text.push(b'>')?;
+            }
+        }
+        rest = rest.get(len..).unwrap_or(&[]);
     }
+    Ok(())
 }
 
-/// The statements of a text.
-fn statements(alloc: Global, text: &[u8]) -> Result<Vec<Statement>, ParseFault> {
-    let mut found = Vec::new(alloc);
-    for statement in parse(alloc, text)? {
-        found.push(whole(alloc, text, statement)?)?;
+/// The same of a list that is kept beside its text.
+fn lists_again(alloc: Global, paths: &PathsInText<'_>, want: &[u8]) -> Result<bool, AllocError> {
+    let mut text = Vec::new(alloc);
+    for path in paths.paths {
+        match path_in(paths.text, *path) {
+            PathInText::Plain(bytes) => text.extend_from_slice(bytes)?,
+            PathInText::Parts(at, bytes) => spell_parts(&mut text, at, bytes)?,
+        }
+        text.push(b';')?;
     }
-    Ok(found)
+    Ok(text.as_slice() == want)
+}
+
+/// What a statement says that is a directive.
+fn directive(statement: &CompactStatement) -> Option<&DirectiveKind> {
+    match statement {
+        CompactStatement::Directive(directive) => Some(&directive.kind),
+        _ => None,
+    }
 }
 
 /// The fault of a text that is refused.
@@ -81,15 +107,15 @@ fn refuse(alloc: Global, text: &[u8]) -> Option<ParseFault> {
 fn demo_rule(rt: HostRuntime) -> Result<(), Fail> {
     let text =
         b"rule demo\n  command = echo \"this is a demo of $foo\"\nbuild out: demo\n  foo = bar\n";
-    let found = statements(rt.alloc(), text.as_slice())?;
+    let found = parse(rt.alloc(), text.as_slice())?;
     assert_eq!(rt; found.len(), 2);
-    assert_eq!(rt; found[0].offset, 0);
-    assert_eq!(rt; found[1].offset, 52);
-    match &found[0].kind {
-        StatementKind::Rule(rule) => {
+    assert_eq!(rt; found[0].offset(), 0);
+    assert_eq!(rt; found[1].offset(), 52);
+    match directive(&found[0]) {
+        Some(DirectiveKind::Rule(rule)) => {
             let want = b"command=echo \"this is a demo of <foo>\";";
             assert_eq!(rt; rule.name.as_slice(), b"demo".as_slice());
-            assert!(rt; binds(rt.alloc(), &rule.bindings, want)?);
+            assert!(rt; binds(rt.alloc(), rule.bindings.as_slice(), want)?);
         }
         _ => assert!(rt; false, "a rule comes first"),
     }
@@ -98,14 +124,17 @@ fn demo_rule(rt: HostRuntime) -> Result<(), Fail> {
 
 #[test]
 fn demo_build(rt: HostRuntime) -> Result<(), Fail> {
-    let found = statements(rt.alloc(), b"build out: demo\n  foo = bar\n")?;
+    let text = b"build out: demo\n  foo = bar\n".as_slice();
+    let found = parse(rt.alloc(), text)?;
     assert_eq!(rt; found.len(), 1);
-    match &found[0].kind {
-        StatementKind::Build(build) => {
-            assert!(rt; lists(rt.alloc(), &build.paths.outputs, b"out;")?);
-            assert_eq!(rt; build.rule.as_slice(), b"demo".as_slice());
-            assert!(rt; lists(rt.alloc(), &build.paths.inputs, b"")?);
-            assert!(rt; binds(rt.alloc(), &build.bindings, b"foo=bar;")?);
+    match &found[0] {
+        CompactStatement::Build(build) => {
+            let build = BuildLine::new(text, build);
+            let paths = build.paths();
+            assert!(rt; lists_again(rt.alloc(), &paths.outputs, b"out;")?);
+            assert_eq!(rt; build.rule(), b"demo".as_slice());
+            assert!(rt; lists_again(rt.alloc(), &paths.inputs, b"")?);
+            assert!(rt; binds(rt.alloc(), build.bindings(), b"foo=bar;")?);
         }
         _ => assert!(rt; false, "a build line"),
     }
@@ -115,21 +144,17 @@ fn demo_build(rt: HostRuntime) -> Result<(), Fail> {
 #[test]
 fn quoted_paths(rt: HostRuntime) -> Result<(), Fail> {
     let text =
-        b"spaced = foo bar\n\n# a comment\nbuild $spaced/baz other$ file: touch in$:1 $\n    in2\n";
-    let found = statements(rt.alloc(), text.as_slice())?;
+        b"spaced = foo bar\n\n# a comment\nbuild $spaced/baz other$ file: touch in$:1 $\n    in2\n".as_slice();
+    let found = parse(rt.alloc(), text)?;
     assert_eq!(rt; found.len(), 2);
-    match (&found[0].kind, &found[1].kind) {
-        (StatementKind::Binding(binding), StatementKind::Build(build)) => {
+    match (&found[0], &found[1]) {
+        (CompactStatement::Binding(span), CompactStatement::Build(build)) => {
+            let binding = BindingLine::new(text, *span).read(rt.alloc())?;
+            let paths = BuildLine::new(text, build).paths();
             assert_eq!(rt; binding.name.as_slice(), b"spaced".as_slice());
             assert!(rt; spells(rt.alloc(), &binding.value, b"foo bar")?);
-            assert!(rt;
-                lists(
-                    rt.alloc(),
-                    &build.paths.outputs,
-                    b"<spaced>/baz;other file;"
-                )?
-            );
-            assert!(rt; lists(rt.alloc(), &build.paths.inputs, b"in:1;in2;")?);
+            assert!(rt; lists_again(rt.alloc(), &paths.outputs, b"<spaced>/baz;other file;")?);
+            assert!(rt; lists_again(rt.alloc(), &paths.inputs, b"in:1;in2;")?);
         }
         _ => assert!(rt; false, "a binding and a build line"),
     }
@@ -138,17 +163,19 @@ fn quoted_paths(rt: HostRuntime) -> Result<(), Fail> {
 
 #[test]
 fn five_lists(rt: HostRuntime) -> Result<(), Fail> {
-    let text = b"build foo.o $dir/foo.d | foo.su: cc foo.c | foo.h bar.h || generated\n";
-    let found = statements(rt.alloc(), text.as_slice())?;
+    let text = b"build foo.o $dir/foo.d | foo.su: cc foo.c | foo.h bar.h || generated\n".as_slice();
+    let found = parse(rt.alloc(), text)?;
     assert_eq!(rt; found.len(), 1);
-    match &found[0].kind {
-        StatementKind::Build(build) => {
-            assert!(rt; lists(rt.alloc(), &build.paths.outputs, b"foo.o;<dir>/foo.d;")?);
-            assert!(rt; lists(rt.alloc(), &build.paths.implicit_outputs, b"foo.su;")?);
-            assert_eq!(rt; build.rule.as_slice(), b"cc".as_slice());
-            assert!(rt; lists(rt.alloc(), &build.paths.inputs, b"foo.c;")?);
-            assert!(rt; lists(rt.alloc(), &build.paths.implicit_inputs, b"foo.h;bar.h;")?);
-            assert!(rt; lists(rt.alloc(), &build.paths.order_only_inputs, b"generated;")?);
+    match &found[0] {
+        CompactStatement::Build(build) => {
+            let build = BuildLine::new(text, build);
+            let paths = build.paths();
+            assert!(rt; lists_again(rt.alloc(), &paths.outputs, b"foo.o;<dir>/foo.d;")?);
+            assert!(rt; lists_again(rt.alloc(), &paths.implicit_outputs, b"foo.su;")?);
+            assert_eq!(rt; build.rule(), b"cc".as_slice());
+            assert!(rt; lists_again(rt.alloc(), &paths.inputs, b"foo.c;")?);
+            assert!(rt; lists_again(rt.alloc(), &paths.implicit_inputs, b"foo.h;bar.h;")?);
+            assert!(rt; lists_again(rt.alloc(), &paths.order_only_inputs, b"generated;")?);
         }
         _ => assert!(rt; false, "a build line"),
     }
@@ -156,15 +183,48 @@ fn five_lists(rt: HostRuntime) -> Result<(), Fail> {
 }
 
 #[test]
+fn parts(rt: HostRuntime) -> Result<(), Fail> {
+    for (path, want) in [
+        (b"$dir/foo.o".as_slice(), b"<dir>/foo.o".as_slice()),
+        (b"a${b.c}d".as_slice(), b"a<b.c>d".as_slice()),
+        (b"$b.c".as_slice(), b"<b>.c".as_slice()),
+        (b"$$a$ b$:".as_slice(), b"$a b:".as_slice()),
+        (b"a$\n   b$\r\n c".as_slice(), b"abc".as_slice()),
+        (b"a b|c:".as_slice(), b"a b|c:".as_slice()),
+        (b"a$!".as_slice(), b"a!".as_slice()),
+    ] {
+        let mut text = Vec::new(rt.alloc());
+        spell_parts(&mut text, 0, path)?;
+        assert_eq!(rt; text.as_slice(), want);
+    }
+    Ok(())
+}
+
+#[test]
+fn refused_parts(rt: HostRuntime) {
+    for (path, fault) in [
+        (b"${a".as_slice(), TextFault::BadEscape(7)),
+        (b"$".as_slice(), TextFault::BadEscape(7)),
+        (b"\0".as_slice(), TextFault::NulByte(7)),
+        (b"\t".as_slice(), TextFault::TabBlank(7)),
+    ] {
+        match part_at(path, 7) {
+            Ok(_) => assert!(rt; false, "a fault"),
+            Err(found) => assert_eq!(rt; found, fault),
+        }
+    }
+}
+
+#[test]
 fn pool(rt: HostRuntime) -> Result<(), Fail> {
-    let found = statements(
+    let found = parse(
         rt.alloc(),
         b"# one at a time\npool link_pool\n  depth = 4\n",
     )?;
     assert_eq!(rt; found.len(), 1);
-    assert_eq!(rt; found[0].offset, 16);
-    match &found[0].kind {
-        StatementKind::Pool(pool) => {
+    assert_eq!(rt; found[0].offset(), 16);
+    match directive(&found[0]) {
+        Some(DirectiveKind::Pool(pool)) => {
             assert_eq!(rt; pool.name.as_slice(), b"link_pool".as_slice());
             assert!(rt; spells(rt.alloc(), &pool.depth, b"4")?);
         }
@@ -175,10 +235,10 @@ fn pool(rt: HostRuntime) -> Result<(), Fail> {
 
 #[test]
 fn defaults(rt: HostRuntime) -> Result<(), Fail> {
-    let found = statements(rt.alloc(), b"third = c\ndefault a b\ndefault $third\n")?;
+    let found = parse(rt.alloc(), b"third = c\ndefault a b\ndefault $third\n")?;
     assert_eq!(rt; found.len(), 3);
-    match (&found[1].kind, &found[2].kind) {
-        (StatementKind::Default(two), StatementKind::Default(third)) => {
+    match (directive(&found[1]), directive(&found[2])) {
+        (Some(DirectiveKind::Default(two)), Some(DirectiveKind::Default(third))) => {
             assert!(rt; lists(rt.alloc(), two, b"a;b;")?);
             assert!(rt; lists(rt.alloc(), third, b"<third>;")?);
         }
@@ -189,13 +249,13 @@ fn defaults(rt: HostRuntime) -> Result<(), Fail> {
 
 #[test]
 fn other_files(rt: HostRuntime) -> Result<(), Fail> {
-    let found = statements(
+    let found = parse(
         rt.alloc(),
         b"include include.ninja\nsubninja $dir/test$ 1.ninja\n",
     )?;
     assert_eq!(rt; found.len(), 2);
-    match (&found[0].kind, &found[1].kind) {
-        (StatementKind::Include(included), StatementKind::Subninja(scoped)) => {
+    match (directive(&found[0]), directive(&found[1])) {
+        (Some(DirectiveKind::Include(included)), Some(DirectiveKind::Subninja(scoped))) => {
             assert!(rt; spells(rt.alloc(), included, b"include.ninja")?);
             assert!(rt; spells(rt.alloc(), scoped, b"<dir>/test 1.ninja")?);
         }
@@ -210,10 +270,12 @@ fn rule_variables(rt: HostRuntime) -> Result<(), Fail> {
         b"rule cat\n  command = a\n  depfile = b\n  deps = c\n  msvc_deps_prefix = d\n  description = e\n  dyndep = f\n  generator = g\n  in = h\n  in_newline = i\n  out = j\n  restat = k\n  rspfile = l\n  rspfile_content = m\n  pool = n\n";
     let want =
         b"command=a;depfile=b;deps=c;msvc_deps_prefix=d;description=e;dyndep=f;generator=g;in=h;in_newline=i;out=j;restat=k;rspfile=l;rspfile_content=m;pool=n;";
-    let found = statements(rt.alloc(), text.as_slice())?;
+    let found = parse(rt.alloc(), text.as_slice())?;
     assert_eq!(rt; found.len(), 1);
-    match &found[0].kind {
-        StatementKind::Rule(rule) => assert!(rt; binds(rt.alloc(), &rule.bindings, want)?),
+    match directive(&found[0]) {
+        Some(DirectiveKind::Rule(rule)) => {
+            assert!(rt; binds(rt.alloc(), rule.bindings.as_slice(), want)?);
+        }
         _ => assert!(rt; false, "a rule"),
     }
     Ok(())

@@ -22,7 +22,7 @@ use crate::manifest::Edge;
 use crate::manifest::pool_names::PoolNames;
 use crate::scope::Scope;
 use crate::scope::text::is_long;
-use plan_parse::{Build, PathLists};
+use plan_parse::{BuildLine, PathLists};
 use plan_text::{Items, SmallText};
 use std::alloc::{AllocError, Global};
 
@@ -36,11 +36,15 @@ pub struct Parts<'a> {
 }
 
 /// What is read of a build line, by what names stand for above it.
-fn read_parts<'a>(alloc: Global, here: Scope<'a>, build: &'a Build) -> Result<Parts<'a>, AllocError>
+fn read_parts<'a>(
+    alloc: Global,
+    here: Scope<'a>,
+    build: &BuildLine<'a>,
+) -> Result<Parts<'a>, AllocError>
     ensures { IfOk result (λ parts. (h : Name → Text) → KeptEqLookup (names_in here.entry) h → IsRead h build.now parts) }
 {
-    let block = block(alloc, here, build.bindings.as_slice())?;
-    let read = read_paths(alloc, &block.values, here, build)?;
+    let block = block(alloc, here, build.bindings())?;
+    let read = read_paths(alloc, &block.values, here, &*build)?;
     Ok(Parts { block, read })
 }
 
@@ -147,7 +151,7 @@ pub fn edge<'a>(
     file: Scope<'a>,
     rule: &'a RuleVariables<'a>,
     compiled: &CompiledRule,
-    build: &'a Build,
+    build: &BuildLine<'a>,
 ) -> Result<Edge, StatementFault>
     requires { IsCompiledRule rule.now (names_in file) compiled.now }
     ensures { (names : List Name) (h f : Name → Text) → EqNames pools.now names → KeptEqLookup (names_in here.entry) h → KeptEqLookup (names_in file.entry) f → Gives result (edge_or_refusal names h build.now (variables_of (environment_of h f build.now rule.now)) false) }
@@ -164,7 +168,7 @@ pub fn phony_edge<'a>(
     pools: &PoolNames<'a>,
     here: Scope<'a>,
     file: Scope<'a>,
-    build: &'a Build,
+    build: &BuildLine<'a>,
 ) -> Result<Edge, StatementFault>
     ensures { (names : List Name) (h f : Name → Text) → EqNames pools.now names → KeptEqLookup (names_in here.entry) h → KeptEqLookup (names_in file.entry) f → Gives result (edge_or_refusal names h build.now (phony_variables (environment_of h f build.now [])) true) }
 {

@@ -1,9 +1,11 @@
 //! The texts of a build line: its block and its paths.
 
-ghost use Rattle.std.specs.Prelude.{◌≡◌, ◌≤◌, ◌+◌, List, length, IfOk, OnOk, map};
+ghost use Rattle.std.specs.Prelude.{◌≡◌, ◌≤◌, ◌<◌, ◌+◌, ◌^◌, List, length, IfOk, OnOk, map};
 ghost use Rattle.std.specs.List.{list_any};
-ghost use Rattle.plan_scope.specs.Scopes.{Bindings, Name, Text, expand, is_empty, is_long_path, is_too_long, value_of};
+ghost use Rattle.plan_scope.specs.Scopes.{Bindings, Name, Text, expand, is_empty, is_long_path, is_too_long};
 ghost use Rattle.plan_text.specs.Limits.{max_text};
+ghost use Rattle.plan_parse.specs.Lines.{IsPlaced, paths_in, pieces_of};
+ghost use Rattle.plan_scope.specs.PathParts.{part_value, pieces_in};
 ghost use Rattle.plan_scope.specs.Edges.{Paths, block_of, near, path_of, paths_of, texts_of};
 ghost use Rattle.plan_scope.specs.Kept.{KeptEqBindings, KeptEqLookup, kept};
 ghost use Rattle.plan_scope.specs.Paths.{AreListsOf, AreRead, IsListOf, kept_in};
@@ -12,8 +14,10 @@ ghost use Rattle.plan_scope.specs.ScopeNames.{names_in};
 use crate::scope::small_map::SmallMap;
 use crate::scope::text::{append, is_long};
 use crate::scope::{Scope, expand_pieces, name_text};
-use plan_parse::{Binding, Build, PathLists};
-use plan_text::{Items, MAX_PATH, Piece, PieceList, SmallText, TextFault, canonical, is_canonical};
+use plan_parse::{
+    Binding, BuildLine, PathInText, PathLists, PathPart, PathsInText, part_at, path_in,
+};
+use plan_text::{Items, MAX_PATH, SmallText, TextFault, canonical, is_canonical};
 use std::alloc::{AllocError, Global};
 
 /// The variables of a build block.
@@ -54,33 +58,41 @@ fn text_near<'a>(block: &'a SmallMap<'a, Items<u8>>, here: Scope<'a>, name: &[u8
     }
 }
 
-/// The text of a piece of a path.
-fn path_piece_text<'a>(
+/// The text of a part of a path.
+fn part_text<'a>(
     block: &'a SmallMap<'a, Items<u8>>,
     here: Scope<'a>,
-    piece: &'a Piece,
+    part: PathPart<'a>,
 ) -> &'a [u8]
-    ensures { result.now ≡ value_of (near (names_in here.entry) block.now) piece.now }
+    ensures { result.now ≡ part_value (near (names_in here.entry) block.now) part.entry }
 {
-    match piece {
-        Piece::Literal(bytes) => bytes.as_slice(),
-        Piece::Reference(name) => text_near(block, here, name.as_slice()),
+    match part {
+        PathPart::Text(bytes) => bytes,
+        PathPart::Name(name) => text_near(block, here, name),
     }
 }
 
-/// Puts a path of a build line together in a buffer, in place of what that held.
+/// Puts a path of a build line together in a buffer, in place of what that held; nothing where it is no path.
 fn expand_path<'a>(
     block: &'a SmallMap<'a, Items<u8>>,
     here: Scope<'a>,
-    pieces: &'a [Piece],
+    at: usize,
+    path: &'a [u8],
     buffer: &mut Vec<u8>,
 ) -> Result<(), AllocError>
-    ensures text { OnOk result ((b : Bindings Text) (m : Name → Text) → KeptEqBindings block.now b → KeptEqLookup (names_in here.entry) m → kept buffer.new.items ≡ kept (expand (near m b) pieces.now)) }
+    requires { at + length path.now < 2 ^ 63 }
+    ensures text { OnOk result ((b : Bindings Text) (m : Name → Text) → KeptEqBindings block.now b → KeptEqLookup (names_in here.entry) m → kept buffer.new.items ≡ kept (expand (near m b) (pieces_in at path.now))) }
     ensures within { OnOk result (length buffer.new.items ≤ max_text + 1) }
 {
     buffer.clear();
-    for piece in pieces {
-        append(buffer, path_piece_text(block, here, piece))?;
+    let mut done = 0;
+    while done < path.len() {
+        let Ok((part, len)) = part_at(&path[done..], at + done) else {
+            buffer.clear();
+            return Ok(());
+        };
+        append(buffer, part_text(block, here, part))?;
+        done += len;
     }
     Ok(())
 }
@@ -120,26 +132,68 @@ pub struct PathList {
     pub has_long: bool,
 }
 
-/// The paths of a list. They are put together in a buffer, whatever that held, so that a path takes no more memory
-/// than it needs.
+/// What is read of a path.
+#[derive(Drop)]
+struct PathRead {
+    /// Its canonical form.
+    form: SmallText,
+    /// Whether it has no byte as expanded.
+    is_empty: bool,
+    /// Whether it is too long as expanded.
+    is_long: bool,
+}
+
+/// What is read of a path with these bytes.
+fn path_read(alloc: Global, path: &[u8]) -> Result<PathRead, AllocError>
+    ensures { IfOk result (λ read. (read.form ≡ path_of path.now) × (read.is_empty ≡ is_empty path.now) × (read.is_long ≡ is_long_path path.now)) }
+{
+    Ok(PathRead {
+        form: canonical_path(alloc, path)?,
+        is_empty: path.is_empty(),
+        is_long: is_long_path(path),
+    })
+}
+
+/// A path of a build line. One that is put together is so in a buffer, whatever that held, so that it takes no more
+/// memory than it needs.
+fn read_one<'a>(
+    alloc: Global,
+    block: &'a SmallMap<'a, Items<u8>>,
+    here: Scope<'a>,
+    path: PathInText<'a>,
+    buffer: &mut Vec<u8>,
+) -> Result<PathRead, AllocError>
+    requires { IsPlaced path }
+    ensures { IfOk result (λ read. (text : Text) × (read.form ≡ path_of text) × (read.is_empty ≡ is_empty text) × (read.is_long ≡ is_long_path text) × ((b : Bindings Text) (m : Name → Text) → KeptEqBindings block.now b → KeptEqLookup (names_in here.entry) m → kept text ≡ kept (expand (near m b) (pieces_of path.entry)))) }
+{
+    match path {
+        PathInText::Plain(bytes) => path_read(alloc, bytes),
+        PathInText::Parts(at, bytes) => {
+            expand_path(block, here, at, bytes, buffer)?;
+            path_read(alloc, buffer)
+        }
+    }
+}
+
+/// The paths of a list, put together in a buffer, whatever that held.
 fn read_list<'a>(
     alloc: Global,
     block: &'a SmallMap<'a, Items<u8>>,
     here: Scope<'a>,
-    list: &'a Items<PieceList>,
+    list: &PathsInText<'a>,
     buffer: &mut Vec<u8>,
 ) -> Result<PathList, AllocError>
-    ensures { IfOk result (λ read. (texts : List Text) × IsListOf texts read.forms read.has_empty read.has_long × ((b : Bindings Text) (m : Name → Text) → KeptEqBindings block.now b → KeptEqLookup (names_in here.entry) m → map kept texts ≡ map kept (paths_of (near m b) list.now))) }
+    ensures { IfOk result (λ read. (texts : List Text) × IsListOf texts read.forms read.has_empty read.has_long × ((b : Bindings Text) (m : Name → Text) → KeptEqBindings block.now b → KeptEqLookup (names_in here.entry) m → map kept texts ≡ map kept (paths_of (near m b) (paths_in list.now)))) }
 {
-    let paths = list.as_slice();
+    let (text, paths) = (list.text, list.paths);
     let mut forms = Vec::with_capacity(alloc, paths.len())?;
     let mut has_empty = false;
     let mut has_long = false;
     for path in paths {
-        expand_path(block, here, path.as_slice(), buffer)?;
-        has_empty |= buffer.is_empty();
-        has_long |= is_long_path(buffer);
-        forms.push(canonical_path(alloc, buffer)?)?;
+        let read = read_one(alloc, block, here, path_in(text, *path), buffer)?;
+        has_empty |= read.is_empty;
+        has_long |= read.is_long;
+        forms.push(read.form)?;
     }
     Ok(PathList {
         forms: Items::new(forms),
@@ -199,12 +253,12 @@ pub fn read_paths<'a>(
     alloc: Global,
     block: &'a SmallMap<'a, Items<u8>>,
     here: Scope<'a>,
-    build: &'a Build,
+    build: &BuildLine<'a>,
 ) -> Result<PathTexts, AllocError>
     ensures { IfOk result (λ read. (texts : Paths) × AreRead texts read × ((b : Bindings Text) (m : Name → Text) → KeptEqBindings block.now b → KeptEqLookup (names_in here.entry) m → kept_in texts ≡ kept_in (texts_of (near m b) build.now))) }
 {
     let mut buffer = Vec::with_capacity(alloc, BUFFER)?;
-    let lists = &build.paths;
+    let lists = build.paths();
     Ok(combine(PathLists {
         outputs: read_list(alloc, block, here, &lists.outputs, &mut buffer)?,
         implicit_outputs: read_list(alloc, block, here, &lists.implicit_outputs, &mut buffer)?,

@@ -2,8 +2,9 @@
 
 ghost use Rattle.std.specs.Prelude.{◌≡◌, ◌≢◌, ◌≤◌, ◌+◌, ℕ, List, [], ◌∷◌, ◌++◌, length, OnOk, IfOk, Some, false};
 ghost use Rattle.plan_text.specs.Outcome.{Meets};
+ghost use Rattle.plan_parse.specs.Compact.{kind_of};
 ghost use Rattle.plan_parse.specs.declared.statement.Binding.{Binding};
-ghost use Rattle.plan_parse.specs.declared.statement.StatementKind.TheVariants as kinds;
+ghost use Rattle.plan_parse.specs.Kinds as kinds;
 ghost use Rattle.plan_scope.specs.Trees.{TreeStatement as StatementMeant};
 ghost use Rattle.plan_text.specs.declared.piece_reader.Piece.{Piece};
 ghost use Rattle.plan_scope.specs.Scopes.{Bindings, Name, ScopedBindings, Text, expand, lookup, nearest};
@@ -28,8 +29,8 @@ use crate::manifest::{DefaultTarget, Edge, Manifest, Pool};
 use crate::scope::scoped_map::ScopedMap;
 use crate::scope::text::copy_of;
 use crate::scope::{Scope, bind_statement};
-use crate::tree::{Tree, TreeStatement};
-use plan_parse::{Build, StatementKind};
+use crate::tree::{Said, Tree, TreeStatement};
+use plan_parse::{BuildLine, DirectiveKind};
 use plan_text::{Items, PieceList};
 use std::alloc::{AllocError, Global};
 
@@ -70,24 +71,14 @@ fn facts_of_tree<'a>(alloc: Global, tree: &'a Tree) -> Result<TreeFacts<'a>, All
 }
 
 /// How many edges a statement may give.
-fn edge_count_of_kind(kind: &StatementKind) -> usize
-    ensures edges { result ≡ length (builds_in kind.now) }
-    ensures within { result ≤ 1 }
-{
-    match kind {
-        StatementKind::Build(_) => 1,
-        _ => 0,
-    }
-}
-
-/// How many edges a statement may give.
 fn edge_count_of_statement(statement: &TreeStatement) -> usize
     ensures edges { result ≡ length (builds_in statement.now.kind) }
     ensures within { result ≤ 1 }
 {
-    match statement.kept_kind() {
-        Some(kind) => edge_count_of_kind(kind),
-        None => 0,
+    match statement.said() {
+        Said::Build(_) => 1,
+        Said::Directive(_) => 0,
+        Said::Binding(_) => 0,
     }
 }
 
@@ -132,7 +123,7 @@ fn edge_of_new_rule<'b, 'a>(
     here: Scope<'b>,
     file: Scope<'a>,
     rule: &'b RuleVariables<'a>,
-    build: &'a Build,
+    build: &BuildLine<'a>,
 ) -> Result<Edge, StatementFault>
     ensures edge { (names : List Name) (h f : Name → Text) → EqNames pools.now names → KeptEqLookup (names_in here.entry) h → KeptEqLookup (names_in file.entry) f → Gives result (edge_or_refusal names h build.now (variables_of (environment_of h f build.now rule.now)) false) }
     ensures found { OnOk result ((rules : ScopedBindings (Bindings (List Piece))) → nearest rules file.entry.scopes.now build.now.rule ≡ Some rule.now → AreFound rules file.entry.bound.now found.old.items → AreFound rules file.entry.bound.now found.new.items) }
@@ -141,7 +132,7 @@ fn edge_of_new_rule<'b, 'a>(
     let edge = edge(alloc, &*pools, here, file, &*rule, &compiled, &*build);
     let found_rule = FoundRule {
         scopes: file.scopes,
-        name: build.rule.as_slice(),
+        name: build.rule(),
         compiled,
     };
     keep_rule(found, found_rule)?;
@@ -156,7 +147,7 @@ fn edge_of_met_rule<'b, 'a>(
     here: Scope<'b>,
     file: Scope<'a>,
     rule: &'b RuleVariables<'a>,
-    build: &'a Build,
+    build: &BuildLine<'a>,
 ) -> Result<Edge, StatementFault>
     ensures edge { (names : List Name) (h f : Name → Text) → EqNames pools.now names → KeptEqLookup (names_in here.entry) h → KeptEqLookup (names_in file.entry) f → Gives result (edge_or_refusal names h build.now (variables_of (environment_of h f build.now rule.now)) false) }
     ensures found { OnOk result ((rules : ScopedBindings (Bindings (List Piece))) → nearest rules file.entry.scopes.now build.now.rule ≡ Some rule.now → AreFound rules file.entry.bound.now found.old.items → AreFound rules file.entry.bound.now found.new.items) }
@@ -165,7 +156,7 @@ fn edge_of_met_rule<'b, 'a>(
     let edge = edge(alloc, &*pools, here, file, &*rule, &compiled, &*build);
     let found_rule = FoundRule {
         scopes: file.scopes,
-        name: build.rule.as_slice(),
+        name: build.rule(),
         compiled,
     };
     replace_rule(found, found_rule);
@@ -180,25 +171,25 @@ fn edge_of_build<'b, 'a>(
     found: &mut Vec<FoundRule<'a>>,
     here: Scope<'b>,
     file: Scope<'a>,
-    build: &'a Build,
+    build: &BuildLine<'a>,
 ) -> Result<Edge, StatementFault>
     requires scopes { file.scopes.now ≡ here.scopes.now }
     requires found { AreFound rules.now file.bound.now found.old.items }
     ensures edge { (names : List Name) (h f : Name → Text) → EqNames pools.now names → KeptEqLookup (names_in here.entry) h → KeptEqLookup (names_in file.entry) f → Gives result (edge_of_build names rules.now here.entry.scopes.now h f build.now) }
     ensures found { OnOk result (AreFound rules.now file.entry.bound.now found.new.items) }
 {
-    if is_phony(build.rule.as_slice()) {
+    if is_phony(build.rule()) {
         return phony_edge(alloc, &*pools, here, file, &*build);
     }
-    let Some(rule) = rules.nearest(here.scopes, build.rule.as_slice()) else {
+    let Some(rule) = rules.nearest(here.scopes, build.rule()) else {
         return Err(StatementFault::Refused(Cause::UnknownRule));
     };
-    match find_rule(found, file.scopes, build.rule.as_slice()) {
+    match find_rule(found, file.scopes, build.rule()) {
         Some(CompiledRule::Met) => {
-            edge_of_met_rule(alloc, pools, found, here, file, rule, build)
+            edge_of_met_rule(alloc, pools, found, here, file, rule, &*build)
         }
         Some(compiled) => edge(alloc, &*pools, here, file, &*rule, compiled, &*build),
-        None => edge_of_new_rule(alloc, pools, found, here, file, rule, build),
+        None => edge_of_new_rule(alloc, pools, found, here, file, rule, &*build),
     }
 }
 
@@ -209,7 +200,7 @@ fn add_build<'a>(
     so_far: &mut Evaluation<'a>,
     found: &mut Vec<FoundRule<'a>>,
     scopes: &'a [usize],
-    build: &'a Build,
+    build: &BuildLine<'a>,
 ) -> Result<(), StatementFault>
     requires { AreFound so_far.old.rules facts.now.bound.now found.old.items }
     ensures given { (names : List Name) (h f : Name → Text) → EqNames facts.now.pool_names names → KeptEqLookup (lookup so_far.old.bound scopes.now) h → KeptEqLookup (lookup facts.now.bound.now scopes.now) f
@@ -235,7 +226,7 @@ fn add_build<'a>(
         found,
         here,
         file,
-        build,
+        &*build,
     )?;
     so_far.edges.push(edge)?;
     Ok(())
@@ -303,34 +294,49 @@ fn add_binding<'a>(
     Ok(())
 }
 
-/// Adds what a statement gives, by all that it says.
-fn add_kind<'a>(
+/// Adds what a directive gives.
+fn add_directive<'a>(
+    alloc: Global,
+    so_far: &mut Evaluation<'a>,
+    found: &mut Vec<FoundRule<'a>>,
+    statement: &'a TreeStatement,
+    kind: &'a DirectiveKind,
+) -> Result<(), StatementFault>
+    requires { statement.now.kind ≡ kind_of kind.now }
+    ensures found { OnOk result ((bound : ScopedBindings Text) → AreFound so_far.old.rules bound found.old.items → AreFound so_far.new.rules bound found.new.items) }
+    ensures given { (all above : List StatementMeant) → Fits so_far.old above → GivesMore (manifest_in so_far.old) (manifest_in so_far.new) result (manifest_of_kind all above statement.now.scopes statement.now.kind) }
+    ensures fits { OnOk result ((above : List StatementMeant) → Fits so_far.old above → Fits so_far.new (above ++ statement.now ∷ [])) }
+{
+    let scopes = statement.scopes();
+    match kind {
+        DirectiveKind::Rule(rule) => {
+            found.clear();
+            declare(alloc, &mut so_far.rules, scopes, rule)
+        }
+        DirectiveKind::Pool(declared) => add_pool(alloc, so_far, scopes, declared),
+        DirectiveKind::Default(paths) => add_default(alloc, so_far, scopes, paths.as_slice()),
+        DirectiveKind::Include(_) => Ok(()),
+        DirectiveKind::Subninja(_) => Ok(()),
+    }
+}
+
+/// Adds what a build line gives, by the statement that it is.
+fn add_edge<'a>(
     alloc: Global,
     facts: &TreeFacts<'a>,
     so_far: &mut Evaluation<'a>,
     found: &mut Vec<FoundRule<'a>>,
     statement: &'a TreeStatement,
-    kind: &'a StatementKind,
+    build: &BuildLine<'a>,
 ) -> Result<(), StatementFault>
-    requires kind { statement.now.kind ≡ kind.now }
+    requires kind { statement.now.kind ≡ kinds.Build build.now }
     requires found { AreFound so_far.old.rules facts.now.bound.now found.old.items }
     ensures found { OnOk result (AreFound so_far.new.rules facts.now.bound.now found.new.items) }
     ensures given { (all above : List StatementMeant) → Fits so_far.old above → Knows facts.now all → GivesMore (manifest_in so_far.old) (manifest_in so_far.new) result (manifest_of_kind all above statement.now.scopes statement.now.kind) }
     ensures fits { OnOk result ((above : List StatementMeant) → Fits so_far.old above → Fits so_far.new (above ++ statement.now ∷ [])) }
 {
     let scopes = statement.scopes();
-    match kind {
-        StatementKind::Rule(rule) => {
-            found.clear();
-            declare(alloc, &mut so_far.rules, scopes, rule)
-        }
-        StatementKind::Build(build) => add_build(alloc, facts, so_far, found, scopes, build),
-        StatementKind::Pool(declared) => add_pool(alloc, so_far, scopes, declared),
-        StatementKind::Default(paths) => add_default(alloc, so_far, scopes, paths.as_slice()),
-        StatementKind::Include(_) => Ok(()),
-        StatementKind::Subninja(_) => Ok(()),
-        StatementKind::Binding(_) => add_binding(alloc, so_far, statement),
-    }
+    add_build(alloc, facts, so_far, found, scopes, &*build)
 }
 
 /// Adds what a statement gives.
@@ -346,9 +352,10 @@ fn add_statement<'a>(
     ensures given { (all above : List StatementMeant) → Fits so_far.old above → Knows facts.now all → GivesMore (manifest_in so_far.old) (manifest_in so_far.new) result (manifest_of_kind all above statement.now.scopes statement.now.kind) }
     ensures fits { OnOk result ((above : List StatementMeant) → Fits so_far.old above → Fits so_far.new (above ++ statement.now ∷ [])) }
 {
-    match statement.kept_kind() {
-        Some(kind) => add_kind(alloc, facts, so_far, found, statement, kind),
-        None => add_binding(alloc, so_far, statement),
+    match statement.said() {
+        Said::Build(build) => add_edge(alloc, facts, so_far, found, statement, &build),
+        Said::Directive(kind) => add_directive(alloc, so_far, found, statement, kind),
+        Said::Binding(_) => add_binding(alloc, so_far, statement),
     }
 }
 

@@ -1,12 +1,13 @@
 //! The names of pools.
 
 ghost use Rattle.std.specs.Prelude.{◌≡◌, ℕ, List, [], ◌∷◌, ◌++◌, IfOk, OnOk};
+ghost use Rattle.plan_parse.specs.Compact.{kind_of};
 ghost use Rattle.plan_scope.specs.Edges.{is_among, pools_in, pools_of};
 ghost use Rattle.plan_scope.specs.Kept.{EqNames};
 
 use crate::scope::small_map::SmallMap;
-use crate::tree::TreeStatement;
-use plan_parse::StatementKind;
+use crate::tree::{Said, TreeStatement};
+use plan_parse::DirectiveKind;
 use std::alloc::{AllocError, Global};
 use std::marker::Model;
 
@@ -65,12 +66,12 @@ impl<'a> PoolNames<'a> {
     }
 }
 
-/// Inserts the name of a pool that a statement declares.
-fn insert_declared<'a>(names: &mut PoolNames<'a>, kind: &'a StatementKind) -> Result<(), AllocError>
-    ensures { OnOk result ((n : List ℕ) → is_among names.new n ≡ is_among (names.old ++ pools_in kind.now) n) }
+/// Inserts the name of a pool that a directive declares.
+fn insert_declared<'a>(names: &mut PoolNames<'a>, kind: &'a DirectiveKind) -> Result<(), AllocError>
+    ensures { OnOk result ((n : List ℕ) → is_among names.new n ≡ is_among (names.old ++ pools_in (kind_of kind.now)) n) }
 {
     match kind {
-        StatementKind::Pool(declared) => names.insert(declared.name.as_slice()),
+        DirectiveKind::Pool(declared) => names.insert(declared.name.as_slice()),
         _ => Ok(()),
     }
 }
@@ -82,8 +83,9 @@ fn insert_from_statement<'a>(
 ) -> Result<(), AllocError>
     ensures { OnOk result ((n : List ℕ) → is_among names.new n ≡ is_among (names.old ++ pools_in statement.now.kind) n) }
 {
-    match statement.kept_kind() {
-        Some(kind) => insert_declared(names, kind),
-        None => Ok(()),
+    match statement.said() {
+        Said::Directive(kind) => insert_declared(names, kind),
+        Said::Build(_) => Ok(()),
+        Said::Binding(_) => Ok(()),
     }
 }

@@ -6,7 +6,7 @@ ghost use Rattle.plan_scope.specs.Scopes.{Name, Text, bound_by, bound_in, expand
 ghost use Rattle.plan_scope.specs.Kept.{KeptEqLookup};
 ghost use Rattle.plan_scope.specs.Loading.{Loads, cause_of_path, cause_to_load, opens_scope, scopes_in, included_by};
 ghost use Rattle.plan_scope.specs.LoadingSteps.{LoadsStatements, LoadsWithin};
-ghost use Rattle.plan_parse.specs.Compact.{said_in};
+ghost use Rattle.plan_parse.specs.Compact.{kind_of, said_in};
 ghost use Rattle.plan_scope.specs.Sources.{SameFiles};
 ghost use Rattle.plan_scope.specs.LoaderAnswers.{Answers, IsBound, IsRead, IsRefusal, IsIncluded, LoadsOne, includes};
 ghost use Rattle.plan_scope.specs.ScopeNames.{names_in};
@@ -17,8 +17,8 @@ use crate::scope::{Scope, bind_statement, expand_pieces};
 use crate::tree::loaded::{Loaded, own_scope};
 use crate::tree::parsed::Parsed;
 use crate::tree::source::{Source, SourceFault};
-use crate::tree::{File, Tree, TreeStatement};
-use plan_parse::{CompactStatement, ParseFault, StatementKind, parse};
+use crate::tree::{File, Said, Tree, TreeStatement};
+use plan_parse::{CompactStatement, DirectiveKind, ParseFault, parse};
 use plan_text::{Items, MAX_PATH, Piece};
 use std::alloc::{AllocError, Global};
 use std::rc::Rc;
@@ -86,15 +86,15 @@ fn expand_included_path<'a>(
     Ok(Some(Items::new(path)))
 }
 
-/// The path of the file that a statement includes, if it includes any, by all that it says.
-fn included_path_of_kind(
+/// The path of the file that a directive includes, if it includes any.
+fn included_path_of_directive(
     alloc: Global,
     loaded: &Loaded,
     statement: &TreeStatement,
-    kind: &StatementKind,
+    kind: &DirectiveKind,
     left: usize,
 ) -> Result<Option<Items<u8>>, StatementFault>
-    requires { statement.now.kind ≡ kind.now }
+    requires { statement.now.kind ≡ kind_of kind.now }
     ensures { IsIncluded (cause_to_load left (lookup (bound_by loaded.now) statement.now.scopes) statement.now.kind) (included_by (lookup (bound_by loaded.now) statement.now.scopes) statement.now.kind) result }
 {
     let scope = Scope {
@@ -102,13 +102,11 @@ fn included_path_of_kind(
         scopes: statement.scopes(),
     };
     match kind {
-        StatementKind::Include(path) => expand_included_path(alloc, scope, path.as_slice(), left),
-        StatementKind::Subninja(path) => expand_included_path(alloc, scope, path.as_slice(), left),
-        StatementKind::Rule(_) => Ok(None),
-        StatementKind::Build(_) => Ok(None),
-        StatementKind::Pool(_) => Ok(None),
-        StatementKind::Default(_) => Ok(None),
-        StatementKind::Binding(_) => Ok(None),
+        DirectiveKind::Include(path) => expand_included_path(alloc, scope, path.as_slice(), left),
+        DirectiveKind::Subninja(path) => expand_included_path(alloc, scope, path.as_slice(), left),
+        DirectiveKind::Rule(_) => Ok(None),
+        DirectiveKind::Pool(_) => Ok(None),
+        DirectiveKind::Default(_) => Ok(None),
     }
 }
 
@@ -121,9 +119,10 @@ fn included_path(
 ) -> Result<Option<Items<u8>>, StatementFault>
     ensures { IsIncluded (cause_to_load left (lookup (bound_by loaded.now) statement.now.scopes) statement.now.kind) (included_by (lookup (bound_by loaded.now) statement.now.scopes) statement.now.kind) result }
 {
-    match statement.kept_kind() {
-        Some(kind) => included_path_of_kind(alloc, loaded, statement, kind, left),
-        None => Ok(None),
+    match statement.said() {
+        Said::Directive(kind) => included_path_of_directive(alloc, loaded, statement, kind, left),
+        Said::Build(_) => Ok(None),
+        Said::Binding(_) => Ok(None),
     }
 }
 
@@ -131,10 +130,10 @@ fn included_path(
 fn opens_scope(statement: &TreeStatement) -> bool
     ensures { result ≡ opens_scope statement.now.kind }
 {
-    match statement.kept_kind() {
-        Some(kind) => matches!(kind, StatementKind::Subninja(_)),
-        None => false,
-    }
+    matches!(
+        statement.said(),
+        Said::Directive(DirectiveKind::Subninja(_))
+    )
 }
 
 /// The scopes of the statements that a statement includes.

@@ -16,7 +16,7 @@ pub struct Parsed {
 impl Model for Parsed {
     ghost use Rattle.std.specs.Prelude.{List, map};
     ghost use Rattle.plan_parse.specs.Compact.{said_in};
-    ghost use Rattle.plan_parse.specs.declared.statement.Statement.{Statement};
+    ghost use Rattle.plan_parse.specs.Kinds.{Statement};
 
     ghost Value = { List Statement };
 

@@ -4,7 +4,7 @@ use Rattle.plan_text.specs.Outcome.{Meets}
 use Rattle.plan_text.specs.Lines.{raw_past}
 use Rattle.plan_parse.specs.declared.fault.ParseFault.{ParseFault}
 use Rattle.plan_parse.specs.declared.fault.ParseFault.TheVariants as fault
-use Rattle.plan_parse.specs.declared.statement.Statement.{Statement}
+use Rattle.plan_parse.specs.Kinds.{Statement}
 use Rattle.plan_parse.specs.Compact.{said_in}
 use Rattle.plan_parse.specs.Blocks.{roles_of_lines}
 use Rattle.plan_parse.specs.Statements.{statements_of}

@@ -14,11 +14,11 @@ returns c = λ h s.
     let block = c.in_ok-block.block in
     let texts = c.in_ok-read.ensures.0 in
     let seen = c.in_ok-read.ensures.1 in
-    let values = subst (λ x. KeptEqBindings block.values (block_of h x)) c.as_slice.ensures (c.in_ok-block.ensures.values h s) in
+    let values = subst (λ x. KeptEqBindings block.values (block_of h x)) c.bindings.ensures (c.in_ok-block.ensures.values h s) in
     let same = c.in_ok-read.ensures.2 (block_of h b.bindings) h values s in
     record {
       values = values;
-      long_value = c.in_ok-block.ensures.long h s ∙ ap (λ x. list_any (λ y. is_too_long y.1) (block_of h x)) c.as_slice.ensures;
+      long_value = c.in_ok-block.ensures.long h s ∙ ap (λ x. list_any (λ y. is_too_long y.1) (block_of h x)) c.bindings.ensures;
       paths = ap kept_in seen.0 ∙ kept_forms texts (texts_in h b) same;
       exact = λ e. seen.0 ∙ ap canonical_paths (exact_forms texts (texts_in h b) same (sym seen.2 ∙ e));
       empty_path = seen.1 ∙ any_in is_empty empty_kept texts (texts_in h b) same;

@@ -1,39 +1,46 @@
-use Rattle.std.proofs.Common.{◌≡◌, ◌∙◌, ◌++◌, ◌∷◌, [], List, ap, map, refl}
-use Rattle.std.specs.Prelude.{◌==◌}
+use Rattle.std.proofs.Common.{◌∙◌, ◌++◌, ◌∷◌, [], List, ap, get_or, map, refl, sym}
 use Rattle.std.proofs.lemmas.List.{take_all}
-use Rattle.plan_text.specs.declared.piece_reader.Piece.{Piece}
-use Rattle.plan_scope.specs.Scopes.{Text, expand, is_empty, is_long_path}
-use Rattle.plan_scope.specs.Edges.{near, path_of, paths_of}
+use Rattle.std.proofs.lemmas.Simd.{map-map}
+use Rattle.plan_parse.specs.declared.compact.CompactPath.{CompactPath}
+use Rattle.plan_parse.specs.declared.compact.CompactPath.TheVariants as kept_path
+use Rattle.plan_parse.specs.Compact.{path_in}
+use Rattle.plan_scope.specs.Scopes.{Text, expand}
+use Rattle.plan_scope.specs.Edges.{near}
 use Rattle.plan_scope.specs.Kept.{kept}
 use Rattle.plan_scope.proofs.TextLemmas.{paths_taken}
-use Rattle.plan_scope.proofs.PathLemmas.{list_more}
+use Rattle.plan_scope.proofs.PathLemmas.{list_more, same_item}
 use Rattle.plan_scope.proofs.edge.paths.read_list.Goals as goal
 
 pub loop-path-preserved : goal.loop-path-preserved
 loop-path-preserved c =
     let at = c.loop-path in
     let texts : List Text = at.invariant.0 in
-    let buffer = c.expand_path.new.buffer in
-    let t : Text = buffer.items in
-    let empty : c.is_empty.result ≡ is_empty t = c.is_empty.ensures ∙ ap (λ n. n == 0) buffer.ok.0 in
-    let long : c.is_long_path.result ≡ is_long_path t = c.is_long_path.ensures ∙ ap is_long_path c.deref.ensures.value in
-    let form : c.in_ok-canonical_path.field-0 ≡ path_of t = c.in_ok-canonical_path.ensures ∙ ap path_of c.deref-in-loop-path.ensures.value in (
+    let text = c.args.list.now.text.now in
+    let paths : List CompactPath = c.args.list.now.paths.now in
+    let read = c.in_ok-read.read in
+    let one = c.in_ok-read.ensures in
+    let t : Text = one.0 in
+    let first : CompactPath = kept_path.Plain (record { at = 0; len = 0 }) in
+    let item : CompactPath = get_or paths at.path-index first in (
       texts ++ t ∷ [],
-      list_more texts at.forms.items c.push.new.self.items at.has_empty at.has_long c.is_empty.result c.is_long_path.result t c.in_ok-canonical_path.field-0
-          at.invariant.1 form c.in_ok-push.ensures.items empty long,
+      list_more texts at.forms.items c.push.new.self.items at.has_empty at.has_long read.is_empty read.is_long t read.form
+          at.invariant.1 one.1 c.in_ok-push.ensures.items one.2 one.3,
       λ b m h k.
-          paths_taken (expand (near m b)) c.as_slice-paths.result.now at.path-index c.path-item.result texts (texts ++ t ∷ []) t
-          c.loop-path-test.true c.path-item.is (at.invariant.2 b m h k)
-          (c.in_ok-expand_path.ensures.text b m h k ∙ ap (λ ps. kept (expand (near m b) ps)) c.as_slice.ensures)
+          paths_taken (λ (p : CompactPath). expand (near m b) (path_in text p)) paths at.path-index item texts (texts ++ t ∷ []) t
+          c.loop-path-test.true (same_item paths at.path-index first item c.loop-path-test.true) (at.invariant.2 b m h k)
+          (one.4 b m h k ∙ ap (λ ps. kept (expand (near m b) ps)) c.path_in.ensures.pieces)
           refl,
     )
 
 pub returns : goal.returns
 returns c =
-    let read = c.loop-path.invariant in (
+    let read = c.loop-path.invariant in
+    let text = c.args.list.now.text.now in
+    let paths : List CompactPath = c.args.list.now.paths.now in (
       read.0,
       (c.new.ensures ∙ read.1.0, read.1.1, read.1.2),
       λ b m h k.
           read.2 b m h k
-          ∙ ap (λ (ps : List (List Piece)). map kept (paths_of (near m b) ps)) (take_all c.loop-path.path-index c.as_slice-paths.result.now c.loop-path-test.false ∙ c.as_slice-paths.ensures),
+          ∙ ap (λ (ps : List CompactPath). map kept (map (λ p. expand (near m b) (path_in text p)) ps)) (take_all c.loop-path.path-index paths c.loop-path-test.false)
+          ∙ sym (ap (map kept) (map-map (expand (near m b)) (path_in text) paths)),
     )

@@ -1,6 +1,7 @@
 use Rattle.std.proofs.Common.{◌≡◌, List, take, map}
-use Rattle.plan_scope.specs.Scopes.{Text, Name, Bindings}
-use Rattle.plan_scope.specs.Edges.{paths_of, near}
+use Rattle.plan_parse.specs.Compact.{path_in}
+use Rattle.plan_scope.specs.Scopes.{Text, Name, Bindings, expand}
+use Rattle.plan_scope.specs.Edges.{near}
 use Rattle.plan_scope.specs.Kept.{kept, KeptEqBindings, KeptEqLookup}
 use Rattle.plan_scope.specs.Paths.{IsListOf}
 use Rattle.plan_scope.specs.ScopeNames.{names_in}
@@ -11,4 +12,4 @@ abbrev pub invariant-loop-path : goal.invariant-loop-path
 invariant-loop-path l =
     (texts : List Text)
     × IsListOf texts l.forms.items l.has_empty l.has_long
-    × ((b : Bindings Text) (m : Name → Text) → KeptEqBindings l.block b → KeptEqLookup (names_in l.here) m → map kept texts ≡ map kept (paths_of (near m b) (take l.path-index l.paths)))
+    × ((b : Bindings Text) (m : Name → Text) → KeptEqBindings l.block b → KeptEqLookup (names_in l.here) m → map kept texts ≡ map kept (map (λ p. expand (near m b) (path_in l.text p)) (take l.path-index l.paths)))

@@ -1,5 +1,5 @@
 use Rattle.std.proofs.Common.{◌++◌, ap, arith, length, subst}
-use Rattle.plan_parse.specs.declared.statement.StatementKind.{StatementKind}
+use Rattle.plan_parse.specs.Kinds.{StatementKind}
 use Rattle.plan_scope.specs.Scopes.{bound_by, bound_in}
 use Rattle.plan_scope.specs.Edges.{manifest_of_kind, empty_manifest}
 use Rattle.plan_scope.specs.Evaluation.{manifest_in}

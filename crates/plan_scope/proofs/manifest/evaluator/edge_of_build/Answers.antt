@@ -13,7 +13,7 @@ pub returns-then-is_phony-clause-edge : goal.returns-then-is_phony-clause-edge
 returns-then-is_phony-clause-edge c = λ names h f s a b.
     let phony : Result Edge Cause = edge_or_refusal names h c.args.build.now (phony_variables (environment_of h f c.args.build.now [])) true in
     let other = edge_of_rule names h f c.args.build.now (nearest c.args.rules.now c.args.here.scopes.now c.args.build.now.rule) in
-    let is : bytes_eq c.args.build.now.rule (codes "phony") ≡ true = sym (ap (λ n. bytes_eq n (codes "phony")) c.as_slice.ensures) ∙ (sym c.is_phony.ensures ∙ c.if-is_phony.true) in
+    let is : bytes_eq c.args.build.now.rule (codes "phony") ≡ true = sym (ap (λ n. bytes_eq n (codes "phony")) c.rule.ensures) ∙ (sym c.is_phony.ensures ∙ c.if-is_phony.true) in
     subst (Gives c.phony_edge.result) (sym (ap (λ (t : Bool). cond t phony other) is)) (c.phony_edge.ensures names h f s a b)
 
 -- the rule that was looked up, under the name by which it is found
@@ -21,8 +21,8 @@ pub edge-requires : goal.edge-requires
 edge-requires c =
     let rules = c.args.rules.now in
     let above = c.args.here.scopes.now in
-    let seen : nearest rules c.args.file.scopes.now c.as_slice-3.result.now ≡ Some c.in-Some.rule.now =
-    ap (λ (x : List ℕ). nearest rules x c.as_slice-3.result.now) c.requires.scopes ∙ (ap (nearest rules above) (c.as_slice-3.ensures ∙ sym c.as_slice-2.ensures) ∙ sym c.in-Some.ensures) in
+    let seen : nearest rules c.args.file.scopes.now c.rule-3.result.now ≡ Some c.in-Some.rule.now =
+    ap (λ (x : List ℕ). nearest rules x c.rule-3.result.now) c.requires.scopes ∙ (ap (nearest rules above) (c.rule-3.ensures ∙ sym c.rule-2.ensures) ∙ sym c.in-Some.ensures) in
     let found = subst (λ (fs : List FoundRule). AreFound rules c.args.file.bound.now fs) (sym c.deref.ensures.value) c.requires.found in
     c.in-Some-find_rule.ensures rules c.args.file.bound.now found c.in-Some.rule.now seen
 
@@ -30,22 +30,22 @@ pub returns-in-Some-find_rule-clause-edge : goal.returns-in-Some-find_rule-claus
 returns-in-Some-find_rule-clause-edge c = λ names h f s a b.
     let phony : Result Edge Cause = edge_or_refusal names h c.args.build.now (phony_variables (environment_of h f c.args.build.now [])) true in
     let other = edge_of_rule names h f c.args.build.now (nearest c.args.rules.now c.args.here.scopes.now c.args.build.now.rule) in
-    let is : bytes_eq c.args.build.now.rule (codes "phony") ≡ false = sym (ap (λ n. bytes_eq n (codes "phony")) c.as_slice.ensures) ∙ (sym c.is_phony.ensures ∙ c.if-is_phony.false) in
-    let rule : Some c.in-Some.rule.now ≡ nearest c.args.rules.now c.args.here.scopes.now c.args.build.now.rule = c.in-Some.ensures ∙ ap (nearest c.args.rules.now c.args.here.scopes.now) c.as_slice-2.ensures in
+    let is : bytes_eq c.args.build.now.rule (codes "phony") ≡ false = sym (ap (λ n. bytes_eq n (codes "phony")) c.rule.ensures) ∙ (sym c.is_phony.ensures ∙ c.if-is_phony.false) in
+    let rule : Some c.in-Some.rule.now ≡ nearest c.args.rules.now c.args.here.scopes.now c.args.build.now.rule = c.in-Some.ensures ∙ ap (nearest c.args.rules.now c.args.here.scopes.now) c.rule-2.ensures in
     subst (Gives c.edge.result) (ap (edge_of_rule names h f c.args.build.now) rule ∙ sym (ap (λ (t : Bool). cond t phony other) is)) (c.edge.ensures names h f s a b)
 
 pub returns-in-None-clause-edge : goal.returns-in-None-clause-edge
 returns-in-None-clause-edge c = λ names h f s a b.
     let phony : Result Edge Cause = edge_or_refusal names h c.args.build.now (phony_variables (environment_of h f c.args.build.now [])) true in
     let other = edge_of_rule names h f c.args.build.now (nearest c.args.rules.now c.args.here.scopes.now c.args.build.now.rule) in
-    let is : bytes_eq c.args.build.now.rule (codes "phony") ≡ false = sym (ap (λ n. bytes_eq n (codes "phony")) c.as_slice.ensures) ∙ (sym c.is_phony.ensures ∙ c.if-is_phony.false) in
-    let rule : Some c.in-Some.rule.now ≡ nearest c.args.rules.now c.args.here.scopes.now c.args.build.now.rule = c.in-Some.ensures ∙ ap (nearest c.args.rules.now c.args.here.scopes.now) c.as_slice-2.ensures in
+    let is : bytes_eq c.args.build.now.rule (codes "phony") ≡ false = sym (ap (λ n. bytes_eq n (codes "phony")) c.rule.ensures) ∙ (sym c.is_phony.ensures ∙ c.if-is_phony.false) in
+    let rule : Some c.in-Some.rule.now ≡ nearest c.args.rules.now c.args.here.scopes.now c.args.build.now.rule = c.in-Some.ensures ∙ ap (nearest c.args.rules.now c.args.here.scopes.now) c.rule-2.ensures in
     subst (Gives c.edge_of_new_rule.result) (ap (edge_of_rule names h f c.args.build.now) rule ∙ sym (ap (λ (t : Bool). cond t phony other) is)) (c.edge_of_new_rule.ensures.edge names h f s a b)
 
 pub returns-in-Some-Met-clause-edge : goal.returns-in-Some-Met-clause-edge
 returns-in-Some-Met-clause-edge c = λ names h f s a b.
     let phony : Result Edge Cause = edge_or_refusal names h c.args.build.now (phony_variables (environment_of h f c.args.build.now [])) true in
     let other = edge_of_rule names h f c.args.build.now (nearest c.args.rules.now c.args.here.scopes.now c.args.build.now.rule) in
-    let is : bytes_eq c.args.build.now.rule (codes "phony") ≡ false = sym (ap (λ n. bytes_eq n (codes "phony")) c.as_slice.ensures) ∙ (sym c.is_phony.ensures ∙ c.if-is_phony.false) in
-    let rule : Some c.in-Some.rule.now ≡ nearest c.args.rules.now c.args.here.scopes.now c.args.build.now.rule = c.in-Some.ensures ∙ ap (nearest c.args.rules.now c.args.here.scopes.now) c.as_slice-2.ensures in
+    let is : bytes_eq c.args.build.now.rule (codes "phony") ≡ false = sym (ap (λ n. bytes_eq n (codes "phony")) c.rule.ensures) ∙ (sym c.is_phony.ensures ∙ c.if-is_phony.false) in
+    let rule : Some c.in-Some.rule.now ≡ nearest c.args.rules.now c.args.here.scopes.now c.args.build.now.rule = c.in-Some.ensures ∙ ap (nearest c.args.rules.now c.args.here.scopes.now) c.rule-2.ensures in
     subst (Gives c.edge_of_met_rule.result) (ap (edge_of_rule names h f c.args.build.now) rule ∙ sym (ap (λ (t : Bool). cond t phony other) is)) (c.edge_of_met_rule.ensures.edge names h f s a b)

@@ -3,7 +3,7 @@ use Rattle.plan_parse.specs.declared.fault.ParseFault.{ParseFault}
 use Rattle.std.proofs.lemmas.List.{map-append, map_push}
 use Rattle.plan_parse.specs.Compact.{said_in}
 use Rattle.plan_parse.specs.declared.compact.CompactStatement.{CompactStatement}
-use Rattle.plan_parse.specs.declared.statement.Statement.{Statement}
+use Rattle.plan_parse.specs.Kinds.{Statement}
 use Rattle.plan_scope.specs.declared.fault.ScopeFault.TheVariants.{Parse}
 use Rattle.plan_scope.specs.declared.tree.File.{File}
 use Rattle.plan_scope.specs.declared.fault.ReadFault.{ReadFault}

@@ -1,0 +1,160 @@
+//! Bindings and build lines, read again from their text.
+
+ghost use Rattle.std.specs.Prelude.{◌≡◌, IfOk, map};
+ghost use Rattle.plan_parse.specs.Compact as compact;
+ghost use Rattle.plan_parse.specs.Statements.{binding_at};
+ghost use Rattle.plan_parse.specs.Views.{place_of};
+ghost use Rattle.plan_parse.specs.PathLists.{map_lists};
+ghost use Rattle.plan_parse.specs.Lines.{IsPlaced, paths_in, pieces_of};
+
+use crate::compact::{CompactBuild, CompactPath};
+use crate::cursor::Cursor;
+use crate::fault::ParseFault;
+use crate::path_lists::PathLists;
+use crate::reading::{binding_at, line_in};
+use crate::span::Span;
+use crate::statement::Binding;
+use plan_text::{Items, PieceList, SmallText};
+use std::alloc::{AllocError, Global};
+use std::marker::Model;
+
+/// What a line binds; nothing to nothing where it is no binding.
+fn binding_or_empty(alloc: Global, place: Cursor<'_>) -> Result<Binding, AllocError>
+    ensures { IfOk result (λ b. b ≡ compact.binding_or_empty (binding_at (place_of place.entry))) }
+{
+    match binding_at(alloc, place) {
+        Ok(binding) => Ok(binding),
+        Err(ParseFault::Memory) => Err(AllocError),
+        Err(_) => Ok(Binding {
+            name: SmallText::empty(),
+            value: PieceList::empty(alloc),
+        }),
+    }
+}
+
+/// A binding in its text.
+#[derive(Drop)]
+pub struct BindingLine<'a> {
+    text: &'a [u8],
+    span: Span,
+}
+
+impl<'a> Model for BindingLine<'a> {
+    ghost use Rattle.plan_parse.specs.declared.statement.Binding.{Binding};
+    ghost use Rattle.plan_parse.specs.Compact.{bound_in};
+
+    ghost Value = { Binding };
+
+    ghost view = { λ l. bound_in l.text.now l.span };
+}
+
+impl<'a> BindingLine<'a> {
+    /// The binding in a line of a text; of nothing to nothing where that is none.
+    pub fn new(text: &'a [u8], span: Span) -> BindingLine<'a>
+        ensures { result ≡ compact.bound_in text.now span }
+    {
+        BindingLine { text, span }
+    }
+
+    /// What it binds.
+    pub fn read(&self, alloc: Global) -> Result<Binding, AllocError>
+        ensures { IfOk result (λ b. b ≡ self.now) }
+    {
+        binding_or_empty(alloc, line_in(self.text, self.span))
+    }
+}
+
+/// A path in its text.
+#[derive(Clone, Copy)]
+pub enum PathInText<'a> {
+    /// Its bytes, each of which stands for itself.
+    Plain(&'a [u8]),
+    /// Its offset and its bytes, to be read part by part (`part_at`).
+    Parts(usize, &'a [u8]),
+}
+
+/// A path of a text.
+pub fn path_in(text: &[u8], path: CompactPath) -> PathInText<'_>
+    ensures pieces { pieces_of result ≡ compact.path_in text.now path }
+    ensures fits { IsPlaced result }
+{
+    match path {
+        CompactPath::Plain(span) => PathInText::Plain(line_in(text, span).bytes),
+        CompactPath::Pieces(span) => {
+            let line = line_in(text, span);
+            PathInText::Parts(line.at, line.bytes)
+        }
+    }
+}
+
+/// A list of paths in their text.
+#[derive(Drop)]
+pub struct PathsInText<'a> {
+    /// The text.
+    pub text: &'a [u8],
+    /// The paths, kept beside it.
+    pub paths: &'a [CompactPath],
+}
+
+/// A list of paths in their text.
+fn list_in<'a>(text: &'a [u8], paths: &'a Items<CompactPath>) -> PathsInText<'a>
+    ensures { paths_in result ≡ map (compact.path_in text.now) paths.now }
+{
+    PathsInText {
+        text,
+        paths: paths.as_slice(),
+    }
+}
+
+/// A build line in its text.
+#[derive(Drop)]
+pub struct BuildLine<'a> {
+    text: &'a [u8],
+    build: &'a CompactBuild,
+}
+
+impl<'a> Model for BuildLine<'a> {
+    ghost use Rattle.plan_parse.specs.Build.{Build};
+    ghost use Rattle.plan_parse.specs.Compact.{build_in};
+
+    ghost Value = { Build };
+
+    ghost view = { λ l. build_in l.text.now l.build.now };
+}
+
+impl<'a> BuildLine<'a> {
+    /// A build line that is kept beside this text.
+    pub fn new(text: &'a [u8], build: &'a CompactBuild) -> BuildLine<'a>
+        ensures { result ≡ compact.build_in text.now build.now }
+    {
+        BuildLine { text, build }
+    }
+
+    /// The name of its rule.
+    pub fn rule(&self) -> &'a [u8]
+        ensures { result.now ≡ self.now.rule }
+    {
+        self.build.rule.as_slice()
+    }
+
+    /// Its own variables in order.
+    pub fn bindings(&self) -> &'a [Binding]
+        ensures { result.now ≡ self.now.bindings }
+    {
+        self.build.bindings.as_slice()
+    }
+
+    /// Its paths.
+    pub fn paths(&self) -> PathLists<PathsInText<'a>>
+        ensures { map_lists paths_in result ≡ self.now.paths }
+    {
+        let lists = &self.build.paths;
+        PathLists {
+            outputs: list_in(self.text, &lists.outputs),
+            implicit_outputs: list_in(self.text, &lists.implicit_outputs),
+            inputs: list_in(self.text, &lists.inputs),
+            implicit_inputs: list_in(self.text, &lists.implicit_inputs),
+            order_only_inputs: list_in(self.text, &lists.order_only_inputs),
+        }
+    }
+}

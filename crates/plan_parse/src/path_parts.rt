@@ -1,0 +1,100 @@
+//! Paths, part by part.
+
+ghost use Rattle.std.specs.Prelude.{◌≡◌, ◌≤◌, ◌<◌, ◌+◌, ◌^◌, ◌==◌, ◌||◌, ◌∷◌, Some, length};
+ghost use Rattle.plan_text.specs.Bytes.{dollar, space, colon, line_feed, carriage_return};
+ghost use Rattle.plan_text.specs.Pieces.{escape, escape_size};
+ghost use Rattle.plan_parse.specs.Parts.{IsChecked, IsFirstPart, IsShort, sign_of};
+
+use crate::reading::plain_len;
+use plan_text::{TextFault, escape_len};
+
+/// A part of a path.
+#[derive(Clone, Copy)]
+pub enum PathPart<'a> {
+    /// Bytes that stand for themselves.
+    Text(&'a [u8]),
+    /// The name of a variable, without `$` and braces.
+    Name(&'a [u8]),
+}
+
+/// Whether a byte stands for itself behind a `$`.
+fn is_escaped(b: u8) -> bool
+    ensures { result ≡ (b == dollar || b == space || b == colon) }
+{
+    matches!(b, b'$' | b' ' | b':')
+}
+
+/// Whether a byte behind a `$` begins a line's end.
+fn begins_line_end(b: u8) -> bool
+    ensures { result ≡ (b == line_feed || b == carriage_return) }
+{
+    matches!(b, b'\n' | b'\r')
+}
+
+/// What a `$` stands for with so many bytes behind it.
+fn escaped(text: &[u8], len: usize) -> PathPart<'_>
+    requires size { escape_size text.now ≡ Some len }
+    requires within { len ≤ length text.now }
+    ensures sign { escape text.now ≡ Some (sign_of result, len) }
+    ensures short { IsShort result }
+{
+    let first = text[0];
+    if is_escaped(first) {
+        PathPart::Text(&text[..1])
+    } else if begins_line_end(first) {
+        PathPart::Text(&[])
+    } else if first == b'{' {
+        PathPart::Name(&text[1..len - 1])
+    } else {
+        PathPart::Name(&text[..len])
+    }
+}
+
+/// The part that begins with a `$`, by what stands behind that.
+fn escape_at(text: &[u8], at: usize) -> Result<(PathPart<'_>, usize), TextFault>
+    requires { length text.now + 1 < 2 ^ 64 }
+    ensures { IsFirstPart at (36 ∷ text.now) result }
+{
+    match escape_len(text) {
+        Some(len) => Ok((escaped(text, len), 1 + len)),
+        None => Err(TextFault::BadEscape(at as u64)),
+    }
+}
+
+/// The first part of a path that has a byte, at this offset, and how many bytes it takes.
+///
+/// # Errors
+///
+/// The fault of the path's first byte, which is the path's own.
+pub fn part_at(text: &[u8], at: usize) -> Result<(PathPart<'_>, usize), TextFault>
+    requires { 0 < length text.now }
+    ensures { IsFirstPart at text.now result }
+{
+    let plain = plain_len(text);
+    if plain > 0 {
+        return Ok((PathPart::Text(&text[..plain]), plain));
+    }
+    let first = text[0];
+    if first == b'$' {
+        escape_at(&text[1..], at)
+    } else if first == 0 {
+        Err(TextFault::NulByte(at as u64))
+    } else if first == b'\t' {
+        Err(TextFault::TabBlank(at as u64))
+    } else {
+        Ok((PathPart::Text(&text[..1]), 1))
+    }
+}
+
+/// The fault of a path, if it has one.
+pub fn check_path(text: &[u8], at: usize) -> Result<(), TextFault>
+    requires { at + length text.now < 2 ^ 64 }
+    ensures { IsChecked at text.now result }
+{
+    let mut done = 0;
+    while done < text.len() {
+        let (_, len) = part_at(&text[done..], at + done)?;
+        done += len;
+    }
+    Ok(())
+}
