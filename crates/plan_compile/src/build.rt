@@ -223,7 +223,7 @@ fn numbered<'a, 'b>(
     let waits = graph.waits.row(number);
     let count = inputs
         .len()
-        .saturating_sub(edge.paths.order_only_inputs.len());
+        .saturating_sub(edge.paths.order_only_inputs().len());
     let mut numbers = Vec::with_capacity(alloc, outputs.len() + inputs.len() + waits.len())?;
     let named_at = push_words(&mut numbers, outputs)?;
     let named = front(inputs, count);

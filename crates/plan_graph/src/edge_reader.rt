@@ -153,9 +153,9 @@ fn with_all_inputs<'a>(
     ensures table { Meets Memory (λ _. files.new) result (Ok (reading.with_inputs own files.old (inputs_named edge.now))) }
     ensures row { OnOk result (row.new.items ≡ row.old.items ++ numbers_past (paths_in files.old) (inputs_named edge.now)) }
 {
-    with_inputs(files, own, edge.paths.inputs.as_slice(), row)?;
-    with_inputs(files, own, edge.paths.implicit_inputs.as_slice(), row)?;
-    with_inputs(files, own, edge.paths.order_only_inputs.as_slice(), row)?;
+    with_inputs(files, own, edge.paths.inputs(), row)?;
+    with_inputs(files, own, edge.paths.implicit_inputs(), row)?;
+    with_inputs(files, own, edge.paths.order_only_inputs(), row)?;
     Ok(())
 }
 
@@ -170,14 +170,8 @@ fn with_all_outputs<'a>(
     ensures table { Meets Memory (λ _. files.new) result (reading.with_outputs files.old number (outputs_of edge.now)) }
     ensures row { OnOk result (row.new.items ≡ row.old.items ++ numbers_past (paths_in files.old) (outputs_of edge.now)) }
 {
-    with_outputs(alloc, files, number, edge.paths.outputs.as_slice(), row)?;
-    with_outputs(
-        alloc,
-        files,
-        number,
-        edge.paths.implicit_outputs.as_slice(),
-        row,
-    )?;
+    with_outputs(alloc, files, number, edge.paths.outputs(), row)?;
+    with_outputs(alloc, files, number, edge.paths.implicit_outputs(), row)?;
     Ok(())
 }
 

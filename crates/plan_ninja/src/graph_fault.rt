@@ -15,9 +15,9 @@ use std::alloc::{AllocError, Global};
 fn name_of_edge(edge: &Edge) -> &[u8]
     ensures { result.now ≡ defined.name_of_edge edge.now }
 {
-    match edge.paths.outputs.as_slice() {
+    match edge.paths.outputs() {
         [first, ..] => first.as_slice(),
-        [] => match edge.paths.implicit_outputs.as_slice() {
+        [] => match edge.paths.implicit_outputs() {
             [first, ..] => first.as_slice(),
             [] => &[],
         },

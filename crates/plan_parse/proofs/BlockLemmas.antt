@@ -1,8 +1,8 @@
 -- Lines of a block read in order. Serves src/block.rt.
-use Rattle.std.proofs.Common.{◌≡◌, ℕ, ◌+◌, ◌<◌, Bool, true, false, List, [], ◌∷◌, ◌++◌, length, get_or, take, drop, Result, Ok, Err, refl, sym, ap, ◌∙◌, append_assoc}
+use Rattle.std.proofs.Common.{◌≡◌, ℕ, All, ◌+◌, ◌<◌, Bool, true, false, List, [], ◌∷◌, ◌++◌, length, get_or, take, drop, Result, Ok, Err, refl, sym, ap, subst, ◌∙◌, append_assoc}
 use Rattle.std.specs.Prelude.{◌||◌}
 use Rattle.std.specs.List.{list_any}
-use Rattle.std.proofs.lemmas.List.{drop_more, take_more, map_push}
+use Rattle.std.proofs.lemmas.List.{drop_more, take_more, map_push, get_or-map, length-map}
 use Rattle.plan_text.specs.Outcome.{◌>>=◌, each}
 use Rattle.plan_parse.specs.declared.block.BlockLine as the_line
 use Rattle.plan_parse.specs.BlockLines.{block_line_of, block_lines_of}
@@ -40,6 +40,12 @@ lines_from ms i m h e = ap block_lines_of (drop_more ms i m h ∙ ap (λ (x : th
 -- the lines up to one
 pub lines_to : (ms : List the_line.BlockLine) (i : ℕ) (m : the_line.BlockLine) → i < length ms → m ≡ get_or ms i m → block_lines_of (take (i + 1) ms) ≡ block_lines_of (take i ms) ++ block_line_of m ∷ []
 lines_to ms i m h e = ap block_lines_of (take_more ms i m h ∙ ap (λ (x : the_line.BlockLine). take i ms ++ x ∷ []) (sym e)) ∙ map_push block_line_of (take i ms) m
+
+-- what holds of all lines holds of one
+pub line_among : (P : BlockLine → Type 0) (ms : List the_line.BlockLine) (i : ℕ) (m : the_line.BlockLine) → i < length ms → m ≡ get_or ms i m → All P (block_lines_of ms) → P (block_line_of m)
+line_among P ms i m h e all =
+    let within : i < length (block_lines_of ms) = subst (λ (n : ℕ). i < n) (sym (length-map ms block_line_of)) h in
+    subst P (get_or-map block_line_of ms i m (block_line_of m) h ∙ ap block_line_of (sym e)) (all i (block_line_of m) within)
 
 -- whether any of some passes a test, with one more
 pub any_more : {A : Type 0} (test : A → Bool) (xs : List A) (x : A) → list_any test (xs ++ x ∷ []) ≡ list_any test xs || test x

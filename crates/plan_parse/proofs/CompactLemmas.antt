@@ -1,20 +1,23 @@
 -- What is left of a line is read again from its text. Serves src/reading.rt, src/statement_reader.rt.
 use Rattle.std.proofs.Common.{◌≡◌, ℕ, ◌+◌, ◌-◌, ◌≤◌, ◌==◌, Bool, true, false, ◌&&◌, not, ◌||◌, cond, List, [], ◌∷◌, length, take, drop, Result, Ok, Err, refl, sym, ap, subst, ◌∙◌, arith}
 use Rattle.std.specs.List.{prefix_len}
-use Rattle.std.proofs.lemmas.List.{take-take, drop-take, drop-drop, length-drop}
+use Rattle.std.proofs.lemmas.List.{take-take, drop-take, drop-drop, length-drop, length-take-le}
 use Rattle.std.proofs.lemmas.List.Sums.{prefix_len-le-length}
-use Rattle.plan_text.specs.Bytes.{bar, at_sign, is_name_byte, begins_with}
+use Rattle.plan_text.specs.Bytes.{bar, at_sign, equals_sign, is_name_byte, begins_with}
 use Rattle.plan_text.specs.Lines.{gap_unit, gap_len}
+use Rattle.plan_text.specs.Outcome.{◌>>=◌}
 use Rattle.plan_text.specs.declared.piece_reader.Piece.{Piece}
 use Rattle.plan_parse.specs.declared.fault.ParseFault.{ParseFault}
+use Rattle.plan_parse.specs.declared.fault.ParseFault.TheVariants as fault
 use Rattle.plan_parse.specs.declared.span.Span.{Span}
 use Rattle.plan_parse.specs.declared.statement.Binding.{Binding}
 use Rattle.plan_parse.specs.declared.compact.CompactPath.TheVariants as path
+use Rattle.plan_parse.specs.declared.compact.CompactValue.{CompactValue}
 use Rattle.plan_parse.specs.Kinds.{Statement}
 use Rattle.plan_parse.specs.Kinds as kind
-use Rattle.plan_parse.specs.Reading.{Place, past, past_gap, name_of, name_at, byte_at, path_at}
+use Rattle.plan_parse.specs.Reading.{Place, past, past_gap, name_of, name_at, byte_at, path_at, value_at}
 use Rattle.plan_parse.specs.Statements.{binding_at, is_bar, is_two_bars}
-use Rattle.plan_parse.specs.Compact.{StandsIn, line_in, path_pieces, pieces_or_none, path_in, binding_or_empty, binding_in}
+use Rattle.plan_parse.specs.Compact.{StandsIn, line_in, path_pieces, pieces_or_none, path_in, value_in, variable_in, binding_or_empty, binding_in}
 use Rattle.plan_parse.proofs.ReadingLemmas.{run_within}
 
 -- past some of its bytes, what is left of a line is a line of the text still
@@ -114,3 +117,27 @@ binding_again text span p b stands at len read =
     let same : binding_at (line_in text span) ≡ Ok b = ap (λ (q : Place). binding_at q) (line_place text span p stands at len) ∙ read in
     ap (λ (k : ℕ). record { offset = k; kind = kind.Binding b }) (sym at)
     ∙ ap (λ (r : Result Binding ParseFault). record { offset = span.at; kind = kind.Binding (binding_or_empty r) }) (sym same)
+
+-- a name is read again as it was
+pub name_again : (text : List ℕ) (span : Span) (p q : Place) (name : List ℕ) → StandsIn text p → name_at p ≡ Ok (name, q) → span.at ≡ p.at → span.len ≡ length name
+    → name ≡ (line_in text span).bytes
+name_again text span p q name stands read at len =
+    let n = prefix_len is_name_byte p.bytes in
+    let within = prefix_len-le-length is_name_byte p.bytes in
+    let both : (name_of p, past_gap (past n p)) ≡ (name, q) = unless (n == 0) _ (name_of p, past_gap (past n p)) (name, q) read in
+    let same : take n p.bytes ≡ name = ap (λ (x : List ℕ × Place). x.0) both in
+    let size : span.len ≡ n = len ∙ ap (λ (v : List ℕ). length v) (sym same) ∙ length-take-le n p.bytes within in
+    sym same ∙ ap (λ (l : Place). l.bytes) (sym (path_place text span p n within stands at size))
+
+-- and so are a name and its right side
+pub variable_again : (text : List ℕ) (p start q r : Place) (name : List ℕ) (span : Span) (value : CompactValue) → StandsIn text p → start ≡ past_gap p
+    → name_at start ≡ Ok (name, q) → byte_at equals_sign fault.ExpectedEquals q ≡ Ok r → value_at r ≡ Ok (value_in text value) → span.at ≡ start.at → span.len ≡ length name
+    → binding_at p ≡ Ok (variable_in text (record { name = span; value = value }))
+variable_again text p start q r name span value stands begin named equals read at len =
+    let here : StandsIn text start = subst (StandsIn text) (sym begin) (gap_stands text p stands) in
+    let bound : List ℕ → List Piece → Binding = λ n v. record { name = n; value = v } in
+    ap (λ (s : Place). name_at s >>= λ n. byte_at equals_sign fault.ExpectedEquals n.1 >>= λ v. value_at v >>= λ pieces. Ok (bound n.0 pieces)) (sym begin)
+    ∙ ap (λ (m : Result (List ℕ × Place) ParseFault). m >>= λ n. byte_at equals_sign fault.ExpectedEquals n.1 >>= λ v. value_at v >>= λ pieces. Ok (bound n.0 pieces)) named
+    ∙ ap (λ (m : Result Place ParseFault). m >>= λ v. value_at v >>= λ pieces. Ok (bound name pieces)) equals
+    ∙ ap (λ (m : Result (List Piece) ParseFault). m >>= λ pieces. Ok (bound name pieces)) read
+    ∙ ap (λ (n : List ℕ). Ok (bound n (value_in text value))) (name_again text span start q name here named at len)

@@ -4,10 +4,12 @@ mod PlainTable
 pub mod BlockLemmas
 pub mod ParserLemmas
 pub mod CompactLemmas
+pub mod RoleLemmas
 pub mod WordLemmas
 pub mod PartLemmas
 pub mod WholeLaw
 pub mod LikeLemmas
 pub mod StatementLemmas
 pub mod JoinLaw
+pub mod JoinedLemmas
 pub mod FaultLaw

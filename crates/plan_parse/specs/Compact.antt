@@ -11,6 +11,9 @@ use Rattle.plan_parse.specs.declared.statement.DirectiveKind.{DirectiveKind}
 use Rattle.plan_parse.specs.declared.statement.DirectiveKind.TheVariants as directive
 use Rattle.plan_parse.specs.declared.compact.CompactPath.{CompactPath}
 use Rattle.plan_parse.specs.declared.compact.CompactPath.TheVariants as path
+use Rattle.plan_parse.specs.declared.compact.CompactValue.{CompactValue}
+use Rattle.plan_parse.specs.declared.compact.CompactValue.TheVariants as value
+use Rattle.plan_parse.specs.declared.compact.CompactBinding.{CompactBinding}
 use Rattle.plan_parse.specs.declared.compact.CompactBuild.{CompactBuild}
 use Rattle.plan_parse.specs.declared.compact.CompactStatement.{CompactStatement}
 use Rattle.plan_parse.specs.declared.compact.CompactStatement.TheVariants as kept
@@ -18,7 +21,7 @@ use Rattle.plan_parse.specs.PathLists.{map_lists}
 use Rattle.plan_parse.specs.Build.{Build}
 use Rattle.plan_parse.specs.Kinds.{Statement, StatementKind}
 use Rattle.plan_parse.specs.Kinds as kind
-use Rattle.plan_parse.specs.Reading.{Place, lift_fault}
+use Rattle.plan_parse.specs.Reading.{Place, lift_fault, value_at}
 use Rattle.plan_parse.specs.Statements.{binding_at}
 
 -- a line of a text
@@ -47,9 +50,18 @@ abbrev pub path_in : List ℕ → CompactPath → List Piece
 path_in text (path.Plain span) = literal_of (line_in text span).bytes
 path_in text (path.Pieces span) = pieces_or_none (path_pieces (line_in text span))
 
+-- the pieces of a right side of a text, in the same way
+abbrev pub value_in : List ℕ → CompactValue → List Piece
+value_in text (value.Plain span) = literal_of (line_in text span).bytes
+value_in text (value.Pieces span) = pieces_or_none (value_at (line_in text span))
+
+-- a binding of a text, by the places of its name and its right side
+abbrev pub variable_in : List ℕ → CompactBinding → Binding
+variable_in text b = record { name = (line_in text b.name).bytes; value = value_in text b.value }
+
 -- a build line of a text
 abbrev pub build_in : List ℕ → CompactBuild → Build
-build_in text b = record { paths = map_lists (map (path_in text)) b.paths; rule = b.rule; bindings = b.bindings }
+build_in text b = record { paths = map_lists (map (path_in text)) b.paths; rule = (line_in text b.rule).bytes; bindings = map (variable_in text) b.bindings }
 
 -- the statement of a build line of a text
 abbrev pub built_in : List ℕ → CompactBuild → Statement

@@ -8,6 +8,7 @@ pub mod Statements
 pub mod Views
 pub mod BlockLines
 pub mod PlainPaths
+pub mod PlainValues
 pub mod Parts
 pub mod Compact
 pub mod Lines

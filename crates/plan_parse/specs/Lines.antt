@@ -5,7 +5,11 @@ use Rattle.plan_text.specs.declared.piece_reader.Piece.{Piece}
 use Rattle.plan_parse.specs.declared.lines.PathInText as the_path
 use Rattle.plan_parse.specs.declared.lines.PathInText.TheVariants as path
 use Rattle.plan_parse.specs.declared.lines.PathsInText.{PathsInText}
-use Rattle.plan_parse.specs.Compact.{path_in, path_pieces, pieces_or_none}
+use Rattle.plan_parse.specs.declared.lines.ValueInText as the_value
+use Rattle.plan_parse.specs.declared.lines.ValueInText.TheVariants as value
+use Rattle.plan_parse.specs.declared.lines.BindingsInText.{BindingsInText}
+use Rattle.plan_parse.specs.declared.statement.Binding.{Binding}
+use Rattle.plan_parse.specs.Compact.{path_in, path_pieces, pieces_or_none, variable_in}
 
 -- the pieces of a path in its text
 abbrev pub pieces_of : the_path.PathInText → List Piece
@@ -16,6 +20,15 @@ pieces_of (path.Parts at bytes) = pieces_or_none (path_pieces (record { at = at;
 abbrev pub IsPlaced : the_path.PathInText → Type 0
 IsPlaced (path.Plain bytes) = Unit {0}
 IsPlaced (path.Parts at bytes) = at + length bytes.now < 2 ^ 63
+
+-- the pieces of a right side in its text
+abbrev pub value_of : the_value.ValueInText → List Piece
+value_of (value.Plain bytes) = literal_of bytes.now
+value_of (value.Pieces line) = line
+
+-- bindings in their text
+abbrev pub bindings_in : BindingsInText → List Binding
+bindings_in l = map (variable_in l.text.now) l.bindings.now
 
 -- the pieces of each path of a list
 abbrev pub paths_in : PathsInText → List (List Piece)

@@ -1,5 +1,5 @@
 -- How far a text was read, line by line.
-use Rattle.std.specs.Prelude.{◌≡◌, ◌≢◌, ℕ, List, map, [], ◌∷◌, ◌++◌, Result, Ok, Err, Option, Some, None}
+use Rattle.std.specs.Prelude.{◌≡◌, ◌≢◌, ℕ, All, List, map, [], ◌∷◌, ◌++◌, Result, Ok, Err, Option, Some, None}
 use Rattle.plan_text.specs.Outcome.{◌>>=◌, each}
 use Rattle.plan_text.specs.Lines.{Raw}
 use Rattle.plan_parse.specs.declared.fault.ParseFault.{ParseFault}
@@ -8,7 +8,7 @@ use Rattle.plan_parse.specs.Kinds.{Statement}
 use Rattle.plan_parse.specs.declared.parser.Reader.{Reader}
 use Rattle.plan_parse.specs.declared.cursor.Cursor.{Cursor}
 use Rattle.plan_parse.specs.Reading.{Place}
-use Rattle.plan_parse.specs.Blocks.{BlockLine, LineRole, Head, Below, roles_of_lines, below, blocks_of}
+use Rattle.plan_parse.specs.Blocks.{BlockLine, Text, Refused, LineRole, Head, Below, roles_of_lines, below, blocks_of}
 use Rattle.plan_parse.specs.Statements.{no_block_allowed, statement_of, statement_in}
 use Rattle.plan_parse.specs.Views.{place_of}
 use Rattle.plan_parse.specs.BlockLines.{block_lines_of}
@@ -55,8 +55,21 @@ abbrev pub HeadStandsIn : List ℕ → Option Place → Type 0
 HeadStandsIn text None = Unit {0}
 HeadStandsIn text (Some p) = StandsIn text p
 
+-- the same of a line of a block; a comment's fault stands nowhere
+abbrev pub LineStandsIn : List ℕ → BlockLine → Type 0
+LineStandsIn text (Text p) = StandsIn text p
+LineStandsIn text (Refused e) = Unit {0}
+
+abbrev pub LinesStandIn : List ℕ → List BlockLine → Type 0
+LinesStandIn text lines = All (LineStandsIn text) lines
+
+-- the same of the block that may go on
+pub record BlockStandsIn (text : List ℕ) (s : State) : Type 0 where
+  pub head : HeadStandsIn text s.head
+  pub lines : LinesStandIn text s.lines
+
 -- the same of a line by its role
 abbrev pub RoleStandsIn : List ℕ → Option LineRole → Type 0
 RoleStandsIn text None = Unit {0}
 RoleStandsIn text (Some (Head p)) = StandsIn text p
-RoleStandsIn text (Some (Below line)) = Unit {0}
+RoleStandsIn text (Some (Below line)) = LineStandsIn text line

@@ -1,18 +1,21 @@
 //! Blocks: a line, and the indented lines below it.
 
-ghost use Rattle.std.specs.Prelude.{◌≡◌, ◌==◌, ◌+◌, ◌<◌, ◌≤◌, ◌^◌, List, [], length};
+ghost use Rattle.std.specs.Prelude.{◌≡◌, ◌==◌, ◌+◌, ◌<◌, ◌≤◌, ◌^◌, List, [], length, map};
 ghost use Rattle.std.specs.List.{prefix_len, list_any};
 ghost use Rattle.plan_text.specs.Bytes.{is_blank};
 ghost use Rattle.plan_text.specs.Outcome.{Meets, each};
 ghost use Rattle.plan_parse.specs.Blocks as blocks;
 ghost use Rattle.plan_parse.specs.Statements as statements;
 ghost use Rattle.plan_parse.specs.Views.{place_of};
+ghost use Rattle.plan_parse.specs.Compact.{variable_in};
+ghost use Rattle.plan_parse.specs.Progress.{LineStandsIn, LinesStandIn};
 ghost use Rattle.plan_parse.specs.BlockLines.{block_line_of, block_lines_of, line_role_if_any};
 
 use crate::block_kind::BlockKind;
+use crate::compact::CompactBinding;
 use crate::cursor::Cursor;
 use crate::fault::ParseFault;
-use crate::reading::{binding_at, name_at, name_of, past, past_gap, refusal};
+use crate::reading::{binding_at, compact_binding_at, name_at, name_of, past, past_gap, refusal};
 use crate::statement::Binding;
 use plan_text::{TextFault, begins, indent_len, nul_at};
 use std::alloc::Global;
@@ -107,23 +110,33 @@ fn first_word(p: Cursor<'_>) -> &[u8]
     name_of(past_gap(past(p, blanks_len(p.bytes))))
 }
 
-/// A line of a block as a binding.
-fn block_line_at(alloc: Global, line: BlockLine<'_>) -> Result<Binding, ParseFault>
-    ensures { Meets ParseFault.Memory (λ b. b) result (statements.block_line_at (block_line_of line.entry)) }
+/// A line of a block as a binding, kept beside its text.
+fn block_line_at(
+    alloc: Global,
+    text: &[u8],
+    line: BlockLine<'_>,
+) -> Result<CompactBinding, ParseFault>
+    requires { LineStandsIn text.now (block_line_of line) }
+    ensures { Meets ParseFault.Memory (variable_in text.now) result (statements.block_line_at (block_line_of line.entry)) }
 {
     match line {
-        BlockLine::Text(p) => binding_at(alloc, p),
+        BlockLine::Text(p) => compact_binding_at(alloc, text, p),
         BlockLine::Refused(fault) => Err(ParseFault::Text(fault)),
     }
 }
 
-/// The lines of a block as bindings.
-pub fn bindings_at(alloc: Global, lines: &[BlockLine<'_>]) -> Result<Vec<Binding>, ParseFault>
-    ensures { Meets ParseFault.Memory (λ v. v.items) result (each statements.block_line_at (block_lines_of lines.now)) }
+/// The lines of a block as bindings, kept beside their text.
+pub fn bindings_at(
+    alloc: Global,
+    text: &[u8],
+    lines: &[BlockLine<'_>],
+) -> Result<Vec<CompactBinding>, ParseFault>
+    requires { LinesStandIn text.now (block_lines_of lines.now) }
+    ensures { Meets ParseFault.Memory (λ v. map (variable_in text.now) v.items) result (each statements.block_line_at (block_lines_of lines.now)) }
 {
     let mut found = Vec::with_capacity(alloc, lines.len())?;
     for line in lines {
-        found.push(block_line_at(alloc, *line)?)?;
+        found.push(block_line_at(alloc, text, *line)?)?;
     }
     Ok(found)
 }

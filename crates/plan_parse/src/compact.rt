@@ -3,10 +3,10 @@
 ghost use Rattle.std.specs.Prelude.{◌≡◌, ℕ, List};
 ghost use Rattle.plan_parse.specs.Compact.{said_in};
 
-use crate::path_lists::PathLists;
+use crate::path_lists::JoinedPathLists;
 use crate::span::Span;
-use crate::statement::{Binding, Directive};
-use plan_text::{Items, SmallText};
+use crate::statement::Directive;
+use plan_text::Items;
 
 /// A path as it is kept beside its text.
 #[derive(Clone, Copy, Debug, Drop)]
@@ -17,21 +17,39 @@ pub enum CompactPath {
     Pieces(Span),
 }
 
+/// The right side of a binding as it is kept beside its text.
+#[derive(Clone, Copy, Debug, Drop)]
+pub enum CompactValue {
+    /// The value of the bytes at this place, each of which stands for itself.
+    Plain(Span),
+    /// The value at this place, which has a `$`.
+    Pieces(Span),
+}
+
+/// A binding as it is kept beside its text.
+#[derive(Clone, Copy, Debug, Drop)]
+pub struct CompactBinding {
+    /// The place of its name.
+    pub name: Span,
+    /// Its right side.
+    pub value: CompactValue,
+}
+
 /// A build line as it is kept beside its text, and the lines below it.
 #[derive(Debug, Drop)]
 pub struct CompactBuild {
     /// How many bytes stand before it.
     pub offset: u64,
     /// Its paths; there is at least one output, explicit or implicit.
-    pub paths: PathLists<Items<CompactPath>>,
-    /// The name of its rule.
-    pub rule: SmallText,
+    pub paths: JoinedPathLists<CompactPath>,
+    /// The place of its rule's name.
+    pub rule: Span,
     /// Its own variables in order.
-    pub bindings: Items<Binding>,
+    pub bindings: Items<CompactBinding>,
 }
 
-/// A statement as it is kept beside its text: of a binding and of the paths of a build line their places, which are
-/// read again where they are needed.
+/// A statement as it is kept beside its text: of a binding, and of the paths and variables of a build line, their
+/// places, which are read again where they are needed.
 #[derive(Debug, Drop)]
 pub enum CompactStatement {
     /// The binding in this line.

@@ -22,12 +22,15 @@ mod span;
 mod statement;
 mod statement_reader;
 
-pub use compact::{CompactBuild, CompactPath, CompactStatement};
+pub use compact::{CompactBinding, CompactBuild, CompactPath, CompactStatement, CompactValue};
 pub use fault::ParseFault;
 pub use laws::{faults_have_places, statements_are_whole, statements_join};
-pub use lines::{BindingLine, BuildLine, PathInText, PathsInText, path_in};
+pub use lines::{
+    BindingLine, BindingsInText, BuildLine, PathInText, PathsInText, ValueInText, ValueLine,
+    name_in, path_in, value_in,
+};
 pub use parser::parse;
-pub use path_lists::PathLists;
+pub use path_lists::{JoinedPathLists, PathEnds, PathLists};
 pub use path_parts::{PathPart, part_at};
 pub use span::Span;
 pub use statement::{Binding, Directive, DirectiveKind, Pool, Rule};

@@ -5,16 +5,16 @@ ghost use Rattle.plan_parse.specs.Compact as compact;
 ghost use Rattle.plan_parse.specs.Statements.{binding_at};
 ghost use Rattle.plan_parse.specs.Views.{place_of};
 ghost use Rattle.plan_parse.specs.PathLists.{map_lists};
-ghost use Rattle.plan_parse.specs.Lines.{IsPlaced, paths_in, pieces_of};
+ghost use Rattle.plan_parse.specs.Lines.{IsPlaced, bindings_in, paths_in, pieces_of, value_of};
 
-use crate::compact::{CompactBuild, CompactPath};
+use crate::compact::{CompactBinding, CompactBuild, CompactPath, CompactValue};
 use crate::cursor::Cursor;
 use crate::fault::ParseFault;
 use crate::path_lists::PathLists;
-use crate::reading::{binding_at, line_in};
+use crate::reading::{binding_at, line_in, value_at};
 use crate::span::Span;
 use crate::statement::Binding;
-use plan_text::{Items, PieceList, SmallText};
+use plan_text::{PieceList, SmallText};
 use std::alloc::{AllocError, Global};
 use std::marker::Model;
 
@@ -87,6 +87,74 @@ pub fn path_in(text: &[u8], path: CompactPath) -> PathInText<'_>
     }
 }
 
+/// The right side of a binding in its text.
+#[derive(Drop)]
+pub enum ValueInText<'a> {
+    /// Its bytes, each of which stands for itself.
+    Plain(&'a [u8]),
+    /// What is to be read.
+    Pieces(ValueLine<'a>),
+}
+
+/// The right side of a binding, which has a `$`.
+#[derive(Drop)]
+pub struct ValueLine<'a> {
+    line: Cursor<'a>,
+}
+
+impl<'a> Model for ValueLine<'a> {
+    ghost use Rattle.std.specs.Prelude.{List};
+    ghost use Rattle.plan_text.specs.declared.piece_reader.Piece.{Piece};
+    ghost use Rattle.plan_parse.specs.Compact.{pieces_or_none};
+    ghost use Rattle.plan_parse.specs.Reading.{value_at};
+    ghost use Rattle.plan_parse.specs.Views.{place_of};
+
+    ghost Value = { List Piece };
+
+    ghost view = { λ v. pieces_or_none (value_at (place_of v.line)) };
+}
+
+impl<'a> ValueLine<'a> {
+    /// Its pieces.
+    pub fn read(&self, alloc: Global) -> Result<PieceList, AllocError>
+        ensures { IfOk result (λ pieces. pieces ≡ self.now) }
+    {
+        match value_at(alloc, self.line) {
+            Ok(value) => Ok(value),
+            Err(ParseFault::Memory) => Err(AllocError),
+            Err(_) => Ok(PieceList::empty(alloc)),
+        }
+    }
+}
+
+/// The right side of a binding of a text.
+pub fn value_in(text: &[u8], value: CompactValue) -> ValueInText<'_>
+    ensures { value_of result ≡ compact.value_in text.now value }
+{
+    match value {
+        CompactValue::Plain(span) => ValueInText::Plain(line_in(text, span).bytes),
+        CompactValue::Pieces(span) => ValueInText::Pieces(ValueLine {
+            line: line_in(text, span),
+        }),
+    }
+}
+
+/// The name of a binding of a text.
+pub fn name_in(text: &[u8], binding: CompactBinding) -> &[u8]
+    ensures { result.now ≡ (compact.variable_in text.now binding).name }
+{
+    line_in(text, binding.name).bytes
+}
+
+/// Bindings in their text.
+#[derive(Drop)]
+pub struct BindingsInText<'a> {
+    /// The text.
+    pub text: &'a [u8],
+    /// The bindings, kept beside it.
+    pub bindings: &'a [CompactBinding],
+}
+
 /// A list of paths in their text.
 #[derive(Drop)]
 pub struct PathsInText<'a> {
@@ -97,13 +165,10 @@ pub struct PathsInText<'a> {
 }
 
 /// A list of paths in their text.
-fn list_in<'a>(text: &'a [u8], paths: &'a Items<CompactPath>) -> PathsInText<'a>
+fn list_in<'a>(text: &'a [u8], paths: &'a [CompactPath]) -> PathsInText<'a>
     ensures { paths_in result ≡ map (compact.path_in text.now) paths.now }
 {
-    PathsInText {
-        text,
-        paths: paths.as_slice(),
-    }
+    PathsInText { text, paths }
 }
 
 /// A build line in its text.
@@ -134,14 +199,17 @@ impl<'a> BuildLine<'a> {
     pub fn rule(&self) -> &'a [u8]
         ensures { result.now ≡ self.now.rule }
     {
-        self.build.rule.as_slice()
+        line_in(self.text, self.build.rule).bytes
     }
 
     /// Its own variables in order.
-    pub fn bindings(&self) -> &'a [Binding]
-        ensures { result.now ≡ self.now.bindings }
+    pub fn bindings(&self) -> BindingsInText<'a>
+        ensures { bindings_in result ≡ self.now.bindings }
     {
-        self.build.bindings.as_slice()
+        BindingsInText {
+            text: self.text,
+            bindings: self.build.bindings.as_slice(),
+        }
     }
 
     /// Its paths.
@@ -150,11 +218,11 @@ impl<'a> BuildLine<'a> {
     {
         let lists = &self.build.paths;
         PathLists {
-            outputs: list_in(self.text, &lists.outputs),
-            implicit_outputs: list_in(self.text, &lists.implicit_outputs),
-            inputs: list_in(self.text, &lists.inputs),
-            implicit_inputs: list_in(self.text, &lists.implicit_inputs),
-            order_only_inputs: list_in(self.text, &lists.order_only_inputs),
+            outputs: list_in(self.text, lists.outputs()),
+            implicit_outputs: list_in(self.text, lists.implicit_outputs()),
+            inputs: list_in(self.text, lists.inputs()),
+            implicit_inputs: list_in(self.text, lists.implicit_inputs()),
+            order_only_inputs: list_in(self.text, lists.order_only_inputs()),
         }
     }
 }

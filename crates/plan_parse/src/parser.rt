@@ -6,10 +6,10 @@ ghost use Rattle.plan_parse.specs.Statements.{statements_of};
 ghost use Rattle.plan_parse.specs.Views.{place_of};
 ghost use Rattle.plan_parse.specs.BlockLines.{block_lines_of, line_role_of};
 ghost use Rattle.plan_parse.specs.Compact.{StandsIn, said_in};
-ghost use Rattle.plan_parse.specs.Progress.{HeadStandsIn, TakesLine, RoleStandsIn, ReadsLine, head_of, state_of, statements_at_end};
+ghost use Rattle.plan_parse.specs.Progress.{BlockStandsIn, LinesStandIn, TakesLine, RoleStandsIn, ReadsLine, state_of, statements_at_end};
 
 use crate::block::{BlockLine, LineRole, no_block_allowed, role_of_line};
-use crate::compact::CompactStatement;
+use crate::compact::{CompactPath, CompactStatement};
 use crate::cursor::Cursor;
 use crate::fault::ParseFault;
 use crate::statement_reader::statement_of;
@@ -24,24 +24,27 @@ struct Reader<'a> {
     statements: Vec<CompactStatement>,
     head: Option<Cursor<'a>>,
     lines: Vec<BlockLine<'a>>,
+    /// What the paths of a build line are gathered in, whatever it holds.
+    paths: Vec<CompactPath>,
 }
 
 impl<'a> Reader<'a> {
     /// Adds the statement of the block that this line began.
     fn add(&mut self, head: Cursor<'a>) -> Result<(), ParseFault>
-        requires { StandsIn self.now.text.now (place_of head) }
+        requires head { StandsIn self.now.text.now (place_of head) }
+        requires lines { LinesStandIn self.now.text.now (block_lines_of self.now.lines.items) }
         ensures statements { Meets ParseFault.Memory (λ _. map (said_in self.old.text.now) self.new.statements.items) result (statements_at_end (record { done = map (said_in self.old.text.now) self.old.statements.items; head = Some (place_of head.entry); lines = block_lines_of self.old.lines.items })) }
         ensures text { self.new.text ≡ self.old.text }
         ensures head { self.new.head ≡ self.old.head }
     {
-        let statement = statement_of(self.alloc, self.text, head, &self.lines)?;
+        let statement = statement_of(self.alloc, self.text, head, &self.lines, &mut self.paths)?;
         self.statements.push(statement)?;
         Ok(())
     }
 
     /// Ends the block: its statement joins those before it, and no line is left of it.
     fn end_block(&mut self) -> Result<(), ParseFault>
-        requires { HeadStandsIn self.now.text.now (head_of self.now.head) }
+        requires { BlockStandsIn self.now.text.now (state_of self.now) }
         ensures statements { Meets ParseFault.Memory (λ _. map (said_in self.old.text.now) self.new.statements.items) result (statements_at_end (state_of self.old)) }
         ensures lines { OnOk result (self.new.lines.items ≡ []) }
         ensures text { self.new.text ≡ self.old.text }
@@ -56,9 +59,9 @@ impl<'a> Reader<'a> {
 
     /// Takes one more line by its role.
     fn take(&mut self, role: LineRole<'a>) -> Result<(), ParseFault>
-        requires head { HeadStandsIn self.now.text.now (head_of self.now.head) }
+        requires block { BlockStandsIn self.now.text.now (state_of self.now) }
         requires role { RoleStandsIn self.now.text.now (Some (line_role_of role)) }
-        ensures head { OnOk result (HeadStandsIn self.new.text.now (head_of self.new.head)) }
+        ensures block { OnOk result (BlockStandsIn self.new.text.now (state_of self.new)) }
         ensures text { self.new.text ≡ self.old.text }
         ensures takes { TakesLine result (state_of self.old) (line_role_of role.entry) (state_of self.new) }
     {
@@ -75,9 +78,9 @@ impl<'a> Reader<'a> {
     /// Reads one more logical line.
     fn read(&mut self, at: usize, line: &'a [u8]) -> Result<(), ParseFault>
         requires short { at + length line.now < 2 ^ 63 }
-        requires head { HeadStandsIn self.now.text.now (head_of self.now.head) }
+        requires block { BlockStandsIn self.now.text.now (state_of self.now) }
         requires line { StandsIn self.now.text.now (record { at = at; bytes = line.now }) }
-        ensures head { OnOk result (HeadStandsIn self.new.text.now (head_of self.new.head)) }
+        ensures block { OnOk result (BlockStandsIn self.new.text.now (state_of self.new)) }
         ensures text { self.new.text ≡ self.old.text }
         ensures reads { ReadsLine result (state_of self.old) (record { at = at; bytes = line.now }) (state_of self.new) }
     {
@@ -89,7 +92,7 @@ impl<'a> Reader<'a> {
 
     /// The statements, where no line follows.
     fn finish(mut self) -> Result<Vec<CompactStatement>, ParseFault>
-        requires { HeadStandsIn self.text.now (head_of self.head) }
+        requires { BlockStandsIn self.text.now (state_of self) }
         ensures { Meets ParseFault.Memory (λ v. map (said_in self.entry.text.now) v.items) result (statements_at_end (state_of self.entry)) }
     {
         self.end_block()?;
@@ -111,6 +114,7 @@ pub fn parse(alloc: Global, text: &[u8]) -> Result<Vec<CompactStatement>, ParseF
         statements: Vec::new(alloc),
         head: None,
         lines: Vec::new(alloc),
+        paths: Vec::new(alloc),
     };
     let mut at = 0;
     while at < text.len() {

@@ -1,16 +1,18 @@
 //! Reading a line from left to right.
 
-ghost use Rattle.std.specs.Prelude.{◌≡◌, ◌≤◌, true, List, [], ◌∷◌, ◌++◌, length, map, IfOk, OnOk};
+ghost use Rattle.std.specs.Prelude.{◌≡◌, ◌+◌, ◌≤◌, true, List, [], ◌∷◌, ◌++◌, length, take, drop, map, IfOk, OnOk};
 ghost use Rattle.std.specs.List.{prefix_len};
 ghost use Rattle.plan_text.specs.Outcome.{Meets, seen_by};
 ghost use Rattle.plan_text.specs.declared.piece_reader.Piece.{Piece};
 ghost use Rattle.plan_parse.specs.Reading as syntax;
-ghost use Rattle.plan_parse.specs.Compact.{IsSound, StandsIn, line_in, path_in};
+ghost use Rattle.plan_parse.specs.Compact.{IsSound, StandsIn, line_in, path_in, value_in, variable_in};
+ghost use Rattle.plan_parse.specs.PathLists.{Extends, added_to};
+ghost use Rattle.plan_parse.specs.PlainValues.{IsPlainValue};
 ghost use Rattle.plan_parse.specs.PlainPaths.{is_plain};
 ghost use Rattle.plan_parse.specs.Statements as statements;
 ghost use Rattle.plan_parse.specs.Views.{place_of};
 
-use crate::compact::CompactPath;
+use crate::compact::{CompactBinding, CompactPath, CompactValue};
 use crate::cursor::Cursor;
 use crate::fault::ParseFault;
 use crate::path_parts::check_path;
@@ -24,9 +26,6 @@ use std::alloc::{AllocError, Global};
 
 /// The paths of a list, each as its pieces.
 type Paths = Vec<PieceList>;
-
-/// The paths of a list, kept beside their text.
-pub type CompactPaths = Vec<CompactPath>;
 
 /// A line of a text.
 pub fn line_in(text: &[u8], span: Span) -> Cursor<'_>
@@ -131,13 +130,51 @@ fn of_text(fault: TextFault) -> ParseFault
 }
 
 /// The rest of the line, as a value.
-fn value_at(alloc: Global, p: Cursor<'_>) -> Result<PieceList, ParseFault>
+pub fn value_at(alloc: Global, p: Cursor<'_>) -> Result<PieceList, ParseFault>
     ensures { Meets ParseFault.Memory (λ v. v) result (syntax.value_at (place_of p.entry)) }
 {
     match pieces_at(alloc, p.bytes, p.at, Mode::Value) {
         Ok(value) => Ok(value),
         Err(fault) => Err(of_text(fault)),
     }
+}
+
+/// Whether each byte of a value stands for itself: none is a `$` or NUL.
+fn is_plain_value(value: &[u8]) -> bool
+    ensures { result ≡ true → IsPlainValue value.now }
+{
+    !value.iter().any(|b| matches!(*b, b'$' | 0))
+}
+
+/// The rest of the line as a value, kept beside its text.
+fn compact_value_at(alloc: Global, text: &[u8], p: Cursor<'_>) -> Result<CompactValue, ParseFault>
+    requires { StandsIn text.now (place_of p) }
+    ensures { Meets ParseFault.Memory (value_in text.now) result (syntax.value_at (place_of p.entry)) }
+{
+    let span = Span::new(p.at, p.bytes.len())?;
+    plain_is_read();
+    if is_plain_value(p.bytes) {
+        return Ok(CompactValue::Plain(span));
+    }
+    value_at(alloc, p)?;
+    Ok(CompactValue::Pieces(span))
+}
+
+/// `name = value`, kept beside its text.
+pub fn compact_binding_at(
+    alloc: Global,
+    text: &[u8],
+    p: Cursor<'_>,
+) -> Result<CompactBinding, ParseFault>
+    requires { StandsIn text.now (place_of p) }
+    ensures { Meets ParseFault.Memory (variable_in text.now) result (statements.binding_at (place_of p.entry)) }
+{
+    let start = past_gap(p);
+    let (name, behind) = name_at(start)?;
+    let right = byte_at(behind, b'=', ParseFault::ExpectedEquals(behind.at as u64))?;
+    let value = compact_value_at(alloc, text, right)?;
+    let name = Span::new(start.at, name.len())?;
+    Ok(CompactBinding { name, value })
 }
 
 /// `name = value`.
@@ -284,7 +321,7 @@ fn compact_path_at(text: &[u8], p: Cursor<'_>, extent: Extent) -> Result<Compact
 }
 
 /// Appends a path. The first takes no more room than it needs, since most lists have one.
-fn add_path<T: Drop>(paths: &mut Vec<T>, path: T) -> Result<(), AllocError>
+fn add_path(paths: &mut Paths, path: PieceList) -> Result<(), AllocError>
     ensures { OnOk result (paths.new.items ≡ paths.old.items ++ path ∷ []) }
 {
     if paths.is_empty() {
@@ -312,25 +349,24 @@ fn paths_at(alloc: Global, p: Cursor<'_>) -> Result<(Paths, Cursor<'_>), ParseFa
     }
 }
 
-/// The same, kept beside their text.
+/// Appends the paths of a list, kept beside their text; the place of the first byte that belongs to none.
 fn compact_paths_at<'a>(
-    alloc: Global,
     text: &[u8],
     p: Cursor<'a>,
-) -> Result<(CompactPaths, Cursor<'a>), ParseFault>
+    paths: &mut Vec<CompactPath>,
+) -> Result<Cursor<'a>, ParseFault>
     requires { StandsIn text.now (place_of p) }
-    ensures read { Meets ParseFault.Memory (λ x. (map (path_in text.now) x.0.items, place_of x.1)) result (syntax.paths_at (place_of p.entry)) }
-    ensures stands { IfOk result (λ x. StandsIn text.now (place_of x.1)) }
+    ensures read { Meets ParseFault.Memory (λ left. (map (path_in text.now) (added_to paths.old.items paths.new.items), place_of left)) result (syntax.paths_at (place_of p.entry)) }
+    ensures keeps { OnOk result (Extends paths.old.items paths.new.items) }
+    ensures stands { IfOk result (λ left. StandsIn text.now (place_of left)) }
 {
-    let mut paths = Vec::new(alloc);
     let mut left = past_gap(p);
     loop {
         let extent = path_extent(left.bytes);
         if extent.len == 0 {
-            paths.shrink_to_fit();
-            return Ok((paths, left));
+            return Ok(left);
         }
-        add_path(&mut paths, compact_path_at(text, left, extent)?)?;
+        paths.push(compact_path_at(text, left, extent)?)?;
         left = past_gap(past(left, extent.len));
     }
 }
@@ -356,36 +392,38 @@ fn is_validation(p: Cursor<'_>) -> bool
     matches!(p.bytes, [b'|', b'@', ..])
 }
 
-/// The list behind `|`, empty where none stands here.
+/// Appends the list behind `|`, which is empty where none stands here.
 fn implicit_at<'a>(
-    alloc: Global,
     text: &[u8],
     p: Cursor<'a>,
-) -> Result<(CompactPaths, Cursor<'a>), ParseFault>
+    paths: &mut Vec<CompactPath>,
+) -> Result<Cursor<'a>, ParseFault>
     requires { StandsIn text.now (place_of p) }
-    ensures read { Meets ParseFault.Memory (λ x. (map (path_in text.now) x.0.items, place_of x.1)) result (statements.implicit_at (place_of p.entry)) }
-    ensures stands { IfOk result (λ x. StandsIn text.now (place_of x.1)) }
+    ensures read { Meets ParseFault.Memory (λ left. (map (path_in text.now) (added_to paths.old.items paths.new.items), place_of left)) result (statements.implicit_at (place_of p.entry)) }
+    ensures keeps { OnOk result (Extends paths.old.items paths.new.items) }
+    ensures stands { IfOk result (λ left. StandsIn text.now (place_of left)) }
 {
     if is_bar(p) {
-        compact_paths_at(alloc, text, past(p, 1))
+        compact_paths_at(text, past(p, 1), paths)
     } else {
-        Ok((Vec::new(alloc), p))
+        Ok(p)
     }
 }
 
-/// The list behind `||`, empty where none stands here.
+/// Appends the list behind `||`, which is empty where none stands here.
 fn order_only_at<'a>(
-    alloc: Global,
     text: &[u8],
     p: Cursor<'a>,
-) -> Result<(CompactPaths, Cursor<'a>), ParseFault>
+    paths: &mut Vec<CompactPath>,
+) -> Result<Cursor<'a>, ParseFault>
     requires { StandsIn text.now (place_of p) }
-    ensures { Meets ParseFault.Memory (λ x. (map (path_in text.now) x.0.items, place_of x.1)) result (statements.order_only_at (place_of p.entry)) }
+    ensures read { Meets ParseFault.Memory (λ left. (map (path_in text.now) (added_to paths.old.items paths.new.items), place_of left)) result (statements.order_only_at (place_of p.entry)) }
+    ensures keeps { OnOk result (Extends paths.old.items paths.new.items) }
 {
     if is_two_bars(p) {
-        compact_paths_at(alloc, text, past(p, 2))
+        compact_paths_at(text, past(p, 2), paths)
     } else {
-        Ok((Vec::new(alloc), p))
+        Ok(p)
     }
 }
 
@@ -399,48 +437,76 @@ fn no_validation(p: Cursor<'_>) -> Result<(), ParseFault>
     Ok(())
 }
 
-/// One path or more in both lists, of which these are as long.
-fn some_path<T: Drop>(p: Cursor<'_>, paths: &[T], more: &[T]) -> Result<(), ParseFault>
-    ensures { (xs ys : List (List Piece)) → length xs ≡ length paths.now → length ys ≡ length more.now → result ≡ statements.some_path (place_of p.entry) xs ys }
+/// One path or more in two lists, which together have so many.
+fn some_path(p: Cursor<'_>, count: usize) -> Result<(), ParseFault>
+    ensures { (xs ys : List (List Piece)) → length xs + length ys ≡ count → result ≡ statements.some_path (place_of p.entry) xs ys }
 {
-    if paths.is_empty() && more.is_empty() {
+    if count == 0 {
         return Err(refusal(p, ParseFault::ExpectedPath(p.at as u64)));
     }
     Ok(())
 }
 
-/// `outputs | implicit_outputs:`, and the place behind it.
-pub fn outputs_at<'a>(
-    alloc: Global,
-    text: &[u8],
-    p: Cursor<'a>,
-) -> Result<(CompactPaths, CompactPaths, Cursor<'a>), ParseFault>
-    requires { StandsIn text.now (place_of p) }
-    ensures read { Meets ParseFault.Memory (λ x. (map (path_in text.now) x.0.items, map (path_in text.now) x.1.items, place_of x.2)) result (statements.outputs_at (place_of p.entry)) }
-    ensures stands { IfOk result (λ x. StandsIn text.now (place_of x.2)) }
+/// How many paths there are so far.
+pub fn count_of(paths: &[CompactPath]) -> Result<u32, AllocError>
+    ensures { IfOk result (λ count. count ≡ length paths.now) }
 {
-    let (outputs, left) = compact_paths_at(alloc, text, p)?;
-    let (implicit, left) = implicit_at(alloc, text, left)?;
-    some_path(left, &outputs, &implicit)?;
-    let behind = byte_at(left, b':', ParseFault::ExpectedColon(left.at as u64))?;
-    Ok((outputs, implicit, behind))
+    match u32::try_from(paths.len()) {
+        Ok(count) => Ok(count),
+        Err(_) => Err(AllocError),
+    }
 }
 
-/// `inputs | implicit_inputs || order_only_inputs` and the end of the line.
+/// Appends `outputs | implicit_outputs:`; how many paths there are at the end of the former, and the place behind.
+pub fn outputs_at<'a>(
+    text: &[u8],
+    p: Cursor<'a>,
+    paths: &mut Vec<CompactPath>,
+) -> Result<(u32, Cursor<'a>), ParseFault>
+    requires { StandsIn text.now (place_of p) }
+    ensures read { Meets ParseFault.Memory (λ x. (map (path_in text.now) (added_to paths.old.items (take x.0 paths.new.items)), map (path_in text.now) (drop x.0 paths.new.items), place_of x.1)) result (statements.outputs_at (place_of p.entry)) }
+    ensures keeps { IfOk result (λ x. Extends paths.old.items (take x.0 paths.new.items)) }
+    ensures within { IfOk result (λ x. x.0 ≤ length paths.new.items) }
+    ensures stands { IfOk result (λ x. StandsIn text.now (place_of x.1)) }
+{
+    let before = paths.len();
+    let left = compact_paths_at(text, p, paths)?;
+    let end = count_of(paths)?;
+    let left = implicit_at(text, left, paths)?;
+    some_path(left, paths.len() - before)?;
+    let behind = byte_at(left, b':', ParseFault::ExpectedColon(left.at as u64))?;
+    Ok((end, behind))
+}
+
+/// How many paths there are at the ends of lists of inputs.
+#[derive(Clone, Copy)]
+pub struct InputEnds {
+    /// The end of the explicit ones.
+    pub explicit: u32,
+    /// The end of the implicit ones, behind `|`.
+    pub implicit: u32,
+}
+
+/// Appends `inputs | implicit_inputs || order_only_inputs`, to the end of the line.
 pub fn inputs_at(
-    alloc: Global,
     text: &[u8],
     p: Cursor<'_>,
-) -> Result<(CompactPaths, CompactPaths, CompactPaths), ParseFault>
+    paths: &mut Vec<CompactPath>,
+) -> Result<InputEnds, ParseFault>
     requires { StandsIn text.now (place_of p) }
-    ensures { Meets ParseFault.Memory (λ x. (map (path_in text.now) x.0.items, map (path_in text.now) x.1.items, map (path_in text.now) x.2.items)) result (statements.inputs_at (place_of p.entry)) }
+    ensures read { Meets ParseFault.Memory (λ ends. (map (path_in text.now) (added_to paths.old.items (take ends.explicit paths.new.items)), map (path_in text.now) (drop ends.explicit (take ends.implicit paths.new.items)), map (path_in text.now) (drop ends.implicit paths.new.items))) result (statements.inputs_at (place_of p.entry)) }
+    ensures keeps { IfOk result (λ ends. Extends paths.old.items (take ends.explicit paths.new.items)) }
+    ensures rise { IfOk result (λ ends. ends.explicit ≤ ends.implicit) }
+    ensures within { IfOk result (λ ends. ends.implicit ≤ length paths.new.items) }
 {
-    let (inputs, left) = compact_paths_at(alloc, text, p)?;
-    let (implicit, left) = implicit_at(alloc, text, left)?;
-    let (order_only, left) = order_only_at(alloc, text, left)?;
+    let left = compact_paths_at(text, p, paths)?;
+    let explicit = count_of(paths)?;
+    let left = implicit_at(text, left, paths)?;
+    let implicit = count_of(paths)?;
+    let left = order_only_at(text, left, paths)?;
     no_validation(left)?;
     line_end_at(left)?;
-    Ok((inputs, implicit, order_only))
+    Ok(InputEnds { explicit, implicit })
 }
 
 /// One path or more, and the end of the line.
@@ -448,7 +514,7 @@ pub fn targets_at(alloc: Global, p: Cursor<'_>) -> Result<Paths, ParseFault>
     ensures { Meets ParseFault.Memory (λ v. v.items) result (statements.targets_at (place_of p.entry)) }
 {
     let (targets, rest) = paths_at(alloc, p)?;
-    some_path(rest, &targets, &[])?;
+    some_path(rest, targets.len())?;
     line_end_at(rest)?;
     Ok(targets)
 }

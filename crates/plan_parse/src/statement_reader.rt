@@ -8,16 +8,17 @@ ghost use Rattle.plan_parse.specs.Statements as statements;
 ghost use Rattle.plan_parse.specs.Views.{place_of};
 ghost use Rattle.plan_parse.specs.BlockLines.{block_lines_of};
 ghost use Rattle.plan_parse.specs.Compact.{StandsIn, binding_in, built_in, directive_said, said_in};
+ghost use Rattle.plan_parse.specs.Progress.{LinesStandIn};
 
 use crate::block::{BlockLine, bindings_at, block_variables_at, has_required, no_block_allowed};
 use crate::block_kind::BlockKind;
-use crate::compact::{CompactBuild, CompactStatement};
+use crate::compact::{CompactBuild, CompactPath, CompactStatement};
 use crate::cursor::Cursor;
 use crate::fault::ParseFault;
-use crate::path_lists::PathLists;
+use crate::path_lists::{JoinedPathLists, PathEnds};
 use crate::reading::{
-    binding_at, file_at, inputs_at, line_end_at, name_at, name_of, outputs_at, past, past_gap,
-    targets_at,
+    binding_at, count_of, file_at, inputs_at, line_end_at, name_at, name_of, outputs_at, past,
+    past_gap, targets_at,
 };
 use crate::span::Span;
 use crate::statement::{Binding, Directive, DirectiveKind, Pool, Rule};
@@ -96,31 +97,38 @@ fn pool_of(
     })
 }
 
-/// `build outputs: rule inputs`, from its outputs on, and the lines below it.
+/// `build outputs: rule inputs`, from its outputs on, and the lines below it. Its paths are gathered in a list, whatever
+/// that held, so that they take no more memory than they need.
 fn build_of(
     alloc: Global,
     text: &[u8],
     at: usize,
     p: Cursor<'_>,
     lines: &[BlockLine<'_>],
+    paths: &mut Vec<CompactPath>,
 ) -> Result<CompactBuild, ParseFault>
-    requires { StandsIn text.now (place_of p) }
+    requires line { StandsIn text.now (place_of p) }
+    requires below { LinesStandIn text.now (block_lines_of lines.now) }
     ensures { Meets ParseFault.Memory (built_in text.now) result (statements.build_of at (place_of p.entry) (block_lines_of lines.now)) }
 {
-    let (outputs, implicit_outputs, rest) = outputs_at(alloc, text, p)?;
+    paths.clear();
+    let (outputs, rest) = outputs_at(text, p, paths)?;
+    let implicit_outputs = count_of(paths)?;
+    let start = rest.at;
     let (rule, rest) = name_at(rest)?;
-    let (inputs, implicit_inputs, order_only_inputs) = inputs_at(alloc, text, rest)?;
-    let bindings = bindings_at(alloc, lines)?;
-    let rule = SmallText::new(alloc, rule)?;
+    let inputs = inputs_at(text, rest, paths)?;
+    let bindings = bindings_at(alloc, text, lines)?;
+    let rule = Span::new(start, rule.len())?;
+    let ends = PathEnds {
+        outputs,
+        implicit_outputs,
+        inputs: inputs.explicit,
+        implicit_inputs: inputs.implicit,
+    };
+    let paths = Vec::from_slice(alloc, paths)?;
     Ok(CompactBuild {
         offset: at as u64,
-        paths: PathLists {
-            outputs: Items::new(outputs),
-            implicit_outputs: Items::new(implicit_outputs),
-            inputs: Items::new(inputs),
-            implicit_inputs: Items::new(implicit_inputs),
-            order_only_inputs: Items::new(order_only_inputs),
-        },
+        paths: JoinedPathLists::new(paths, ends),
         rule,
         bindings: Items::new(bindings),
     })
@@ -193,14 +201,17 @@ fn keep(alloc: Global, read: Result<Directive, ParseFault>) -> Result<CompactSta
     Ok(CompactStatement::Directive(Box::new(alloc, read?)?))
 }
 
-/// A statement, by the word that it begins with, and the lines below it, kept beside its text.
+/// A statement, by the word that it begins with, and the lines below it, kept beside its text. A build line's paths are
+/// gathered in a list, whatever that held.
 pub fn statement_of(
     alloc: Global,
     text: &[u8],
     p: Cursor<'_>,
     lines: &[BlockLine<'_>],
+    paths: &mut Vec<CompactPath>,
 ) -> Result<CompactStatement, ParseFault>
-    requires { StandsIn text.now (place_of p) }
+    requires line { StandsIn text.now (place_of p) }
+    requires below { LinesStandIn text.now (block_lines_of lines.now) }
     ensures { Meets ParseFault.Memory (said_in text.now) result (statements.statement_of (place_of p.entry) (block_lines_of lines.now)) }
 {
     let start = past_gap(p);
@@ -209,7 +220,7 @@ pub fn statement_of(
     if word == b"rule".as_slice() {
         keep(alloc, rule_of(alloc, p.at, behind, lines))
     } else if word == b"build".as_slice() {
-        let build = build_of(alloc, text, p.at, behind, lines)?;
+        let build = build_of(alloc, text, p.at, behind, lines, paths)?;
         Ok(CompactStatement::Build(Box::new(alloc, build)?))
     } else if word == b"pool".as_slice() {
         keep(alloc, pool_of(alloc, p.at, behind, lines))

@@ -1,12 +1,14 @@
 -- Blocks and paths of which as much is kept. Serves src/edge/paths.rt.
-use Rattle.std.proofs.Common.{◌≡◌, ℕ, zero, suc, ◌+◌, ◌<◌, ◌≤◌, Bool, true, false, ◌||◌, List, [], ◌∷◌, ◌++◌, length, map, Ok, Err, refl, ap, sym, ◌∙◌, cond, inl, inr, arith, take, get_or, subst}
+use Rattle.std.proofs.Common.{◌≡◌, ℕ, zero, suc, ◌+◌, ◌<◌, ◌≤◌, Bool, true, false, ◌||◌, List, [], ◌∷◌, ◌++◌, length, map, Ok, Err, refl, ap, sym, ◌∙◌, cond, inl, inr, arith, take, get_or, subst, append_assoc, length-append}
 use Rattle.std.specs.List.{list_any}
 use Rattle.std.proofs.lemmas.Bool.{lt-ltb, ltb-false, ne_eqb}
-use Rattle.std.proofs.lemmas.List.{append-nil, map_more, map-append}
+use Rattle.std.proofs.lemmas.List.{append-nil, map_more, map_push, map-append}
 use Rattle.std.proofs.lemmas.List.Folds.{list_any-append}
 use Rattle.plan_parse.specs.declared.path_lists.PathLists.{PathLists}
-use Rattle.plan_parse.specs.PathLists.{all_in, map_lists}
+use Rattle.plan_parse.specs.PathLists.{all_in}
 use Rattle.plan_parse.specs.declared.statement.Binding.{Binding}
+use Rattle.plan_parse.specs.declared.compact.CompactBinding.{CompactBinding}
+use Rattle.plan_parse.specs.Compact.{variable_in}
 use Rattle.plan_text.specs.Path.{canonical_of}
 use Rattle.plan_text.specs.Pieces.{literal_of}
 use Rattle.plan_scope.specs.Scopes.{Text, Name, Bindings, last_of, expand, is_too_long, is_long_path, is_empty}
@@ -14,21 +16,23 @@ use Rattle.plan_text.specs.Limits.{max_text, max_path}
 use Rattle.plan_scope.specs.declared.fault.Cause.TheVariants.{EmptyPath, PathTooLong}
 use Rattle.plan_scope.specs.declared.manifest.DefaultTarget.{DefaultTarget}
 use Rattle.plan_scope.specs.Edges.{Paths, canonical_paths, has_long, block_of, near, path_of, canonical_or, first_of, or_refused, target_at, targets_by}
-use Rattle.plan_scope.specs.declared.edge.paths.PathList.{PathList}
-use Rattle.plan_scope.specs.declared.edge.paths.PathTexts.{PathTexts}
 use Rattle.plan_scope.specs.Kept.{kept, KeptEqBindings, KeptEqLookup}
-use Rattle.plan_scope.specs.Paths.{AreListsOf, AreRead, IsListOf, kept_in}
+use Rattle.plan_scope.specs.Paths.{IsListOf, kept_in}
 use Rattle.plan_scope.proofs.TextLemmas.{Same, same_from_kept, kept_or}
 
 -- names that stand for as much in a block and above it do so on its build line
 pub kept_near : (block b : Bindings Text) (here m : Name → Text) → KeptEqBindings block b → KeptEqLookup here m → KeptEqLookup (near here block) (near m b)
 kept_near block b here m h k n = kept_or (last_of n block) (last_of n b) (here n) (m n) (h n) (k n)
 
--- one more line of a block
-pub block_taken : (here : Name → Text) (all : List Binding) (i : ℕ) (b : Binding) → i < length all → b ≡ get_or all i b → block_of here (take (i + 1) all) ≡ block_of here (take i all) ++ (b.name, expand here b.value) ∷ []
-block_taken here all i b lt e =
+-- one more line of a block that is kept beside its text
+pub block_read : (here : Name → Text) (text : Text) (all : List CompactBinding) (i : ℕ) (b : CompactBinding) → i < length all → b ≡ get_or all i b
+    → block_of here (map (variable_in text) (take (i + 1) all)) ≡ block_of here (map (variable_in text) (take i all)) ++ ((variable_in text b).name, expand here (variable_in text b).value) ∷ []
+block_read here text all i b lt e =
+    let read : CompactBinding → Binding = variable_in text in
     let entry : Binding → Name × Text = λ x. (x.name, expand here x.value) in
-    map_more entry all i b lt ∙ ap (λ x. block_of here (take i all) ++ entry x ∷ []) (sym e)
+    ap (block_of here) (map_more read all i b lt)
+    ∙ map_push entry (map read (take i all)) (read (get_or all i b))
+    ∙ ap (λ (x : CompactBinding). block_of here (map read (take i all)) ++ entry (read x) ∷ []) (sym e)
 
 or_false : (t : Bool) → (t || false) ≡ t
 or_false true = refl
@@ -227,40 +231,18 @@ list_more texts forms now empty long e l t f h c n i j = (
   ap (λ (x : Bool). x || l) h.2 ∙ (ap (λ (x : Bool). list_any is_long_path texts || x) j ∙ sym (any_push is_long_path texts t)),
 )
 
-any_five : (test : Text → Bool) (a b c d e : List Text) → list_any test (a ++ b ++ c ++ d ++ e) ≡ ((((list_any test a || list_any test b) || list_any test c) || list_any test d) || list_any test e)
-any_five test a b c d e =
-    list_any-append test (a ++ b ++ c ++ d) e
-    ∙ ap (λ (t : Bool). t || list_any test e) (list_any-append test (a ++ b ++ c) d
-    ∙ ap (λ (t : Bool). t || list_any test d) (list_any-append test (a ++ b) c
-    ∙ ap (λ (t : Bool). t || list_any test c) (list_any-append test a b)))
+-- one more path that is read, behind those of the lists before
+pub list_onto : (before texts forms now : List Text) (empty long e l : Bool) (t f : Text) → IsListOf (before ++ texts) forms empty long → f ≡ path_of t → now ≡ forms ++ f ∷ [] → e ≡ is_empty t → l ≡ is_long_path t
+    → IsListOf (before ++ (texts ++ t ∷ [])) now (empty || e) (long || l)
+list_onto before texts forms now empty long e l t f h c n i j =
+    subst (λ (x : List Text). IsListOf x now (empty || e) (long || l)) (append_assoc before texts (t ∷ []))
+    (list_more (before ++ texts) forms now empty long e l t f h c n i j)
 
--- whether a path of some list passes a test
-any_of_five : (test : Text → Bool) (p : Paths) (a b c d e : Bool) → a ≡ list_any test p.outputs → b ≡ list_any test p.implicit_outputs → c ≡ list_any test p.inputs → d ≡ list_any test p.implicit_inputs → e ≡ list_any test p.order_only_inputs
-    → ((((a || b) || c) || d) || e) ≡ list_any test (all_in p)
-any_of_five test p a b c d e h i j k l =
-    let each : ((((a || b) || c) || d) || e) ≡ ((((list_any test p.outputs || list_any test p.implicit_outputs) || list_any test p.inputs) || list_any test p.implicit_inputs) || list_any test p.order_only_inputs) = cc in
-    each
-    ∙ sym (any_five test p.outputs p.implicit_outputs p.inputs p.implicit_inputs p.order_only_inputs)
-
--- what is read of five lists
-pub lists_read : (texts : Paths) (lists : PathLists PathList) (read : PathTexts) → AreListsOf texts lists
-    → read ≡ record {
-      has_empty = (((lists.outputs.has_empty || lists.implicit_outputs.has_empty) || lists.inputs.has_empty) || lists.implicit_inputs.has_empty) || lists.order_only_inputs.has_empty;
-      has_long = (((lists.outputs.has_long || lists.implicit_outputs.has_long) || lists.inputs.has_long) || lists.implicit_inputs.has_long) || lists.order_only_inputs.has_long;
-      paths = map_lists (λ l. l.forms) lists;
-    }
-    → AreRead texts read
-lists_read texts lists read h e =
-    let o = h.outputs in
-    let io = h.implicit_outputs in
-    let i = h.inputs in
-    let ii = h.implicit_inputs in
-    let oo = h.order_only_inputs in
-    subst (AreRead texts) (sym e) (
-      same_lists (map_lists (λ l. l.forms) lists) (canonical_paths texts) o.0 io.0 i.0 ii.0 oo.0,
-      any_of_five is_empty texts _ _ _ _ _ o.1 io.1 i.1 ii.1 oo.1,
-      any_of_five is_long_path texts _ _ _ _ _ o.2 io.2 i.2 ii.2 oo.2,
-    )
+-- where a list ends that is read behind those before it
+pub end_more : (before texts forms next : List Text) (start end : ℕ) → start ≡ length forms → forms ≡ map path_of before → end ≡ length next → next ≡ map path_of (before ++ texts) → end ≡ start + length (map path_of texts)
+end_more before texts forms next start end s f e n =
+    let whole = ap length (map-append path_of before texts) ∙ length-append (map path_of before) (map path_of texts) in
+    e ∙ ap length n ∙ whole ∙ ap (λ k. k + length (map path_of texts)) (sym (s ∙ ap length f))
 
 -- the canonical forms of all paths are those of each list
 pub forms_in : (p : Paths) → map path_of (all_in p) ≡ all_in (canonical_paths p)

@@ -14,6 +14,7 @@ pub mod Keys
 pub mod ScopeNames
 pub mod ShellQuoting
 pub mod HeldEnvironment
+pub mod HeldTexts
 pub mod Outcomes
 pub mod Memo
 pub mod Compiled

@@ -3,7 +3,6 @@ use Rattle.std.specs.Prelude.{◌≡◌, Bool, List, map, Option}
 use Rattle.std.specs.List.{list_any}
 use Rattle.plan_parse.specs.declared.path_lists.PathLists.{PathLists}
 use Rattle.plan_parse.specs.PathLists.{map_lists}
-use Rattle.plan_scope.specs.declared.edge.paths.PathList.{PathList}
 use Rattle.plan_scope.specs.declared.edge.paths.PathTexts.{PathTexts}
 use Rattle.plan_scope.specs.Scopes.{Text, is_empty, is_long_path}
 use Rattle.plan_scope.specs.Edges.{Paths, canonical_paths, has_empty, has_long, path_of}
@@ -16,14 +15,6 @@ kept_in p = map_lists (map kept) p
 -- the canonical forms of a list of paths, and what is seen of these as expanded
 abbrev pub IsListOf : List Text → List Text → Bool → Bool → Type 0
 IsListOf texts forms empty long = (forms ≡ map path_of texts) × (empty ≡ list_any is_empty texts) × (long ≡ list_any is_long_path texts)
-
--- the same of each list of a build line
-pub record AreListsOf (texts : Paths) (lists : PathLists PathList) : Type 0 where
-  pub outputs : IsListOf texts.outputs lists.outputs.forms lists.outputs.has_empty lists.outputs.has_long
-  pub implicit_outputs : IsListOf texts.implicit_outputs lists.implicit_outputs.forms lists.implicit_outputs.has_empty lists.implicit_outputs.has_long
-  pub inputs : IsListOf texts.inputs lists.inputs.forms lists.inputs.has_empty lists.inputs.has_long
-  pub implicit_inputs : IsListOf texts.implicit_inputs lists.implicit_inputs.forms lists.implicit_inputs.has_empty lists.implicit_inputs.has_long
-  pub order_only_inputs : IsListOf texts.order_only_inputs lists.order_only_inputs.forms lists.order_only_inputs.has_empty lists.order_only_inputs.has_long
 
 -- the same of the paths of a build line
 abbrev pub AreRead : Paths → PathTexts → Type 0

@@ -8,14 +8,14 @@ pub(crate) mod pool_names;
 mod pools;
 mod rules;
 
-use plan_parse::PathLists;
+use plan_parse::JoinedPathLists;
 use plan_text::{Items, SmallText};
 
 /// What a build line makes, from what, and how. Its paths are canonical.
 #[derive(Debug, Drop)]
 pub struct Edge {
     /// The paths of its outputs and inputs; there is at least one output, explicit or implicit.
-    pub paths: PathLists<Items<SmallText>>,
+    pub paths: JoinedPathLists<SmallText>,
     /// The text of its command; empty for a phony.
     pub command: Items<u8>,
     /// What is shown in place of the command, where it isn't empty.

@@ -7,6 +7,7 @@ ghost use Rattle.plan_text.specs.Limits.{max_text};
 ghost use Rattle.plan_scope.specs.Kept.{KeptEqScoped, KeptEqLookup, kept};
 ghost use Rattle.plan_scope.specs.ScopeNames.{names_in};
 
+pub(crate) mod held_text;
 mod keys;
 pub(crate) mod scoped_map;
 pub(crate) mod small_map;

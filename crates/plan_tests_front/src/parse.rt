@@ -49,6 +49,31 @@ fn binds(alloc: Global, bindings: &[Binding], want: &[u8]) -> Result<bool, Alloc
     Ok(text.as_slice() == want)
 }
 
+/// Appends the right side of a binding that is kept beside its text.
+fn spell_value(
+    alloc: Global,
+    text: &mut Vec<u8>,
+    value: ValueInText<'_>,
+) -> Result<(), AllocError> {
+    match value {
+        ValueInText::Plain(bytes) => text.extend_from_slice(bytes)?,
+        ValueInText::Pieces(line) => spell(text, &line.read(alloc)?)?,
+    }
+    Ok(())
+}
+
+/// A text, and whether the bindings of a build line spell it, each as `name=value;`.
+fn binds_again(alloc: Global, block: &BindingsInText<'_>, want: &[u8]) -> Result<bool, AllocError> {
+    let mut text = Vec::new(alloc);
+    for binding in block.bindings {
+        text.extend_from_slice(name_in(block.text, *binding))?;
+        text.push(b'=')?;
+        spell_value(alloc, &mut text, value_in(block.text, binding.value))?;
+        text.push(b';')?;
+    }
+    Ok(text.as_slice() == want)
+}
+
 /// Appends a path part by part, each reference as `<name>`, and `!` for a fault. Each part has a byte, so there are no
 /// more parts than bytes.
 fn spell_parts(text: &mut Vec<u8>, at: usize, path: &[u8]) -> Result<(), AllocError> {
@@ -124,7 +149,7 @@ fn demo_rule(rt: HostRuntime) -> Result<(), Fail> {
 
 #[test]
 fn demo_build(rt: HostRuntime) -> Result<(), Fail> {
-    let text = b"build out: demo\n  foo = bar\n".as_slice();
+    let text = b"build out: demo\n  foo = bar\n  dir =  a\tb $foo$ c\n  none =\n".as_slice();
     let found = parse(rt.alloc(), text)?;
     assert_eq!(rt; found.len(), 1);
     match &found[0] {
@@ -134,7 +159,8 @@ fn demo_build(rt: HostRuntime) -> Result<(), Fail> {
             assert!(rt; lists_again(rt.alloc(), &paths.outputs, b"out;")?);
             assert_eq!(rt; build.rule(), b"demo".as_slice());
             assert!(rt; lists_again(rt.alloc(), &paths.inputs, b"")?);
-            assert!(rt; binds(rt.alloc(), build.bindings(), b"foo=bar;")?);
+            let want = b"foo=bar;dir=a\tb <foo> c;none=;";
+            assert!(rt; binds_again(rt.alloc(), &build.bindings(), want)?);
         }
         _ => assert!(rt; false, "a build line"),
     }

@@ -1,7 +1,7 @@
 //! Each public function once, on files and trees from outside.
 
 use plan_scope::*;
-use plan_text::{Counted, Items, SmallText};
+use plan_text::{Counted, SmallText};
 use std::alloc::Global;
 use std::test::Fail;
 
@@ -242,8 +242,8 @@ fn only_edge(manifest: &Manifest) -> Option<&Edge> {
 }
 
 /// Whether a list has this path alone.
-fn is_only(paths: &Items<SmallText>, wanted: &[u8]) -> bool {
-    match paths.as_slice() {
+fn is_only(paths: &[SmallText], wanted: &[u8]) -> bool {
+    match paths {
         [path] => path.as_slice() == wanted,
         _ => false,
     }
@@ -293,11 +293,11 @@ fn lists_of_an_edge(rt: HostRuntime) -> Result<(), Fail> {
     let Some(edge) = only_edge(&manifest) else {
         panic!(rt; "not one edge");
     };
-    assert!(rt; is_only(&edge.paths.outputs, b"a"));
-    assert!(rt; is_only(&edge.paths.implicit_outputs, b"b/c"));
-    assert!(rt; is_only(&edge.paths.inputs, b"d"));
-    assert!(rt; is_only(&edge.paths.implicit_inputs, b"f"));
-    assert!(rt; is_only(&edge.paths.order_only_inputs, b"g"));
+    assert!(rt; is_only(edge.paths.outputs(), b"a"));
+    assert!(rt; is_only(edge.paths.implicit_outputs(), b"b/c"));
+    assert!(rt; is_only(edge.paths.inputs(), b"d"));
+    assert!(rt; is_only(edge.paths.implicit_inputs(), b"f"));
+    assert!(rt; is_only(edge.paths.order_only_inputs(), b"g"));
     assert_eq!(rt; command_text(edge), b"c".as_slice());
     Ok(())
 }

@@ -22,8 +22,8 @@ use crate::manifest::Edge;
 use crate::manifest::pool_names::PoolNames;
 use crate::scope::Scope;
 use crate::scope::text::is_long;
-use plan_parse::{BuildLine, PathLists};
-use plan_text::{Items, SmallText};
+use plan_parse::{BuildLine, JoinedPathLists};
+use plan_text::SmallText;
 use std::alloc::{AllocError, Global};
 
 /// What is read of a build line before its variables are looked up.
@@ -43,7 +43,7 @@ fn read_parts<'a>(
 ) -> Result<Parts<'a>, AllocError>
     ensures { IfOk result (λ parts. (h : Name → Text) → KeptEqLookup (names_in here.entry) h → IsRead h build.now parts) }
 {
-    let block = block(alloc, here, build.bindings())?;
+    let block = block(alloc, here, &build.bindings())?;
     let read = read_paths(alloc, &block.values, here, &*build)?;
     Ok(Parts { block, read })
 }
@@ -93,7 +93,7 @@ fn cause(pools: &PoolNames, parts: &Parts, variables: &Variables) -> Option<Caus
 }
 
 /// The edge with these paths and variables.
-fn edge_from(paths: PathLists<Items<SmallText>>, variables: Variables, phony: bool) -> Edge
+fn edge_from(paths: JoinedPathLists<SmallText>, variables: Variables, phony: bool) -> Edge
     ensures { result ≡ edge_of paths variables phony }
 {
     let restat = is_present(variables.restat.as_slice());
@@ -134,8 +134,8 @@ fn environment_with<'a>(
     ensures { held_environment result ≡ environment_from parts.now rule.now (names_in file.entry) }
 {
     EdgeEnvironment {
-        inputs: parts.read.paths.inputs.as_slice(),
-        outputs: parts.read.paths.outputs.as_slice(),
+        inputs: parts.read.paths.inputs(),
+        outputs: parts.read.paths.outputs(),
         block: &parts.block.values,
         rule,
         file,

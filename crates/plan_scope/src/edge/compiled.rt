@@ -8,6 +8,7 @@ ghost use Rattle.plan_scope.specs.Kept.{kept};
 ghost use Rattle.plan_scope.specs.ShellQuoting.{quoted_as};
 
 use crate::edge::expansion::EdgeEnvironment;
+use crate::scope::held_text::HeldText;
 use crate::scope::small_map::SmallMap;
 use crate::scope::text::{Quoting, append, append_paths, copy_of};
 use plan_text::Items;
@@ -63,7 +64,7 @@ pub enum CompiledRule<'a> {
 }
 
 /// What a block binds to a name, or else this text.
-fn near_text<'b, 'a>(block: &'b SmallMap<'a, Items<u8>>, name: &[u8], text: &'b [u8]) -> &'b [u8]
+fn near_text<'b, 'a>(block: &'b SmallMap<'a, HeldText<'a>>, name: &[u8], text: &'b [u8]) -> &'b [u8]
     ensures { result.now ≡ unwrap_or (last_of name.now block.now) text.now }
 {
     match block.get(name) {

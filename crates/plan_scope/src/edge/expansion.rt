@@ -12,6 +12,7 @@ ghost use Rattle.plan_scope.specs.HeldEnvironment.{environment_of};
 use crate::edge::memo::{MemoEntry, memoize, recall};
 use crate::edge::rule_variables::RuleVariables;
 use crate::fault::{Cause, StatementFault};
+use crate::scope::held_text::HeldText;
 use crate::scope::small_map::SmallMap;
 use crate::scope::text::{Quoting, append, append_paths};
 use crate::scope::{Scope, name_text};
@@ -26,7 +27,7 @@ pub struct EdgeEnvironment<'a> {
     /// The canonical paths of its explicit outputs.
     pub outputs: &'a [SmallText],
     /// The variables of its build block.
-    pub block: &'a SmallMap<'a, Items<u8>>,
+    pub block: &'a SmallMap<'a, HeldText<'a>>,
     /// The variables of its rule.
     pub rule: &'a RuleVariables<'a>,
     /// What names stand for in its file once the whole tree was read.

@@ -1,21 +1,23 @@
 //! The texts of a build line: its block and its paths.
 
-ghost use Rattle.std.specs.Prelude.{◌≡◌, ◌≤◌, ◌<◌, ◌+◌, ◌^◌, List, length, IfOk, OnOk, map};
+ghost use Rattle.std.specs.Prelude.{◌≡◌, ◌≤◌, ◌<◌, ◌+◌, ◌++◌, ◌^◌, List, length, IfOk, OnOk, map};
 ghost use Rattle.std.specs.List.{list_any};
 ghost use Rattle.plan_scope.specs.Scopes.{Bindings, Name, Text, expand, is_empty, is_long_path, is_too_long};
 ghost use Rattle.plan_text.specs.Limits.{max_text};
-ghost use Rattle.plan_parse.specs.Lines.{IsPlaced, paths_in, pieces_of};
+ghost use Rattle.plan_parse.specs.Lines.{IsPlaced, bindings_in, paths_in, pieces_of, value_of};
 ghost use Rattle.plan_scope.specs.PathParts.{part_value, pieces_in};
 ghost use Rattle.plan_scope.specs.Edges.{Paths, block_of, near, path_of, paths_of, texts_of};
 ghost use Rattle.plan_scope.specs.Kept.{KeptEqBindings, KeptEqLookup, kept};
-ghost use Rattle.plan_scope.specs.Paths.{AreListsOf, AreRead, IsListOf, kept_in};
+ghost use Rattle.plan_scope.specs.Paths.{AreRead, IsListOf, kept_in};
 ghost use Rattle.plan_scope.specs.ScopeNames.{names_in};
 
+use crate::scope::held_text::HeldText;
 use crate::scope::small_map::SmallMap;
-use crate::scope::text::{append, is_long};
+use crate::scope::text::{append, front_kept, is_long};
 use crate::scope::{Scope, expand_pieces, name_text};
 use plan_parse::{
-    Binding, BuildLine, PathInText, PathLists, PathPart, PathsInText, part_at, path_in,
+    BindingsInText, BuildLine, JoinedPathLists, PathEnds, PathInText, PathLists, PathPart,
+    PathsInText, ValueInText, name_in, part_at, path_in, value_in,
 };
 use plan_text::{Items, MAX_PATH, SmallText, TextFault, canonical, is_canonical};
 use std::alloc::{AllocError, Global};
@@ -24,32 +26,51 @@ use std::alloc::{AllocError, Global};
 #[derive(Drop)]
 pub struct BlockTexts<'a> {
     /// Their texts.
-    pub values: SmallMap<'a, Items<u8>>,
+    pub values: SmallMap<'a, HeldText<'a>>,
     /// Whether a text that the block gives is too long, also one that it replaces.
     pub has_long: bool,
+}
+
+/// The text of a right side in a build block, by what names stand for above it.
+fn value_text<'a>(
+    alloc: Global,
+    here: Scope<'a>,
+    value: ValueInText<'a>,
+) -> Result<HeldText<'a>, AllocError>
+    ensures { IfOk result (λ text. (meant : Name → Text) → KeptEqLookup (names_in here.entry) meant → kept text ≡ kept (expand meant (value_of value.entry))) }
+{
+    match value {
+        ValueInText::Plain(bytes) => Ok(HeldText::lent(front_kept(bytes))),
+        ValueInText::Pieces(line) => {
+            let pieces = line.read(alloc)?;
+            let text = expand_pieces(alloc, here, pieces.as_slice())?;
+            Ok(HeldText::made(text))
+        }
+    }
 }
 
 /// The variables of a build block, by what names stand for above it.
 pub fn block<'a>(
     alloc: Global,
     here: Scope<'a>,
-    bindings: &'a [Binding],
+    block: &BindingsInText<'a>,
 ) -> Result<BlockTexts<'a>, AllocError>
-    ensures values { IfOk result (λ b. (meant : Name → Text) → KeptEqLookup (names_in here.entry) meant → KeptEqBindings b.values (block_of meant bindings.now)) }
-    ensures long { IfOk result (λ b. (meant : Name → Text) → KeptEqLookup (names_in here.entry) meant → b.has_long ≡ list_any (λ x. is_too_long x.1) (block_of meant bindings.now)) }
+    ensures values { IfOk result (λ b. (meant : Name → Text) → KeptEqLookup (names_in here.entry) meant → KeptEqBindings b.values (block_of meant (bindings_in block.now))) }
+    ensures long { IfOk result (λ b. (meant : Name → Text) → KeptEqLookup (names_in here.entry) meant → b.has_long ≡ list_any (λ x. is_too_long x.1) (block_of meant (bindings_in block.now))) }
 {
     let mut values = SmallMap::new(alloc);
     let mut has_long = false;
+    let (source, bindings) = (block.text, block.bindings);
     for binding in bindings {
-        let text = expand_pieces(alloc, here, binding.value.as_slice())?;
-        has_long |= is_long(&text);
-        values.set(binding.name.as_slice(), Items::new(text))?;
+        let text = value_text(alloc, here, value_in(source, binding.value))?;
+        has_long |= is_long(text.as_slice());
+        values.set(name_in(source, *binding), text)?;
     }
     Ok(BlockTexts { values, has_long })
 }
 
 /// The text of a name on a build line: its own block comes first.
-fn text_near<'a>(block: &'a SmallMap<'a, Items<u8>>, here: Scope<'a>, name: &[u8]) -> &'a [u8]
+fn text_near<'a>(block: &'a SmallMap<'a, HeldText<'a>>, here: Scope<'a>, name: &[u8]) -> &'a [u8]
     ensures { result.now ≡ near (names_in here.entry) block.now name.now }
 {
     match block.get(name) {
@@ -60,7 +81,7 @@ fn text_near<'a>(block: &'a SmallMap<'a, Items<u8>>, here: Scope<'a>, name: &[u8
 
 /// The text of a part of a path.
 fn part_text<'a>(
-    block: &'a SmallMap<'a, Items<u8>>,
+    block: &'a SmallMap<'a, HeldText<'a>>,
     here: Scope<'a>,
     part: PathPart<'a>,
 ) -> &'a [u8]
@@ -74,7 +95,7 @@ fn part_text<'a>(
 
 /// Puts a path of a build line together in a buffer, in place of what that held; nothing where it is no path.
 fn expand_path<'a>(
-    block: &'a SmallMap<'a, Items<u8>>,
+    block: &'a SmallMap<'a, HeldText<'a>>,
     here: Scope<'a>,
     at: usize,
     path: &'a [u8],
@@ -121,15 +142,17 @@ pub fn canonical_path(alloc: Global, path: &[u8]) -> Result<SmallText, AllocErro
     }
 }
 
-/// What is read of a list of paths.
+/// What is read of paths, one list of a build line behind the other.
 #[derive(Drop)]
-pub struct PathList {
+struct PathsSoFar {
+    /// What a path is put together in, whatever it holds.
+    buffer: Vec<u8>,
     /// Their canonical forms.
-    pub forms: Items<SmallText>,
+    forms: Vec<SmallText>,
     /// Whether a path as expanded has no byte.
-    pub has_empty: bool,
+    has_empty: bool,
     /// Whether a path as expanded is too long.
-    pub has_long: bool,
+    has_long: bool,
 }
 
 /// What is read of a path.
@@ -158,7 +181,7 @@ fn path_read(alloc: Global, path: &[u8]) -> Result<PathRead, AllocError>
 /// memory than it needs.
 fn read_one<'a>(
     alloc: Global,
-    block: &'a SmallMap<'a, Items<u8>>,
+    block: &'a SmallMap<'a, HeldText<'a>>,
     here: Scope<'a>,
     path: PathInText<'a>,
     buffer: &mut Vec<u8>,
@@ -175,74 +198,47 @@ fn read_one<'a>(
     }
 }
 
-/// The paths of a list, put together in a buffer, whatever that held.
+/// Reads the paths of a list behind those of the lists before it. How many there are then is where the list ends.
 fn read_list<'a>(
     alloc: Global,
-    block: &'a SmallMap<'a, Items<u8>>,
+    block: &'a SmallMap<'a, HeldText<'a>>,
     here: Scope<'a>,
     list: &PathsInText<'a>,
-    buffer: &mut Vec<u8>,
-) -> Result<PathList, AllocError>
-    ensures { IfOk result (λ read. (texts : List Text) × IsListOf texts read.forms read.has_empty read.has_long × ((b : Bindings Text) (m : Name → Text) → KeptEqBindings block.now b → KeptEqLookup (names_in here.entry) m → map kept texts ≡ map kept (paths_of (near m b) (paths_in list.now)))) }
+    read: &mut PathsSoFar,
+) -> Result<u32, AllocError>
+    ensures { IfOk result (λ end. (texts : List Text) × (end ≡ length read.new.forms.items) × ((before : List Text) → IsListOf before read.old.forms.items read.old.has_empty read.old.has_long → IsListOf (before ++ texts) read.new.forms.items read.new.has_empty read.new.has_long) × ((b : Bindings Text) (m : Name → Text) → KeptEqBindings block.now b → KeptEqLookup (names_in here.entry) m → map kept texts ≡ map kept (paths_of (near m b) (paths_in list.now)))) }
 {
     let (text, paths) = (list.text, list.paths);
-    let mut forms = Vec::with_capacity(alloc, paths.len())?;
-    let mut has_empty = false;
-    let mut has_long = false;
     for path in paths {
-        let read = read_one(alloc, block, here, path_in(text, *path), buffer)?;
-        has_empty |= read.is_empty;
-        has_long |= read.is_long;
-        forms.push(read.form)?;
+        let one = read_one(alloc, block, here, path_in(text, *path), &mut read.buffer)?;
+        read.has_empty |= one.is_empty;
+        read.has_long |= one.is_long;
+        read.forms.push(one.form)?;
     }
-    Ok(PathList {
-        forms: Items::new(forms),
-        has_empty,
-        has_long,
-    })
+    match u32::try_from(read.forms.len()) {
+        Ok(end) => Ok(end),
+        Err(_) => Err(AllocError),
+    }
 }
 
 /// What is read of the paths of a build line.
 #[derive(Drop)]
 pub struct PathTexts {
     /// Their canonical forms.
-    pub paths: PathLists<Items<SmallText>>,
+    pub paths: JoinedPathLists<SmallText>,
     /// Whether a path as expanded has no byte.
     pub has_empty: bool,
     /// Whether a path as expanded is too long.
     pub has_long: bool,
 }
 
-/// What is read of five lists.
-fn combine(lists: PathLists<PathList>) -> PathTexts
-    ensures { (texts : Paths) → AreListsOf texts lists → AreRead texts result }
-{
-    let PathLists {
-        outputs,
-        implicit_outputs,
-        inputs,
-        implicit_inputs,
-        order_only_inputs,
-    } = lists;
-    PathTexts {
-        has_empty: outputs.has_empty
-            | implicit_outputs.has_empty
-            | inputs.has_empty
-            | implicit_inputs.has_empty
-            | order_only_inputs.has_empty,
-        has_long: outputs.has_long
-            | implicit_outputs.has_long
-            | inputs.has_long
-            | implicit_inputs.has_long
-            | order_only_inputs.has_long,
-        paths: PathLists {
-            outputs: outputs.forms,
-            implicit_outputs: implicit_outputs.forms,
-            inputs: inputs.forms,
-            implicit_inputs: implicit_inputs.forms,
-            order_only_inputs: order_only_inputs.forms,
-        },
-    }
+/// How many paths five lists have.
+fn path_count(lists: &PathLists<PathsInText>) -> usize {
+    let mut count = lists.outputs.paths.len();
+    count = count.saturating_add(lists.implicit_outputs.paths.len());
+    count = count.saturating_add(lists.inputs.paths.len());
+    count = count.saturating_add(lists.implicit_inputs.paths.len());
+    count.saturating_add(lists.order_only_inputs.paths.len())
 }
 
 /// How many bytes a buffer of paths has room for at first, enough for most.
@@ -251,21 +247,31 @@ const BUFFER: usize = 500;
 /// The paths of a build line, by its block and what names stand for above it.
 pub fn read_paths<'a>(
     alloc: Global,
-    block: &'a SmallMap<'a, Items<u8>>,
+    block: &'a SmallMap<'a, HeldText<'a>>,
     here: Scope<'a>,
     build: &BuildLine<'a>,
 ) -> Result<PathTexts, AllocError>
     ensures { IfOk result (λ read. (texts : Paths) × AreRead texts read × ((b : Bindings Text) (m : Name → Text) → KeptEqBindings block.now b → KeptEqLookup (names_in here.entry) m → kept_in texts ≡ kept_in (texts_of (near m b) build.now))) }
 {
-    let mut buffer = Vec::with_capacity(alloc, BUFFER)?;
     let lists = build.paths();
-    Ok(combine(PathLists {
-        outputs: read_list(alloc, block, here, &lists.outputs, &mut buffer)?,
-        implicit_outputs: read_list(alloc, block, here, &lists.implicit_outputs, &mut buffer)?,
-        inputs: read_list(alloc, block, here, &lists.inputs, &mut buffer)?,
-        implicit_inputs: read_list(alloc, block, here, &lists.implicit_inputs, &mut buffer)?,
-        order_only_inputs: read_list(alloc, block, here, &lists.order_only_inputs, &mut buffer)?,
-    }))
+    let mut read = PathsSoFar {
+        buffer: Vec::with_capacity(alloc, BUFFER)?,
+        forms: Vec::with_capacity(alloc, path_count(&lists))?,
+        has_empty: false,
+        has_long: false,
+    };
+    let ends = PathEnds {
+        outputs: read_list(alloc, block, here, &lists.outputs, &mut read)?,
+        implicit_outputs: read_list(alloc, block, here, &lists.implicit_outputs, &mut read)?,
+        inputs: read_list(alloc, block, here, &lists.inputs, &mut read)?,
+        implicit_inputs: read_list(alloc, block, here, &lists.implicit_inputs, &mut read)?,
+    };
+    read_list(alloc, block, here, &lists.order_only_inputs, &mut read)?;
+    Ok(PathTexts {
+        paths: JoinedPathLists::new(read.forms, ends),
+        has_empty: read.has_empty,
+        has_long: read.has_long,
+    })
 }
 
 /// Whether a path of a list has no byte.

@@ -5,6 +5,7 @@ ghost use Rattle.plan_scope.specs.Scopes.{last_of};
 ghost use Rattle.plan_scope.specs.Edges.{late};
 ghost use Rattle.plan_scope.specs.Compiled.{LeavesRule};
 
+use crate::scope::held_text::HeldText;
 use crate::scope::scoped_map::{MARKS, mark};
 use crate::scope::small_map::SmallMap;
 use plan_parse::Binding;
@@ -86,7 +87,7 @@ impl<'a> RuleVariables<'a> {
     }
 
     /// Whether a block binds none of them.
-    pub fn are_left_by<'b>(&self, block: &SmallMap<'b, Items<u8>>) -> bool
+    pub fn are_left_by<'b>(&self, block: &SmallMap<'b, HeldText<'b>>) -> bool
         ensures { result ≡ true → LeavesRule self.now block.now }
     {
         for binding in self.bindings {

@@ -35,6 +35,17 @@ pub fn is_long(text: &[u8]) -> bool
     text.len() > MAX_TEXT
 }
 
+/// As much of a text as is kept: of one that is too long no more than shows it.
+pub fn front_kept(text: &[u8]) -> &[u8]
+    ensures { kept result.now ≡ kept text.now }
+{
+    if MAX_TEXT < text.len() {
+        &text[..MAX_TEXT + 1]
+    } else {
+        text
+    }
+}
+
 /// Appends a text. Of a text that is too long no more is kept than shows it: one byte more than is allowed.
 #[inline(always)]
 pub fn append(out: &mut Vec<u8>, text: &[u8]) -> Result<(), AllocError>

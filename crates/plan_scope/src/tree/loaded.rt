@@ -86,15 +86,16 @@ impl Loaded {
         }
     }
 
-    /// The tree of these statements.
+    /// The tree of these statements, without spare room where memory allows it.
     pub fn into_tree(self) -> Tree
         ensures { result ≡ self }
     {
         let Loaded {
-            statements,
+            mut statements,
             bound,
             greatest: _,
         } = self;
+        statements.shrink_to_fit();
         Tree {
             statements: Items::new(statements),
             bound,

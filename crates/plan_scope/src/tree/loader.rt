@@ -48,12 +48,13 @@ fn read_statements<S: Source>(
     ensures read { IsRead (S.gives source.old) (S.fails source.old) (S.failures source.old) (S.failures source.new) path.now result }
     ensures same { SameFiles (S.gives source.new) (S.fails source.new) (S.gives source.old) (S.fails source.old) }
 {
-    let bytes = match source.read(alloc, path) {
+    let mut bytes = match source.read(alloc, path) {
         Ok(bytes) => bytes,
         Err(SourceFault::Missing) => return Err(ReadFault::Missing),
         Err(SourceFault::Failed) => return Err(ReadFault::Missing),
         Err(SourceFault::Memory) => return Err(ReadFault::Memory),
     };
+    bytes.shrink_to_fit();
     match parse(alloc, &bytes) {
         Ok(statements) => Ok(Parsed {
             text: Items::new(bytes),

@@ -19,7 +19,7 @@ returns c = λ edge at.
     let few : ℕ = named_count edge row in
     let found : it ≡ edge = c.index-as_slice-number.is ∙ ap (λ (es : List EdgeMeant). get_or es n it) c.as_slice.ensures ∙ index_or m.edges n edge it at in
     let count : c.saturating_sub-count.result ≡ few =
-    c.saturating_sub-count.ensures ∙ ap (λ (k : ℕ). length c.row-inputs.result.now - k) (c.len.ensures ∙ ap (λ (e : EdgeMeant). length e.paths.order_only_inputs) found)
+    c.saturating_sub-count.ensures ∙ ap (λ (k : ℕ). length c.row-inputs.result.now - k) (ap length c.order_only_inputs.ensures ∙ ap (λ (e : EdgeMeant). length e.paths.order_only_inputs) found)
     ∙ ap (λ (fs : List ℕ). length fs - length edge.paths.order_only_inputs) c.row-inputs.ensures in
     let front : c.front-named.result.now ≡ take few row = c.front-named.ensures ∙ ap (λ (k : ℕ). take k c.row-inputs.result.now) count ∙ ap (λ (fs : List ℕ). take few fs) c.row-inputs.ensures in
     let back : c.back-order_only.result.now ≡ drop few row = c.back-order_only.ensures ∙ ap (λ (k : ℕ). drop k c.row-inputs.result.now) count ∙ ap (λ (fs : List ℕ). drop few fs) c.row-inputs.ensures in

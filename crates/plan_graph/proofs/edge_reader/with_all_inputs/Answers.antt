@@ -12,13 +12,13 @@ returns-clause-table c =
     let files = c.args.files.now in
     let one = c.with_inputs.new.files in
     let two = c.with_inputs-2.new.files in
-    let xs = c.as_slice.result.now in
-    let ys = c.as_slice-2.result.now in
-    let zs = c.as_slice-3.result.now in
+    let xs = c.inputs.result.now in
+    let ys = c.implicit_inputs.result.now in
+    let zs = c.order_only_inputs.result.now in
     let edge = c.args.edge.now in
     let all = three_inputs own files one two xs ys zs c.in_ok-with_inputs.ensures.table c.in_ok-with_inputs-2.ensures.table in
-    let named = ap (λ (x : List Path). with_inputs own files (x ++ (ys ++ zs))) c.as_slice.ensures
-    ∙ (ap (λ (y : List Path). with_inputs own files (edge.paths.inputs ++ (y ++ zs))) c.as_slice-2.ensures ∙ ap (λ (z : List Path). with_inputs own files (edge.paths.inputs ++ (edge.paths.implicit_inputs ++ z))) c.as_slice-3.ensures) in
+    let named = ap (λ (x : List Path). with_inputs own files (x ++ (ys ++ zs))) c.inputs.ensures
+    ∙ (ap (λ (y : List Path). with_inputs own files (edge.paths.inputs ++ (y ++ zs))) c.implicit_inputs.ensures ∙ ap (λ (z : List Path). with_inputs own files (edge.paths.inputs ++ (edge.paths.implicit_inputs ++ z))) c.order_only_inputs.ensures) in
     ap okay (sym (all ∙ named)) ∙ c.in_ok-with_inputs-3.ensures.table
 
 pub returns-clause-row : goal.returns-clause-row
@@ -28,9 +28,9 @@ returns-clause-row c =
     let seen = paths_in files in
     let one = c.with_inputs.new.files in
     let two = c.with_inputs-2.new.files in
-    let xs = c.as_slice.result.now in
-    let ys = c.as_slice-2.result.now in
-    let zs = c.as_slice-3.result.now in
+    let xs = c.inputs.result.now in
+    let ys = c.implicit_inputs.result.now in
+    let zs = c.order_only_inputs.result.now in
     let edge = c.args.edge.now in
     let row = c.args.row.now.items in
     let first = ok_is (with_inputs own files xs) one c.in_ok-with_inputs.ensures.table in
@@ -42,5 +42,5 @@ returns-clause-row c =
     let all = row_more seen (paths_in two) row c.with_inputs-2.new.row.items c.with_inputs-3.new.row.items (xs ++ ys) zs front past_two c.in_ok-with_inputs-3.ensures.row in
     all
     ∙ (ap (λ (ps : List Path). row ++ numbers_past seen ps) (append_assoc xs ys zs)
-    ∙ (ap (λ (x : List Path). row ++ numbers_past seen (x ++ (ys ++ zs))) c.as_slice.ensures
-    ∙ (ap (λ (y : List Path). row ++ numbers_past seen (edge.paths.inputs ++ (y ++ zs))) c.as_slice-2.ensures ∙ ap (λ (z : List Path). row ++ numbers_past seen (edge.paths.inputs ++ (edge.paths.implicit_inputs ++ z))) c.as_slice-3.ensures)))
+    ∙ (ap (λ (x : List Path). row ++ numbers_past seen (x ++ (ys ++ zs))) c.inputs.ensures
+    ∙ (ap (λ (y : List Path). row ++ numbers_past seen (edge.paths.inputs ++ (y ++ zs))) c.implicit_inputs.ensures ∙ ap (λ (z : List Path). row ++ numbers_past seen (edge.paths.inputs ++ (edge.paths.implicit_inputs ++ z))) c.order_only_inputs.ensures)))

@@ -8,9 +8,9 @@ use Rattle.plan_parse.specs.Views.{place_of}
 use Rattle.plan_parse.proofs.WordLemmas.{meets_word, told, is_rule, is_pool, is_default, is_include, is_subninja, behind_stands}
 use Rattle.plan_parse.proofs.statement_reader.statement_of.Goals as goal
 
-pub build_of-requires : goal.build_of-requires
-build_of-requires c =
-    behind_stands c.args.text.now (place_of c.args.p) (place_of c.past_gap-start.result) (place_of c.past_gap-behind.result) c.name_of-word.result.now c.requires c.past_gap-start.ensures c.name_of-word.ensures
+pub build_of-requires-clause-line : goal.build_of-requires-clause-line
+build_of-requires-clause-line c =
+    behind_stands c.args.text.now (place_of c.args.p) (place_of c.past_gap-start.result) (place_of c.past_gap-behind.result) c.name_of-word.result.now c.requires.line c.past_gap-start.ensures c.name_of-word.ensures
     (c.past_gap-behind.ensures ∙ ap (λ (q : Place). past_gap q) c.past.ensures)
 
 pub returns-then-eq : goal.returns-then-eq
