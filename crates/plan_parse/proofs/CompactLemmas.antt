@@ -94,14 +94,9 @@ whole r v h = h ∙ ap (λ (q : Result (List Piece) ParseFault). Ok (pieces_or_n
 
 -- a path is read again as it was
 pub path_again : (text : List ℕ) (span : Span) (p : Place) (n : ℕ) (v : List Piece) → n ≤ length p.bytes → StandsIn text p → span.at ≡ p.at → span.len ≡ n
-    → path_pieces (line_in text span) ≡ Ok v → path_at p n ≡ Ok (path_in text (path.Pieces span))
+    → path_at p n ≡ Ok v → path_at p n ≡ Ok (path_in text (path.Pieces span))
 path_again text span p n v within stands at len read =
-    sym (ap (λ (q : Place). path_pieces q) (path_place text span p n within stands at len)) ∙ whole (path_pieces (line_in text span)) v read
-
--- and so is its fault
-pub fault_again : (text : List ℕ) (span : Span) (p : Place) (n : ℕ) (e : ParseFault) → n ≤ length p.bytes → StandsIn text p → span.at ≡ p.at → span.len ≡ n
-    → path_pieces (line_in text span) ≡ Err e → path_at p n ≡ Err e
-fault_again text span p n e within stands at len read = sym (ap (λ (q : Place). path_pieces q) (path_place text span p n within stands at len)) ∙ read
+    whole (path_at p n) v read ∙ ap (λ (q : Place). Ok (pieces_or_none (path_pieces q))) (sym (path_place text span p n within stands at len))
 
 -- the place of what is left of a line
 line_place : (text : List ℕ) (span : Span) (p : Place) → StandsIn text p → span.at ≡ p.at → span.len ≡ length p.bytes → line_in text span ≡ p

@@ -7,6 +7,8 @@ pub mod CompactLemmas
 pub mod RoleLemmas
 pub mod WordLemmas
 pub mod PartLemmas
+mod CutLemmas
+mod UnitLemmas
 pub mod WholeLaw
 pub mod LikeLemmas
 pub mod StatementLemmas

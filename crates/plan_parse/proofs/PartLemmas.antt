@@ -2,7 +2,6 @@
 use Rattle.std.proofs.Common.{◌≡◌, ℕ, zero, suc, ◌+◌, ◌-◌, ◌<◌, ◌≤◌, ◌==◌, Bool, true, false, ◌||◌, ◌&&◌, not, cond, List, [], ◌∷◌, length, take, drop, get_or, slice_index_or, Result, Ok, Err, Option, Some, None, refl, sym, ap, ◌∙◌, arith, add-zero}
 use Rattle.std.proofs.lemmas.List.Sums.{prefix_len_passes}
 use Rattle.std.specs.List.{prefix_len, take_while}
-use Rattle.std.proofs.lemmas.List.{drop-drop}
 use Rattle.std.proofs.lemmas.Bool.{ne_eqb}
 use Rattle.std.proofs.lemmas.List.Folds.{length-prefix_len}
 use Rattle.plan_text.specs.Bytes.{nul, tab, dollar, space, colon, line_feed, carriage_return, left_brace, right_brace, is_name_byte, is_bare_name_byte, begins_with}
@@ -19,7 +18,7 @@ use Rattle.plan_parse.specs.PlainPaths.{is_plain}
 use Rattle.plan_parse.specs.Reading.{ends_path}
 
 -- past the bytes to skip
-skipped : (at : ℕ) (v : List ℕ) (n : ℕ) → n ≤ length v → pieces_past mode.Path at v n ≡ pieces_past mode.Path (at + n) (drop n v) 0
+pub skipped : (at : ℕ) (v : List ℕ) (n : ℕ) → n ≤ length v → pieces_past mode.Path at v n ≡ pieces_past mode.Path (at + n) (drop n v) 0
 skipped at [] zero h = refl
 skipped at [] (suc n) h = absurd (omega arith)
 skipped at (b ∷ rest) zero h = rw (add-zero at) refl
@@ -96,12 +95,6 @@ no_size (Some x) h = absurd cc
 pub no_escape : (at : ℕ) (v : List ℕ) → escape_size v ≡ None → pieces_from mode.Path at (dollar ∷ v) ≡ Err (text.BadEscape at)
 no_escape at v h = ap (λ (o : Option (Sign × ℕ)). in_front (or_bad at o) (λ (k : ℕ). pieces_past mode.Path (at + 1) v k)) (no_size (escape v) h)
 
--- one part more
-pub part_more : (f : List Piece → List Piece) (p : PathPart) (all now rest : Result (List Piece) TextFault)
-    → all ≡ map_pieces f now → now ≡ map_pieces (part_onto p) rest → all ≡ map_pieces (λ more. f (part_onto p more)) rest
-part_more f p all now (Ok x) h e = h ∙ ap (map_pieces f) e
-part_more f p all now (Err d) h e = h ∙ ap (map_pieces f) e
-
 braced_go : (b : ℕ) (name rest : List ℕ) (len : ℕ) (t : Bool) → b ∷ name ≡ take (length (b ∷ name)) rest → size_of (cond {A = Option (Sign × ℕ)} t (Some (Name (b ∷ name), length (b ∷ name) + 2)) None) ≡ Some len
     → cond {A = Option (Sign × ℕ)} t (Some (Name (b ∷ name), length (b ∷ name) + 2)) None ≡ Some (Name (take (len - 1 - 1) rest), len)
 braced_go b name rest len true e h =
@@ -159,20 +152,3 @@ one_byte (b ∷ rest) some d n t (suc k) l = absurd (omega arith)
 pub byte_part : (at : ℕ) (v : List ℕ) → 0 < length v → (slice_index_or v 0 0 ≡ dollar → ⊥) → (slice_index_or v 0 0 ≡ nul → ⊥) → (slice_index_or v 0 0 ≡ tab → ⊥)
     → pieces_from mode.Path at v ≡ map_pieces (bytes_onto (take 1 v)) (pieces_from mode.Path (at + 1) (drop 1 v))
 byte_part at v some d n t = plain_part 1 at v (omega (arith, some)) (one_byte v some d n t)
-
-same_pieces : (r : Result (List Piece) TextFault) → r ≡ map_pieces (λ (more : List Piece). more) r
-same_pieces (Ok v) = refl
-same_pieces (Err e) = refl
-
--- all pieces are those of the whole path
-pub all_pieces : (at : ℕ) (v : List ℕ) → pieces_from mode.Path at v ≡ map_pieces (λ (more : List Piece). more) (pieces_from mode.Path (at + 0) v)
-all_pieces at v = same_pieces (pieces_from mode.Path at v) ∙ ap (λ (k : ℕ). map_pieces (λ (more : List Piece). more) (pieces_from mode.Path k v)) (sym (add-zero at))
-
--- the parts so far and one more
-pub parts_go_on : (at done n : ℕ) (v : List ℕ) (front : List Piece → List Piece) (p : PathPart) → pieces_from mode.Path at v ≡ map_pieces front (pieces_from mode.Path (at + done) (drop done v))
-    → pieces_from mode.Path (at + done) (drop done v) ≡ map_pieces (part_onto p) (pieces_from mode.Path (at + done + n) (drop n (drop done v)))
-    → pieces_from mode.Path at v ≡ map_pieces (λ more. front (part_onto p more)) (pieces_from mode.Path (at + (done + n)) (drop (done + n) v))
-parts_go_on at done n v front p so_far first =
-    let place : at + done + n ≡ at + (done + n) = omega arith in
-    part_more front p (pieces_from mode.Path at v) (pieces_from mode.Path (at + done) (drop done v)) (pieces_from mode.Path (at + (done + n)) (drop (done + n) v)) so_far
-    (first ∙ ap (λ (k : ℕ). map_pieces (part_onto p) (pieces_from mode.Path k (drop n (drop done v)))) place ∙ ap (λ (w : List ℕ). map_pieces (part_onto p) (pieces_from mode.Path (at + (done + n)) w)) (drop-drop n done v))

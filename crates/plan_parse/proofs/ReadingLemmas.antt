@@ -86,16 +86,9 @@ path_plain [] = refl
 path_plain (b ∷ rest) = plain_go b rest (prefix_len is_plain rest) (is_plain b) refl (path_plain rest)
 
 -- no unit
-run_end : (size : List ℕ → ℕ) (text : List ℕ) → size text ≡ 0 → run size text ≡ 0
+pub run_end : (size : List ℕ → ℕ) (text : List ℕ) → size text ≡ 0 → run size text ≡ 0
 run_end size [] e = refl
 run_end size (b ∷ rest) e = ap (λ (k : ℕ). and_more k (λ n. run_past size rest n)) e
-
--- a path of bytes that stand for themselves
-pub path_ends : (text : List ℕ) → path_unit (drop (prefix_len is_plain text) text) ≡ 0 → prefix_len is_plain text ≡ path_len text
-path_ends text e =
-    let none = run_end path_unit (drop (prefix_len is_plain text) text) e in
-    let all = path_plain text in
-    omega (arith, none, all)
 
 not_special : (e s : Bool) → not (e || s) ≡ true → s ≡ false
 not_special false false h = refl
@@ -171,11 +164,17 @@ reads_path front p n path all g e h fits found so_far =
     ∙ ap (λ (r : Result (List Piece) ParseFault). with_front front (r >>= λ path. path_onto path (paths_at (past n p)))) (sym found)
     ∙ ap (with_front front) (sym (path_go p.at p.bytes n g e h fits)) ∙ so_far
 
+-- a path with a fault has a byte
+fault_some : (p : Place) (n : ℕ) (fault : ParseFault) → path_at p n ≡ Err fault → 0 < n
+fault_some p zero fault h = absurd cc
+fault_some p (suc n) fault h = omega arith
+
 -- a fault in a path
-pub stops : (front : List (List Piece)) (p : Place) (n : ℕ) (fault : ParseFault) (all : Result (List (List Piece) × Place) ParseFault) → gap_len p.bytes ≡ 0 → n ≡ path_len p.bytes → 0 < n → n ≤ length p.bytes
+pub stops : (front : List (List Piece)) (p : Place) (n : ℕ) (fault : ParseFault) (all : Result (List (List Piece) × Place) ParseFault) → gap_len p.bytes ≡ 0 → n ≡ path_len p.bytes
     → path_at p n ≡ Err fault → with_front front (paths_at p) ≡ all → all ≡ Err fault
-stops front p n fault all g e h fits found so_far =
-    sym so_far ∙ ap (with_front front) (path_go p.at p.bytes n g e h fits)
+stops front p n fault all g e found so_far =
+    let within = run_within path_unit p.bytes 0 in
+    sym so_far ∙ ap (with_front front) (path_go p.at p.bytes n g e (fault_some p n fault found) (omega (arith, e, within)))
     ∙ ap (λ (r : Result (List Piece) ParseFault). with_front front (r >>= λ path. path_onto path (paths_at (past n p)))) found
 
 -- the end of the list

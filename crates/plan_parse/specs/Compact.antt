@@ -92,8 +92,3 @@ said_in text (kept.Directive d) = directive_said d.value
 -- what is left of a line is a line of the text
 abbrev pub StandsIn : List ℕ → Place → Type 0
 StandsIn text p = p.bytes ≡ take (length p.bytes) (drop p.at text)
-
--- whether a line of a text is a path, or has this fault
-abbrev pub IsSound : List ℕ → Span → Result (Unit {0}) ParseFault → Type 0
-IsSound text span (Ok x) = (pieces : List Piece) × (path_pieces (line_in text span) ≡ Ok pieces)
-IsSound text span (Err e) = path_pieces (line_in text span) ≡ Err e

@@ -1,13 +1,16 @@
 -- Paths, part by part.
-use Rattle.std.specs.Prelude.{◌≡◌, ◌+◌, ◌<◌, ◌≤◌, ℕ, List, [], ◌∷◌, length, drop, Result, Ok, Err}
+use Rattle.std.specs.Prelude.{◌≡◌, ◌+◌, ◌<◌, ◌≤◌, ◌==◌, ℕ, suc, List, [], ◌∷◌, length, take, drop, if◌then◌else◌, Option, Some, None, Result, Ok, Err}
+use Rattle.plan_text.specs.Bytes.{nul, tab, dollar}
 use Rattle.plan_text.specs.Gathering.{bytes_onto}
-use Rattle.plan_text.specs.Pieces.{Sign, Byte, Name, Nothing, pieces_from}
+use Rattle.plan_text.specs.Pieces.{Sign, Byte, Name, Nothing, escape_size, pieces_from}
 use Rattle.plan_text.specs.declared.fault.TextFault.{TextFault}
+use Rattle.plan_text.specs.declared.fault.TextFault.TheVariants as text
 use Rattle.plan_text.specs.declared.piece_reader.Mode.TheVariants as mode
 use Rattle.plan_text.specs.declared.piece_reader.Piece.{Piece}
 use Rattle.plan_text.specs.declared.piece_reader.Piece.TheVariants.{Reference}
 use Rattle.plan_parse.specs.declared.path_parts.PathPart.{PathPart}
 use Rattle.plan_parse.specs.declared.path_parts.PathPart.TheVariants as part
+use Rattle.plan_parse.specs.Reading.{ends_path, path_len}
 
 -- what a part of one byte or none, or of a name, stands for
 abbrev pub sign_of_bytes : List ℕ → Sign
@@ -40,7 +43,31 @@ IsFirstPart at text (Ok x) =
     (0 < x.1) × (x.1 ≤ length text) × (pieces_from mode.Path at text ≡ map_pieces (part_onto x.0) (pieces_from mode.Path (at + x.1) (drop x.1 text)))
 IsFirstPart at text (Err fault) = pieces_from mode.Path at text ≡ Err fault
 
--- whether a path has pieces, or this fault
-abbrev pub IsChecked : ℕ → List ℕ → Result (Unit {0}) TextFault → Type 0
-IsChecked at text (Ok x) = (pieces : List Piece) × (pieces_from mode.Path at text ≡ Ok pieces)
-IsChecked at text (Err fault) = pieces_from mode.Path at text ≡ Err fault
+-- how many bytes a `$` at offset `at` takes with its escape, where it has one
+abbrev pub escape_unit : ℕ → Option ℕ → Result ℕ TextFault
+escape_unit at (Some len) = Ok (suc len)
+escape_unit at None = Err (text.BadEscape at)
+
+-- how many bytes the unit takes that a path at offset `at` begins with, 0 where it has none; or the fault of its first
+-- byte
+abbrev pub unit_at : ℕ → List ℕ → Result ℕ TextFault
+unit_at at [] = Ok 0
+unit_at at (b ∷ rest) =
+    if ends_path b then Ok 0
+    else if b == dollar then escape_unit at (escape_size rest)
+    else if b == nul then Err (text.NulByte at)
+    else if b == tab then Err (text.TabBlank at)
+    else Ok 1
+
+-- the pieces of the path that a text at offset `at` begins with
+abbrev pub first_path : ℕ → List ℕ → Result (List Piece) TextFault
+first_path at bytes = pieces_from mode.Path at (take (path_len bytes) bytes)
+
+-- it goes well
+abbrev pub GoesWell : {A E : Type 0} → Result A E → Type 0
+GoesWell {A} r = (x : A) × (r ≡ Ok x)
+
+-- it goes well where the other does, else it has the other's fault
+abbrev pub FailsAs : {A B E : Type 0} → Result A E → Result B E → Type 0
+FailsAs r (Ok x) = GoesWell r
+FailsAs r (Err e) = r ≡ Err e

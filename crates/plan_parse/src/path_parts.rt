@@ -1,11 +1,15 @@
 //! Paths, part by part.
 
-ghost use Rattle.std.specs.Prelude.{◌≡◌, ◌≤◌, ◌<◌, ◌+◌, ◌^◌, ◌==◌, ◌||◌, ◌∷◌, Some, length};
+ghost use Rattle.std.specs.Prelude.{◌≡◌, ◌≤◌, ◌<◌, ◌+◌, ◌^◌, ◌==◌, ◌||◌, ◌∷◌, Some, IfOk, length};
+ghost use Rattle.std.specs.List.{prefix_len};
 ghost use Rattle.plan_text.specs.Bytes.{dollar, space, colon, line_feed, carriage_return};
 ghost use Rattle.plan_text.specs.Pieces.{escape, escape_size};
-ghost use Rattle.plan_parse.specs.Parts.{IsChecked, IsFirstPart, IsShort, sign_of};
+ghost use Rattle.plan_parse.specs.Parts.{FailsAs, IsFirstPart, IsShort, escape_unit, first_path, sign_of, unit_at};
+ghost use Rattle.plan_parse.specs.PlainPaths.{is_plain};
+ghost use Rattle.plan_parse.specs.Reading.{path_len};
 
-use crate::reading::plain_len;
+use crate::cursor::Cursor;
+use crate::reading::{past, plain_len};
 use plan_text::{TextFault, escape_len};
 
 /// A part of a path.
@@ -86,15 +90,49 @@ pub fn part_at(text: &[u8], at: usize) -> Result<(PathPart<'_>, usize), TextFaul
     }
 }
 
-/// The fault of a path, if it has one.
-pub fn check_path(text: &[u8], at: usize) -> Result<(), TextFault>
-    requires { at + length text.now < 2 ^ 64 }
-    ensures { IsChecked at text.now result }
+/// How many bytes a `$` takes with its escape.
+fn escape_unit(p: Cursor<'_>, behind: &[u8]) -> Result<usize, TextFault>
+    ensures size { result ≡ escape_unit p.entry.at (escape_size behind.now) }
+    ensures within { IfOk result (λ len. len ≤ 1 + length behind.now) }
 {
-    let mut done = 0;
-    while done < text.len() {
-        let (_, len) = part_at(&text[done..], at + done)?;
-        done += len;
+    match escape_len(behind) {
+        Some(len) => Ok(1 + len),
+        None => Err(TextFault::BadEscape(p.at as u64)),
     }
-    Ok(())
+}
+
+/// How many bytes a path goes on with here, a `$` with its escape or one byte; 0 where it ends.
+fn unit_at(p: Cursor<'_>) -> Result<usize, TextFault>
+    ensures size { result ≡ unit_at p.entry.at p.entry.bytes.now }
+    ensures within { IfOk result (λ len. len ≤ length p.entry.bytes.now) }
+{
+    match p.bytes {
+        [] | [b' ' | b':' | b'|', ..] => Ok(0),
+        [b'$', behind @ ..] => escape_unit(p, behind),
+        [0, ..] => Err(TextFault::NulByte(p.at as u64)),
+        [b'\t', ..] => Err(TextFault::TabBlank(p.at as u64)),
+        _ => Ok(1),
+    }
+}
+
+/// How long the path is that stands here, whose first bytes, so many, stand for themselves.
+///
+/// # Errors
+///
+/// The path's first fault.
+pub fn checked_len(p: Cursor<'_>, plain: usize) -> Result<usize, TextFault>
+    requires { plain ≡ prefix_len is_plain p.bytes.now }
+    ensures len { IfOk result (λ len. len ≡ path_len p.entry.bytes.now) }
+    ensures within { IfOk result (λ len. len ≤ length p.entry.bytes.now) }
+    ensures sound { FailsAs (first_path p.entry.at p.entry.bytes.now) result }
+{
+    let mut len = plain;
+    loop {
+        let unit = unit_at(past(p, len))?;
+        if unit == 0 {
+            return Ok(len);
+        }
+        len += unit;
+        len += plain_len(&p.bytes[len..]);
+    }
 }

@@ -5,7 +5,8 @@ ghost use Rattle.std.specs.List.{prefix_len};
 ghost use Rattle.plan_text.specs.Outcome.{Meets, seen_by};
 ghost use Rattle.plan_text.specs.declared.piece_reader.Piece.{Piece};
 ghost use Rattle.plan_parse.specs.Reading as syntax;
-ghost use Rattle.plan_parse.specs.Compact.{IsSound, StandsIn, line_in, path_in, value_in, variable_in};
+ghost use Rattle.plan_parse.specs.Compact.{StandsIn, line_in, path_in, value_in, variable_in};
+ghost use Rattle.plan_parse.specs.Parts.{FailsAs, GoesWell};
 ghost use Rattle.plan_parse.specs.PathLists.{Extends, added_to};
 ghost use Rattle.plan_parse.specs.PlainValues.{IsPlainValue};
 ghost use Rattle.plan_parse.specs.PlainPaths.{is_plain};
@@ -15,12 +16,12 @@ ghost use Rattle.plan_parse.specs.Views.{place_of};
 use crate::compact::{CompactBinding, CompactPath, CompactValue};
 use crate::cursor::Cursor;
 use crate::fault::ParseFault;
-use crate::path_parts::check_path;
+use crate::path_parts::checked_len;
 use crate::span::Span;
 use crate::statement::Binding;
 use plan_text::{
-    Mode, PieceList, SmallText, TextFault, Unit, begins, escape_len, gap_len, name_len, pieces_at,
-    plain_is_read, run_len,
+    Mode, PieceList, SmallText, TextFault, begins, escape_len, gap_len, name_len, pieces_at,
+    plain_is_read,
 };
 use std::alloc::{AllocError, Global};
 
@@ -224,25 +225,6 @@ pub fn plain_len(text: &[u8]) -> usize
     text.iter().take_while(|b| is_plain(**b)).count()
 }
 
-/// A byte of a path, or a `$` with its escape.
-struct PathUnit;
-
-impl Unit for PathUnit {
-    ghost size = { syntax.path_unit };
-
-    fn plain_len(text: &[u8]) -> usize {
-        plain_len(text)
-    }
-
-    fn unit_len(text: &[u8]) -> usize {
-        match text {
-            [] | [b' ' | b':' | b'|', ..] => 0,
-            [b'$', rest @ ..] => 1 + escape_len(rest).unwrap_or(0),
-            _ => 1,
-        }
-    }
-}
-
 /// Whether a path ends where this text begins.
 fn ends_path(text: &[u8]) -> bool
     ensures { result ≡ true → syntax.path_unit text.now ≡ 0 }
@@ -257,22 +239,30 @@ struct Extent {
     is_plain: bool,
 }
 
-/// How long the path is that a text begins with.
-fn path_extent(text: &[u8]) -> Extent
-    ensures len { result.len ≡ syntax.path_len text.now }
-    ensures within { result.len ≤ length text.now }
-    ensures plain { result.is_plain ≡ true → result.len ≤ prefix_len is_plain text.now }
+/// How long the path is that stands here.
+///
+/// # Errors
+///
+/// The path's first fault.
+fn extent_at(p: Cursor<'_>) -> Result<Extent, ParseFault>
+    ensures len { IfOk result (λ extent. extent.len ≡ syntax.path_len p.entry.bytes.now) }
+    ensures within { IfOk result (λ extent. extent.len ≤ length p.entry.bytes.now) }
+    ensures plain { IfOk result (λ extent. extent.is_plain ≡ true → extent.len ≤ prefix_len is_plain p.entry.bytes.now) }
+    ensures sound { FailsAs (syntax.path_at (place_of p.entry) (syntax.path_len p.entry.bytes.now)) result }
 {
-    let plain = plain_len(text);
-    if ends_path(&text[plain..]) {
-        return Extent {
+    let plain = plain_len(p.bytes);
+    if ends_path(&p.bytes[plain..]) {
+        return Ok(Extent {
             len: plain,
             is_plain: true,
-        };
+        });
     }
-    Extent {
-        len: run_len::<PathUnit>(text),
-        is_plain: false,
+    match checked_len(p, plain) {
+        Ok(len) => Ok(Extent {
+            len,
+            is_plain: false,
+        }),
+        Err(fault) => Err(of_text(fault)),
     }
 }
 
@@ -293,22 +283,12 @@ fn path_at(alloc: Global, p: Cursor<'_>, extent: Extent) -> Result<PieceList, Pa
     }
 }
 
-/// The fault of a path that is all of a line of a text, if it has one.
-fn check_line(text: &[u8], span: Span) -> Result<(), ParseFault>
-    ensures { IsSound text.now span result }
-{
-    let p = line_in(text, span);
-    match check_path(p.bytes, p.at) {
-        Ok(()) => Ok(()),
-        Err(fault) => Err(of_text(fault)),
-    }
-}
-
 /// The path that takes so many bytes, kept beside its text.
 fn compact_path_at(text: &[u8], p: Cursor<'_>, extent: Extent) -> Result<CompactPath, ParseFault>
     requires within { extent.len ≤ length p.bytes.now }
     requires plain { extent.is_plain ≡ true → extent.len ≤ prefix_len is_plain p.bytes.now }
     requires stands { StandsIn text.now (place_of p) }
+    requires sound { GoesWell (syntax.path_at (place_of p) extent.len) }
     ensures { Meets ParseFault.Memory (path_in text.now) result (syntax.path_at (place_of p.entry) extent.len) }
 {
     let span = Span::new(p.at, extent.len)?;
@@ -316,7 +296,6 @@ fn compact_path_at(text: &[u8], p: Cursor<'_>, extent: Extent) -> Result<Compact
     if extent.is_plain {
         return Ok(CompactPath::Plain(span));
     }
-    check_line(text, span)?;
     Ok(CompactPath::Pieces(span))
 }
 
@@ -339,7 +318,7 @@ fn paths_at(alloc: Global, p: Cursor<'_>) -> Result<(Paths, Cursor<'_>), ParseFa
     let mut paths = Vec::new(alloc);
     let mut rest = past_gap(p);
     loop {
-        let extent = path_extent(rest.bytes);
+        let extent = extent_at(rest)?;
         if extent.len == 0 {
             paths.shrink_to_fit();
             return Ok((paths, rest));
@@ -362,7 +341,7 @@ fn compact_paths_at<'a>(
 {
     let mut left = past_gap(p);
     loop {
-        let extent = path_extent(left.bytes);
+        let extent = extent_at(left)?;
         if extent.len == 0 {
             return Ok(left);
         }
@@ -523,7 +502,7 @@ pub fn targets_at(alloc: Global, p: Cursor<'_>) -> Result<Paths, ParseFault>
 pub fn file_at(alloc: Global, p: Cursor<'_>) -> Result<PieceList, ParseFault>
     ensures { Meets ParseFault.Memory (λ v. v) result (statements.file_at (place_of p.entry)) }
 {
-    let extent = path_extent(p.bytes);
+    let extent = extent_at(p)?;
     if extent.len == 0 {
         return Err(refusal(p, ParseFault::ExpectedPath(p.at as u64)));
     }

@@ -1,0 +1,10 @@
+use Rattle.std.proofs.Common.{◌-◌, length}
+use Rattle.plan_parse.proofs.UnitLemmas.{Walked}
+use Rattle.plan_parse.proofs.path_parts.checked_len.Given as goal
+
+-- the path goes on so far
+abbrev pub invariant-loop-unit : goal.invariant-loop-unit
+invariant-loop-unit l = Walked l.p.at l.p.bytes.now l.len
+
+abbrev pub decreases-loop-unit : goal.decreases-loop-unit
+decreases-loop-unit l = length l.p.bytes.now - l.len
