@@ -120,6 +120,7 @@ fn unit_at(p: Cursor<'_>) -> Result<usize, TextFault>
 /// # Errors
 ///
 /// The path's first fault.
+#[inline(never)]
 pub fn checked_len(p: Cursor<'_>, plain: usize) -> Result<usize, TextFault>
     requires { plain ≡ prefix_len is_plain p.bytes.now }
     ensures len { IfOk result (λ len. len ≡ path_len p.entry.bytes.now) }

@@ -244,6 +244,7 @@ struct Extent {
 /// # Errors
 ///
 /// The path's first fault.
+#[inline(always)]
 fn extent_at(p: Cursor<'_>) -> Result<Extent, ParseFault>
     ensures len { IfOk result (λ extent. extent.len ≡ syntax.path_len p.entry.bytes.now) }
     ensures within { IfOk result (λ extent. extent.len ≤ length p.entry.bytes.now) }
