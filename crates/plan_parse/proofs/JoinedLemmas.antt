@@ -1,4 +1,4 @@
--- Lists of paths one behind the other. Serves src/reading.rt, src/statement_reader.rt.
+-- Lists one behind the other. Serves src/block.rt, src/reading.rt, src/statement_reader.rt.
 use Rattle.std.proofs.Common.{◌≡◌, ℕ, ◌+◌, ◌≤◌, List, [], ◌∷◌, ◌++◌, length, take, drop, Ok, refl, sym, ap, ◌∙◌, arith}
 use Rattle.plan_text.specs.Outcome.{each}
 use Rattle.plan_text.specs.declared.piece_reader.Piece.{Piece}

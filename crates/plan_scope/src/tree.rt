@@ -98,12 +98,10 @@ impl TreeStatement {
         ensures { kind_said result ≡ self.now.kind }
     {
         let file = self.file.as_ref();
-        let text = file.text.as_slice();
+        let (text, lists) = (file.text.as_slice(), &file.lists);
         match &self.statement {
             CompactStatement::Binding(span) => Said::Binding(BindingLine::new(text, *span)),
-            CompactStatement::Build(number) => {
-                Said::Build(BuildLine::new(text, &file.lists, *number))
-            },
+            CompactStatement::Build(number) => Said::Build(BuildLine::new(text, lists, *number)),
             CompactStatement::Directive(directive) => Said::Directive(&directive.kind),
         }
     }

@@ -213,6 +213,35 @@ fn five_lists(rt: HostRuntime) -> Result<(), Fail> {
 }
 
 #[test]
+fn two_build_lines(rt: HostRuntime) -> Result<(), Fail> {
+    let text =
+        b"build a | b: one c\n  x = 1\n  y = 2\nz = 3\nbuild d: two e || f\n  x = $z\n".as_slice();
+    let file = parse(rt.alloc(), text)?;
+    let found = &file.statements;
+    assert_eq!(rt; found.len(), 3);
+    assert_eq!(rt; found[2].offset(&file.lists), 41);
+    match (&found[0], &found[2]) {
+        (CompactStatement::Build(first), CompactStatement::Build(second)) => {
+            let first = BuildLine::new(text, &file.lists, *first);
+            let second = BuildLine::new(text, &file.lists, *second);
+            assert_eq!(rt; first.rule(), b"one".as_slice());
+            assert_eq!(rt; second.rule(), b"two".as_slice());
+            assert!(rt; lists_again(rt.alloc(), &first.paths().outputs, b"a;")?);
+            assert!(rt; lists_again(rt.alloc(), &first.paths().implicit_outputs, b"b;")?);
+            assert!(rt; lists_again(rt.alloc(), &first.paths().inputs, b"c;")?);
+            assert!(rt; lists_again(rt.alloc(), &first.paths().order_only_inputs, b"")?);
+            assert!(rt; lists_again(rt.alloc(), &second.paths().outputs, b"d;")?);
+            assert!(rt; lists_again(rt.alloc(), &second.paths().inputs, b"e;")?);
+            assert!(rt; lists_again(rt.alloc(), &second.paths().order_only_inputs, b"f;")?);
+            assert!(rt; binds_again(rt.alloc(), &first.bindings(), b"x=1;y=2;")?);
+            assert!(rt; binds_again(rt.alloc(), &second.bindings(), b"x=<z>;")?);
+        }
+        _ => assert!(rt; false, "two build lines"),
+    }
+    Ok(())
+}
+
+#[test]
 fn parts(rt: HostRuntime) -> Result<(), Fail> {
     for (path, want) in [
         (b"$dir/foo.o".as_slice(), b"<dir>/foo.o".as_slice()),
