@@ -14,4 +14,5 @@ pub mod LikeLemmas
 pub mod StatementLemmas
 pub mod JoinLaw
 pub mod JoinedLemmas
+pub mod KeptLemmas
 pub mod FaultLaw

@@ -1,12 +1,12 @@
 -- Blocks that end where the next begins. Serves src/parser.rt.
-use Rattle.std.proofs.Common.{◌≡◌, List, [], ◌∷◌, ◌++◌, Result, Ok, Err, Option, Some, refl, sym, ap, ◌∙◌, append_assoc}
+use Rattle.std.proofs.Common.{◌≡◌, List, [], ◌∷◌, ◌++◌, Result, Ok, Err, Option, Some, None, refl, sym, ap, ◌∙◌, append_assoc}
 use Rattle.std.proofs.lemmas.List.{append-nil}
 use Rattle.plan_text.specs.Outcome.{◌>>=◌, each}
 use Rattle.plan_parse.specs.declared.fault.ParseFault.{ParseFault}
 use Rattle.plan_parse.specs.Kinds.{Statement}
 use Rattle.plan_parse.specs.Reading.{Place}
 use Rattle.plan_parse.specs.Blocks.{BlockLine, LineRole, Head, Below, below, blocks_of}
-use Rattle.plan_parse.specs.Statements.{statement_of, statement_in}
+use Rattle.plan_parse.specs.Statements.{no_block_allowed, statement_of, statement_in}
 use Rattle.plan_parse.specs.Progress.{State, block_statement, statements_at_end, statements_with}
 
 -- a line of the block
@@ -42,3 +42,8 @@ last_go done (Err e) = refl
 -- the end of the text
 pub ends : (s : State) → statements_with s [] ≡ statements_at_end s
 ends s = ap (λ (r : Result (List Statement) ParseFault). r >>= λ front. Ok (s.done ++ (front ++ []))) (closing_all s.head s.lines) ∙ last_go s.done (block_statement s.head s.lines)
+
+-- nothing above all blocks
+pub none_above : (done : List Statement) (lines : List BlockLine) → no_block_allowed lines ≡ Ok tt → statements_at_end (record { done = done; head = None; lines = lines }) ≡ Ok done
+none_above done lines none =
+    ap (λ (r : Result (Unit {0}) ParseFault). (r >>= λ _. Ok []) >>= λ last. Ok (done ++ last)) none ∙ ap (λ (v : List Statement). Ok v) (append-nil done)

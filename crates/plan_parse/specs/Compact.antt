@@ -1,5 +1,5 @@
 -- Statements as they are kept beside their text.
-use Rattle.std.specs.Prelude.{◌≡◌, ℕ, List, [], length, map, take, drop, Result, Ok, Err}
+use Rattle.std.specs.Prelude.{◌≡◌, ℕ, List, [], get_or, length, map, take, drop, Result, Ok, Err}
 use Rattle.plan_text.specs.Pieces.{literal_of, pieces_from}
 use Rattle.plan_text.specs.declared.piece_reader.Mode.TheVariants as mode
 use Rattle.plan_text.specs.declared.piece_reader.Piece.{Piece}
@@ -15,9 +15,10 @@ use Rattle.plan_parse.specs.declared.compact.CompactValue.{CompactValue}
 use Rattle.plan_parse.specs.declared.compact.CompactValue.TheVariants as value
 use Rattle.plan_parse.specs.declared.compact.CompactBinding.{CompactBinding}
 use Rattle.plan_parse.specs.declared.compact.CompactBuild.{CompactBuild}
+use Rattle.plan_parse.specs.declared.compact.BuildLists.{BuildLists}
 use Rattle.plan_parse.specs.declared.compact.CompactStatement.{CompactStatement}
 use Rattle.plan_parse.specs.declared.compact.CompactStatement.TheVariants as kept
-use Rattle.plan_parse.specs.PathLists.{map_lists}
+use Rattle.plan_parse.specs.PathLists.{between, lists_at, map_lists, Extends}
 use Rattle.plan_parse.specs.Build.{Build}
 use Rattle.plan_parse.specs.Kinds.{Statement, StatementKind}
 use Rattle.plan_parse.specs.Kinds as kind
@@ -59,13 +60,37 @@ value_in text (value.Pieces span) = pieces_or_none (value_at (line_in text span)
 abbrev pub variable_in : List ℕ → CompactBinding → Binding
 variable_in text b = record { name = (line_in text b.name).bytes; value = value_in text b.value }
 
--- a build line of a text
-abbrev pub build_in : List ℕ → CompactBuild → Build
-build_in text b = record { paths = map_lists (map (path_in text)) b.paths; rule = (line_in text b.rule).bytes; bindings = map (variable_in text) b.bindings }
+-- a build line of a text, by its places among the paths and variables of its file
+abbrev pub build_in : List ℕ → BuildLists → CompactBuild → Build
+build_in text lists b = record {
+  paths = map_lists (map (path_in text)) (lists_at b.paths lists.paths.items);
+  rule = (line_in text b.rule).bytes;
+  bindings = map (variable_in text) (between b.bindings.start b.bindings.end lists.bindings.items);
+}
 
 -- the statement of a build line of a text
-abbrev pub built_in : List ℕ → CompactBuild → Statement
-built_in text b = record { offset = b.offset; kind = kind.Build (build_in text b) }
+abbrev pub built_in : List ℕ → BuildLists → CompactBuild → Statement
+built_in text lists b = record { offset = b.offset; kind = kind.Build (build_in text lists b) }
+
+-- a build line without anything
+abbrev pub no_build : CompactBuild
+no_build = record {
+  offset = 0;
+  paths = record {
+    start = 0;
+    outputs = 0;
+    implicit_outputs = 0;
+    inputs = 0;
+    implicit_inputs = 0;
+    order_only_inputs = 0;
+  };
+  rule = record { at = 0; len = 0 };
+  bindings = record { start = 0; end = 0 };
+}
+
+-- the build line of this number of a file, or one without anything where there is none
+abbrev pub build_at : BuildLists → ℕ → CompactBuild
+build_at lists n = get_or lists.builds.items n no_build
 
 -- the statement of a binding of a text
 abbrev pub binding_in : List ℕ → Span → Statement
@@ -83,11 +108,29 @@ kind_of (directive.Subninja p) = kind.Subninja p
 abbrev pub directive_said : Directive → Statement
 directive_said d = record { offset = d.offset; kind = kind_of d.kind }
 
--- a statement that is kept beside its text
-abbrev pub said_in : List ℕ → CompactStatement → Statement
-said_in text (kept.Binding span) = binding_in text span
-said_in text (kept.Build b) = built_in text b.value
-said_in text (kept.Directive d) = directive_said d.value
+-- a statement that is kept beside its text and the build lines of its file
+abbrev pub said_in : List ℕ → BuildLists → CompactStatement → Statement
+said_in text lists (kept.Binding span) = binding_in text span
+said_in text lists (kept.Build n) = built_in text lists (build_at lists n)
+said_in text lists (kept.Directive d) = directive_said d.value
+
+-- the lists of a file begin with all that older ones have
+pub record Follows (older later : BuildLists) : Type 0 where
+  pub builds : Extends older.builds.items later.builds.items
+  pub paths : Extends older.paths.items later.paths.items
+  pub bindings : Extends older.bindings.items later.bindings.items
+
+-- a build line says the same, whatever follows it in the lists of its file
+abbrev pub BuildLasts : List ℕ → BuildLists → CompactBuild → Type 0
+BuildLasts text lists b = (later : BuildLists) → Follows lists later → built_in text later b ≡ built_in text lists b
+
+-- the same of a statement
+abbrev pub Lasts : List ℕ → BuildLists → CompactStatement → Type 0
+Lasts text lists s = (later : BuildLists) → Follows lists later → said_in text later s ≡ said_in text lists s
+
+-- and of all statements so far
+abbrev pub AllLast : List ℕ → BuildLists → List CompactStatement → Type 0
+AllLast text lists statements = (later : BuildLists) → Follows lists later → map (said_in text later) statements ≡ map (said_in text lists) statements
 
 -- what is left of a line is a line of the text
 abbrev pub StandsIn : List ℕ → Place → Type 0

@@ -1,7 +1,8 @@
 -- The five lists of paths of a build line.
-use Rattle.std.specs.Prelude.{◌≡◌, ◌+◌, ◌-◌, ℕ, List, ◌++◌, length, take, drop}
+use Rattle.std.specs.Prelude.{◌≡◌, ◌+◌, ℕ, List, ◌++◌, length, take, drop}
 use Rattle.plan_parse.specs.declared.path_lists.PathEnds.{PathEnds}
 use Rattle.plan_parse.specs.declared.path_lists.PathLists.{PathLists}
+use Rattle.plan_parse.specs.declared.path_lists.PathPlaces.{PathPlaces}
 
 -- what a function gives for each list
 abbrev pub map_lists : {A B : Type 0} → (A → B) → PathLists A → PathLists B
@@ -19,7 +20,7 @@ all_in p = p.outputs ++ p.implicit_outputs ++ p.inputs ++ p.implicit_inputs ++ p
 
 -- the items of a list from the one of this number to that in front of another number
 abbrev pub between : {A : Type 0} → ℕ → ℕ → List A → List A
-between start end items = take (end - start) (drop start items)
+between start end items = drop start (take end items)
 
 -- the lists that stand one behind the other and end at these places
 abbrev pub lists_between : {A : Type 0} → PathEnds → List A → PathLists (List A)
@@ -29,6 +30,16 @@ lists_between ends items = record {
   inputs = between ends.implicit_outputs ends.inputs items;
   implicit_inputs = between ends.inputs ends.implicit_inputs items;
   order_only_inputs = drop ends.implicit_inputs items;
+}
+
+-- the lists that stand at these places among the paths of a file
+abbrev pub lists_at : {A : Type 0} → PathPlaces → List A → PathLists (List A)
+lists_at places items = record {
+  outputs = between places.start places.outputs items;
+  implicit_outputs = between places.outputs places.implicit_outputs items;
+  inputs = between places.implicit_outputs places.inputs items;
+  implicit_inputs = between places.inputs places.implicit_inputs items;
+  order_only_inputs = between places.implicit_inputs places.order_only_inputs items;
 }
 
 -- what a list has behind all items of an older one

@@ -25,7 +25,7 @@ head_of None = None
 head_of (Some p) = Some (place_of p)
 
 abbrev pub state_of : Reader → State
-state_of r = record { done = map (said_in r.text.now) r.statements.items; head = head_of r.head; lines = block_lines_of r.lines.items }
+state_of r = record { done = map (said_in r.text.now r.lists) r.statements.items; head = head_of r.head; lines = block_lines_of r.lines.items }
 
 -- the statement of a block; none where no line began it
 abbrev pub block_statement : Option Place → List BlockLine → Result (List Statement) ParseFault

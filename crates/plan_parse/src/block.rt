@@ -1,6 +1,6 @@
 //! Blocks: a line, and the indented lines below it.
 
-ghost use Rattle.std.specs.Prelude.{◌≡◌, ◌==◌, ◌+◌, ◌<◌, ◌≤◌, ◌^◌, List, [], length, map};
+ghost use Rattle.std.specs.Prelude.{◌≡◌, ◌==◌, ◌+◌, ◌<◌, ◌≤◌, ◌^◌, IfOk, List, [], OnOk, length, map};
 ghost use Rattle.std.specs.List.{prefix_len, list_any};
 ghost use Rattle.plan_text.specs.Bytes.{is_blank};
 ghost use Rattle.plan_text.specs.Outcome.{Meets, each};
@@ -8,6 +8,7 @@ ghost use Rattle.plan_parse.specs.Blocks as blocks;
 ghost use Rattle.plan_parse.specs.Statements as statements;
 ghost use Rattle.plan_parse.specs.Views.{place_of};
 ghost use Rattle.plan_parse.specs.Compact.{variable_in};
+ghost use Rattle.plan_parse.specs.PathLists.{Extends, between};
 ghost use Rattle.plan_parse.specs.Progress.{LineStandsIn, LinesStandIn};
 ghost use Rattle.plan_parse.specs.BlockLines.{block_line_of, block_lines_of, line_role_if_any};
 
@@ -15,7 +16,10 @@ use crate::block_kind::BlockKind;
 use crate::compact::CompactBinding;
 use crate::cursor::Cursor;
 use crate::fault::ParseFault;
-use crate::reading::{binding_at, compact_binding_at, name_at, name_of, past, past_gap, refusal};
+use crate::path_lists::ListPlace;
+use crate::reading::{
+    binding_at, compact_binding_at, count_of, name_at, name_of, past, past_gap, refusal,
+};
 use crate::statement::Binding;
 use plan_text::{TextFault, begins, indent_len, nul_at};
 use std::alloc::Global;
@@ -125,20 +129,24 @@ fn block_line_at(
     }
 }
 
-/// The lines of a block as bindings, kept beside their text.
+/// Appends the lines of a block as bindings, kept beside their text; where they stand in the list.
 pub fn bindings_at(
     alloc: Global,
     text: &[u8],
     lines: &[BlockLine<'_>],
-) -> Result<Vec<CompactBinding>, ParseFault>
+    bindings: &mut Vec<CompactBinding>,
+) -> Result<ListPlace, ParseFault>
     requires { LinesStandIn text.now (block_lines_of lines.now) }
-    ensures { Meets ParseFault.Memory (λ v. map (variable_in text.now) v.items) result (each statements.block_line_at (block_lines_of lines.now)) }
+    ensures read { Meets ParseFault.Memory (λ place. map (variable_in text.now) (between place.start place.end bindings.new.items)) result (each statements.block_line_at (block_lines_of lines.now)) }
+    ensures keeps { OnOk result (Extends bindings.old.items bindings.new.items) }
+    ensures within { IfOk result (λ place. place.end ≤ length bindings.new.items) }
 {
-    let mut found = Vec::with_capacity(alloc, lines.len())?;
+    let start = count_of(bindings)?;
     for line in lines {
-        found.push(block_line_at(alloc, text, *line)?)?;
+        bindings.push(block_line_at(alloc, text, *line)?)?;
     }
-    Ok(found)
+    let end = count_of(bindings)?;
+    Ok(ListPlace { start, end })
 }
 
 /// Whether a line binds this name, well or not.

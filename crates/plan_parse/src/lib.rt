@@ -22,7 +22,9 @@ mod span;
 mod statement;
 mod statement_reader;
 
-pub use compact::{CompactBinding, CompactBuild, CompactPath, CompactStatement, CompactValue};
+pub use compact::{
+    BuildLists, CompactBinding, CompactPath, CompactStatement, CompactValue, ParsedFile,
+};
 pub use fault::ParseFault;
 pub use laws::{faults_have_places, statements_are_whole, statements_join};
 pub use lines::{

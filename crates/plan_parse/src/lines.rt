@@ -4,13 +4,13 @@ ghost use Rattle.std.specs.Prelude.{◌≡◌, IfOk, map};
 ghost use Rattle.plan_parse.specs.Compact as compact;
 ghost use Rattle.plan_parse.specs.Statements.{binding_at};
 ghost use Rattle.plan_parse.specs.Views.{place_of};
-ghost use Rattle.plan_parse.specs.PathLists.{map_lists};
+ghost use Rattle.plan_parse.specs.PathLists.{between, map_lists};
 ghost use Rattle.plan_parse.specs.Lines.{IsPlaced, bindings_in, paths_in, pieces_of, value_of};
 
-use crate::compact::{CompactBinding, CompactBuild, CompactPath, CompactValue};
+use crate::compact::{BuildLists, CompactBinding, CompactBuild, CompactPath, CompactValue};
 use crate::cursor::Cursor;
 use crate::fault::ParseFault;
-use crate::path_lists::PathLists;
+use crate::path_lists::{PathLists, between};
 use crate::reading::{binding_at, line_in, value_at};
 use crate::span::Span;
 use crate::statement::Binding;
@@ -164,18 +164,22 @@ pub struct PathsInText<'a> {
     pub paths: &'a [CompactPath],
 }
 
-/// A list of paths in their text.
-fn list_in<'a>(text: &'a [u8], paths: &'a [CompactPath]) -> PathsInText<'a>
-    ensures { paths_in result ≡ map (compact.path_in text.now) paths.now }
+/// The list of paths in their text that stands at these places among all of its file.
+fn list_in<'a>(text: &'a [u8], all: &'a [CompactPath], start: u32, end: u32) -> PathsInText<'a>
+    ensures { paths_in result ≡ map (compact.path_in text.now) (between start end all.now) }
 {
-    PathsInText { text, paths }
+    PathsInText {
+        text,
+        paths: between(all, start, end),
+    }
 }
 
 /// A build line in its text.
 #[derive(Drop)]
 pub struct BuildLine<'a> {
     text: &'a [u8],
-    build: &'a CompactBuild,
+    lists: &'a BuildLists,
+    build: CompactBuild,
 }
 
 impl<'a> Model for BuildLine<'a> {
@@ -184,15 +188,20 @@ impl<'a> Model for BuildLine<'a> {
 
     ghost Value = { Build };
 
-    ghost view = { λ l. build_in l.text.now l.build.now };
+    ghost view = { λ l. build_in l.text.now l.lists.now l.build };
 }
 
 impl<'a> BuildLine<'a> {
-    /// A build line that is kept beside this text.
-    pub fn new(text: &'a [u8], build: &'a CompactBuild) -> BuildLine<'a>
-        ensures { result ≡ compact.build_in text.now build.now }
+    /// The build line of this number of a file, which is kept beside this text and in these lists; one without anything
+    /// where there is none.
+    pub fn new(text: &'a [u8], lists: &'a BuildLists, number: u32) -> BuildLine<'a>
+        ensures { result ≡ compact.build_in text.now lists.now (compact.build_at lists.now number) }
     {
-        BuildLine { text, build }
+        BuildLine {
+            text,
+            lists,
+            build: lists.build(number),
+        }
     }
 
     /// The name of its rule.
@@ -206,9 +215,10 @@ impl<'a> BuildLine<'a> {
     pub fn bindings(&self) -> BindingsInText<'a>
         ensures { bindings_in result ≡ self.now.bindings }
     {
+        let place = self.build.bindings;
         BindingsInText {
             text: self.text,
-            bindings: self.build.bindings.as_slice(),
+            bindings: between(&self.lists.bindings, place.start, place.end),
         }
     }
 
@@ -216,13 +226,13 @@ impl<'a> BuildLine<'a> {
     pub fn paths(&self) -> PathLists<PathsInText<'a>>
         ensures { map_lists paths_in result ≡ self.now.paths }
     {
-        let lists = &self.build.paths;
+        let (text, all, places) = (self.text, self.lists.paths.as_slice(), self.build.paths);
         PathLists {
-            outputs: list_in(self.text, lists.outputs()),
-            implicit_outputs: list_in(self.text, lists.implicit_outputs()),
-            inputs: list_in(self.text, lists.inputs()),
-            implicit_inputs: list_in(self.text, lists.implicit_inputs()),
-            order_only_inputs: list_in(self.text, lists.order_only_inputs()),
+            outputs: list_in(text, all, places.start, places.outputs),
+            implicit_outputs: list_in(text, all, places.outputs, places.implicit_outputs),
+            inputs: list_in(text, all, places.implicit_outputs, places.inputs),
+            implicit_inputs: list_in(text, all, places.inputs, places.implicit_inputs),
+            order_only_inputs: list_in(text, all, places.implicit_inputs, places.order_only_inputs),
         }
     }
 }

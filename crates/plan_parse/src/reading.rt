@@ -17,7 +17,7 @@ use crate::compact::{CompactBinding, CompactPath, CompactValue};
 use crate::cursor::Cursor;
 use crate::fault::ParseFault;
 use crate::path_parts::checked_len;
-use crate::span::Span;
+use crate::span::{Span, number_of};
 use crate::statement::Binding;
 use plan_text::{
     Mode, PieceList, SmallText, TextFault, begins, escape_len, gap_len, name_len, pieces_at,
@@ -427,14 +427,11 @@ fn some_path(p: Cursor<'_>, count: usize) -> Result<(), ParseFault>
     Ok(())
 }
 
-/// How many paths there are so far.
-pub fn count_of(paths: &[CompactPath]) -> Result<u32, AllocError>
-    ensures { IfOk result (λ count. count ≡ length paths.now) }
+/// How many items there are so far.
+pub fn count_of<T>(items: &[T]) -> Result<u32, AllocError>
+    ensures { IfOk result (λ count. count ≡ length items.now) }
 {
-    match u32::try_from(paths.len()) {
-        Ok(count) => Ok(count),
-        Err(_) => Err(AllocError),
-    }
+    number_of(items.len())
 }
 
 /// Appends `outputs | implicit_outputs:`; how many paths there are at the end of the former, and the place behind.

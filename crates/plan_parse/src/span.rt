@@ -24,3 +24,13 @@ impl Span {
         }
     }
 }
+
+/// A count of bytes or items, as it is kept; none where no number tells it.
+pub fn number_of(count: usize) -> Result<u32, AllocError>
+    ensures { IfOk result (λ number. number ≡ count) }
+{
+    match u32::try_from(count) {
+        Ok(number) => Ok(number),
+        Err(_) => Err(AllocError),
+    }
+}

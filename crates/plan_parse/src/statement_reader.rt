@@ -1,26 +1,27 @@
 //! Statements: the line that begins one, by its first word, and the lines below it.
 
-ghost use Rattle.std.specs.Prelude.{◌≡◌, ℕ, List, Result};
+ghost use Rattle.std.specs.Prelude.{◌≡◌, ℕ, IfOk, List, OnOk, Result};
 ghost use Rattle.plan_parse.specs.Kinds.{Statement};
 ghost use Rattle.plan_parse.specs.declared.fault.ParseFault as the_fault;
+ghost use Rattle.plan_parse.specs.declared.compact.BuildLists.{BuildLists};
 ghost use Rattle.plan_text.specs.Outcome.{Meets, seen_by};
 ghost use Rattle.plan_parse.specs.Statements as statements;
 ghost use Rattle.plan_parse.specs.Views.{place_of};
 ghost use Rattle.plan_parse.specs.BlockLines.{block_lines_of};
-ghost use Rattle.plan_parse.specs.Compact.{StandsIn, binding_in, built_in, directive_said, said_in};
+ghost use Rattle.plan_parse.specs.Compact.{BuildLasts, Follows, Lasts, StandsIn, binding_in, built_in, directive_said, said_in};
 ghost use Rattle.plan_parse.specs.Progress.{LinesStandIn};
 
 use crate::block::{BlockLine, bindings_at, block_variables_at, has_required, no_block_allowed};
 use crate::block_kind::BlockKind;
-use crate::compact::{CompactBuild, CompactPath, CompactStatement};
+use crate::compact::{BuildLists, CompactBuild, CompactStatement};
 use crate::cursor::Cursor;
 use crate::fault::ParseFault;
-use crate::path_lists::{JoinedPathLists, PathEnds};
+use crate::path_lists::PathPlaces;
 use crate::reading::{
-    binding_at, count_of, file_at, inputs_at, line_end_at, name_at, name_of, outputs_at, past,
-    past_gap, targets_at,
+    compact_binding_at, count_of, file_at, inputs_at, line_end_at, name_at, name_of, outputs_at,
+    past, past_gap, targets_at,
 };
-use crate::span::Span;
+use crate::span::{Span, number_of};
 use crate::statement::{Binding, Directive, DirectiveKind, Pool, Rule};
 use plan_text::{Items, PieceList, SmallText};
 use std::alloc::Global;
@@ -97,41 +98,67 @@ fn pool_of(
     })
 }
 
-/// `build outputs: rule inputs`, from its outputs on, and the lines below it. Its paths are gathered in a list, whatever
-/// that held, so that they take no more memory than they need.
+/// `build outputs: rule inputs`, from its outputs on, and the lines below it. Its paths and variables are appended to
+/// those of its file.
 fn build_of(
     alloc: Global,
     text: &[u8],
     at: usize,
     p: Cursor<'_>,
     lines: &[BlockLine<'_>],
-    paths: &mut Vec<CompactPath>,
+    lists: &mut BuildLists,
 ) -> Result<CompactBuild, ParseFault>
     requires line { StandsIn text.now (place_of p) }
     requires below { LinesStandIn text.now (block_lines_of lines.now) }
-    ensures { Meets ParseFault.Memory (built_in text.now) result (statements.build_of at (place_of p.entry) (block_lines_of lines.now)) }
+    ensures read { Meets ParseFault.Memory (built_in text.now lists.new) result (statements.build_of at (place_of p.entry) (block_lines_of lines.now)) }
+    ensures follows { OnOk result (Follows lists.old lists.new) }
+    ensures builds { lists.new.builds ≡ lists.old.builds }
+    ensures lasts { IfOk result (λ build. BuildLasts text.now lists.new build) }
 {
-    paths.clear();
-    let (outputs, rest) = outputs_at(text, p, paths)?;
-    let implicit_outputs = count_of(paths)?;
-    let start = rest.at;
+    let start = count_of(&lists.paths)?;
+    let (outputs, rest) = outputs_at(text, p, &mut lists.paths)?;
+    let implicit_outputs = count_of(&lists.paths)?;
+    let name = rest.at;
     let (rule, rest) = name_at(rest)?;
-    let inputs = inputs_at(text, rest, paths)?;
-    let bindings = bindings_at(alloc, text, lines)?;
-    let rule = Span::new(start, rule.len())?;
-    let ends = PathEnds {
-        outputs,
-        implicit_outputs,
-        inputs: inputs.explicit,
-        implicit_inputs: inputs.implicit,
-    };
-    let paths = Vec::from_slice(alloc, paths)?;
+    let inputs = inputs_at(text, rest, &mut lists.paths)?;
+    let order_only_inputs = count_of(&lists.paths)?;
+    let bindings = bindings_at(alloc, text, lines, &mut lists.bindings)?;
+    let offset = number_of(at)?;
+    let rule = Span::new(name, rule.len())?;
     Ok(CompactBuild {
-        offset: at as u64,
-        paths: JoinedPathLists::new(paths, ends),
+        offset,
+        paths: PathPlaces {
+            start,
+            outputs,
+            implicit_outputs,
+            inputs: inputs.explicit,
+            implicit_inputs: inputs.implicit,
+            order_only_inputs,
+        },
         rule,
-        bindings: Items::new(bindings),
+        bindings,
     })
+}
+
+/// A build line, from its outputs on, kept among those of its file.
+fn keep_build(
+    alloc: Global,
+    text: &[u8],
+    at: usize,
+    p: Cursor<'_>,
+    lines: &[BlockLine<'_>],
+    lists: &mut BuildLists,
+) -> Result<CompactStatement, ParseFault>
+    requires line { StandsIn text.now (place_of p) }
+    requires below { LinesStandIn text.now (block_lines_of lines.now) }
+    ensures read { Meets ParseFault.Memory (said_in text.now lists.new) result (statements.build_of at (place_of p.entry) (block_lines_of lines.now)) }
+    ensures follows { OnOk result (Follows lists.old lists.new) }
+    ensures lasts { IfOk result (λ statement. Lasts text.now lists.new statement) }
+{
+    let build = build_of(alloc, text, at, p, lines, lists)?;
+    let number = count_of(&lists.builds)?;
+    lists.builds.push(build)?;
+    Ok(CompactStatement::Build(number))
 }
 
 /// `default targets`, from its targets on, and nothing below it.
@@ -186,33 +213,42 @@ fn subninja_of(
 }
 
 /// `name = value`, and nothing below it: its place.
-fn binding_of(alloc: Global, p: Cursor<'_>, lines: &[BlockLine<'_>]) -> Result<Span, ParseFault>
-    ensures { (text : List ℕ) → StandsIn text (place_of p.entry) → Meets ParseFault.Memory (binding_in text) result (statements.binding_of (place_of p.entry) (block_lines_of lines.now)) }
+fn binding_of(
+    alloc: Global,
+    text: &[u8],
+    p: Cursor<'_>,
+    lines: &[BlockLine<'_>],
+) -> Result<Span, ParseFault>
+    requires { StandsIn text.now (place_of p) }
+    ensures { Meets ParseFault.Memory (binding_in text.now) result (statements.binding_of (place_of p.entry) (block_lines_of lines.now)) }
 {
-    binding_at(alloc, p)?;
+    compact_binding_at(alloc, text, p)?;
     no_block_allowed(lines)?;
     Ok(Span::new(p.at, p.bytes.len())?)
 }
 
 /// A directive that was read, as it is kept.
 fn keep(alloc: Global, read: Result<Directive, ParseFault>) -> Result<CompactStatement, ParseFault>
-    ensures { (text : List ℕ) (said : Result Statement the_fault.ParseFault) → Meets ParseFault.Memory directive_said read said → Meets ParseFault.Memory (said_in text) result said }
+    ensures read { (text : List ℕ) (lists : BuildLists) (said : Result Statement the_fault.ParseFault) → Meets ParseFault.Memory directive_said read said → Meets ParseFault.Memory (said_in text lists) result said }
+    ensures lasts { IfOk result (λ statement. (text : List ℕ) (lists : BuildLists) → Lasts text lists statement) }
 {
     Ok(CompactStatement::Directive(Box::new(alloc, read?)?))
 }
 
-/// A statement, by the word that it begins with, and the lines below it, kept beside its text. A build line's paths are
-/// gathered in a list, whatever that held.
+/// A statement, by the word that it begins with, and the lines below it, kept beside its text. A build line joins those
+/// of its file.
 pub fn statement_of(
     alloc: Global,
     text: &[u8],
     p: Cursor<'_>,
     lines: &[BlockLine<'_>],
-    paths: &mut Vec<CompactPath>,
+    lists: &mut BuildLists,
 ) -> Result<CompactStatement, ParseFault>
     requires line { StandsIn text.now (place_of p) }
     requires below { LinesStandIn text.now (block_lines_of lines.now) }
-    ensures { Meets ParseFault.Memory (said_in text.now) result (statements.statement_of (place_of p.entry) (block_lines_of lines.now)) }
+    ensures read { Meets ParseFault.Memory (said_in text.now lists.new) result (statements.statement_of (place_of p.entry) (block_lines_of lines.now)) }
+    ensures follows { OnOk result (Follows lists.old lists.new) }
+    ensures lasts { IfOk result (λ statement. Lasts text.now lists.new statement) }
 {
     let start = past_gap(p);
     let word = name_of(start);
@@ -220,8 +256,7 @@ pub fn statement_of(
     if word == b"rule".as_slice() {
         keep(alloc, rule_of(alloc, p.at, behind, lines))
     } else if word == b"build".as_slice() {
-        let build = build_of(alloc, text, p.at, behind, lines, paths)?;
-        Ok(CompactStatement::Build(Box::new(alloc, build)?))
+        keep_build(alloc, text, p.at, behind, lines, lists)
     } else if word == b"pool".as_slice() {
         keep(alloc, pool_of(alloc, p.at, behind, lines))
     } else if word == b"default".as_slice() {
@@ -231,6 +266,6 @@ pub fn statement_of(
     } else if word == b"subninja".as_slice() {
         keep(alloc, subninja_of(alloc, p.at, behind, lines))
     } else {
-        Ok(CompactStatement::Binding(binding_of(alloc, p, lines)?))
+        Ok(CompactStatement::Binding(binding_of(alloc, text, p, lines)?))
     }
 }

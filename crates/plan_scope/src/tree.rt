@@ -14,7 +14,7 @@ pub(crate) mod source;
 use crate::fault::{Cause, ScopeFault};
 use crate::scope::scoped_map::ScopedMap;
 use crate::scope::text::copy_of;
-use plan_parse::{BindingLine, BuildLine, CompactStatement, DirectiveKind};
+use plan_parse::{BindingLine, BuildLine, BuildLists, CompactStatement, DirectiveKind};
 use plan_text::Items;
 use std::alloc::{AllocError, Global};
 use std::marker::Model;
@@ -29,6 +29,8 @@ pub struct File {
     pub scopes: Items<usize>,
     /// Its bytes: bindings, and the paths of build lines, are read again from there.
     pub text: Items<u8>,
+    /// Its build lines, kept beside its bytes.
+    pub lists: BuildLists,
 }
 
 /// A statement of a tree, and the file that it was read from.
@@ -46,7 +48,7 @@ impl Model for TreeStatement {
 
     ghost Value = { trees.TreeStatement };
 
-    ghost view = { λ l. record { path = l.file.value.path; scopes = l.file.value.scopes; offset = (said_in l.file.value.text l.statement).offset; kind = (said_in l.file.value.text l.statement).kind } };
+    ghost view = { λ l. record { path = l.file.value.path; scopes = l.file.value.scopes; offset = (said_in l.file.value.text l.file.value.lists l.statement).offset; kind = (said_in l.file.value.text l.file.value.lists l.statement).kind } };
 }
 
 impl TreeStatement {
@@ -68,7 +70,7 @@ impl TreeStatement {
     pub fn offset(&self) -> u64
         ensures { result ≡ self.now.offset }
     {
-        self.statement.offset()
+        self.statement.offset(&self.file.as_ref().lists)
     }
 
     /// The fault that it is refused for a cause.
@@ -95,10 +97,11 @@ impl TreeStatement {
     pub fn said(&self) -> Said<'_>
         ensures { kind_said result ≡ self.now.kind }
     {
-        let text = self.file.as_ref().text.as_slice();
+        let file = self.file.as_ref();
+        let (text, lists) = (file.text.as_slice(), &file.lists);
         match &self.statement {
             CompactStatement::Binding(span) => Said::Binding(BindingLine::new(text, *span)),
-            CompactStatement::Build(build) => Said::Build(BuildLine::new(text, build)),
+            CompactStatement::Build(number) => Said::Build(BuildLine::new(text, lists, *number)),
             CompactStatement::Directive(directive) => Said::Directive(&directive.kind),
         }
     }

@@ -132,10 +132,11 @@ fn refuse(alloc: Global, text: &[u8]) -> Option<ParseFault> {
 fn demo_rule(rt: HostRuntime) -> Result<(), Fail> {
     let text =
         b"rule demo\n  command = echo \"this is a demo of $foo\"\nbuild out: demo\n  foo = bar\n";
-    let found = parse(rt.alloc(), text.as_slice())?;
+    let file = parse(rt.alloc(), text.as_slice())?;
+    let found = &file.statements;
     assert_eq!(rt; found.len(), 2);
-    assert_eq!(rt; found[0].offset(), 0);
-    assert_eq!(rt; found[1].offset(), 52);
+    assert_eq!(rt; found[0].offset(&file.lists), 0);
+    assert_eq!(rt; found[1].offset(&file.lists), 52);
     match directive(&found[0]) {
         Some(DirectiveKind::Rule(rule)) => {
             let want = b"command=echo \"this is a demo of <foo>\";";
@@ -150,11 +151,12 @@ fn demo_rule(rt: HostRuntime) -> Result<(), Fail> {
 #[test]
 fn demo_build(rt: HostRuntime) -> Result<(), Fail> {
     let text = b"build out: demo\n  foo = bar\n  dir =  a\tb $foo$ c\n  none =\n".as_slice();
-    let found = parse(rt.alloc(), text)?;
+    let file = parse(rt.alloc(), text)?;
+    let found = &file.statements;
     assert_eq!(rt; found.len(), 1);
     match &found[0] {
-        CompactStatement::Build(build) => {
-            let build = BuildLine::new(text, build);
+        CompactStatement::Build(number) => {
+            let build = BuildLine::new(text, &file.lists, *number);
             let paths = build.paths();
             assert!(rt; lists_again(rt.alloc(), &paths.outputs, b"out;")?);
             assert_eq!(rt; build.rule(), b"demo".as_slice());
@@ -171,12 +173,13 @@ fn demo_build(rt: HostRuntime) -> Result<(), Fail> {
 fn quoted_paths(rt: HostRuntime) -> Result<(), Fail> {
     let text =
         b"spaced = foo bar\n\n# a comment\nbuild $spaced/baz other$ file: touch in$:1 $\n    in2\n".as_slice();
-    let found = parse(rt.alloc(), text)?;
+    let file = parse(rt.alloc(), text)?;
+    let found = &file.statements;
     assert_eq!(rt; found.len(), 2);
     match (&found[0], &found[1]) {
-        (CompactStatement::Binding(span), CompactStatement::Build(build)) => {
+        (CompactStatement::Binding(span), CompactStatement::Build(number)) => {
             let binding = BindingLine::new(text, *span).read(rt.alloc())?;
-            let paths = BuildLine::new(text, build).paths();
+            let paths = BuildLine::new(text, &file.lists, *number).paths();
             assert_eq!(rt; binding.name.as_slice(), b"spaced".as_slice());
             assert!(rt; spells(rt.alloc(), &binding.value, b"foo bar")?);
             assert!(rt; lists_again(rt.alloc(), &paths.outputs, b"<spaced>/baz;other file;")?);
@@ -190,11 +193,12 @@ fn quoted_paths(rt: HostRuntime) -> Result<(), Fail> {
 #[test]
 fn five_lists(rt: HostRuntime) -> Result<(), Fail> {
     let text = b"build foo.o $dir/foo.d | foo.su: cc foo.c | foo.h bar.h || generated\n".as_slice();
-    let found = parse(rt.alloc(), text)?;
+    let file = parse(rt.alloc(), text)?;
+    let found = &file.statements;
     assert_eq!(rt; found.len(), 1);
     match &found[0] {
-        CompactStatement::Build(build) => {
-            let build = BuildLine::new(text, build);
+        CompactStatement::Build(number) => {
+            let build = BuildLine::new(text, &file.lists, *number);
             let paths = build.paths();
             assert!(rt; lists_again(rt.alloc(), &paths.outputs, b"foo.o;<dir>/foo.d;")?);
             assert!(rt; lists_again(rt.alloc(), &paths.implicit_outputs, b"foo.su;")?);
@@ -204,6 +208,35 @@ fn five_lists(rt: HostRuntime) -> Result<(), Fail> {
             assert!(rt; lists_again(rt.alloc(), &paths.order_only_inputs, b"generated;")?);
         }
         _ => assert!(rt; false, "a build line"),
+    }
+    Ok(())
+}
+
+#[test]
+fn two_build_lines(rt: HostRuntime) -> Result<(), Fail> {
+    let text =
+        b"build a | b: one c\n  x = 1\n  y = 2\nz = 3\nbuild d: two e || f\n  x = $z\n".as_slice();
+    let file = parse(rt.alloc(), text)?;
+    let found = &file.statements;
+    assert_eq!(rt; found.len(), 3);
+    assert_eq!(rt; found[2].offset(&file.lists), 41);
+    match (&found[0], &found[2]) {
+        (CompactStatement::Build(first), CompactStatement::Build(second)) => {
+            let first = BuildLine::new(text, &file.lists, *first);
+            let second = BuildLine::new(text, &file.lists, *second);
+            assert_eq!(rt; first.rule(), b"one".as_slice());
+            assert_eq!(rt; second.rule(), b"two".as_slice());
+            assert!(rt; lists_again(rt.alloc(), &first.paths().outputs, b"a;")?);
+            assert!(rt; lists_again(rt.alloc(), &first.paths().implicit_outputs, b"b;")?);
+            assert!(rt; lists_again(rt.alloc(), &first.paths().inputs, b"c;")?);
+            assert!(rt; lists_again(rt.alloc(), &first.paths().order_only_inputs, b"")?);
+            assert!(rt; lists_again(rt.alloc(), &second.paths().outputs, b"d;")?);
+            assert!(rt; lists_again(rt.alloc(), &second.paths().inputs, b"e;")?);
+            assert!(rt; lists_again(rt.alloc(), &second.paths().order_only_inputs, b"f;")?);
+            assert!(rt; binds_again(rt.alloc(), &first.bindings(), b"x=1;y=2;")?);
+            assert!(rt; binds_again(rt.alloc(), &second.bindings(), b"x=<z>;")?);
+        }
+        _ => assert!(rt; false, "two build lines"),
     }
     Ok(())
 }
@@ -243,12 +276,13 @@ fn refused_parts(rt: HostRuntime) {
 
 #[test]
 fn pool(rt: HostRuntime) -> Result<(), Fail> {
-    let found = parse(
+    let file = parse(
         rt.alloc(),
         b"# one at a time\npool link_pool\n  depth = 4\n",
     )?;
+    let found = &file.statements;
     assert_eq!(rt; found.len(), 1);
-    assert_eq!(rt; found[0].offset(), 16);
+    assert_eq!(rt; found[0].offset(&file.lists), 16);
     match directive(&found[0]) {
         Some(DirectiveKind::Pool(pool)) => {
             assert_eq!(rt; pool.name.as_slice(), b"link_pool".as_slice());
@@ -261,7 +295,8 @@ fn pool(rt: HostRuntime) -> Result<(), Fail> {
 
 #[test]
 fn defaults(rt: HostRuntime) -> Result<(), Fail> {
-    let found = parse(rt.alloc(), b"third = c\ndefault a b\ndefault $third\n")?;
+    let file = parse(rt.alloc(), b"third = c\ndefault a b\ndefault $third\n")?;
+    let found = &file.statements;
     assert_eq!(rt; found.len(), 3);
     match (directive(&found[1]), directive(&found[2])) {
         (Some(DirectiveKind::Default(two)), Some(DirectiveKind::Default(third))) => {
@@ -275,10 +310,11 @@ fn defaults(rt: HostRuntime) -> Result<(), Fail> {
 
 #[test]
 fn other_files(rt: HostRuntime) -> Result<(), Fail> {
-    let found = parse(
+    let file = parse(
         rt.alloc(),
         b"include include.ninja\nsubninja $dir/test$ 1.ninja\n",
     )?;
+    let found = &file.statements;
     assert_eq!(rt; found.len(), 2);
     match (directive(&found[0]), directive(&found[1])) {
         (Some(DirectiveKind::Include(included)), Some(DirectiveKind::Subninja(scoped))) => {
@@ -296,7 +332,8 @@ fn rule_variables(rt: HostRuntime) -> Result<(), Fail> {
         b"rule cat\n  command = a\n  depfile = b\n  deps = c\n  msvc_deps_prefix = d\n  description = e\n  dyndep = f\n  generator = g\n  in = h\n  in_newline = i\n  out = j\n  restat = k\n  rspfile = l\n  rspfile_content = m\n  pool = n\n";
     let want =
         b"command=a;depfile=b;deps=c;msvc_deps_prefix=d;description=e;dyndep=f;generator=g;in=h;in_newline=i;out=j;restat=k;rspfile=l;rspfile_content=m;pool=n;";
-    let found = parse(rt.alloc(), text.as_slice())?;
+    let file = parse(rt.alloc(), text.as_slice())?;
+    let found = &file.statements;
     assert_eq!(rt; found.len(), 1);
     match directive(&found[0]) {
         Some(DirectiveKind::Rule(rule)) => {

@@ -18,7 +18,7 @@ use crate::tree::loaded::{Loaded, own_scope};
 use crate::tree::parsed::Parsed;
 use crate::tree::source::{Source, SourceFault};
 use crate::tree::{File, Said, Tree, TreeStatement};
-use plan_parse::{CompactStatement, DirectiveKind, ParseFault, parse};
+use plan_parse::{CompactStatement, DirectiveKind, ParseFault, ParsedFile, parse};
 use plan_text::{Items, MAX_PATH, Piece};
 use std::alloc::{AllocError, Global};
 use std::rc::Rc;
@@ -56,8 +56,9 @@ fn read_statements<S: Source>(
     };
     bytes.shrink_to_fit();
     match parse(alloc, &bytes) {
-        Ok(statements) => Ok(Parsed {
+        Ok(ParsedFile { statements, lists }) => Ok(Parsed {
             text: Items::new(bytes),
+            lists,
             statements: Items::new(statements),
         }),
         Err(ParseFault::Memory) => Err(ReadFault::Memory),
@@ -202,11 +203,21 @@ fn load_file<S: Source>(
         Err(ReadFault::Parse(fault)) => return Err(ScopeFault::Parse(path, fault)),
         Err(ReadFault::Memory) => return Err(ScopeFault::LoadMemory),
     };
-    let Parsed { text, statements } = parsed;
+    let Parsed {
+        text,
+        lists,
+        statements,
+    } = parsed;
     let Ok(loaded) = loaded.with_room(statements.as_slice().len()) else {
         return Err(ScopeFault::LoadMemory);
     };
-    match Rc::new(alloc, File { path, scopes, text }) {
+    let file = File {
+        path,
+        scopes,
+        text,
+        lists,
+    };
+    match Rc::new(alloc, file) {
         Ok(file) => load_statements(alloc, source, loaded, file, statements, left),
         Err(_) => Err(ScopeFault::LoadMemory),
     }
@@ -223,7 +234,7 @@ fn load_statements<S: Source>(
     left: usize,
 ) -> Result<Loaded, ScopeFault>
     requires { 0 < length file.value.scopes }
-    ensures loaded { Answers (S.gives source.old) (S.fails source.old) (S.failures source.old) (S.failures source.new) (λ missing out. LoadsStatements (includes (S.gives source.old) missing left) left file.value.path file.value.scopes loaded (map (said_in file.value.text) statements) out) result }
+    ensures loaded { Answers (S.gives source.old) (S.fails source.old) (S.failures source.old) (S.failures source.new) (λ missing out. LoadsStatements (includes (S.gives source.old) missing left) left file.value.path file.value.scopes loaded (map (said_in file.value.text file.value.lists) statements) out) result }
     ensures same { SameFiles (S.gives source.new) (S.fails source.new) (S.gives source.old) (S.fails source.old) }
 {
     let mut so_far = loaded;

@@ -1,6 +1,6 @@
 //! The statements of a file, kept beside its bytes.
 
-use plan_parse::CompactStatement;
+use plan_parse::{BuildLists, CompactStatement};
 use plan_text::Items;
 use std::marker::Model;
 
@@ -9,6 +9,8 @@ use std::marker::Model;
 pub struct Parsed {
     /// The bytes.
     pub text: Items<u8>,
+    /// The build lines.
+    pub lists: BuildLists,
     /// The statements.
     pub statements: Items<CompactStatement>,
 }
@@ -20,5 +22,5 @@ impl Model for Parsed {
 
     ghost Value = { List Statement };
 
-    ghost view = { λ p. map (said_in p.text) p.statements };
+    ghost view = { λ p. map (said_in p.text p.lists) p.statements };
 }

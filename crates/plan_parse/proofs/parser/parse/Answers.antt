@@ -18,8 +18,8 @@ returns c =
     sym (ends (state_of c.loop-at.reader))
     ∙ sym (at_drop_all (λ (v : List ℕ). statements_with (state_of c.loop-at.reader) (roles_of_lines (raw_past c.loop-at.at v 0))) c.args.text.now c.loop-at.at c.loop-at-test.false)
     ∙ c.loop-at.invariant.same in
-    let kept = subst (λ (t : List ℕ). Meets fault.Memory (λ v. map (said_in t) v.items) c.finish.result (statements_at_end (state_of c.loop-at.reader))) c.loop-at.invariant.text c.finish.ensures in
-    subst (λ (m : Result (List Statement) ParseFault). Meets fault.Memory (λ v. map (said_in c.args.text.now) v.items) c.finish.result m) all kept
+    let kept = subst (λ (t : List ℕ). Meets fault.Memory (λ file. map (said_in t file.lists) file.statements.items) c.finish.result (statements_at_end (state_of c.loop-at.reader))) c.loop-at.invariant.text c.finish.ensures in
+    subst (λ (m : Result (List Statement) ParseFault). Meets fault.Memory (λ file. map (said_in c.args.text.now file.lists) file.statements.items) c.finish.result m) all kept
 
 pub read-requires-clause-line : goal.read-requires-clause-line
 read-requires-clause-line c =

@@ -37,7 +37,7 @@ load_statements-returns-in-Err-clause-loaded g t c =
     let inv = c.loop-statement.invariant in
     let mid = c.loop-statement.so_far in
     let s = c.in-Some.statement in
-    let said = said_in c.args.file.value.text in
+    let said = said_in c.args.file.value.text c.args.file.value.lists in
     let here = g.S.Source.gives c.loop-statement.source in
     let fails = g.S.Source.fails c.loop-statement.source in
     let before = g.S.Source.failures c.loop-statement.source in
@@ -46,7 +46,7 @@ load_statements-returns-in-Err-clause-loaded g t c =
     (λ p bytes. (inv.same.0 p bytes).0) (λ p. (inv.same.1 p).0) inv.unfailed
     (sym (map-append said c.loop-statement.yielded (s ∷ c.next.new.self.rest.items)) ∙ ap (map said) (ap (λ (x : List CompactStatement). c.loop-statement.yielded ++ x) (sym c.in-Some.ensures.steps.0) ∙ inv.is_left))
     inv.is_loaded
-    (subst (λ (f : File). Answers here fails before now (λ missing out. LoadsOne (includes here missing c.args.left) c.args.left mid (record { path = f.path; scopes = f.scopes; offset = (said_in f.text s).offset; kind = (said_in f.text s).kind }) out) (Err c.in-Err.fault))
+    (subst (λ (f : File). Answers here fails before now (λ missing out. LoadsOne (includes here missing c.args.left) c.args.left mid (record { path = f.path; scopes = f.scopes; offset = (said_in f.text f.lists s).offset; kind = (said_in f.text f.lists s).kind }) out) (Err c.in-Err.fault))
     c.in-Ok.ensures.cases c.in-Err.ensures.loaded)
 
 pub load_statements-returns-in-Err-clause-same : goal.load_statements-returns-in-Err-clause-same
@@ -57,7 +57,7 @@ load_statements-loop-statement-preserved g t c =
     let inv = c.loop-statement.invariant in
     let mid = c.loop-statement.so_far in
     let s = c.in-Some.statement in
-    let said = said_in c.args.file.value.text in
+    let said = said_in c.args.file.value.text c.args.file.value.lists in
     let here = g.S.Source.gives c.loop-statement.source in
     let fails = g.S.Source.fails c.loop-statement.source in
     let back = c.next.new.self.rest.items in
@@ -70,7 +70,7 @@ load_statements-loop-statement-preserved g t c =
           subst (λ (x : List Statement). LoadsStatements (includes (g.S.Source.gives c.args.source.now) never c.args.left) c.args.left c.args.file.value.path c.args.file.value.scopes c.args.loaded x (Ok c.in-Ok-load_statement.so_far)) (sym (map_push said c.loop-statement.yielded s))
           (goes_on here (g.S.Source.gives c.args.source.now) c.args.left c.args.file.value.path c.args.file.value.scopes (map said c.loop-statement.yielded) (said s) c.args.loaded mid c.in-Ok-load_statement.so_far
           (λ p bytes. (inv.same.0 p bytes).0) inv.is_loaded
-          (subst (λ (f : File). LoadsOne (includes here never c.args.left) c.args.left mid (record { path = f.path; scopes = f.scopes; offset = (said_in f.text s).offset; kind = (said_in f.text s).kind }) (Ok c.in-Ok-load_statement.so_far)) c.in-Ok.ensures.cases one.1));
+          (subst (λ (f : File). LoadsOne (includes here never c.args.left) c.args.left mid (record { path = f.path; scopes = f.scopes; offset = (said_in f.text f.lists s).offset; kind = (said_in f.text f.lists s).kind }) (Ok c.in-Ok-load_statement.so_far)) c.in-Ok.ensures.cases one.1));
     }
 
 pub load_statements-returns-clause-loaded : goal.load_statements-returns-clause-loaded
@@ -79,7 +79,7 @@ load_statements-returns-clause-loaded g t c =
     let rest = c.loop-statement.statement-iterator.rest in (
       inv.unfailed,
       subst (λ (x : List Statement). LoadsStatements (includes (g.S.Source.gives c.args.source.now) never c.args.left) c.args.left c.args.file.value.path c.args.file.value.scopes c.args.loaded x (Ok c.loop-statement.so_far))
-          (ap (map (said_in c.args.file.value.text)) (none_left c.loop-statement.yielded rest.items c.args.statements (sym rest.ok.0 ∙ c.in-None.ensures.steps.0) inv.is_left)) inv.is_loaded,
+          (ap (map (said_in c.args.file.value.text c.args.file.value.lists)) (none_left c.loop-statement.yielded rest.items c.args.statements (sym rest.ok.0 ∙ c.in-None.ensures.steps.0) inv.is_left)) inv.is_loaded,
     )
 
 pub load_statements-returns-clause-same : goal.load_statements-returns-clause-same
@@ -109,13 +109,13 @@ load_file-returns-in-Ok-new-clause-loaded g t c =
     let before = g.S.Source.failures c.read_statements.new.source in
     let now = g.S.Source.failures c.load_statements.new.source in
     let kept = c.parsed.inside.statements in
-    let said = map (said_in c.parsed.inside.text) kept in
+    let said = map (said_in c.parsed.inside.text c.parsed.inside.lists) kept in
     let all = λ (l : List TreeStatement) (x : List Statement). Answers here fails before now (λ missing out. LoadsStatements (includes here missing c.args.left) c.args.left c.args.path c.args.scopes l x out) c.load_statements.result in
     parsed_file here (g.S.Source.gives c.args.source.now) fails (g.S.Source.fails c.args.source.now) before (g.S.Source.failures c.args.source.now) now c.args.left c.as_slice.result.now c.args.path c.args.scopes c.args.loaded c.in-Ok.parsed c.load_statements.result
     c.as_slice.ensures (λ p bytes. (c.read_statements.ensures.same.0 p bytes).0) (λ p. (c.read_statements.ensures.same.1 p).0) read.0 (read.1, read.2, read.3)
     (subst (all c.args.loaded) c.parsed.view_is
     (subst (λ (l : List TreeStatement). all l said) c.in-Ok-with_room.ensures
-    (subst (λ (f : File). Answers here fails before now (λ missing out. LoadsStatements (includes here missing c.args.left) c.args.left f.path f.scopes c.in-Ok-with_room.loaded (map (said_in f.text) kept) out) c.load_statements.result)
+    (subst (λ (f : File). Answers here fails before now (λ missing out. LoadsStatements (includes here missing c.args.left) c.args.left f.path f.scopes c.in-Ok-with_room.loaded (map (said_in f.text f.lists) kept) out) c.load_statements.result)
     c.in-Ok-new.ensures.ok c.load_statements.ensures.loaded)))
 
 pub load_statement-load_included-requires : goal.load_statement-load_included-requires

@@ -19,5 +19,5 @@ abbrev pub invariant-load_statements-loop-statement : goal.invariant-load_statem
 invariant-load_statements-loop-statement g l =
     let file = l.fn.file.value in
     LoadsSoFar (g.S.Source.gives l.fn.source) (g.S.Source.gives l.source) (g.S.Source.fails l.fn.source) (g.S.Source.fails l.source)
-    (g.S.Source.failures l.fn.source) (g.S.Source.failures l.source) l.fn.left file.path file.scopes (said_in file.text)
+    (g.S.Source.failures l.fn.source) (g.S.Source.failures l.source) l.fn.left file.path file.scopes (said_in file.text file.lists)
     l.fn.loaded l.so_far l.yielded l.statement-iterator.rest.items l.fn.statements
