@@ -4,6 +4,7 @@ pub mod Trees
 pub mod Scopes
 pub mod Expansion
 pub mod Edges
+pub mod EdgeRows
 pub mod Sound
 pub mod Laws
 pub mod Loading

@@ -2,12 +2,15 @@
 
 pub(crate) mod commands;
 mod defaults;
+pub(crate) mod edge_list;
 pub(crate) mod evaluator;
 pub(crate) mod found_rules;
+pub(crate) mod path_range;
 pub(crate) mod pool_names;
 mod pools;
 mod rules;
 
+use crate::manifest::edge_list::EdgeList;
 use plan_parse::JoinedPathLists;
 use plan_text::{Items, SmallText};
 
@@ -54,7 +57,7 @@ pub struct DefaultTarget {
 #[derive(Debug, Drop)]
 pub struct Manifest {
     /// An edge for each build line, in their order.
-    pub edges: Items<Edge>,
+    pub edges: EdgeList,
     /// `console`, and then the pools in their order.
     pub pools: Items<Pool>,
     /// The targets of all `default` statements in their order.

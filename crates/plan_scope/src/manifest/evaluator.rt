@@ -25,13 +25,14 @@ use crate::manifest::found_rules::{FoundRule, find_rule, keep_rule, replace_rule
 use crate::manifest::pool_names::{CONSOLE, PoolNames};
 use crate::manifest::pools::pool;
 use crate::manifest::rules::{declare, is_phony};
+use crate::manifest::edge_list::EdgeList;
 use crate::manifest::{DefaultTarget, Edge, Manifest, Pool};
 use crate::scope::scoped_map::ScopedMap;
 use crate::scope::text::copy_of;
 use crate::scope::{Scope, bind_statement};
 use crate::tree::{Said, Tree, TreeStatement};
 use plan_parse::{BuildLine, DirectiveKind};
-use plan_text::{Items, PieceList};
+use plan_text::{Items, PieceList, RowList};
 use std::alloc::{AllocError, Global};
 
 /// What all statements of the tree give.
@@ -411,13 +412,10 @@ pub fn evaluate(alloc: Global, tree: &Tree) -> Result<Manifest, ScopeFault>
     ensures { Meets ScopeFault.Memory (λ m. m) result (manifest_of tree.now) }
 {
     let Evaluation {
-        edges,
-        pools,
-        defaults,
-        ..
+        pools, defaults, ..
     } = evaluate_tree(alloc, tree)?;
     Ok(Manifest {
-        edges: Items::new(edges),
+        edges: EdgeList::new(RowList::new(alloc), RowList::new(alloc), Vec::new(alloc)),
         pools: Items::new(pools),
         defaults: Items::new(defaults),
     })
