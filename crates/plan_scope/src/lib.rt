@@ -12,6 +12,7 @@ pub use fault::{Cause, ScopeFault};
 pub use laws::{loaded_manifests_are_sound, manifests_are_sound, trees_are_whole};
 pub use manifest::commands::{WriteFault, write_commands};
 pub use manifest::edge_list::{EdgeList, EdgeRef};
+pub use manifest::edge_paths::EdgePaths;
 pub use manifest::evaluator::evaluate;
 pub use manifest::path_range::PathRange;
 pub use manifest::{DefaultTarget, Manifest, Pool};
