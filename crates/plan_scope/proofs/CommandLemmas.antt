@@ -2,7 +2,7 @@
 use Rattle.std.proofs.Common.{◌≡◌, ◌++◌, ◌∷◌, ℕ, ◌+◌, ◌<◌, List, length, drop, ap, sym, ◌∙◌, append_assoc, get_or}
 use Rattle.std.proofs.lemmas.List.{drop_more}
 use Rattle.std.specs.List.{flat_map}
-use Rattle.plan_scope.specs.declared.manifest.Edge.{Edge}
+use Rattle.plan_scope.specs.Edge.{Edge}
 use Rattle.plan_scope.specs.Edges.{command_line}
 
 -- the lines from here on are this one and those behind it

@@ -12,7 +12,9 @@ use Rattle.plan_scope.specs.declared.fault.StatementFault.{StatementFault}
 use Rattle.plan_scope.specs.declared.fault.StatementFault.TheVariants.{Refused, Memory}
 use Rattle.plan_scope.specs.declared.fault.ScopeFault.{ScopeFault}
 use Rattle.plan_scope.specs.declared.fault.ScopeFault.TheVariants as scope
-use Rattle.plan_scope.specs.declared.manifest.Edge.{Edge}
+use Rattle.plan_scope.specs.Edge.{Edge}
+use Rattle.plan_scope.specs.declared.manifest.edge_rows.EdgeMarks.{EdgeMarks}
+use Rattle.plan_scope.specs.declared.manifest.edge_rows.EdgeRows.{EdgeRows}
 use Rattle.plan_scope.specs.declared.manifest.DefaultTarget.{DefaultTarget}
 use Rattle.plan_scope.specs.declared.manifest.Pool.{Pool}
 use Rattle.plan_scope.specs.declared.manifest.Manifest.{Manifest}
@@ -21,6 +23,8 @@ use Rattle.plan_scope.specs.Scopes.{Text, Name, Bindings, ScopedBindings, last_o
 use Rattle.plan_scope.specs.Edges.{edge_of_build, builds_in, builds_of, edge_of_rule, edge_or_refusal, manifest_of_kind, phony_variables, environment_of, manifest_past, console, edge_alone, pool_alone, defaults_alone, map_ok, in_front, is_among, empty_manifest, pools_in, pools_of, rules_in, rules_of, with_more, with_front}
 use Rattle.plan_scope.specs.Kept.{kept, KeptEqScoped, EqScoped, EqNames}
 use Rattle.plan_scope.specs.Evaluation.{GivesMore, IsLocated, own_of}
+use Rattle.plan_scope.specs.EdgeRows.{AreWithin, edges_in}
+use Rattle.plan_scope.specs.EdgeAnswers.{GivesEdge}
 use Rattle.plan_scope.specs.Outcomes.{Gives}
 use Rattle.plan_scope.proofs.ListLemmas.{one_dropped}
 use Rattle.plan_scope.proofs.ScopeLemmas.{agrees_more, same_bound}
@@ -53,14 +57,29 @@ none_bound [] name v e = refl
 none_bound (o ∷ outer) name v e = cc
 
 -- what a manifest has behind one more edge, pool or some more targets
-pub edge_behind : (edges now : List Edge) (pools : List Pool) (defaults : List DefaultTarget) (edge : Edge) → now ≡ edges ++ edge ∷ []
+edge_behind : (edges now : List Edge) (pools : List Pool) (defaults : List DefaultTarget) (edge : Edge) → now ≡ edges ++ edge ∷ []
     → record { edges = now; pools = pools; defaults = defaults } ≡ with_more (record { edges = edges; pools = pools; defaults = defaults }) (edge_alone edge)
 edge_behind edges now pools defaults edge e =
     ap (λ (l : List Edge). record { edges = l; pools = pools; defaults = defaults }) e
     ∙ (ap (λ (l : List Pool). record { edges = edges ++ edge ∷ []; pools = l; defaults = defaults }) (sym (append-nil pools))
     ∙ ap (λ (l : List DefaultTarget). record { edges = edges ++ edge ∷ []; pools = pools ++ []; defaults = l }) (sym (append-nil defaults)))
 
--- one more pool
+pub edge_more : (before now : EdgeRows) (pools : List Pool) (defaults : List DefaultTarget) (r : Result (Unit {0}) StatementFault) (meant : Result Edge Cause) → GivesEdge before now r meant
+    → GivesMore (record { edges = edges_in before; pools = pools; defaults = defaults }) (record { edges = edges_in now; pools = pools; defaults = defaults }) r (map_ok edge_alone meant)
+edge_more before now pools defaults (Ok done) meant g = (edge_alone g.0, ap (map_ok edge_alone) g.1, edge_behind (edges_in before) (edges_in now) pools defaults g.0 g.2)
+edge_more before now pools defaults (Err (Refused cause)) meant g = ap (map_ok edge_alone) g
+edge_more before now pools defaults (Err Memory) meant g = tt {0}
+
+-- edges that lie within their rows do so with one more
+pub given_within : (before now : EdgeRows) (r : Result (Unit {0}) StatementFault) (meant : Result Edge Cause) → (AreWithin before → GivesEdge before now r meant) → OnOk r (AreWithin before → AreWithin now)
+given_within before now (Ok done) meant g = λ w. (g w).3
+given_within before now (Err fault) meant g = tt {0}
+
+-- two facts of an answer
+pub on_ok_both : {E : Type 0} {P Q R : Type 0} (r : Result (Unit {0}) E) → (P → Q → R) → OnOk r P → OnOk r Q → OnOk r R
+on_ok_both (Ok x) f p q = f p q
+on_ok_both (Err e) f p q = tt {0}
+
 pub pool_behind : (edges : List Edge) (pools now : List Pool) (defaults : List DefaultTarget) (pool : Pool) → now ≡ pools ++ pool ∷ []
     → record { edges = edges; pools = now; defaults = defaults } ≡ with_more (record { edges = edges; pools = pools; defaults = defaults }) (pool_alone pool)
 pool_behind edges pools now defaults pool e =
@@ -89,13 +108,13 @@ fault_kept f before now (Refused cause) meant e = ap (map_ok f) e
 fault_kept f before now Memory meant e = tt
 
 -- what no statement gives
-pub fits_none : (bound : ScopedBindings Text) (rules : ScopedBindings (Bindings (List Piece))) (names : List Name) (edges : List Edge) → bound ≡ [] → rules ≡ [] → ((n : Name) → is_among names n ≡ is_among (codes "console" ∷ []) n) → edges ≡ []
-    → KeptEqScoped bound (bound_by []) × EqScoped rules (rules_of []) × EqNames names (pools_of []) × (length edges ≡ length (builds_of []))
-fits_none bound rules names edges e f g h = (
+pub fits_none : (bound : ScopedBindings Text) (rules : ScopedBindings (Bindings (List Piece))) (names : List Name) (marks : List EdgeMarks) → bound ≡ [] → rules ≡ [] → ((n : Name) → is_among names n ≡ is_among (codes "console" ∷ []) n) → marks ≡ []
+    → KeptEqScoped bound (bound_by []) × EqScoped rules (rules_of []) × EqNames names (pools_of []) × (length marks ≡ length (builds_of []))
+fits_none bound rules names marks e f g h = (
   λ s n. ap (λ (bs : ScopedBindings Text). option_map kept (last_of n (frame s bs))) e,
   λ s n. ap (λ (bs : ScopedBindings (Bindings (List Piece))). last_of n (frame s bs)) f,
   g,
-  ap (λ (l : List Edge). length l) h,
+  ap (λ (l : List EdgeMarks). length l) h,
 )
 
 -- the manifest of no statement has the pool `console` alone

@@ -1,11 +1,12 @@
 -- Blocks and paths of which as much is kept. Serves src/edge/paths.rt.
-use Rattle.std.proofs.Common.{◌≡◌, ℕ, zero, suc, ◌+◌, ◌<◌, ◌≤◌, Bool, true, false, ◌||◌, List, [], ◌∷◌, ◌++◌, length, map, Ok, Err, refl, ap, sym, ◌∙◌, cond, inl, inr, arith, take, get_or, subst, append_assoc, length-append}
+use Rattle.std.proofs.Common.{◌≡◌, ℕ, zero, suc, ◌+◌, ◌-◌, ◌<◌, ◌≤◌, Bool, true, false, ◌||◌, List, [], ◌∷◌, ◌++◌, length, map, Ok, Err, refl, ap, sym, ◌∙◌, cond, inl, inr, arith, drop, take, get_or, subst, append_assoc, length-append}
 use Rattle.std.specs.List.{list_any}
 use Rattle.std.proofs.lemmas.Bool.{lt-ltb, ltb-false, ne_eqb}
-use Rattle.std.proofs.lemmas.List.{append-nil, map_more, map_push, map-append}
+use Rattle.std.proofs.lemmas.List.{append-nil, drop-append-le, length-drop, map_more, map_push, map-append, take-append-le}
+use Rattle.std.proofs.Math.Seq.{drop-append_seam, take-length}
 use Rattle.std.proofs.lemmas.List.Folds.{list_any-append}
 use Rattle.plan_parse.specs.declared.path_lists.PathLists.{PathLists}
-use Rattle.plan_parse.specs.PathLists.{all_in}
+use Rattle.plan_parse.specs.PathLists.{all_in, between}
 use Rattle.plan_parse.specs.declared.statement.Binding.{Binding}
 use Rattle.plan_parse.specs.declared.compact.CompactBinding.{CompactBinding}
 use Rattle.plan_parse.specs.Compact.{variable_in}
@@ -17,7 +18,8 @@ use Rattle.plan_scope.specs.declared.fault.Cause.TheVariants.{EmptyPath, PathToo
 use Rattle.plan_scope.specs.declared.manifest.DefaultTarget.{DefaultTarget}
 use Rattle.plan_scope.specs.Edges.{Paths, canonical_paths, has_long, block_of, near, path_of, canonical_or, first_of, or_refused, target_at, targets_by}
 use Rattle.plan_scope.specs.Kept.{kept, KeptEqBindings, KeptEqLookup}
-use Rattle.plan_scope.specs.Paths.{IsListOf, kept_in}
+use Rattle.plan_scope.specs.declared.edge.paths.PathRows.{PathRows}
+use Rattle.plan_scope.specs.Paths.{ReadsPath, ReadsPaths, kept_in}
 use Rattle.plan_scope.proofs.TextLemmas.{Same, same_from_kept, kept_or}
 
 -- names that stand for as much in a block and above it do so on its build line
@@ -211,38 +213,67 @@ targets_made n held meant made e f g h =
 any_push : (test : Text → Bool) (xs : List Text) (x : Text) → list_any test (xs ++ x ∷ []) ≡ (list_any test xs || test x)
 any_push test xs x = list_any-append test xs (x ∷ []) ∙ ap (λ (t : Bool). list_any test xs || t) (or_false (test x))
 
--- an element of a list, whatever stands for none
-pub same_item : {X : Type 0} (xs : List X) (i : ℕ) (d e : X) → i < length xs → get_or xs i d ≡ get_or xs i e
-same_item [] i d e h = absurd (omega arith)
-same_item (x ∷ xs) zero d e h = refl
-same_item (x ∷ xs) (suc i) d e h = same_item xs i d e (omega arith)
-
 -- the text of a literal
 pub expand_literal : (here : Name → Text) (bytes : Text) → expand here (literal_of bytes) ≡ bytes
 expand_literal here [] = refl
 expand_literal here (b ∷ bytes) = append-nil (b ∷ bytes)
 
+-- no path was read yet
+pub reads_none : (r : PathRows) → ReadsPaths r [] r
+reads_none r = record { rows = sym (append-nil r.rows); empty = sym (or_false r.has_empty); long = sym (or_false r.has_long) }
+
+or_more : (t : Bool) (test : Text → Bool) (xs : List Text) (x : Text) → ((t || list_any test xs) || test x) ≡ (t || list_any test (xs ++ x ∷ []))
+or_more true test xs x = refl
+or_more false test xs x = sym (any_push test xs x)
+
 -- one more path that is read
-pub list_more : (texts forms now : List Text) (empty long e l : Bool) (t f : Text) → IsListOf texts forms empty long → f ≡ path_of t → now ≡ forms ++ f ∷ [] → e ≡ is_empty t → l ≡ is_long_path t
-    → IsListOf (texts ++ t ∷ []) now (empty || e) (long || l)
-list_more texts forms now empty long e l t f h c n i j = (
-  n ∙ (ap (λ (x : List Text). x ++ f ∷ []) h.0 ∙ (ap (λ (x : Text). map path_of texts ++ x ∷ []) c ∙ sym (map-append path_of texts (t ∷ [])))),
-  ap (λ (x : Bool). x || e) h.1 ∙ (ap (λ (x : Bool). list_any is_empty texts || x) i ∙ sym (any_push is_empty texts t)),
-  ap (λ (x : Bool). x || l) h.2 ∙ (ap (λ (x : Bool). list_any is_long_path texts || x) j ∙ sym (any_push is_long_path texts t)),
-)
+pub reads_more : (before now next : PathRows) (texts : List Text) (t : Text) → ReadsPaths before texts now → ReadsPath now t next → ReadsPaths before (texts ++ t ∷ []) next
+reads_more before now next texts t h one = record {
+  rows = one.rows ∙ ap (λ (l : List Text). l ++ path_of t ∷ []) h.rows ∙ append_assoc before.rows (map path_of texts) (path_of t ∷ []) ∙ ap (λ (l : List Text). before.rows ++ l) (sym (map-append path_of texts (t ∷ [])));
+  empty = one.empty ∙ ap (λ (b : Bool). b || is_empty t) h.empty ∙ or_more before.has_empty is_empty texts t;
+  long = one.long ∙ ap (λ (b : Bool). b || is_long_path t) h.long ∙ or_more before.has_long is_long_path texts t;
+}
 
--- one more path that is read, behind those of the lists before
-pub list_onto : (before texts forms now : List Text) (empty long e l : Bool) (t f : Text) → IsListOf (before ++ texts) forms empty long → f ≡ path_of t → now ≡ forms ++ f ∷ [] → e ≡ is_empty t → l ≡ is_long_path t
-    → IsListOf (before ++ (texts ++ t ∷ [])) now (empty || e) (long || l)
-list_onto before texts forms now empty long e l t f h c n i j =
-    subst (λ (x : List Text). IsListOf x now (empty || e) (long || l)) (append_assoc before texts (t ∷ []))
-    (list_more (before ++ texts) forms now empty long e l t f h c n i j)
+or_lists : (t : Bool) (test : Text → Bool) (xs ys : List Text) → ((t || list_any test xs) || list_any test ys) ≡ (t || list_any test (xs ++ ys))
+or_lists true test xs ys = refl
+or_lists false test xs ys = sym (list_any-append test xs ys)
 
--- where a list ends that is read behind those before it
-pub end_more : (before texts forms next : List Text) (start end : ℕ) → start ≡ length forms → forms ≡ map path_of before → end ≡ length next → next ≡ map path_of (before ++ texts) → end ≡ start + length (map path_of texts)
-end_more before texts forms next start end s f e n =
-    let whole = ap length (map-append path_of before texts) ∙ length-append (map path_of before) (map path_of texts) in
-    e ∙ ap length n ∙ whole ∙ ap (λ k. k + length (map path_of texts)) (sym (s ∙ ap length f))
+-- two lists that are read one behind the other
+pub reads_both : (before now next : PathRows) (texts others : List Text) → ReadsPaths before texts now → ReadsPaths now others next → ReadsPaths before (texts ++ others) next
+reads_both before now next texts others h k = record {
+  rows = k.rows ∙ ap (λ (l : List Text). l ++ map path_of others) h.rows ∙ append_assoc before.rows (map path_of texts) (map path_of others) ∙ ap (λ (l : List Text). before.rows ++ l) (sym (map-append path_of texts others));
+  empty = k.empty ∙ ap (λ (b : Bool). b || list_any is_empty others) h.empty ∙ or_lists before.has_empty is_empty texts others;
+  long = k.long ∙ ap (λ (b : Bool). b || list_any is_long_path others) h.long ∙ or_lists before.has_long is_long_path texts others;
+}
+
+-- rows between two places, with more behind them
+pub between_more : {X : Type 0} (start end : ℕ) (rows more : List X) → start ≤ end → end ≤ length rows → between start end (rows ++ more) ≡ between start end rows
+between_more start end rows more s e =
+    let left = length-drop start rows in
+    ap (take (end - start)) (drop-append-le start rows more (omega (arith, s, e))) ∙ take-append-le (end - start) (drop start rows) more (omega (arith, left, s, e))
+
+-- the rows that were put behind others
+pub between_last : {X : Type 0} (rows more now : List X) (start end : ℕ) → now ≡ rows ++ more → start ≡ length rows → end ≡ length now → between start end now ≡ more
+between_last rows more now start end n s e =
+    let whole = ap length n ∙ length-append rows more in
+    let size : end - start ≡ length more = omega (arith, whole, s, e) in
+    ap (λ k. take k (drop start now)) size
+    ∙ ap (λ k. take (length more) (drop k now)) s
+    ∙ ap (λ l. take (length more) (drop (length rows) l)) n
+    ∙ ap (take (length more)) (drop-append_seam rows more)
+    ∙ take-length more
+
+-- a list of paths whose forms were put behind others, with more behind them
+pub list_placed : (before forms now more all : List Text) (start end : ℕ) → now ≡ before ++ forms → all ≡ now ++ more → start ≡ length before → end ≡ length now → between start end all ≡ forms
+list_placed before forms now more all start end n a s e =
+    let whole = ap length n ∙ length-append before forms in
+    ap (between start end) a ∙ between_more start end now more (omega (arith, whole, s, e)) (omega (arith, e)) ∙ between_last before forms now start end n s e
+
+-- a list of paths takes rows
+pub list_longer : (before now : PathRows) (texts : List Text) → ReadsPaths before texts now → length before.rows ≤ length now.rows
+list_longer before now texts r =
+    let whole = ap length r.rows ∙ length-append before.rows (map path_of texts) in
+    omega (arith, whole)
 
 -- the canonical forms of all paths are those of each list
 pub forms_in : (p : Paths) → map path_of (all_in p) ≡ all_in (canonical_paths p)

@@ -1,5 +1,5 @@
 -- Texts of which as much is kept. Serves src/scope/text.rt, and whatever keeps texts.
-use Rattle.std.proofs.Common.{◌≡◌, ℕ, ◌+◌, ◌<◌, ◌≤◌, Bool, true, false, List, [], ◌∷◌, ◌++◌, length, map, Option, Some, None, refl, ap, sym, ◌∙◌, cond, eqb, option_map, unwrap_or, flat_map, ◌⊎◌, inl, inr, arith, length-append, append_assoc, append-nil, take, get_or}
+use Rattle.std.proofs.Common.{◌≡◌, ℕ, zero, suc, ◌+◌, ◌<◌, ◌≤◌, Bool, true, false, List, [], ◌∷◌, ◌++◌, length, map, Option, Some, None, refl, ap, sym, ◌∙◌, cond, eqb, option_map, unwrap_or, flat_map, ◌⊎◌, inl, inr, arith, length-append, append_assoc, append-nil, take, get_or}
 use Rattle.std.proofs.lemmas.List.{take_more, map_more, map-append}
 use Rattle.std.proofs.lemmas.List.Concat.{flat_map-append}
 use Rattle.std.proofs.lemmas.Grind.{common_steps}
@@ -163,3 +163,9 @@ long_same a b (inr h) = lt-ltb max_text (length a) h.0 ∙ sym (lt-ltb max_text 
 -- texts of which as much is kept are both too long, or neither is
 pub long_kept : (a b : Text) → kept a ≡ kept b → is_too_long a ≡ is_too_long b
 long_kept a b e = long_same a b (same_from_kept a b e)
+
+-- an element of a list, whatever stands for none
+pub any_item : {X : Type 0} (xs : List X) (i : ℕ) (d e : X) → i < length xs → get_or xs i d ≡ get_or xs i e
+any_item [] i d e h = absurd (omega arith)
+any_item (x ∷ xs) zero d e h = refl
+any_item (x ∷ xs) (suc i) d e h = any_item xs i d e (omega arith)

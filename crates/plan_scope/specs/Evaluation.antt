@@ -10,20 +10,23 @@ use Rattle.plan_scope.specs.declared.fault.ScopeFault.{ScopeFault}
 use Rattle.plan_scope.specs.declared.fault.ScopeFault.TheVariants.{Refused, Memory}
 use Rattle.plan_scope.specs.declared.manifest.Manifest.{Manifest}
 use Rattle.plan_scope.specs.Trees.{TreeStatement}
+use Rattle.plan_scope.specs.EdgeRows.{AreWithin, edges_in}
 use Rattle.plan_scope.specs.Scopes.{Text, bound_by, is_too_long}
 use Rattle.plan_scope.specs.Edges.{builds_of, depth_in, first_of, or_refused, pools_of, rules_of, with_more}
 use Rattle.plan_scope.specs.Kept.{KeptEqScoped, EqScoped, EqNames}
 
 -- the manifest so far
 abbrev pub manifest_in : Evaluation → Manifest
-manifest_in e = record { edges = e.edges.items; pools = e.pools.items; defaults = e.defaults.items }
+manifest_in e = record { edges = edges_in e.edges; pools = e.pools.items; defaults = e.defaults.items }
 
--- what is bound, the rules and the pools of these statements, and how many of them are build lines
+-- what is bound, the rules and the pools of these statements, and how many of them are build lines; the edges lie
+-- within their rows
 pub record Fits (e : Evaluation) (above : List TreeStatement) : Type 0 where
   pub bound : KeptEqScoped e.bound (bound_by above)
   pub rules : EqScoped e.rules (rules_of above)
   pub names : EqNames e.pool_names (pools_of above)
-  pub count : length e.edges.items ≡ length (builds_of above)
+  pub count : length e.edges.marks.items ≡ length (builds_of above)
+  pub within : AreWithin e.edges
 
 -- what is bound and the pools of all statements
 pub record Knows (facts : TreeFacts) (all : List TreeStatement) : Type 0 where

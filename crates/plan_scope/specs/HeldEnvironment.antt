@@ -4,4 +4,4 @@ use Rattle.plan_scope.specs.Expansion.{EdgeEnvironment}
 use Rattle.plan_scope.specs.ScopeNames.{names_in}
 
 abbrev pub environment_of : Held → EdgeEnvironment
-environment_of edge = record { inputs = edge.inputs.now; outputs = edge.outputs.now; block = edge.block.now; rule = edge.rule.now; file = names_in edge.file }
+environment_of edge = record { inputs = edge.paths.now.inputs; outputs = edge.paths.now.outputs; block = edge.block.now; rule = edge.rule.now; file = names_in edge.file }

@@ -3,7 +3,11 @@ pub mod Sources
 pub mod Trees
 pub mod Scopes
 pub mod Expansion
+pub mod Edge
 pub mod Edges
+pub mod EdgePlaces
+pub mod EdgeRows
+pub mod EdgeAnswers
 pub mod Sound
 pub mod Laws
 pub mod Loading

@@ -4,7 +4,7 @@ use Rattle.std.specs.List.{All}
 use Rattle.plan_text.specs.Path.{canonical_of}
 use Rattle.plan_parse.specs.PathLists.{all_in}
 use Rattle.plan_parse.specs.Build.{Build}
-use Rattle.plan_scope.specs.declared.manifest.Edge.{Edge}
+use Rattle.plan_scope.specs.Edge.{Edge}
 use Rattle.plan_scope.specs.declared.manifest.Manifest.{Manifest}
 use Rattle.plan_scope.specs.declared.manifest.Pool.{Pool}
 use Rattle.plan_scope.specs.Scopes.{Text, Name}

@@ -10,9 +10,12 @@ mod tree;
 
 pub use fault::{Cause, ScopeFault};
 pub use laws::{loaded_manifests_are_sound, manifests_are_sound, trees_are_whole};
-pub use manifest::commands::{WriteFault, command_text, write_commands};
+pub use manifest::commands::{WriteFault, write_commands};
+pub use manifest::edge_list::{EdgeList, EdgeRef};
+pub use manifest::edge_paths::EdgePaths;
 pub use manifest::evaluator::evaluate;
-pub use manifest::{DefaultTarget, Edge, Manifest, Pool};
+pub use manifest::path_range::PathRange;
+pub use manifest::{DefaultTarget, Manifest, Pool};
 pub use tree::loader::load;
 pub use tree::source::{Source, SourceFault};
 pub use tree::{File, Tree, TreeStatement};

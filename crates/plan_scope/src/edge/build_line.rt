@@ -1,29 +1,32 @@
 //! The edge of a build line.
 
-ghost use Rattle.std.specs.Prelude.{◌≡◌, [], List, IfOk, true, false};
+ghost use Rattle.std.specs.Prelude.{◌≡◌, ◌≤◌, ◌+◌, ◌++◌, [], List, IfOk, OnOk, length, true, false};
 ghost use Rattle.plan_scope.specs.Scopes.{Name, Text};
-ghost use Rattle.plan_scope.specs.Edges.{causes_of, edge_of, edge_or_refusal, first_of, names_no_pool, or_refused, phony_variables, environment_of, variables_of};
+ghost use Rattle.plan_scope.specs.Edges.{Paths, causes_of, edge_of, edge_or_refusal, first_of, names_no_pool, or_refused, phony_variables, environment_of, variables_of};
 ghost use Rattle.plan_scope.specs.Kept.{EqNames, KeptEqLookup};
 ghost use Rattle.plan_scope.specs.Compiled.{IsCompiledRule};
 ghost use Rattle.plan_scope.specs.HeldEnvironment.{environment_of as held_environment};
-ghost use Rattle.plan_scope.specs.Parts.{IsRead, environment_from};
-ghost use Rattle.plan_scope.specs.Outcomes.{Gives};
+ghost use Rattle.plan_scope.specs.Parts.{IsRead, environment_from, kept_texts, parts_with};
+ghost use Rattle.plan_scope.specs.EdgePlaces.{ArePlaced};
+ghost use Rattle.plan_scope.specs.EdgeRows.{AreWithin, edge_with};
+ghost use Rattle.plan_scope.specs.EdgeAnswers.{GivesEdge, GivesMarks, HasMore, texts_read};
 ghost use Rattle.plan_scope.specs.ScopeNames.{names_in};
 
 use crate::edge::compiled::CompiledRule;
 use crate::edge::expansion::EdgeEnvironment;
-use crate::edge::paths::{BlockTexts, PathTexts, block, read_paths};
+use crate::edge::paths::{BlockTexts, PathRows, PathTexts, block, read_paths, row_count};
 use crate::edge::rule_variables::RuleVariables;
 use crate::edge::variables::{
     Variables, has_long_text, is_other_deps, is_present, variables_of_phony, variables_of_rule,
 };
 use crate::fault::{Cause, StatementFault};
-use crate::manifest::Edge;
+use crate::manifest::edge_paths::PathPlaces;
+use crate::manifest::edge_rows::{EdgeMarks, EdgeRows};
 use crate::manifest::pool_names::PoolNames;
 use crate::scope::Scope;
 use crate::scope::text::is_long;
-use plan_parse::{BuildLine, JoinedPathLists};
-use plan_text::SmallText;
+use plan_parse::BuildLine;
+use plan_text::RowList;
 use std::alloc::{AllocError, Global};
 
 /// What is read of a build line before its variables are looked up.
@@ -32,20 +35,24 @@ pub struct Parts<'a> {
     /// Its block.
     pub block: BlockTexts<'a>,
     /// What is read of its paths.
-    pub read: PathTexts,
+    pub read: PathTexts<'a>,
 }
 
-/// What is read of a build line, by what names stand for above it.
+/// Reads a build line, by what names stand for above it: its block, and its paths behind those of the lines before,
+/// with their places.
 fn read_parts<'a>(
     alloc: Global,
     here: Scope<'a>,
     build: &BuildLine<'a>,
-) -> Result<Parts<'a>, AllocError>
-    ensures { IfOk result (λ parts. (h : Name → Text) → KeptEqLookup (names_in here.entry) h → IsRead h build.now parts) }
+    read: &mut PathRows,
+) -> Result<(BlockTexts<'a>, PathPlaces), AllocError>
+    ensures parts { IfOk result (λ x. (h : Name → Text) → KeptEqLookup (names_in here.entry) h → IsRead h build.now (parts_with x.0 (texts_read read.new x.1))) }
+    ensures placed { IfOk result (λ x. ArePlaced (length read.new.rows) x.1) }
+    ensures more { OnOk result (HasMore read.old.rows read.new.rows) }
 {
     let block = block(alloc, here, &build.bindings())?;
-    let read = read_paths(alloc, &block.values, here, &*build)?;
-    Ok(Parts { block, read })
+    let places = read_paths(alloc, &block.values, here, &*build, read)?;
+    Ok((block, places))
 }
 
 /// Whether a text asks for a pool that isn't there.
@@ -92,36 +99,53 @@ fn cause(pools: &PoolNames, parts: &Parts, variables: &Variables) -> Option<Caus
     None
 }
 
-/// The edge with these paths and variables.
-fn edge_from(paths: JoinedPathLists<SmallText>, variables: Variables, phony: bool) -> Edge
-    ensures { result ≡ edge_of paths variables phony }
+/// Appends the texts that are kept of an edge.
+fn push_texts(texts: &mut RowList<u8>, variables: &Variables) -> Result<(), AllocError>
+    ensures { OnOk result (texts.new ≡ texts.old ++ kept_texts variables.now) }
 {
-    let restat = is_present(variables.restat.as_slice());
-    let generator = is_present(variables.generator.as_slice());
-    Edge {
-        paths,
-        command: variables.command,
-        description: variables.description,
-        depfile: variables.depfile,
-        restat,
-        generator,
-        phony,
-        pool: variables.pool,
-    }
+    texts.push(variables.command.as_slice())?;
+    texts.push(variables.description.as_slice())?;
+    texts.push(variables.depfile.as_slice())?;
+    texts.push(variables.pool.as_slice())
 }
 
-/// The edge with these variables, unless it is refused.
-fn edge_or_refusal(
-    pools: &PoolNames,
-    parts: Parts,
-    variables: Variables,
+/// The marks of the edge with these places and variables, whose texts are put behind those before.
+fn marks_of(
+    places: PathPlaces,
+    variables: &Variables,
     phony: bool,
-) -> Result<Edge, StatementFault>
-    ensures { Gives result (or_refused (first_of (causes_of pools.now variables parts.entry.read.has_empty parts.entry.read.has_long parts.entry.block.has_long)) (edge_of parts.entry.read.paths variables phony)) }
+    texts: &mut RowList<u8>,
+) -> Result<EdgeMarks, AllocError>
+    ensures edge { IfOk result (λ m. (paths : Paths) → edge_with paths texts.new m ≡ edge_of paths variables.now phony) }
+    ensures places { IfOk result (λ m. m.paths ≡ places) }
+    ensures within { IfOk result (λ m. m.texts + 4 ≤ length texts.new) }
+    ensures more { OnOk result (HasMore texts.old texts.new) }
 {
-    match cause(pools, &parts, &variables) {
+    let marks = EdgeMarks {
+        paths: places,
+        texts: row_count(texts)?,
+        restat: is_present(variables.restat.as_slice()),
+        generator: is_present(variables.generator.as_slice()),
+        phony,
+    };
+    push_texts(texts, variables)?;
+    Ok(marks)
+}
+
+/// The marks of the edge with these variables, unless it is refused.
+fn marks_or_refusal(
+    pools: &PoolNames,
+    parts: &Parts,
+    places: PathPlaces,
+    variables: &Variables,
+    phony: bool,
+    texts: &mut RowList<u8>,
+) -> Result<EdgeMarks, StatementFault>
+    ensures { GivesMarks parts.now.read.paths places texts.old texts.new result (or_refused (first_of (causes_of pools.now variables.now parts.now.read.has_empty parts.now.read.has_long parts.now.block.has_long)) (edge_of parts.now.read.paths variables.now phony)) }
+{
+    match cause(pools, parts, variables) {
         Some(cause) => Err(StatementFault::Refused(cause)),
-        None => Ok(edge_from(parts.read.paths, variables, phony)),
+        None => Ok(marks_of(places, variables, phony, texts)?),
     }
 }
 
@@ -134,17 +158,16 @@ fn environment_with<'a>(
     ensures { held_environment result ≡ environment_from parts.now rule.now (names_in file.entry) }
 {
     EdgeEnvironment {
-        inputs: parts.read.paths.inputs(),
-        outputs: parts.read.paths.outputs(),
+        paths: &parts.read.paths,
         block: &parts.block.values,
         rule,
         file,
     }
 }
 
-/// The edge of a build line with this rule, compiled for its file or not, by the pools of the tree and by what names
-/// stand for above the statement and, once the whole tree was read, in its file.
-pub fn edge<'a>(
+/// Adds the edge of a build line with this rule, compiled for its file or not, by the pools of the tree and by what
+/// names stand for above the statement and, once the whole tree was read, in its file.
+pub fn push_edge<'a>(
     alloc: Global,
     pools: &PoolNames<'a>,
     here: Scope<'a>,
@@ -152,29 +175,41 @@ pub fn edge<'a>(
     rule: &'a RuleVariables<'a>,
     compiled: &CompiledRule,
     build: &BuildLine<'a>,
-) -> Result<Edge, StatementFault>
+    edges: &mut EdgeRows,
+) -> Result<(), StatementFault>
     requires { IsCompiledRule rule.now (names_in file) compiled.now }
-    ensures { (names : List Name) (h f : Name → Text) → EqNames pools.now names → KeptEqLookup (names_in here.entry) h → KeptEqLookup (names_in file.entry) f → Gives result (edge_or_refusal names h build.now (variables_of (environment_of h f build.now rule.now)) false) }
+    ensures edge { (names : List Name) (h f : Name → Text) → EqNames pools.now names → KeptEqLookup (names_in here.entry) h → KeptEqLookup (names_in file.entry) f → AreWithin edges.old → GivesEdge edges.old edges.new result (edge_or_refusal names h build.now (variables_of (environment_of h f build.now rule.now)) false) }
+    ensures count { OnOk result (length edges.new.marks.items ≡ length edges.old.marks.items + 1) }
 {
-    let parts = read_parts(alloc, here, build)?;
+    let (block, places) = read_parts(alloc, here, build, &mut edges.paths)?;
+    let read = PathTexts::new(&edges.paths, places);
+    let parts = Parts { block, read };
     let environment = environment_with(&parts, &*rule, file);
     let variables = variables_of_rule(alloc, &environment, compiled)?;
-    edge_or_refusal(pools, parts, variables, false)
+    let marks = marks_or_refusal(pools, &parts, places, &variables, false, &mut edges.texts)?;
+    edges.marks.push(marks)?;
+    Ok(())
 }
 
-/// The edge of a phony build line, by the same.
-pub fn phony_edge<'a>(
+/// Adds the edge of a phony build line, by the same.
+pub fn push_phony_edge<'a>(
     alloc: Global,
     pools: &PoolNames<'a>,
     here: Scope<'a>,
     file: Scope<'a>,
     build: &BuildLine<'a>,
-) -> Result<Edge, StatementFault>
-    ensures { (names : List Name) (h f : Name → Text) → EqNames pools.now names → KeptEqLookup (names_in here.entry) h → KeptEqLookup (names_in file.entry) f → Gives result (edge_or_refusal names h build.now (phony_variables (environment_of h f build.now [])) true) }
+    edges: &mut EdgeRows,
+) -> Result<(), StatementFault>
+    ensures edge { (names : List Name) (h f : Name → Text) → EqNames pools.now names → KeptEqLookup (names_in here.entry) h → KeptEqLookup (names_in file.entry) f → AreWithin edges.old → GivesEdge edges.old edges.new result (edge_or_refusal names h build.now (phony_variables (environment_of h f build.now [])) true) }
+    ensures count { OnOk result (length edges.new.marks.items ≡ length edges.old.marks.items + 1) }
 {
-    let parts = read_parts(alloc, here, build)?;
+    let (block, places) = read_parts(alloc, here, build, &mut edges.paths)?;
+    let read = PathTexts::new(&edges.paths, places);
+    let parts = Parts { block, read };
     let rule = RuleVariables::empty(alloc);
     let environment = environment_with(&parts, &rule, file);
     let variables = variables_of_phony(alloc, &environment)?;
-    edge_or_refusal(pools, parts, variables, true)
+    let marks = marks_or_refusal(pools, &parts, places, &variables, true, &mut edges.texts)?;
+    edges.marks.push(marks)?;
+    Ok(())
 }

@@ -84,9 +84,9 @@ fn append_part<'a>(
 {
     match part {
         VariablePart::Literal(text) => append(out, text),
-        VariablePart::Inputs => append_paths(out, quoting, edge.inputs, b' '),
-        VariablePart::InputsByLine => append_paths(out, quoting, edge.inputs, b'\n'),
-        VariablePart::Outputs => append_paths(out, quoting, edge.outputs, b' '),
+        VariablePart::Inputs => append_paths(out, quoting, &edge.paths.inputs(), b' '),
+        VariablePart::InputsByLine => append_paths(out, quoting, &edge.paths.inputs(), b'\n'),
+        VariablePart::Outputs => append_paths(out, quoting, &edge.paths.outputs(), b' '),
         VariablePart::Near(name, text) => append(out, near_text(edge.block, name, text)),
     }
 }

@@ -12,20 +12,20 @@ ghost use Rattle.plan_scope.specs.HeldEnvironment.{environment_of};
 use crate::edge::memo::{MemoEntry, memoize, recall};
 use crate::edge::rule_variables::RuleVariables;
 use crate::fault::{Cause, StatementFault};
+use crate::manifest::edge_paths::EdgePaths;
+use crate::manifest::path_range::PathRange;
 use crate::scope::held_text::HeldText;
 use crate::scope::small_map::SmallMap;
 use crate::scope::text::{Quoting, append, append_paths};
 use crate::scope::{Scope, name_text};
-use plan_text::{Items, Piece, SmallText};
+use plan_text::{Items, Piece};
 use std::alloc::Global;
 
 /// What the variables of an edge are looked up in, the nearest first.
 #[derive(Clone, Copy)]
 pub struct EdgeEnvironment<'a> {
-    /// The canonical paths of its explicit inputs.
-    pub inputs: &'a [SmallText],
-    /// The canonical paths of its explicit outputs.
-    pub outputs: &'a [SmallText],
+    /// Its canonical paths.
+    pub paths: &'a EdgePaths<'a>,
     /// The variables of its build block.
     pub block: &'a SmallMap<'a, HeldText<'a>>,
     /// The variables of its rule.
@@ -35,17 +35,17 @@ pub struct EdgeEnvironment<'a> {
 }
 
 /// The paths that a name stands for, and the byte between each two.
-fn listed<'a>(edge: &EdgeEnvironment<'a>, name: &[u8]) -> Option<(&'a [SmallText], u8)>
-    ensures { (quoting : Text → Text) → option_map (λ l. join_with_byte l.1 (map quoting l.0.now)) result ≡ listed quoting (environment_of edge.now) name.now }
+fn listed<'a>(edge: &EdgeEnvironment<'a>, name: &[u8]) -> Option<(PathRange<'a>, u8)>
+    ensures { (quoting : Text → Text) → option_map (λ l. join_with_byte l.1 (map quoting l.0)) result ≡ listed quoting (environment_of edge.now) name.now }
 {
     if name == b"in".as_slice() {
-        return Some((edge.inputs, b' '));
+        return Some((edge.paths.inputs(), b' '));
     }
     if name == b"out".as_slice() {
-        return Some((edge.outputs, b' '));
+        return Some((edge.paths.outputs(), b' '));
     }
     if name == b"in_newline".as_slice() {
-        return Some((edge.inputs, b'\n'));
+        return Some((edge.paths.inputs(), b'\n'));
     }
     None
 }
@@ -62,7 +62,7 @@ fn append_known(out: &mut Vec<u8>, text: &[u8]) -> Result<usize, StatementFault>
 fn append_listed(
     out: &mut Vec<u8>,
     quoting: Quoting,
-    paths: &[SmallText],
+    paths: &PathRange<'_>,
     separator: u8,
 ) -> Result<usize, StatementFault>
     ensures { AppendsBy out.old.items out.new.items 0 result (λ n. Some (join_with_byte separator (map (quoted_as quoting) paths.now))) }
@@ -106,7 +106,7 @@ fn append_variable<'a>(
     ensures memo { IsMemo (meaning_of (quoted_as quoting) (environment_of edge.now)) memo.new.items }
 {
     match listed(edge, name) {
-        Some((paths, separator)) => return append_listed(out, quoting, paths, separator),
+        Some((paths, separator)) => return append_listed(out, quoting, &paths, separator),
         None => {}
     }
     match edge.block.get(name) {

@@ -1,6 +1,6 @@
 //! The texts of a build line: its block and its paths.
 
-ghost use Rattle.std.specs.Prelude.{◌≡◌, ◌≤◌, ◌<◌, ◌+◌, ◌++◌, ◌^◌, List, length, IfOk, OnOk, map};
+ghost use Rattle.std.specs.Prelude.{◌≡◌, ◌||◌, ◌≤◌, ◌<◌, ◌+◌, ◌++◌, ◌∷◌, ◌^◌, [], List, length, IfOk, OnOk, map};
 ghost use Rattle.std.specs.List.{list_any};
 ghost use Rattle.plan_scope.specs.Scopes.{Bindings, Name, Text, expand, is_empty, is_long_path, is_too_long};
 ghost use Rattle.plan_text.specs.Limits.{max_text};
@@ -8,18 +8,21 @@ ghost use Rattle.plan_parse.specs.Lines.{IsPlaced, bindings_in, paths_in, pieces
 ghost use Rattle.plan_scope.specs.PathParts.{part_value, pieces_in};
 ghost use Rattle.plan_scope.specs.Edges.{Paths, block_of, near, path_of, paths_of, texts_of};
 ghost use Rattle.plan_scope.specs.Kept.{KeptEqBindings, KeptEqLookup, kept};
-ghost use Rattle.plan_scope.specs.Paths.{AreRead, IsListOf, kept_in};
+ghost use Rattle.plan_scope.specs.Paths.{AreRead, ReadsPath, ReadsPaths, kept_in};
+ghost use Rattle.plan_scope.specs.EdgePlaces.{ArePlaced};
+ghost use Rattle.plan_scope.specs.EdgeAnswers.{HasMore, texts_read};
 ghost use Rattle.plan_scope.specs.ScopeNames.{names_in};
 
+use crate::manifest::edge_paths::{EdgePaths, PathPlaces};
 use crate::scope::held_text::HeldText;
 use crate::scope::small_map::SmallMap;
 use crate::scope::text::{append, front_kept, is_long};
 use crate::scope::{Scope, expand_pieces, name_text};
 use plan_parse::{
-    BindingsInText, BuildLine, JoinedPathLists, PathEnds, PathInText, PathLists, PathPart,
-    PathsInText, ValueInText, name_in, part_at, path_in, value_in,
+    BindingsInText, BuildLine, PathInText, PathPart, PathsInText, ValueInText, name_in, part_at,
+    path_in, value_in,
 };
-use plan_text::{Items, MAX_PATH, SmallText, TextFault, canonical, is_canonical};
+use plan_text::{Items, MAX_PATH, RowList, SmallText, TextFault, canonical, is_canonical};
 use std::alloc::{AllocError, Global};
 
 /// The variables of a build block.
@@ -142,135 +145,184 @@ pub fn canonical_path(alloc: Global, path: &[u8]) -> Result<SmallText, AllocErro
     }
 }
 
-/// What is read of paths, one list of a build line behind the other.
-#[derive(Drop)]
-struct PathsSoFar {
+/// Appends the canonical form of a path. A path that has no byte, or is too long, stays as it is.
+fn push_form(alloc: Global, rows: &mut RowList<u8>, path: &[u8]) -> Result<(), AllocError>
+    ensures { OnOk result (rows.new ≡ rows.old ++ path_of path.now ∷ []) }
+{
+    if is_long_path(path) {
+        return rows.push(path);
+    }
+    if is_canonical(path) {
+        return rows.push(path);
+    }
+    match canonical(alloc, path) {
+        Ok(form) => rows.push(&form),
+        Err(TextFault::Memory) => Err(AllocError),
+        Err(_) => rows.push(path),
+    }
+}
+
+/// The canonical paths of build lines, one behind the other, and what was seen of those of the last line.
+#[derive(Debug, Drop)]
+pub struct PathRows {
+    /// The canonical paths.
+    pub rows: RowList<u8>,
     /// What a path is put together in, whatever it holds.
     buffer: Vec<u8>,
-    /// Their canonical forms.
-    forms: Vec<SmallText>,
-    /// Whether a path as expanded has no byte.
-    has_empty: bool,
-    /// Whether a path as expanded is too long.
-    has_long: bool,
+    /// Whether a path of the last build line has no byte as expanded.
+    pub has_empty: bool,
+    /// Whether one is too long as expanded.
+    pub has_long: bool,
 }
 
-/// What is read of a path.
-#[derive(Drop)]
-struct PathRead {
-    /// Its canonical form.
-    form: SmallText,
-    /// Whether it has no byte as expanded.
-    is_empty: bool,
-    /// Whether it is too long as expanded.
-    is_long: bool,
+/// How many bytes the buffer has room for at first, enough for most paths.
+const BUFFER: usize = 500;
+
+impl PathRows {
+    /// No path.
+    pub fn new(alloc: Global) -> Result<PathRows, AllocError>
+        ensures { IfOk result (λ read. read.rows ≡ []) }
+    {
+        Ok(PathRows {
+            rows: RowList::new(alloc),
+            buffer: Vec::with_capacity(alloc, BUFFER)?,
+            has_empty: false,
+            has_long: false,
+        })
+    }
 }
 
-/// What is read of a path with these bytes.
-fn path_read(alloc: Global, path: &[u8]) -> Result<PathRead, AllocError>
-    ensures { IfOk result (λ read. (read.form ≡ path_of path.now) × (read.is_empty ≡ is_empty path.now) × (read.is_long ≡ is_long_path path.now)) }
+/// Appends the canonical form of a path as expanded, and adds what is seen of it to what was seen of others.
+fn push_seen(
+    alloc: Global,
+    rows: &mut RowList<u8>,
+    has_empty: &mut bool,
+    has_long: &mut bool,
+    path: &[u8],
+) -> Result<(), AllocError>
+    ensures { OnOk result ((rows.new ≡ rows.old ++ path_of path.now ∷ []) × (has_empty.new ≡ (has_empty.old || is_empty path.now)) × (has_long.new ≡ (has_long.old || is_long_path path.now))) }
 {
-    Ok(PathRead {
-        form: canonical_path(alloc, path)?,
-        is_empty: path.is_empty(),
-        is_long: is_long_path(path),
-    })
+    *has_empty |= path.is_empty();
+    *has_long |= is_long_path(path);
+    push_form(alloc, rows, path)
 }
 
-/// A path of a build line. One that is put together is so in a buffer, whatever that held, so that it takes no more
-/// memory than it needs.
+/// Reads a path as expanded.
+fn add_path(alloc: Global, read: &mut PathRows, path: &[u8]) -> Result<(), AllocError>
+    ensures { OnOk result (ReadsPath read.old path.now read.new) }
+{
+    let (has_empty, has_long) = (&mut read.has_empty, &mut read.has_long);
+    push_seen(alloc, &mut read.rows, has_empty, has_long, path)
+}
+
+/// Reads a path that is put together part by part.
+fn add_expanded<'a>(
+    alloc: Global,
+    block: &'a SmallMap<'a, HeldText<'a>>,
+    here: Scope<'a>,
+    at: usize,
+    path: &'a [u8],
+    read: &mut PathRows,
+) -> Result<(), AllocError>
+    requires { at + length path.now < 2 ^ 63 }
+    ensures { OnOk result ((text : Text) × ReadsPath read.old text read.new × ((b : Bindings Text) (m : Name → Text) → KeptEqBindings block.now b → KeptEqLookup (names_in here.entry) m → kept text ≡ kept (expand (near m b) (pieces_in at path.now)))) }
+{
+    expand_path(block, here, at, path, &mut read.buffer)?;
+    let (has_empty, has_long) = (&mut read.has_empty, &mut read.has_long);
+    push_seen(alloc, &mut read.rows, has_empty, has_long, &read.buffer)
+}
+
+/// Reads a path of a build line.
 fn read_one<'a>(
     alloc: Global,
     block: &'a SmallMap<'a, HeldText<'a>>,
     here: Scope<'a>,
     path: PathInText<'a>,
-    buffer: &mut Vec<u8>,
-) -> Result<PathRead, AllocError>
+    read: &mut PathRows,
+) -> Result<(), AllocError>
     requires { IsPlaced path }
-    ensures { IfOk result (λ read. (text : Text) × (read.form ≡ path_of text) × (read.is_empty ≡ is_empty text) × (read.is_long ≡ is_long_path text) × ((b : Bindings Text) (m : Name → Text) → KeptEqBindings block.now b → KeptEqLookup (names_in here.entry) m → kept text ≡ kept (expand (near m b) (pieces_of path.entry)))) }
+    ensures { OnOk result ((text : Text) × ReadsPath read.old text read.new × ((b : Bindings Text) (m : Name → Text) → KeptEqBindings block.now b → KeptEqLookup (names_in here.entry) m → kept text ≡ kept (expand (near m b) (pieces_of path.entry)))) }
 {
     match path {
-        PathInText::Plain(bytes) => path_read(alloc, bytes),
-        PathInText::Parts(at, bytes) => {
-            expand_path(block, here, at, bytes, buffer)?;
-            path_read(alloc, buffer)
-        }
+        PathInText::Plain(bytes) => add_path(alloc, read, bytes),
+        PathInText::Parts(at, bytes) => add_expanded(alloc, block, here, at, bytes, read),
     }
 }
 
-/// Reads the paths of a list behind those of the lists before it. How many there are then is where the list ends.
+/// Reads the paths of a list behind those of the lists before it. How many there are then is where the next begins.
 fn read_list<'a>(
     alloc: Global,
     block: &'a SmallMap<'a, HeldText<'a>>,
     here: Scope<'a>,
     list: &PathsInText<'a>,
-    read: &mut PathsSoFar,
+    read: &mut PathRows,
 ) -> Result<u32, AllocError>
-    ensures { IfOk result (λ end. (texts : List Text) × (end ≡ length read.new.forms.items) × ((before : List Text) → IsListOf before read.old.forms.items read.old.has_empty read.old.has_long → IsListOf (before ++ texts) read.new.forms.items read.new.has_empty read.new.has_long) × ((b : Bindings Text) (m : Name → Text) → KeptEqBindings block.now b → KeptEqLookup (names_in here.entry) m → map kept texts ≡ map kept (paths_of (near m b) (paths_in list.now)))) }
+    ensures { IfOk result (λ end. (texts : List Text) × (end ≡ length read.new.rows) × ReadsPaths read.old texts read.new × ((b : Bindings Text) (m : Name → Text) → KeptEqBindings block.now b → KeptEqLookup (names_in here.entry) m → map kept texts ≡ map kept (paths_of (near m b) (paths_in list.now)))) }
 {
     let (text, paths) = (list.text, list.paths);
     for path in paths {
-        let one = read_one(alloc, block, here, path_in(text, *path), &mut read.buffer)?;
-        read.has_empty |= one.is_empty;
-        read.has_long |= one.is_long;
-        read.forms.push(one.form)?;
+        read_one(alloc, block, here, path_in(text, *path), read)?;
     }
-    match u32::try_from(read.forms.len()) {
-        Ok(end) => Ok(end),
+    row_count(&read.rows)
+}
+
+/// How many rows there are, where four bytes can tell it.
+pub fn row_count(rows: &RowList<u8>) -> Result<u32, AllocError>
+    ensures { IfOk result (λ count. count ≡ length rows.now) }
+{
+    match u32::try_from(rows.len()) {
+        Ok(count) => Ok(count),
         Err(_) => Err(AllocError),
     }
 }
 
 /// What is read of the paths of a build line.
 #[derive(Drop)]
-pub struct PathTexts {
+pub struct PathTexts<'a> {
     /// Their canonical forms.
-    pub paths: JoinedPathLists<SmallText>,
+    pub paths: EdgePaths<'a>,
     /// Whether a path as expanded has no byte.
     pub has_empty: bool,
     /// Whether a path as expanded is too long.
     pub has_long: bool,
 }
 
-/// How many paths five lists have.
-fn path_count(lists: &PathLists<PathsInText>) -> usize {
-    let mut count = lists.outputs.paths.len();
-    count = count.saturating_add(lists.implicit_outputs.paths.len());
-    count = count.saturating_add(lists.inputs.paths.len());
-    count = count.saturating_add(lists.implicit_inputs.paths.len());
-    count.saturating_add(lists.order_only_inputs.paths.len())
+impl<'a> PathTexts<'a> {
+    /// What was read of the last build line, whose paths stand at these places.
+    pub fn new(read: &'a PathRows, places: PathPlaces) -> PathTexts<'a>
+        requires { ArePlaced (length read.now.rows) places }
+        ensures { result ≡ texts_read read.now places }
+    {
+        PathTexts {
+            paths: EdgePaths::new(&read.rows, places),
+            has_empty: read.has_empty,
+            has_long: read.has_long,
+        }
+    }
 }
 
-/// How many bytes a buffer of paths has room for at first, enough for most.
-const BUFFER: usize = 500;
-
-/// The paths of a build line, by its block and what names stand for above it.
+/// Reads the paths of a build line, by its block and what names stand for above it, behind those of the lines before.
 pub fn read_paths<'a>(
     alloc: Global,
     block: &'a SmallMap<'a, HeldText<'a>>,
     here: Scope<'a>,
     build: &BuildLine<'a>,
-) -> Result<PathTexts, AllocError>
-    ensures { IfOk result (λ read. (texts : Paths) × AreRead texts read × ((b : Bindings Text) (m : Name → Text) → KeptEqBindings block.now b → KeptEqLookup (names_in here.entry) m → kept_in texts ≡ kept_in (texts_of (near m b) build.now))) }
+    read: &mut PathRows,
+) -> Result<PathPlaces, AllocError>
+    ensures texts { IfOk result (λ places. (texts : Paths) × AreRead texts (texts_read read.new places) × ((b : Bindings Text) (m : Name → Text) → KeptEqBindings block.now b → KeptEqLookup (names_in here.entry) m → kept_in texts ≡ kept_in (texts_of (near m b) build.now))) }
+    ensures placed { IfOk result (λ places. ArePlaced (length read.new.rows) places) }
+    ensures more { OnOk result (HasMore read.old.rows read.new.rows) }
 {
+    read.has_empty = false;
+    read.has_long = false;
     let lists = build.paths();
-    let mut read = PathsSoFar {
-        buffer: Vec::with_capacity(alloc, BUFFER)?,
-        forms: Vec::with_capacity(alloc, path_count(&lists))?,
-        has_empty: false,
-        has_long: false,
-    };
-    let ends = PathEnds {
-        outputs: read_list(alloc, block, here, &lists.outputs, &mut read)?,
-        implicit_outputs: read_list(alloc, block, here, &lists.implicit_outputs, &mut read)?,
-        inputs: read_list(alloc, block, here, &lists.inputs, &mut read)?,
-        implicit_inputs: read_list(alloc, block, here, &lists.implicit_inputs, &mut read)?,
-    };
-    read_list(alloc, block, here, &lists.order_only_inputs, &mut read)?;
-    Ok(PathTexts {
-        paths: JoinedPathLists::new(read.forms, ends),
-        has_empty: read.has_empty,
-        has_long: read.has_long,
+    Ok(PathPlaces {
+        outputs: row_count(&read.rows)?,
+        implicit_outputs: read_list(alloc, block, here, &lists.outputs, read)?,
+        inputs: read_list(alloc, block, here, &lists.implicit_outputs, read)?,
+        implicit_inputs: read_list(alloc, block, here, &lists.inputs, read)?,
+        order_only_inputs: read_list(alloc, block, here, &lists.implicit_inputs, read)?,
+        end: read_list(alloc, block, here, &lists.order_only_inputs, read)?,
     })
 }
 

@@ -5,7 +5,8 @@ ghost use Rattle.plan_text.specs.Bytes.{line_feed};
 ghost use Rattle.plan_text.specs.Sinks.{Writes};
 ghost use Rattle.plan_scope.specs.Edges.{command_line, commands_of};
 
-use crate::manifest::{Edge, Manifest};
+use crate::manifest::Manifest;
+use crate::manifest::edge_list::EdgeRef;
 use plan_text::{Sink, SinkFault, write_all, writes_join};
 
 /// A write failed.
@@ -16,13 +17,6 @@ impl From<SinkFault> for WriteFault {
     fn from(_fault: SinkFault) -> WriteFault {
         WriteFault
     }
-}
-
-/// The text of an edge's command.
-pub fn command_text(edge: &Edge) -> &[u8]
-    ensures { result.now ≡ edge.now.command }
-{
-    edge.command.as_slice()
 }
 
 /// Writes some bytes and a newline.
@@ -36,13 +30,13 @@ fn write_line<W: Sink>(statement: &[u8], out: &mut W) -> Result<(), WriteFault>
 }
 
 /// Writes the command of an edge and a newline; nothing of a phony.
-fn write_command<W: Sink>(edge: &Edge, out: &mut W) -> Result<(), WriteFault>
+fn write_command<W: Sink>(edge: &EdgeRef<'_>, out: &mut W) -> Result<(), WriteFault>
     ensures { Writes (is_ok result) (W.failures out.old, W.taken out.old) (W.failures out.new, W.taken out.new) (command_line edge.now) }
 {
-    if edge.phony {
+    if edge.is_phony() {
         return Ok(());
     }
-    write_line(command_text(edge), out)
+    write_line(edge.command(), out)
 }
 
 /// Writes the command of each edge that isn't a phony, in order, a newline after each, and nothing else. At the first
@@ -51,9 +45,8 @@ pub fn write_commands<W: Sink>(manifest: &Manifest, out: &mut W) -> Result<(), W
     ensures { Writes (is_ok result) (W.failures out.old, W.taken out.old) (W.failures out.new, W.taken out.new) (commands_of manifest.now) }
 {
     writes_join();
-    let edges = manifest.edges.as_slice();
-    for edge in edges {
-        write_command(edge, out)?;
+    for number in 0..manifest.edges.len() {
+        write_command(&manifest.edges.edge(number), out)?;
     }
     Ok(())
 }

@@ -11,21 +11,24 @@ ghost use Rattle.plan_scope.specs.Scopes.{Bindings, Name, ScopedBindings, Text, 
 ghost use Rattle.plan_scope.specs.Edges.{edge_of_build, edge_or_refusal, environment_of, variables_of, builds_in, builds_of, console, defaults_alone, edge_alone, manifest_of_kind, manifest_past, is_among, manifest_of, map_ok, paths_of, pool_alone, pool_by, targets_by, with_front};
 ghost use Rattle.plan_scope.specs.Kept.{EqNames, KeptEqLookup};
 ghost use Rattle.plan_scope.specs.ScopeNames.{names_in};
-ghost use Rattle.plan_scope.specs.Outcomes.{Gives};
+ghost use Rattle.plan_scope.specs.EdgeRows.{AreWithin};
+ghost use Rattle.plan_scope.specs.EdgeAnswers.{GivesEdge};
 ghost use Rattle.plan_scope.specs.Evaluation.{Fits, GivesMore, IsLocated, Knows, manifest_in};
 ghost use Rattle.plan_scope.specs.Found.{AreFound};
 
-use crate::edge::build_line::{edge, phony_edge};
+use crate::edge::build_line::{push_edge, push_phony_edge};
 use crate::edge::compiled::CompiledRule;
 use crate::edge::rule_compiler::compile_rule;
 use crate::edge::rule_variables::RuleVariables;
 use crate::fault::{Cause, ScopeFault, StatementFault};
 use crate::manifest::defaults::targets;
+use crate::manifest::edge_list::EdgeList;
+use crate::manifest::edge_rows::EdgeRows;
 use crate::manifest::found_rules::{FoundRule, find_rule, keep_rule, replace_rule};
 use crate::manifest::pool_names::{CONSOLE, PoolNames};
 use crate::manifest::pools::pool;
 use crate::manifest::rules::{declare, is_phony};
-use crate::manifest::{DefaultTarget, Edge, Manifest, Pool};
+use crate::manifest::{DefaultTarget, Manifest, Pool};
 use crate::scope::scoped_map::ScopedMap;
 use crate::scope::text::copy_of;
 use crate::scope::{Scope, bind_statement};
@@ -53,7 +56,7 @@ pub struct Evaluation<'a> {
     /// The names of the pools.
     pub pool_names: PoolNames<'a>,
     /// The edges.
-    pub edges: Vec<Edge>,
+    pub edges: EdgeRows,
     /// The pools.
     pub pools: Vec<Pool>,
     /// The targets of `default` statements.
@@ -97,7 +100,7 @@ fn edge_count(statements: &[TreeStatement]) -> usize
 fn initial_evaluation<'a>(alloc: Global, edges: usize) -> Result<Evaluation<'a>, AllocError>
     ensures { IfOk result (λ e. Fits e [] × (manifest_in e ≡ pool_alone console)) }
 {
-    let edges = Vec::with_capacity(alloc, edges)?;
+    let edges = EdgeRows::new(alloc, edges)?;
     let mut pool_names = PoolNames::new(alloc);
     pool_names.insert(CONSOLE)?;
     let mut pools = Vec::new(alloc);
@@ -115,8 +118,8 @@ fn initial_evaluation<'a>(alloc: Global, edges: usize) -> Result<Evaluation<'a>,
     })
 }
 
-/// The edge of a build line with a rule that isn't kept yet; from now on it is, but not compiled.
-fn edge_of_new_rule<'b, 'a>(
+/// Adds the edge of a build line with a rule that isn't kept yet; from now on it is, but not compiled.
+fn add_edge_of_new_rule<'b, 'a>(
     alloc: Global,
     pools: &PoolNames<'b>,
     found: &mut Vec<FoundRule<'a>>,
@@ -124,23 +127,25 @@ fn edge_of_new_rule<'b, 'a>(
     file: Scope<'a>,
     rule: &'b RuleVariables<'a>,
     build: &BuildLine<'a>,
-) -> Result<Edge, StatementFault>
-    ensures edge { (names : List Name) (h f : Name → Text) → EqNames pools.now names → KeptEqLookup (names_in here.entry) h → KeptEqLookup (names_in file.entry) f → Gives result (edge_or_refusal names h build.now (variables_of (environment_of h f build.now rule.now)) false) }
+    edges: &mut EdgeRows,
+) -> Result<(), StatementFault>
+    ensures edge { (names : List Name) (h f : Name → Text) → EqNames pools.now names → KeptEqLookup (names_in here.entry) h → KeptEqLookup (names_in file.entry) f → AreWithin edges.old → GivesEdge edges.old edges.new result (edge_or_refusal names h build.now (variables_of (environment_of h f build.now rule.now)) false) }
+    ensures count { OnOk result (length edges.new.marks.items ≡ length edges.old.marks.items + 1) }
     ensures found { OnOk result ((rules : ScopedBindings (Bindings (List Piece))) → nearest rules file.entry.scopes.now build.now.rule ≡ Some rule.now → AreFound rules file.entry.bound.now found.old.items → AreFound rules file.entry.bound.now found.new.items) }
 {
     let compiled = CompiledRule::Met;
-    let edge = edge(alloc, &*pools, here, file, &*rule, &compiled, &*build);
+    let added = push_edge(alloc, &*pools, here, file, &*rule, &compiled, &*build, edges);
     let found_rule = FoundRule {
         scopes: file.scopes,
         name: build.rule(),
         compiled,
     };
     keep_rule(found, found_rule)?;
-    edge
+    added
 }
 
-/// The edge of a build line with a rule that one other used; from now on it is compiled.
-fn edge_of_met_rule<'b, 'a>(
+/// Adds the edge of a build line with a rule that one other used; from now on it is compiled.
+fn add_edge_of_met_rule<'b, 'a>(
     alloc: Global,
     pools: &PoolNames<'b>,
     found: &mut Vec<FoundRule<'a>>,
@@ -148,23 +153,25 @@ fn edge_of_met_rule<'b, 'a>(
     file: Scope<'a>,
     rule: &'b RuleVariables<'a>,
     build: &BuildLine<'a>,
-) -> Result<Edge, StatementFault>
-    ensures edge { (names : List Name) (h f : Name → Text) → EqNames pools.now names → KeptEqLookup (names_in here.entry) h → KeptEqLookup (names_in file.entry) f → Gives result (edge_or_refusal names h build.now (variables_of (environment_of h f build.now rule.now)) false) }
+    edges: &mut EdgeRows,
+) -> Result<(), StatementFault>
+    ensures edge { (names : List Name) (h f : Name → Text) → EqNames pools.now names → KeptEqLookup (names_in here.entry) h → KeptEqLookup (names_in file.entry) f → AreWithin edges.old → GivesEdge edges.old edges.new result (edge_or_refusal names h build.now (variables_of (environment_of h f build.now rule.now)) false) }
+    ensures count { OnOk result (length edges.new.marks.items ≡ length edges.old.marks.items + 1) }
     ensures found { OnOk result ((rules : ScopedBindings (Bindings (List Piece))) → nearest rules file.entry.scopes.now build.now.rule ≡ Some rule.now → AreFound rules file.entry.bound.now found.old.items → AreFound rules file.entry.bound.now found.new.items) }
 {
     let compiled = compile_rule(alloc, &*rule, file)?;
-    let edge = edge(alloc, &*pools, here, file, &*rule, &compiled, &*build);
+    let added = push_edge(alloc, &*pools, here, file, &*rule, &compiled, &*build, edges);
     let found_rule = FoundRule {
         scopes: file.scopes,
         name: build.rule(),
         compiled,
     };
     replace_rule(found, found_rule);
-    edge
+    added
 }
 
-/// The edge of a build line.
-fn edge_of_build<'b, 'a>(
+/// Adds the edge of a build line.
+fn add_edge_of_build<'b, 'a>(
     alloc: Global,
     pools: &PoolNames<'b>,
     rules: &'b ScopedMap<RuleVariables<'a>>,
@@ -172,24 +179,28 @@ fn edge_of_build<'b, 'a>(
     here: Scope<'b>,
     file: Scope<'a>,
     build: &BuildLine<'a>,
-) -> Result<Edge, StatementFault>
+    edges: &mut EdgeRows,
+) -> Result<(), StatementFault>
     requires scopes { file.scopes.now ≡ here.scopes.now }
     requires found { AreFound rules.now file.bound.now found.old.items }
-    ensures edge { (names : List Name) (h f : Name → Text) → EqNames pools.now names → KeptEqLookup (names_in here.entry) h → KeptEqLookup (names_in file.entry) f → Gives result (edge_of_build names rules.now here.entry.scopes.now h f build.now) }
+    ensures edge { (names : List Name) (h f : Name → Text) → EqNames pools.now names → KeptEqLookup (names_in here.entry) h → KeptEqLookup (names_in file.entry) f → AreWithin edges.old → GivesEdge edges.old edges.new result (edge_of_build names rules.now here.entry.scopes.now h f build.now) }
+    ensures count { OnOk result (length edges.new.marks.items ≡ length edges.old.marks.items + 1) }
     ensures found { OnOk result (AreFound rules.now file.entry.bound.now found.new.items) }
 {
     if is_phony(build.rule()) {
-        return phony_edge(alloc, &*pools, here, file, &*build);
+        return push_phony_edge(alloc, &*pools, here, file, &*build, edges);
     }
     let Some(rule) = rules.nearest(here.scopes, build.rule()) else {
         return Err(StatementFault::Refused(Cause::UnknownRule));
     };
     match find_rule(found, file.scopes, build.rule()) {
         Some(CompiledRule::Met) => {
-            edge_of_met_rule(alloc, pools, found, here, file, rule, &*build)
+            add_edge_of_met_rule(alloc, pools, found, here, file, rule, &*build, edges)
         }
-        Some(compiled) => edge(alloc, &*pools, here, file, &*rule, compiled, &*build),
-        None => edge_of_new_rule(alloc, pools, found, here, file, rule, &*build),
+        Some(compiled) => {
+            push_edge(alloc, &*pools, here, file, &*rule, compiled, &*build, edges)
+        }
+        None => add_edge_of_new_rule(alloc, pools, found, here, file, rule, &*build, edges),
     }
 }
 
@@ -203,9 +214,10 @@ fn add_build<'a>(
     build: &BuildLine<'a>,
 ) -> Result<(), StatementFault>
     requires { AreFound so_far.old.rules facts.now.bound.now found.old.items }
-    ensures given { (names : List Name) (h f : Name → Text) → EqNames facts.now.pool_names names → KeptEqLookup (lookup so_far.old.bound scopes.now) h → KeptEqLookup (lookup facts.now.bound.now scopes.now) f
+    ensures given { (names : List Name) (h f : Name → Text) → EqNames facts.now.pool_names names → KeptEqLookup (lookup so_far.old.bound scopes.now) h → KeptEqLookup (lookup facts.now.bound.now scopes.now) f → AreWithin so_far.old.edges
         → GivesMore (manifest_in so_far.old) (manifest_in so_far.new) result (map_ok edge_alone (edge_of_build names so_far.old.rules scopes.now h f build.now)) }
-    ensures count { OnOk result (length so_far.new.edges.items ≡ length so_far.old.edges.items + 1) }
+    ensures count { OnOk result (length so_far.new.edges.marks.items ≡ length so_far.old.edges.marks.items + 1) }
+    ensures within { OnOk result (AreWithin so_far.old.edges → AreWithin so_far.new.edges) }
     ensures bound { so_far.new.bound ≡ so_far.old.bound }
     ensures rules { so_far.new.rules ≡ so_far.old.rules }
     ensures names { so_far.new.pool_names ≡ so_far.old.pool_names }
@@ -219,7 +231,7 @@ fn add_build<'a>(
         bound: facts.bound,
         scopes,
     };
-    let edge = edge_of_build(
+    add_edge_of_build(
         alloc,
         &facts.pool_names,
         &so_far.rules,
@@ -227,9 +239,8 @@ fn add_build<'a>(
         here,
         file,
         &*build,
-    )?;
-    so_far.edges.push(edge)?;
-    Ok(())
+        &mut so_far.edges,
+    )
 }
 
 /// Adds what a pool gives.
@@ -264,7 +275,7 @@ fn add_default<'a>(
     paths: &'a [PieceList],
 ) -> Result<(), StatementFault>
     ensures given { (h : Name → Text) → KeptEqLookup (lookup so_far.old.bound scopes.now) h
-        → GivesMore (manifest_in so_far.old) (manifest_in so_far.new) result (map_ok defaults_alone (targets_by (length so_far.old.edges.items) (paths_of h paths.now))) }
+        → GivesMore (manifest_in so_far.old) (manifest_in so_far.new) result (map_ok defaults_alone (targets_by (length so_far.old.edges.marks.items) (paths_of h paths.now))) }
     ensures count { so_far.new.edges ≡ so_far.old.edges }
     ensures bound { so_far.new.bound ≡ so_far.old.bound }
     ensures rules { so_far.new.rules ≡ so_far.old.rules }
@@ -274,7 +285,7 @@ fn add_default<'a>(
         bound: &so_far.bound,
         scopes,
     };
-    let mut found = targets(alloc, so_far.edges.as_slice().len(), here, paths)?;
+    let mut found = targets(alloc, so_far.edges.marks.len(), here, paths)?;
     so_far.defaults.append(&mut found)?;
     Ok(())
 }
@@ -380,7 +391,8 @@ fn evaluate_statements<'a>(
     statements: &'a [TreeStatement],
 ) -> Result<Evaluation<'a>, ScopeFault>
     requires { Fits so_far [] × Knows facts.now statements.now }
-    ensures { Meets ScopeFault.Memory manifest_in result (with_front (manifest_in so_far.entry) (manifest_past statements.now [] statements.now)) }
+    ensures given { Meets ScopeFault.Memory manifest_in result (with_front (manifest_in so_far.entry) (manifest_past statements.now [] statements.now)) }
+    ensures within { IfOk result (λ e. AreWithin e.edges) }
 {
     let mut found = Vec::new(alloc);
     for statement in statements {
@@ -394,7 +406,8 @@ fn evaluate_statements<'a>(
 
 /// What the statements of a tree give, `console` among the pools.
 fn evaluate_tree<'a>(alloc: Global, tree: &'a Tree) -> Result<Evaluation<'a>, ScopeFault>
-    ensures { Meets ScopeFault.Memory manifest_in result (manifest_of tree.now) }
+    ensures within { IfOk result (λ e. AreWithin e.edges) }
+    ensures given { Meets ScopeFault.Memory manifest_in result (manifest_of tree.now) }
 {
     let statements = tree.statements();
     let facts = facts_of_tree(alloc, tree)?;
@@ -417,7 +430,7 @@ pub fn evaluate(alloc: Global, tree: &Tree) -> Result<Manifest, ScopeFault>
         ..
     } = evaluate_tree(alloc, tree)?;
     Ok(Manifest {
-        edges: Items::new(edges),
+        edges: EdgeList::new(edges),
         pools: Items::new(pools),
         defaults: Items::new(defaults),
     })

@@ -9,7 +9,8 @@ ghost use Rattle.plan_scope.specs.Kept.{kept};
 ghost use Rattle.plan_scope.specs.ShellQuoting.{quoted_as};
 ghost use Rattle.std.specs.Prelude.{map, flat_map, [], ◌∷◌, if◌then◌else◌};
 
-use plan_text::{Items, MAX_TEXT, SmallText};
+use crate::manifest::path_range::PathRange;
+use plan_text::{Items, MAX_TEXT};
 use std::alloc::{AllocError, Global};
 
 /// How a path is shown.
@@ -159,7 +160,7 @@ fn append_separator(out: &mut Vec<u8>, is_first: bool, separator: u8) -> Result<
 pub fn append_paths(
     out: &mut Vec<u8>,
     quoting: Quoting,
-    paths: &[SmallText],
+    paths: &PathRange<'_>,
     separator: u8,
 ) -> Result<(), AllocError>
     ensures { OnOk result (kept out.new.items ≡ kept (out.old.items ++ join_with_byte separator (map (quoted_as quoting) paths.now))) }
@@ -168,9 +169,9 @@ pub fn append_paths(
         return Ok(());
     }
     let mut is_first = true;
-    for path in paths {
+    for number in 0..paths.len() {
         append_separator(out, is_first, separator)?;
-        append_path(out, quoting, path.as_slice())?;
+        append_path(out, quoting, paths.path(number))?;
         is_first = false;
     }
     Ok(())

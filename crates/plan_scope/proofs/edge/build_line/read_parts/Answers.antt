@@ -8,14 +8,14 @@ use Rattle.plan_scope.specs.Paths.{kept_in}
 use Rattle.plan_scope.proofs.PathLemmas.{any_in, empty_kept, far_kept, kept_forms, exact_forms}
 use Rattle.plan_scope.proofs.edge.build_line.read_parts.Goals as goal
 
-pub returns : goal.returns
-returns c = λ h s.
+pub returns-clause-parts : goal.returns-clause-parts
+returns-clause-parts c = λ h s.
     let b = c.args.build.now in
     let block = c.in_ok-block.block in
-    let texts = c.in_ok-read.ensures.0 in
-    let seen = c.in_ok-read.ensures.1 in
+    let texts = c.in_ok-places.ensures.texts.0 in
+    let seen = c.in_ok-places.ensures.texts.1 in
     let values = subst (λ x. KeptEqBindings block.values (block_of h x)) c.bindings.ensures (c.in_ok-block.ensures.values h s) in
-    let same = c.in_ok-read.ensures.2 (block_of h b.bindings) h values s in
+    let same = c.in_ok-places.ensures.texts.2 (block_of h b.bindings) h values s in
     record {
       values = values;
       long_value = c.in_ok-block.ensures.long h s ∙ ap (λ x. list_any (λ y. is_too_long y.1) (block_of h x)) c.bindings.ensures;

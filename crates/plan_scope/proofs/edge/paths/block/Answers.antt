@@ -8,8 +8,8 @@ use Rattle.plan_parse.specs.Compact.{variable_in}
 use Rattle.plan_scope.specs.Scopes.{Text, Bindings, expand, last_of, is_too_long}
 use Rattle.plan_scope.specs.Edges.{block_of}
 use Rattle.plan_scope.specs.Kept.{kept}
-use Rattle.plan_scope.proofs.TextLemmas.{long_kept}
-use Rattle.plan_scope.proofs.PathLemmas.{block_read, long_push, same_item}
+use Rattle.plan_scope.proofs.TextLemmas.{any_item, long_kept}
+use Rattle.plan_scope.proofs.PathLemmas.{block_read, long_push}
 use Rattle.plan_scope.proofs.SmallMapLemmas.{pushed_both}
 use Rattle.plan_scope.proofs.edge.paths.block.Goals as goal
 
@@ -25,7 +25,7 @@ loop-binding-preserved c = λ meant h.
     let old = c.loop-binding.invariant meant h in
     let front = block_of meant (map (variable_in source) (take i all)) in
     let text = expand meant b.value in
-    let more = block_read meant source all i item c.loop-binding-test.true (same_item all i first item c.loop-binding-test.true) in
+    let more = block_read meant source all i item c.loop-binding-test.true (any_item all i first item c.loop-binding-test.true) in
     let same : kept held ≡ kept text = c.in_ok-text.ensures meant h ∙ ap (λ (ps : List Piece). kept (expand meant ps)) c.value_in.ensures in
     let long : c.is_long-has_long.result ≡ is_too_long text = c.is_long-has_long.ensures ∙ (ap is_too_long c.as_slice.ensures ∙ long_kept held text same) in (
       λ n.

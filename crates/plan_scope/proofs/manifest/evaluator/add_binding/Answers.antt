@@ -18,7 +18,7 @@ pub returns-clause-fits : goal.returns-clause-fits
 returns-clause-fits c = λ above fits.
     let e = c.args.so_far.now in
     let l = c.args.statement.now in
-    let k = known_more c.bind_statement.new.bound e.rules e.rules e.pool_names e.pool_names (length e.edges.items) (length e.edges.items) above l _ c.requires.1
+    let k = known_more c.bind_statement.new.bound e.rules e.rules e.pool_names e.pool_names (length e.edges.marks.items) (length e.edges.marks.items) above l _ c.requires.1
     (subst (λ (k : StatementKind). KeptEqScoped c.bind_statement.new.bound (bound_by above ++ bound_in (bound_by above) l.scopes k)) c.requires.1 (c.in_ok-bind_statement.ensures.bound (bound_by above) fits.bound))
     fits.rules (same_end e.rules) fits.names (names_end e.pool_names) fits.count (omega arith) in
-    record { bound = k.0; rules = k.1; names = k.2; count = k.3 }
+    record { bound = k.0; rules = k.1; names = k.2; count = k.3; within = fits.within }

@@ -4,6 +4,8 @@ use Rattle.plan_text.specs.declared.piece_reader.Piece.{Piece}
 use Rattle.plan_parse.specs.declared.statement.DirectiveKind.{DirectiveKind}
 use Rattle.plan_parse.specs.Compact.{kind_of}
 use Rattle.plan_parse.specs.Kinds.{StatementKind}
+use Rattle.plan_scope.specs.declared.manifest.edge_rows.EdgeRows.{EdgeRows}
+use Rattle.plan_scope.specs.EdgeRows.{AreWithin}
 use Rattle.plan_scope.specs.Scopes.{Name, Text, Bindings, ScopedBindings, bound_by, expand, frame, in_own, last_of, lookup}
 use Rattle.plan_scope.specs.Edges.{builds_of, defaults_alone, manifest_of_kind, is_among, late, map_ok, empty_manifest, paths_of, pool_alone, pool_by, pools_of, targets_by}
 use Rattle.plan_scope.specs.Kept.{KeptEqScoped, EqScoped}
@@ -19,11 +21,11 @@ returns-in-Rule-clause-fits c =
     let rule = c.in-Rule.rule in
     on_ok_weaker c.declare.result
     (λ (known : EqScoped c.declare.new.rules (e.rules ++ in_own c.scopes-scopes.result.now rule.name (late rule.bindings))) above fits.
-    let k = known_more e.bound c.declare.new.rules e.rules e.pool_names e.pool_names (length e.edges.items) (length e.edges.items) above l _ (c.requires ∙ ap (λ (k : DirectiveKind). kind_of k) c.in-Rule.is)
+    let k = known_more e.bound c.declare.new.rules e.rules e.pool_names e.pool_names (length e.edges.marks.items) (length e.edges.marks.items) above l _ (c.requires ∙ ap (λ (k : DirectiveKind). kind_of k) c.in-Rule.is)
     (same_bound e.bound (bound_by above) fits.bound) fits.rules
     (λ s n. known s n ∙ ap (λ (x : List ℕ). last_of n (frame s (e.rules ++ in_own x rule.name (late rule.bindings)))) c.scopes-scopes.ensures)
     fits.names (names_end e.pool_names) fits.count (omega arith) in
-    record { bound = k.0; rules = k.1; names = k.2; count = k.3 })
+    record { bound = k.0; rules = k.1; names = k.2; count = k.3; within = fits.within })
     c.declare.ensures.known
 
 pub returns-in-Pool-clause-given : goal.returns-in-Pool-clause-given
@@ -43,11 +45,11 @@ returns-in-Pool-clause-fits c =
     let now = c.add_pool.new.so_far in
     on_ok_weaker c.add_pool.result
     (λ (names : (n : Name) → is_among now.pool_names n ≡ is_among (e.pool_names ++ c.in-Pool.declared.name ∷ []) n) above fits.
-    let k = known_more now.bound now.rules e.rules now.pool_names e.pool_names (length now.edges.items) (length e.edges.items) above c.args.statement.now _ (c.requires ∙ ap (λ (k : DirectiveKind). kind_of k) c.in-Pool.is)
+    let k = known_more now.bound now.rules e.rules now.pool_names e.pool_names (length now.edges.marks.items) (length e.edges.marks.items) above c.args.statement.now _ (c.requires ∙ ap (λ (k : DirectiveKind). kind_of k) c.in-Pool.is)
     (subst (λ (x : ScopedBindings Text). KeptEqScoped x (bound_by above ++ [])) (sym c.add_pool.ensures.bound) (same_bound e.bound (bound_by above) fits.bound)) fits.rules
     (subst (λ (x : ScopedBindings (Bindings (List Piece))). EqScoped x (e.rules ++ [])) (sym c.add_pool.ensures.rules) (same_end e.rules))
-    fits.names names fits.count (let z = ap (λ v. length v.items) c.add_pool.ensures.count in omega (arith, z)) in
-    record { bound = k.0; rules = k.1; names = k.2; count = k.3 })
+    fits.names names fits.count (let z = ap (λ (r : EdgeRows). length r.marks.items) c.add_pool.ensures.count in omega (arith, z)) in
+    record { bound = k.0; rules = k.1; names = k.2; count = k.3; within = subst AreWithin (sym c.add_pool.ensures.count) fits.within })
     c.add_pool.ensures.names
 
 pub returns-in-Default-clause-given : goal.returns-in-Default-clause-given
@@ -68,12 +70,12 @@ returns-in-Default-clause-fits c =
     let now = c.add_default.new.so_far in
     on_ok_always c.add_default.result
     (λ above fits.
-    let k = known_more now.bound now.rules e.rules now.pool_names e.pool_names (length now.edges.items) (length e.edges.items) above c.args.statement.now _ (c.requires ∙ ap (λ (k : DirectiveKind). kind_of k) c.in-Default.is)
+    let k = known_more now.bound now.rules e.rules now.pool_names e.pool_names (length now.edges.marks.items) (length e.edges.marks.items) above c.args.statement.now _ (c.requires ∙ ap (λ (k : DirectiveKind). kind_of k) c.in-Default.is)
     (subst (λ (x : ScopedBindings Text). KeptEqScoped x (bound_by above ++ [])) (sym c.add_default.ensures.bound) (same_bound e.bound (bound_by above) fits.bound)) fits.rules
     (subst (λ (x : ScopedBindings (Bindings (List Piece))). EqScoped x (e.rules ++ [])) (sym c.add_default.ensures.rules) (same_end e.rules))
     fits.names
-    (λ n. ap (λ (x : List Name). is_among x n) c.add_default.ensures.names ∙ names_end e.pool_names n) fits.count (let z = ap (λ v. length v.items) c.add_default.ensures.count in omega (arith, z)) in
-    record { bound = k.0; rules = k.1; names = k.2; count = k.3 })
+    (λ n. ap (λ (x : List Name). is_among x n) c.add_default.ensures.names ∙ names_end e.pool_names n) fits.count (let z = ap (λ (r : EdgeRows). length r.marks.items) c.add_default.ensures.count in omega (arith, z)) in
+    record { bound = k.0; rules = k.1; names = k.2; count = k.3; within = subst AreWithin (sym c.add_default.ensures.count) fits.within })
 
 pub returns-in-Include-clause-given : goal.returns-in-Include-clause-given
 returns-in-Include-clause-given c = λ all above fits. (
@@ -85,8 +87,8 @@ returns-in-Include-clause-given c = λ all above fits. (
 pub returns-in-Include-clause-fits : goal.returns-in-Include-clause-fits
 returns-in-Include-clause-fits c = λ above fits.
     let e = c.args.so_far.now in
-    let k = known_same e.bound e.rules e.pool_names (length e.edges.items) above c.args.statement.now _ (c.requires ∙ ap (λ (k : DirectiveKind). kind_of k) c.in-Include.is) refl refl refl refl fits.bound fits.rules fits.names fits.count in
-    record { bound = k.0; rules = k.1; names = k.2; count = k.3 }
+    let k = known_same e.bound e.rules e.pool_names (length e.edges.marks.items) above c.args.statement.now _ (c.requires ∙ ap (λ (k : DirectiveKind). kind_of k) c.in-Include.is) refl refl refl refl fits.bound fits.rules fits.names fits.count in
+    record { bound = k.0; rules = k.1; names = k.2; count = k.3; within = fits.within }
 
 pub returns-in-Subninja-clause-given : goal.returns-in-Subninja-clause-given
 returns-in-Subninja-clause-given c = λ all above fits. (
@@ -98,5 +100,5 @@ returns-in-Subninja-clause-given c = λ all above fits. (
 pub returns-in-Subninja-clause-fits : goal.returns-in-Subninja-clause-fits
 returns-in-Subninja-clause-fits c = λ above fits.
     let e = c.args.so_far.now in
-    let k = known_same e.bound e.rules e.pool_names (length e.edges.items) above c.args.statement.now _ (c.requires ∙ ap (λ (k : DirectiveKind). kind_of k) c.in-Subninja.is) refl refl refl refl fits.bound fits.rules fits.names fits.count in
-    record { bound = k.0; rules = k.1; names = k.2; count = k.3 }
+    let k = known_same e.bound e.rules e.pool_names (length e.edges.marks.items) above c.args.statement.now _ (c.requires ∙ ap (λ (k : DirectiveKind). kind_of k) c.in-Subninja.is) refl refl refl refl fits.bound fits.rules fits.names fits.count in
+    record { bound = k.0; rules = k.1; names = k.2; count = k.3; within = fits.within }

@@ -1,6 +1,7 @@
 use Rattle.std.proofs.Common.{◌∙◌, Err, ap, subst, sym}
 use Rattle.std.proofs.lemmas.Result.{err_from_is_err_and}
 use Rattle.plan_scope.specs.Scopes.{expand}
+use Rattle.plan_scope.specs.EdgeRows.{edges_in}
 use Rattle.plan_scope.specs.Edges.{map_ok, pool_alone, pool_by}
 use Rattle.plan_scope.specs.Evaluation.{GivesMore, manifest_in}
 use Rattle.plan_scope.proofs.EvaluatorLemmas.{fault_kept, pool_behind}
@@ -19,5 +20,5 @@ returns-clause-given c = λ names h s a.
     let so_far = c.args.so_far.now in (
       pool_alone c.in_ok-pool.pool,
       ap (map_ok pool_alone) (c.in_ok-pool.ensures names h s a),
-      pool_behind so_far.edges.items so_far.pools.items c.push.new.self.items so_far.defaults.items c.in_ok-pool.pool c.in_ok-push.ensures.items,
+      pool_behind (edges_in so_far.edges) so_far.pools.items c.push.new.self.items so_far.defaults.items c.in_ok-pool.pool c.in_ok-push.ensures.items,
     )

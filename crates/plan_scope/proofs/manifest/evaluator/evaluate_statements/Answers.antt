@@ -18,8 +18,8 @@ loop-statement-preserved c =
       c.in-Ok.ensures.found,
     )
 
-pub returns-in-Err : goal.returns-in-Err
-returns-in-Err c =
+pub returns-in-Err-clause-given : goal.returns-in-Err-clause-given
+returns-in-Err-clause-given c =
     let all = c.args.statements.now in
     let i = c.loop-statement.statement-index in
     let l = c.statement-item.result in

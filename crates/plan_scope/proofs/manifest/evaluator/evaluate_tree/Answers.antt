@@ -7,8 +7,8 @@ use Rattle.plan_scope.specs.Edges.{manifest_of, manifest_past, with_front}
 use Rattle.plan_scope.specs.Evaluation.{manifest_in}
 use Rattle.plan_scope.proofs.manifest.evaluator.evaluate_tree.Goals as goal
 
-pub returns : goal.returns
-returns c =
+pub returns-clause-given : goal.returns-clause-given
+returns-clause-given c =
     let all = c.statements-statements.result.now in
     subst (λ (x : List TreeStatement). Meets Memory manifest_in c.evaluate_statements.result (manifest_of x)) c.statements-statements.ensures
-    (subst (λ (front : Manifest). Meets Memory manifest_in c.evaluate_statements.result (with_front front (manifest_past all [] all))) c.in_ok-so_far.ensures.1 c.evaluate_statements.ensures)
+    (subst (λ (front : Manifest). Meets Memory manifest_in c.evaluate_statements.result (with_front front (manifest_past all [] all))) c.in_ok-so_far.ensures.1 c.evaluate_statements.ensures.given)

@@ -1,10 +1,10 @@
 use Rattle.plan_scope.proofs.CompiledLemmas.{compiled_from}
 use Rattle.plan_scope.proofs.EvaluatorLemmas.{on_ok_always}
-use Rattle.plan_scope.proofs.manifest.evaluator.edge_of_met_rule.Goals as goal
+use Rattle.plan_scope.proofs.manifest.evaluator.add_edge_of_met_rule.Goals as goal
 
 pub returns-clause-found : goal.returns-clause-found
 returns-clause-found c =
-    on_ok_always c.edge-edge.result
+    on_ok_always c.push_edge-added.result
     (λ rules seen a.
     let bound = c.args.file.bound.now in
     c.replace_rule.ensures rules bound a

@@ -1,0 +1,50 @@
+//! Edges as rows, while they are made.
+
+ghost use Rattle.std.specs.Prelude.{◌≡◌, [], IfOk};
+ghost use Rattle.plan_scope.specs.EdgeRows.{AreWithin, edges_in};
+
+use crate::edge::paths::PathRows;
+use crate::manifest::edge_paths::PathPlaces;
+use plan_text::RowList;
+use std::alloc::{AllocError, Global};
+
+/// Where the paths and the texts of an edge stand among those of all edges, and what else is known of it.
+#[derive(Clone, Copy, Debug, Drop)]
+pub struct EdgeMarks {
+    /// The places of its paths.
+    pub paths: PathPlaces,
+    /// The number of its command, behind which stand its description, its depfile and its pool.
+    pub texts: u32,
+    /// Whether outputs that its command leaves alone count as if they had never needed building.
+    pub restat: bool,
+    /// Whether it makes the manifest's own files: a change of its command alone doesn't run it.
+    pub generator: bool,
+    /// Whether it only gives its inputs other names.
+    pub phony: bool,
+}
+
+/// Edges in their order, whose paths and texts are rows of all edges.
+#[derive(Debug, Drop)]
+pub struct EdgeRows {
+    /// The paths of all edges.
+    pub paths: PathRows,
+    /// Four texts of each edge.
+    pub texts: RowList<u8>,
+    /// Where each edge has its own.
+    pub marks: Vec<EdgeMarks>,
+}
+
+impl EdgeRows {
+    /// No edge, with room for so many.
+    pub fn new(alloc: Global, edges: usize) -> Result<EdgeRows, AllocError>
+        ensures none { IfOk result (λ rows. edges_in rows ≡ []) }
+        ensures within { IfOk result (λ rows. AreWithin rows) }
+        ensures marks { IfOk result (λ rows. rows.marks.items ≡ []) }
+    {
+        Ok(EdgeRows {
+            paths: PathRows::new(alloc)?,
+            texts: RowList::new(alloc),
+            marks: Vec::with_capacity(alloc, edges)?,
+        })
+    }
+}
