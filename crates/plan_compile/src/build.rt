@@ -8,7 +8,7 @@ ghost use Rattle.plan_image.specs.Spelling.{IsWord};
 ghost use Rattle.plan_compile.specs.Builds.{build_at, builds_from, is_maker, without_made};
 
 use plan_graph::{Files, Graph, files_complete, producers_numbered, waits_ascend};
-use plan_scope::{Edge, Manifest};
+use plan_scope::{EdgeList, EdgeRef, Manifest};
 use plan_text::Items;
 use std::alloc::{AllocError, Global};
 use std::marker::Model;
@@ -16,7 +16,9 @@ use std::marker::Model;
 /// An edge with its files by their numbers. A contract sees the edge and the numbers.
 #[derive(Drop)]
 pub(crate) struct Build<'a> {
-    edge: &'a Edge,
+    edges: &'a EdgeList,
+    /// The number of the edge among them.
+    number: u32,
     /// The outputs, the named inputs, the order-only ones and the waits, one list behind the other.
     numbers: Vec<u32>,
     named_at: usize,
@@ -26,14 +28,15 @@ pub(crate) struct Build<'a> {
 }
 
 impl<'a> Model for Build<'a> {
-    ghost use Rattle.std.specs.Prelude.{◌≤◌, drop, length, slice_range};
+    ghost use Rattle.std.specs.Prelude.{◌<◌, ◌≤◌, drop, get_or, length, slice_range};
+    ghost use Rattle.plan_scope.specs.EdgeRows.{no_edge};
     ghost use Rattle.plan_compile.specs.Builds.{Build};
 
     ghost Value = { Build };
 
-    ghost view = { λ b. record { edge = b.edge.now; outputs = slice_range b.numbers.items 0 b.named_at; named = slice_range b.numbers.items b.named_at b.order_only_at; order_only = slice_range b.numbers.items b.order_only_at b.waits_at; waits = drop b.waits_at b.numbers.items; rank = b.rank } };
+    ghost view = { λ b. record { edge = get_or b.edges.now b.number no_edge; outputs = slice_range b.numbers.items 0 b.named_at; named = slice_range b.numbers.items b.named_at b.order_only_at; order_only = slice_range b.numbers.items b.order_only_at b.waits_at; waits = drop b.waits_at b.numbers.items; rank = b.rank } };
 
-    ghost invariant = { λ b. (b.named_at ≤ b.order_only_at) × (b.order_only_at ≤ b.waits_at) × (b.waits_at ≤ length b.numbers.items) };
+    ghost invariant = { λ b. (b.number < length b.edges.now) × (b.named_at ≤ b.order_only_at) × (b.order_only_at ≤ b.waits_at) × (b.waits_at ≤ length b.numbers.items) };
 }
 
 /// The numbers from a place on, up to another.
@@ -48,10 +51,10 @@ impl<'a> Build<'a> {
     ghost use Rattle.std.specs.Prelude.{◌≡◌};
 
     /// The edge of the manifest.
-    pub(crate) fn edge(&self) -> &'a Edge
-        ensures { result.now ≡ self.now.edge }
+    pub(crate) fn edge(&self) -> EdgeRef<'a>
+        ensures { result ≡ self.now.edge }
     {
-        self.edge
+        self.edges.edge(self.number as usize)
     }
 
     /// The numbers of its outputs.
@@ -217,22 +220,22 @@ fn numbered<'a, 'b>(
     files_complete();
     producers_numbered();
     waits_ascend();
-    let edge = &manifest.edges.as_slice()[number];
+    let edge = manifest.edges.edge(number);
+    let phony = edge.is_phony();
     let outputs = graph.outputs.row(number);
     let inputs = graph.inputs.row(number);
     let waits = graph.waits.row(number);
-    let count = inputs
-        .len()
-        .saturating_sub(edge.paths.order_only_inputs().len());
+    let count = inputs.len().saturating_sub(edge.order_only_inputs().len());
     let mut numbers = Vec::with_capacity(alloc, outputs.len() + inputs.len() + waits.len())?;
     let named_at = push_words(&mut numbers, outputs)?;
     let named = front(inputs, count);
-    let order_only_at = push_kept(&mut numbers, &graph.files, number, edge.phony, named)?;
+    let order_only_at = push_kept(&mut numbers, &graph.files, number, phony, named)?;
     let order_only = back(inputs, count);
-    let waits_at = push_kept(&mut numbers, &graph.files, number, edge.phony, order_only)?;
+    let waits_at = push_kept(&mut numbers, &graph.files, number, phony, order_only)?;
     push_words(&mut numbers, waits)?;
     Ok(Build {
-        edge,
+        edges: &manifest.edges,
+        number: word(number),
         numbers,
         named_at,
         order_only_at,

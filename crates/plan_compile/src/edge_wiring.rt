@@ -68,10 +68,10 @@ fn command_wiring<'a>(
         flags,
         newest,
         command: numbers.command,
-        blank: is_blank(edge.command.as_slice()),
+        blank: is_blank(edge.command()),
         depfile: numbers.depfile,
-        restat: edge.restat,
-        generator: edge.generator,
+        restat: edge.has_restat(),
+        generator: edge.is_generator(),
     })
 }
 

@@ -39,7 +39,7 @@ fn edge_in<'a, 'b>(
     ensures { lent result ≡ edge_in numbers (Shared body operands.now) build.now }
 {
     EdgeRef {
-        sort: sort_of(build.edge().phony),
+        sort: sort_of(build.edge().is_phony()),
         pool: numbers.pool,
         rank: build.rank(),
         label: numbers.label,

@@ -13,7 +13,7 @@ use crate::key::Key;
 use crate::numbers::Numbers;
 use indexmap::{IndexMap, IndexSet};
 use plan_image::Pool;
-use plan_scope::Edge;
+use plan_scope::EdgeRef;
 use plan_text::{Items, RowList};
 use std::alloc::{AllocError, Global};
 use std::marker::Model;
@@ -147,7 +147,7 @@ fn put_shown<'a>(
 fn put_command<'a>(
     texts: &mut Texts<'a>,
     pools: &mut Texts<'a>,
-    edge: &'a Edge,
+    edge: &EdgeRef<'a>,
 ) -> Result<Numbers, AllocError>
     requires texts { length texts.old ≤ 4194300 }
     requires pools { length pools.old ≤ 4194300 }
@@ -157,9 +157,9 @@ fn put_command<'a>(
     ensures few { OnOk result (length texts.new ≤ length texts.old + 3) }
     ensures few_pools { OnOk result (length pools.new ≤ length pools.old + 1) }
 {
-    let (label, command) = put_shown(texts, edge.description.as_slice(), edge.command.as_slice())?;
-    let depfile = put_unless_empty(texts, edge.depfile.as_slice())?;
-    let pool = put_unless_empty(pools, edge.pool.as_slice())?;
+    let (label, command) = put_shown(texts, edge.description(), edge.command())?;
+    let depfile = put_unless_empty(texts, edge.depfile())?;
+    let pool = put_unless_empty(pools, edge.pool())?;
     Ok(Numbers {
         label,
         command,
@@ -183,7 +183,7 @@ fn put_names<'a>(
     ensures few_pools { OnOk result (length pools.new ≤ length pools.old + 1) }
 {
     let edge = build.edge();
-    if edge.phony {
+    if edge.is_phony() {
         let label = texts.put(&[])?;
         return Ok(Numbers {
             label,
@@ -192,7 +192,7 @@ fn put_names<'a>(
             pool: None,
         });
     }
-    put_command(texts, pools, edge)
+    put_command(texts, pools, &edge)
 }
 
 /// The texts of all edges, the names of the pools that edges use, and of each edge the numbers of its own.

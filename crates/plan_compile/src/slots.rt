@@ -33,7 +33,7 @@ pub(crate) fn form_of<'a>(build: &Build<'a>) -> Form
 {
     let edge = build.edge();
     let none = build.named().is_empty() && build.order_only().is_empty();
-    form_by(edge.phony, edge.restat, none)
+    form_by(edge.is_phony(), edge.has_restat(), none)
 }
 
 /// How many slots an edge of this form has, of which these are the outputs.

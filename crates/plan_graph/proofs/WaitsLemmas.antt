@@ -157,6 +157,17 @@ targets_are : (files : Table) (edges : List Edge) (targets : List Path) (row : L
     → IsAscending (producers files None targets) row → numbers_from 0 (produces_any targets) edges ≡ row
 targets_are files edges targets row fits ascending = producers_are files edges None targets targets row fits (λ p k i producer h. i) (λ p k i producer. (i, refl)) ascending
 
+-- the item at a place, whatever else stands for none
+pub item_at : {X : Type 0} (xs : List X) (i : ℕ) (x d : X) → i < length xs → x ≡ get_or xs i d → x ≡ get_or xs i x
+item_at [] i x d lt h = absurd (omega (arith, lt))
+item_at (y ∷ xs) zero x d lt h = h
+item_at (y ∷ xs) (suc i) x d lt h = item_at xs i x d (omega (arith, lt)) h
+
+pub item_here : {X : Type 0} (xs : List X) (i : ℕ) (x d : X) → slice_get xs i ≡ Some x → x ≡ get_or xs i d
+item_here [] i x d h = cc
+item_here (y ∷ xs) zero x d h = sym (some_is y x h)
+item_here (y ∷ xs) (suc i) x d h = item_here xs i x d h
+
 -- what is left past one edge more
 pub drop_next : {X : Type 0} (xs : List X) (i : ℕ) (x : X) → i < length xs → x ≡ get_or xs i x → drop i xs ≡ x ∷ drop (i + 1) xs
 drop_next xs i x h e = let next : suc i ≡ i + 1 = omega arith in drop-cons xs i x h ∙ (ap (λ y. y ∷ drop (suc i) xs) (sym e) ∙ ap (λ k. x ∷ drop k xs) next)
@@ -190,11 +201,11 @@ unused_numbered files edges (p ∷ ps) fits =
     ∙ (ap (λ (b : Bool). not b || list_any (λ n. not (file_at n files).is_used) (map (number_of (paths_in files)) ps)) (fits.uses p)
     ∙ ap (λ (b : Bool). not (is_among (flat_map inputs_of edges) p) || b) (unused_numbered files edges ps fits))
 
--- an edge by its number
-edge_at : (edges : List Edge) (i : ℕ) → i < length edges → (e : Edge) × (slice_get edges i ≡ Some e)
-edge_at [] i h = absurd (omega (arith, h))
-edge_at (e ∷ es) zero h = (e, refl)
-edge_at (e ∷ es) (suc i) h = edge_at es i (omega (arith, h))
+-- an item by its number
+pub there : {X : Type 0} (xs : List X) (i : ℕ) → i < length xs → (x : X) × (slice_get xs i ≡ Some x)
+there [] i h = absurd (omega (arith, h))
+there (x ∷ xs) zero h = (x, refl)
+there (x ∷ xs) (suc i) h = there xs i (omega (arith, h))
 
 drop_at : (edges : List Edge) (i : ℕ) (e : Edge) → slice_get edges i ≡ Some e → drop i edges ≡ e ∷ drop (i + 1) edges
 drop_at [] i e h = cc
@@ -211,7 +222,7 @@ pub last_step : (files : Table) (edges : List Edge) (outputs : List (List ℕ)) 
     → last ≡ list_any (λ n. not (file_at n files).is_used) (get_or outputs i [])
     → row ++ numbers_from i (is_last edges) (drop i edges) ≡ (if last then (row ++ i ∷ []) else row) ++ numbers_from (i + 1) (is_last edges) (drop (i + 1) edges)
 last_step files edges outputs row i last fits rows lt is =
-    let x = edge_at edges i lt in
+    let x = there edges i lt in
     let e = x.0 in
     let rest = numbers_from (i + 1) (is_last edges) (drop (i + 1) edges) in
     let test : last ≡ is_last edges e

@@ -14,7 +14,7 @@ use crate::files::Files;
 use crate::graph_data::Graph;
 use crate::waits::{add_producer, all_waits, ascend};
 use crate::walk::ranks;
-use plan_scope::{DefaultTarget, Edge, Manifest};
+use plan_scope::{DefaultTarget, EdgeList, Manifest};
 use plan_text::{Items, RowList};
 use std::alloc::Global;
 
@@ -35,7 +35,7 @@ fn last_edges<'a>(
     alloc: Global,
     files: &Files<'a>,
     outputs: &RowList<usize>,
-    edges: &[Edge],
+    edges: &EdgeList,
 ) -> Result<Items<usize>, GraphFault>
     requires fits { Fits files.now edges.now }
     requires outputs { outputs.now ≡ rows_of outputs_of (paths_in files.now) edges.now }
@@ -70,7 +70,7 @@ fn default_edges<'a>(
     alloc: Global,
     files: &Files<'a>,
     outputs: &RowList<usize>,
-    edges: &[Edge],
+    edges: &EdgeList,
     defaults: &[DefaultTarget],
 ) -> Result<Items<usize>, GraphFault>
     requires fits { Fits files.now edges.now }
@@ -101,13 +101,13 @@ pub fn graph<'a>(alloc: Global, manifest: &'a Manifest) -> Result<Graph<'a>, Gra
     ensures { GraphIs manifest.now result }
 {
     let read = read_edges(alloc, manifest)?;
-    let waits = all_waits(alloc, &read.files, &read.inputs, manifest.edges.as_slice())?;
+    let waits = all_waits(alloc, &read.files, &read.inputs, &manifest.edges)?;
     let ranks = ranks(alloc, &waits)?;
     let defaults = default_edges(
         alloc,
         &read.files,
         &read.outputs,
-        manifest.edges.as_slice(),
+        &manifest.edges,
         manifest.defaults.as_slice(),
     )?;
     Ok(Graph {

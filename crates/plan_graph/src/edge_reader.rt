@@ -11,8 +11,8 @@ ghost use Rattle.plan_graph.specs.declared.fault.GraphFault.TheVariants.{Memory,
 use crate::fault::GraphFault;
 use crate::files::{File, Files};
 use crate::graph_data::MAX_EDGES;
-use plan_scope::{DefaultTarget, Edge, Manifest};
-use plan_text::{Items, RowList, SmallText};
+use plan_scope::{DefaultTarget, EdgeRef, Manifest, PathRange};
+use plan_text::{Items, RowList};
 use std::alloc::{AllocError, Global};
 
 /// What is known past some build lines.
@@ -73,14 +73,14 @@ fn with_outputs<'a>(
     alloc: Global,
     files: &mut Files<'a>,
     number: usize,
-    outputs: &'a [SmallText],
+    outputs: &PathRange<'a>,
     row: &mut Vec<usize>,
 ) -> Result<(), GraphFault>
     ensures table { Meets Memory (λ _. files.new) result (reading.with_outputs files.old number outputs.now) }
     ensures row { OnOk result (row.new.items ≡ row.old.items ++ numbers_past (paths_in files.old) outputs.now) }
 {
-    for output in outputs {
-        let at = with_output(alloc, files, number, output.as_slice())?;
+    for place in 0..outputs.len() {
+        let at = with_output(alloc, files, number, outputs.path(place))?;
         row.push(at)?;
     }
     Ok(())
@@ -98,10 +98,10 @@ pub fn is_own(producer: Option<usize>, own: Option<usize>) -> bool
 }
 
 /// The edge whose own outputs are no inputs of it: a phony.
-pub fn own_of(number: usize, edge: &Edge) -> Option<usize>
+pub fn own_of<'a>(number: usize, edge: &EdgeRef<'a>) -> Option<usize>
     ensures { result ≡ reading.own_of number edge.now }
 {
-    if edge.phony { Some(number) } else { None }
+    if edge.is_phony() { Some(number) } else { None }
 }
 
 /// Takes an input, and gives the number of its path.
@@ -130,14 +130,14 @@ fn with_input<'a>(
 fn with_inputs<'a>(
     files: &mut Files<'a>,
     own: Option<usize>,
-    inputs: &'a [SmallText],
+    inputs: &PathRange<'a>,
     row: &mut Vec<usize>,
 ) -> Result<(), GraphFault>
     ensures table { Meets Memory (λ _. files.new) result (Ok (reading.with_inputs own files.old inputs.now)) }
     ensures row { OnOk result (row.new.items ≡ row.old.items ++ numbers_past (paths_in files.old) inputs.now) }
 {
-    for input in inputs {
-        let at = with_input(files, own, input.as_slice())?;
+    for place in 0..inputs.len() {
+        let at = with_input(files, own, inputs.path(place))?;
         row.push(at)?;
     }
     Ok(())
@@ -147,15 +147,15 @@ fn with_inputs<'a>(
 fn with_all_inputs<'a>(
     files: &mut Files<'a>,
     own: Option<usize>,
-    edge: &'a Edge,
+    edge: &EdgeRef<'a>,
     row: &mut Vec<usize>,
 ) -> Result<(), GraphFault>
     ensures table { Meets Memory (λ _. files.new) result (Ok (reading.with_inputs own files.old (inputs_named edge.now))) }
     ensures row { OnOk result (row.new.items ≡ row.old.items ++ numbers_past (paths_in files.old) (inputs_named edge.now)) }
 {
-    with_inputs(files, own, edge.paths.inputs(), row)?;
-    with_inputs(files, own, edge.paths.implicit_inputs(), row)?;
-    with_inputs(files, own, edge.paths.order_only_inputs(), row)?;
+    with_inputs(files, own, &edge.inputs(), row)?;
+    with_inputs(files, own, &edge.implicit_inputs(), row)?;
+    with_inputs(files, own, &edge.order_only_inputs(), row)?;
     Ok(())
 }
 
@@ -164,14 +164,14 @@ fn with_all_outputs<'a>(
     alloc: Global,
     files: &mut Files<'a>,
     number: usize,
-    edge: &'a Edge,
+    edge: &EdgeRef<'a>,
     row: &mut Vec<usize>,
 ) -> Result<(), GraphFault>
     ensures table { Meets Memory (λ _. files.new) result (reading.with_outputs files.old number (outputs_of edge.now)) }
     ensures row { OnOk result (row.new.items ≡ row.old.items ++ numbers_past (paths_in files.old) (outputs_of edge.now)) }
 {
-    with_outputs(alloc, files, number, edge.paths.outputs(), row)?;
-    with_outputs(alloc, files, number, edge.paths.implicit_outputs(), row)?;
+    with_outputs(alloc, files, number, &edge.outputs(), row)?;
+    with_outputs(alloc, files, number, &edge.implicit_outputs(), row)?;
     Ok(())
 }
 
@@ -180,7 +180,7 @@ fn read_outputs<'a>(
     alloc: Global,
     read: &mut EdgeTable<'a>,
     number: usize,
-    edge: &'a Edge,
+    edge: &EdgeRef<'a>,
 ) -> Result<(), GraphFault>
     ensures table { Meets Memory (λ _. read.new.files) result (reading.with_outputs read.old.files number (outputs_of edge.now)) }
     ensures outputs { OnOk result (read.new.outputs ≡ read.old.outputs ++ numbers_past (paths_in read.old.files) (outputs_of edge.now) ∷ []) }
@@ -196,7 +196,7 @@ fn read_outputs<'a>(
 fn read_inputs<'a>(
     read: &mut EdgeTable<'a>,
     own: Option<usize>,
-    edge: &'a Edge,
+    edge: &EdgeRef<'a>,
 ) -> Result<(), GraphFault>
     ensures table { Meets Memory (λ _. read.new.files) result (Ok (reading.with_inputs own read.old.files (inputs_named edge.now))) }
     ensures inputs { OnOk result (read.new.inputs ≡ read.old.inputs ++ numbers_past (paths_in read.old.files) (inputs_named edge.now) ∷ []) }
@@ -213,7 +213,7 @@ fn read_edge<'a>(
     alloc: Global,
     read: &mut EdgeTable<'a>,
     number: usize,
-    edge: &'a Edge,
+    edge: &EdgeRef<'a>,
 ) -> Result<(), GraphFault>
     ensures table { Meets Memory (λ _. read.new.files) result (reading.with_edge read.old.files number edge.now) }
     ensures outputs { OnOk result (read.new.outputs ≡ read.old.outputs ++ numbers_past (paths_in read.old.files) (outputs_of edge.now) ∷ []) }
@@ -289,16 +289,14 @@ pub fn read_edges<'a>(alloc: Global, manifest: &'a Manifest) -> Result<EdgeTable
     ensures outputs { IfOk result (λ r. r.outputs ≡ outputs_past [] manifest.now.edges) }
     ensures inputs { IfOk result (λ r. r.inputs ≡ inputs_past [] manifest.now.edges) }
 {
-    let edges = manifest.edges.as_slice();
+    let edges = &manifest.edges;
     let mut read = no_edges(alloc, edges.len())?;
     let mut defaults = manifest.defaults.as_slice();
-    let mut number = 0;
-    for edge in edges {
+    for number in 0..edges.len() {
         let (due, rest) = defaults.split_at(targets_above(number, defaults));
         check_targets(alloc, &read.files, due)?;
-        read_edge(alloc, &mut read, number, edge)?;
+        read_edge(alloc, &mut read, number, &edges.edge(number))?;
         defaults = rest;
-        number += 1;
     }
     check_targets(alloc, &read.files, defaults)?;
     Ok(read)

@@ -11,7 +11,7 @@ ghost use Rattle.plan_graph.specs.Graph.{all_waits, inputs_named, rows_of, waits
 use crate::edge_reader::{is_own, own_of};
 use crate::fault::GraphFault;
 use crate::files::Files;
-use plan_scope::Edge;
+use plan_scope::{EdgeList, EdgeRef};
 use plan_text::RowList;
 use std::alloc::Global;
 
@@ -58,11 +58,11 @@ pub fn ascend(numbers: &mut Vec<usize>)
 }
 
 /// What the edge of this number waits for, by the numbers of its inputs, in place of what the row held.
-fn waits_of<'a>(
+fn waits_of<'a, 'b>(
     row: &mut Vec<usize>,
     files: &Files<'a>,
     number: usize,
-    edge: &Edge,
+    edge: &EdgeRef<'b>,
     inputs: &[usize],
 ) -> Result<(), GraphFault>
     requires { inputs.now ≡ map (number_of (paths_in files.now)) (inputs_named edge.now) }
@@ -79,7 +79,7 @@ pub fn all_waits<'a>(
     alloc: Global,
     files: &Files<'a>,
     inputs: &RowList<usize>,
-    edges: &[Edge],
+    edges: &EdgeList,
 ) -> Result<RowList<usize>, GraphFault>
     requires fits { Fits files.now edges.now }
     requires inputs { inputs.now ≡ rows_of inputs_named (paths_in files.now) edges.now }
@@ -88,11 +88,10 @@ pub fn all_waits<'a>(
     let mut waits = RowList::new(alloc);
     waits.reserve(edges.len())?;
     let mut row = Vec::new(alloc);
-    let mut number = 0;
-    for edge in edges {
-        waits_of(&mut row, files, number, edge, inputs.row(number))?;
+    for number in 0..edges.len() {
+        let edge = edges.edge(number);
+        waits_of(&mut row, files, number, &edge, inputs.row(number))?;
         waits.push(&row)?;
-        number += 1;
     }
     Ok(waits)
 }

@@ -7,35 +7,33 @@ ghost use Rattle.plan_ninja.specs.Faults as defined;
 
 use crate::fault::{PlanFault, no_memory};
 use plan_graph::GraphFault;
-use plan_scope::{Edge, Manifest};
+use plan_scope::{EdgeList, EdgeRef, Manifest};
 use plan_text::Items;
 use std::alloc::{AllocError, Global};
 
 /// The name of an edge: its first output, explicit before implicit.
-fn name_of_edge(edge: &Edge) -> &[u8]
+fn name_of_edge<'a>(edge: &EdgeRef<'a>) -> &'a [u8]
     ensures { result.now ≡ defined.name_of_edge edge.now }
 {
-    match edge.paths.outputs() {
-        [first, ..] => first.as_slice(),
-        [] => match edge.paths.implicit_outputs() {
-            [first, ..] => first.as_slice(),
-            [] => &[],
-        },
+    let outputs = edge.outputs();
+    if outputs.len() > 0 {
+        return outputs.path(0);
     }
+    edge.implicit_outputs().path(0)
 }
 
 /// The name of the edge of this number.
-fn edge_name_at(edges: &[Edge], number: usize) -> &[u8]
+fn edge_name_at(edges: &EdgeList, number: usize) -> &[u8]
     ensures { result.now ≡ defined.edge_name_at edges.now number }
 {
-    match edges.get(number) {
-        Some(edge) => name_of_edge(edge),
-        None => &[],
+    if number >= edges.len() {
+        return &[];
     }
+    name_of_edge(&edges.edge(number))
 }
 
 /// Appends an arrow and the name of the edge for each of these numbers.
-fn append_names(edges: &[Edge], numbers: &[usize], text: &mut Vec<u8>) -> Result<(), AllocError>
+fn append_names(edges: &EdgeList, numbers: &[usize], text: &mut Vec<u8>) -> Result<(), AllocError>
     ensures { OnOk result (text.new.items ≡ text.old.items ++ flat_map (λ n. codes " -> " ++ defined.edge_name_at edges.now n) numbers.now) }
 {
     for number in numbers {
@@ -46,7 +44,7 @@ fn append_names(edges: &[Edge], numbers: &[usize], text: &mut Vec<u8>) -> Result
 }
 
 /// A space, and the names of the edges of these numbers, an arrow between each two.
-fn cycle_text(alloc: Global, edges: &[Edge], numbers: &[usize]) -> Result<Vec<u8>, AllocError>
+fn cycle_text(alloc: Global, edges: &EdgeList, numbers: &[usize]) -> Result<Vec<u8>, AllocError>
     ensures { IfOk result (λ text. text.items ≡ space ∷ join_by (defined.edge_name_at edges.now) (codes " -> ") numbers.now) }
 {
     let mut text = Vec::from_slice(alloc, b" ")?;
@@ -70,7 +68,7 @@ fn path_text(alloc: Global, path: &[u8]) -> Result<Vec<u8>, AllocError>
 }
 
 /// What is printed behind the name of a fault of a graph.
-fn rest_of_graph(alloc: Global, edges: &[Edge], fault: &GraphFault) -> Result<Vec<u8>, AllocError>
+fn rest_of_graph(alloc: Global, edges: &EdgeList, fault: &GraphFault) -> Result<Vec<u8>, AllocError>
     ensures { IfOk result (λ rest. rest.items ≡ defined.rest_of_graph edges.now fault.now) }
 {
     match fault {
@@ -85,7 +83,7 @@ fn rest_of_graph(alloc: Global, edges: &[Edge], fault: &GraphFault) -> Result<Ve
 pub fn printed_graph_fault(alloc: Global, manifest: &Manifest, fault: &GraphFault) -> PlanFault
     ensures { (result ≡ defined.printed_graph_fault manifest.now fault.now) ⊎ (result ≡ defined.no_memory) }
 {
-    match rest_of_graph(alloc, manifest.edges.as_slice(), fault) {
+    match rest_of_graph(alloc, &manifest.edges, fault) {
         Ok(rest) => PlanFault {
             number: fault.number(),
             rest: Items::new(rest),

@@ -1,7 +1,7 @@
 //! Each public function once, on files and trees from outside.
 
 use plan_scope::*;
-use plan_text::{Counted, SmallText};
+use plan_text::Counted;
 use std::alloc::Global;
 use std::test::Fail;
 
@@ -234,19 +234,16 @@ fn prints(alloc: Global, text: &'static [u8], wanted: &[u8]) -> bool {
 }
 
 /// The only edge of a manifest.
-fn only_edge(manifest: &Manifest) -> Option<&Edge> {
-    match manifest.edges.as_slice() {
-        [edge] => Some(edge),
-        _ => None,
+fn only_edge(manifest: &Manifest) -> Option<EdgeRef<'_>> {
+    if manifest.edges.len() != 1 {
+        return None;
     }
+    Some(manifest.edges.edge(0))
 }
 
 /// Whether a list has this path alone.
-fn is_only(paths: &[SmallText], wanted: &[u8]) -> bool {
-    match paths {
-        [path] => path.as_slice() == wanted,
-        _ => false,
-    }
+fn is_only<'a>(paths: &PathRange<'a>, wanted: &[u8]) -> bool {
+    paths.len() == 1 && paths.path(0) == wanted
 }
 
 #[test]
@@ -293,12 +290,12 @@ fn lists_of_an_edge(rt: HostRuntime) -> Result<(), Fail> {
     let Some(edge) = only_edge(&manifest) else {
         panic!(rt; "not one edge");
     };
-    assert!(rt; is_only(edge.paths.outputs(), b"a"));
-    assert!(rt; is_only(edge.paths.implicit_outputs(), b"b/c"));
-    assert!(rt; is_only(edge.paths.inputs(), b"d"));
-    assert!(rt; is_only(edge.paths.implicit_inputs(), b"f"));
-    assert!(rt; is_only(edge.paths.order_only_inputs(), b"g"));
-    assert_eq!(rt; command_text(edge), b"c".as_slice());
+    assert!(rt; is_only(&edge.outputs(), b"a"));
+    assert!(rt; is_only(&edge.implicit_outputs(), b"b/c"));
+    assert!(rt; is_only(&edge.inputs(), b"d"));
+    assert!(rt; is_only(&edge.implicit_inputs(), b"f"));
+    assert!(rt; is_only(&edge.order_only_inputs(), b"g"));
+    assert_eq!(rt; edge.command(), b"c".as_slice());
     Ok(())
 }
 
@@ -312,10 +309,10 @@ fn texts_of_an_edge(rt: HostRuntime) -> Result<(), Fail> {
     let Some(edge) = only_edge(&manifest) else {
         panic!(rt; "not one edge");
     };
-    assert_eq!(rt; edge.description.as_slice(), b"D 'a b'".as_slice());
-    assert_eq!(rt; edge.depfile.as_slice(), b"a b.d".as_slice());
-    assert_eq!(rt; edge.pool.as_slice(), b"p".as_slice());
-    assert!(rt; edge.restat && !edge.generator && !edge.phony);
+    assert_eq!(rt; edge.description(), b"D 'a b'".as_slice());
+    assert_eq!(rt; edge.depfile(), b"a b.d".as_slice());
+    assert_eq!(rt; edge.pool(), b"p".as_slice());
+    assert!(rt; edge.has_restat() && !edge.is_generator() && !edge.is_phony());
     Ok(())
 }
 

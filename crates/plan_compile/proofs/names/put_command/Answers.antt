@@ -3,6 +3,6 @@ use Rattle.plan_compile.proofs.names.put_command.Goals as goal
 
 pub returns-clause-numbers : goal.returns-clause-numbers
 returns-clause-numbers c =
-    numbers_are c.args.texts.now c.put_shown.new.texts c.put_unless_empty.new.texts c.put_unless_empty-2.new.texts c.args.edge.now c.as_slice.result.now c.as_slice-2.result.now c.as_slice-3.result.now
-    c.as_slice-4.result.now c.in_ok-label.label c.in_ok-label.command c.in_ok-depfile.depfile c.in_ok-pool.pool c.as_slice.ensures c.as_slice-2.ensures c.as_slice-3.ensures c.as_slice-4.ensures
+    numbers_are c.args.texts.now c.put_shown.new.texts c.put_unless_empty.new.texts c.put_unless_empty-2.new.texts c.args.edge.now c.description.result.now c.command.result.now c.depfile.result.now
+    c.pool.result.now c.in_ok-label.label c.in_ok-label.command c.in_ok-depfile.depfile c.in_ok-pool.pool c.description.ensures c.command.ensures c.depfile.ensures c.pool.ensures
     c.in_ok-label.ensures.texts c.in_ok-label.ensures.label c.in_ok-label.ensures.command c.in_ok-depfile.ensures.texts c.in_ok-depfile.ensures.number c.in_ok-pool.ensures.number

@@ -1,4 +1,4 @@
-use Rattle.std.proofs.Common.{◌++◌, ◌+◌, ◌∷◌, [], ◌∙◌, Bool, Global, List, Vec, ap, drop, sym, ℕ}
+use Rattle.std.proofs.Common.{◌<◌, ◌++◌, ◌+◌, ◌∷◌, [], ◌∙◌, Bool, Global, List, Vec, ap, arith, drop, length, sym, ℕ}
 use Rattle.std.specs.Prelude.{if◌then◌else◌, not}
 use Rattle.std.specs.List.{list_any}
 use Rattle.plan_graph.specs.Files.{file_at}
@@ -15,7 +15,8 @@ loop-number-preserved c =
     let i = c.loop-number.number in
     let rest = numbers_from (i + 1) (is_last edges) (drop (i + 1) edges) in
     let is = c.has_unused.ensures ∙ ap (λ (ns : List ℕ). list_any (λ n. not (file_at n files).is_used) ns) c.row.ensures in
-    let step = last_step files edges c.args.outputs.now row i c.has_unused.result c.requires.fits c.requires.outputs c.loop-number-test.true is in
+    let lt : i < length edges = omega (arith, c.loop-number-test.true, c.len-number-end.ensures) in
+    let step = last_step files edges c.args.outputs.now row i c.has_unused.result c.requires.fits c.requires.outputs lt is in
     elim c.if-has_unused.branch [
       | then-has_unused+in_ok-push w ↦
           ap (λ (v : Vec ℕ Global). v.items ++ rest) w.numbers-is
