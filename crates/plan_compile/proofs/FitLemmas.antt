@@ -1,7 +1,7 @@
 -- The numbers of a graph fit their fields, where it has no more files than an image may have.
 use Rattle.std.proofs.Common.{◌≡◌, ℕ, zero, suc, ◌<◌, ◌≤◌, ◌++◌, List, [], ◌∷◌, length, take, drop, get_or, Some, refl, sym, subst, arith, inl, inr}
 use Rattle.std.specs.Prelude.{All, slice_get, slice_index}
-use Rattle.plan_scope.specs.declared.manifest.Edge.{Edge as ManifestEdge}
+use Rattle.plan_scope.specs.Edge.{Edge as ManifestEdge}
 use Rattle.plan_scope.specs.declared.manifest.Manifest.{Manifest}
 use Rattle.plan_graph.specs.declared.graph_data.Graph.{Graph}
 use Rattle.plan_graph.specs.Files.{Path, number_of, paths_in}

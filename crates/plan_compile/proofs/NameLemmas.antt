@@ -4,7 +4,7 @@ use Rattle.std.specs.Prelude.{◌==◌, flat_map, slice_get, if◌then◌else◌
 use Rattle.std.proofs.lemmas.Bool.{eqb-true}
 use Rattle.std.proofs.lemmas.Slice.Eq.{bytes_eq-Decides}
 use Rattle.plan_scope.specs.declared.manifest.Pool.{Pool as ManifestPool}
-use Rattle.plan_scope.specs.declared.manifest.Edge.{Edge as ManifestEdge}
+use Rattle.plan_scope.specs.Edge.{Edge as ManifestEdge}
 use Rattle.plan_compile.specs.declared.numbers.Numbers.{Numbers}
 use Rattle.plan_compile.specs.Builds.{Build}
 use Rattle.plan_compile.specs.EdgeNumbers.{command_numbers, numbers_by, numbers_in}

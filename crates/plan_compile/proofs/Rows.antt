@@ -9,7 +9,7 @@ use Rattle.plan_image.specs.declared.image.EdgeCode.TheVariants as form
 use Rattle.plan_image.specs.declared.image.Parts.{Parts}
 use Rattle.plan_image.specs.declared.image.Edge.{Edge}
 use Rattle.plan_image.specs.declared.image.EdgeCode.{EdgeCode}
-use Rattle.plan_scope.specs.declared.manifest.Edge.{Edge as ManifestEdge}
+use Rattle.plan_scope.specs.Edge.{Edge as ManifestEdge}
 use Rattle.plan_compile.specs.Builds.{Builds}
 use Rattle.plan_compile.specs.Images.{image_of}
 use Rattle.plan_image.specs.Code.{code}

@@ -4,7 +4,7 @@ use Rattle.std.specs.Prelude.{slice_get, option_map}
 use Rattle.std.specs.List.{AllByRecursion}
 use Rattle.std.specs.List.Sorted.{IsStrictlyIncreasing}
 use Rattle.std.proofs.lemmas.Option.{slice_get-map}
-use Rattle.plan_scope.specs.declared.manifest.Edge.{Edge as ManifestEdge}
+use Rattle.plan_scope.specs.Edge.{Edge as ManifestEdge}
 use Rattle.plan_scope.specs.declared.manifest.Manifest.{Manifest}
 use Rattle.plan_graph.specs.declared.graph_data.Graph.{Graph}
 use Rattle.plan_graph.specs.Graph.{IsGraph}

@@ -1,6 +1,6 @@
 -- The edges of a manifest, each with its files by their numbers.
 use Rattle.std.specs.Prelude.{ℕ, suc, ◌-◌, ◌==◌, Bool, true, false, not, List, [], ◌∷◌, length, take, drop, filter, get_or, slice_index, Option, Some, None}
-use Rattle.plan_scope.specs.declared.manifest.Edge.{Edge as ManifestEdge}
+use Rattle.plan_scope.specs.Edge.{Edge as ManifestEdge}
 use Rattle.plan_scope.specs.declared.manifest.Pool.{Pool as ManifestPool}
 use Rattle.plan_scope.specs.declared.manifest.Manifest.{Manifest}
 use Rattle.plan_graph.specs.declared.graph_data.Graph.{Graph}

@@ -1,6 +1,6 @@
 -- The numbers of an edge's texts and of its pool.
 use Rattle.std.specs.Prelude.{zero, Bool, true, false, List, [], None}
-use Rattle.plan_scope.specs.declared.manifest.Edge.{Edge as ManifestEdge}
+use Rattle.plan_scope.specs.Edge.{Edge as ManifestEdge}
 use Rattle.plan_compile.specs.declared.numbers.Numbers.{Numbers}
 use Rattle.plan_compile.specs.Builds.{Build}
 use Rattle.plan_compile.specs.Names.{Text, text_number, depfile_number, or_command}

@@ -1,7 +1,7 @@
 //! The edges of a manifest, each with its files by their numbers.
 
 ghost use Rattle.std.specs.Prelude.{◌≡◌, ◌<◌, ◌≤◌, ◌++◌, All, IfOk, OnOk, drop, filter, get_or, length, not, slice_get, slice_index, slice_range, take};
-ghost use Rattle.plan_scope.specs.declared.manifest.Edge.{Edge as EdgeMeant};
+ghost use Rattle.plan_scope.specs.Edge.{Edge as EdgeMeant};
 ghost use Rattle.plan_graph.specs.Graph.{IsGraph};
 ghost use Rattle.plan_graph.specs.Files.{producer_at};
 ghost use Rattle.plan_image.specs.Spelling.{IsWord};

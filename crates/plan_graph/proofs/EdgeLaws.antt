@@ -10,7 +10,7 @@ use Rattle.std.proofs.lemmas.Map.Views.{list_any-from_Contains}
 use Rattle.std.proofs.lemmas.Option.{get_or_from_slice_get, slice_get_within}
 use Rattle.std.proofs.lemmas.Slice.Eq.{bytes_eq-Decides}
 use Rattle.plan_scope.specs.declared.manifest.DefaultTarget.{DefaultTarget}
-use Rattle.plan_scope.specs.declared.manifest.Edge.{Edge}
+use Rattle.plan_scope.specs.Edge.{Edge}
 use Rattle.plan_scope.specs.Edges.{is_among}
 use Rattle.plan_graph.specs.Cycles.{WaitsFor}
 use Rattle.plan_graph.specs.Files.{Path, number_of, with_path, with_paths}

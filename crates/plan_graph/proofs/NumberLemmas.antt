@@ -4,7 +4,7 @@ use Rattle.std.specs.Prelude.{◌||◌, flat_map, if◌then◌else◌, is_some, 
 use Rattle.std.proofs.lemmas.List.{append_assoc}
 use Rattle.std.proofs.lemmas.Slice.Eq.{bytes_eq-Decides}
 use Rattle.plan_scope.specs.declared.manifest.DefaultTarget.{DefaultTarget}
-use Rattle.plan_scope.specs.declared.manifest.Edge.{Edge}
+use Rattle.plan_scope.specs.Edge.{Edge}
 use Rattle.plan_scope.specs.Edges.{is_among}
 use Rattle.plan_graph.specs.declared.fault.GraphFault.{GraphFault}
 use Rattle.plan_graph.specs.declared.fault.GraphFault.TheVariants.{TooManyEdges, TwoProducers}

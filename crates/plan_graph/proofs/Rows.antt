@@ -2,7 +2,7 @@
 use Rattle.std.proofs.Common.{◌≡◌, ℕ, List, [], ◌∷◌, ◌<◌, None, Some, arith, refl}
 use Rattle.std.specs.Prelude.{Bool, Contains, codes, false, length, slice_index_or, true}
 use Rattle.plan_scope.specs.declared.manifest.DefaultTarget.{DefaultTarget}
-use Rattle.plan_scope.specs.declared.manifest.Edge.{Edge}
+use Rattle.plan_scope.specs.Edge.{Edge}
 use Rattle.plan_scope.specs.declared.manifest.Manifest.{Manifest}
 use Rattle.plan_graph.specs.declared.fault.GraphFault.TheVariants.{TwoProducers, UnknownDefault}
 use Rattle.plan_graph.specs.Files.{Path}

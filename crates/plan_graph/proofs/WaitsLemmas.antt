@@ -6,7 +6,7 @@ use Rattle.std.proofs.Math.Seq.{drop-cons}
 use Rattle.std.proofs.lemmas.List.{append_assoc}
 use Rattle.std.proofs.lemmas.Bool.{eq-eqb, eqb-true}
 use Rattle.plan_scope.specs.declared.manifest.DefaultTarget.{DefaultTarget}
-use Rattle.plan_scope.specs.declared.manifest.Edge.{Edge}
+use Rattle.plan_scope.specs.Edge.{Edge}
 use Rattle.plan_scope.specs.Edges.{is_among}
 use Rattle.plan_graph.specs.declared.files.File.{File}
 use Rattle.plan_graph.specs.Files.{Path, Table, file_at, producer_in, number_of, paths_in}

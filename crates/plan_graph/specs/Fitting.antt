@@ -1,7 +1,7 @@
 -- What a table of paths says of all edges.
 use Rattle.std.specs.Prelude.{◌≡◌, ◌≤◌, ℕ, true, List, [], ◌∷◌, Option, Some, None, Contains, flat_map, if◌then◌else◌, length, slice_get}
 use Rattle.std.specs.List.Sorted.{IsStrictlyIncreasing}
-use Rattle.plan_scope.specs.declared.manifest.Edge.{Edge}
+use Rattle.plan_scope.specs.Edge.{Edge}
 use Rattle.plan_scope.specs.Edges.{is_among}
 use Rattle.plan_graph.specs.Files.{Path, Table, is_used, producer_at, producer_in, paths_in}
 use Rattle.plan_graph.specs.Graph.{files_of, inputs_of, producer_of, max_edges, outputs_of}

@@ -2,7 +2,7 @@
 
 ghost use Rattle.std.specs.Prelude.{◌≡◌, List, ◌++◌, Ok, Some, map, slice_get};
 ghost use Rattle.plan_text.specs.Outcome.{Meets};
-ghost use Rattle.plan_scope.specs.declared.manifest.Edge.{Edge as EdgeMeant};
+ghost use Rattle.plan_scope.specs.Edge.{Edge as EdgeMeant};
 ghost use Rattle.plan_graph.specs.declared.fault.GraphFault.TheVariants.{Memory};
 ghost use Rattle.plan_graph.specs.Files.{number_of, paths_in};
 ghost use Rattle.plan_graph.specs.Fitting.{Fits, IsAscending, producers_at, unless_own};

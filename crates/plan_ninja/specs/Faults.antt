@@ -7,7 +7,7 @@ use Rattle.plan_parse.specs.Faults as statements
 use Rattle.plan_scope.specs.Faults as scopes
 use Rattle.plan_scope.specs.declared.fault.ScopeFault.{ScopeFault}
 use Rattle.plan_scope.specs.declared.fault.ScopeFault.TheVariants.{SourceMissing, Parse, Refused, LoadMemory, Memory}
-use Rattle.plan_scope.specs.declared.manifest.Edge.{Edge}
+use Rattle.plan_scope.specs.Edge.{Edge}
 use Rattle.plan_scope.specs.declared.manifest.Manifest.{Manifest}
 use Rattle.plan_graph.specs.Faults as graphs
 use Rattle.plan_graph.specs.Graph.{outputs_of}

@@ -1,6 +1,6 @@
 use Rattle.std.proofs.Common.{◌≡◌, ◌≤◌, ◌<◌, ◌∙◌, Bool, List, [], ℕ, ap, arith, sym, subst, take, drop, get_or, length, ◌-◌}
 use Rattle.std.specs.Prelude.{All, slice_index}
-use Rattle.plan_scope.specs.declared.manifest.Edge.{Edge as EdgeMeant}
+use Rattle.plan_scope.specs.Edge.{Edge as EdgeMeant}
 use Rattle.plan_scope.specs.EdgeRows.{no_edge}
 use Rattle.plan_compile.specs.Builds.{named_count, without_made, without_own}
 use Rattle.plan_image.specs.Spelling.{IsWord}
