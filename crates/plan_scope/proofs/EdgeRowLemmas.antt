@@ -25,18 +25,17 @@ use Rattle.plan_scope.proofs.PathLemmas.{between_more, same_lists}
 -- the paths of an edge stay where more is put behind them
 pub paths_stay : (rows more : List Text) (p : PathPlaces) → ArePlaced (length rows) p → paths_at (rows ++ more) p ≡ paths_at rows p
 paths_stay rows more p h =
-    let o = h.outputs in
     let io = h.implicit_outputs in
     let i = h.inputs in
     let ii = h.implicit_inputs in
     let oo = h.order_only_inputs in
     let e = h.end in
     same_lists (paths_at (rows ++ more) p) (paths_at rows p)
-    (between_more p.outputs p.implicit_outputs rows more o (omega (arith, io, i, ii, oo, e)))
-    (between_more p.implicit_outputs p.inputs rows more io (omega (arith, i, ii, oo, e)))
-    (between_more p.inputs p.implicit_inputs rows more i (omega (arith, ii, oo, e)))
-    (between_more p.implicit_inputs p.order_only_inputs rows more ii (omega (arith, oo, e)))
-    (between_more p.order_only_inputs p.end rows more oo e)
+    (between_more p.outputs p.implicit_outputs rows more (omega (arith, io, i, ii, oo, e)))
+    (between_more p.implicit_outputs p.inputs rows more (omega (arith, i, ii, oo, e)))
+    (between_more p.inputs p.implicit_inputs rows more (omega (arith, ii, oo, e)))
+    (between_more p.implicit_inputs p.order_only_inputs rows more (omega (arith, oo, e)))
+    (between_more p.order_only_inputs p.end rows more e)
 
 abbrev made : PathLists (List Text) → Text → Text → Text → Text → EdgeMarks → Edge
 made paths command description depfile pool m = record { paths = paths; command = command; description = description; depfile = depfile; restat = m.restat; generator = m.generator; phony = m.phony; pool = pool }

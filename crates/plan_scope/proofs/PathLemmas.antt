@@ -1,8 +1,8 @@
 -- Blocks and paths of which as much is kept. Serves src/edge/paths.rt.
-use Rattle.std.proofs.Common.{◌≡◌, ℕ, zero, suc, ◌+◌, ◌-◌, ◌<◌, ◌≤◌, Bool, true, false, ◌||◌, List, [], ◌∷◌, ◌++◌, length, map, Ok, Err, refl, ap, sym, ◌∙◌, cond, inl, inr, arith, drop, take, get_or, subst, append_assoc, length-append}
+use Rattle.std.proofs.Common.{◌≡◌, ℕ, zero, suc, ◌+◌, ◌<◌, ◌≤◌, Bool, true, false, ◌||◌, List, [], ◌∷◌, ◌++◌, length, map, Ok, Err, refl, ap, sym, ◌∙◌, cond, inl, inr, arith, drop, take, get_or, subst, append_assoc, length-append}
 use Rattle.std.specs.List.{list_any}
 use Rattle.std.proofs.lemmas.Bool.{lt-ltb, ltb-false, ne_eqb}
-use Rattle.std.proofs.lemmas.List.{append-nil, drop-append-le, length-drop, map_more, map_push, map-append, take-append-le}
+use Rattle.std.proofs.lemmas.List.{append-nil, map_more, map_push, map-append, take-append-le}
 use Rattle.std.proofs.Math.Seq.{drop-append_seam, take-length}
 use Rattle.std.proofs.lemmas.List.Folds.{list_any-append}
 use Rattle.plan_parse.specs.declared.path_lists.PathLists.{PathLists}
@@ -247,27 +247,21 @@ reads_both before now next texts others h k = record {
 }
 
 -- rows between two places, with more behind them
-pub between_more : {X : Type 0} (start end : ℕ) (rows more : List X) → start ≤ end → end ≤ length rows → between start end (rows ++ more) ≡ between start end rows
-between_more start end rows more s e =
-    let left = length-drop start rows in
-    ap (take (end - start)) (drop-append-le start rows more (omega (arith, s, e))) ∙ take-append-le (end - start) (drop start rows) more (omega (arith, left, s, e))
+pub between_more : {X : Type 0} (start end : ℕ) (rows more : List X) → end ≤ length rows → between start end (rows ++ more) ≡ between start end rows
+between_more start end rows more e = ap (drop start) (take-append-le end rows more e)
 
 -- the rows that were put behind others
 pub between_last : {X : Type 0} (rows more now : List X) (start end : ℕ) → now ≡ rows ++ more → start ≡ length rows → end ≡ length now → between start end now ≡ more
 between_last rows more now start end n s e =
-    let whole = ap length n ∙ length-append rows more in
-    let size : end - start ≡ length more = omega (arith, whole, s, e) in
-    ap (λ k. take k (drop start now)) size
-    ∙ ap (λ k. take (length more) (drop k now)) s
-    ∙ ap (λ l. take (length more) (drop (length rows) l)) n
-    ∙ ap (take (length more)) (drop-append_seam rows more)
-    ∙ take-length more
+    ap (λ k. drop start (take k now)) e
+    ∙ ap (drop start) (take-length now)
+    ∙ ap (λ k. drop k now) s
+    ∙ ap (drop (length rows)) n
+    ∙ drop-append_seam rows more
 
 -- a list of paths whose forms were put behind others, with more behind them
 pub list_placed : (before forms now more all : List Text) (start end : ℕ) → now ≡ before ++ forms → all ≡ now ++ more → start ≡ length before → end ≡ length now → between start end all ≡ forms
-list_placed before forms now more all start end n a s e =
-    let whole = ap length n ∙ length-append before forms in
-    ap (between start end) a ∙ between_more start end now more (omega (arith, whole, s, e)) (omega (arith, e)) ∙ between_last before forms now start end n s e
+list_placed before forms now more all start end n a s e = ap (between start end) a ∙ between_more start end now more (omega (arith, e)) ∙ between_last before forms now start end n s e
 
 -- a list of paths takes rows
 pub list_longer : (before now : PathRows) (texts : List Text) → ReadsPaths before texts now → length before.rows ≤ length now.rows
