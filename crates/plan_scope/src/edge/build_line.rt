@@ -185,7 +185,7 @@ pub fn push_edge<'a>(
     let read = PathTexts::new(&edges.paths, places);
     let parts = Parts { block, read };
     let environment = environment_with(&parts, &*rule, file);
-    let variables = variables_of_rule(alloc, &environment, compiled)?;
+    let variables = variables_of_rule(alloc, &environment, compiled, &mut edges.buffer)?;
     let marks = marks_or_refusal(pools, &parts, places, &variables, false, &mut edges.texts)?;
     edges.marks.push(marks)?;
     Ok(())
@@ -208,7 +208,7 @@ pub fn push_phony_edge<'a>(
     let parts = Parts { block, read };
     let rule = RuleVariables::empty(alloc);
     let environment = environment_with(&parts, &rule, file);
-    let variables = variables_of_phony(alloc, &environment)?;
+    let variables = variables_of_phony(alloc, &environment, &mut edges.buffer)?;
     let marks = marks_or_refusal(pools, &parts, places, &variables, true, &mut edges.texts)?;
     edges.marks.push(marks)?;
     Ok(())

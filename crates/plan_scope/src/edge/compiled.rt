@@ -108,7 +108,7 @@ fn joined_parts<'a>(
     copy_of(alloc, buffer)
 }
 
-/// The text of parts as they stand in an edge; a name alone needs no buffer.
+/// The text of parts as they stand in an edge. A text or a name alone needs no buffer, and most variables have no part.
 pub fn text_of_parts<'a>(
     alloc: Global,
     edge: &EdgeEnvironment<'a>,
@@ -119,6 +119,8 @@ pub fn text_of_parts<'a>(
     ensures { IfOk result (λ text. kept text ≡ kept (text_of_parts (quoted_as quoting) (environment_of edge.now) parts.now)) }
 {
     match parts {
+        [] => Ok(Items::empty(alloc)),
+        [VariablePart::Literal(text)] => copy_of(alloc, text),
         [VariablePart::Near(name, text)] => copy_of(alloc, near_text(edge.block, name, text)),
         _ => joined_parts(alloc, edge, quoting, parts, buffer),
     }

@@ -54,9 +54,6 @@ struct Findings<'a> {
     has_cycle: bool,
 }
 
-/// How many bytes a buffer has room for at first, enough for most commands.
-const BUFFER: usize = 1000;
-
 /// Whether it is told without a look-up in the file that nothing binds a name.
 fn is_unbound<'a>(edge: &EdgeEnvironment<'a>, name: &[u8]) -> bool
     ensures { result ≡ true → (quoting : Text → Text) → listed quoting (environment_of edge.now) name.now ≡ None → meaning_of quoting (environment_of edge.now) name.now ≡ Known [] }
@@ -116,51 +113,52 @@ fn variable<'a>(
     }
 }
 
-/// The variables of an edge with a rule, each expanded. Paths in its command and its description are quoted.
+/// The variables of an edge with a rule, each expanded in a buffer, whatever that held. Paths in its command and its
+/// description are quoted.
 fn expanded_variables<'a>(
     alloc: Global,
     edge: &'a EdgeEnvironment<'a>,
+    buffer: &mut Vec<u8>,
 ) -> Result<Variables, AllocError>
     ensures { IfOk result (λ v. KeptEqVariables v (variables_of (environment_of edge.now))) }
 {
-    let mut buffer = Vec::with_capacity(alloc, BUFFER)?;
     let mut plain = no_findings(alloc);
     let mut quoted = no_findings(alloc);
     Ok(Variables {
-        command: variable(alloc, edge, Shell, &mut quoted, b"command", &mut buffer)?,
-        depfile: variable(alloc, edge, Plain, &mut plain, b"depfile", &mut buffer)?,
-        deps: variable(alloc, edge, Plain, &mut plain, b"deps", &mut buffer)?,
-        description: variable(alloc, edge, Shell, &mut quoted, b"description", &mut buffer)?,
-        dyndep: variable(alloc, edge, Plain, &mut plain, b"dyndep", &mut buffer)?,
-        generator: variable(alloc, edge, Plain, &mut plain, b"generator", &mut buffer)?,
-        pool: variable(alloc, edge, Plain, &mut plain, b"pool", &mut buffer)?,
-        restat: variable(alloc, edge, Plain, &mut plain, b"restat", &mut buffer)?,
-        rspfile: variable(alloc, edge, Plain, &mut plain, b"rspfile", &mut buffer)?,
+        command: variable(alloc, edge, Shell, &mut quoted, b"command", buffer)?,
+        depfile: variable(alloc, edge, Plain, &mut plain, b"depfile", buffer)?,
+        deps: variable(alloc, edge, Plain, &mut plain, b"deps", buffer)?,
+        description: variable(alloc, edge, Shell, &mut quoted, b"description", buffer)?,
+        dyndep: variable(alloc, edge, Plain, &mut plain, b"dyndep", buffer)?,
+        generator: variable(alloc, edge, Plain, &mut plain, b"generator", buffer)?,
+        pool: variable(alloc, edge, Plain, &mut plain, b"pool", buffer)?,
+        restat: variable(alloc, edge, Plain, &mut plain, b"restat", buffer)?,
+        rspfile: variable(alloc, edge, Plain, &mut plain, b"rspfile", buffer)?,
         has_cycle: quoted.has_cycle | plain.has_cycle,
     })
 }
 
-/// The variables of an edge with a rule, by their parts. Paths in its command and its description are quoted.
+/// The variables of an edge with a rule, by their parts, in the same way.
 fn compiled_variables<'a>(
     alloc: Global,
     edge: &EdgeEnvironment<'a>,
     parts: &RuleParts,
+    buffer: &mut Vec<u8>,
 ) -> Result<Variables, AllocError>
     requires compiled { AreCompiled (environment_of edge.now).rule (environment_of edge.now).file parts.now }
     requires left { LeavesRule (environment_of edge.now).rule (environment_of edge.now).block }
     ensures { IfOk result (λ v. KeptEqVariables v (variables_of (environment_of edge.now))) }
 {
-    let mut buffer = Vec::with_capacity(alloc, BUFFER)?;
     Ok(Variables {
-        command: text_of_parts(alloc, edge, Shell, &parts.command, &mut buffer)?,
-        depfile: text_of_parts(alloc, edge, Plain, &parts.depfile, &mut buffer)?,
-        deps: text_of_parts(alloc, edge, Plain, &parts.deps, &mut buffer)?,
-        description: text_of_parts(alloc, edge, Shell, &parts.description, &mut buffer)?,
-        dyndep: text_of_parts(alloc, edge, Plain, &parts.dyndep, &mut buffer)?,
-        generator: text_of_parts(alloc, edge, Plain, &parts.generator, &mut buffer)?,
-        pool: text_of_parts(alloc, edge, Plain, &parts.pool, &mut buffer)?,
-        restat: text_of_parts(alloc, edge, Plain, &parts.restat, &mut buffer)?,
-        rspfile: text_of_parts(alloc, edge, Plain, &parts.rspfile, &mut buffer)?,
+        command: text_of_parts(alloc, edge, Shell, &parts.command, buffer)?,
+        depfile: text_of_parts(alloc, edge, Plain, &parts.depfile, buffer)?,
+        deps: text_of_parts(alloc, edge, Plain, &parts.deps, buffer)?,
+        description: text_of_parts(alloc, edge, Shell, &parts.description, buffer)?,
+        dyndep: text_of_parts(alloc, edge, Plain, &parts.dyndep, buffer)?,
+        generator: text_of_parts(alloc, edge, Plain, &parts.generator, buffer)?,
+        pool: text_of_parts(alloc, edge, Plain, &parts.pool, buffer)?,
+        restat: text_of_parts(alloc, edge, Plain, &parts.restat, buffer)?,
+        rspfile: text_of_parts(alloc, edge, Plain, &parts.rspfile, buffer)?,
         has_cycle: false,
     })
 }
@@ -171,15 +169,16 @@ pub fn variables_of_rule<'a>(
     alloc: Global,
     edge: &'a EdgeEnvironment<'a>,
     compiled: &CompiledRule,
+    buffer: &mut Vec<u8>,
 ) -> Result<Variables, AllocError>
     requires { IsCompiledRule (environment_of edge.now).rule (environment_of edge.now).file compiled.now }
     ensures { IfOk result (λ v. KeptEqVariables v (variables_of (environment_of edge.now))) }
 {
     match compiled {
         CompiledRule::Whole(parts) if edge.rule.are_left_by(edge.block) => {
-            compiled_variables(alloc, edge, parts)
+            compiled_variables(alloc, edge, parts, buffer)
         }
-        _ => expanded_variables(alloc, edge),
+        _ => expanded_variables(alloc, edge, buffer),
     }
 }
 
@@ -187,12 +186,12 @@ pub fn variables_of_rule<'a>(
 pub fn variables_of_phony<'a>(
     alloc: Global,
     edge: &'a EdgeEnvironment<'a>,
+    buffer: &mut Vec<u8>,
 ) -> Result<Variables, AllocError>
     ensures { IfOk result (λ v. KeptEqVariables v (phony_variables (environment_of edge.now))) }
 {
-    let mut buffer = Vec::new(alloc);
     let mut plain = no_findings(alloc);
-    let dyndep = variable(alloc, edge, Plain, &mut plain, b"dyndep", &mut buffer)?;
+    let dyndep = variable(alloc, edge, Plain, &mut plain, b"dyndep", buffer)?;
     Ok(Variables {
         command: Items::empty(alloc),
         depfile: Items::empty(alloc),

@@ -32,7 +32,12 @@ pub struct EdgeRows {
     pub texts: RowList<u8>,
     /// Where each edge has its own.
     pub marks: Vec<EdgeMarks>,
+    /// What a text is put together in, whatever it holds.
+    pub buffer: Vec<u8>,
 }
+
+/// How many bytes the buffer has room for at first, enough for most commands.
+const BUFFER: usize = 1000;
 
 impl EdgeRows {
     /// No edge, with room for so many.
@@ -45,6 +50,7 @@ impl EdgeRows {
             paths: PathRows::new(alloc)?,
             texts: RowList::new(alloc),
             marks: Vec::with_capacity(alloc, edges)?,
+            buffer: Vec::with_capacity(alloc, BUFFER)?,
         })
     }
 }

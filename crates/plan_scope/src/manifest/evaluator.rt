@@ -134,7 +134,9 @@ fn add_edge_of_new_rule<'b, 'a>(
     ensures found { OnOk result ((rules : ScopedBindings (Bindings (List Piece))) → nearest rules file.entry.scopes.now build.now.rule ≡ Some rule.now → AreFound rules file.entry.bound.now found.old.items → AreFound rules file.entry.bound.now found.new.items) }
 {
     let compiled = CompiledRule::Met;
-    let added = push_edge(alloc, &*pools, here, file, &*rule, &compiled, &*build, edges);
+    let added = push_edge(
+        alloc, &*pools, here, file, &*rule, &compiled, &*build, edges,
+    );
     let found_rule = FoundRule {
         scopes: file.scopes,
         name: build.rule(),
@@ -160,7 +162,9 @@ fn add_edge_of_met_rule<'b, 'a>(
     ensures found { OnOk result ((rules : ScopedBindings (Bindings (List Piece))) → nearest rules file.entry.scopes.now build.now.rule ≡ Some rule.now → AreFound rules file.entry.bound.now found.old.items → AreFound rules file.entry.bound.now found.new.items) }
 {
     let compiled = compile_rule(alloc, &*rule, file)?;
-    let added = push_edge(alloc, &*pools, here, file, &*rule, &compiled, &*build, edges);
+    let added = push_edge(
+        alloc, &*pools, here, file, &*rule, &compiled, &*build, edges,
+    );
     let found_rule = FoundRule {
         scopes: file.scopes,
         name: build.rule(),

@@ -95,6 +95,17 @@ fn is_plain(byte: u8) -> bool
     PLAIN[usize::from(byte)]
 }
 
+/// Appends a byte, unless the text is too long already.
+fn append_byte(out: &mut Vec<u8>, byte: u8) -> Result<(), AllocError>
+    ensures { OnOk result (kept out.new.items ≡ kept (out.old.items ++ byte ∷ [])) }
+{
+    if is_long(out) {
+        return Ok(());
+    }
+    out.push(byte)?;
+    Ok(())
+}
+
 /// Appends a byte that stands between quotes.
 fn append_escaped(out: &mut Vec<u8>, byte: u8) -> Result<(), AllocError>
     ensures { OnOk result (kept out.new.items ≡ kept (out.old.items ++ escaped byte)) }
@@ -102,7 +113,7 @@ fn append_escaped(out: &mut Vec<u8>, byte: u8) -> Result<(), AllocError>
     if byte == b'\'' {
         append(out, b"'\\''")
     } else {
-        append(out, &[byte])
+        append_byte(out, byte)
     }
 }
 
@@ -152,7 +163,7 @@ fn append_separator(out: &mut Vec<u8>, is_first: bool, separator: u8) -> Result<
     if is_first {
         return Ok(());
     }
-    append(out, &[separator])
+    append_byte(out, separator)
 }
 
 /// Appends paths as they are shown, this byte between each two. Behind a text that is too long nothing is kept, and

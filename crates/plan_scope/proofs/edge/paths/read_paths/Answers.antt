@@ -29,11 +29,11 @@ returns-clause-texts c =
       texts,
       (
         same_lists _ (canonical_paths texts)
-        (list_placed _ (map path_of o.0) _ _ _ _ _ o.2.rows last_four.rows start o.1)
-        (list_placed _ (map path_of io.0) _ _ _ _ _ io.2.rows last_three.rows o.1 io.1)
-        (list_placed _ (map path_of i.0) _ _ _ _ _ i.2.rows last_two.rows io.1 i.1)
-        (list_placed _ (map path_of ii.0) _ _ _ _ _ ii.2.rows last.rows i.1 ii.1)
-        (between_last _ (map path_of oo.0) _ _ _ oo.2.rows ii.1 oo.1),
+            (list_placed _ (map path_of o.0) _ _ _ _ _ o.2.rows last_four.rows start o.1)
+            (list_placed _ (map path_of io.0) _ _ _ _ _ io.2.rows last_three.rows o.1 io.1)
+            (list_placed _ (map path_of i.0) _ _ _ _ _ i.2.rows last_two.rows io.1 i.1)
+            (list_placed _ (map path_of ii.0) _ _ _ _ _ ii.2.rows last.rows i.1 ii.1)
+            (between_last _ (map path_of oo.0) _ _ _ oo.2.rows ii.1 oo.1),
         all.empty,
         all.long,
       ),
