@@ -26,7 +26,10 @@ pub enum Quoting {
 pub fn copy_of(alloc: Global, text: &[u8]) -> Result<Items<u8>, AllocError>
     ensures { IfOk result (λ copy. copy ≡ text.now) }
 {
-    Ok(Items::new(Vec::from_slice(alloc, text)?))
+    match text {
+        [] => Ok(Items::empty(alloc)),
+        _ => Ok(Items::new(Vec::from_slice(alloc, text)?)),
+    }
 }
 
 /// Whether a text is too long.
