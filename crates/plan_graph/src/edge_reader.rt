@@ -9,7 +9,7 @@ ghost use Rattle.plan_graph.specs.Reading.{inputs_past, outputs_past};
 ghost use Rattle.plan_graph.specs.declared.fault.GraphFault.TheVariants.{Memory, TwoProducers, UnknownDefault};
 
 use crate::fault::GraphFault;
-use crate::files::{File, Files};
+use crate::files::{File, Files, narrow, wide};
 use crate::graph_data::MAX_EDGES;
 use plan_scope::{DefaultTarget, EdgeRef, Manifest, PathRange};
 use plan_text::{Items, RowList};
@@ -55,13 +55,14 @@ fn with_output<'a>(
     ensures table { Meets Memory (λ _. files.new) result (reading.with_output files.old number path.now (file_of path.now files.old)) }
     ensures number { IfOk result (λ n. n ≡ number_of (paths_in files.old) path.now) }
 {
+    let own = narrow(number)?;
     let at = files.intern(path)?;
     let file = files.at(at);
     if file.producer.is_some() {
         return Err(two_producers(alloc, path));
     }
     let made = File {
-        producer: Some(number),
+        producer: Some(own),
         is_used: file.is_used,
     };
     files.set(at, made);
@@ -120,7 +121,7 @@ fn with_input<'a>(
     }
     let used = File {
         producer: file.producer,
-        is_used: !is_own(file.producer, own),
+        is_used: !is_own(wide(file.producer), own),
     };
     files.set(at, used);
     Ok(at)
