@@ -24,17 +24,7 @@ const UNKNOWN: File = File {
     is_used: false,
 };
 
-/// The same number of an edge, as it is counted.
-pub(crate) fn wide(number: Option<u32>) -> Option<usize>
-    ensures { result ≡ number }
-{
-    match number {
-        Some(number) => Some(number as usize),
-        None => None,
-    }
-}
-
-/// The number of an edge as files keep it; one that four bytes don't hold is refused as where memory runs out.
+/// A number in four bytes; one that they don't hold is refused as where memory runs out.
 pub(crate) fn narrow(number: usize) -> Result<u32, AllocError>
     ensures { IfOk result (λ n. n ≡ number) }
 {
@@ -150,16 +140,16 @@ impl<'a> Files<'a> {
     }
 
     /// The edge that makes a path.
-    pub fn producer(&self, path: &[u8]) -> Option<usize>
+    pub fn producer(&self, path: &[u8]) -> Option<u32>
         ensures { result ≡ producer_in self.now path.now }
     {
-        wide(self.get(path).producer)
+        self.get(path).producer
     }
 
     /// The edge that makes the path of this number.
-    pub fn producer_at(&self, number: usize) -> Option<usize>
+    pub fn producer_at(&self, number: usize) -> Option<u32>
         ensures { result ≡ producer_at self.now number }
     {
-        wide(self.at(number).producer)
+        self.at(number).producer
     }
 }

@@ -1,4 +1,4 @@
-use Rattle.std.proofs.Common.{◌≡◌, ◌∙◌, Bool, Option, ap, not, sym, ℕ}
+use Rattle.std.proofs.Common.{◌≡◌, ◌∙◌, Bool, ap, not, sym}
 use Rattle.std.specs.Prelude.{◌||◌}
 use Rattle.plan_graph.specs.declared.files.File.{File}
 use Rattle.plan_graph.specs.Files.{file_of, with_file}
@@ -24,5 +24,5 @@ returns-clause-table c =
     let new : File = record { producer = file.producer; is_used = not c.is_own.result } in
     let written : with_use own (file_of path files) ≡ new
     = ap (with_use own) (sym there)
-    ∙ (ap (λ (b : Bool). record { producer = file.producer; is_used = b || not (is_own file.producer own) }) c.if-file.false ∙ ap (λ (b : Bool). record { producer = file.producer; is_used = not b }) (sym (c.is_own.ensures ∙ ap (λ (p : Option ℕ). is_own p own) c.wide.ensures))) in
+    ∙ (ap (λ (b : Bool). record { producer = file.producer; is_used = b || not (is_own file.producer own) }) c.if-file.false ∙ ap (λ (b : Bool). record { producer = file.producer; is_used = not b }) (sym c.is_own.ensures)) in
     ap okay (ap (with_file files path) written ∙ sym (known_there files c.intern.new.self c.set.new.self path c.in_ok-at.at new c.in_ok-at.ensures.table c.in_ok-at.ensures.number c.set.ensures))

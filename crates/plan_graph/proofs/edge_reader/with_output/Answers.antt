@@ -1,4 +1,4 @@
-use Rattle.std.proofs.Common.{◌≡◌, ◌∙◌, Bool, Some, ap, sym, ℕ}
+use Rattle.std.proofs.Common.{◌≡◌, ◌∙◌, Bool, Some, ap, sym}
 use Rattle.std.specs.Prelude.{if◌then◌else◌, is_some}
 use Rattle.plan_graph.specs.declared.fault.GraphFault.TheVariants.{TwoProducers}
 use Rattle.plan_graph.specs.declared.files.File.{File}
@@ -24,7 +24,7 @@ returns-clause-table c =
     let file = c.at-file.result in
     let there = c.at-file.ensures ∙ file_there files c.intern.new.self path c.in_ok-at.at c.in_ok-at.ensures.table c.in_ok-at.ensures.number in
     let has = ap (λ (f : File). is_some f.producer) (sym there) ∙ (sym c.is_some.ensures ∙ c.if-is_some.false) in
-    let new : File = record { producer = Some c.in_ok-own.own; is_used = file.is_used } in
-    let written : with_producer number (file_of path files) ≡ new = ap (with_producer number) (sym there) ∙ ap (λ (n : ℕ). record { producer = Some n; is_used = file.is_used }) (sym c.in_ok-own.ensures) in
+    let new : File = record { producer = Some number; is_used = file.is_used } in
+    let written : with_producer number (file_of path files) ≡ new = ap (with_producer number) (sym there) in
     ap (λ (b : Bool). if b then refused (TwoProducers path) else okay (with_file files path (with_producer number (file_of path files)))) has
     ∙ ap okay (ap (with_file files path) written ∙ sym (known_there files c.intern.new.self c.set.new.self path c.in_ok-at.at new c.in_ok-at.ensures.table c.in_ok-at.ensures.number c.set.ensures))
