@@ -33,7 +33,6 @@ mod AscendLemmas
 mod LookupLemmas
 mod BodyTableLemmas
 mod AssembleLemmas
-mod FitLemmas
 mod RefusalLemmas
 mod SpellingLemmas
 mod NameLemmas

@@ -1,13 +1,13 @@
 //! The edges of a manifest, each with its files by their numbers.
 
-ghost use Rattle.std.specs.Prelude.{◌≡◌, ◌<◌, ◌≤◌, ◌++◌, All, IfOk, OnOk, drop, filter, get_or, length, not, slice_get, slice_index, slice_range, take};
+ghost use Rattle.std.specs.Prelude.{◌≡◌, ◌<◌, ◌≤◌, ◌++◌, IfOk, OnOk, drop, filter, get_or, length, not, slice_get, slice_index, slice_range, take};
 ghost use Rattle.plan_scope.specs.Edge.{Edge as EdgeMeant};
 ghost use Rattle.plan_graph.specs.Graph.{IsGraph};
 ghost use Rattle.plan_graph.specs.Files.{producer_at};
 ghost use Rattle.plan_image.specs.Spelling.{IsWord};
 ghost use Rattle.plan_compile.specs.Builds.{build_at, builds_from, is_maker, without_made};
 
-use plan_graph::{Files, Graph, files_complete, producers_numbered, waits_ascend};
+use plan_graph::{Files, Graph, files_complete, producers_numbered};
 use plan_scope::{EdgeList, EdgeRef, Manifest};
 use plan_text::Items;
 use std::alloc::{AllocError, Global};
@@ -101,35 +101,27 @@ pub(crate) const fn word(number: usize) -> u32
     number as u32
 }
 
-/// These numbers of 32 bits.
-pub(crate) fn words(alloc: Global, numbers: &[usize]) -> Result<Items<u32>, AllocError>
-    requires { All IsWord numbers.now }
+/// These numbers once more.
+pub(crate) fn words(alloc: Global, numbers: &[u32]) -> Result<Items<u32>, AllocError>
     ensures { IfOk result (λ ws. ws ≡ numbers.now) }
 {
-    let mut words = Vec::with_capacity(alloc, numbers.len())?;
-    for number in numbers {
-        words.push(word(*number))?;
-    }
-    Ok(Items::new(words))
+    Ok(Items::new(Vec::from_slice(alloc, numbers)?))
 }
 
-/// Appends these numbers of 32 bits, and tells how many there are then.
-fn push_words(words: &mut Vec<u32>, numbers: &[usize]) -> Result<usize, AllocError>
-    requires { All IsWord numbers.now }
+/// Appends these numbers, and tells how many there are then.
+fn push_words(words: &mut Vec<u32>, numbers: &[u32]) -> Result<usize, AllocError>
     ensures more { OnOk result (words.new.items ≡ words.old.items ++ numbers.now) }
     ensures len { IfOk result (λ len. len ≡ length words.new.items) }
 {
-    for number in numbers {
-        words.push(word(*number))?;
-    }
+    words.extend_from_slice(numbers)?;
     Ok(words.len())
 }
 
 /// Whether the edge of this number makes a file.
-fn makes<'a>(files: &Files<'a>, edge: usize, file: usize) -> bool
+fn makes<'a>(files: &Files<'a>, edge: u32, file: u32) -> bool
     ensures { result ≡ is_maker (producer_at files.now file) edge }
 {
-    match files.producer_at(file) {
+    match files.producer_at(file as usize) {
         Some(producer) => producer == edge,
         None => false,
     }
@@ -139,23 +131,22 @@ fn makes<'a>(files: &Files<'a>, edge: usize, file: usize) -> bool
 fn push_not_made_by<'a>(
     words: &mut Vec<u32>,
     files: &Files<'a>,
-    edge: usize,
-    numbers: &[usize],
+    edge: u32,
+    numbers: &[u32],
 ) -> Result<usize, AllocError>
-    requires { All IsWord numbers.now }
     ensures more { OnOk result (words.new.items ≡ words.old.items ++ filter (λ f. not (is_maker (producer_at files.now f) edge)) numbers.now) }
     ensures len { IfOk result (λ len. len ≡ length words.new.items) }
 {
     for number in numbers {
         if !makes(files, edge, *number) {
-            words.push(word(*number))?;
+            words.push(*number)?;
         }
     }
     Ok(words.len())
 }
 
 /// The first of these, at most so many.
-fn front(numbers: &[usize], count: usize) -> &[usize]
+fn front(numbers: &[u32], count: usize) -> &[u32]
     ensures { result.now ≡ take count numbers.now }
 {
     if count < numbers.len() {
@@ -166,7 +157,7 @@ fn front(numbers: &[usize], count: usize) -> &[usize]
 }
 
 /// What is behind the first so many.
-fn back(numbers: &[usize], count: usize) -> &[usize]
+fn back(numbers: &[u32], count: usize) -> &[u32]
     ensures { result.now ≡ drop count numbers.now }
 {
     if count < numbers.len() {
@@ -177,7 +168,7 @@ fn back(numbers: &[usize], count: usize) -> &[usize]
 }
 
 /// The number at a place, 0 where there are not as many.
-fn number_at(numbers: &[usize], place: usize) -> usize
+fn number_at(numbers: &[u32], place: usize) -> u32
     ensures { result ≡ slice_index numbers.now place }
 {
     match numbers.get(place) {
@@ -190,11 +181,10 @@ fn number_at(numbers: &[usize], place: usize) -> usize
 fn push_kept<'a>(
     words: &mut Vec<u32>,
     files: &Files<'a>,
-    edge: usize,
+    edge: u32,
     phony: bool,
-    numbers: &[usize],
+    numbers: &[u32],
 ) -> Result<usize, AllocError>
-    requires { All IsWord numbers.now }
     ensures more { OnOk result (words.new.items ≡ words.old.items ++ without_made files.now edge phony numbers.now) }
     ensures len { IfOk result (λ len. len ≡ length words.new.items) }
 {
@@ -213,15 +203,14 @@ fn numbered<'a, 'b>(
     number: usize,
 ) -> Result<Build<'a>, AllocError>
     requires graph { IsGraph manifest.now graph.now }
-    requires few { length graph.now.files ≤ 4194304 }
     requires inside { number < length manifest.now.edges }
     ensures { (edge : EdgeMeant) → slice_get manifest.now.edges number ≡ Some edge → IfOk result (λ b. b ≡ build_at graph.now number edge) }
 {
     files_complete();
     producers_numbered();
-    waits_ascend();
     let edge = manifest.edges.edge(number);
     let phony = edge.is_phony();
+    let own = word(number);
     let outputs = graph.outputs.row(number);
     let inputs = graph.inputs.row(number);
     let waits = graph.waits.row(number);
@@ -229,29 +218,28 @@ fn numbered<'a, 'b>(
     let mut numbers = Vec::with_capacity(alloc, outputs.len() + inputs.len() + waits.len())?;
     let named_at = push_words(&mut numbers, outputs)?;
     let named = front(inputs, count);
-    let order_only_at = push_kept(&mut numbers, &graph.files, number, phony, named)?;
+    let order_only_at = push_kept(&mut numbers, &graph.files, own, phony, named)?;
     let order_only = back(inputs, count);
-    let waits_at = push_kept(&mut numbers, &graph.files, number, phony, order_only)?;
+    let waits_at = push_kept(&mut numbers, &graph.files, own, phony, order_only)?;
     push_words(&mut numbers, waits)?;
     Ok(Build {
         edges: &manifest.edges,
-        number: word(number),
+        number: own,
         numbers,
         named_at,
         order_only_at,
         waits_at,
-        rank: word(number_at(graph.ranks.as_slice(), number)),
+        rank: number_at(graph.ranks.as_slice(), number),
     })
 }
 
-/// All edges, of no more files than an image may have.
+/// All edges.
 pub(crate) fn builds<'a, 'b>(
     alloc: Global,
     manifest: &'a Manifest,
     graph: &Graph<'b>,
 ) -> Result<Vec<Build<'a>>, AllocError>
-    requires graph { IsGraph manifest.now graph.now }
-    requires few { length graph.now.files ≤ 4194304 }
+    requires { IsGraph manifest.now graph.now }
     ensures { IfOk result (λ bs. bs.items ≡ builds_from graph.now 0 manifest.now.edges) }
 {
     let count = manifest.edges.len();

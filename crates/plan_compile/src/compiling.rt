@@ -5,7 +5,6 @@ ghost use Rattle.plan_scope.specs.Edges.{max_depth};
 ghost use Rattle.plan_scope.specs.Sound.{IsSound};
 ghost use Rattle.plan_graph.specs.Files.{paths_in};
 ghost use Rattle.plan_graph.specs.Graph.{IsGraph};
-ghost use Rattle.plan_image.specs.Spelling.{IsWord};
 ghost use Rattle.plan_compile.specs.Assembling.{codes_in, edges_in};
 ghost use Rattle.plan_compile.specs.Builds.{builds_from};
 ghost use Rattle.plan_compile.specs.EdgeNumbers.{numbers_in};
@@ -22,7 +21,7 @@ use crate::fault::CompileFault;
 use crate::image_laws::{image_is_spelled, manifests_are_sound};
 use crate::names::{Names, Texts, names_of, pool_table};
 use crate::slots::{planned, slot_count};
-use plan_graph::{Files, Graph, defaults_ascend};
+use plan_graph::{Files, Graph};
 use plan_image::{Edges, Image, Parts, Pool, Slot};
 use plan_scope::Manifest;
 use plan_text::{Items, RowList};
@@ -72,8 +71,7 @@ fn name_all<'a, 'b>(
     manifest: &'a Manifest,
     graph: &Graph<'b>,
 ) -> Result<Named<'a>, AllocError>
-    requires graph { IsGraph manifest.now graph.now }
-    requires few { length graph.now.files ≤ 4194304 }
+    requires { IsGraph manifest.now graph.now }
     ensures builds { IfOk result (λ n. n.builds.items ≡ builds_from graph.now 0 manifest.now.edges) }
     ensures texts { IfOk result (λ n. n.names.texts ≡ all_texts n.builds.items) }
     ensures pools { IfOk result (λ n. n.names.pools ≡ used_pools n.builds.items) }
@@ -133,8 +131,7 @@ fn tables_of<'a, 'b>(
     graph: &Graph<'b>,
     names: &Names<'a>,
 ) -> Result<Tables, AllocError>
-    requires depths { All (λ p. p.depth ≤ max_depth) manifest.now.pools }
-    requires defaults { All IsWord graph.now.defaults }
+    requires { All (λ p. p.depth ≤ max_depth) manifest.now.pools }
     ensures texts { IfOk result (λ t. t.texts ≡ names.now.texts) }
     ensures files { IfOk result (λ t. t.files ≡ paths_in graph.now.files) }
     ensures pools { IfOk result (λ t. t.pools ≡ map (declared manifest.now.pools) names.now.pools) }
@@ -175,7 +172,6 @@ fn parts<'a>(alloc: Global, manifest: &Manifest, graph: &Graph<'a>) -> Result<Pa
     ensures refused { IfErr result (λ fault. IsRefused manifest.now graph.now fault) }
 {
     manifests_are_sound();
-    defaults_ascend();
     if graph.files.len() > MOST_FILES {
         return Err(CompileFault::Limit);
     }

@@ -10,7 +10,7 @@ ghost use Rattle.plan_graph.specs.Graph.{GraphIs, default_edges, is_last, number
 
 use crate::edge_reader::read_edges;
 use crate::fault::GraphFault;
-use crate::files::Files;
+use crate::files::{Files, narrow};
 use crate::graph_data::Graph;
 use crate::waits::{add_producer, all_waits, ascend};
 use crate::walk::ranks;
@@ -19,11 +19,11 @@ use plan_text::{Items, RowList};
 use std::alloc::Global;
 
 /// Whether the path of one of these numbers is no input of any edge.
-fn has_unused<'a>(files: &Files<'a>, numbers: &[usize]) -> bool
+fn has_unused<'a>(files: &Files<'a>, numbers: &[u32]) -> bool
     ensures { result ≡ list_any (λ n. not (file_at n files.now).is_used) numbers.now }
 {
     for number in numbers {
-        if !files.at(*number).is_used {
+        if !files.at(*number as usize).is_used {
             return true;
         }
     }
@@ -34,16 +34,17 @@ fn has_unused<'a>(files: &Files<'a>, numbers: &[usize]) -> bool
 fn last_edges<'a>(
     alloc: Global,
     files: &Files<'a>,
-    outputs: &RowList<usize>,
+    outputs: &RowList<u32>,
     edges: &EdgeList,
-) -> Result<Items<usize>, GraphFault>
+) -> Result<Items<u32>, GraphFault>
     requires fits { Fits files.now edges.now }
     requires outputs { outputs.now ≡ rows_of outputs_of (paths_in files.now) edges.now }
     ensures { Meets Memory (λ v. v) result (Ok (numbers_from 0 (is_last edges.now) edges.now)) }
 {
+    let count = narrow(edges.len())?;
     let mut numbers = Vec::new(alloc);
-    for number in 0..edges.len() {
-        if has_unused(files, outputs.row(number)) {
+    for number in 0..count {
+        if has_unused(files, outputs.row(number as usize)) {
             numbers.push(number)?;
         }
     }
@@ -55,7 +56,7 @@ fn producers_of_targets<'a>(
     alloc: Global,
     files: &Files<'a>,
     targets: &[DefaultTarget],
-) -> Result<Vec<usize>, GraphFault>
+) -> Result<Vec<u32>, GraphFault>
     ensures { Meets Memory (λ v. v.items) result (Ok (producers files.now None (map (λ t. t.path) targets.now))) }
 {
     let mut numbers = Vec::new(alloc);
@@ -69,10 +70,10 @@ fn producers_of_targets<'a>(
 fn default_edges<'a>(
     alloc: Global,
     files: &Files<'a>,
-    outputs: &RowList<usize>,
+    outputs: &RowList<u32>,
     edges: &EdgeList,
     defaults: &[DefaultTarget],
-) -> Result<Items<usize>, GraphFault>
+) -> Result<Items<u32>, GraphFault>
     requires fits { Fits files.now edges.now }
     requires outputs { outputs.now ≡ rows_of outputs_of (paths_in files.now) edges.now }
     ensures { Meets Memory (λ v. v) result (Ok (default_edges edges.now defaults.now)) }

@@ -48,7 +48,7 @@ fn place_of(path: &[usize], edge: usize) -> usize
 }
 
 /// The cycle that a path closes, the last of which waits for an edge on it.
-pub fn cycle_from(alloc: Global, waits: &RowList<usize>, path: &[usize], edge: usize) -> GraphFault
+pub fn cycle_from(alloc: Global, waits: &RowList<u32>, path: &[usize], edge: usize) -> GraphFault
     requires here { Contains path.now edge }
     requires chain { Chain waits.now (path.now ++ edge ∷ []) }
     requires simple { IsSimple path.now }

@@ -9,7 +9,7 @@ ghost use Rattle.plan_graph.specs.Reading.{inputs_past, outputs_past};
 ghost use Rattle.plan_graph.specs.declared.fault.GraphFault.TheVariants.{Memory, TwoProducers, UnknownDefault};
 
 use crate::fault::GraphFault;
-use crate::files::{File, Files};
+use crate::files::{File, Files, narrow};
 use crate::graph_data::MAX_EDGES;
 use plan_scope::{DefaultTarget, EdgeRef, Manifest, PathRange};
 use plan_text::{Items, RowList};
@@ -21,11 +21,11 @@ pub struct EdgeTable<'a> {
     /// The paths that they name.
     pub files: Files<'a>,
     /// The numbers of the outputs of each edge.
-    pub outputs: RowList<usize>,
+    pub outputs: RowList<u32>,
     /// The numbers of the inputs of each edge.
-    pub inputs: RowList<usize>,
+    pub inputs: RowList<u32>,
     /// The row that is being read.
-    row: Vec<usize>,
+    row: Vec<u32>,
 }
 
 /// A copy of a path.
@@ -49,13 +49,14 @@ fn two_producers(alloc: Global, path: &[u8]) -> GraphFault
 fn with_output<'a>(
     alloc: Global,
     files: &mut Files<'a>,
-    number: usize,
+    number: u32,
     path: &'a [u8],
-) -> Result<usize, GraphFault>
+) -> Result<u32, GraphFault>
     ensures table { Meets Memory (λ _. files.new) result (reading.with_output files.old number path.now (file_of path.now files.old)) }
     ensures number { IfOk result (λ n. n ≡ number_of (paths_in files.old) path.now) }
 {
     let at = files.intern(path)?;
+    let place = narrow(at)?;
     let file = files.at(at);
     if file.producer.is_some() {
         return Err(two_producers(alloc, path));
@@ -65,16 +66,16 @@ fn with_output<'a>(
         is_used: file.is_used,
     };
     files.set(at, made);
-    Ok(at)
+    Ok(place)
 }
 
 /// Takes outputs of the edge of this number, and appends the numbers of their paths to a row.
 fn with_outputs<'a>(
     alloc: Global,
     files: &mut Files<'a>,
-    number: usize,
+    number: u32,
     outputs: &PathRange<'a>,
-    row: &mut Vec<usize>,
+    row: &mut Vec<u32>,
 ) -> Result<(), GraphFault>
     ensures table { Meets Memory (λ _. files.new) result (reading.with_outputs files.old number outputs.now) }
     ensures row { OnOk result (row.new.items ≡ row.old.items ++ numbers_past (paths_in files.old) outputs.now) }
@@ -87,7 +88,7 @@ fn with_outputs<'a>(
 }
 
 /// Whether the producer of a path is the edge itself.
-pub fn is_own(producer: Option<usize>, own: Option<usize>) -> bool
+pub fn is_own(producer: Option<u32>, own: Option<u32>) -> bool
     ensures { result ≡ reading.is_own producer own }
 {
     match (producer, own) {
@@ -98,7 +99,7 @@ pub fn is_own(producer: Option<usize>, own: Option<usize>) -> bool
 }
 
 /// The edge whose own outputs are no inputs of it: a phony.
-pub fn own_of<'a>(number: usize, edge: &EdgeRef<'a>) -> Option<usize>
+pub fn own_of<'a>(number: u32, edge: &EdgeRef<'a>) -> Option<u32>
     ensures { result ≡ reading.own_of number edge.now }
 {
     if edge.is_phony() { Some(number) } else { None }
@@ -107,31 +108,32 @@ pub fn own_of<'a>(number: usize, edge: &EdgeRef<'a>) -> Option<usize>
 /// Takes an input, and gives the number of its path.
 fn with_input<'a>(
     files: &mut Files<'a>,
-    own: Option<usize>,
+    own: Option<u32>,
     path: &'a [u8],
-) -> Result<usize, GraphFault>
+) -> Result<u32, GraphFault>
     ensures table { Meets Memory (λ _. files.new) result (Ok (reading.with_input own files.old path.now)) }
     ensures number { IfOk result (λ n. n ≡ number_of (paths_in files.old) path.now) }
 {
     let at = files.intern(path)?;
+    let place = narrow(at)?;
     let file = files.at(at);
     if file.is_used {
-        return Ok(at);
+        return Ok(place);
     }
     let used = File {
         producer: file.producer,
         is_used: !is_own(file.producer, own),
     };
     files.set(at, used);
-    Ok(at)
+    Ok(place)
 }
 
 /// Takes inputs of one sort, and appends the numbers of their paths to a row.
 fn with_inputs<'a>(
     files: &mut Files<'a>,
-    own: Option<usize>,
+    own: Option<u32>,
     inputs: &PathRange<'a>,
-    row: &mut Vec<usize>,
+    row: &mut Vec<u32>,
 ) -> Result<(), GraphFault>
     ensures table { Meets Memory (λ _. files.new) result (Ok (reading.with_inputs own files.old inputs.now)) }
     ensures row { OnOk result (row.new.items ≡ row.old.items ++ numbers_past (paths_in files.old) inputs.now) }
@@ -146,9 +148,9 @@ fn with_inputs<'a>(
 /// Takes the inputs of an edge, and appends the numbers of their paths to a row.
 fn with_all_inputs<'a>(
     files: &mut Files<'a>,
-    own: Option<usize>,
+    own: Option<u32>,
     edge: &EdgeRef<'a>,
-    row: &mut Vec<usize>,
+    row: &mut Vec<u32>,
 ) -> Result<(), GraphFault>
     ensures table { Meets Memory (λ _. files.new) result (Ok (reading.with_inputs own files.old (inputs_named edge.now))) }
     ensures row { OnOk result (row.new.items ≡ row.old.items ++ numbers_past (paths_in files.old) (inputs_named edge.now)) }
@@ -163,9 +165,9 @@ fn with_all_inputs<'a>(
 fn with_all_outputs<'a>(
     alloc: Global,
     files: &mut Files<'a>,
-    number: usize,
+    number: u32,
     edge: &EdgeRef<'a>,
-    row: &mut Vec<usize>,
+    row: &mut Vec<u32>,
 ) -> Result<(), GraphFault>
     ensures table { Meets Memory (λ _. files.new) result (reading.with_outputs files.old number (outputs_of edge.now)) }
     ensures row { OnOk result (row.new.items ≡ row.old.items ++ numbers_past (paths_in files.old) (outputs_of edge.now)) }
@@ -179,7 +181,7 @@ fn with_all_outputs<'a>(
 fn read_outputs<'a>(
     alloc: Global,
     read: &mut EdgeTable<'a>,
-    number: usize,
+    number: u32,
     edge: &EdgeRef<'a>,
 ) -> Result<(), GraphFault>
     ensures table { Meets Memory (λ _. read.new.files) result (reading.with_outputs read.old.files number (outputs_of edge.now)) }
@@ -195,7 +197,7 @@ fn read_outputs<'a>(
 /// Takes the inputs of an edge as a row of their own.
 fn read_inputs<'a>(
     read: &mut EdgeTable<'a>,
-    own: Option<usize>,
+    own: Option<u32>,
     edge: &EdgeRef<'a>,
 ) -> Result<(), GraphFault>
     ensures table { Meets Memory (λ _. read.new.files) result (Ok (reading.with_inputs own read.old.files (inputs_named edge.now))) }
@@ -212,7 +214,7 @@ fn read_inputs<'a>(
 fn read_edge<'a>(
     alloc: Global,
     read: &mut EdgeTable<'a>,
-    number: usize,
+    number: u32,
     edge: &EdgeRef<'a>,
 ) -> Result<(), GraphFault>
     ensures table { Meets Memory (λ _. read.new.files) result (reading.with_edge read.old.files number edge.now) }
@@ -220,7 +222,7 @@ fn read_edge<'a>(
     ensures inputs { OnOk result (read.new.inputs ≡ read.old.inputs ++ numbers_past (with_paths (paths_in read.old.files) (outputs_of edge.now)) (inputs_named edge.now) ∷ []) }
 {
     read_outputs(alloc, read, number, edge)?;
-    if number >= MAX_EDGES {
+    if number as usize >= MAX_EDGES {
         return Err(GraphFault::TooManyEdges);
     }
     read_inputs(read, own_of(number, edge), edge)?;
@@ -290,12 +292,13 @@ pub fn read_edges<'a>(alloc: Global, manifest: &'a Manifest) -> Result<EdgeTable
     ensures inputs { IfOk result (λ r. r.inputs ≡ inputs_past [] manifest.now.edges) }
 {
     let edges = &manifest.edges;
+    let count = narrow(edges.len())?;
     let mut read = no_edges(alloc, edges.len())?;
     let mut defaults = manifest.defaults.as_slice();
-    for number in 0..edges.len() {
-        let (due, rest) = defaults.split_at(targets_above(number, defaults));
+    for number in 0..count {
+        let (due, rest) = defaults.split_at(targets_above(number as usize, defaults));
         check_targets(alloc, &read.files, due)?;
-        read_edge(alloc, &mut read, number, &edges.edge(number))?;
+        read_edge(alloc, &mut read, number, &edges.edge(number as usize))?;
         defaults = rest;
     }
     check_targets(alloc, &read.files, defaults)?;

@@ -13,7 +13,7 @@ use std::marker::Model;
 #[derive(Clone, Copy)]
 pub struct File {
     /// The edge that makes it.
-    pub producer: Option<usize>,
+    pub producer: Option<u32>,
     /// Whether it is an input of an edge.
     pub is_used: bool,
 }
@@ -23,6 +23,16 @@ const UNKNOWN: File = File {
     producer: None,
     is_used: false,
 };
+
+/// A number in four bytes; one that they don't hold is refused as where memory runs out.
+pub(crate) fn narrow(number: usize) -> Result<u32, AllocError>
+    ensures { IfOk result (λ n. n ≡ number) }
+{
+    match u32::try_from(number) {
+        Ok(number) => Ok(number),
+        Err(_) => Err(AllocError),
+    }
+}
 
 /// Paths, each once, in the order in which they were first named. Their numbers count from 0.
 #[derive(Drop)]
@@ -130,14 +140,14 @@ impl<'a> Files<'a> {
     }
 
     /// The edge that makes a path.
-    pub fn producer(&self, path: &[u8]) -> Option<usize>
+    pub fn producer(&self, path: &[u8]) -> Option<u32>
         ensures { result ≡ producer_in self.now path.now }
     {
         self.get(path).producer
     }
 
     /// The edge that makes the path of this number.
-    pub fn producer_at(&self, number: usize) -> Option<usize>
+    pub fn producer_at(&self, number: usize) -> Option<u32>
         ensures { result ≡ producer_at self.now number }
     {
         self.at(number).producer

@@ -12,13 +12,13 @@ pub struct Graph<'a> {
     /// The paths that build lines name, in the order in which they first do, outputs before inputs.
     pub files: Files<'a>,
     /// The numbers of the outputs of each edge, explicit before implicit.
-    pub outputs: RowList<usize>,
+    pub outputs: RowList<u32>,
     /// The numbers of the inputs of each edge: explicit, then implicit, then order-only.
-    pub inputs: RowList<usize>,
+    pub inputs: RowList<u32>,
     /// The edges that each edge waits for, in ascending order.
-    pub waits: RowList<usize>,
+    pub waits: RowList<u32>,
     /// The rank of each edge: 0 where it waits for none, else one more than the greatest rank that it waits for.
-    pub ranks: Items<usize>,
+    pub ranks: Items<u32>,
     /// The edges that are built where no target is asked for, in ascending order.
-    pub defaults: Items<usize>,
+    pub defaults: Items<u32>,
 }

@@ -10,16 +10,16 @@ ghost use Rattle.plan_graph.specs.Graph.{all_waits, inputs_named, rows_of, waits
 
 use crate::edge_reader::{is_own, own_of};
 use crate::fault::GraphFault;
-use crate::files::Files;
+use crate::files::{Files, narrow};
 use plan_scope::{EdgeList, EdgeRef};
 use plan_text::RowList;
 use std::alloc::Global;
 
 /// Appends the producer of a path, unless it is the edge itself.
 pub fn add_producer(
-    row: &mut Vec<usize>,
-    own: Option<usize>,
-    producer: Option<usize>,
+    row: &mut Vec<u32>,
+    own: Option<u32>,
+    producer: Option<u32>,
 ) -> Result<(), GraphFault>
     ensures { Meets Memory (λ _. row.new.items) result (Ok (row.old.items ++ unless_own own producer)) }
 {
@@ -36,21 +36,21 @@ pub fn add_producer(
 
 /// Appends the producers of the paths of these numbers, unless they are the edge itself.
 fn add_producers<'a>(
-    row: &mut Vec<usize>,
+    row: &mut Vec<u32>,
     files: &Files<'a>,
-    own: Option<usize>,
-    numbers: &[usize],
+    own: Option<u32>,
+    numbers: &[u32],
 ) -> Result<(), GraphFault>
     ensures { Meets Memory (λ _. row.new.items) result (Ok (row.old.items ++ producers_at files.now own numbers.now)) }
 {
     for number in numbers {
-        add_producer(row, own, files.producer_at(*number))?;
+        add_producer(row, own, files.producer_at(*number as usize))?;
     }
     Ok(())
 }
 
 /// Sorts numbers, and keeps each once.
-pub fn ascend(numbers: &mut Vec<usize>)
+pub fn ascend(numbers: &mut Vec<u32>)
     ensures { IsAscending numbers.old.items numbers.new.items }
 {
     numbers.sort_unstable();
@@ -59,11 +59,11 @@ pub fn ascend(numbers: &mut Vec<usize>)
 
 /// What the edge of this number waits for, by the numbers of its inputs, in place of what the row held.
 fn waits_of<'a, 'b>(
-    row: &mut Vec<usize>,
+    row: &mut Vec<u32>,
     files: &Files<'a>,
-    number: usize,
+    number: u32,
     edge: &EdgeRef<'b>,
-    inputs: &[usize],
+    inputs: &[u32],
 ) -> Result<(), GraphFault>
     requires { inputs.now ≡ map (number_of (paths_in files.now)) (inputs_named edge.now) }
     ensures { (edges : List EdgeMeant) → Fits files.now edges → slice_get edges number ≡ Some edge.now → Meets Memory (λ _. row.new.items) result (Ok (waits_of edges edge.now)) }
@@ -78,19 +78,20 @@ fn waits_of<'a, 'b>(
 pub fn all_waits<'a>(
     alloc: Global,
     files: &Files<'a>,
-    inputs: &RowList<usize>,
+    inputs: &RowList<u32>,
     edges: &EdgeList,
-) -> Result<RowList<usize>, GraphFault>
+) -> Result<RowList<u32>, GraphFault>
     requires fits { Fits files.now edges.now }
     requires inputs { inputs.now ≡ rows_of inputs_named (paths_in files.now) edges.now }
     ensures { Meets Memory (λ rows. rows) result (Ok (all_waits edges.now)) }
 {
+    let count = narrow(edges.len())?;
     let mut waits = RowList::new(alloc);
     waits.reserve(edges.len())?;
     let mut row = Vec::new(alloc);
-    for number in 0..edges.len() {
-        let edge = edges.edge(number);
-        waits_of(&mut row, files, number, &edge, inputs.row(number))?;
+    for number in 0..count {
+        let edge = edges.edge(number as usize);
+        waits_of(&mut row, files, number, &edge, inputs.row(number as usize))?;
         waits.push(&row)?;
     }
     Ok(waits)

@@ -18,13 +18,13 @@ use std::marker::Model;
 struct Walk<'a> {
     alloc: Global,
     /// What each edge waits for.
-    waits: &'a RowList<usize>,
+    waits: &'a RowList<u32>,
     /// How far the walk has come with each edge.
     marks: Vec<Mark>,
     /// How many of the waits of each edge it has passed; they are done.
     passed: Vec<usize>,
     /// The rank of each edge that is done.
-    ranks: Vec<usize>,
+    ranks: Vec<u32>,
     /// The edges that are open, each of which waits for the next.
     path: Vec<usize>,
 }
@@ -40,20 +40,20 @@ impl<'a> Model for Walk<'a> {
 }
 
 /// One more than the greatest rank of a row, 0 of an empty one.
-fn rank_of(row: &[usize], ranks: &[usize]) -> usize
+fn rank_of(row: &[u32], ranks: &[u32]) -> u32
     requires within { All (λ w. w < length ranks.now) row.now }
-    requires low { All (λ w. slice_index ranks.now w + 1 < 2 ^ 64) row.now }
+    requires low { All (λ w. slice_index ranks.now w + 1 < 2 ^ 32) row.now }
     ensures { result ≡ rank_over ranks.now row.now }
 {
     let mut greatest = 0;
     for wait in row {
-        greatest = greatest.max(ranks[*wait] + 1);
+        greatest = greatest.max(ranks[*wait as usize] + 1);
     }
     greatest
 }
 
 /// How many edges at the front of a row are done, where so many are known to be.
-fn done_len(row: &[usize], marks: &[Mark], known: usize) -> usize
+fn done_len(row: &[u32], marks: &[Mark], known: usize) -> usize
     requires range { All (λ w. w < length marks.now) row.now }
     requires known { (known ≤ length row.now) × DoneTo marks.now row.now known }
     ensures within { result ≤ length row.now }
@@ -62,7 +62,7 @@ fn done_len(row: &[usize], marks: &[Mark], known: usize) -> usize
 {
     let mut len = known;
     while len < row.len() {
-        if !is_done(marks[row[len]]) {
+        if !is_done(marks[row[len] as usize]) {
             return len;
         }
         len += 1;
@@ -72,7 +72,7 @@ fn done_len(row: &[usize], marks: &[Mark], known: usize) -> usize
 
 impl<'a> Walk<'a> {
     /// A walk that has met no edge.
-    fn new(alloc: Global, waits: &'a RowList<usize>) -> Result<Walk<'a>, AllocError>
+    fn new(alloc: Global, waits: &'a RowList<u32>) -> Result<Walk<'a>, AllocError>
         requires range { InRange waits.now }
         requires few { length waits.now ≤ max_edges }
         ensures { IfOk result (λ walk. IsUntrodden waits.now walk) }
@@ -130,7 +130,7 @@ impl<'a> Walk<'a> {
         if passed == row.len() {
             return None;
         }
-        Some(row[passed])
+        Some(row[passed] as usize)
     }
 
     /// The cycle that the path closes, the last of which waits for an edge that is open.
@@ -198,7 +198,7 @@ impl<'a> Walk<'a> {
     }
 
     /// The rank of each edge, where the walk has met all.
-    fn into_ranks(self) -> Items<usize>
+    fn into_ranks(self) -> Items<u32>
         requires empty { self.path ≡ [] }
         requires met { (e : ℕ) → e < length self.waits → slice_get self.marks e ≢ Some mark.New }
         ensures ranks { AreRanks self.entry.waits result }
@@ -210,7 +210,7 @@ impl<'a> Walk<'a> {
 }
 
 /// The rank of each edge, by what each waits for, or a cycle.
-pub fn ranks(alloc: Global, waits: &RowList<usize>) -> Result<Items<usize>, GraphFault>
+pub fn ranks(alloc: Global, waits: &RowList<u32>) -> Result<Items<u32>, GraphFault>
     requires range { InRange waits.now }
     requires few { length waits.now ≤ max_edges }
     ensures ranks { IfOk result (λ r. AreRanks waits.now r) }

@@ -42,7 +42,7 @@ fn manifest_of(alloc: Global, bytes: &'static [u8]) -> Option<Manifest> {
 const THREE: &[u8] = b"rule r\n  command = true\nbuild c: r a b\nbuild a: r\nbuild b: r a\n";
 
 /// Whether the rows are these.
-fn are_rows(rows: &RowList<usize>, expected: &[&[usize]]) -> bool {
+fn are_rows(rows: &RowList<u32>, expected: &[&[u32]]) -> bool {
     if rows.len() != expected.len() {
         return false;
     }
@@ -58,9 +58,9 @@ fn are_rows(rows: &RowList<usize>, expected: &[&[usize]]) -> bool {
 fn is_graph(
     alloc: Global,
     text: &'static [u8],
-    waits: &[&[usize]],
-    ranks: &[usize],
-    defaults: &[usize],
+    waits: &[&[u32]],
+    ranks: &[u32],
+    defaults: &[u32],
 ) -> bool {
     let Some(manifest) = manifest_of(alloc, text) else {
         return false;
@@ -98,7 +98,7 @@ fn has_cycle(alloc: Global, text: &'static [u8], edges: &[usize]) -> bool {
 }
 
 /// The edge that makes a path of the three edges.
-fn producer(alloc: Global, path: &[u8]) -> Option<usize> {
+fn producer(alloc: Global, path: &[u8]) -> Option<u32> {
     let manifest = manifest_of(alloc, THREE)?;
     match graph(alloc, &manifest) {
         Ok(graph) => graph.files.producer(path),
@@ -124,7 +124,7 @@ fn has_path(alloc: Global, number: usize, path: &[u8]) -> bool {
 const TWO: &[u8] = b"rule r\n  command = true\nbuild b | c: r a a || d\nbuild d: r e | a\n";
 
 /// Whether the two edges have these rows of outputs, of inputs and of waits, and an empty one past each end.
-fn has_rows(alloc: Global, outputs: &[&[usize]], inputs: &[&[usize]], waits: &[&[usize]]) -> bool {
+fn has_rows(alloc: Global, outputs: &[&[u32]], inputs: &[&[u32]], waits: &[&[u32]]) -> bool {
     let Some(manifest) = manifest_of(alloc, TWO) else {
         return false;
     };
@@ -151,7 +151,7 @@ fn number(alloc: Global, path: &[u8]) -> Option<usize> {
 }
 
 /// The edge that makes the path of a number, of the two edges.
-fn producer_at(alloc: Global, number: usize) -> Option<usize> {
+fn producer_at(alloc: Global, number: usize) -> Option<u32> {
     let manifest = manifest_of(alloc, TWO)?;
     match graph(alloc, &manifest) {
         Ok(graph) => graph.files.producer_at(number),

@@ -1,11 +1,9 @@
-use Rattle.std.proofs.Common.{◌≡◌, ◌≤◌, ◌<◌, ◌∙◌, Bool, List, [], ℕ, ap, arith, sym, subst, take, drop, get_or, length, ◌-◌}
-use Rattle.std.specs.Prelude.{All, slice_index}
+use Rattle.std.proofs.Common.{◌≡◌, ◌≤◌, ◌<◌, ◌∙◌, Bool, List, [], ℕ, ap, arith, sym, take, drop, get_or, length, ◌-◌}
+use Rattle.std.specs.Prelude.{slice_index}
 use Rattle.plan_scope.specs.Edge.{Edge as EdgeMeant}
 use Rattle.plan_scope.specs.EdgeRows.{no_edge}
 use Rattle.plan_compile.specs.Builds.{named_count, without_made, without_own}
-use Rattle.plan_image.specs.Spelling.{IsWord}
 use Rattle.plan_compile.proofs.BuildLemmas.{AreCut, cuts, same_build}
-use Rattle.plan_compile.proofs.FitLemmas.{back_fits, front_fits, outputs_fit, rank_fits, waits_fit}
 use Rattle.plan_compile.proofs.ListLemmas.{some_is}
 use Rattle.plan_compile.proofs.MemberLemmas.{index_or, in_take, in_drop}
 use Rattle.plan_compile.proofs.SoundLemmas.{without_same}
@@ -17,55 +15,32 @@ returns c = λ edge at.
     let g = c.args.graph.now in
     let n = c.args.number in
     let phony = c.is_phony-phony.result in
+    let own = c.word-own.result in
     let row : List ℕ = get_or g.inputs n [] in
     let few : ℕ = named_count edge row in
     let found : c.edge-edge.result ≡ edge = some_is c.edge-edge.result edge (sym c.edge-edge.ensures ∙ at) in
-    let built : get_or m.edges c.word.result no_edge ≡ edge = ap (λ (k : ℕ). get_or m.edges k no_edge) c.word.ensures ∙ index_or m.edges n edge no_edge at in
+    let built : get_or m.edges c.word-own.result no_edge ≡ edge = ap (λ (k : ℕ). get_or m.edges k no_edge) c.word-own.ensures ∙ index_or m.edges n edge no_edge at in
     let is_phony : phony ≡ edge.phony = c.is_phony-phony.ensures ∙ ap (λ (e : EdgeMeant). e.phony) found in
     let count : c.saturating_sub-count.result ≡ few =
     c.saturating_sub-count.ensures ∙ ap (λ (k : ℕ). length c.row-inputs.result.now - k) (c.len.ensures ∙ ap length c.order_only_inputs.ensures ∙ ap (λ (e : EdgeMeant). length e.paths.order_only_inputs) found)
     ∙ ap (λ (fs : List ℕ). length fs - length edge.paths.order_only_inputs) c.row-inputs.ensures in
     let front : c.front-named.result.now ≡ take few row = c.front-named.ensures ∙ ap (λ (k : ℕ). take k c.row-inputs.result.now) count ∙ ap (λ (fs : List ℕ). take few fs) c.row-inputs.ensures in
     let back : c.back-order_only.result.now ≡ drop few row = c.back-order_only.ensures ∙ ap (λ (k : ℕ). drop k c.row-inputs.result.now) count ∙ ap (λ (fs : List ℕ). drop few fs) c.row-inputs.ensures in
-    let named : without_made g.files n phony c.front-named.result.now ≡ without_own edge.phony (get_or g.outputs n []) (take few row) =
-    ap (λ (fs : List ℕ). without_made g.files n phony fs) front ∙ ap (λ (b : Bool). without_made g.files n b (take few row)) is_phony
+    let named : without_made g.files own phony c.front-named.result.now ≡ without_own edge.phony (get_or g.outputs n []) (take few row) =
+    ap (λ (k : ℕ). without_made g.files k phony c.front-named.result.now) c.word-own.ensures ∙ ap (λ (fs : List ℕ). without_made g.files n phony fs) front ∙ ap (λ (b : Bool). without_made g.files n b (take few row)) is_phony
     ∙ without_same m g c.requires.graph c.files_complete.ensures c.producers_numbered.ensures n edge (take few row) at (λ f i. in_take few row f i) edge.phony in
-    let order_only : without_made g.files n phony c.back-order_only.result.now ≡ without_own edge.phony (get_or g.outputs n []) (drop few row) =
-    ap (λ (fs : List ℕ). without_made g.files n phony fs) back ∙ ap (λ (b : Bool). without_made g.files n b (drop few row)) is_phony
+    let order_only : without_made g.files own phony c.back-order_only.result.now ≡ without_own edge.phony (get_or g.outputs n []) (drop few row) =
+    ap (λ (k : ℕ). without_made g.files k phony c.back-order_only.result.now) c.word-own.ensures ∙ ap (λ (fs : List ℕ). without_made g.files n phony fs) back ∙ ap (λ (b : Bool). without_made g.files n b (drop few row)) is_phony
     ∙ without_same m g c.requires.graph c.files_complete.ensures c.producers_numbered.ensures n edge (drop few row) at (λ f i. in_drop few row f i) edge.phony in
-    let cut : AreCut c.push_words-2.new.words.items c.row-outputs.result.now (without_made g.files n phony c.front-named.result.now) (without_made g.files n phony c.back-order_only.result.now) c.row-waits.result.now
+    let cut : AreCut c.push_words-2.new.words.items c.row-outputs.result.now (without_made g.files own phony c.front-named.result.now) (without_made g.files own phony c.back-order_only.result.now) c.row-waits.result.now
     c.in_ok-named_at.named_at c.in_ok-order_only_at.order_only_at c.in_ok-waits_at.waits_at =
     cuts _ _ _ _ _ _ _ _ _ _ _ _ c.in_ok-numbers.ensures.items c.in_ok-named_at.ensures.more c.in_ok-named_at.ensures.len c.in_ok-order_only_at.ensures.more c.in_ok-order_only_at.ensures.len
     c.in_ok-waits_at.ensures.more c.in_ok-waits_at.ensures.len c.in_ok-push_words.ensures.more in
-    same_build (get_or m.edges c.word.result no_edge) edge _ _ _ _ _ _ _ _ _ _ built (cut.outputs ∙ c.row-outputs.ensures) (cut.named ∙ named) (cut.order_only ∙ order_only) (cut.waits ∙ c.row-waits.ensures)
-    (c.word-2.ensures ∙ c.number_at.ensures ∙ ap (λ (rs : List ℕ). slice_index rs n) c.as_slice.ensures)
+    same_build (get_or m.edges c.word-own.result no_edge) edge _ _ _ _ _ _ _ _ _ _ built (cut.outputs ∙ c.row-outputs.ensures) (cut.named ∙ named) (cut.order_only ∙ order_only) (cut.waits ∙ c.row-waits.ensures)
+    (c.number_at.ensures ∙ ap (λ (rs : List ℕ). slice_index rs n) c.as_slice.ensures)
 
-pub push_kept-requires : goal.push_kept-requires
-push_kept-requires c =
-    subst (λ (fs : List ℕ). All IsWord fs) (sym (c.front-named.ensures ∙ ap (λ (fs : List ℕ). take c.saturating_sub-count.result fs) c.row-inputs.ensures))
-    (front_fits c.args.manifest.now c.args.graph.now c.requires.graph c.files_complete.ensures c.requires.few c.args.number c.saturating_sub-count.result c.requires.inside)
-
-pub push_kept-requires-2 : goal.push_kept-requires-2
-push_kept-requires-2 c =
-    subst (λ (fs : List ℕ). All IsWord fs) (sym (c.back-order_only.ensures ∙ ap (λ (fs : List ℕ). drop c.saturating_sub-count.result fs) c.row-inputs.ensures))
-    (back_fits c.args.manifest.now c.args.graph.now c.requires.graph c.files_complete.ensures c.requires.few c.args.number c.saturating_sub-count.result c.requires.inside)
-
-pub push_words-requires : goal.push_words-requires
-push_words-requires c =
-    subst (λ (fs : List ℕ). All IsWord fs) (sym c.row-outputs.ensures)
-    (outputs_fit c.args.manifest.now c.args.graph.now c.requires.graph c.files_complete.ensures c.requires.few c.args.number c.requires.inside)
-
-pub push_words-requires-2 : goal.push_words-requires-2
-push_words-requires-2 c =
-    subst (λ (fs : List ℕ). All IsWord fs) (sym c.row-waits.ensures) (waits_fit c.args.manifest.now c.args.graph.now c.requires.graph c.waits_ascend.ensures c.args.number)
-
-pub word-requires : goal.word-requires
-word-requires c =
+pub word-own-requires : goal.word-own-requires
+word-own-requires c =
     let inside : c.args.number < length c.args.manifest.now.edges = c.requires.inside in
     let few : length c.args.manifest.now.edges ≤ 1048576 = c.requires.graph.few in
     omega (arith, inside, few)
-
-pub word-requires-2 : goal.word-requires-2
-word-requires-2 c =
-    subst (λ (n : ℕ). IsWord n) (sym (c.number_at.ensures ∙ ap (λ (rs : List ℕ). slice_index rs c.args.number) c.as_slice.ensures))
-    (rank_fits c.args.manifest.now c.args.graph.now c.requires.graph c.args.number)

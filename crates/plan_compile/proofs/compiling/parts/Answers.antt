@@ -15,7 +15,6 @@ use Rattle.plan_compile.specs.Refusals.{IsRefused, RefusesEdges}
 use Rattle.plan_compile.specs.Slots.{all_made, newest_from, slots_from}
 use Rattle.plan_compile.proofs.AssembleLemmas.{all_codes, image_is, numbers_of}
 use Rattle.plan_compile.proofs.BuildLemmas.{map_long}
-use Rattle.plan_compile.proofs.FitLemmas.{defaults_fit}
 use Rattle.plan_compile.proofs.RefusalLemmas.{edges_refused}
 use Rattle.plan_compile.proofs.SoundLemmas.{builds_length}
 use Rattle.plan_compile.proofs.compiling.parts.Goals as goal
@@ -57,8 +56,7 @@ code_all-requires c =
     }
 
 pub tables_of-requires : goal.tables_of-requires
-tables_of-requires c =
-    record { depths = c.requires.sound.depths; defaults = defaults_fit c.args.manifest.now c.args.graph.now c.requires.graph c.defaults_ascend.ensures }
+tables_of-requires c = c.requires.sound.depths
 
 pub returns-in_err-coded-clause-refused : goal.returns-in_err-coded-clause-refused
 returns-in_err-coded-clause-refused c =

@@ -15,7 +15,7 @@ loop-number-preserved c =
     let i = c.loop-number.number in
     let rest = numbers_from (i + 1) (is_last edges) (drop (i + 1) edges) in
     let is = c.has_unused.ensures ∙ ap (λ (ns : List ℕ). list_any (λ n. not (file_at n files).is_used) ns) c.row.ensures in
-    let lt : i < length edges = omega (arith, c.loop-number-test.true, c.len-number-end.ensures) in
+    let lt : i < length edges = omega (arith, c.loop-number-test.true, c.in_ok-count.ensures, c.len.ensures) in
     let step = last_step files edges c.args.outputs.now row i c.has_unused.result c.requires.fits c.requires.outputs lt is in
     elim c.if-has_unused.branch [
       | then-has_unused+in_ok-push w ↦

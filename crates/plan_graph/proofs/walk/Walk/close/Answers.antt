@@ -34,7 +34,7 @@ rank_of-requires-clause-low c k d lt =
     let e = get_or c.row.result.now k d in
     let done : slice_get w.marks.items e ≡ Some Done = done_of w.marks.items c.row.result.now k d lt (subst (AllDone w.marks.items) (sym c.row.ensures) all) in
     let low : slice_index w.ranks.items e + pending w.marks.items < length w.marks.items = c.self.invariant.walk.low e done in
-    subst (λ (r : List ℕ). slice_index r e + 1 < 18446744073709551616) (sym c.deref.ensures.value) (omega (arith, low, c.self.invariant.few, c.self.invariant.walk.marked))
+    subst (λ (r : List ℕ). slice_index r e + 1 < 4294967296) (sym c.deref.ensures.value) (omega (arith, low, c.self.invariant.few, c.self.invariant.walk.marked))
 
 pub invariant_of-self : goal.invariant_of-self
 invariant_of-self c =
