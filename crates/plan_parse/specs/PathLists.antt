@@ -1,6 +1,5 @@
 -- The five lists of paths of a build line.
-use Rattle.std.specs.Prelude.{◌≡◌, ◌+◌, ℕ, List, ◌++◌, length, take, drop}
-use Rattle.plan_parse.specs.declared.path_lists.PathEnds.{PathEnds}
+use Rattle.std.specs.Prelude.{◌≡◌, ℕ, List, ◌++◌, length, take, drop}
 use Rattle.plan_parse.specs.declared.path_lists.PathLists.{PathLists}
 use Rattle.plan_parse.specs.declared.path_lists.PathPlaces.{PathPlaces}
 
@@ -22,16 +21,6 @@ all_in p = p.outputs ++ p.implicit_outputs ++ p.inputs ++ p.implicit_inputs ++ p
 abbrev pub between : {A : Type 0} → ℕ → ℕ → List A → List A
 between start end items = drop start (take end items)
 
--- the lists that stand one behind the other and end at these places
-abbrev pub lists_between : {A : Type 0} → PathEnds → List A → PathLists (List A)
-lists_between ends items = record {
-  outputs = between 0 ends.outputs items;
-  implicit_outputs = between ends.outputs ends.implicit_outputs items;
-  inputs = between ends.implicit_outputs ends.inputs items;
-  implicit_inputs = between ends.inputs ends.implicit_inputs items;
-  order_only_inputs = drop ends.implicit_inputs items;
-}
-
 -- the lists that stand at these places among the paths of a file
 abbrev pub lists_at : {A : Type 0} → PathPlaces → List A → PathLists (List A)
 lists_at places items = record {
@@ -49,10 +38,3 @@ added_to older items = drop (length older) items
 -- a list begins with all items of an older one
 abbrev pub Extends : {A : Type 0} → List A → List A → Type 0
 Extends older items = items ≡ older ++ added_to older items
-
--- where each of these lists but the last ends
-pub record AreEnds {A : Type 0} (ends : PathEnds) (lists : PathLists (List A)) : Type 0 where
-  pub outputs : ends.outputs ≡ length lists.outputs
-  pub implicit_outputs : ends.implicit_outputs ≡ ends.outputs + length lists.implicit_outputs
-  pub inputs : ends.inputs ≡ ends.implicit_outputs + length lists.inputs
-  pub implicit_inputs : ends.implicit_inputs ≡ ends.inputs + length lists.implicit_inputs

@@ -32,7 +32,7 @@ pub use lines::{
     name_in, path_in, value_in,
 };
 pub use parser::parse;
-pub use path_lists::{JoinedPathLists, PathEnds, PathLists};
+pub use path_lists::PathLists;
 pub use path_parts::{PathPart, part_at};
 pub use span::Span;
 pub use statement::{Binding, Directive, DirectiveKind, Pool, Rule};
