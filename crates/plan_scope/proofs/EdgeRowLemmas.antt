@@ -1,7 +1,7 @@
 -- Edges whose paths and texts are rows of all edges. Serves src/manifest/edge_rows.rt and src/edge/build_line.rt.
-use Rattle.std.proofs.Common.{◌≡◌, ℕ, ◌+◌, ◌<◌, ◌≤◌, Bool, List, [], ◌∷◌, ◌++◌, length, map, get_or, refl, ap, sym, subst, ◌∙◌, arith, length-append, Result, Ok, Err}
+use Rattle.std.proofs.Common.{◌≡◌, ℕ, ◌+◌, ◌<◌, ◌≤◌, Bool, List, [], ◌∷◌, ◌++◌, length, map, get_or, refl, ap, sym, subst, ◌∙◌, append_assoc, arith, length-append, Result, Ok, Err}
 use Rattle.std.specs.List.{All}
-use Rattle.std.proofs.lemmas.List.{get_or_append_left, get_or-append-add, map-append}
+use Rattle.std.proofs.lemmas.List.{get_or_append_left, map-append}
 use Rattle.std.proofs.lemmas.List.Elements.{All-append, All-cons, All-head, All-nil, All-tail, All-weaker}
 use Rattle.plan_parse.specs.declared.path_lists.PathLists.{PathLists}
 use Rattle.plan_scope.specs.declared.edge.paths.PathRows.{PathRows}
@@ -17,9 +17,8 @@ use Rattle.plan_scope.specs.Scopes.{Text}
 use Rattle.plan_scope.specs.Edge.{Edge}
 use Rattle.plan_scope.specs.Edges.{edge_of, is_present}
 use Rattle.plan_scope.specs.EdgePlaces.{ArePlaced, paths_at}
-use Rattle.plan_scope.specs.EdgeRows.{AreWithin, IsPlaced, edge_at, edge_with, edges_in}
-use Rattle.plan_scope.specs.EdgeAnswers.{GivesEdge, GivesMarks, HasMore, texts_read}
-use Rattle.plan_scope.specs.Parts.{kept_texts}
+use Rattle.plan_scope.specs.EdgeRows.{AreWithin, BeginsEmpty, IsPlaced, edge_at, edge_with, edges_in}
+use Rattle.plan_scope.specs.EdgeAnswers.{AreTexts, GivesEdge, GivesMarks, HasMore, texts_read}
 use Rattle.plan_scope.proofs.PathLemmas.{between_more, same_lists}
 
 -- the paths of an edge stay where more is put behind them
@@ -46,12 +45,11 @@ same_made p q a b c d w x y z m e f g h i = cc
 -- and so do its texts
 pub edge_stays : (rows more texts others : List Text) (m : EdgeMarks) → IsPlaced (length rows) (length texts) m → edge_at (rows ++ more) (texts ++ others) m ≡ edge_at rows texts m
 edge_stays rows more texts others m h =
-    let t = h.texts in
     same_made _ _ _ _ _ _ _ _ _ _ m (paths_stay rows more m.paths h.paths)
-    (get_or_append_left texts others [] m.texts (omega (arith, t)))
-    (get_or_append_left texts others [] (m.texts + 1) (omega (arith, t)))
-    (get_or_append_left texts others [] (m.texts + 2) (omega (arith, t)))
-    (get_or_append_left texts others [] (m.texts + 3) (omega (arith, t)))
+    (get_or_append_left texts others [] m.command h.command)
+    (get_or_append_left texts others [] m.description h.description)
+    (get_or_append_left texts others [] m.depfile h.depfile)
+    (get_or_append_left texts others [] m.pool h.pool)
 
 -- edges stay where more is put behind their paths and their texts
 edges_stay : (rows more texts others : List Text) (ms : List EdgeMarks) → All (IsPlaced (length rows) (length texts)) ms → map (edge_at (rows ++ more) (texts ++ others)) ms ≡ map (edge_at rows texts) ms
@@ -72,36 +70,51 @@ longer before more now e =
     let whole = ap length e ∙ length-append before more in
     omega (arith, whole)
 
+-- a first text that is empty stays so
+pub begins_still : (before now : List Text) → HasMore before now → BeginsEmpty before → BeginsEmpty now
+begins_still before now more b =
+    let some = b.some in
+    let far = longer before more.0 now more.1 in
+    record { some = omega (arith, some, far); none = ap (λ l. get_or l 0 []) more.1 ∙ get_or_append_left before more.0 [] 0 b.some ∙ b.none }
+
+-- a text that was put stays
+pub text_stays : (before now : List Text) (n : ℕ) (text : Text) → HasMore before now → (get_or before n [] ≡ text) × (n < length before) → (get_or now n [] ≡ text) × (n < length now)
+text_stays before now n text more h =
+    let far = longer before more.0 now more.1 in
+    let lt = h.1 in
+    (ap (λ l. get_or l n []) more.1 ∙ get_or_append_left before more.0 [] n h.1 ∙ h.0, omega (arith, lt, far))
+
+-- what follows twice follows
+pub more_far : (before mid now : List Text) → HasMore before mid → HasMore mid now → HasMore before now
+more_far before mid now m n = (m.0 ++ n.0, n.1 ∙ ap (λ l. l ++ n.0) m.1 ∙ append_assoc before m.0 n.0)
+
 -- one more edge, whose paths and texts were put behind those before
 pub edge_put : (before now : EdgeRows) (more others : List Text) (m : EdgeMarks) → now.paths.rows ≡ before.paths.rows ++ more → now.texts ≡ before.texts ++ others
-    → now.marks.items ≡ before.marks.items ++ m ∷ [] → AreWithin before → ArePlaced (length now.paths.rows) m.paths → m.texts + 4 ≤ length now.texts
+    → now.marks.items ≡ before.marks.items ++ m ∷ [] → AreWithin before → ArePlaced (length now.paths.rows) m.paths → AreTexts (length now.texts) m
     → (edges_in now ≡ edges_in before ++ edge_at now.paths.rows now.texts m ∷ []) × AreWithin now
 edge_put before now more others m p t n within places texts =
     let rows = before.paths.rows in
     let wide = longer rows more now.paths.rows p in
     let far = longer before.texts others now.texts t in
-    let one : IsPlaced (length now.paths.rows) (length now.texts) m = record { paths = places; texts = texts } in
+    let one : IsPlaced (length now.paths.rows) (length now.texts) m = record { paths = places; command = texts.0; description = texts.1; depfile = texts.2; pool = texts.3 } in
     let all = All-append (IsPlaced (length now.paths.rows) (length now.texts)) before.marks.items (m ∷ [])
     (All-weaker (IsPlaced (length rows) (length before.texts)) (IsPlaced (length now.paths.rows) (length now.texts))
-    (λ x h. let s = h.texts in record { paths = placed_wider (length rows) (length now.paths.rows) x.paths wide h.paths; texts = omega (arith, s, far) }) before.marks.items within)
+    (λ x h.
+    let c = h.command in
+    let d = h.description in
+    let e = h.depfile in
+    let f = h.pool in
+    record { paths = placed_wider (length rows) (length now.paths.rows) x.paths wide h.paths; command = omega (arith, c, far); description = omega (arith, d, far); depfile = omega (arith, e, far); pool = omega (arith, f, far) }) before.marks.items within.marks)
     (All-cons (IsPlaced (length now.paths.rows) (length now.texts)) m [] one (All-nil (IsPlaced (length now.paths.rows) (length now.texts)))) in
-    let stay = ap (λ (r : List Text). map (edge_at r now.texts) before.marks.items) p ∙ ap (λ (r : List Text). map (edge_at (rows ++ more) r) before.marks.items) t ∙ edges_stay rows more before.texts others before.marks.items within in (
+    let stay = ap (λ (r : List Text). map (edge_at r now.texts) before.marks.items) p ∙ ap (λ (r : List Text). map (edge_at (rows ++ more) r) before.marks.items) t ∙ edges_stay rows more before.texts others before.marks.items within.marks in (
       ap (map (edge_at now.paths.rows now.texts)) n ∙ map-append (edge_at now.paths.rows now.texts) before.marks.items (m ∷ []) ∙ ap (λ (es : List Edge). es ++ edge_at now.paths.rows now.texts m ∷ []) stay,
-      subst (All (IsPlaced (length now.paths.rows) (length now.texts))) (sym n) all,
+      record { marks = subst (All (IsPlaced (length now.paths.rows) (length now.texts))) (sym n) all; empty = begins_still before.texts now.texts (others, t) within.empty },
     )
 
--- an edge whose texts were put behind others
-pub texts_put : (before now : List Text) (paths : PathLists (List Text)) (v : Variables) (m : EdgeMarks) → now ≡ before ++ kept_texts v → m.texts ≡ length before
-    → m.restat ≡ is_present v.restat → m.generator ≡ is_present v.generator → edge_with paths now m ≡ edge_of paths v m.phony
-texts_put before now paths v m n t r g =
-    let at : (k : ℕ) → get_or now (m.texts + k) [] ≡ get_or (kept_texts v) k [] =
-    λ k. ap (λ l. get_or l (m.texts + k) []) n ∙ ap (λ i. get_or (before ++ kept_texts v) (i + k) []) t ∙ get_or-append-add before (kept_texts v) k [] in
-    let none : m.texts + 0 ≡ m.texts = omega arith in
-    let c : get_or now m.texts [] ≡ v.command = ap (λ i. get_or now i []) (sym none) ∙ at 0 in
-    let d : get_or now (m.texts + 1) [] ≡ v.description = at 1 in
-    let e : get_or now (m.texts + 2) [] ≡ v.depfile = at 2 in
-    let f : get_or now (m.texts + 3) [] ≡ v.pool = at 3 in
-    cc
+-- an edge whose texts were put
+pub texts_put : (now : List Text) (paths : PathLists (List Text)) (v : Variables) (m : EdgeMarks) → get_or now m.command [] ≡ v.command → get_or now m.description [] ≡ v.description
+    → get_or now m.depfile [] ≡ v.depfile → get_or now m.pool [] ≡ v.pool → m.restat ≡ is_present v.restat → m.generator ≡ is_present v.generator → edge_with paths now m ≡ edge_of paths v m.phony
+texts_put now paths v m c d e f r g = cc
 
 -- a refusal of an edge's texts is one of the edge
 pub marks_refused : (paths : PathLists (List Text)) (places : PathPlaces) (old new : List Text) (before now : EdgeRows) (fault : StatementFault) (held meant : Result Edge Cause) → held ≡ meant

@@ -1,5 +1,5 @@
 -- What is answered where an edge is to be put behind others.
-use Rattle.std.specs.Prelude.{◌≡◌, ◌≤◌, ◌+◌, List, [], ◌∷◌, ◌++◌, length, Result, Ok, Err}
+use Rattle.std.specs.Prelude.{◌≡◌, ◌<◌, ℕ, List, [], ◌∷◌, ◌++◌, length, Result, Ok, Err}
 use Rattle.plan_scope.specs.declared.edge.paths.PathRows.{PathRows}
 use Rattle.plan_scope.specs.declared.edge.paths.PathTexts.{PathTexts}
 use Rattle.plan_scope.specs.declared.fault.Cause.{Cause}
@@ -28,8 +28,12 @@ GivesEdge before now (Ok done) meant = (edge : Edge) × (meant ≡ Ok edge) × (
 GivesEdge before now (Err (Refused cause)) meant = meant ≡ Err cause
 GivesEdge before now (Err Memory) meant = Unit {0}
 
+-- the texts of an edge lie among so many
+abbrev pub AreTexts : ℕ → EdgeMarks → Type 0
+AreTexts count m = (m.command < count) × (m.description < count) × (m.depfile < count) × (m.pool < count)
+
 -- what was answered where the texts of an edge with these paths were to be put behind those before
 abbrev pub GivesMarks : Paths → PathPlaces → (before now : List Text) → Result EdgeMarks StatementFault → Result Edge Cause → Type 0
-GivesMarks paths places before now (Ok m) meant = (meant ≡ Ok (edge_with paths now m)) × (m.paths ≡ places) × (m.texts + 4 ≤ length now) × HasMore before now
+GivesMarks paths places before now (Ok m) meant = (meant ≡ Ok (edge_with paths now m)) × (m.paths ≡ places) × AreTexts (length now) m × HasMore before now
 GivesMarks paths places before now (Err (Refused cause)) meant = meant ≡ Err cause
 GivesMarks paths places before now (Err Memory) meant = Unit {0}

@@ -1,5 +1,5 @@
 -- Edges whose paths and texts are rows of all edges.
-use Rattle.std.specs.Prelude.{◌≤◌, ◌+◌, ℕ, List, [], All, length, map, get_or}
+use Rattle.std.specs.Prelude.{◌≡◌, ◌<◌, ℕ, List, [], All, length, map, get_or}
 use Rattle.plan_parse.specs.declared.path_lists.PathLists.{PathLists}
 use Rattle.plan_scope.specs.declared.manifest.edge_rows.EdgeMarks.{EdgeMarks}
 use Rattle.plan_scope.specs.declared.manifest.edge_rows.EdgeRows.{EdgeRows}
@@ -11,13 +11,13 @@ use Rattle.plan_scope.specs.Scopes.{Text}
 abbrev pub edge_with : PathLists (List Text) → List Text → EdgeMarks → Edge
 edge_with paths texts m = record {
   paths = paths;
-  command = get_or texts m.texts [];
-  description = get_or texts (m.texts + 1) [];
-  depfile = get_or texts (m.texts + 2) [];
+  command = get_or texts m.command [];
+  description = get_or texts m.description [];
+  depfile = get_or texts m.depfile [];
   restat = m.restat;
   generator = m.generator;
   phony = m.phony;
-  pool = get_or texts (m.texts + 3) [];
+  pool = get_or texts m.pool [];
 }
 
 -- an edge, by the paths and the texts of all edges
@@ -27,12 +27,21 @@ edge_at rows texts m = edge_with (paths_at rows m.paths) texts m
 -- the places of an edge lie among so many paths and texts
 pub record IsPlaced (path_count text_count : ℕ) (m : EdgeMarks) : Type 0 where
   pub paths : ArePlaced path_count m.paths
-  pub texts : m.texts + 4 ≤ text_count
+  pub command : m.command < text_count
+  pub description : m.description < text_count
+  pub depfile : m.depfile < text_count
+  pub pool : m.pool < text_count
+
+-- the first text is the empty one
+pub record BeginsEmpty (texts : List Text) : Type 0 where
+  pub some : 0 < length texts
+  pub none : get_or texts 0 [] ≡ []
 
 -- the edges of rows
 abbrev pub edges_in : EdgeRows → List Edge
 edges_in r = map (edge_at r.paths.rows r.texts) r.marks.items
 
--- each lies within them
-abbrev pub AreWithin : EdgeRows → Type 0
-AreWithin r = All (IsPlaced (length r.paths.rows) (length r.texts)) r.marks.items
+-- each lies within them, and the first text is the empty one
+pub record AreWithin (r : EdgeRows) : Type 0 where
+  pub marks : All (IsPlaced (length r.paths.rows) (length r.texts)) r.marks.items
+  pub empty : BeginsEmpty r.texts

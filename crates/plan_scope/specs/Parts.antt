@@ -1,12 +1,11 @@
 -- What is read of a build line.
-use Rattle.std.specs.Prelude.{◌≡◌, ◌∷◌, [], false, List}
+use Rattle.std.specs.Prelude.{◌≡◌, false, List}
 use Rattle.std.specs.List.{list_any}
 use Rattle.plan_text.specs.declared.piece_reader.Piece.{Piece}
 use Rattle.plan_parse.specs.Build.{Build}
 use Rattle.plan_scope.specs.declared.edge.build_line.Parts.{Parts}
 use Rattle.plan_scope.specs.declared.edge.paths.BlockTexts.{BlockTexts}
 use Rattle.plan_scope.specs.declared.edge.paths.PathTexts.{PathTexts}
-use Rattle.plan_scope.specs.declared.edge.variables.Variables.{Variables}
 use Rattle.plan_scope.specs.Scopes.{Text, Name, Bindings, is_too_long}
 use Rattle.plan_scope.specs.Expansion.{EdgeEnvironment}
 use Rattle.plan_scope.specs.Edges.{Paths, block_of, canonical_paths, has_empty, has_long, near, texts_of}
@@ -29,10 +28,6 @@ pub record IsRead (here : Name → Text) (b : Build) (p : Parts) : Type 0 where
 -- what is read of its block and of its paths
 abbrev pub parts_with : BlockTexts → PathTexts → Parts
 parts_with block read = record { block = block; read = read }
-
--- the texts of an edge that are kept
-abbrev pub kept_texts : Variables → List Text
-kept_texts v = v.command ∷ v.description ∷ v.depfile ∷ v.pool ∷ []
 
 -- what its variables are looked up in, by its rule and what names stand for in its file
 abbrev pub environment_from : Parts → Bindings (List Piece) → (Name → Text) → EdgeEnvironment

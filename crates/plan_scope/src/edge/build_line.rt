@@ -1,15 +1,15 @@
 //! The edge of a build line.
 
-ghost use Rattle.std.specs.Prelude.{◌≡◌, ◌≤◌, ◌+◌, ◌++◌, [], List, IfOk, OnOk, length, true, false};
+ghost use Rattle.std.specs.Prelude.{◌≡◌, ◌<◌, ◌+◌, [], List, IfOk, OnOk, get_or, length, true, false};
 ghost use Rattle.plan_scope.specs.Scopes.{Name, Text};
 ghost use Rattle.plan_scope.specs.Edges.{Paths, causes_of, edge_of, edge_or_refusal, first_of, names_no_pool, or_refused, phony_variables, environment_of, variables_of};
 ghost use Rattle.plan_scope.specs.Kept.{EqNames, KeptEqLookup};
 ghost use Rattle.plan_scope.specs.Compiled.{IsCompiledRule};
 ghost use Rattle.plan_scope.specs.HeldEnvironment.{environment_of as held_environment};
-ghost use Rattle.plan_scope.specs.Parts.{IsRead, environment_from, kept_texts, parts_with};
+ghost use Rattle.plan_scope.specs.Parts.{IsRead, environment_from, parts_with};
 ghost use Rattle.plan_scope.specs.EdgePlaces.{ArePlaced};
-ghost use Rattle.plan_scope.specs.EdgeRows.{AreWithin, edge_with};
-ghost use Rattle.plan_scope.specs.EdgeAnswers.{GivesEdge, GivesMarks, HasMore, texts_read};
+ghost use Rattle.plan_scope.specs.EdgeRows.{AreWithin, BeginsEmpty, edge_with};
+ghost use Rattle.plan_scope.specs.EdgeAnswers.{AreTexts, GivesEdge, GivesMarks, HasMore, texts_read};
 ghost use Rattle.plan_scope.specs.ScopeNames.{names_in};
 
 use crate::edge::compiled::CompiledRule;
@@ -99,14 +99,17 @@ fn cause(pools: &PoolNames, parts: &Parts, variables: &Variables) -> Option<Caus
     None
 }
 
-/// Appends the texts that are kept of an edge.
-fn push_texts(texts: &mut RowList<u8>, variables: &Variables) -> Result<(), AllocError>
-    ensures { OnOk result (texts.new ≡ texts.old ++ kept_texts variables.now) }
+/// Puts a text behind those before, and gives its number; the first one's where it is empty.
+fn put_text(texts: &mut RowList<u8>, text: &[u8]) -> Result<u32, AllocError>
+    ensures text { IfOk result (λ n. BeginsEmpty texts.old → (get_or texts.new n [] ≡ text.now) × (n < length texts.new)) }
+    ensures more { OnOk result (HasMore texts.old texts.new) }
 {
-    texts.push(variables.command.as_slice())?;
-    texts.push(variables.description.as_slice())?;
-    texts.push(variables.depfile.as_slice())?;
-    texts.push(variables.pool.as_slice())
+    if text.is_empty() {
+        return Ok(0);
+    }
+    let number = row_count(texts)?;
+    texts.push(text)?;
+    Ok(number)
 }
 
 /// The marks of the edge with these places and variables, whose texts are put behind those before.
@@ -116,20 +119,21 @@ fn marks_of(
     phony: bool,
     texts: &mut RowList<u8>,
 ) -> Result<EdgeMarks, AllocError>
-    ensures edge { IfOk result (λ m. (paths : Paths) → edge_with paths texts.new m ≡ edge_of paths variables.now phony) }
+    ensures edge { IfOk result (λ m. BeginsEmpty texts.old → (paths : Paths) → edge_with paths texts.new m ≡ edge_of paths variables.now phony) }
     ensures places { IfOk result (λ m. m.paths ≡ places) }
-    ensures within { IfOk result (λ m. m.texts + 4 ≤ length texts.new) }
+    ensures within { IfOk result (λ m. BeginsEmpty texts.old → AreTexts (length texts.new) m) }
     ensures more { OnOk result (HasMore texts.old texts.new) }
 {
-    let marks = EdgeMarks {
+    Ok(EdgeMarks {
         paths: places,
-        texts: row_count(texts)?,
+        command: put_text(texts, variables.command.as_slice())?,
+        description: put_text(texts, variables.description.as_slice())?,
+        depfile: put_text(texts, variables.depfile.as_slice())?,
+        pool: put_text(texts, variables.pool.as_slice())?,
         restat: is_present(variables.restat.as_slice()),
         generator: is_present(variables.generator.as_slice()),
         phony,
-    };
-    push_texts(texts, variables)?;
-    Ok(marks)
+    })
 }
 
 /// The marks of the edge with these variables, unless it is refused.
@@ -141,7 +145,7 @@ fn marks_or_refusal(
     phony: bool,
     texts: &mut RowList<u8>,
 ) -> Result<EdgeMarks, StatementFault>
-    ensures { GivesMarks parts.now.read.paths places texts.old texts.new result (or_refused (first_of (causes_of pools.now variables.now parts.now.read.has_empty parts.now.read.has_long parts.now.block.has_long)) (edge_of parts.now.read.paths variables.now phony)) }
+    ensures { BeginsEmpty texts.old → GivesMarks parts.now.read.paths places texts.old texts.new result (or_refused (first_of (causes_of pools.now variables.now parts.now.read.has_empty parts.now.read.has_long parts.now.block.has_long)) (edge_of parts.now.read.paths variables.now phony)) }
 {
     match cause(pools, parts, variables) {
         Some(cause) => Err(StatementFault::Refused(cause)),

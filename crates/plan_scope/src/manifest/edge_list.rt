@@ -10,7 +10,7 @@ use plan_text::RowList;
 use std::marker::Model;
 
 /// The edges of a manifest in the order of their build lines. A contract sees their list. Their paths and their texts
-/// are rows of all edges: an edge takes 48 bytes, and 4 for each path, beside the bytes of its paths and texts.
+/// are rows of all edges: an edge takes 44 bytes, and 4 for each path and each text that isn't empty, beside their bytes.
 #[derive(Debug, Drop)]
 pub struct EdgeList {
     rows: EdgeRows,
@@ -115,28 +115,28 @@ impl<'a> EdgeRef<'a> {
     pub fn command(&self) -> &'a [u8]
         ensures { result.now ≡ self.now.command }
     {
-        self.texts.row(self.marks.texts as usize)
+        self.texts.row(self.marks.command as usize)
     }
 
     /// What is shown in place of the command, where it isn't empty.
     pub fn description(&self) -> &'a [u8]
         ensures { result.now ≡ self.now.description }
     {
-        self.texts.row(self.marks.texts as usize + 1)
+        self.texts.row(self.marks.description as usize)
     }
 
     /// The path of its depfile as expanded; empty where it has none.
     pub fn depfile(&self) -> &'a [u8]
         ensures { result.now ≡ self.now.depfile }
     {
-        self.texts.row(self.marks.texts as usize + 2)
+        self.texts.row(self.marks.depfile as usize)
     }
 
     /// The name of its pool; empty where it has none.
     pub fn pool(&self) -> &'a [u8]
         ensures { result.now ≡ self.now.pool }
     {
-        self.texts.row(self.marks.texts as usize + 3)
+        self.texts.row(self.marks.pool as usize)
     }
 
     /// Whether outputs that its command leaves alone count as if they had never needed building.

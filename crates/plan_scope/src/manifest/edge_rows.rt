@@ -13,8 +13,14 @@ use std::alloc::{AllocError, Global};
 pub struct EdgeMarks {
     /// The places of its paths.
     pub paths: PathPlaces,
-    /// The number of its command, behind which stand its description, its depfile and its pool.
-    pub texts: u32,
+    /// The number of its command.
+    pub command: u32,
+    /// The number of its description.
+    pub description: u32,
+    /// The number of its depfile.
+    pub depfile: u32,
+    /// The number of its pool.
+    pub pool: u32,
     /// Whether outputs that its command leaves alone count as if they had never needed building.
     pub restat: bool,
     /// Whether it makes the manifest's own files: a change of its command alone doesn't run it.
@@ -28,7 +34,7 @@ pub struct EdgeMarks {
 pub struct EdgeRows {
     /// The paths of all edges.
     pub paths: PathRows,
-    /// Four texts of each edge.
+    /// The texts of all edges that aren't empty, behind one that is.
     pub texts: RowList<u8>,
     /// Where each edge has its own.
     pub marks: Vec<EdgeMarks>,
@@ -46,9 +52,11 @@ impl EdgeRows {
         ensures within { IfOk result (λ rows. AreWithin rows) }
         ensures marks { IfOk result (λ rows. rows.marks.items ≡ []) }
     {
+        let mut texts = RowList::new(alloc);
+        texts.push(&[])?;
         Ok(EdgeRows {
             paths: PathRows::new(alloc)?,
-            texts: RowList::new(alloc),
+            texts,
             marks: Vec::with_capacity(alloc, edges)?,
             buffer: Vec::with_capacity(alloc, BUFFER)?,
         })
