@@ -7,4 +7,5 @@ mod memo;
 pub(crate) mod paths;
 pub(crate) mod rule_compiler;
 pub(crate) mod rule_variables;
+pub(crate) mod spare;
 mod variables;

@@ -17,7 +17,8 @@ use crate::edge::expansion::EdgeEnvironment;
 use crate::edge::paths::{BlockTexts, PathRows, PathTexts, block, read_paths, row_count};
 use crate::edge::rule_variables::RuleVariables;
 use crate::edge::variables::{
-    Variables, has_long_text, is_other_deps, is_present, variables_of_phony, variables_of_rule,
+    Variables, has_long_text, is_other_deps, is_present, keep_room, variables_of_phony,
+    variables_of_rule,
 };
 use crate::fault::{Cause, StatementFault};
 use crate::manifest::edge_paths::PathPlaces;
@@ -189,9 +190,10 @@ pub fn push_edge<'a>(
     let read = PathTexts::new(&edges.paths, places);
     let parts = Parts { block, read };
     let environment = environment_with(&parts, &*rule, file);
-    let variables = variables_of_rule(alloc, &environment, compiled, &mut edges.buffer)?;
+    let variables = variables_of_rule(alloc, &environment, compiled, &mut edges.spare)?;
     let marks = marks_or_refusal(pools, &parts, places, &variables, false, &mut edges.texts)?;
     edges.marks.push(marks)?;
+    keep_room(variables, &mut edges.spare);
     Ok(())
 }
 
@@ -212,8 +214,9 @@ pub fn push_phony_edge<'a>(
     let parts = Parts { block, read };
     let rule = RuleVariables::empty(alloc);
     let environment = environment_with(&parts, &rule, file);
-    let variables = variables_of_phony(alloc, &environment, &mut edges.buffer)?;
+    let variables = variables_of_phony(alloc, &environment, &mut edges.spare)?;
     let marks = marks_or_refusal(pools, &parts, places, &variables, true, &mut edges.texts)?;
     edges.marks.push(marks)?;
+    keep_room(variables, &mut edges.spare);
     Ok(())
 }

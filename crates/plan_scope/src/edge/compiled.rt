@@ -8,9 +8,10 @@ ghost use Rattle.plan_scope.specs.Kept.{kept};
 ghost use Rattle.plan_scope.specs.ShellQuoting.{quoted_as};
 
 use crate::edge::expansion::EdgeEnvironment;
+use crate::edge::spare::SpareTexts;
 use crate::scope::held_text::HeldText;
 use crate::scope::small_map::SmallMap;
-use crate::scope::text::{Quoting, append, append_paths, copy_of};
+use crate::scope::text::{Quoting, append, append_paths};
 use plan_text::Items;
 use std::alloc::{AllocError, Global};
 
@@ -91,37 +92,52 @@ fn append_part<'a>(
     }
 }
 
-/// The texts of parts as they stand in an edge, joined. They are put together in a buffer, whatever that held.
+/// A copy of a text, as far as it is kept.
+fn spare_copy(alloc: Global, text: &[u8], spare: &mut SpareTexts) -> Result<Items<u8>, AllocError>
+    ensures { IfOk result (λ copy. kept copy ≡ kept text.now) }
+{
+    match text {
+        [] => Ok(Items::empty(alloc)),
+        _ => {
+            let mut copy = spare.take(alloc);
+            append(&mut copy, text)?;
+            Ok(Items::new(copy))
+        }
+    }
+}
+
+/// The texts of parts as they stand in an edge, joined.
 fn joined_parts<'a>(
     alloc: Global,
     edge: &EdgeEnvironment<'a>,
     quoting: Quoting,
     parts: &[VariablePart],
-    buffer: &mut Vec<u8>,
+    spare: &mut SpareTexts,
 ) -> Result<Items<u8>, AllocError>
     ensures { IfOk result (λ text. kept text ≡ kept (text_of_parts (quoted_as quoting) (environment_of edge.now) parts.now)) }
 {
-    buffer.clear();
+    let mut text = spare.take(alloc);
     for part in parts {
-        append_part(buffer, edge, quoting, *part)?;
+        append_part(&mut text, edge, quoting, *part)?;
     }
-    copy_of(alloc, buffer)
+    Ok(Items::new(text))
 }
 
-/// The text of parts as they stand in an edge. A text or a name alone needs no buffer, and most variables have no part.
+/// The text of parts as they stand in an edge. Most variables have no part, or a name alone.
 pub fn text_of_parts<'a>(
     alloc: Global,
     edge: &EdgeEnvironment<'a>,
     quoting: Quoting,
     parts: &[VariablePart],
-    buffer: &mut Vec<u8>,
+    spare: &mut SpareTexts,
 ) -> Result<Items<u8>, AllocError>
     ensures { IfOk result (λ text. kept text ≡ kept (text_of_parts (quoted_as quoting) (environment_of edge.now) parts.now)) }
 {
     match parts {
         [] => Ok(Items::empty(alloc)),
-        [VariablePart::Literal(text)] => copy_of(alloc, text),
-        [VariablePart::Near(name, text)] => copy_of(alloc, near_text(edge.block, name, text)),
-        _ => joined_parts(alloc, edge, quoting, parts, buffer),
+        [VariablePart::Near(name, text)] => {
+            spare_copy(alloc, near_text(edge.block, name, text), spare)
+        }
+        _ => joined_parts(alloc, edge, quoting, parts, spare),
     }
 }

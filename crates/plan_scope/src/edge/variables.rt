@@ -14,9 +14,10 @@ ghost use Rattle.plan_scope.specs.ShellQuoting.{quoted_as};
 use crate::edge::compiled::{CompiledRule, RuleParts, text_of_parts};
 use crate::edge::expansion::{EdgeEnvironment, append_whole};
 use crate::edge::memo::MemoEntry;
+use crate::edge::spare::SpareTexts;
 use crate::fault::StatementFault;
 use crate::scope::text::Quoting::{Plain, Shell};
-use crate::scope::text::{Quoting, copy_of, is_long};
+use crate::scope::text::{Quoting, is_long};
 use plan_text::Items;
 use std::alloc::{AllocError, Global};
 
@@ -84,14 +85,13 @@ fn no_findings<'a>(alloc: Global) -> Findings<'a>
 
 /// A variable of an edge, expanded for itself; empty where its expansion meets a name that is in use already, which is
 /// kept among the findings.
-/// It is put together in a buffer, whatever that held, so that the text takes no more memory than it needs.
 fn variable<'a>(
     alloc: Global,
     edge: &'a EdgeEnvironment<'a>,
     quoting: Quoting,
     found: &mut Findings<'a>,
     name: &'a [u8],
-    buffer: &mut Vec<u8>,
+    spare: &mut SpareTexts,
 ) -> Result<Items<u8>, AllocError>
     requires unlisted { listed (quoted_as quoting) (environment_of edge.now) name.now ≡ None }
     requires memo { IsMemo (meaning_of (quoted_as quoting) (environment_of edge.now)) found.old.memo.items }
@@ -102,9 +102,9 @@ fn variable<'a>(
     if is_unbound(edge, name) {
         return Ok(Items::empty(alloc));
     }
-    buffer.clear();
-    match append_whole(alloc, edge, quoting, &mut found.memo, name, buffer) {
-        Ok(()) => copy_of(alloc, buffer),
+    let mut text = spare.take(alloc);
+    match append_whole(alloc, edge, quoting, &mut found.memo, name, &mut text) {
+        Ok(()) => Ok(Items::new(text)),
         Err(StatementFault::Refused(_)) => {
             found.has_cycle = true;
             Ok(Items::empty(alloc))
@@ -113,27 +113,26 @@ fn variable<'a>(
     }
 }
 
-/// The variables of an edge with a rule, each expanded in a buffer, whatever that held. Paths in its command and its
-/// description are quoted.
+/// The variables of an edge with a rule, each expanded. Paths in its command and its description are quoted.
 fn expanded_variables<'a>(
     alloc: Global,
     edge: &'a EdgeEnvironment<'a>,
-    buffer: &mut Vec<u8>,
+    spare: &mut SpareTexts,
 ) -> Result<Variables, AllocError>
     ensures { IfOk result (λ v. KeptEqVariables v (variables_of (environment_of edge.now))) }
 {
     let mut plain = no_findings(alloc);
     let mut quoted = no_findings(alloc);
     Ok(Variables {
-        command: variable(alloc, edge, Shell, &mut quoted, b"command", buffer)?,
-        depfile: variable(alloc, edge, Plain, &mut plain, b"depfile", buffer)?,
-        deps: variable(alloc, edge, Plain, &mut plain, b"deps", buffer)?,
-        description: variable(alloc, edge, Shell, &mut quoted, b"description", buffer)?,
-        dyndep: variable(alloc, edge, Plain, &mut plain, b"dyndep", buffer)?,
-        generator: variable(alloc, edge, Plain, &mut plain, b"generator", buffer)?,
-        pool: variable(alloc, edge, Plain, &mut plain, b"pool", buffer)?,
-        restat: variable(alloc, edge, Plain, &mut plain, b"restat", buffer)?,
-        rspfile: variable(alloc, edge, Plain, &mut plain, b"rspfile", buffer)?,
+        command: variable(alloc, edge, Shell, &mut quoted, b"command", spare)?,
+        depfile: variable(alloc, edge, Plain, &mut plain, b"depfile", spare)?,
+        deps: variable(alloc, edge, Plain, &mut plain, b"deps", spare)?,
+        description: variable(alloc, edge, Shell, &mut quoted, b"description", spare)?,
+        dyndep: variable(alloc, edge, Plain, &mut plain, b"dyndep", spare)?,
+        generator: variable(alloc, edge, Plain, &mut plain, b"generator", spare)?,
+        pool: variable(alloc, edge, Plain, &mut plain, b"pool", spare)?,
+        restat: variable(alloc, edge, Plain, &mut plain, b"restat", spare)?,
+        rspfile: variable(alloc, edge, Plain, &mut plain, b"rspfile", spare)?,
         has_cycle: quoted.has_cycle | plain.has_cycle,
     })
 }
@@ -143,22 +142,22 @@ fn compiled_variables<'a>(
     alloc: Global,
     edge: &EdgeEnvironment<'a>,
     parts: &RuleParts,
-    buffer: &mut Vec<u8>,
+    spare: &mut SpareTexts,
 ) -> Result<Variables, AllocError>
     requires compiled { AreCompiled (environment_of edge.now).rule (environment_of edge.now).file parts.now }
     requires left { LeavesRule (environment_of edge.now).rule (environment_of edge.now).block }
     ensures { IfOk result (λ v. KeptEqVariables v (variables_of (environment_of edge.now))) }
 {
     Ok(Variables {
-        command: text_of_parts(alloc, edge, Shell, &parts.command, buffer)?,
-        depfile: text_of_parts(alloc, edge, Plain, &parts.depfile, buffer)?,
-        deps: text_of_parts(alloc, edge, Plain, &parts.deps, buffer)?,
-        description: text_of_parts(alloc, edge, Shell, &parts.description, buffer)?,
-        dyndep: text_of_parts(alloc, edge, Plain, &parts.dyndep, buffer)?,
-        generator: text_of_parts(alloc, edge, Plain, &parts.generator, buffer)?,
-        pool: text_of_parts(alloc, edge, Plain, &parts.pool, buffer)?,
-        restat: text_of_parts(alloc, edge, Plain, &parts.restat, buffer)?,
-        rspfile: text_of_parts(alloc, edge, Plain, &parts.rspfile, buffer)?,
+        command: text_of_parts(alloc, edge, Shell, &parts.command, spare)?,
+        depfile: text_of_parts(alloc, edge, Plain, &parts.depfile, spare)?,
+        deps: text_of_parts(alloc, edge, Plain, &parts.deps, spare)?,
+        description: text_of_parts(alloc, edge, Shell, &parts.description, spare)?,
+        dyndep: text_of_parts(alloc, edge, Plain, &parts.dyndep, spare)?,
+        generator: text_of_parts(alloc, edge, Plain, &parts.generator, spare)?,
+        pool: text_of_parts(alloc, edge, Plain, &parts.pool, spare)?,
+        restat: text_of_parts(alloc, edge, Plain, &parts.restat, spare)?,
+        rspfile: text_of_parts(alloc, edge, Plain, &parts.rspfile, spare)?,
         has_cycle: false,
     })
 }
@@ -169,16 +168,16 @@ pub fn variables_of_rule<'a>(
     alloc: Global,
     edge: &'a EdgeEnvironment<'a>,
     compiled: &CompiledRule,
-    buffer: &mut Vec<u8>,
+    spare: &mut SpareTexts,
 ) -> Result<Variables, AllocError>
     requires { IsCompiledRule (environment_of edge.now).rule (environment_of edge.now).file compiled.now }
     ensures { IfOk result (λ v. KeptEqVariables v (variables_of (environment_of edge.now))) }
 {
     match compiled {
         CompiledRule::Whole(parts) if edge.rule.are_left_by(edge.block) => {
-            compiled_variables(alloc, edge, parts, buffer)
+            compiled_variables(alloc, edge, parts, spare)
         }
-        _ => expanded_variables(alloc, edge, buffer),
+        _ => expanded_variables(alloc, edge, spare),
     }
 }
 
@@ -186,12 +185,12 @@ pub fn variables_of_rule<'a>(
 pub fn variables_of_phony<'a>(
     alloc: Global,
     edge: &'a EdgeEnvironment<'a>,
-    buffer: &mut Vec<u8>,
+    spare: &mut SpareTexts,
 ) -> Result<Variables, AllocError>
     ensures { IfOk result (λ v. KeptEqVariables v (phony_variables (environment_of edge.now))) }
 {
     let mut plain = no_findings(alloc);
-    let dyndep = variable(alloc, edge, Plain, &mut plain, b"dyndep", buffer)?;
+    let dyndep = variable(alloc, edge, Plain, &mut plain, b"dyndep", spare)?;
     Ok(Variables {
         command: Items::empty(alloc),
         depfile: Items::empty(alloc),
@@ -242,4 +241,17 @@ pub fn has_long_text(variables: &Variables) -> bool
         &variables.restat,
         &variables.rspfile,
     ])
+}
+
+/// Keeps the room of the texts of variables that are no longer needed.
+pub fn keep_room(variables: Variables, spare: &mut SpareTexts) {
+    spare.keep(variables.command);
+    spare.keep(variables.depfile);
+    spare.keep(variables.deps);
+    spare.keep(variables.description);
+    spare.keep(variables.dyndep);
+    spare.keep(variables.generator);
+    spare.keep(variables.pool);
+    spare.keep(variables.restat);
+    spare.keep(variables.rspfile);
 }

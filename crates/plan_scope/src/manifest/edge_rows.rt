@@ -4,6 +4,7 @@ ghost use Rattle.std.specs.Prelude.{◌≡◌, [], IfOk};
 ghost use Rattle.plan_scope.specs.EdgeRows.{AreWithin, edges_in};
 
 use crate::edge::paths::PathRows;
+use crate::edge::spare::SpareTexts;
 use crate::manifest::edge_paths::PathPlaces;
 use plan_text::RowList;
 use std::alloc::{AllocError, Global};
@@ -38,12 +39,9 @@ pub struct EdgeRows {
     pub texts: RowList<u8>,
     /// Where each edge has its own.
     pub marks: Vec<EdgeMarks>,
-    /// What a text is put together in, whatever it holds.
-    pub buffer: Vec<u8>,
+    /// Room for texts that are put together.
+    pub spare: SpareTexts,
 }
-
-/// How many bytes the buffer has room for at first, enough for most commands.
-const BUFFER: usize = 1000;
 
 impl EdgeRows {
     /// No edge, with room for so many.
@@ -58,7 +56,7 @@ impl EdgeRows {
             paths: PathRows::new(alloc)?,
             texts,
             marks: Vec::with_capacity(alloc, edges)?,
-            buffer: Vec::with_capacity(alloc, BUFFER)?,
+            spare: SpareTexts::new(alloc),
         })
     }
 }

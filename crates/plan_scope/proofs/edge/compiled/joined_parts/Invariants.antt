@@ -6,4 +6,4 @@ use Rattle.plan_scope.specs.ShellQuoting.{quoted_as}
 use Rattle.plan_scope.proofs.edge.compiled.joined_parts.Given as goal
 
 abbrev pub invariant-loop-part : goal.invariant-loop-part
-invariant-loop-part l = kept l.buffer.items ≡ kept (text_of_parts (quoted_as l.quoting) (environment_of l.edge) (take l.part-index l.parts))
+invariant-loop-part l = kept l.text.items ≡ kept (text_of_parts (quoted_as l.quoting) (environment_of l.edge) (take l.part-index l.parts))
