@@ -17,6 +17,19 @@ pub record Build : Type 0 where
   pub waits : List ℕ
   pub rank : ℕ
 
+-- no edge of a manifest
+abbrev pub no_edge : ManifestEdge
+no_edge = record {
+  paths = record { outputs = []; implicit_outputs = []; inputs = []; implicit_inputs = []; order_only_inputs = [] };
+  command = [];
+  description = [];
+  depfile = [];
+  restat = false;
+  generator = false;
+  phony = false;
+  pool = [];
+}
+
 -- a phony loses its own outputs from its inputs
 abbrev pub without_own : Bool → (outputs inputs : List ℕ) → List ℕ
 without_own true outputs inputs = filter (λ f. not (is_member f outputs)) inputs

@@ -29,8 +29,7 @@ pub(crate) struct Build<'a> {
 
 impl<'a> Model for Build<'a> {
     ghost use Rattle.std.specs.Prelude.{◌<◌, ◌≤◌, drop, get_or, length, slice_range};
-    ghost use Rattle.plan_scope.specs.EdgeRows.{no_edge};
-    ghost use Rattle.plan_compile.specs.Builds.{Build};
+    ghost use Rattle.plan_compile.specs.Builds.{Build, no_edge};
 
     ghost Value = { Build };
 

@@ -1,8 +1,7 @@
 use Rattle.std.proofs.Common.{◌≡◌, ◌≤◌, ◌<◌, ◌∙◌, Bool, List, [], ℕ, ap, arith, sym, take, drop, get_or, length, ◌-◌}
 use Rattle.std.specs.Prelude.{slice_index}
 use Rattle.plan_scope.specs.Edge.{Edge as EdgeMeant}
-use Rattle.plan_scope.specs.EdgeRows.{no_edge}
-use Rattle.plan_compile.specs.Builds.{named_count, without_made, without_own}
+use Rattle.plan_compile.specs.Builds.{named_count, no_edge, without_made, without_own}
 use Rattle.plan_compile.proofs.BuildLemmas.{AreCut, cuts, same_build}
 use Rattle.plan_compile.proofs.ListLemmas.{some_is}
 use Rattle.plan_compile.proofs.MemberLemmas.{index_or, in_take, in_drop}
