@@ -70,9 +70,13 @@ pub fn do_compile<S: Source, W: Sink>(
 {
     let manifest = manifest_at(alloc, source, path)?;
     loaded_manifests_are_sound::<S>();
-    let image = image_of(alloc, &manifest)?;
+    let image = image_of(alloc, &manifest);
     // It is not freed piece by piece: the program ends soon.
     forget(manifest);
+    let image = match image {
+        Ok(image) => image,
+        Err(fault) => return Err(fault),
+    };
     let Ok(failed) = write_fault(alloc, output) else {
         return Err(no_memory(alloc));
     };
