@@ -19,6 +19,7 @@ use crate::fault::ParseFault;
 use crate::path_parts::checked_len;
 use crate::span::{Span, number_of};
 use crate::statement::Binding;
+use memchr::memchr2;
 use plan_text::{
     Mode, PieceList, SmallText, TextFault, begins, escape_len, gap_len, name_len, pieces_at,
     plain_is_read,
@@ -140,11 +141,24 @@ pub fn value_at(alloc: Global, p: Cursor<'_>) -> Result<PieceList, ParseFault>
     }
 }
 
+/// Values of fewer bytes are gone through byte by byte: a search by groups pays for longer ones alone.
+const SHORT_VALUE: usize = 32;
+
+/// Whether no byte of a short value is a `$` or NUL.
+fn is_short_plain(value: &[u8]) -> bool
+    ensures { result ≡ true → IsPlainValue value.now }
+{
+    !value.iter().any(|b| matches!(*b, b'$' | 0))
+}
+
 /// Whether each byte of a value stands for itself: none is a `$` or NUL.
 fn is_plain_value(value: &[u8]) -> bool
     ensures { result ≡ true → IsPlainValue value.now }
 {
-    !value.iter().any(|b| matches!(*b, b'$' | 0))
+    if value.len() < SHORT_VALUE {
+        return is_short_plain(value);
+    }
+    memchr2(b'$', 0, value).is_none()
 }
 
 /// The rest of the line as a value, kept beside its text.
