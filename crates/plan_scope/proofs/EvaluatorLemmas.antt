@@ -1,7 +1,6 @@
 -- One more statement evaluated. Serves src/manifest/evaluator.rt.
-use Rattle.std.proofs.Common.{◌≡◌, ◌≢◌, ℕ, ◌+◌, ◌<◌, Bool, true, false, ◌||◌, cond, eqb, List, [], ◌∷◌, ◌++◌, length, Option, Some, None, Result, Ok, Err, refl, ap, sym, ◌∙◌, take, drop, get_or, bytes_eq, option_map, append-nil, append_assoc, arith, length-append}
+use Rattle.std.proofs.Common.{◌≡◌, ◌≢◌, ℕ, ◌+◌, Bool, true, false, ◌||◌, cond, eqb, List, [], ◌∷◌, ◌++◌, length, Option, Some, None, Result, Ok, Err, refl, ap, sym, ◌∙◌, bytes_eq, option_map, append-nil, append_assoc, arith, length-append}
 use Rattle.std.specs.Prelude.{codes, OnOk, flat_map}
-use Rattle.std.proofs.lemmas.List.{take_more}
 use Rattle.std.proofs.lemmas.List.Concat.{flat_map-append}
 use Rattle.std.proofs.lemmas.List.Folds.{list_any-append}
 use Rattle.plan_text.specs.declared.piece_reader.Piece.{Piece}
@@ -26,7 +25,6 @@ use Rattle.plan_scope.specs.Evaluation.{GivesMore, IsLocated, own_of}
 use Rattle.plan_scope.specs.EdgeRows.{AreWithin, edges_in}
 use Rattle.plan_scope.specs.EdgeAnswers.{GivesEdge}
 use Rattle.plan_scope.specs.Outcomes.{Gives}
-use Rattle.plan_scope.proofs.ListLemmas.{one_dropped}
 use Rattle.plan_scope.proofs.ScopeLemmas.{agrees_more, same_bound}
 
 -- names of pools with those of one more statement
@@ -40,12 +38,10 @@ names_behind held meant more same n =
     list_any-append (bytes_eq n) held more ∙ (ap (λ (t : Bool). t || is_among more n) (same n) ∙ sym (list_any-append (bytes_eq n) meant more))
 
 -- the names of the pools of one more statement
-pub pools_taken : (all : List TreeStatement) (i : ℕ) (l : TreeStatement) (held now : List Name) → i < length all → l ≡ get_or all i l → EqNames held (pools_of (take i all))
-    → ((n : Name) → is_among now n ≡ is_among (held ++ pools_in l.kind) n) → EqNames now (pools_of (take (i + 1) all))
-pools_taken all i l held now lt e same h n =
-    let whole : pools_of (take (i + 1) all) ≡ pools_of (take i all) ++ pools_in l.kind =
-    ap pools_of (take_more all i l lt ∙ ap (λ x. take i all ++ x ∷ []) (sym e)) ∙ pools_more (take i all) l in
-    h n ∙ (names_behind held (pools_of (take i all)) (pools_in l.kind) same n ∙ ap (λ names. is_among names n) (sym whole))
+pub pools_taken : (above : List TreeStatement) (l : TreeStatement) (held now : List Name) → EqNames held (pools_of above)
+    → ((n : Name) → is_among now n ≡ is_among (held ++ pools_in l.kind) n) → EqNames now (pools_of (above ++ l ∷ []))
+pools_taken above l held now same h n =
+    h n ∙ (names_behind held (pools_of above) (pools_in l.kind) same n ∙ ap (λ names. is_among names n) (sym (pools_more above l)))
 
 -- the own scope of a statement
 pub own_bound : {V : Type 0} (scopes : List ℕ) (own : ℕ) (word name : Name) (v w : V) → own_of scopes ≡ Some own → word ≡ name → v ≡ w → (own, (word, v)) ∷ [] ≡ in_own scopes name w
@@ -222,16 +218,6 @@ pub on_ok_always : {T E P : Type 0} (r : Result T E) → P → OnOk r P
 on_ok_always (Ok x) p = p
 on_ok_always (Err e) p = tt
 
--- the statements up to the next one
-pub taken_more : (all : List TreeStatement) (i : ℕ) (l : TreeStatement) → i < length all → l ≡ get_or all i l → take (i + 1) all ≡ take i all ++ l ∷ []
-taken_more all i l lt e = take_more all i l lt ∙ ap (λ x. take i all ++ x ∷ []) (sym e)
-
-past_at : (all : List TreeStatement) (i : ℕ) (l : TreeStatement) → i < length all → l ≡ get_or all i l
-    → manifest_past all (take i all) (drop i all) ≡ in_front l (manifest_of_kind all (take i all) l.scopes l.kind) (manifest_past all (take (i + 1) all) (drop (i + 1) all))
-past_at all i l lt e =
-    ap (manifest_past all (take i all)) (one_dropped all i l lt e)
-    ∙ ap (λ (x : List TreeStatement). in_front l (manifest_of_kind all (take i all) l.scopes l.kind) (manifest_past all x (drop (i + 1) all))) (sym (taken_more all i l lt e))
-
 with_more_assoc : (a b c : Manifest) → with_more (with_more a b) c ≡ with_more a (with_more b c)
 with_more_assoc a b c =
     ap (λ (l : List Edge). record { edges = l; pools = (a.pools ++ b.pools) ++ c.pools; defaults = (a.defaults ++ b.defaults) ++ c.defaults }) (append_assoc a.edges b.edges c.edges)
@@ -243,24 +229,24 @@ front_more before given l (Ok more) = ap (λ (m : Manifest). Ok m) (with_more_as
 front_more before given l (Err e) = refl
 
 -- one more statement that is well
-pub next_given : (all : List TreeStatement) (i : ℕ) (l : TreeStatement) (before now : Manifest) (meant : Result Manifest ScopeFault) → i < length all → l ≡ get_or all i l
-    → GivesMore before now (Ok tt) (manifest_of_kind all (take i all) l.scopes l.kind)
-    → with_front before (manifest_past all (take i all) (drop i all)) ≡ meant
-    → with_front now (manifest_past all (take (i + 1) all) (drop (i + 1) all)) ≡ meant
-next_given all i l before now meant lt e g h =
-    let more = manifest_past all (take (i + 1) all) (drop (i + 1) all) in
+pub next_given : (all above : List TreeStatement) (l : TreeStatement) (rest next : List TreeStatement) (before now : Manifest) (meant : Result Manifest ScopeFault) → rest ≡ l ∷ next
+    → GivesMore before now (Ok tt) (manifest_of_kind all above l.scopes l.kind)
+    → with_front before (manifest_past all above rest) ≡ meant
+    → with_front now (manifest_past all (above ++ l ∷ []) next) ≡ meant
+next_given all above l rest next before now meant e g h =
+    let more = manifest_past all (above ++ l ∷ []) next in
     ap (λ (m : Manifest). with_front m more) g.2
     ∙ (front_more before g.0 l more
     ∙ (ap (λ (r : Result Manifest Cause). with_front before (in_front l r more)) (sym g.1)
-    ∙ (ap (with_front before) (sym (past_at all i l lt e)) ∙ h)))
+    ∙ (ap (λ (x : List TreeStatement). with_front before (manifest_past all above x)) (sym e) ∙ h)))
 
 -- a statement that is refused
-pub fault_given : (all : List TreeStatement) (i : ℕ) (l : TreeStatement) (before now : Manifest) (meant : Result Manifest ScopeFault) (fault : StatementFault) (r : ScopeFault) → i < length all → l ≡ get_or all i l
-    → GivesMore before now (Err fault) (manifest_of_kind all (take i all) l.scopes l.kind)
-    → with_front before (manifest_past all (take i all) (drop i all)) ≡ meant
+pub fault_given : (all above : List TreeStatement) (l : TreeStatement) (rest next : List TreeStatement) (before now : Manifest) (meant : Result Manifest ScopeFault) (fault : StatementFault) (r : ScopeFault) → rest ≡ l ∷ next
+    → GivesMore before now (Err fault) (manifest_of_kind all above l.scopes l.kind)
+    → with_front before (manifest_past all above rest) ≡ meant
     → IsLocated fault l r
     → r ≢ scope.Memory → meant ≡ Err r
-fault_given all i l before now meant (Refused cause) r lt e g h k not =
-    let more = manifest_past all (take (i + 1) all) (drop (i + 1) all) in
-    sym h ∙ (ap (with_front before) (past_at all i l lt e) ∙ (ap (λ (r : Result Manifest Cause). with_front before (in_front l r more)) g ∙ ap (λ (f : ScopeFault). Err f) (sym (k not))))
-fault_given all i l before now meant Memory r lt e g h k not = elim (not k) [ ]
+fault_given all above l rest next before now meant (Refused cause) r e g h k not =
+    let more = manifest_past all (above ++ l ∷ []) next in
+    sym h ∙ (ap (λ (x : List TreeStatement). with_front before (manifest_past all above x)) e ∙ (ap (λ (r : Result Manifest Cause). with_front before (in_front l r more)) g ∙ ap (λ (f : ScopeFault). Err f) (sym (k not))))
+fault_given all above l rest next before now meant Memory r e g h k not = elim (not k) [ ]

@@ -12,9 +12,11 @@ pub mod EdgeRowLemmas
 pub mod PathPartLemmas
 pub mod VariableLemmas
 pub mod ListLemmas
+pub mod StretchLemmas
 pub mod PoolNameLemmas
 pub mod PoolLemmas
 pub mod RuleLemmas
+pub mod UpToLemmas
 pub mod LoaderLemmas
 pub mod TreeLemmas
 pub mod EvaluatorLemmas

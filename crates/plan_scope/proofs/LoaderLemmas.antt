@@ -1,9 +1,15 @@
 -- What is loaded, piece by piece. Serves src/tree/loader.rt.
-use Rattle.std.proofs.Common.{◌≡◌, ℕ, zero, suc, ◌+◌, ◌-◌, ◌<◌, ◌≤◌, inl, inr, Bool, true, false, ◌==◌, List, [], ◌∷◌, ◌++◌, length, map, max, Option, Some, None, Result, Ok, Err, refl, ap, sym, subst, ◌∙◌, append-nil, arith}
+use Rattle.std.proofs.Common.{◌≡◌, ◌≢◌, ℕ, zero, suc, ◌+◌, ◌-◌, ◌<◌, ◌≤◌, inl, inr, Bool, true, false, ◌==◌, List, [], ◌∷◌, ◌++◌, length, map, Option, Some, None, Result, Ok, Err, refl, ap, sym, subst, ◌∙◌, option_map, get_or, take, drop, arith}
+use Rattle.std.specs.Prelude.{slice_get}
+use Rattle.std.proofs.Math.Seq.{take-length}
 use Rattle.std.proofs.lemmas.Bool.{lt-ltb, le-ltb, ne_eqb}
+use Rattle.std.proofs.lemmas.List.{length-map, length-take-le, take-append-drop, take-append-le, take_more, get_or-map}
+use Rattle.std.proofs.lemmas.Option.{get_or_from_slice_get, slice_get-map}
 use Rattle.plan_text.specs.declared.piece_reader.Piece.{Piece}
 use Rattle.plan_parse.specs.declared.fault.ParseFault.{ParseFault}
 use Rattle.plan_parse.specs.declared.compact.CompactStatement.{CompactStatement}
+use Rattle.plan_parse.specs.Compact.{said_in}
+use Rattle.plan_parse.specs.PathLists.{between}
 use Rattle.plan_parse.specs.Kinds.{Statement}
 use Rattle.plan_parse.specs.Kinds.{StatementKind}
 use Rattle.plan_parse.specs.Kinds as kind
@@ -13,27 +19,31 @@ use Rattle.plan_scope.specs.declared.fault.Cause.TheVariants.{IncludeDepth, Empt
 use Rattle.plan_scope.specs.declared.fault.StatementFault.{StatementFault}
 use Rattle.plan_scope.specs.declared.fault.ScopeFault.{ScopeFault}
 use Rattle.plan_scope.specs.declared.fault.ScopeFault.TheVariants.{SourceMissing, Parse, Refused, LoadMemory, Memory}
+use Rattle.plan_scope.specs.declared.tree.File.{File}
+use Rattle.plan_scope.specs.declared.tree.loader.Include.{Include}
+use Rattle.plan_scope.specs.ParsedTexts.{statements_in}
+use Rattle.plan_scope.specs.FileStatements.{statement_at, statements_at}
+use Rattle.plan_scope.specs.LoadingUpTo.{IsInclude, IsNext, LoadsBetween, LoadsFrom, end_of, no_files}
 use Rattle.plan_scope.specs.Trees.{TreeStatement}
-use Rattle.plan_scope.specs.Scopes.{Text, Name, ScopedBindings, lookup, expand, bound_by, bound_in, is_long_path, is_empty}
+use Rattle.plan_scope.specs.Scopes.{Text, Name, lookup, expand, bound_by, is_long_path, is_empty}
 use Rattle.plan_text.specs.Limits.{max_path}
-use Rattle.plan_scope.specs.Kept.{kept, KeptEqScoped}
-use Rattle.plan_scope.specs.Loading.{FileContents, Outcome, PathSet, LoadsFirst, Loads, IsMissing, cause_of_path, cause_to_load, greatest_scope, own_scope, scopes_in, included_by}
+use Rattle.plan_scope.specs.Kept.{kept}
+use Rattle.plan_scope.specs.Loading.{FileContents, Outcome, PathSet, LoadsFirst, Loads, IsMissing, cause_of_path, cause_to_load, scopes_in, included_by}
 use Rattle.plan_scope.specs.LoadingSteps.{FileAnswers, RestAnswers, GoesOn, LoadsStatement, LoadsStatements, LoadsParsed, LoadsFile, LoadsWithin}
 use Rattle.plan_scope.specs.Edges.{first_of}
 use Rattle.plan_scope.specs.Sources.{SameFiles}
-use Rattle.plan_scope.specs.LoaderAnswers.{Answers, LoadsOne, IsIncluded, never, includes}
+use Rattle.plan_scope.specs.LoaderAnswers.{Answers, LoadsOne, IsIncluded, never, includes, path_included}
+use Rattle.plan_scope.proofs.ListLemmas.{dropped_at}
 use Rattle.plan_scope.proofs.RuleLemmas.{by_rules}
-use Rattle.plan_scope.proofs.ScopeLemmas.{agrees_more}
 use Rattle.plan_scope.proofs.TextLemmas.{Same, same_from_kept}
 
--- What holds between two statements of a file: no read failed, the source answers as before, the statements behind are
--- left, and those so far are loaded.
-pub record LoadsSoFar (gives gives_now : FileContents) (fails fails_now : PathSet) (before now left : ℕ) (path : Text) (scopes : List ℕ) (said : CompactStatement → Statement)
-    (above so_far : List TreeStatement) (done behind all : List CompactStatement) : Type 0 where
+-- What holds between two statements of a file: no read failed, the source answers as before, and the statements so far
+-- are loaded.
+pub record LoadsSoFar (gives gives_now : FileContents) (fails fails_now : PathSet) (before now left : ℕ) (f : File) (above so_far : List TreeStatement) (start : ℕ) : Type 0 where
   pub unfailed : now ≡ before
   pub same : SameFiles gives_now fails_now gives fails
-  pub is_left : done ++ behind ≡ all
-  pub is_loaded : LoadsStatements (includes gives never left) left path scopes above (map said done) (Ok so_far)
+  pub within : start ≤ length f.parsed.value.statements
+  pub is_loaded : LoadsStatements (includes gives never left) left f.path f.scopes above (take start (statements_in f.parsed.value)) (Ok so_far)
 
 goes_wider : (next more : RestAnswers) (inner out : Outcome) → ((statements : List TreeStatement) (o : Outcome) → next statements o → more statements o) → GoesOn next inner out → GoesOn more inner out
 goes_wider next more (Ok statements) out h r = h statements out r
@@ -148,7 +158,7 @@ statement_then answers next more above l statements out h None None r = h (above
 statement_then answers next more above l statements out h None (Some file) r = (r.0, r.1, goes_then next more r.0 statements out h r.2)
 
 -- statements, and those behind them
-all_then : (answers : FileAnswers) (left : ℕ) (path : Text) (scopes : List ℕ) (front back : List Statement) (above statements : List TreeStatement) (out : Outcome)
+pub all_then : (answers : FileAnswers) (left : ℕ) (path : Text) (scopes : List ℕ) (front back : List Statement) (above statements : List TreeStatement) (out : Outcome)
     → LoadsStatements answers left path scopes above front (Ok statements) → LoadsStatements answers left path scopes statements back out → LoadsStatements answers left path scopes above (front ++ back) out
 all_then answers left path scopes [] back above statements out r q =
     let e : statements ≡ above = cc in
@@ -176,7 +186,7 @@ one_wider g h m n gh mn left above l out r =
     (cause_to_load left (lookup (bound_by above) l.scopes) l.kind) (included_by (lookup (bound_by above) l.scopes) l.kind) out r
 
 -- one more statement is loaded
-pub goes_on : (g h : FileContents) (left : ℕ) (path : Text) (scopes : List ℕ) (front : List Statement) (s : Statement) (above mid statements : List TreeStatement)
+goes_on : (g h : FileContents) (left : ℕ) (path : Text) (scopes : List ℕ) (front : List Statement) (s : Statement) (above mid statements : List TreeStatement)
     → ((p : Text) (bytes : Option (List ℕ)) → g p bytes → h p bytes)
     → LoadsStatements (includes h never left) left path scopes above front (Ok mid)
     → LoadsOne (includes g never left) left mid (record { path = path; scopes = scopes; offset = s.offset; kind = s.kind }) (Ok statements)
@@ -186,7 +196,7 @@ goes_on g h left path scopes front s above mid statements gh r q =
     (one_wider g h never never gh (λ p x. x) left mid (record { path = path; scopes = scopes; offset = s.offset; kind = s.kind }) (Ok statements) q)
 
 -- a statement is not loaded
-pub stops : (g h : FileContents) (f k : PathSet) (b c n left : ℕ) (path : Text) (scopes : List ℕ) (front : List Statement) (s : Statement) (back all : List Statement) (above mid : List TreeStatement) (fault : ScopeFault)
+stops : (g h : FileContents) (f k : PathSet) (b c n left : ℕ) (path : Text) (scopes : List ℕ) (front : List Statement) (s : Statement) (back all : List Statement) (above mid : List TreeStatement) (fault : ScopeFault)
     → ((p : Text) (bytes : Option (List ℕ)) → g p bytes → h p bytes) → ((p : Text) → f p → k p) → b ≡ c → front ++ s ∷ back ≡ all
     → LoadsStatements (includes h never left) left path scopes above front (Ok mid)
     → Answers g f b n (λ missing out. LoadsOne (includes g missing left) left mid (record { path = path; scopes = scopes; offset = s.offset; kind = s.kind }) out) (Err fault)
@@ -200,6 +210,129 @@ stops g h f k b c n left path scopes front s back all above mid fault gh fk e w 
     (one_stops (includes h wide left) (λ statements o. LoadsStatements (includes h wide left) left path scopes statements back o) mid l fault
     (cause_to_load left (lookup (bound_by mid) scopes) s.kind) (included_by (lookup (bound_by mid) scopes) s.kind)
     (one_wider g h m wide gh mw left mid l (Err fault) x)))) a
+
+-- a fault, by what is loaded whatever is missing
+fault_answer : (h : FileContents) (k : PathSet) (c n : ℕ) (R : PathSet → Outcome → Type 0) (fault : ScopeFault) → n ≡ c → ((m : PathSet) → fault ≢ LoadMemory → R m (Err fault)) → Answers h k c n R (Err fault)
+fault_answer h k c n R LoadMemory e r = e
+fault_answer h k c n R (SourceMissing path) e r = r (IsMissing h k c n) (λ x. cc)
+fault_answer h k c n R (Parse path fault) e r = (e, r never (λ x. cc))
+fault_answer h k c n R (Refused path offset cause) e r = (e, r never (λ x. cc))
+fault_answer h k c n R Memory e r = (e, r never (λ x. cc))
+
+-- items up to one number, and those up to another
+take_then : {X : Type 0} (start end : ℕ) (xs : List X) → start ≤ end → end ≤ length xs → take start xs ++ between start end xs ≡ take end xs
+take_then start end xs le lt =
+    let f : length (take end xs) ≡ end = length-take-le end xs lt in
+    ap (λ x. x ++ between start end xs)
+    (ap (take start) (sym (take-append-drop end xs)) ∙ take-append-le start (take end xs) (drop end xs) (omega (arith, f, le)))
+    ∙ take-append-drop start (take end xs)
+
+-- statements that include no file, whatever may be included
+from_none : (answers : FileAnswers) (left : ℕ) (path : Text) (scopes : List ℕ) (statements : List Statement) (above : List TreeStatement) (out : Outcome) → LoadsStatements no_files left path scopes above statements out → LoadsStatements answers left path scopes above statements out
+from_none answers left path scopes statements above out r = all_wider no_files answers (λ p s a o x. absurd x) left path scopes statements above out r
+
+-- statements that include no file, behind those so far
+up_to_more : (h : FileContents) (left : ℕ) (f : File) (start end : ℕ) (above mid statements : List TreeStatement) → start ≤ end → end ≤ length f.parsed.value.statements
+    → LoadsStatements (includes h never left) left f.path f.scopes above (take start (statements_in f.parsed.value)) (Ok mid)
+    → LoadsBetween f start end mid (Ok statements)
+    → LoadsStatements (includes h never left) left f.path f.scopes above (take end (statements_in f.parsed.value)) (Ok statements)
+up_to_more h left f start end above mid statements le lt r q =
+    let all = statements_in f.parsed.value in
+    let within : end ≤ length all = subst (λ (n : ℕ). end ≤ n) (sym (length-map f.parsed.value.statements (said_in f.parsed.value.text f.parsed.value.lists))) lt in
+    subst (λ (x : List Statement). LoadsStatements (includes h never left) left f.path f.scopes above x (Ok statements)) (take_then start end all le within)
+    (all_then (includes h never left) left f.path f.scopes (take start all) (between start end all) above mid (Ok statements) r
+    (from_none (includes h never left) left f.path f.scopes (between start end all) mid (Ok statements) (q left)))
+
+-- no statement behind those so far includes a file
+pub up_to_ends : (h : FileContents) (left : ℕ) (f : File) (start : ℕ) (above mid statements : List TreeStatement) (include : Option Include) → include ≡ None → start ≤ length f.parsed.value.statements
+    → LoadsStatements (includes h never left) left f.path f.scopes above (take start (statements_in f.parsed.value)) (Ok mid)
+    → LoadsBetween f start (end_of f include) mid (Ok statements)
+    → LoadsStatements (includes h never left) left f.path f.scopes above (statements_in f.parsed.value) (Ok statements)
+up_to_ends h left f start above mid statements include e le r q =
+    let all = statements_in f.parsed.value in
+    let count = length f.parsed.value.statements in
+    let same : length all ≡ count = length-map f.parsed.value.statements (said_in f.parsed.value.text f.parsed.value.lists) in
+    subst (λ (x : List Statement). LoadsStatements (includes h never left) left f.path f.scopes above x (Ok statements)) (ap (λ (n : ℕ). take n all) (sym same) ∙ take-length all)
+    (up_to_more h left f start count above mid statements le (omega arith) r (subst (λ (o : Option Include). LoadsBetween f start (end_of f o) mid (Ok statements)) e q))
+
+-- a fault of a statement that includes no file, behind those so far
+pub up_to_stops : (h : FileContents) (k : PathSet) (c n left : ℕ) (f : File) (start : ℕ) (above mid : List TreeStatement) (fault : ScopeFault) → n ≡ c
+    → LoadsStatements (includes h never left) left f.path f.scopes above (take start (statements_in f.parsed.value)) (Ok mid)
+    → (fault ≢ LoadMemory → LoadsFrom f start mid (Err fault))
+    → Answers h k c n (λ missing out. LoadsStatements (includes h missing left) left f.path f.scopes above (statements_in f.parsed.value) out) (Err fault)
+up_to_stops h k c n left f start above mid fault e r q =
+    let all = statements_in f.parsed.value in
+    fault_answer h k c n (λ missing out. LoadsStatements (includes h missing left) left f.path f.scopes above all out) fault e
+    (λ m not. subst (λ (x : List Statement). LoadsStatements (includes h m left) left f.path f.scopes above x (Err fault)) (take-append-drop start all)
+    (all_then (includes h m left) left f.path f.scopes (take start all) (drop start all) above mid (Err fault)
+    (all_wider (includes h never left) (includes h m left) (includes_wider h h never m (λ p bytes x. x) (λ p x. absurd x) left) left f.path f.scopes (take start all) above (Ok mid) r)
+    (from_none (includes h m left) left f.path f.scopes (drop start all) mid (Err fault) (q not left))))
+
+-- the statement of a file that stands at this place
+abbrev StandsAt : File → ℕ → TreeStatement → Type 0
+StandsAt f place l = (c : CompactStatement) × (get_or f.parsed.value.statements place c ≡ c) × (l ≡ statement_at f c)
+
+stands_at : (f : File) (place : ℕ) (l : TreeStatement) → slice_get (statements_at f) place ≡ Some l → StandsAt f place l
+stands_at f place l e = found (slice_get f.parsed.value.statements place) refl (sym (slice_get-map (statement_at f) f.parsed.value.statements place) ∙ e)
+  where
+    found : (o : Option CompactStatement) → slice_get f.parsed.value.statements place ≡ o → option_map (statement_at f) o ≡ Some l → StandsAt f place l
+    found None is e = cc
+    found (Some c) is e = let same : statement_at f c ≡ l = cc in (c, get_or_from_slice_get f.parsed.value.statements place c c is, sym same)
+
+-- a statement that includes a file sees what its file does
+pub included_scopes : (f : File) (start : ℕ) (include : Option Include) (i : Include) → include ≡ Some i → IsNext f start include → 0 < length f.scopes → 0 < length i.statement.scopes
+included_scopes f start include i e next lt =
+    let at : IsInclude f start i = subst (λ (o : Option Include). IsNext f start o) e next in
+    let s = stands_at f i.place i.statement at.stands in
+    subst (λ (x : TreeStatement). 0 < length x.scopes) (sym s.2) lt
+
+pub next_is : (f : File) (start : ℕ) (include : Option Include) (i : Include) → include ≡ Some i → IsNext f start include → IsInclude f start i
+next_is f start include i e next = subst (λ (o : Option Include). IsNext f start o) e next
+
+-- the item at a place, seen by a function
+seen_at : {X Y : Type 0} (g : X → Y) (xs : List X) (n : ℕ) (x : X) → n < length xs → get_or xs n x ≡ x → get_or (map g xs) n (g x) ≡ g x
+seen_at g xs n x lt e = get_or-map g xs n x (g x) lt ∙ ap g e
+
+-- statements that include no file, behind those so far, and one that includes a file
+pub include_more : (g h : FileContents) (left : ℕ) (f : File) (start : ℕ) (include : Option Include) (i : Include) (above mid plain statements : List TreeStatement) → ((p : Text) (bytes : Option (List ℕ)) → g p bytes → h p bytes)
+    → include ≡ Some i → IsNext f start include
+    → LoadsStatements (includes h never left) left f.path f.scopes above (take start (statements_in f.parsed.value)) (Ok mid)
+    → LoadsBetween f start (end_of f include) mid (Ok plain)
+    → LoadsOne (includes g never left) left plain i.statement (Ok statements)
+    → LoadsStatements (includes h never left) left f.path f.scopes above (take (i.place + 1) (statements_in f.parsed.value)) (Ok statements)
+include_more g h left f start include i above mid plain statements gh e next r q one =
+    let all = statements_in f.parsed.value in
+    let said = said_in f.parsed.value.text f.parsed.value.lists in
+    let at = next_is f start include i e next in
+    let s = stands_at f i.place i.statement at.stands in
+    let lt : i.place < length all = subst (λ (n : ℕ). i.place < n) (sym (length-map f.parsed.value.statements said)) at.within in
+    let front = up_to_more h left f start i.place above mid plain at.after (omega (arith, at.within)) r (subst (λ (o : Option Include). LoadsBetween f start (end_of f o) mid (Ok plain)) e q) in
+    let whole : take (i.place + 1) all ≡ take i.place all ++ said s.0 ∷ [] = take_more all i.place (said s.0) lt ∙ ap (λ (x : Statement). take i.place all ++ x ∷ []) (seen_at said f.parsed.value.statements i.place s.0 at.within s.1) in
+    subst (λ (x : List Statement). LoadsStatements (includes h never left) left f.path f.scopes above x (Ok statements)) (sym whole)
+    (goes_on g h left f.path f.scopes (take i.place all) (said s.0) above plain statements gh front
+    (subst (λ (l : TreeStatement). LoadsOne (includes g never left) left plain l (Ok statements)) s.2 one))
+
+-- the same where that one has a fault
+pub include_stops : (g h : FileContents) (fails k : PathSet) (b c n left : ℕ) (f : File) (start : ℕ) (include : Option Include) (i : Include) (above mid plain : List TreeStatement) (fault : ScopeFault)
+    → ((p : Text) (bytes : Option (List ℕ)) → g p bytes → h p bytes) → ((p : Text) → fails p → k p) → b ≡ c
+    → include ≡ Some i → IsNext f start include
+    → LoadsStatements (includes h never left) left f.path f.scopes above (take start (statements_in f.parsed.value)) (Ok mid)
+    → LoadsBetween f start (end_of f include) mid (Ok plain)
+    → Answers g fails b n (λ missing out. LoadsOne (includes g missing left) left plain i.statement out) (Err fault)
+    → Answers h k c n (λ missing out. LoadsStatements (includes h missing left) left f.path f.scopes above (statements_in f.parsed.value) out) (Err fault)
+include_stops g h fails k b c n left f start include i above mid plain fault gh fk bc e next r q one =
+    let all = statements_in f.parsed.value in
+    let said = said_in f.parsed.value.text f.parsed.value.lists in
+    let at = next_is f start include i e next in
+    let s = stands_at f i.place i.statement at.stands in
+    let lt : i.place < length all = subst (λ (n : ℕ). i.place < n) (sym (length-map f.parsed.value.statements said)) at.within in
+    let front = up_to_more h left f start i.place above mid plain at.after (omega (arith, at.within)) r (subst (λ (o : Option Include). LoadsBetween f start (end_of f o) mid (Ok plain)) e q) in
+    let whole : take i.place all ++ said s.0 ∷ drop (i.place + 1) all ≡ all =
+    ap (λ (x : List Statement). take i.place all ++ x)
+    (ap (λ (x : Statement). x ∷ drop (i.place + 1) all) (sym (seen_at said f.parsed.value.statements i.place s.0 at.within s.1)) ∙ sym (dropped_at all i.place (said s.0) lt))
+    ∙ take-append-drop i.place all in
+    stops g h fails k b c n left f.path f.scopes (take i.place all) (said s.0) (drop (i.place + 1) all) all above plain fault gh fk bc whole front
+    (subst (λ (l : TreeStatement). Answers g fails b n (λ missing out. LoadsOne (includes g missing left) left plain l out) (Err fault)) s.2 one)
 
 -- a statement that includes a file
 pub includes_file : (g : FileContents) (f : PathSet) (b n left : ℕ) (above : List TreeStatement) (l : TreeStatement) (path : Text) (result : Outcome)
@@ -254,8 +387,8 @@ same_short a b le (inl e) = e
 same_short a b le (inr h) = let f : ⊥ = omega (arith, le, h.0) in absurd f
 
 -- a path that is taken
-pub path_included : (left : ℕ) (a b x : Text) → kept a ≡ kept b → ((left ≡ 0) → ⊥) → is_empty a ≡ false → length a ≤ max_path → x ≡ a → (cause_of_path left b ≡ None) × (Some b ≡ Some x)
-path_included left a b x k n e le f = (
+pub path_taken : (left : ℕ) (a b x : Text) → kept a ≡ kept b → ((left ≡ 0) → ⊥) → is_empty a ≡ false → length a ≤ max_path → x ≡ a → (cause_of_path left b ≡ None) × (Some b ≡ Some x)
+path_taken left a b x k n e le f = (
   sym (same_cause left a b (same_from_kept a b k))
       ∙ (ap (λ (t : Bool). three t (is_empty a) (is_long_path a)) (ne_eqb left 0 n)
       ∙ (ap (λ (t : Bool). three false t (is_long_path a)) e
@@ -264,23 +397,30 @@ path_included left a b x k n e le f = (
 )
 
 -- the file of a statement that includes it
-pub taken_of : (left : ℕ) (here : Name → Text) (pieces given : List Piece) (kind : StatementKind) (cause : Option Cause) (file : Option Text) (result : Result (Option Text) StatementFault) → given ≡ pieces
-    → cause ≡ cause_of_path left (expand here pieces) → file ≡ Some (expand here pieces)
-    → IsIncluded (cause_of_path left (expand here given)) (Some (expand here given)) result → IsIncluded cause file result
-taken_of left here pieces given kind cause file result e f g r =
-    subst (λ (x : Option Cause). IsIncluded x file result) (sym f)
-    (subst (λ (x : Option Text). IsIncluded (cause_of_path left (expand here pieces)) x result) (sym g)
-    (subst (λ (p : List Piece). IsIncluded (cause_of_path left (expand here p)) (Some (expand here p)) result) e r))
+pub taken_of : (left : ℕ) (here names : Name → Text) (path : List Piece) (k : StatementKind) (result : Result Text StatementFault) → here ≡ names → path_included k ≡ Some path
+    → IsIncluded (cause_of_path left (expand here path)) (Some (expand here path)) result → IsIncluded (cause_to_load left names k) (included_by names k) result
+taken_of left here names path k result is e r =
+    subst (λ (n : Name → Text). IsIncluded (cause_to_load left n k) (included_by n k) result) is
+    (subst (λ (x : Option Cause). IsIncluded x (included_by here k) result) (sym (causes k e))
+    (subst (λ (x : Option Text). IsIncluded (cause_of_path left (expand here path)) x result) (sym (files k e)) r))
+  where
+    causes : (k : StatementKind) → path_included k ≡ Some path → cause_to_load left here k ≡ cause_of_path left (expand here path)
+    causes (kind.Include p) e = let f : p ≡ path = cc in ap (λ (x : List Piece). cause_of_path left (expand here x)) f
+    causes (kind.Subninja p) e = let f : p ≡ path = cc in ap (λ (x : List Piece). cause_of_path left (expand here x)) f
+    causes (kind.Rule r) e = cc
+    causes (kind.Build b) e = cc
+    causes (kind.Pool p) e = cc
+    causes (kind.Default targets) e = cc
+    causes (kind.Binding b) e = cc
 
--- a statement that is pushed
-pub pushed_bound : (now : ScopedBindings Text) (above statements : List TreeStatement) (l : TreeStatement) (scopes : List ℕ) (kind : StatementKind) → scopes ≡ l.scopes → kind ≡ l.kind → statements ≡ above ++ l ∷ []
-    → KeptEqScoped now (bound_by above ++ bound_in (bound_by above) scopes kind) → KeptEqScoped now (bound_by statements)
-pushed_bound now above statements l scopes kind e f g h = subst (λ (x : List TreeStatement). KeptEqScoped now (bound_by x)) (sym g) (agrees_more now above l scopes kind e f h)
-
--- the greatest scope of statements and one more
-pub greatest_more : (above : List TreeStatement) (l : TreeStatement) → greatest_scope (above ++ l ∷ []) ≡ max (greatest_scope above) (own_scope l.scopes)
-greatest_more [] l = omega arith
-greatest_more (x ∷ more) l = let rest = greatest_more more l in omega (arith, rest)
+    files : (k : StatementKind) → path_included k ≡ Some path → included_by here k ≡ Some (expand here path)
+    files (kind.Include p) e = let f : p ≡ path = cc in ap (λ (x : List Piece). Some (expand here x)) f
+    files (kind.Subninja p) e = let f : p ≡ path = cc in ap (λ (x : List Piece). Some (expand here x)) f
+    files (kind.Rule r) e = cc
+    files (kind.Build b) e = cc
+    files (kind.Pool p) e = cc
+    files (kind.Default targets) e = cc
+    files (kind.Binding b) e = cc
 
 -- where a file may be included, one more may be open
 pub one_more : (left : ℕ) (here : Name → Text) (k : StatementKind) (path : Text) → cause_to_load left here k ≡ None → included_by here k ≡ Some path → 0 < left
@@ -329,8 +469,3 @@ tree_failed g f b n name path scopes above (SourceMissing file) e i h r = first 
 tree_failed g f b n name path scopes above (Parse file fault) e i h r = (r.0, first g never (IsMissing g f b n) name path scopes above (Err (Parse file fault)) (λ p x. absurd x) e i h r.1)
 tree_failed g f b n name path scopes above (Refused file offset cause) e i h r = (r.0, first g never (IsMissing g f b n) name path scopes above (Err (Refused file offset cause)) (λ p x. absurd x) e i h r.1)
 tree_failed g f b n name path scopes above Memory e i h r = (r.0, first g never (IsMissing g f b n) name path scopes above (Err Memory) (λ p x. absurd x) e i h r.1)
-
--- a list whose end is empty is its front
-pub none_left : {A : Type 0} (front back all : List A) → length back ≡ 0 → front ++ back ≡ all → front ≡ all
-none_left front [] all e f = sym (append-nil front) ∙ f
-none_left front (x ∷ back) all e f = let g : ⊥ = omega (arith, e) in absurd g

@@ -1,6 +1,8 @@
 pub mod Faults
 pub mod Sources
+pub mod ParsedTexts
 pub mod Trees
+pub mod FileStatements
 pub mod Scopes
 pub mod Expansion
 pub mod Edge
@@ -13,6 +15,7 @@ pub mod Laws
 pub mod Loading
 pub mod LoadingSteps
 pub mod LoaderAnswers
+pub mod LoadingUpTo
 pub mod Kept
 pub mod Keys
 pub mod ScopeNames

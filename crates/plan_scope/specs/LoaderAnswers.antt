@@ -1,6 +1,8 @@
 -- What the functions of the loader answer.
-use Rattle.std.specs.Prelude.{◌≡◌, ℕ, zero, suc, Bool, false, List, [], ◌∷◌, ◌++◌, Option, Some, None, Result, Ok, Err}
-use Rattle.plan_parse.specs.Kinds.{Statement}
+use Rattle.std.specs.Prelude.{◌≡◌, ℕ, zero, suc, Bool, false, List, Option, Some, None, Result, Ok, Err}
+use Rattle.plan_text.specs.declared.piece_reader.Piece.{Piece}
+use Rattle.plan_parse.specs.Kinds.{StatementKind}
+use Rattle.plan_parse.specs.Kinds as kind
 use Rattle.plan_parse.specs.Statements.{statements_of}
 use Rattle.plan_scope.specs.declared.fault.Cause.{Cause}
 use Rattle.plan_scope.specs.declared.fault.Cause.TheVariants.{TextTooLong}
@@ -10,6 +12,7 @@ use Rattle.plan_scope.specs.declared.fault.ReadFault.{ReadFault}
 use Rattle.plan_scope.specs.declared.fault.ReadFault.TheVariants as read
 use Rattle.plan_scope.specs.declared.fault.ScopeFault.{ScopeFault}
 use Rattle.plan_scope.specs.declared.fault.ScopeFault.TheVariants.{SourceMissing, Refused, LoadMemory}
+use Rattle.plan_scope.specs.ParsedTexts.{ParsedText, statements_in}
 use Rattle.plan_scope.specs.Trees.{TreeStatement}
 use Rattle.plan_scope.specs.Scopes.{Text, lookup, bound_by}
 use Rattle.plan_scope.specs.Loading.{FileContents, Outcome, PathSet, IsMissing, cause_to_load, included_by}
@@ -38,17 +41,29 @@ LoadsOne answers left above l out =
     let here = lookup (bound_by above) l.scopes in
     LoadsStatement answers (λ statements out. out ≡ Ok statements) above l (cause_to_load left here l.kind) (included_by here l.kind) out
 
--- the statements of a file
-abbrev pub IsRead : (gives : FileContents) → (fails : PathSet) → (before now : ℕ) → Text → Result (List Statement) ReadFault → Type 0
-IsRead gives fails before now path (Ok statements) = (now ≡ before) × (bytes : List ℕ) × gives path (Some bytes) × (statements_of bytes ≡ Ok statements)
+-- what a file's bytes were read as
+abbrev pub IsParsed : List ℕ → Result ParsedText ReadFault → Type 0
+IsParsed bytes (Ok parsed) = (parsed.text ≡ bytes) × (statements_of bytes ≡ Ok (statements_in parsed))
+IsParsed bytes (Err read.Missing) = ⊥
+IsParsed bytes (Err (read.Parse fault)) = statements_of bytes ≡ Err fault
+IsParsed bytes (Err read.Memory) = Unit {0}
+
+-- what a file was read as
+abbrev pub IsRead : (gives : FileContents) → (fails : PathSet) → (before now : ℕ) → Text → Result ParsedText ReadFault → Type 0
+IsRead gives fails before now path (Ok parsed) = (now ≡ before) × (bytes : List ℕ) × gives path (Some bytes) × (statements_of bytes ≡ Ok (statements_in parsed))
 IsRead gives fails before now path (Err read.Missing) = IsMissing gives fails before now path
 IsRead gives fails before now path (Err (read.Parse fault)) = (now ≡ before) × (bytes : List ℕ) × gives path (Some bytes) × (statements_of bytes ≡ Err fault)
 IsRead gives fails before now path (Err read.Memory) = now ≡ before
 
--- the path of the file that a statement includes, if it includes any, or why it may not
-abbrev pub IsIncluded : Option Cause → Option Text → Result (Option Text) StatementFault → Type 0
-IsIncluded cause file (Ok None) = file ≡ None
-IsIncluded cause file (Ok (Some path)) = (cause ≡ None) × (file ≡ Some path)
+-- the path of the file that a statement includes, in pieces
+abbrev pub path_included : StatementKind → Option (List Piece)
+path_included (kind.Include path) = Some path
+path_included (kind.Subninja path) = Some path
+path_included other = None
+
+-- the path of the file that a statement includes, or why it may not
+abbrev pub IsIncluded : Option Cause → Option Text → Result Text StatementFault → Type 0
+IsIncluded cause file (Ok path) = (cause ≡ None) × (file ≡ Some path)
 IsIncluded cause file (Err (statement.Refused c)) = cause ≡ Some c
 IsIncluded cause file (Err statement.Memory) = Unit {0}
 
@@ -57,7 +72,7 @@ abbrev pub IsRefusal : TreeStatement → Cause → ScopeFault → Type 0
 IsRefusal l cause LoadMemory = Unit {0}
 IsRefusal l cause fault = fault ≡ Refused l.path l.offset cause
 
--- One more statement, or, where the text that it binds is too long, its fault. Any other fault is want of memory.
-abbrev pub IsBound : List TreeStatement → TreeStatement → Bool → Outcome → Type 0
-IsBound above l long (Ok statements) = (long ≡ false) × (statements ≡ above ++ l ∷ [])
-IsBound above l long (Err fault) = (long ≡ false → fault ≡ LoadMemory) × IsRefusal l TextTooLong fault
+-- A statement that is bound, or, where the text that it binds is too long, its fault. Any other fault is want of memory.
+abbrev pub IsBound : TreeStatement → Bool → Result (Unit {0}) ScopeFault → Type 0
+IsBound l long (Ok done) = long ≡ false
+IsBound l long (Err fault) = (long ≡ false → fault ≡ LoadMemory) × IsRefusal l TextTooLong fault

@@ -18,4 +18,5 @@ pub use manifest::path_range::PathRange;
 pub use manifest::{DefaultTarget, Manifest, Pool};
 pub use tree::loader::load;
 pub use tree::source::{Source, SourceFault};
-pub use tree::{File, Tree, TreeStatement};
+pub use tree::statements::Statements;
+pub use tree::{Tree, TreeStatement};

@@ -122,7 +122,7 @@ fn bind_own(
 pub fn bind_statement(
     alloc: Global,
     bound: &mut ScopedMap<Items<u8>>,
-    statement: &TreeStatement,
+    statement: &TreeStatement<'_>,
 ) -> Result<bool, AllocError>
     ensures bound { OnOk result ((meant : Bound Text) → KeptEqScoped bound.old meant → KeptEqScoped bound.new (meant ++ bound_in meant statement.now.scopes statement.now.kind)) }
     ensures long { IfOk result (λ long. (meant : Bound Text) → KeptEqScoped bound.old meant → long ≡ list_any (λ b. is_too_long b.1.1) (bound_in meant statement.now.scopes statement.now.kind)) }

@@ -4,17 +4,23 @@ ghost use Rattle.std.specs.Prelude.{◌≡◌, IfOk};
 ghost use Rattle.plan_scope.specs.Scopes.{bound_by};
 ghost use Rattle.plan_scope.specs.Kept.{KeptEqScoped};
 ghost use Rattle.plan_scope.specs.KindSaid.{kind_said};
+ghost use Rattle.plan_scope.specs.FileStatements.{statement_at};
 ghost use Rattle.plan_scope.specs.declared.fault.ScopeFault.TheVariants as scope_fault;
 
 mod loaded;
 pub(crate) mod loader;
 mod parsed;
 pub(crate) mod source;
+pub(crate) mod statements;
+mod stretch;
 
 use crate::fault::{Cause, ScopeFault};
 use crate::scope::scoped_map::ScopedMap;
 use crate::scope::text::copy_of;
-use plan_parse::{BindingLine, BuildLine, BuildLists, CompactStatement, DirectiveKind};
+use crate::tree::parsed::Parsed;
+use crate::tree::statements::Statements;
+use crate::tree::stretch::Stretch;
+use plan_parse::{BindingLine, BuildLine, CompactStatement, DirectiveKind};
 use plan_text::Items;
 use std::alloc::{AllocError, Global};
 use std::marker::Model;
@@ -27,50 +33,64 @@ pub struct File {
     pub path: Items<u8>,
     /// The scopes that its statements see, their own first.
     pub scopes: Items<usize>,
-    /// Its bytes: bindings, and the paths of build lines, are read again from there.
-    pub text: Items<u8>,
-    /// Its build lines, kept beside its bytes.
-    pub lists: BuildLists,
+    /// What was read of it: statements are read again from there. Files that say the same may share it.
+    pub parsed: Rc<Parsed>,
+}
+
+impl File {
+    /// Its statements.
+    pub fn statements(&self) -> &[CompactStatement]
+        ensures { result.now ≡ self.now.parsed.value.statements }
+    {
+        self.parsed.as_ref().statements()
+    }
 }
 
 /// A statement of a tree, and the file that it was read from.
 #[derive(Drop)]
-pub struct TreeStatement {
+pub struct TreeStatement<'a> {
     /// The file.
-    pub file: Rc<File>,
+    file: &'a File,
     /// The statement, kept beside the file's bytes.
-    pub statement: CompactStatement,
+    statement: &'a CompactStatement,
 }
 
-impl Model for TreeStatement {
-    ghost use Rattle.plan_parse.specs.Compact.{said_in};
+impl<'a> Model for TreeStatement<'a> {
+    ghost use Rattle.plan_scope.specs.FileStatements.{statement_at};
     ghost use Rattle.plan_scope.specs.Trees as trees;
 
     ghost Value = { trees.TreeStatement };
 
-    ghost view = { λ l. record { path = l.file.value.path; scopes = l.file.value.scopes; offset = (said_in l.file.value.text l.file.value.lists l.statement).offset; kind = (said_in l.file.value.text l.file.value.lists l.statement).kind } };
+    ghost view = { λ l. statement_at l.file.now l.statement.now };
 }
 
-impl TreeStatement {
+impl<'a> TreeStatement<'a> {
+    /// A statement that is kept beside a file's bytes.
+    pub(crate) fn new(file: &'a File, statement: &'a CompactStatement) -> Self
+        ensures { result ≡ statement_at file.now statement.now }
+    {
+        TreeStatement { file, statement }
+    }
+
     /// The path of its file.
-    pub fn path(&self) -> &[u8]
+    pub fn path(&self) -> &'a [u8]
         ensures { result.now ≡ self.now.path }
     {
-        self.file.as_ref().path.as_slice()
+        self.file.path.as_slice()
     }
 
     /// The scopes that it sees, its own first.
-    pub fn scopes(&self) -> &[usize]
+    pub fn scopes(&self) -> &'a [usize]
         ensures { result.now ≡ self.now.scopes }
     {
-        self.file.as_ref().scopes.as_slice()
+        self.file.scopes.as_slice()
     }
 
     /// How many bytes stand before it in its file.
     pub fn offset(&self) -> u64
         ensures { result ≡ self.now.offset }
     {
-        self.statement.offset(&self.file.as_ref().lists)
+        self.statement.offset(self.file.parsed.as_ref().lists())
     }
 
     /// The fault that it is refused for a cause.
@@ -92,14 +112,14 @@ pub enum Said<'a> {
     Directive(&'a DirectiveKind),
 }
 
-impl TreeStatement {
+impl<'a> TreeStatement<'a> {
     /// What it says.
-    pub fn said(&self) -> Said<'_>
+    pub fn said(&self) -> Said<'a>
         ensures { kind_said result ≡ self.now.kind }
     {
-        let file = self.file.as_ref();
-        let (text, lists) = (file.text.as_slice(), &file.lists);
-        match &self.statement {
+        let parsed = self.file.parsed.as_ref();
+        let (text, lists) = (parsed.text(), parsed.lists());
+        match self.statement {
             CompactStatement::Binding(span) => Said::Binding(BindingLine::new(text, *span)),
             CompactStatement::Build(number) => Said::Build(BuildLine::new(text, lists, *number)),
             CompactStatement::Directive(directive) => Said::Directive(&directive.kind),
@@ -111,31 +131,32 @@ impl TreeStatement {
 /// `subninja` statement that includes it.
 #[derive(Drop)]
 pub struct Tree {
-    /// The statements in their order.
-    statements: Items<TreeStatement>,
+    /// The statements in their order, as stretches of files.
+    stretches: Items<Stretch>,
     /// What they bind.
     bound: ScopedMap<Items<u8>>,
 }
 
 impl Model for Tree {
     ghost use Rattle.std.specs.Prelude.{List};
+    ghost use Rattle.plan_scope.specs.FileStatements.{joined};
     ghost use Rattle.plan_scope.specs.Trees as trees;
     ghost use Rattle.plan_scope.specs.Scopes.{bound_by};
     ghost use Rattle.plan_scope.specs.Kept.{KeptEqScoped};
 
     ghost Value = { List trees.TreeStatement };
 
-    ghost view = { λ t. t.statements };
+    ghost view = { λ t. joined t.stretches };
 
-    ghost invariant = { λ t. KeptEqScoped t.bound (bound_by t.statements) };
+    ghost invariant = { λ t. KeptEqScoped t.bound (bound_by (joined t.stretches)) };
 }
 
 impl Tree {
     /// The statements in their order.
-    pub fn statements(&self) -> &[TreeStatement]
-        ensures { result.now ≡ self.now }
+    pub fn statements(&self) -> Statements<'_>
+        ensures { result ≡ self.now }
     {
-        self.statements.as_slice()
+        Statements::new(self.stretches.as_slice())
     }
 
     /// What they bind.

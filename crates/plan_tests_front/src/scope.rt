@@ -72,7 +72,10 @@ impl Source for Files {
 /// Whether the tree of a file has so many statements.
 fn has_statements(alloc: Global, path: &[u8], count: usize) -> bool {
     match load(alloc, &mut Files, path) {
-        Ok(tree) => tree.statements().len() == count,
+        Ok(tree) => {
+            let front = tree.statements().take(count).count();
+            front == count && tree.statements().nth(count).is_none()
+        }
         Err(_) => false,
     }
 }
@@ -89,7 +92,7 @@ fn is_at(
     let Ok(tree) = load(alloc, &mut Files, tree) else {
         return false;
     };
-    match tree.statements().get(index) {
+    match tree.statements().nth(index) {
         Some(statement) => statement.path() == path
             && statement.offset() == offset
             && statement.scopes() == scopes,
@@ -224,13 +227,62 @@ fn meaning(alloc: Global, text: &'static [u8]) -> Result<Manifest, ScopeFault> {
     evaluate(alloc, &tree)
 }
 
+/// Whether the commands of a manifest are these.
+fn has_commands(alloc: Global, manifest: &Manifest, wanted: &[u8]) -> bool {
+    let mut out = Counted::new(Vec::new(alloc));
+    write_commands(manifest, &mut out).is_ok() && out.into_writer().as_slice() == wanted
+}
+
 /// Whether the commands of a manifest are printed so.
 fn prints(alloc: Global, text: &'static [u8], wanted: &[u8]) -> bool {
-    let Ok(manifest) = meaning(alloc, text) else {
-        return false;
+    match meaning(alloc, text) {
+        Ok(manifest) => has_commands(alloc, &manifest, wanted),
+        Err(_) => false,
+    }
+}
+
+/// A file that includes another one three times. Before the third time the other one changes.
+#[derive(Drop)]
+struct Changing {
+    /// How often the other one was read.
+    reads: usize,
+}
+
+impl Source for Changing {
+    ghost gives = { λ _ _ _. Unit {0} };
+
+    ghost fails = { λ _ _. ⊥ };
+
+    ghost failures = { λ _. 0 };
+
+    fn read(&mut self, alloc: Global, path: &[u8]) -> Result<Vec<u8>, SourceFault> {
+        let mut text =
+            b"rule r\n  command = make $out\ninclude f\ninclude f\ninclude f\n".as_slice();
+        if path == b"f".as_slice() {
+            text = match self.reads {
+                0 => b"build a: r\n".as_slice(),
+                1 => b"build a: r\n".as_slice(),
+                _ => b"build b: r\n".as_slice(),
+            };
+            self.reads = self.reads.saturating_add(1);
+        }
+        Vec::from_slice(alloc, text).map_err(|_| SourceFault::Memory)
+    }
+}
+
+/// A file that is the same as before is kept once, and one that isn't is read anew.
+#[test]
+fn file_that_changes_between_two_reads(rt: HostRuntime) {
+    let meant = match load(rt.alloc(), &mut Changing { reads: 0 }, b"build.ninja") {
+        Ok(tree) => evaluate(rt.alloc(), &tree),
+        Err(fault) => Err(fault),
     };
-    let mut out = Counted::new(Vec::new(alloc));
-    write_commands(&manifest, &mut out).is_ok() && out.into_writer().as_slice() == wanted
+    match meant {
+        Ok(manifest) => {
+            assert!(rt; has_commands(rt.alloc(), &manifest, b"make a\nmake a\nmake b\n"));
+        }
+        Err(_) => panic!(rt; "no manifest"),
+    }
 }
 
 /// The only edge of a manifest.

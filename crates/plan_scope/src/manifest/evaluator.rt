@@ -69,12 +69,12 @@ fn facts_of_tree<'a>(alloc: Global, tree: &'a Tree) -> Result<TreeFacts<'a>, All
 {
     Ok(TreeFacts {
         bound: tree.bound(),
-        pool_names: PoolNames::of_tree(alloc, tree.statements())?,
+        pool_names: PoolNames::of_tree(alloc, tree)?,
     })
 }
 
 /// How many edges a statement may give.
-fn edge_count_of_statement(statement: &TreeStatement) -> usize
+fn edge_count_of_statement(statement: &TreeStatement<'_>) -> usize
     ensures edges { result ≡ length (builds_in statement.now.kind) }
     ensures within { result ≤ 1 }
 {
@@ -85,15 +85,18 @@ fn edge_count_of_statement(statement: &TreeStatement) -> usize
     }
 }
 
-/// How many edges statements may give.
-fn edge_count(statements: &[TreeStatement]) -> usize
-    ensures { result ≡ length (builds_of statements.now) }
+/// How many edges a tree may give.
+fn edge_count(tree: &Tree) -> Result<usize, AllocError>
+    ensures { IfOk result (λ edges. edges ≡ length (builds_of tree.now)) }
 {
-    let mut edges = 0;
-    for statement in statements {
-        edges += edge_count_of_statement(statement);
+    let mut edges = 0_usize;
+    for statement in tree.statements() {
+        edges = match edges.checked_add(edge_count_of_statement(&statement)) {
+            Some(edges) => edges,
+            None => return Err(AllocError),
+        };
     }
-    edges
+    Ok(edges)
 }
 
 /// What no statement gives, the pool `console`, with room for so many edges.
@@ -298,7 +301,7 @@ fn add_default<'a>(
 fn add_binding<'a>(
     alloc: Global,
     so_far: &mut Evaluation<'a>,
-    statement: &'a TreeStatement,
+    statement: &TreeStatement<'a>,
 ) -> Result<(), StatementFault>
     requires { (b : Binding) × (statement.now.kind ≡ kinds.Binding b) }
     ensures rules { so_far.new.rules ≡ so_far.old.rules }
@@ -314,7 +317,7 @@ fn add_directive<'a>(
     alloc: Global,
     so_far: &mut Evaluation<'a>,
     found: &mut Vec<FoundRule<'a>>,
-    statement: &'a TreeStatement,
+    statement: &TreeStatement<'a>,
     kind: &'a DirectiveKind,
 ) -> Result<(), StatementFault>
     requires { statement.now.kind ≡ kind_of kind.now }
@@ -341,7 +344,7 @@ fn add_edge<'a>(
     facts: &TreeFacts<'a>,
     so_far: &mut Evaluation<'a>,
     found: &mut Vec<FoundRule<'a>>,
-    statement: &'a TreeStatement,
+    statement: &TreeStatement<'a>,
     build: &BuildLine<'a>,
 ) -> Result<(), StatementFault>
     requires kind { statement.now.kind ≡ kinds.Build build.now }
@@ -360,7 +363,7 @@ fn add_statement<'a>(
     facts: &TreeFacts<'a>,
     so_far: &mut Evaluation<'a>,
     found: &mut Vec<FoundRule<'a>>,
-    statement: &'a TreeStatement,
+    statement: &TreeStatement<'a>,
 ) -> Result<(), StatementFault>
     requires { AreFound so_far.old.rules facts.now.bound.now found.old.items }
     ensures found { OnOk result (AreFound so_far.new.rules facts.now.bound.now found.new.items) }
@@ -375,7 +378,7 @@ fn add_statement<'a>(
 }
 
 /// The fault of a statement, with its place.
-fn fault_at(alloc: Global, statement: &TreeStatement, fault: StatementFault) -> ScopeFault
+fn fault_at(alloc: Global, statement: &TreeStatement<'_>, fault: StatementFault) -> ScopeFault
     ensures { IsLocated fault statement.now result }
 {
     match fault {
@@ -392,17 +395,17 @@ fn evaluate_statements<'a>(
     alloc: Global,
     facts: &TreeFacts<'a>,
     mut so_far: Evaluation<'a>,
-    statements: &'a [TreeStatement],
+    tree: &'a Tree,
 ) -> Result<Evaluation<'a>, ScopeFault>
-    requires { Fits so_far [] × Knows facts.now statements.now }
-    ensures given { Meets ScopeFault.Memory manifest_in result (with_front (manifest_in so_far.entry) (manifest_past statements.now [] statements.now)) }
+    requires { Fits so_far [] × Knows facts.now tree.now }
+    ensures given { Meets ScopeFault.Memory manifest_in result (with_front (manifest_in so_far.entry) (manifest_past tree.now [] tree.now)) }
     ensures within { IfOk result (λ e. AreWithin e.edges) }
 {
     let mut found = Vec::new(alloc);
-    for statement in statements {
-        match add_statement(alloc, facts, &mut so_far, &mut found, statement) {
+    for statement in tree.statements() {
+        match add_statement(alloc, facts, &mut so_far, &mut found, &statement) {
             Ok(()) => {}
-            Err(fault) => return Err(fault_at(alloc, statement, fault)),
+            Err(fault) => return Err(fault_at(alloc, &statement, fault)),
         }
     }
     Ok(so_far)
@@ -413,10 +416,9 @@ fn evaluate_tree<'a>(alloc: Global, tree: &'a Tree) -> Result<Evaluation<'a>, Sc
     ensures within { IfOk result (λ e. AreWithin e.edges) }
     ensures given { Meets ScopeFault.Memory manifest_in result (manifest_of tree.now) }
 {
-    let statements = tree.statements();
     let facts = facts_of_tree(alloc, tree)?;
-    let so_far = initial_evaluation(alloc, edge_count(statements))?;
-    evaluate_statements(alloc, &facts, so_far, statements)
+    let so_far = initial_evaluation(alloc, edge_count(tree)?)?;
+    evaluate_statements(alloc, &facts, so_far, tree)
 }
 
 /// What the statements of a tree mean.

@@ -6,7 +6,7 @@ ghost use Rattle.plan_scope.specs.Edges.{is_among, pools_in, pools_of};
 ghost use Rattle.plan_scope.specs.Kept.{EqNames};
 
 use crate::scope::small_map::SmallMap;
-use crate::tree::{Said, TreeStatement};
+use crate::tree::{Said, Tree, TreeStatement};
 use plan_parse::DirectiveKind;
 use std::alloc::{AllocError, Global};
 use std::marker::Model;
@@ -54,13 +54,13 @@ impl<'a> PoolNames<'a> {
     }
 
     /// The names of the pools of a tree.
-    pub fn of_tree(alloc: Global, statements: &'a [TreeStatement]) -> Result<Self, AllocError>
-        ensures { IfOk result (λ names. EqNames names (pools_of statements.now)) }
+    pub fn of_tree(alloc: Global, tree: &'a Tree) -> Result<Self, AllocError>
+        ensures { IfOk result (λ names. EqNames names (pools_of tree.now)) }
     {
         let mut names = PoolNames::new(alloc);
         names.insert(CONSOLE)?;
-        for statement in statements {
-            insert_from_statement(&mut names, statement)?;
+        for statement in tree.statements() {
+            insert_from_statement(&mut names, &statement)?;
         }
         Ok(names)
     }
@@ -79,7 +79,7 @@ fn insert_declared<'a>(names: &mut PoolNames<'a>, kind: &'a DirectiveKind) -> Re
 /// Inserts the name of a pool that a statement declares.
 fn insert_from_statement<'a>(
     names: &mut PoolNames<'a>,
-    statement: &'a TreeStatement,
+    statement: &TreeStatement<'a>,
 ) -> Result<(), AllocError>
     ensures { OnOk result ((n : List ℕ) → is_among names.new n ≡ is_among (names.old ++ pools_in statement.now.kind) n) }
 {

@@ -1,40 +1,44 @@
 //! The statements of a tree that are loaded so far.
 
-ghost use Rattle.std.specs.Prelude.{◌≡◌, [], IfOk};
-ghost use Rattle.plan_scope.specs.Scopes.{bound_by};
+ghost use Rattle.std.specs.Prelude.{◌≡◌, ◌≤◌, ◌++◌, [], IfOk, IfSome, Ok, OnOk, length};
+ghost use Rattle.plan_parse.specs.PathLists.{between};
+ghost use Rattle.plan_scope.specs.FileStatements.{statements_at};
 ghost use Rattle.plan_scope.specs.Kept.{KeptEqScoped};
-ghost use Rattle.plan_scope.specs.Loading.{fresh_scope, greatest_scope, own_scope};
+ghost use Rattle.plan_scope.specs.LoaderAnswers.{IsParsed};
+ghost use Rattle.plan_scope.specs.Loading.{fresh_scope, own_scope};
+ghost use Rattle.plan_scope.specs.Scopes.{bound_by};
 
 use crate::scope::scoped_map::ScopedMap;
-use crate::tree::{Tree, TreeStatement};
+use crate::tree::parsed::Parsed;
+use crate::tree::stretch::Stretch;
+use crate::tree::{File, Tree};
+use indexmap::IndexMap;
 use plan_text::Items;
 use std::alloc::{AllocError, Global};
 use std::marker::Model;
+use std::rc::Rc;
 
-/// The statements that are loaded so far, and what they bind.
+/// Statements in their order, as stretches of files.
 #[derive(Drop)]
-pub struct Loaded {
-    /// The statements.
-    pub statements: Vec<TreeStatement>,
-    /// What they bind.
-    pub bound: ScopedMap<Items<u8>>,
+pub struct Stretches {
+    stretches: Vec<Stretch>,
     /// The greatest of their own scopes.
-    pub greatest: usize,
+    greatest: usize,
+    /// What was first read under each path that they stand in.
+    read: IndexMap<Vec<u8>, Rc<Parsed>>,
 }
 
-impl Model for Loaded {
-    ghost use Rattle.std.specs.Prelude.{List};
-    ghost use Rattle.plan_scope.specs.Trees as trees;
-    ghost use Rattle.plan_scope.specs.Scopes.{bound_by};
-    ghost use Rattle.std.specs.Prelude.{◌≡◌};
-    ghost use Rattle.plan_scope.specs.Kept.{KeptEqScoped};
+impl Model for Stretches {
+    ghost use Rattle.std.specs.Prelude.{◌≡◌, List};
+    ghost use Rattle.plan_scope.specs.FileStatements.{joined};
     ghost use Rattle.plan_scope.specs.Loading.{greatest_scope};
+    ghost use Rattle.plan_scope.specs.Trees as trees;
 
     ghost Value = { List trees.TreeStatement };
 
-    ghost view = { λ l. l.statements.items };
+    ghost view = { λ s. joined s.stretches.items };
 
-    ghost invariant = { λ l. KeptEqScoped l.bound (bound_by l.statements.items) × (l.greatest ≡ greatest_scope l.statements.items) };
+    ghost invariant = { λ s. s.greatest ≡ greatest_scope (joined s.stretches.items) };
 }
 
 /// The own scope of a statement that sees these.
@@ -47,33 +51,66 @@ pub fn own_scope(scopes: &[usize]) -> usize
     }
 }
 
-impl Loaded {
+impl Stretches {
     /// No statement.
     pub fn new(alloc: Global) -> Self
         ensures { result ≡ [] }
     {
-        Loaded {
-            statements: Vec::new(alloc),
-            bound: ScopedMap::new(alloc),
+        Stretches {
+            stretches: Vec::new(alloc),
             greatest: 0,
+            read: IndexMap::new(alloc),
         }
     }
 
-    /// The same statements, with room for so many more.
-    pub fn with_room(self, more: usize) -> Result<Loaded, AllocError>
-        ensures { IfOk result (λ loaded. loaded ≡ self) }
+    /// What was first read under a path, if it was these bytes and some of its statements are here.
+    pub fn find(&self, path: &[u8], bytes: &[u8]) -> Option<Rc<Parsed>>
+        ensures { IfSome result (λ parsed. IsParsed bytes.now (Ok parsed.value)) }
     {
-        let Loaded {
-            mut statements,
-            bound,
-            greatest,
-        } = self;
-        statements.reserve(more)?;
-        Ok(Loaded {
-            statements,
-            bound,
-            greatest,
-        })
+        let parsed = self.read.get(path)?;
+        if !parsed.as_ref().is_of(bytes) {
+            return None;
+        }
+        match parsed.clone() {
+            Ok(parsed) => Some(parsed),
+            Err(_) => None,
+        }
+    }
+
+    /// Remembers what was read of a file, unless something was under its path.
+    fn remember(&mut self, alloc: Global, file: &File) -> Result<(), AllocError>
+        ensures { self.new ≡ self.old }
+    {
+        let path = file.path.as_slice();
+        if self.read.get(path).is_none() {
+            let name = Vec::from_slice(alloc, path)?;
+            self.read.insert(name, file.parsed.clone()?)?;
+        }
+        Ok(())
+    }
+
+    /// Adds the statements of a file from one number on, in front of that of another number.
+    pub fn push(
+        &mut self,
+        alloc: Global,
+        file: &Rc<File>,
+        start: usize,
+        end: usize,
+    ) -> Result<(), AllocError>
+        requires start { start ≤ end }
+        requires end { end ≤ length file.now.value.parsed.value.statements }
+        ensures { OnOk result (self.new ≡ self.old ++ between start end (statements_at file.now.value)) }
+    {
+        if start == end {
+            return Ok(());
+        }
+        self.remember(alloc, file.as_ref())?;
+        self.stretches
+            .push(Stretch::new(file.clone()?, start, end))?;
+        self.greatest = self
+            .greatest
+            .max(own_scope(file.as_ref().scopes.as_slice()));
+        Ok(())
     }
 
     /// The scope that a statement opens which sees these scopes; none where there is no greater number.
@@ -85,19 +122,68 @@ impl Loaded {
             None => Err(AllocError),
         }
     }
+}
+
+/// The statements that are loaded so far, and what they bind.
+#[derive(Drop)]
+pub struct Loaded {
+    /// The statements.
+    pub statements: Stretches,
+    /// What they bind.
+    pub bound: ScopedMap<Items<u8>>,
+}
+
+impl Model for Loaded {
+    ghost use Rattle.std.specs.Prelude.{List};
+    ghost use Rattle.plan_scope.specs.Kept.{KeptEqScoped};
+    ghost use Rattle.plan_scope.specs.Scopes.{bound_by};
+    ghost use Rattle.plan_scope.specs.Trees as trees;
+
+    ghost Value = { List trees.TreeStatement };
+
+    ghost view = { λ l. l.statements };
+
+    ghost invariant = { λ l. KeptEqScoped l.bound (bound_by l.statements) };
+}
+
+impl Loaded {
+    /// No statement.
+    pub fn new(alloc: Global) -> Self
+        ensures { result ≡ [] }
+    {
+        Loaded {
+            statements: Stretches::new(alloc),
+            bound: ScopedMap::new(alloc),
+        }
+    }
+
+    /// The statements.
+    pub fn statements(&self) -> &Stretches
+        ensures { result.now ≡ self.now }
+    {
+        &self.statements
+    }
+
+    /// What they bind.
+    pub fn bound(&self) -> &ScopedMap<Items<u8>>
+        ensures { KeptEqScoped result.now (bound_by self.now) }
+    {
+        &self.bound
+    }
 
     /// The tree of these statements, without spare room where memory allows it.
     pub fn into_tree(self) -> Tree
         ensures { result ≡ self }
     {
-        let Loaded {
-            mut statements,
-            bound,
+        let Loaded { statements, bound } = self;
+        let Stretches {
+            mut stretches,
             greatest: _,
-        } = self;
-        statements.shrink_to_fit();
+            read: _,
+        } = statements;
+        stretches.shrink_to_fit();
         Tree {
-            statements: Items::new(statements),
+            stretches: Items::new(stretches),
             bound,
         }
     }

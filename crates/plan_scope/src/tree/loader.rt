@@ -1,24 +1,29 @@
 //! Trees from a source.
 
-ghost use Rattle.std.specs.Prelude.{◌≡◌, ◌<◌, ◌≤◌, ◌+◌, ◌-◌, [], ◌∷◌, ◌++◌, Option, Some, IfOk, length, map};
+ghost use Rattle.std.specs.Prelude.{◌≡◌, ◌≢◌, ◌<◌, ◌≤◌, ◌+◌, ◌-◌, [], ◌∷◌, ◌++◌, Option, Some, IfErr, IfOk, OnOk, ℕ, List, length, option_map};
 ghost use Rattle.std.specs.List.{list_any};
-ghost use Rattle.plan_scope.specs.Scopes.{Name, Text, bound_by, bound_in, expand, is_too_long, lookup};
-ghost use Rattle.plan_scope.specs.Kept.{KeptEqLookup};
+ghost use Rattle.plan_text.specs.Outcome.{seen_by};
+ghost use Rattle.plan_scope.specs.Scopes.{Name, ScopedBindings as Bound, Text, bound_by, bound_in, expand, is_too_long, lookup};
+ghost use Rattle.plan_scope.specs.Kept.{KeptEqLookup, KeptEqScoped};
 ghost use Rattle.plan_scope.specs.Loading.{Loads, cause_of_path, cause_to_load, opens_scope, scopes_in, included_by};
 ghost use Rattle.plan_scope.specs.LoadingSteps.{LoadsStatements, LoadsWithin};
-ghost use Rattle.plan_parse.specs.Compact.{kind_of, said_in};
+ghost use Rattle.plan_parse.specs.Compact.{kind_of};
+ghost use Rattle.plan_scope.specs.ParsedTexts.{statements_in};
 ghost use Rattle.plan_scope.specs.Sources.{SameFiles};
-ghost use Rattle.plan_scope.specs.LoaderAnswers.{Answers, IsBound, IsRead, IsRefusal, IsIncluded, LoadsOne, includes};
+ghost use Rattle.plan_scope.specs.LoaderAnswers.{Answers, IsBound, IsRead, IsRefusal, IsIncluded, IsParsed, LoadsOne, includes, path_included};
+ghost use Rattle.plan_scope.specs.LoadingUpTo.{BindsUpTo, LoadsUpTo, RefusesUpTo, end_of};
+ghost use Rattle.plan_scope.specs.Trees.{TreeStatement as StatementMeant};
 ghost use Rattle.plan_scope.specs.ScopeNames.{names_in};
 
 use crate::fault::{Cause, ReadFault, ScopeFault, StatementFault};
+use crate::scope::scoped_map::ScopedMap;
 use crate::scope::text::copy_of;
 use crate::scope::{Scope, bind_statement, expand_pieces};
-use crate::tree::loaded::{Loaded, own_scope};
+use crate::tree::loaded::Loaded;
 use crate::tree::parsed::Parsed;
 use crate::tree::source::{Source, SourceFault};
 use crate::tree::{File, Said, Tree, TreeStatement};
-use plan_parse::{CompactStatement, DirectiveKind, ParseFault, ParsedFile, parse};
+use plan_parse::{DirectiveKind, ParseFault, parse};
 use plan_text::{Items, MAX_PATH, Piece};
 use std::alloc::{AllocError, Global};
 use std::rc::Rc;
@@ -30,7 +35,7 @@ const MORE_FILES: usize = 63;
 const FIRST_SCOPE: usize = 0;
 
 /// The fault of a statement.
-fn refusal_of(alloc: Global, statement: &TreeStatement, cause: Cause) -> ScopeFault
+fn refusal_of(alloc: Global, statement: &TreeStatement<'_>, cause: Cause) -> ScopeFault
     ensures { IsRefusal statement.now cause result }
 {
     match statement.refusal(alloc, cause) {
@@ -39,30 +44,51 @@ fn refusal_of(alloc: Global, statement: &TreeStatement, cause: Cause) -> ScopeFa
     }
 }
 
+/// The statements of a file's bytes, without spare room where memory allows it.
+fn parse_bytes(alloc: Global, mut bytes: Vec<u8>) -> Result<Rc<Parsed>, ReadFault>
+    ensures { IsParsed bytes.items (seen_by (λ parsed. parsed.value) result) }
+{
+    bytes.shrink_to_fit();
+    match parse(alloc, &bytes) {
+        Ok(file) => match Rc::new(alloc, Parsed::new(bytes, file)) {
+            Ok(parsed) => Ok(parsed),
+            Err(_) => Err(ReadFault::Memory),
+        },
+        Err(ParseFault::Memory) => Err(ReadFault::Memory),
+        Err(fault) => Err(ReadFault::Parse(fault)),
+    }
+}
+
+/// The statements of a file's bytes, shared with what was first read under its path, where that is the same.
+fn parse_or_share(
+    alloc: Global,
+    loaded: &Loaded,
+    path: &[u8],
+    bytes: Vec<u8>,
+) -> Result<Rc<Parsed>, ReadFault>
+    ensures { IsParsed bytes.items (seen_by (λ parsed. parsed.value) result) }
+{
+    match loaded.statements().find(path, &bytes) {
+        Some(parsed) => Ok(parsed),
+        None => parse_bytes(alloc, bytes),
+    }
+}
+
 /// The statements of the file at a path.
 fn read_statements<S: Source>(
     alloc: Global,
     source: &mut S,
+    loaded: &Loaded,
     path: &[u8],
-) -> Result<Parsed, ReadFault>
-    ensures read { IsRead (S.gives source.old) (S.fails source.old) (S.failures source.old) (S.failures source.new) path.now result }
+) -> Result<Rc<Parsed>, ReadFault>
+    ensures read { IsRead (S.gives source.old) (S.fails source.old) (S.failures source.old) (S.failures source.new) path.now (seen_by (λ parsed. parsed.value) result) }
     ensures same { SameFiles (S.gives source.new) (S.fails source.new) (S.gives source.old) (S.fails source.old) }
 {
-    let mut bytes = match source.read(alloc, path) {
-        Ok(bytes) => bytes,
-        Err(SourceFault::Missing) => return Err(ReadFault::Missing),
-        Err(SourceFault::Failed) => return Err(ReadFault::Missing),
-        Err(SourceFault::Memory) => return Err(ReadFault::Memory),
-    };
-    bytes.shrink_to_fit();
-    match parse(alloc, &bytes) {
-        Ok(ParsedFile { statements, lists }) => Ok(Parsed {
-            text: Items::new(bytes),
-            lists,
-            statements: Items::new(statements),
-        }),
-        Err(ParseFault::Memory) => Err(ReadFault::Memory),
-        Err(fault) => Err(ReadFault::Parse(fault)),
+    match source.read(alloc, path) {
+        Ok(bytes) => parse_or_share(alloc, loaded, path, bytes),
+        Err(SourceFault::Missing) => Err(ReadFault::Missing),
+        Err(SourceFault::Failed) => Err(ReadFault::Missing),
+        Err(SourceFault::Memory) => Err(ReadFault::Memory),
     }
 }
 
@@ -72,7 +98,7 @@ fn expand_included_path<'a>(
     scope: Scope<'a>,
     pieces: &'a [Piece],
     left: usize,
-) -> Result<Option<Items<u8>>, StatementFault>
+) -> Result<Items<u8>, StatementFault>
     ensures { (meant : Name → Text) → KeptEqLookup (names_in scope.entry) meant → IsIncluded (cause_of_path left (expand meant pieces.now)) (Some (expand meant pieces.now)) result }
 {
     if left == 0 {
@@ -85,51 +111,63 @@ fn expand_included_path<'a>(
     if path.len() > MAX_PATH {
         return Err(StatementFault::Refused(Cause::PathTooLong));
     }
-    Ok(Some(Items::new(path)))
+    Ok(Items::new(path))
+}
+
+/// A statement that includes a file.
+#[derive(Drop)]
+pub struct Include<'a> {
+    /// How many statements of its own file stand before it.
+    pub place: usize,
+    /// The statement.
+    pub statement: TreeStatement<'a>,
+    /// The path of the file that it includes.
+    pub path: &'a [Piece],
 }
 
 /// The path of the file that a directive includes, if it includes any.
-fn included_path_of_directive(
-    alloc: Global,
-    loaded: &Loaded,
-    statement: &TreeStatement,
-    kind: &DirectiveKind,
-    left: usize,
-) -> Result<Option<Items<u8>>, StatementFault>
-    requires { statement.now.kind ≡ kind_of kind.now }
-    ensures { IsIncluded (cause_to_load left (lookup (bound_by loaded.now) statement.now.scopes) statement.now.kind) (included_by (lookup (bound_by loaded.now) statement.now.scopes) statement.now.kind) result }
+fn path_of_directive(kind: &DirectiveKind) -> Option<&[Piece]>
+    ensures { option_map (λ path. path.now) result ≡ path_included (kind_of kind.now) }
 {
-    let scope = Scope {
-        bound: &loaded.bound,
-        scopes: statement.scopes(),
-    };
     match kind {
-        DirectiveKind::Include(path) => expand_included_path(alloc, scope, path.as_slice(), left),
-        DirectiveKind::Subninja(path) => expand_included_path(alloc, scope, path.as_slice(), left),
-        DirectiveKind::Rule(_) => Ok(None),
-        DirectiveKind::Pool(_) => Ok(None),
-        DirectiveKind::Default(_) => Ok(None),
+        DirectiveKind::Include(path) => Some(path.as_slice()),
+        DirectiveKind::Subninja(path) => Some(path.as_slice()),
+        DirectiveKind::Rule(_) => None,
+        DirectiveKind::Pool(_) => None,
+        DirectiveKind::Default(_) => None,
     }
 }
 
 /// The path of the file that a statement includes, if it includes any.
-fn included_path(
-    alloc: Global,
-    loaded: &Loaded,
-    statement: &TreeStatement,
-    left: usize,
-) -> Result<Option<Items<u8>>, StatementFault>
-    ensures { IsIncluded (cause_to_load left (lookup (bound_by loaded.now) statement.now.scopes) statement.now.kind) (included_by (lookup (bound_by loaded.now) statement.now.scopes) statement.now.kind) result }
+fn path_included<'a>(statement: &TreeStatement<'a>) -> Option<&'a [Piece]>
+    ensures { option_map (λ path. path.now) result ≡ path_included statement.now.kind }
 {
     match statement.said() {
-        Said::Directive(kind) => included_path_of_directive(alloc, loaded, statement, kind, left),
-        Said::Build(_) => Ok(None),
-        Said::Binding(_) => Ok(None),
+        Said::Directive(kind) => path_of_directive(kind),
+        Said::Build(_) => None,
+        Said::Binding(_) => None,
     }
 }
 
+/// The path of the file that a statement includes, expanded.
+fn included_path(
+    alloc: Global,
+    loaded: &Loaded,
+    include: &Include<'_>,
+    left: usize,
+) -> Result<Items<u8>, StatementFault>
+    requires { path_included include.now.statement.kind ≡ Some include.now.path.now }
+    ensures { IsIncluded (cause_to_load left (lookup (bound_by loaded.now) include.now.statement.scopes) include.now.statement.kind) (included_by (lookup (bound_by loaded.now) include.now.statement.scopes) include.now.statement.kind) result }
+{
+    let scope = Scope {
+        bound: loaded.bound(),
+        scopes: include.statement.scopes(),
+    };
+    expand_included_path(alloc, scope, include.path, left)
+}
+
 /// Whether a statement opens a scope for the statements that it includes.
-fn opens_scope(statement: &TreeStatement) -> bool
+fn opens_scope(statement: &TreeStatement<'_>) -> bool
     ensures { result ≡ opens_scope statement.now.kind }
 {
     matches!(
@@ -142,42 +180,110 @@ fn opens_scope(statement: &TreeStatement) -> bool
 fn scopes_of_included(
     alloc: Global,
     loaded: &Loaded,
-    statement: &TreeStatement,
+    statement: &TreeStatement<'_>,
 ) -> Result<Items<usize>, AllocError>
     ensures { IfOk result (λ inner. inner ≡ scopes_in loaded.now statement.now.scopes statement.now.kind) }
 {
     let mut inner = Vec::new(alloc);
     if opens_scope(statement) {
-        inner.push(loaded.fresh_scope(statement.scopes())?)?;
+        inner.push(loaded.statements().fresh_scope(statement.scopes())?)?;
     }
     inner.extend_from_slice(statement.scopes())?;
     Ok(Items::new(inner))
 }
 
-/// One more statement, with what it binds, unless its text is too long.
-fn with_statement(
+/// Binds what a statement binds, unless its text is too long.
+fn bind(
+    alloc: Global,
+    bound: &mut ScopedMap<Items<u8>>,
+    statement: &TreeStatement<'_>,
+) -> Result<(), ScopeFault>
+    ensures bound { OnOk result ((meant : Bound Text) → KeptEqScoped bound.old meant → KeptEqScoped bound.new (meant ++ bound_in meant statement.now.scopes statement.now.kind)) }
+    ensures long { (meant : Bound Text) → KeptEqScoped bound.old meant → IsBound statement.now (list_any (λ b. is_too_long b.1.1) (bound_in meant statement.now.scopes statement.now.kind)) result }
+{
+    match bind_statement(alloc, bound, statement) {
+        Ok(false) => Ok(()),
+        Ok(true) => Err(refusal_of(alloc, statement, Cause::TextTooLong)),
+        Err(_) => Err(ScopeFault::LoadMemory),
+    }
+}
+
+/// Binds what the statements of a file bind from one number on, up to the first that includes a file. Gives this one.
+fn bind_up_to_include<'a>(
+    alloc: Global,
+    bound: &mut ScopedMap<Items<u8>>,
+    file: &'a File,
+    start: usize,
+) -> Result<Option<Include<'a>>, ScopeFault>
+    requires scopes { 0 < length file.now.scopes }
+    requires start { start ≤ length file.now.parsed.value.statements }
+    ensures bound { IfOk result (BindsUpTo file.now start bound.old bound.new) }
+    ensures refused { IfErr result (RefusesUpTo file.now start bound.old) }
+{
+    let statements = file.statements();
+    for place in start..statements.len() {
+        let statement = TreeStatement::new(file, &statements[place]);
+        match path_included(&statement) {
+            Some(path) => {
+                return Ok(Some(Include {
+                    place,
+                    statement,
+                    path,
+                }));
+            }
+            None => {}
+        }
+        match bind(alloc, bound, &statement) {
+            Ok(()) => {}
+            Err(fault) => return Err(fault),
+        }
+    }
+    Ok(None)
+}
+
+/// How many statements of a file stand before one that includes a file, or are there.
+fn end_of(file: &File, include: &Option<Include<'_>>) -> usize
+    ensures { result ≡ end_of file.now include.now }
+{
+    match include {
+        Some(include) => include.place,
+        None => file.statements().len(),
+    }
+}
+
+/// Statements that are loaded so far, and the next one of the file, if it includes another file.
+#[derive(Drop)]
+pub struct LoadedUpTo<'a> {
+    /// The statements.
+    pub loaded: Loaded,
+    /// The next one.
+    pub include: Option<Include<'a>>,
+}
+
+/// Loads the statements of a file from one number on, up to the first that includes a file.
+fn load_up_to_include<'a>(
     alloc: Global,
     loaded: Loaded,
-    statement: TreeStatement,
-) -> Result<Loaded, ScopeFault>
-    ensures { IsBound loaded statement (list_any (λ b. is_too_long b.1.1) (bound_in (bound_by loaded) statement.scopes statement.kind)) result }
+    file: &'a Rc<File>,
+    start: usize,
+) -> Result<LoadedUpTo<'a>, ScopeFault>
+    requires scopes { 0 < length file.now.value.scopes }
+    requires start { start ≤ length file.now.value.parsed.value.statements }
+    ensures { LoadsUpTo file.now.value start loaded result }
 {
     let Loaded {
         mut statements,
         mut bound,
-        greatest,
     } = loaded;
-    match bind_statement(alloc, &mut bound, &statement) {
-        Ok(true) => return Err(refusal_of(alloc, &statement, Cause::TextTooLong)),
-        Ok(false) => {}
-        Err(_) => return Err(ScopeFault::LoadMemory),
-    }
-    let greatest = greatest.max(own_scope(statement.scopes()));
-    match statements.push(statement) {
-        Ok(()) => Ok(Loaded {
-            statements,
-            bound,
-            greatest,
+    let include = match bind_up_to_include(alloc, &mut bound, file.as_ref(), start) {
+        Ok(include) => include,
+        Err(fault) => return Err(fault),
+    };
+    let end = end_of(file.as_ref(), &include);
+    match statements.push(alloc, file, start, end) {
+        Ok(()) => Ok(LoadedUpTo {
+            loaded: Loaded { statements, bound },
+            include,
         }),
         Err(_) => Err(ScopeFault::LoadMemory),
     }
@@ -197,28 +303,19 @@ fn load_file<S: Source>(
     ensures loaded { Answers (S.gives source.old) (S.fails source.old) (S.failures source.old) (S.failures source.new) (λ missing out. LoadsWithin (S.gives source.old) missing left path scopes loaded out) result }
     ensures same { SameFiles (S.gives source.new) (S.fails source.new) (S.gives source.old) (S.fails source.old) }
 {
-    let parsed = match read_statements(alloc, source, path.as_slice()) {
+    let parsed = match read_statements(alloc, source, &loaded, path.as_slice()) {
         Ok(parsed) => parsed,
         Err(ReadFault::Missing) => return Err(ScopeFault::SourceMissing(path)),
         Err(ReadFault::Parse(fault)) => return Err(ScopeFault::Parse(path, fault)),
         Err(ReadFault::Memory) => return Err(ScopeFault::LoadMemory),
     };
-    let Parsed {
-        text,
-        lists,
-        statements,
-    } = parsed;
-    let Ok(loaded) = loaded.with_room(statements.as_slice().len()) else {
-        return Err(ScopeFault::LoadMemory);
-    };
     let file = File {
         path,
         scopes,
-        text,
-        lists,
+        parsed,
     };
     match Rc::new(alloc, file) {
-        Ok(file) => load_statements(alloc, source, loaded, file, statements, left),
+        Ok(file) => load_statements(alloc, source, loaded, file, left),
         Err(_) => Err(ScopeFault::LoadMemory),
     }
 }
@@ -230,69 +327,53 @@ fn load_statements<S: Source>(
     source: &mut S,
     loaded: Loaded,
     file: Rc<File>,
-    statements: Items<CompactStatement>,
     left: usize,
 ) -> Result<Loaded, ScopeFault>
     requires { 0 < length file.value.scopes }
-    ensures loaded { Answers (S.gives source.old) (S.fails source.old) (S.failures source.old) (S.failures source.new) (λ missing out. LoadsStatements (includes (S.gives source.old) missing left) left file.value.path file.value.scopes loaded (map (said_in file.value.text file.value.lists) statements) out) result }
+    ensures loaded { Answers (S.gives source.old) (S.fails source.old) (S.failures source.old) (S.failures source.new) (λ missing out. LoadsStatements (includes (S.gives source.old) missing left) left file.value.path file.value.scopes loaded (statements_in file.value.parsed.value) out) result }
     ensures same { SameFiles (S.gives source.new) (S.fails source.new) (S.gives source.old) (S.fails source.old) }
 {
     let mut so_far = loaded;
-    for statement in statements.into_vec() {
-        let Ok(file) = file.clone() else {
-            return Err(ScopeFault::LoadMemory);
+    let mut start = 0;
+    loop {
+        let LoadedUpTo { loaded, include } = match load_up_to_include(alloc, so_far, &file, start) {
+            Ok(up_to) => up_to,
+            Err(fault) => return Err(fault),
         };
-        so_far = match load_statement(
-            alloc,
-            source,
-            so_far,
-            TreeStatement { file, statement },
-            left,
-        ) {
+        let include = match include {
+            Some(include) => include,
+            None => return Ok(loaded),
+        };
+        so_far = match load_included(alloc, source, loaded, &include, left) {
             Ok(so_far) => so_far,
             Err(fault) => return Err(fault),
         };
-    }
-    Ok(so_far)
-}
-
-/// Loads a statement, and the statements of the file that it includes.
-#[cycle(loading)]
-fn load_statement<S: Source>(
-    alloc: Global,
-    source: &mut S,
-    loaded: Loaded,
-    statement: TreeStatement,
-    left: usize,
-) -> Result<Loaded, ScopeFault>
-    requires { 0 < length statement.scopes }
-    ensures loaded { Answers (S.gives source.old) (S.fails source.old) (S.failures source.old) (S.failures source.new) (λ missing out. LoadsOne (includes (S.gives source.old) missing left) left loaded statement out) result }
-    ensures same { SameFiles (S.gives source.new) (S.fails source.new) (S.gives source.old) (S.fails source.old) }
-{
-    match included_path(alloc, &loaded, &statement, left) {
-        Ok(None) => with_statement(alloc, loaded, statement),
-        Ok(Some(path)) => load_included(alloc, source, loaded, statement, path, left),
-        Err(StatementFault::Refused(cause)) => Err(refusal_of(alloc, &statement, cause)),
-        Err(StatementFault::Memory) => Err(ScopeFault::LoadMemory),
+        start = include.place + 1;
     }
 }
 
-/// Loads the file at this path, for the statement that includes it.
+/// Loads the file that a statement includes.
 #[cycle(loading)]
 fn load_included<S: Source>(
     alloc: Global,
     source: &mut S,
     loaded: Loaded,
-    statement: TreeStatement,
-    path: Items<u8>,
+    include: &Include<'_>,
     left: usize,
 ) -> Result<Loaded, ScopeFault>
-    requires scopes { 0 < length statement.scopes }
-    requires left { 0 < left }
-    ensures loaded { Answers (S.gives source.old) (S.fails source.old) (S.failures source.old) (S.failures source.new) (λ missing out. LoadsWithin (S.gives source.old) missing (left - 1) path (scopes_in loaded statement.scopes statement.kind) loaded out) result }
+    requires scopes { 0 < length include.now.statement.scopes }
+    requires path { path_included include.now.statement.kind ≡ Some include.now.path.now }
+    ensures loaded { Answers (S.gives source.old) (S.fails source.old) (S.failures source.old) (S.failures source.new) (λ missing out. LoadsOne (includes (S.gives source.old) missing left) left loaded include.now.statement out) result }
     ensures same { SameFiles (S.gives source.new) (S.fails source.new) (S.gives source.old) (S.fails source.old) }
 {
-    let Ok(scopes) = scopes_of_included(alloc, &loaded, &statement) else {
+    let path = match included_path(alloc, &loaded, include, left) {
+        Ok(path) => path,
+        Err(StatementFault::Refused(cause)) => {
+            return Err(refusal_of(alloc, &include.statement, cause));
+        }
+        Err(StatementFault::Memory) => return Err(ScopeFault::LoadMemory),
+    };
+    let Ok(scopes) = scopes_of_included(alloc, &loaded, &include.statement) else {
         return Err(ScopeFault::LoadMemory);
     };
     load_file(alloc, source, loaded, path, scopes, left - 1)

@@ -1,26 +1,76 @@
 //! The statements of a file, kept beside its bytes.
 
-use plan_parse::{BuildLists, CompactStatement};
+ghost use Rattle.std.specs.Prelude.{◌≡◌, Ok, bytes_eq, map};
+ghost use Rattle.plan_parse.specs.Compact.{said_in};
+ghost use Rattle.plan_parse.specs.Statements.{statements_of};
+ghost use Rattle.plan_scope.specs.ParsedTexts.{statements_in};
+
+use plan_parse::{BuildLists, CompactStatement, ParsedFile};
 use plan_text::Items;
 use std::marker::Model;
 
-/// The statements of a file, kept beside its bytes.
+/// A file's bytes, and the statements in them, kept beside them.
 #[derive(Drop)]
 pub struct Parsed {
-    /// The bytes.
-    pub text: Items<u8>,
-    /// The build lines.
-    pub lists: BuildLists,
-    /// The statements.
-    pub statements: Items<CompactStatement>,
+    text: Items<u8>,
+    lists: BuildLists,
+    statements: Items<CompactStatement>,
 }
 
 impl Model for Parsed {
-    ghost use Rattle.std.specs.Prelude.{List, map};
+    ghost use Rattle.std.specs.Prelude.{◌≡◌, Ok, map};
     ghost use Rattle.plan_parse.specs.Compact.{said_in};
-    ghost use Rattle.plan_parse.specs.Kinds.{Statement};
+    ghost use Rattle.plan_parse.specs.Statements.{statements_of};
+    ghost use Rattle.plan_scope.specs.ParsedTexts as parsed;
 
-    ghost Value = { List Statement };
+    ghost Value = { parsed.ParsedText };
 
-    ghost view = { λ p. map (said_in p.text p.lists) p.statements };
+    ghost view = { λ p. record { text = p.text; lists = p.lists; statements = p.statements } };
+
+    ghost invariant = { λ p. statements_of p.text ≡ Ok (map (said_in p.text p.lists) p.statements) };
+}
+
+impl Parsed {
+    /// The bytes of a file with their statements.
+    pub fn new(text: Vec<u8>, file: ParsedFile) -> Self
+        requires { statements_of text.items ≡ Ok (map (said_in text.items file.lists) file.statements.items) }
+        ensures text { result.text ≡ text.items }
+        ensures read { statements_of text.items ≡ Ok (statements_in result) }
+    {
+        let ParsedFile { statements, lists } = file;
+        Parsed {
+            text: Items::new(text),
+            lists,
+            statements: Items::new(statements),
+        }
+    }
+
+    /// The bytes.
+    pub fn text(&self) -> &[u8]
+        ensures { result.now ≡ self.now.text }
+    {
+        self.text.as_slice()
+    }
+
+    /// The build lines.
+    pub fn lists(&self) -> &BuildLists
+        ensures { result.now ≡ self.now.lists }
+    {
+        &self.lists
+    }
+
+    /// Whether they are those of these bytes.
+    pub fn is_of(&self, bytes: &[u8]) -> bool
+        ensures same { result ≡ bytes_eq self.now.text bytes.now }
+        ensures read { statements_of self.now.text ≡ Ok (statements_in self.now) }
+    {
+        self.text.as_slice() == bytes
+    }
+
+    /// The statements.
+    pub fn statements(&self) -> &[CompactStatement]
+        ensures { result.now ≡ self.now.statements }
+    {
+        self.statements.as_slice()
+    }
 }

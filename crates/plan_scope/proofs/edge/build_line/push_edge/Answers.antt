@@ -1,15 +1,15 @@
-use Rattle.std.proofs.Common.{◌∙◌, true, false, [], Result, Ok, Err, ap, refl, subst, sym}
+use Rattle.std.proofs.Common.{◌∙◌, false, Result, Err, ap, refl, subst, sym}
 use Rattle.std.proofs.lemmas.Result.{err_from_is_err_and}
 use Rattle.plan_scope.specs.declared.edge.paths.PathTexts.{PathTexts}
 use Rattle.plan_scope.specs.declared.fault.Cause.{Cause}
 use Rattle.plan_scope.specs.declared.manifest.edge_rows.EdgeRows.{EdgeRows}
 use Rattle.plan_scope.specs.Edge.{Edge}
-use Rattle.plan_scope.specs.Edges.{edge_or_refusal, phony_variables, variables_of, environment_of}
+use Rattle.plan_scope.specs.Edges.{edge_or_refusal, variables_of, environment_of}
 use Rattle.plan_scope.specs.EdgeAnswers.{GivesEdge}
 use Rattle.plan_scope.specs.Parts.{IsRead, parts_with}
 use Rattle.plan_scope.specs.ScopeNames.{names_in}
 use Rattle.plan_scope.proofs.EdgeRowLemmas.{edge_given, marks_refused}
-use Rattle.plan_scope.proofs.VariableLemmas.{alike_read, edge_held, found_alike, found_alike_phony}
+use Rattle.plan_scope.proofs.VariableLemmas.{alike_read, edge_held, found_alike}
 use Rattle.plan_scope.proofs.edge.build_line.push_edge.Goals as goal
 
 pub returns-clause-edge : goal.returns-clause-edge

@@ -1,5 +1,4 @@
 use Rattle.std.proofs.Common.{refl}
-use Rattle.plan_scope.specs.ScopeNames.{names_in}
 use Rattle.plan_scope.proofs.EvaluatorLemmas.{edge_more, given_within}
 use Rattle.plan_scope.proofs.manifest.evaluator.add_build.Goals as goal
 

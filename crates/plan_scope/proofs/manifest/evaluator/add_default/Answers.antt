@@ -1,4 +1,4 @@
-use Rattle.std.proofs.Common.{◌∙◌, length, ap, sym}
+use Rattle.std.proofs.Common.{◌∙◌, ap, sym}
 use Rattle.plan_scope.specs.EdgeRows.{edges_in}
 use Rattle.plan_scope.specs.Edges.{defaults_alone, map_ok, paths_of, targets_by}
 use Rattle.plan_scope.proofs.EvaluatorLemmas.{targets_behind}
