@@ -6,6 +6,7 @@ use plan_image::MAX_IMAGE;
 use plan_scope::{Source, SourceFault};
 use plan_text::{MAX_SOURCE, Tally};
 use std::alloc::Global;
+use std::fs::OpenFile;
 use std::io::{ErrorKind, Read, Write};
 use std::rt::Files;
 use std::{fs, io, str};
@@ -41,13 +42,16 @@ impl<'a, R: Files> FileSource<'a, R> {
     }
 }
 
-/// Reads the file at a path, or a front of so many bytes of a longer one.
+/// Reads the file at a path, or a front of so many bytes of a longer one. Room is made at once for the length that the
+/// system tells, and a byte more, so that its end is seen without growing.
 fn read_file<R: Files>(rt: &R, alloc: Global, path: &[u8], most: u64) -> io::Result<Vec<u8>> {
     let Ok(path) = str::from_utf8(path) else {
         return Err(io::Error::from(ErrorKind::InvalidInput));
     };
-    let mut bytes = Vec::new(alloc);
-    fs::open(rt, path)?.take(most).read_to_end(&mut bytes)?;
+    let file = fs::open(rt, path)?;
+    let room = file.metadata()?.len().min(most).saturating_add(1);
+    let mut bytes = Vec::with_capacity(alloc, usize::try_from(room).unwrap_or(0))?;
+    file.take(most).read_to_end(&mut bytes)?;
     Ok(bytes)
 }
 
