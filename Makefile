@@ -16,7 +16,7 @@ help:
 	@echo "make edits    tries the must-fail edits that the gate leaves out (CRATES=plan_text for one crate); 5 to 40 minutes a crate"
 	@echo "make refusals refuses each allocation of the calls of depfiles and records in turn; five minutes"
 	@echo "make real     compares commands and builds of CMake's and Meson's trees with ninja's, upstream projects too; more than an hour"
-	@echo "make bench    times the program beside ninja and make, and on hostile manifests; some minutes"
+	@echo "make bench    times the program beside ninja and make, on hostile manifests, and on those of CMake and GLib, which it fetches; some minutes"
 	@echo "make install  copies the program to PREFIX/bin (PREFIX is $(PREFIX))"
 	@echo "make clean    takes away what checks and builds left"
 	@echo "PROGRAM=.. tests another program than $(PROGRAM)"
