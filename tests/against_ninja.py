@@ -7,17 +7,20 @@ since there may be several.
 
 The last line is `N passed, M failed`; without ninja (Debian: ninja-build) nothing is compared.
 """
+from __future__ import annotations
+
 import pathlib
 import re
 import shutil
 import tempfile
+from typing import Tuple
 
 import programs
 from random_graphs import GraphWriter
 from random_trees import TreeWriter
 
 SECONDS = 60
-Tally = tuple[int, int]  # how many passed and failed
+Tally = Tuple[int, int]  # how many passed and failed
 
 
 def commands(program: str, folder: pathlib.Path) -> programs.Lines | None:

@@ -6,6 +6,8 @@ handed on by its name counts as called where the file has it. A type that a func
 methods of its impls of traits, which generic code calls. So more counts as reached than is called; what is not reached
 here is called by nothing.
 """
+from __future__ import annotations
+
 import pathlib
 import re
 from collections.abc import Iterable, Iterator

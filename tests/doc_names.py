@@ -4,6 +4,8 @@ The numbers and names of docs/FAULTS.md are those of the code, both ways. Words 
 like names of code (`foo_bar`, `FooBar`) occur in crates/, tests/, bench/ or the Makefile. Lines of documents and of the
 scripts have at most 120 columns.
 """
+from __future__ import annotations
+
 import pathlib
 import re
 from collections.abc import Iterator
@@ -51,9 +53,10 @@ def answered_numbers() -> dict[int, str]:
     for path in call_graph.source_files():
         text = path.read_text()
         for body in re.findall(r"fn number\(.*?\n    }\n", text, flags=re.DOTALL):
-            numbers |= {int(number): name for name, number in re.findall(r"\w+::(\w+)(?:\([^)]*\))? => (\d+)", body)}
+            found = re.findall(r"\w+::(\w+)(?:\([^)]*\))? => (\d+)", body)
+            numbers.update({int(number): name for name, number in found})
         if path in own:
-            numbers |= {int(number): "" for number in re.findall(r"\bnumber: (\d+)", text)}
+            numbers.update({int(number): "" for number in re.findall(r"\bnumber: (\d+)", text)})
     return numbers
 
 

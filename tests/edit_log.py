@@ -5,6 +5,8 @@ A refusal counts where the prover says that a goal of the code is not proved. Wh
 instead, as that names what the code now does otherwise, the edit has to be listed with its reason in
 docs/PROOF_NOTES.md, under "Edits refused in a written answer".
 """
+from __future__ import annotations
+
 import argparse
 import pathlib
 import re

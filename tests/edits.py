@@ -5,6 +5,8 @@ They run on a copy of the tree, crates side by side; a crate takes some minutes,
 edit. What `rt must-fail` says of each edit is printed; the last line is `N passed, M failed`. With --fit none is tried:
 each text that an edit replaces must stand once in its file, also of those that tests/wrong_bodies.py tries.
 """
+from __future__ import annotations
+
 import argparse
 import concurrent.futures
 import os

@@ -1,4 +1,6 @@
 """Manifests that ask for much with few bytes; what the tests and benches share of them."""
+from __future__ import annotations
+
 from collections.abc import Callable
 
 NAMES = "command depfile deps description dyndep generator pool restat rspfile msvc_deps_prefix rspfile_content".split()

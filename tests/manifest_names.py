@@ -6,6 +6,8 @@ edit that a rule names is in its crate, what stands under "done" is reached from
 and every row, every case and every edit stands under a rule. Of the other documents, what doc_names.py says. Each fault
 is a line; the last line is how many there are.
 """
+from __future__ import annotations
+
 import argparse
 import fnmatch
 import pathlib
@@ -131,7 +133,7 @@ def faults_of(rule: Rule, functions: Functions) -> Iterator[str]:
     yield from (f"no build {pattern}" for pattern, found in built if not found)
     for crate, text in rule.groups("tests"):
         own = ROOT.glob(f"crates/{crate}/src/**/*.rt")
-        name = crate.removeprefix("plan_")
+        name = re.sub("^plan_", "", crate)
         apart = [*ROOT.glob(f"crates/plan_tests_*/src/{name}.rt"), *ROOT.glob(f"crates/plan_tests_{name}/src/*.rt")]
         content = "".join(path.read_text() for path in (*own, *apart))
         yield from (f"no test {name} in {crate}" for name in re.findall(r"\w+", text) if f"fn {name}(" not in content)
@@ -154,12 +156,13 @@ def page_faults() -> Iterator[str]:
         if not on_it:
             yield f"{page}: no rules"
     every = [rule for on_it in found.values() for rule in on_it]
-    shown = set[str]().union(*(names for rule in every for _, names in fitting(rule.parts.get("rows", ""), rows())))
-    tried = set[str]().union(
+    nothing: set[str] = set()
+    shown = nothing.union(*(names for rule in every for _, names in fitting(rule.parts.get("rows", ""), rows())))
+    tried = nothing.union(
         *(names for rule in every for _, names in fitting(rule.parts.get("cases", ""), cases.names())))
-    built = set[str]().union(
+    built = nothing.union(
         *(names for rule in every for _, names in fitting(rule.parts.get("builds", ""), run_builds.names())))
-    guarding = set[tuple[str, str]]().union(*map(edits_of, every))
+    guarding = {edit for rule in every for edit in edits_of(rule)}
     yield from (f": the row {name} stands under no rule" for name in rows() if name not in shown)
     yield from (f": the case {name} stands under no rule" for name in cases.names() if name not in tried)
     yield from (f": the build {name} stands under no rule" for name in run_builds.names() if name not in built)

@@ -6,6 +6,8 @@ they stand, so that a crate and those above it can be worked on side by side; wh
 too, once. It gives no verdict, and the gate keeps nothing of it. What was checked is kept in a folder of the temporary
 folder, by crate; with --holes it goes past open goals and prints each, with --fix-imports it mends `use` lines.
 """
+from __future__ import annotations
+
 import argparse
 import os
 import pathlib

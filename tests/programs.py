@@ -1,16 +1,21 @@
 """What the tests and benches share: running programs, writing trees of files, and the commands that ninja prints."""
+from __future__ import annotations
+
 import argparse
 import collections
 import io
 import pathlib
+import re
+import shutil
 import signal
 import subprocess
 import sys
 from collections.abc import Mapping, Sequence
-from typing import NoReturn
+from typing import Counter, NoReturn
 
 SECONDS = 120
-Lines = collections.Counter[bytes]  # how often each line was printed, with its newline
+Lines = Counter[bytes]  # how often each line was printed, with its newline
+STATUS_LINES = re.compile(rb"(?:(?:\[\d+/\d+\]|FAILED|SKIPPED|STOPPED) .*\n)*")
 
 
 class Refused(Exception):
@@ -28,10 +33,12 @@ def program(path: str) -> str:
 def arguments(usage: str) -> argparse.ArgumentParser:
     """A script's command line: its docstring as help, and PROGRAM as its first word.
 
-    SIGINT ends what the script starts, also where a shell started the script in the background, which lets it ignore
-    that signal: what is ignored stays so in other programs, what is caught doesn't.
+    SIGINT and SIGTERM end what the script starts, also if a shell started the script in the background, which lets it
+    ignore signals: what is ignored stays so in other programs, what is caught doesn't.
     """
     signal.signal(signal.SIGINT, signal.default_int_handler)
+    for number in (signal.SIGTERM, signal.SIGCHLD):
+        signal.signal(number, signal.SIG_DFL)
     parser = argparse.ArgumentParser(description=usage, formatter_class=argparse.RawDescriptionHelpFormatter)
     parser.add_argument("program", metavar="PROGRAM", type=program, help="plan_ninja, as make built it")
     return parser
@@ -42,12 +49,31 @@ def run(words: Sequence[str], folder: pathlib.Path, seconds: float = SECONDS) ->
     return subprocess.run(words, cwd=folder, stdin=subprocess.DEVNULL, capture_output=True, timeout=seconds)
 
 
+def library(source: pathlib.Path, folder: pathlib.Path) -> pathlib.Path | None:
+    """Compiles a library to preload, in a folder; returns None if there is no C compiler, or none that does it."""
+    made = folder / f"{source.stem}.so"
+    words = ["cc", "-shared", "-fPIC", "-o", str(made), str(source), "-ldl"]
+    if shutil.which("cc") is None or subprocess.run(words, stderr=subprocess.DEVNULL).returncode != 0:
+        return None
+    return made
+
+
 def write(files: Mapping[str, str | bytes], folder: pathlib.Path) -> None:
     """Writes bytes, or texts in UTF-8, by their paths below a folder."""
     for name, text in files.items():
         path = folder / name
         path.parent.mkdir(parents=True, exist_ok=True)
         path.write_bytes(text.encode() if isinstance(text, str) else text)
+
+
+def replayed(program: str, folder: pathlib.Path, trace: str = "plan.trace") -> tuple[int, bytes]:
+    """Replays a trace of plan.img; returns the status, and the status lines."""
+    done = run([program, "replay", "plan.img", trace], folder)
+    if done.stderr:
+        raise Refused(f"replay of {trace}: {done.stderr.decode(errors='replace').strip()}")
+    lines = STATUS_LINES.match(done.stdout)
+    assert lines
+    return done.returncode, lines[0]
 
 
 def counted(printed: bytes) -> Lines:

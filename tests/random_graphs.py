@@ -3,6 +3,8 @@
 What ninja takes otherwise is not written: a phony with an own output among its inputs that has another output or an
 implicit input too (ninja finds a cycle), and a target of `default` that is only an input above it (ninja takes it).
 """
+from __future__ import annotations
+
 import random
 from collections.abc import Callable, Sequence
 

@@ -4,6 +4,8 @@ What ninja means otherwise is not written: a rule's variable bound in a file too
 where the build line has no block), a pool below its use or named by a variable, `..` behind a root, and what ninja
 refuses (`in`, `out`, `in_newline` and `rspfile_content` alone in a rule).
 """
+from __future__ import annotations
+
 import random
 import re
 from collections.abc import Callable, Sequence

@@ -7,10 +7,11 @@ where a list that is refused twice its room takes what it needs. Each call has t
 is proved and built first, in a copy of the crates and over what their own checks kept (some minutes of a processor).
 Needs the kit, and a C compiler for the library that refuses (refusing.c). The last line is `N passed, M failed`.
 """
+from __future__ import annotations
+
 import collections
 import pathlib
 import shutil
-import subprocess
 import sys
 import tempfile
 
@@ -29,15 +30,17 @@ OWN = 3  # the status where the program has no memory for what it passes
 
 
 def main() -> None:
-    for tool in ("rt", "cc"):
-        if shutil.which(tool) is None:
-            print(f"no {tool}: no call was refused memory")
-            return
-    refusals, failed = collections.Counter[str](), 0
+    if shutil.which("rt") is None:
+        print("no rt: no call was refused memory")
+        return
+    failed = 0
+    refusals: collections.Counter[str] = collections.Counter()
     with tempfile.TemporaryDirectory() as name:
         home = pathlib.Path(name)
-        library = home / "refusing.so"
-        subprocess.run(["cc", "-shared", "-fPIC", "-o", str(library), str(fail_alloc.LIBRARY), "-ldl"], check=True)
+        library = programs.library(fail_alloc.LIBRARY, home)
+        if library is None:
+            print("no C compiler: no call was refused memory")
+            return
         (home / "program").mkdir()
         program = built(home / "program", str(HERE / "refused_calls.rt.txt"), CRATES)
         whole, allocations = fail_alloc.run([str(program)], library, home, 0)
@@ -45,7 +48,7 @@ def main() -> None:
             sys.exit(f"with ample memory: {whole}")
         for refused in range(1, allocations + 1):
             (status, printed, errors), _ = fail_alloc.run([str(program)], library, home, refused)
-            call = errors.decode().removesuffix("\n")
+            call = errors.decode().rstrip("\n")
             if status == OWN and call == "":
                 refusals["the program's own"] += 1
             elif (status, printed) == whole[:2] and call in ("", *CALLS):

@@ -18,6 +18,8 @@ Where ninja runs beside, both must have run the same commands at each `run`, and
 its trace too, but for those with a `--trace` of their own: `replay` must print the run's status lines and end with its
 status, and a refused run leaves no trace. The last line is `N passed, M failed`.
 """
+from __future__ import annotations
+
 import fnmatch
 import os
 import pathlib
@@ -39,7 +41,6 @@ OWN = {"plan.img", ".plan_record", "plan.trace"}
 NINJAS = {".ninja_log", ".ninja_deps"}
 STEPS = {"file", "executable", "append", "touch", "delete", "folder", "run", "status", "says", "left", "gone", "alone"}
 LINE = re.compile(rb"\[(\d+)/(\d+)\] (.*)")
-TOLD = re.compile(rb"(?:(?:\[\d+/\d+\]|FAILED|SKIPPED|STOPPED) .*\n)*")
 
 
 class Step(NamedTuple):
@@ -146,13 +147,11 @@ class Trial:
         assert self.done
         self.expect("trace of a run that wasn't refused", self.done.returncode != 2, trace.exists(), place)
         if trace.exists():
-            told = programs.run([self.program, "replay", "plan.img", "plan.trace"], self.ours)
+            status, lines = programs.replayed(self.program, self.ours)
             trace.unlink()
-            self.expect("replayed status", self.done.returncode, told.returncode, place)
-            lines = TOLD.match(told.stdout)
-            assert lines
-            printed = self.done.stdout[-len(lines[0]):] if lines[0] else b""
-            self.expect("replayed lines", printed, lines[0], place)
+            self.expect("replayed status", self.done.returncode, status, place)
+            printed = self.done.stdout[-len(lines):] if lines else b""
+            self.expect("replayed lines", printed, lines, place)
 
     def beside(self, words: list[str], place: str) -> None:
         """Runs ninja, and compares the commands and the files."""
@@ -214,7 +213,7 @@ def fault(program: str, ninja: str | None, case: Case) -> str:
     with tempfile.TemporaryDirectory() as folder:
         try:
             Trial(program, ninja, pathlib.Path(folder)).do(case)
-        except (Wrong, OSError) as error:
+        except (Wrong, programs.Refused, OSError) as error:
             return str(error)
     return ""
 

@@ -6,6 +6,8 @@ it was, so the second stays clean. Eight questions are asked; in a run behind it
 first six is answered by a failure, the first edge fails and the second is skipped; where one of the last two is, the
 second fails behind the first one's line. The last line is `N passed, M failed`.
 """
+from __future__ import annotations
+
 import pathlib
 import sys
 import tempfile
@@ -30,7 +32,8 @@ LINE = "[1/2] sh gen.sh\n"
 
 def events_of(image: Image, world: chain.World, failing: int) -> list[Event]:
     """The events of a run to its end, in which the question of this number, from 1, is answered by a failure."""
-    machine, events = Machine(image, 1, 0, []), list[Event]()
+    machine = Machine(image, 1, 0, [])
+    events: list[Event] = []
     while not machine.has_ended():
         event = next(iter(machine.events()), None)
         if event is None:

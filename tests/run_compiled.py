@@ -11,11 +11,14 @@ asked by `Need`. Before all that two edges in a chain run step by step (compiler
 
 The last line is `N passed, M failed`: edges.
 """
+from __future__ import annotations
+
 import os
 import pathlib
 import sys
 import tempfile
 from collections.abc import Iterator
+from typing import Tuple
 
 import programs
 
@@ -31,7 +34,7 @@ from replies import Replies
 from rule import Facts, Made, Reply, Request, Source
 from running import Activity, Ended, Failed, Value
 
-Ending = tuple[str, object]
+Ending = Tuple[str, object]
 
 
 class Known:
@@ -42,7 +45,7 @@ class Known:
         self.maker = {path: number for number, build in enumerate(builds) for path in build.made()}
         self.waits = [sorted({self.maker[path] for path in build.named() + build.ordered() if path in self.maker})
                       for build in builds]
-        self.ranks = dict[int, int]()
+        self.ranks: dict[int, int] = {}
         for number in range(len(builds)):
             self.rank(number)
         used = {path for build in builds for path in build.named() + build.ordered()}
@@ -114,7 +117,7 @@ class Run:
     def __init__(self, image: Image, known: Known, seed: int) -> None:
         self.image, self.known, self.replies = image, known, Replies(seed)
         self.slots: list[Value | None] = [None] * len(image.slots)
-        self.left = dict[str, Made]()  # of each path made so far, what its maker leaves by the rule
+        self.left: dict[str, Made] = {}  # of each path made so far, what its maker leaves by the rule
 
     def given(self, paths: tuple[str, ...]) -> tuple[rule.Input, ...]:
         files = {file.decode(): number for number, file in enumerate(self.image.files)}

@@ -7,6 +7,8 @@ these the plain reading (reading.py) and verifier (verifying.py) say what has to
 
 The last line is `N passed, M failed`.
 """
+from __future__ import annotations
+
 import concurrent.futures
 import os
 import pathlib

@@ -4,6 +4,8 @@
 Each must end as it does with ample memory: with status 0, or with the refusal that it has coming. The last line is
 `N passed, M failed`.
 """
+from __future__ import annotations
+
 import pathlib
 import resource
 import subprocess

@@ -9,6 +9,8 @@ within the image's budget and the bytes of dependencies. `replay` must then prin
 run; and, where the trace has one event changed, refuse the first that isn't enabled. The last line is
 `N passed, M failed`.
 """
+from __future__ import annotations
+
 import concurrent.futures
 import itertools
 import os
@@ -74,8 +76,8 @@ class Walk:
         edges = range(len(image.edges))
         self.targets = self.random.sample(edges, self.random.randint(0, min(2, len(edges))))
         self.machine = self.opened()
-        self.events = list[Event]()
-        self.marks = list[Mark]()
+        self.events: list[Event] = []
+        self.marks: list[Mark] = []
 
     def opened(self) -> Machine:
         return Machine(self.image, self.jobs, self.keep, self.targets)
@@ -117,7 +119,8 @@ class Walk:
 
     def orderly(self) -> None:
         """No edge starts twice, or before each that it waits for ended well."""
-        begun, well = set[int](), set[int]()
+        begun: set[int] = set()
+        well: set[int] = set()
         for word, number, *rest in self.marks:
             if word == "Started":
                 assert number not in begun and well >= set(self.image.edges[number].waits), f"start of {number}"

@@ -8,12 +8,15 @@ well. Then the second run is changed: one edge gets other replies, or the run is
 or its jobs, or it has a target. The answer must be that of the plain machine's states, the place of the first event
 that isn't enabled, counted through both traces, or 134. The last line is `N passed, M failed`.
 """
+from __future__ import annotations
+
 import concurrent.futures
 import os
 import pathlib
 import random
 import tempfile
 from collections.abc import Iterator
+from typing import Tuple
 
 import programs
 import run_machine
@@ -26,7 +29,7 @@ from running import Activity, Event, Machine, Outcome, Reply
 
 EACH = 3  # one of so many images is tried
 SAME, DIFFERENT, APART = (0, b"same\n", b""), (1, b"different\n", b""), (2, b"", b"plan: 134 TracesDiffer\n")
-Answer = tuple[int, bytes, bytes]
+Answer = Tuple[int, bytes, bytes]
 
 
 class Order:
@@ -37,7 +40,7 @@ class Order:
         self.random = random.Random(f"{seed} {order}")
         self.machine = opened(image, jobs)
         self.heard = [0] * len(image.edges)
-        self.events = list[Event]()
+        self.events: list[Event] = []
 
     def reply(self, number: int) -> Reply:
         edge = self.machine.edges[number]

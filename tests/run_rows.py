@@ -16,12 +16,15 @@ or with the layer in front (`scopes/*`); without one all rows are run. Of a row 
 
 The last line is `N passed, M failed`.
 """
+from __future__ import annotations
+
 import collections
 import concurrent.futures
 import difflib
 import fnmatch
 import os
 import pathlib
+import re
 import shlex
 import shutil
 import subprocess
@@ -38,8 +41,6 @@ SECONDS = 60
 CLOSED = ["sh", "-c", 'exec "$0" "$@" >&-']  # a command without standard output
 MOST_LINES = 200  # of one difference
 MOST_BYTES = 400  # of one line of it
-
-Done = subprocess.CompletedProcess[bytes]
 
 
 def name_of(row: pathlib.Path) -> str:
@@ -68,7 +69,7 @@ def names_in(folder: str | pathlib.Path) -> set[str]:
 def left_by(row: pathlib.Path) -> dict[str, bytes]:
     """The files that a row wants to lie there afterwards."""
     found = {name: (row / "left" / name).read_bytes() for name in names_in(row / "left")}
-    return {name.removesuffix(".hex"): bytes.fromhex(text.decode()) if name.endswith(".hex") else text
+    return {re.sub(r"\.hex$", "", name): bytes.fromhex(text.decode()) if name.endswith(".hex") else text
             for name, text in found.items()}
 
 
@@ -85,7 +86,7 @@ def left_faults(row: pathlib.Path, folder: str, before: set[str]) -> Iterator[st
             yield from difference(name, text, found)
 
 
-def run(program: str, row: pathlib.Path) -> tuple[Done, list[str]]:
+def run(program: str, row: pathlib.Path) -> tuple[subprocess.CompletedProcess[bytes], list[str]]:
     """What the program printed, and how the files that it left are otherwise than the row says."""
     with tempfile.TemporaryDirectory() as folder:
         prepare(row, folder)
@@ -123,7 +124,7 @@ def difference(name: str, wanted: bytes, found: bytes) -> Iterator[str]:
     yield f"({name} differs from byte {place(wanted, found)} on; {len(wanted)} bytes wanted, {len(found)} found)"
 
 
-def differences(row: pathlib.Path, done: Done) -> Iterator[str]:
+def differences(row: pathlib.Path, done: subprocess.CompletedProcess[bytes]) -> Iterator[str]:
     """What is otherwise than the row says, as lines to show."""
     status = int(content(row, "status", b"0"))
     if done.returncode != status:

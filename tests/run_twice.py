@@ -8,10 +8,13 @@ replies must be the same but for stamps, and `replay IMG TRACE TRACE2` must say 
 stamps; with the stamps of one run in place of the other's it must say `same`. Where nothing is to be done it must say
 `same` at once. The last line is `N passed, M failed`; a project whose tools are missing is passed over.
 """
+from __future__ import annotations
+
 import pathlib
 import shutil
 import sys
 import tempfile
+from typing import Dict, List
 
 import programs
 
@@ -23,7 +26,7 @@ import trees
 # Whether a second build has nothing to do: a target of the first always runs.
 PROJECTS = {"cmake built": False, "cmake many": True}
 JOBS = (1, 8)
-Replies = dict[str, list[list[str]]]
+Replies = Dict[str, List[List[str]]]
 
 
 class Differs(Exception):

@@ -5,6 +5,8 @@ They say nothing wrong and are of no use: lanes that work one after another, or 
 its line `tests:`, a crate of tests and one of its tests. On a copy of the tree the test has to pass (`rt try`, which
 proves nothing), and has to fail once the edit is made. The last line is `N passed, M failed`. A minute each.
 """
+from __future__ import annotations
+
 import argparse
 import pathlib
 import shutil

@@ -3,6 +3,8 @@
 The source is newer than what is recorded of the first edge, whose command leaves its output as it was: so it runs, and
 the second edge stays clean. In the next run both are clean. Each turn is one of the lowest edge that hasn't ended.
 """
+from __future__ import annotations
+
 from collections.abc import Iterator
 
 from image import Image
@@ -29,7 +31,7 @@ class World:
 
     def __init__(self) -> None:
         self.record = {b"mid": (b"sh gen.sh", 20, ()), b"out": (b"cat mid > out", 30, ())}
-        self.asked = list[Request]()
+        self.asked: list[Request] = []
 
     def reply(self, request: Request) -> Reply:
         self.asked.append(request)

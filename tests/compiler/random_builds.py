@@ -1,4 +1,6 @@
 """Random manifests of which it is known what each edge is: its paths, its command, and the flags of the rule."""
+from __future__ import annotations
+
 import random
 from typing import NamedTuple
 

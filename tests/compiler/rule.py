@@ -2,19 +2,21 @@
 
 An edge is a generator in Python's sense: it yields requests, is sent replies, and returns what it ends with.
 """
+from __future__ import annotations
+
 import pathlib
 import sys
-from collections.abc import Generator, Iterable
-from typing import Any, NamedTuple
+from collections.abc import Iterable
+from typing import Any, Generator, List, NamedTuple, Tuple, Union
 
 HERE = pathlib.Path(__file__).resolve().parent
 sys.path.insert(0, str(HERE.parent / "depfile"))
 
 import depfiles
 
-Request = tuple[Any, ...]
-Reply = tuple[Any, ...]
-Stamps = list[int]
+Request = Tuple[Any, ...]
+Reply = Tuple[Any, ...]
+Stamps = List[int]
 
 
 class Made(NamedTuple):
@@ -31,7 +33,7 @@ class Source(NamedTuple):
     path: bytes
 
 
-Input = Made | Source
+Input = Union[Made, Source]
 
 
 class Facts(NamedTuple):

@@ -18,6 +18,8 @@ A file of cases (*.cases beside this page) has blank lines and lines that begin 
 
 Each case but those of bytes is tried in both versions: with instructions of each edge's own, and with bodies.
 """
+from __future__ import annotations
+
 import pathlib
 import re
 from collections.abc import Iterator, Sequence
@@ -84,7 +86,7 @@ def image_of(lines: Sequence[str]) -> Image:
 
 def bytes_of(lines: Sequence[str]) -> bytes:
     """The bytes of `bytes` lines."""
-    text = " ".join(line.removeprefix("bytes") for line in lines)
+    text = " ".join(re.sub("^bytes", "", line) for line in lines)
     repeated = re.sub(r"repeat (\d+) ([0-9a-f]+)", lambda found: found[2] * int(found[1]), text)
     return bytes.fromhex(repeated)
 

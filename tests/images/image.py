@@ -1,6 +1,8 @@
 """Plan images in Python: their tables, their bytes in both versions, their listing. docs/IMAGE.md has the format."""
+from __future__ import annotations
+
 from collections.abc import Callable, Iterable, Sequence
-from typing import NamedTuple, TypeVar
+from typing import NamedTuple, Optional, Tuple, TypeVar
 
 MAGIC = b"PLANIMG"
 OPS = ("End Stat Need Load Store Older Newer Before Same IsMissing Or Not Flag Zero NoPaths Text Join Equal Recall"
@@ -10,8 +12,8 @@ NUMBERED = OPEN | {"Jump", "JumpIf", "Flag"}
 KINDS = "SFTPQ"
 SORTS = ("command", "phony")
 
-Instr = tuple[str, int | None]  # its name and its number; in a body None also where the number is open
-Code = tuple[Instr, ...]
+Instr = Tuple[str, Optional[int]]  # its name and its number; in a body None also where the number is open
+Code = Tuple[Instr, ...]
 Item = TypeVar("Item")
 
 

@@ -1,4 +1,6 @@
 """Random images of both versions: code that mostly goes on well, and tables that mostly fit."""
+from __future__ import annotations
+
 import random
 from collections.abc import Iterator
 
@@ -36,7 +38,8 @@ class Writer:
 
     def code(self, image: Image, number: int) -> Code:
         """Code that follows one way along its stack, and then empties it."""
-        length, stack, code = self.random.randrange(1, 14), "", list[Instr]()
+        length, stack = self.random.randrange(1, 14), ""
+        code: list[Instr] = []
         for place in range(length):
             name = self.random.choice(OPS if self.one_in(40) else self.fitting(stack))
             code.append((name, self.operand(name, image, place, length + 4)))

@@ -1,4 +1,6 @@
 """A plain reading of images, in the order of their bytes, to compare the program's with."""
+from __future__ import annotations
+
 from collections.abc import Callable
 from typing import TypeVar
 

@@ -1,4 +1,6 @@
 """Random replies for machines."""
+from __future__ import annotations
+
 import random
 
 from running import Reply, Request

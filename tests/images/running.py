@@ -3,10 +3,12 @@
 Each count is a scan, and a value is a pair of its kind and what it holds: `("P", (paths, swept))` are paths of which so
 many were swept. Requests and replies are tuples that begin with their names.
 """
+from __future__ import annotations
+
 import pathlib
 import sys
 from collections.abc import Iterator
-from typing import Any, NamedTuple
+from typing import Any, NamedTuple, Tuple
 
 from image import Code, Image, code_of
 
@@ -16,10 +18,10 @@ import depfiles
 
 LONGEST_TEXT = 1_048_576
 MOST_VALUES = 64
-Value = tuple[str, Any]
-Request = tuple[Any, ...]
-Reply = tuple[Any, ...]
-Cause = tuple[Any, ...]
+Value = Tuple[str, Any]
+Request = Tuple[Any, ...]
+Reply = Tuple[Any, ...]
+Cause = Tuple[Any, ...]
 
 
 class Wrong(Exception):
@@ -57,7 +59,8 @@ class Activity:
         self.image, self.number, self.slots = image, number, slots
         self.edge = image.edges[number]
         self.code: Code = code_of(image, self.edge)
-        self.place, self.stack = 0, list[Value]()
+        self.place = 0
+        self.stack: list[Value] = []
         self.holding = self.ran = False
         self.asked: Request | None = None
 
@@ -220,8 +223,8 @@ class Outcome(NamedTuple):
         return self.word in ("Failed", "Skipped", "Stopped")
 
 
-Event = tuple[Any, ...]
-Mark = tuple[Any, ...]
+Event = Tuple[Any, ...]
+Mark = Tuple[Any, ...]
 
 
 class Machine:
@@ -230,7 +233,8 @@ class Machine:
     def __init__(self, image: Image, jobs: int, keep: int, targets: list[int]) -> None:
         self.image, self.jobs, self.keep = image, jobs, keep
         self.slots: list[Value | None] = [None] * len(image.slots)
-        wanted, ahead = set[int](), list(targets or image.defaults)
+        wanted: set[int] = set()
+        ahead = list(targets or image.defaults)
         while ahead:
             number = ahead.pop()
             if number not in wanted:

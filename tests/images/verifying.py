@@ -1,4 +1,6 @@
 """A plain verifier of images, to compare the program's with: docs/VERIFIER.md has the rules and their order."""
+from __future__ import annotations
+
 from collections.abc import Iterator
 from typing import NamedTuple
 

@@ -1,4 +1,6 @@
 """Projects of this repository's own that can be built by CMake and Meson: what a build makes depends on each source."""
+from __future__ import annotations
+
 import buildable_cmake
 import buildable_meson
 import trees

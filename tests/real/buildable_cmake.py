@@ -1,4 +1,6 @@
 """More projects of this repository's own that CMake configures and that can be built: a kind of edge in each."""
+from __future__ import annotations
+
 import trees
 from odd_names import but
 

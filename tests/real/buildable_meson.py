@@ -1,4 +1,6 @@
 """More projects of this repository's own that Meson configures and that can be built: a kind of edge in each."""
+from __future__ import annotations
+
 import trees
 from buildable_cmake import ALWAYS, ASSEMBLER, JOINER, LINKED, MAKER, PRECOMPILED, TEMPLATES
 from odd_names import but

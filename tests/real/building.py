@@ -8,6 +8,8 @@ source changes; what is built at last must be what ninja built, and then as litt
 trees are this repository's own (buildable.py) and sources of Debian packages (upstream.py). The last line is
 `N equal, K skipped, F failed`.
 """
+from __future__ import annotations
+
 import argparse
 import collections
 import hashlib
@@ -121,7 +123,7 @@ def compare(ours: dict[str, Built], theirs: dict[str, Built]) -> None:
         more = sorted(one.labels - other.labels)
         less = sorted(label for label in (other.labels - one.labels).elements() if not AGAIN.match(label))
         if more or len(less) != one.failed:
-            raise Differs(f"{name}: ran {more[:5]} beside ninja's {other.labels.total()}, and not {less[:5]}")
+            raise Differs(f"{name}: ran {more[:5]} beside ninja's {sum(other.labels.values())}, and not {less[:5]}")
         if one.files != other.files:
             raise Differs(f"{name}: other files: {differing(one.files, other.files)}")
 
@@ -142,7 +144,7 @@ def killed(place: Place, program: str, longest: float, chance: random.Random) ->
     """Starts a run, and ends it at a random moment: the builder alone, or its commands too."""
     words = [program, "run", ".plan_build.ninja.img", "-j", "4", "--record", ".plan_record"]
     child = subprocess.Popen(words, cwd=place.build, stdin=subprocess.DEVNULL, stdout=subprocess.DEVNULL,
-                             stderr=subprocess.DEVNULL, process_group=0)
+                             stderr=subprocess.DEVNULL, preexec_fn=os.setpgrp)
     time.sleep(chance.uniform(0.0, longest))
     if chance.randrange(4) == 0:
         child.kill()
@@ -196,7 +198,7 @@ def try_tree(tree: Tree, program: str, ninja: str, seed: int) -> str:
         restored(place, kept)
         interrupted(place, program, theirs, seed)
     ill = sum(not one.well for one in theirs.values())
-    counts = [str(one.labels.total()) for one in theirs.values()]
+    counts = [str(sum(one.labels.values())) for one in theirs.values()]
     return f"{counts[0]} commands, then {', '.join(counts[1:])}{f', {ill} builds ended ill' if ill else ''}"
 
 

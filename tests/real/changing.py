@@ -2,6 +2,8 @@
 
 A change tells whether there was something to change.
 """
+from __future__ import annotations
+
 import os
 import pathlib
 import re
@@ -46,10 +48,14 @@ def edges(place: Place) -> Iterator[Edge]:
             yield Edge(rule, [word for word in words(outputs) if word != "|"], [word for word in named if word != "|"])
 
 
+def is_below(path: pathlib.Path, folder: pathlib.Path) -> bool:
+    return folder in (path, *path.parents)
+
+
 def source_file(place: Place, name: str) -> pathlib.Path | None:
     """The file of an input, where it is a source."""
     path = pathlib.Path(os.path.normpath(place.build / name))
-    inside = path.is_relative_to(place.source) and not path.is_relative_to(place.build)
+    inside = is_below(path, place.source) and not is_below(path, place.build)
     return path if inside and path.is_file() else None
 
 
@@ -72,7 +78,7 @@ def header(place: Place) -> pathlib.Path | None:
     """A header that a source names which is compiled, else any."""
     there: dict[str, list[pathlib.Path]] = {}
     for path in sorted(place.source.rglob("*")):
-        if path.is_file() and not path.is_relative_to(place.build):
+        if path.is_file() and not is_below(path, place.build):
             there.setdefault(path.name, []).append(path)
     for path in compiled(place):
         for name in INCLUDE.findall(path.read_text(errors="replace")):

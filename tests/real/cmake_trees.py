@@ -1,4 +1,6 @@
 """CMake projects that this repository writes itself."""
+from __future__ import annotations
+
 import trees
 from odd_names import but
 

@@ -1,4 +1,6 @@
 """Compares what PROGRAM prints and compiles of a manifest with what ninja prints for all of its targets."""
+from __future__ import annotations
+
 import pathlib
 import re
 import subprocess
@@ -13,8 +15,6 @@ DECIDED = {36: "dyndep", 37: "response files"}  # what this project refuses by i
 REFUSED_LINE = re.compile(rb"^ +(?:dyndep|rspfile|rspfile_content) = .*\n", re.MULTILINE)
 SHOWN = 5
 WIDTH = 400
-
-Done = subprocess.CompletedProcess[bytes]
 
 
 class Outcome(NamedTuple):
@@ -42,7 +42,7 @@ def difference(ours: Lines, theirs: Lines) -> str:
     return "\n".join(shown)
 
 
-def refusal(done: Done) -> int | None:
+def refusal(done: subprocess.CompletedProcess[bytes]) -> int | None:
     """The number of a refusal that the project decided on, else None."""
     found = re.match(rb"plan: (\d+) ", done.stderr)
     number = int(found[1]) if done.returncode == 2 and found else None
@@ -55,7 +55,7 @@ def doctored(printed: bytes) -> list[bytes]:
     return [rest, first + newline + printed, first + b" " + newline + rest, printed[:-1]]
 
 
-def outcome(done: Done, theirs: Lines) -> Outcome:
+def outcome(done: subprocess.CompletedProcess[bytes], theirs: Lines) -> Outcome:
     """What came of a run that was not refused. Where the output is equal, wrong ones must be told from it."""
     commands = sum(theirs.values())
     if done.returncode != 0:

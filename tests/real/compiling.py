@@ -1,9 +1,12 @@
 """Compares the image that PROGRAM makes of a manifest with what ninja prints of its targets, commands and queries."""
+from __future__ import annotations
+
 import pathlib
 import re
 import sys
 import tempfile
 from collections.abc import Iterator
+from typing import Set
 
 import programs
 from programs import Lines
@@ -15,8 +18,8 @@ from image import SORTS, Code, Image, code_of
 
 PHONY = b"phony"
 QUERIED = 2_000  # outputs of a tree of which ninja is asked for inputs and users: all, but for the largest trees
-Inputs = set[bytes]
-Users = set[bytes]
+Inputs = Set[bytes]
+Users = Set[bytes]
 
 
 def made(program: str, manifest: str, folder: pathlib.Path) -> Image | str:
@@ -67,13 +70,15 @@ def queried(printed: bytes) -> Iterator[tuple[bytes, Inputs, Users]]:
     """Each path that `ninja -t query` was asked for, with its inputs of any sort and the outputs that use it."""
     for block in re.split(rb"^(?=\S)", printed, flags=re.MULTILINE)[1:]:
         head, *lines = block.splitlines()
-        inputs, users, part = Inputs(), Users(), Inputs()
+        inputs: Inputs = set()
+        users: Users = set()
+        part: Inputs = set()
         for line in lines:
             if not line.startswith(b"    "):
                 part = inputs if line.startswith(b"  input:") else users
             else:
                 part.add(re.sub(rb"^\|\|? ", b"", line[4:]))
-        yield head.removesuffix(b":"), inputs, users
+        yield head[:-1], inputs, users
 
 
 def query_faults(image: Image, printed: bytes) -> Iterator[str]:

@@ -1,4 +1,5 @@
 """File names with the bytes that a manifest, a shell or a build tool treats in its own way."""
+from __future__ import annotations
 
 ODD = [
     "two words", "it's", 'quo"te', "dol$lar", "$", "ha#sh", "#first", "am&per", "é", "日本", "(round)", "plus+", "at@", "per%cent", "eq=ual",

@@ -8,6 +8,8 @@ that is refused by a number that the project decided on is named, and compared a
 What can't be made here is skipped, and why is said; without ninja nothing is compared. The last line is
 `N equal, M refused, K skipped, F failed`.
 """
+from __future__ import annotations
+
 import pathlib
 import re
 import shutil

@@ -1,4 +1,6 @@
 """Build trees: how one is made and with which tool."""
+from __future__ import annotations
+
 import os
 import pathlib
 import shutil

@@ -1,4 +1,6 @@
 """Projects of Debian's source packages, fetched from the mirror that /etc/apt names into a folder of one's own; the system is not changed."""
+from __future__ import annotations
+
 import pathlib
 import re
 import shutil

@@ -6,6 +6,8 @@ cleaned, and built once more, each time in the same folder. Each command must en
 there behind it, and what is installed must be the same byte for byte. Then the stand-in's tools must name the commands
 and targets that ninja names, and what it can't do it must refuse. The last line is `N passed, M failed`.
 """
+from __future__ import annotations
+
 import collections
 import hashlib
 import json
@@ -136,7 +138,7 @@ def main() -> None:
             assert (place / "build" / ".plan_record").exists(), "the stand-in wasn't called"
             told = {name: fault(name, step, theirs[name]) for name, step in ours.items()}
             found = tools(place / "build", {**environment, "PLAN_NINJA": program})
-            told |= {name: "" if holds else f"{name}: not as it has to be" for name, holds in found.items()}
+            told.update({name: "" if holds else f"{name}: not as it has to be" for name, holds in found.items()})
             for said in told.values():
                 passed, failed = passed + (not said), failed + bool(said)
                 if said:
