@@ -2,17 +2,20 @@
 """Runs the program on small trees of manifests, and on images, once for each of its allocations, and refuses that one.
 
 Each run has to end in a fault of memory (status 2, as `plan: 22 Memory`, nothing on standard output, but for the front
-of a run's lines), or to print all that it prints with ample memory. Needs a C compiler, for the library that refuses
-(refusing.c).
+of a run's lines), or to print all that it prints with ample memory. The numbers have to come in the order in which the
+program calls what answers them: 22 of reading statements, 41 of evaluating, 54 of the graph, 101 of the compiler, 66 of
+reading and of making an image, 86 of the verifier, 111 of the machine, and 131 of the program itself before and after.
+Needs a C compiler, for the library that refuses (refusing.c).
 The last line is `N passed, M failed`.
 """
+from __future__ import annotations
+
 import pathlib
-import shutil
 import subprocess
 import sys
 import tempfile
 from collections.abc import Iterator
-from typing import NamedTuple
+from typing import NamedTuple, Tuple
 
 import programs
 
@@ -23,7 +26,7 @@ from image import spelled
 
 SECONDS = 60
 LIBRARY = pathlib.Path(__file__).resolve().parent / "refusing.c"
-Ended = tuple[int, bytes, bytes]  # status, standard output and standard error
+Ended = Tuple[int, bytes, bytes]  # status, standard output and standard error
 
 # every statement, list of paths and sort of variable
 TREE = {
@@ -126,35 +129,45 @@ TRACE = b"plan-trace 1 j 4 k 0\ntarget 1\nstart 0\nstep 0\nreply 0 entry 7 63632
     b"start 1\nstep 1\nreply 1 stamp 5\nstep 1\nstep 1\n")
 
 
+REFUSED_MANIFEST = "131 22 41 54 131"
+CALLS = {"commands": "131 22 41 54 131", "compile": "131 22 41 54 101 131 66", "verify": "131 66 86 131",
+         "dump": "131 66 131", "replay": "131 66 86 131 111 131"}
+BAD_TRACE = "131 66 86 131"
+
+
 class Trial(NamedTuple):
-    """The words of a command line, the files that it finds, and what is said of them on standard error."""
+    """A command line, its files, what is said of them on standard error, and the numbers of refusals in their order."""
 
     words: list[str]
     files: dict[str, bytes]
     said: bytes
+    calls: str
 
 
 def trials() -> Iterator[Trial]:
     """The trees for both commands that read manifests, each image in both versions for two others, and runs."""
     for files, said in TREES:
         texts = {name: text.encode() for name, text in files.items()}
-        yield Trial(["commands", "build.ninja"], texts, said)
-        yield Trial(["compile", "build.ninja", "-o", "/dev/stdout"], texts, said)
+        yield Trial(["commands", "build.ninja"], texts, said, CALLS["commands"])
+        calls = REFUSED_MANIFEST if said else CALLS["compile"]
+        yield Trial(["compile", "build.ninja", "-o", "/dev/stdout"], texts, said, calls)
     for case in cases():
         if case.name.rpartition(" (")[0] in IMAGES:
             said = b"" if case.answer.startswith("ok ") else f"plan: {case.answer}\n".encode()
-            yield Trial(["verify", "plan.img"], {"plan.img": case.data}, said)
-            yield Trial(["dump", "plan.img"], {"plan.img": case.data}, b"")
+            yield Trial(["verify", "plan.img"], {"plan.img": case.data}, said, CALLS["verify"])
+            yield Trial(["dump", "plan.img"], {"plan.img": case.data}, b"", CALLS["dump"])
     replayed = {"plan.img": spelled(image_of(REPLAYED.splitlines())), "run.trace": TRACE}
-    yield Trial(["replay", "plan.img", "run.trace"], replayed, b"")
-    for line, said in ((b"step 1", b"110 NotEnabled at event 22"), (b"step", b"130 BadTrace at line 25")):
+    yield Trial(["replay", "plan.img", "run.trace"], replayed, b"", CALLS["replay"])
+    for line, said, calls in ((b"step 1", b"110 NotEnabled at event 22", CALLS["replay"]),
+                              (b"step", b"130 BadTrace at line 25", BAD_TRACE)):
         files = {**replayed, "run.trace": TRACE + line + b"\n"}
-        yield Trial(["replay", "plan.img", "run.trace"], files, b"plan: " + said + b"\n")
+        yield Trial(["replay", "plan.img", "run.trace"], files, b"plan: " + said + b"\n", calls)
     whole = TRACE.replace(b"target 1\n", b"")
-    for other, said in ((whole, b""), (whole + b"step 1\n", b"plan: 110 NotEnabled at event 44\n"),
-                        (TRACE, b"plan: 134 TracesDiffer\n")):
+    for other, said, calls in ((whole, b"", CALLS["replay"]),
+                               (whole + b"step 1\n", b"plan: 110 NotEnabled at event 44\n", CALLS["replay"]),
+                               (TRACE, b"plan: 134 TracesDiffer\n", BAD_TRACE)):
         files = {**replayed, "run.trace": whole, "other.trace": other}
-        yield Trial(["replay", "plan.img", "run.trace", "other.trace"], files, said)
+        yield Trial(["replay", "plan.img", "run.trace", "other.trace"], files, said, calls)
 
 
 def run(command: list[str], library: pathlib.Path, folder: pathlib.Path, refused: int) -> tuple[Ended, int]:
@@ -178,24 +191,29 @@ def faults(program: str, library: pathlib.Path, folder: pathlib.Path, trial: Tri
     whole, allocations = run(command, library, folder, 0)
     if allocations == 0 or whole[0] != (2 if said else 0) or whole[2] != said:
         sys.exit(f"with ample memory: {whole}, {allocations} allocations")
-    found = []
+    found, numbers = [], []
     for refused in range(1, allocations + 1):
         done, _ = run(command, library, folder, refused)
-        if done != whole and not is_want_of_memory(trial, done, whole):
+        if done == whole:
+            continue
+        if not is_want_of_memory(trial, done, whole):
             found.append(f"{' '.join(trial.words)}, allocation {refused}: {done}")
+        elif numbers[-1:] != done[2].split()[1:2]:
+            numbers += done[2].split()[1:2]
+    calls = b" ".join(numbers).decode()
+    if calls != trial.calls:
+        found.append(f"{' '.join(trial.words)}: {calls}, not {trial.calls}")
     return allocations, found
 
 
 def main() -> None:
     program = programs.arguments(__doc__).parse_args().program
-    compiler = shutil.which("cc")
-    if compiler is None:
-        print("no C compiler: no allocation was refused")
-        return
     passed, failed = 0, 0
     with tempfile.TemporaryDirectory() as home:
-        library = pathlib.Path(home) / "refusing.so"
-        subprocess.run([compiler, "-shared", "-fPIC", "-o", str(library), str(LIBRARY), "-ldl"], check=True)
+        library = programs.library(LIBRARY, pathlib.Path(home))
+        if library is None:
+            print("no C compiler: no allocation was refused")
+            return
         for number, trial in enumerate(trials()):
             folder = pathlib.Path(home) / f"trial{number}"
             programs.write(trial.files, folder)

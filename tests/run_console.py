@@ -4,6 +4,8 @@
 The built program runs below a shell that pipes into it, with its output piped, and in a terminal of its own. The last
 line is `N passed, M failed`.
 """
+from __future__ import annotations
+
 import os
 import pathlib
 import pty
@@ -63,6 +65,15 @@ def output_is_whole(program: str, folder: pathlib.Path) -> str:
     return "" if sum(line.startswith(b"other") for line in lines) == 9 else f"an output is missing in {lines!r}"
 
 
+def lines_wait(program: str, folder: pathlib.Path) -> str:
+    """The line of a command that ended meanwhile comes behind what a console command prints, and before its line."""
+    programs.write({"ask.sh": "while ! [ -e out1 ]; do sleep 0.02; done; echo asked; touch out0\n"}, folder)
+    laid(program, folder, ("sh ask.sh", True), ("touch out1", False))
+    done = programs.run([program, "run", "-j", "2", "plan.img"], folder)
+    found = (done.returncode, done.stdout)
+    return "" if found == (0, b"asked\n[1/2] touch out1\n[2/2] sh ask.sh\n") else f"it ended so: {found}"
+
+
 def one_at_a_time(program: str, folder: pathlib.Path) -> str:
     alone = "mkdir taken && sleep 0.05 && rmdir taken"
     laid(program, folder, *[(alone, True)] * 4)
@@ -89,7 +100,7 @@ def in_terminal(words: list[str], folder: pathlib.Path, typed: Callable[[], byte
         os.kill(child, 9)
     _, status = os.waitpid(child, 0)
     os.close(terminal)
-    return os.waitstatus_to_exitcode(status), shown
+    return -os.WTERMSIG(status) if os.WIFSIGNALED(status) else os.WEXITSTATUS(status), shown
 
 
 def console_has_the_terminal(program: str, folder: pathlib.Path) -> str:
@@ -124,8 +135,8 @@ def interrupted(program: str, folder: pathlib.Path) -> str:
 def main() -> None:
     program = programs.arguments(__doc__).parse_args().program
     passed = failed = 0
-    for trial in (console_reads, others_read_nothing, output_is_whole, one_at_a_time, console_has_the_terminal,
-                  others_have_none, interrupted):
+    for trial in (console_reads, others_read_nothing, output_is_whole, lines_wait, one_at_a_time,
+                  console_has_the_terminal, others_have_none, interrupted):
         with tempfile.TemporaryDirectory() as name:
             said = trial(program, pathlib.Path(name))
         passed, failed = passed + (not said), failed + bool(said)

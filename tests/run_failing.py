@@ -4,13 +4,16 @@
 The calls are those for a file's times, for a command's start, for a write to the record, for a thread, and for memory
 (failing.c, which is preloaded). A run in which one of the first three fails has to end with status 1 and to say which
 edge failed and why. A thread that can't be started is done without; where none can, that is 121. A run that is short of
-memory ends well, or says of an edge that it failed, or is refused by a fault of memory behind a front of its lines. The
-next run always has to make both files right, and the one behind it has nothing to do. The last line is
+memory ends well, or says of an edge that it failed, or is refused by a fault of memory behind a front of its lines.
+Each run that was begun has to leave its trace, also one that is refused then: `replay` prints exactly the lines that
+were printed. Only if memory is refused to the lines or to the trace itself, one of them is a front of the other.
+The next run always has to make both files right, and the one behind it has nothing to do. The last line is
 `N passed, M failed`.
 """
+from __future__ import annotations
+
 import pathlib
 import re
-import shutil
 import subprocess
 import sys
 import tempfile
@@ -36,6 +39,8 @@ CAUSES = {"stat": ("stat fault",), "spawn": ("not started",), "write": ("not sta
           "memory": ("not started", "record fault")}
 REFUSALS = {f"plan: {number}\n" for number in ("22 Memory", "66 Memory", "86 Memory", "111 Memory", "120 NoMemory",
                                                "121 NoLane", "131 Memory")}
+# Refusals that come before a run is begun, and 131 also after it.
+BEFORE = {f"plan: {number} Memory\n" for number in (22, 66, 86, 111, 131)}
 # What a run says in which one call fails: mid failed and out was skipped, or out failed behind mid.
 FIRST = re.compile(r"FAILED mid: (.+)\nSKIPPED out: needs mid\n")
 SECOND = re.compile(r"\[1/2\] sh gen\.sh\nFAILED out: (.+)\n")
@@ -55,8 +60,9 @@ def run(program: str, folder: pathlib.Path, library: pathlib.Path, sort: str, fa
     calls.unlink(missing_ok=True)
     env = {"PATH": "/usr/bin:/bin", "LD_PRELOAD": str(library), "FAILED_SORT": sort, "FAILED_CALL": str(failing),
            "CALLS_FILE": str(calls)}
-    done = subprocess.run([program, "run", "plan.img", "-j", JOBS[sort], "-k", "0"], cwd=folder, env=env,
-                          timeout=SECONDS, stdin=subprocess.DEVNULL, capture_output=True, encoding="utf-8")
+    words = ["run", "plan.img", "-j", JOBS[sort], "-k", "0", "--trace", "plan.trace"]
+    done = subprocess.run([program, *words], cwd=folder, env=env, timeout=SECONDS, stdin=subprocess.DEVNULL,
+                          capture_output=True, encoding="utf-8")
     return Ended(done.returncode, done.stdout, done.stderr, len(calls.read_bytes()) if calls.exists() else 0)
 
 
@@ -78,12 +84,29 @@ def is_told(sort: str, failing: int, done: Ended) -> bool:
     return done.status == 1 and done.errors == "" and said is not None and said[1] in CAUSES[sort]
 
 
+def trace_fault(program: str, folder: pathlib.Path, done: Ended) -> str:
+    """What is wrong with the trace of a run, or nothing."""
+    if not (folder / "plan.trace").exists():
+        was_begun = done.errors not in BEFORE or done.printed not in ("", WHOLE)
+        return f"there is no trace, and it ended so: {done}" if was_begun else ""
+    status, told = programs.replayed(program, folder)
+    if status != (0 if done.status == 0 else 1) and done.errors != "plan: 131 Memory\n":
+        return f"replay ended with {status}, and the run so: {done}"
+    lines = told.decode()
+    is_front = WHOLE in (lines, done.printed) and WHOLE.startswith(lines) and WHOLE.startswith(done.printed)
+    if lines == done.printed or (done.errors == "plan: 131 Memory\n" and is_front):
+        return ""
+    return f"replay printed {lines!r}, and the run ended so: {done}"
+
+
 def fault(program: str, folder: pathlib.Path, library: pathlib.Path, sort: str, failing: int) -> str:
     """What is otherwise than it has to be where this call fails, or nothing."""
     begin(program, folder)
     done = run(program, folder, library, sort, failing)
     if not is_told(sort, failing, done):
         return f"it ended so: {done}"
+    if said := trace_fault(program, folder, done):
+        return said
     again = programs.run([program, "run", "plan.img"], folder)
     if again.returncode != 0 or any((folder / name).read_text() != "one\n" for name in ("mid", "out")):
         return f"the next run ended with {again.returncode} and printed {again.stdout!r}"
@@ -104,15 +127,13 @@ def judged(program: str, home: pathlib.Path, library: pathlib.Path, sort: str) -
 
 def main() -> None:
     program = programs.arguments(__doc__ or "").parse_args().program
-    compiler = shutil.which("cc")
-    if compiler is None:
-        print("no C compiler: no call failed")
-        return
     passed = failed = 0
     with tempfile.TemporaryDirectory() as name:
         home = pathlib.Path(name)
-        library = home / "failing.so"
-        subprocess.run([compiler, "-shared", "-fPIC", "-o", str(library), str(LIBRARY), "-ldl"], check=True)
+        library = programs.library(LIBRARY, home)
+        if library is None:
+            print("no C compiler: no call failed")
+            return
         for sort in CAUSES:
             for number, said in enumerate(judged(program, home, library, sort), 1):
                 passed, failed = passed + (not said), failed + bool(said)

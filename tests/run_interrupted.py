@@ -4,8 +4,11 @@
 By SIGINT and SIGTERM to the builder and its commands, as a terminal sends them, by SIGKILL to all of them, and by
 SIGKILL to the builder alone, whose command then goes on. Before each the source is changed, and the output was built
 well once, so that its record has an entry. A command goes on from its first write to its second only where a file
-`go` is there, so that none ends before it is to be interrupted. The last line is `N passed, M failed`.
+`go` is there, so that none ends before it is to be interrupted. A run that was ended leaves an older trace as it was;
+that of the next run tells its line. The last line is `N passed, M failed`.
 """
+from __future__ import annotations
+
 import os
 import pathlib
 import signal
@@ -19,6 +22,8 @@ import programs
 
 COMMAND = "echo one > $out; touch begun; while ! [ -e go ]; do sleep 0.05; done; cat in >> $out"
 MANIFEST = f"rule w\n  command = {COMMAND}\nbuild out: w in\n"
+RUN = ["run", "plan.img", "--trace", "plan.trace"]
+OLDER = "an older trace\n"
 PATIENCE = 20.0  # seconds for a command to begin, or a process to end
 
 
@@ -43,8 +48,8 @@ def ended(program: str, folder: pathlib.Path, number: int, alone: bool) -> None:
     """Starts a build, and ends it once its command has written half of the output; what goes on then ends by itself."""
     for name in ["begun", "go"]:
         (folder / name).unlink(missing_ok=True)
-    child = subprocess.Popen([program, "run", "plan.img"], cwd=folder, stdin=subprocess.DEVNULL,
-                             stdout=subprocess.DEVNULL, process_group=0)
+    child = subprocess.Popen([program, *RUN], cwd=folder, stdin=subprocess.DEVNULL,
+                             stdout=subprocess.DEVNULL, preexec_fn=os.setpgrp)
     until(lambda at: (at / "begun").exists(), folder)
     if alone:
         child.send_signal(number)
@@ -59,12 +64,17 @@ def fault(program: str, folder: pathlib.Path, word: str, number: int, alone: boo
     """What is otherwise than it has to be, or nothing."""
     time.sleep(0.02)
     (folder / "in").write_text(f"{word}\n")
+    (folder / "plan.trace").write_text(OLDER)
     ended(program, folder, number, alone)
-    again = programs.run([program, "run", "plan.img"], folder)
+    if (folder / "plan.trace").read_text() != OLDER:
+        return "the run that was ended changed the trace"
+    again = programs.run([program, *RUN], folder)
     if again.returncode != 0 or not again.stdout.startswith(b"[1/1] echo one"):
         return f"the next run ended with {again.returncode} and printed {again.stdout!r}"
     if (folder / "out").read_text() != f"one\n{word}\n":
         return f"the output is {(folder / 'out').read_text()!r}"
+    if programs.replayed(program, folder) != (0, again.stdout):
+        return f"replay gives {programs.replayed(program, folder)!r}, and the run printed {again.stdout!r}"
     last = programs.run([program, "run", "plan.img"], folder)
     return f"it ran once more: {last.stdout!r}" if last.stdout else ""
 

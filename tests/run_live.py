@@ -5,13 +5,15 @@ A command waits at a gate, a FIFO, that opens once the line of another was read:
 end never gets there. Also with a standard output that fails or is closed, and beside a console command. The last line
 is `N passed, M failed`.
 """
+from __future__ import annotations
+
 import os
 import pathlib
 import select
 import subprocess
 import tempfile
 import time
-from collections.abc import Callable
+from typing import Callable, List
 
 import programs
 
@@ -44,10 +46,18 @@ class Tree:
         self.gates.append(gate)
         os.write(gate, b"go\n")
 
-    def start(self, words: tuple[str, ...] = (), stdout: int = subprocess.PIPE) -> "Run":
+    def start(self, words: tuple[str, ...] = (), stdout: int = subprocess.PIPE) -> Run:
         programs.write({"build.ninja": self.manifest}, self.folder)
         programs.printed_lines([self.program, "compile", "build.ninja", "-o", "plan.img"], self.folder)
-        return Run([self.program, "run", "-j", str(self.jobs), *words, "plan.img"], self.folder, stdout)
+        words = ("-j", str(self.jobs), *words, "--trace", "plan.trace")
+        return Run([self.program, "run", *words, "plan.img"], self.folder, stdout)
+
+    def replays(self, status: int, *lines: str) -> None:
+        """The trace is whole: these lines are those of the run."""
+        wanted = (status, "".join(f"{line}\n" for line in lines).encode())
+        found = programs.replayed(self.program, self.folder)
+        if found != wanted:
+            raise Wrong(f"replay gives {found!r}, not {wanted!r}")
 
     def until(self, name: str) -> None:
         """Waits until a command has made a file."""
@@ -109,7 +119,7 @@ class Run:
             self.child.communicate()
 
 
-Trial = Callable[[Tree, list[Run]], None]
+Trial = Callable[[Tree, List[Run]], None]
 
 
 def chain_of_gates(tree: Tree, runs: list[Run]) -> None:
@@ -123,6 +133,7 @@ def chain_of_gates(tree: Tree, runs: list[Run]) -> None:
         tree.open("gate" + "bcd"[number - 1])
     runs[-1].reads("[4/4] d")
     runs[-1].ends(0)
+    tree.replays(0, "[1/4] a", "[2/4] b", "[3/4] c", "[4/4] d")
 
 
 def failures_and_skips(tree: Tree, runs: list[Run]) -> None:
@@ -139,6 +150,7 @@ def failures_and_skips(tree: Tree, runs: list[Run]) -> None:
     tree.open("gate")
     runs[-1].reads("[4/4] d")
     runs[-1].ends(1)
+    tree.replays(1, *(line.decode() for line in seen), "[4/4] d")
 
 
 def text_and_line(tree: Tree, runs: list[Run]) -> None:
@@ -191,7 +203,7 @@ def other_lines_wait(tree: Tree, runs: list[Run]) -> None:
 
 
 def reader_goes_away(tree: Tree, runs: list[Run]) -> None:
-    """Where nobody reads any more, all is built, and the fault is told."""
+    """Where nobody reads any more than the first line, all is built, the fault is told, and the trace is whole."""
     tree.edge("a", "touch a")
     tree.edge("b", f"{tree.gate('gate')} && touch b", "a")
     tree.edge("c", "touch c", "b")
@@ -203,10 +215,11 @@ def reader_goes_away(tree: Tree, runs: list[Run]) -> None:
     tree.open("gate")
     runs[-1].ends(2, b"plan: 133 FileFault -\n")
     tree.until("c")
+    tree.replays(0, "[1/3] a", "[2/3] b", "[3/3] c")
 
 
 def full_device(tree: Tree, runs: list[Run]) -> None:
-    """Where nothing can be written, all is built, and the fault is told."""
+    """Where nothing can be written, all is built, the fault is told, and the trace is whole."""
     for name, before in ("a", ""), ("b", "a"), ("c", "b"):
         tree.edge(name, f"touch {name}", before)
     full = os.open("/dev/full", os.O_WRONLY)
@@ -214,6 +227,7 @@ def full_device(tree: Tree, runs: list[Run]) -> None:
     os.close(full)
     runs[-1].ends(2, b"plan: 133 FileFault -\n")
     tree.until("c")
+    tree.replays(0, "[1/3] a", "[2/3] b", "[3/3] c")
 
 
 TRIALS: tuple[Trial, ...] = (chain_of_gates, failures_and_skips, text_and_line, nobody_reads,

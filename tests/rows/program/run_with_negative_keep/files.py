@@ -1,0 +1,3 @@
+from row_files import image
+
+image("plan.img", "")
