@@ -11,7 +11,7 @@ help:
 	@echo "make demo     compiles and runs examples/demo/build.ninja by the program, not yet proved; two to four minutes"
 	@echo "make quick    proves one crate, or one module of it (CRATE=plan_text ONLY=path); 5 to 60 seconds for a module"
 	@echo "make rows     runs the rows of the built program, or some (NAMES='tab_* scopes/*'); half a minute"
-	@echo "make tests    the tests of the built program, without proofs: documents, rows, builds, ninja, memory, trees; 3 to 5 minutes"
+	@echo "make tests    the tests of the built program, without proofs: documents, rows, builds, ninja, memory, trees; 4 to 6 minutes"
 	@echo "make check    the whole gate: proofs, must-fail edits and these tests; docs/PROOF_NOTES.md has its time"
 	@echo "make edits    tries the must-fail edits that the gate leaves out (CRATES=plan_text for one crate); 5 to 40 minutes a crate"
 	@echo "make refusals refuses each allocation of the calls of depfiles and records in turn; five minutes"
@@ -24,12 +24,13 @@ help:
 # Python, for the tests and the benches.
 .PHONY: python
 python:
-	@command -v python3 > /dev/null || { echo "python3 is not on the PATH: the tests and this project's scripts need Python 3" >&2; exit 1; }
+	@command -v python3 > /dev/null || { echo "python3 is not on the PATH: the tests and this project's scripts need Python 3.8 or newer" >&2; exit 1; }
+	@python3 -c 'import sys; sys.exit(sys.version_info < (3, 8))' || { echo "python3 is too old: README.md, 'Install', says which version is needed" >&2; exit 1; }
 
 # The toolchain.
 .PHONY: kit
 kit: python
-	@command -v rt > /dev/null || { echo "the Rattle kit's command rt is not on the PATH: README.md, 'What it needs', says what it is and which version" >&2; exit 1; }
+	@command -v rt > /dev/null || { echo "the Rattle kit's command rt is not on the PATH: README.md, 'Install', says what it is and which version" >&2; exit 1; }
 
 # The program, as `make` left it.
 .PHONY: built
@@ -81,10 +82,12 @@ tests: built
 	python3 tests/run_builds.py $(PROGRAM)
 	python3 tests/run_interrupted.py $(PROGRAM)
 	python3 tests/run_failing.py $(PROGRAM)
+	python3 tests/run_cut_depfiles.py $(PROGRAM)
 	python3 tests/run_console.py $(PROGRAM)
 	python3 tests/run_live.py $(PROGRAM)
 	python3 tests/run_twice.py $(PROGRAM)
 	python3 tests/run_limited.py $(PROGRAM)
+	python3 tests/run_standin.py $(PROGRAM)
 	python3 tests/against_ninja.py $(PROGRAM)
 	python3 tests/fail_alloc.py $(PROGRAM)
 	python3 tests/real/real.py --short $(PROGRAM)
