@@ -4,7 +4,8 @@
 `rt check` proves all crates below first, from nothing some half an hour on a new machine. Here their contracts count as
 they stand, so that a crate and those above it can be worked on side by side; what they call of each other is checked
 too, once. It gives no verdict, and the gate keeps nothing of it. What was checked is kept in a folder of the temporary
-folder, by crate; with --holes it goes past open goals and prints each, with --fix-imports it mends `use` lines.
+folder, by crate; with --holes it goes past open goals and prints each, with --fix-imports it mends `use` lines, with
+--test it checks tests too, as those of the crates plan_tests_*.
 """
 from __future__ import annotations
 
@@ -58,6 +59,7 @@ def main() -> None:
     parser.add_argument("only", nargs="*", help="modules or functions, as board::rushing or stack::Stack::has_next")
     parser.add_argument("--holes", action="store_true")
     parser.add_argument("--fix-imports", action="store_true")
+    parser.add_argument("--test", action="store_true", help="with the crate's tests")
     parser.add_argument("--jobs", type=int, default=1)
     asked = parser.parse_args()
     listed = crates()
@@ -66,7 +68,7 @@ def main() -> None:
     said = words(asked.crate, listed)
     said += ["--incremental", str(pathlib.Path(tempfile.gettempdir()) / f"over_sources-{asked.crate}")]
     said += ["--jobs", str(asked.jobs)]
-    said += ["--allow-holes"] * asked.holes + ["--fix-imports"] * asked.fix_imports
+    said += ["--allow-holes"] * asked.holes + ["--fix-imports"] * asked.fix_imports + ["--test"] * asked.test
     for name in asked.only:
         said += ["--only", name]
     os.chdir(ROOT / "crates" / asked.crate)

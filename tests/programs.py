@@ -10,6 +10,7 @@ import shutil
 import signal
 import subprocess
 import sys
+import tempfile
 from collections.abc import Mapping, Sequence
 from typing import Counter, NoReturn
 
@@ -47,6 +48,15 @@ def arguments(usage: str) -> argparse.ArgumentParser:
 def run(words: Sequence[str], folder: pathlib.Path, seconds: float = SECONDS) -> subprocess.CompletedProcess[bytes]:
     """Runs a program in a folder, without input; subprocess.TimeoutExpired where it takes longer."""
     return subprocess.run(words, cwd=folder, stdin=subprocess.DEVNULL, capture_output=True, timeout=seconds)
+
+
+def compiled(program: str, text: str) -> bytes:
+    """Returns the image of a manifest."""
+    with tempfile.TemporaryDirectory() as name:
+        home = pathlib.Path(name)
+        write({"build.ninja": text}, home)
+        printed_lines([program, "compile", "build.ninja", "-o", "plan.img"], home)
+        return (home / "plan.img").read_bytes()
 
 
 def library(source: pathlib.Path, folder: pathlib.Path) -> pathlib.Path | None:

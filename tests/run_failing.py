@@ -12,6 +12,8 @@ The next run always has to make both files right, and the one behind it has noth
 """
 from __future__ import annotations
 
+import concurrent.futures
+import os
 import pathlib
 import re
 import subprocess
@@ -33,8 +35,8 @@ TREE = {
 LINES = ("[1/2] sh gen.sh\n", "[2/2] cat mid > out\n")
 WHOLE = "".join(LINES)
 FRONTS = ("", LINES[0], WHOLE)
-# How many jobs a run has in which a call of this sort fails, and what it may say of an edge.
-JOBS = {"stat": "1", "spawn": "1", "write": "1", "thread": "2", "memory": "1"}
+# The sorts of calls, each with the jobs of a run in which one fails; and what a run may say of an edge.
+SORTS = (("stat", "1"), ("spawn", "1"), ("write", "1"), ("thread", "2"), ("memory", "1"), ("memory", "2"))
 CAUSES = {"stat": ("stat fault",), "spawn": ("not started",), "write": ("not started", "record fault"), "thread": (),
           "memory": ("not started", "record fault")}
 REFUSALS = {f"plan: {number}\n" for number in ("22 Memory", "66 Memory", "86 Memory", "111 Memory", "120 NoMemory",
@@ -55,12 +57,12 @@ class Ended(NamedTuple):
     calls: int
 
 
-def run(program: str, folder: pathlib.Path, library: pathlib.Path, sort: str, failing: int) -> Ended:
+def run(program: str, folder: pathlib.Path, library: pathlib.Path, sort: str, jobs: str, failing: int) -> Ended:
     calls = folder / "calls"
     calls.unlink(missing_ok=True)
     env = {"PATH": "/usr/bin:/bin", "LD_PRELOAD": str(library), "FAILED_SORT": sort, "FAILED_CALL": str(failing),
            "CALLS_FILE": str(calls)}
-    words = ["run", "plan.img", "-j", JOBS[sort], "-k", "0", "--trace", "plan.trace"]
+    words = ["run", "plan.img", "-j", jobs, "-k", "0", "--trace", "plan.trace"]
     done = subprocess.run([program, *words], cwd=folder, env=env, timeout=SECONDS, stdin=subprocess.DEVNULL,
                           capture_output=True, encoding="utf-8")
     return Ended(done.returncode, done.stdout, done.stderr, len(calls.read_bytes()) if calls.exists() else 0)
@@ -99,10 +101,10 @@ def trace_fault(program: str, folder: pathlib.Path, done: Ended) -> str:
     return f"replay printed {lines!r}, and the run ended so: {done}"
 
 
-def fault(program: str, folder: pathlib.Path, library: pathlib.Path, sort: str, failing: int) -> str:
+def fault(program: str, folder: pathlib.Path, library: pathlib.Path, sort: str, jobs: str, failing: int) -> str:
     """What is otherwise than it has to be where this call fails, or nothing."""
     begin(program, folder)
-    done = run(program, folder, library, sort, failing)
+    done = run(program, folder, library, sort, jobs, failing)
     if not is_told(sort, failing, done):
         return f"it ended so: {done}"
     if said := trace_fault(program, folder, done):
@@ -114,15 +116,16 @@ def fault(program: str, folder: pathlib.Path, library: pathlib.Path, sort: str, 
     return f"it ran once more: {last.stdout!r}" if last.stdout or last.returncode else ""
 
 
-def judged(program: str, home: pathlib.Path, library: pathlib.Path, sort: str) -> list[str]:
+def judged(program: str, home: pathlib.Path, library: pathlib.Path, sort: str, jobs: str) -> list[str]:
     """What is said of each call of a sort."""
-    folder = home / sort
+    folder = home / f"{sort} -j {jobs}"
     begin(program, folder)
-    whole = run(program, folder, library, sort, 0)
+    whole = run(program, folder, library, sort, jobs, 0)
     if whole[:3] != (0, WHOLE, "") or whole.calls < 2:
         return [f"without a failure: {whole}"]
     failing = list(range(1, whole.calls + 1)) + ([-1] if sort == "thread" else [])
-    return [fault(program, home / f"{sort}{number}", library, sort, number) for number in failing]
+    with concurrent.futures.ThreadPoolExecutor(os.cpu_count()) as pool:
+        return list(pool.map(lambda it: fault(program, folder / str(it), library, sort, jobs, it), failing))
 
 
 def main() -> None:
@@ -134,11 +137,11 @@ def main() -> None:
         if library is None:
             print("no C compiler: no call failed")
             return
-        for sort in CAUSES:
-            for number, said in enumerate(judged(program, home, library, sort), 1):
+        for sort, jobs in SORTS:
+            for number, said in enumerate(judged(program, home, library, sort, jobs), 1):
                 passed, failed = passed + (not said), failed + bool(said)
                 if said:
-                    print(f"{sort} {number}: {said}", file=sys.stderr)
+                    print(f"{sort} {number}, -j {jobs}: {said}", file=sys.stderr)
     programs.end(passed, failed)
 
 

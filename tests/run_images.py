@@ -2,8 +2,9 @@
 """Compares what the program says of images with the cases of tests/images, and with a plain reading and verifier.
 
 Each case is given to `verify` and to `dump`: `verify` answers as the case says, `dump` prints the listing of what can
-be read. Four images are cut at each length, and each of their bits is turned; and COUNT random images are made; of
-these the plain reading (reading.py) and verifier (verifying.py) say what has to be printed.
+be read. Four images, and the compiled one of a chain of two edges, are cut at each length, and each of their bits is
+turned; and COUNT random images are made; of these the plain reading (reading.py) and verifier (verifying.py) say what
+has to be printed.
 
 The last line is `N passed, M failed`.
 """
@@ -18,8 +19,10 @@ from collections.abc import Iterator
 
 import programs
 
-sys.path.insert(0, str(pathlib.Path(__file__).resolve().parent / "images"))
+for folder in ("images", "compiler"):
+    sys.path.insert(0, str(pathlib.Path(__file__).resolve().parent / folder))
 
+import chain
 import image
 import random_images
 import reading
@@ -84,7 +87,8 @@ def main() -> None:
     found = parser.parse_args()
     every = list(cases())
     turned = [case for case in every if case.name.rpartition(" (")[0] in TURNED]
-    every += [other for case in turned for other in changed(case)]
+    turned.append(made("chain", programs.compiled(found.program, chain.MANIFEST)))
+    every += [turned[-1], *(other for case in turned for other in changed(case))]
     every += random_cases(found.count, found.seed)
     with concurrent.futures.ThreadPoolExecutor(os.cpu_count()) as pool:
         told = list(pool.map(lambda case: faults(found.program, case), every))

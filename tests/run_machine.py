@@ -227,19 +227,9 @@ def fault(program: str, trial: Trial) -> str:
     return ""
 
 
-def compiled(program: str, text: str) -> bytes:
-    """The image of a manifest."""
-    with tempfile.TemporaryDirectory() as name:
-        home = pathlib.Path(name)
-        (home / "build.ninja").write_text(text)
-        done = programs.run([program, "compile", "build.ninja", "-o", "plan.img"], home)
-        assert done.returncode == 0, done.stderr
-        return (home / "plan.img").read_bytes()
-
-
 def chains(program: str) -> Iterator[Case]:
     """The chain of tests/compiler in both versions."""
-    data = compiled(program, chain.MANIFEST)
+    data = programs.compiled(program, chain.MANIFEST)
     found = reading.read(data)
     assert not isinstance(found, str)
     edges = [edge._replace(code=code_of(found, edge)) for edge in found.edges]
@@ -254,7 +244,7 @@ def images(program: str, count: int, seed: int) -> Iterator[tuple[str, bytes]]:
     yield from ((case.name, case.data) for one in turned for case in (one, *run_images.changed(one)))
     yield from ((f"random image {number}", data) for number, data in enumerate(random_images.images(4 * count, seed)))
     manifests = ((number, random_builds.Writer(number).manifest()[2]) for number in range(seed, seed + count))
-    yield from ((f"manifest {number}", compiled(program, text)) for number, text in manifests)
+    yield from ((f"manifest {number}", programs.compiled(program, text)) for number, text in manifests)
 
 
 def trials(program: str, count: int, seed: int) -> Iterator[Trial]:
