@@ -30,6 +30,8 @@ STANDIN = pathlib.Path(__file__).resolve().parents[1] / "examples" / "ninja" / "
 PATIENCE = 20.0  # seconds for something to come
 WIDTH = 400  # of what is shown of a value
 SLEEPING = "touch begun$out; sleep 60; touch $out"
+TRAPPING = ("exec 2>/dev/null; trap 'touch told$out; exit 1' INT TERM HUP; touch begun$out; "
+            "while :; do sleep 0.05; done; touch $out")  # nobody reads what a shell says of signals
 GATED = "touch begun$out; while ! [ -e go ]; do sleep 0.02; done; touch $out"
 STOPPED_BY_USER = b"ninja: build stopped: interrupted by user.\n"
 CAUGHT = (signal.SIGINT, signal.SIGTERM, signal.SIGHUP)
@@ -224,8 +226,8 @@ def ctrl_backslash(place: Place) -> None:
 
 def passed_on(number: int) -> Callable[[Place], None]:
     def trial(place: Place) -> None:
-        """A signal to the script only ends its commands too, and then both are made."""
-        place.write(f"a {SLEEPING}", f"b {SLEEPING}")
+        """A signal to the script only reaches its commands and ends them, and the next build makes both."""
+        place.write(f"a {TRAPPING}", f"b {TRAPPING}")
         child = place.started("-j", "2")
         place.begun("a", "b")
         child.send_signal(number)
@@ -233,6 +235,7 @@ def passed_on(number: int) -> Callable[[Place], None]:
         expect("left", {}, group_of(child.pid))
         expect("status", 128 + number, child.returncode)
         expect("said", STOPPED_BY_USER, said)
+        expect("commands have the signal", True, place.has("tolda", "toldb"))
         expect("made", False, place.has("a") or place.has("b"))
         place.write("a touch $out", "b touch $out")
         expect("lines", 2, place.done().stdout.count(b"] "))
@@ -377,6 +380,21 @@ def recompact_waits_for_the_lock(place: Place) -> None:
     expect("record", entry(b"a", b"true") + entry(b"b", b"late"), path.read_bytes())
 
 
+def replaced_record_is_opened_again(place: Place) -> None:
+    """Another file got the record's name while `-t recompact` waited for the lock of the older one."""
+    path = record(place)
+    with open(path, "rb+") as file:
+        fcntl.flock(file, fcntl.LOCK_EX)
+        child = place.started("-t", "recompact")
+        time.sleep(0.5)
+        other = path.with_name("other")
+        other.write_bytes(entry(b"a", b"older") + entry(b"a", b"newer"))
+        other.rename(path)
+    child.communicate(timeout=PATIENCE)
+    expect("status", 0, child.returncode)
+    expect("record", entry(b"a", b"newer"), path.read_bytes())
+
+
 def record_held_above_stays(place: Place) -> None:
     path = record(place)
     place.environment["PLAN_NINJA_RECORDS"] = f"/elsewhere\n{path.resolve()}"
@@ -434,7 +452,7 @@ TRIALS: tuple[Callable[[Place], None], ...] = (
     console_reads_the_terminal, ctrl_c, ctrl_z, ctrl_backslash, *map(passed_on, CAUGHT), stubborn_command_is_killed,
     killed_script_ends_the_build, hangup_is_ignored_under_nohup, failing_command, closed_streams, reader_goes_away,
     twice_at_once, record_is_tidied, locked_record_is_not_tidied, recompact_waits_for_the_lock,
-    record_held_above_stays, commands_in_build_order, clean_refuses_unknown_words)
+    replaced_record_is_opened_again, record_held_above_stays, commands_in_build_order, clean_refuses_unknown_words)
 
 
 def main() -> None:
