@@ -1,5 +1,5 @@
 #!/usr/bin/env python3
-"""Uses the stand-in of examples/ninja: in a terminal, in pipes, with signals, twice at once, and by its tools.
+"""Uses the stand-in of examples/ninja: in a terminal, in pipes, with signals, several at once, and by its tools.
 
 In a terminal, keys must reach the builder and its commands, as with any job of a shell. Signals to the script only must
 end its commands too. The build record must be rewritten under its lock only. tests/real/using.py lets CMake and Meson
@@ -314,18 +314,19 @@ def reader_goes_away(place: Place) -> None:
     expect("status", 1, child.wait(PATIENCE))
 
 
-def twice_at_once(place: Place) -> None:
-    """Two that compile and build side by side both succeed, and leave no file of theirs."""
-    place.write(*(f"out{number} touch $out" for number in range(20)))
+def several_at_once(place: Place) -> None:
+    """Those that compile side by side all succeed, and leave no file of theirs."""
+    outputs = [f"out{number}" for number in range(20)]
+    place.write(*(f"{output} touch $out" for output in outputs))
     for _ in range(5):
         for path in place.folder.glob(".plan_*"):
             path.unlink()
-        both = [place.started("-j", "2") for _ in range(2)]
-        for child in both:
-            said = child.communicate(timeout=PATIENCE)[0]
-            expect("status", (0, said), (child.returncode, said))
+        children = [place.started("-t", "targets", "all") for _ in range(5)]
+        told = [(child.communicate(timeout=PATIENCE)[0], child.returncode) for child in children]
+        for said, status in told:
+            expect("ends", (0, outputs), (status, programs.targets(said)))
         left = {path.name for path in place.folder.glob(".plan_*")}
-        expect("left", {".plan_build.ninja.img", ".plan_build.ninja.files", ".plan_record"}, left)
+        expect("left", {".plan_build.ninja.img", ".plan_build.ninja.files"}, left)
 
 
 # ---- the build record
@@ -451,7 +452,7 @@ def clean_refuses_unknown_words(place: Place) -> None:
 TRIALS: tuple[Callable[[Place], None], ...] = (
     console_reads_the_terminal, ctrl_c, ctrl_z, ctrl_backslash, *map(passed_on, CAUGHT), stubborn_command_is_killed,
     killed_script_ends_the_build, hangup_is_ignored_under_nohup, failing_command, closed_streams, reader_goes_away,
-    twice_at_once, record_is_tidied, locked_record_is_not_tidied, recompact_waits_for_the_lock,
+    several_at_once, record_is_tidied, locked_record_is_not_tidied, recompact_waits_for_the_lock,
     replaced_record_is_opened_again, record_held_above_stays, commands_in_build_order, clean_refuses_unknown_words)
 
 
