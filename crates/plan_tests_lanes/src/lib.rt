@@ -3,4 +3,6 @@
 #![tactic(auto)]
 
 #[cfg(test)]
+mod chain;
+#[cfg(test)]
 mod lanes;

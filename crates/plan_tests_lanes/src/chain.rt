@@ -1,0 +1,218 @@
+//! Runs of a chain of two edges, the first one restat, over a world that fails one call.
+
+use plan_image::read_image;
+use plan_lanes::*;
+use plan_machine::{Options, Outcome, Recorded, Reply};
+use plan_status::status_lines;
+use plan_text::RowList;
+use plan_verify::{Cause, PathList, Verified, Words, verify};
+use std::alloc::{AllocError, Global};
+use std::sync::Wait;
+use std::sync::atomic::{AtomicU64, Ordering};
+use std::test::*;
+use std::thread::Threads;
+
+/// The image that `compile` writes of this manifest:
+///
+/// ```text
+/// rule gen
+///   command = sh gen.sh
+///   restat = 1
+/// rule use
+///   command = cat $in > $out
+/// build mid: gen src
+/// build out: use mid
+/// ```
+const CHAIN: [u8; 443] =
+    *b"PLANIMG\x02\0\0\0\x02\0\0\0\x09sh gen.sh\0\0\0\x0dcat mid > out\0\0\0\x03\0\x03mid\0\x03src\0\x03out\0\0\0\0\0\0\0\x06\0\0\0\0\x01\0\0\0\0\x01\0\0\0\0\x02\0\0\0\x01\x02\0\0\0\x01\x01\0\0\0\x01\x01\0\0\0\x02\0\0\02\x02\x04\x01\x04\x12\x1b\x0f\x11\x15\0\0\0\x12\x1c\x0d\x1c\x0c\0\x1c\x13\x1b\x1b\x14\0\0\0 \x1c\x03\x1c\x03\x09\x1c\x13\x1b\x15\0\0\0 \x07\x15\0\0\0\x22\x0c\0\x04\0\x1b\x1b\x16\x0f\x18\x17\x0f\x03\x0e\x1a\x03\x01\x04\x03\x08\x0b\x04\0\0\0\0,\x03\x04\x01\x04\x03\x03\x03\x09\x03\n\x12\x1b\x0f\x11\x15\0\0\0\x14\x1b\x13\x1b\x1b\x14\0\0\0\x1d\x1b\x13\x1b\x15\0\0\0\x1d\x07\x15\0\0\0\x1f\x0c\0\x04\0\x1b\x1b\x16\x0f\x18\x17\x0f\x03\x0e\x1a\x01\x04\x0c\x01\x04\0\0\0\0\x02\0\0\0\0\0\0\0\0\0\0\0\0\0\0\0\0\x01\0\0\0\0\0\0\0\0\0\0\0\0\0\0\0\x01\0\0\0\0\0\0\0\0\0\0\0\x01\0\0\0\0\0\0\0\0\0\0\0\x01\0\0\0\x02\0\0\0\0\0\0\0\0\0\0\0\0\0\0\0\x01\0\0\0\0\0\0\0\x01\0\0\0\x01\0\0\0\x02\0\0\0\0\0\0\0\0\x01\0\0\0\x01\0\0\0\x01\0\0\0\x02\0\0\0\x01\0\0\0\0\0\0\0\x01\0\0\0\x01\0\0\0\x04\0\0\0\x02\0\0\0\x05\0\0\0\x05\0\0\0\x04\0\0\0\x05\0\0\0\x02\0\0\0\x01\0\0\0\x03\0\0\0\x01\0\0\0\x01\0\0\0\x04\0\0\0\x02\0\0\0\x05\0\0\0\x03\0\0\0\x01\0\0\0\x01";
+
+/// Returns the image of the chain.
+fn chain(alloc: Global) -> Option<Verified> {
+    let Ok(image) = read_image(alloc, CHAIN.as_slice()) else {
+        return None;
+    };
+    match verify(alloc, image) {
+        Ok(verified) => Some(verified),
+        Err(_) => None,
+    }
+}
+
+/// A world of files that no command changes, in which `src` is newer than what `mid` was made from. It counts its calls,
+/// and fails the one of this number, counted from 1.
+#[derive(Drop)]
+struct Failing {
+    alloc: Global,
+    failing: u64,
+    calls: AtomicU64,
+}
+
+impl Failing {
+    /// Counts a call, and tells whether it fails.
+    fn fails(&self) -> bool {
+        self.calls.fetch_add(1, Ordering::SeqCst).wrapping_add(1) == self.failing
+    }
+}
+
+/// Returns when a file of the chain was changed.
+fn stamp_of(path: &[u8]) -> u64 {
+    match path {
+        [b's', ..] => 50,
+        [b'm', ..] => 30,
+        _ => 40,
+    }
+}
+
+/// Returns what the record has for an output of the chain.
+fn entry_of(alloc: Global, output: &[u8]) -> Result<Reply, AllocError> {
+    let (command, basis) = match output {
+        [b'm', ..] => (b"sh gen.sh".as_slice(), 20),
+        _ => (b"cat mid > out".as_slice(), 30),
+    };
+    let command = Words::of(alloc, command)?;
+    let paths = PathList::empty(alloc)?;
+    Ok(Reply::Entry(Recorded::new(alloc, command, basis, paths)?))
+}
+
+impl World for Failing {
+    ghost use Rattle.std.specs.Prelude.{⊤};
+
+    ghost allows = { λ number request reply. ⊤ };
+
+    fn stat(&self, _number: u64, path: &[u8]) -> Result<Reply, AllocError> {
+        if self.fails() {
+            return Ok(Reply::Fault);
+        }
+        Ok(Reply::Stamp(stamp_of(path)))
+    }
+
+    fn recall(&self, _number: u64, output: &[u8]) -> Result<Reply, AllocError> {
+        if self.fails() {
+            return Ok(Reply::Fault);
+        }
+        entry_of(self.alloc, output)
+    }
+
+    fn run(
+        &self,
+        _number: u64,
+        _command: &[u8],
+        _outputs: &RowList<u8>,
+        permit: Permit,
+    ) -> Result<Reply, AllocError> {
+        permit.spend();
+        if self.fails() {
+            return Ok(Reply::NotStarted);
+        }
+        Ok(Reply::Exit(0))
+    }
+
+    fn read_depfile(&self, _number: u64, _path: &[u8]) -> Result<Reply, AllocError> {
+        if self.fails() {
+            return Ok(Reply::Fault);
+        }
+        Ok(Reply::Nothing)
+    }
+
+    fn keep(
+        &self,
+        _number: u64,
+        _output: &[u8],
+        _command: &[u8],
+        _basis: u64,
+        _paths: &PathList,
+    ) -> Result<Reply, AllocError> {
+        if self.fails() {
+            return Ok(Reply::Fault);
+        }
+        Ok(Reply::Kept)
+    }
+}
+
+/// Runs the chain by this many threads over a world, any number of failures borne.
+fn ran<R: Threads + Wait + Sync>(
+    rt: &R,
+    alloc: Global,
+    image: &Verified,
+    jobs: u8,
+    world: &Failing,
+) -> Option<Report> {
+    let Some(options) = Options::new(jobs, 0) else {
+        return None;
+    };
+    match run_lanes(rt, alloc, image, options, &[], world) {
+        Ok(report) => Some(report),
+        Err(_) => None,
+    }
+}
+
+/// Checks whether the edges of a run came out so.
+fn came_out(report: &Report, mid: Outcome, out: Outcome) -> bool {
+    report.state.outcome(0) == Some(mid) && report.state.outcome(1) == Some(out)
+}
+
+/// Checks whether the lines of a run are this text.
+fn tells(alloc: Global, image: &Verified, report: &Report, text: &[u8]) -> bool {
+    match status_lines(alloc, image, report.state.total(), &report.marks) {
+        Ok(lines) => lines.as_slice() == text,
+        Err(_) => false,
+    }
+}
+
+/// Returns how both edges come out if the call of this number fails.
+fn outcomes_behind(failing: u64) -> (Outcome, Outcome) {
+    match failing {
+        1 | 2 | 6 => (Outcome::Failed(Cause::StatFault), Outcome::Skipped(0)),
+        3 | 5 => (Outcome::Failed(Cause::RecordFault), Outcome::Skipped(0)),
+        4 => (Outcome::Failed(Cause::NotStarted), Outcome::Skipped(0)),
+        7 => (Outcome::Ran, Outcome::Failed(Cause::StatFault)),
+        8 => (Outcome::Ran, Outcome::Failed(Cause::RecordFault)),
+        _ => (Outcome::Ran, Outcome::Clean),
+    }
+}
+
+/// Returns the lines of a run in which the call of this number fails.
+fn lines_behind(failing: u64) -> &'static [u8] {
+    match failing {
+        1 | 2 | 6 => b"FAILED mid: stat fault\nSKIPPED out: needs mid\n",
+        3 | 5 => b"FAILED mid: record fault\nSKIPPED out: needs mid\n",
+        4 => b"FAILED mid: not started\nSKIPPED out: needs mid\n",
+        7 => b"[1/2] sh gen.sh\nFAILED out: stat fault\n",
+        8 => b"[1/2] sh gen.sh\nFAILED out: record fault\n",
+        _ => b"[1/2] sh gen.sh\n",
+    }
+}
+
+/// Returns how often the world is asked if the call of this number fails; 0 for none.
+fn calls_behind(failing: u64) -> u64 {
+    if failing == 0 || failing > 8 {
+        8
+    } else {
+        failing
+    }
+}
+
+/// Each of the eight calls fails once, by one lane and by four; and none does. A failed call ends its edge, and no call
+/// comes twice.
+#[test]
+fn each_call_fails_once(rt: HostRuntime) -> Result<(), Fail> {
+    let Some(image) = chain(rt.alloc()) else {
+        panic!(&rt; "no image");
+    };
+    for jobs in [1u8, 4] {
+        for failing in 0..10u64 {
+            let world = Failing {
+                alloc: rt.alloc(),
+                failing,
+                calls: AtomicU64::new(0),
+            };
+            let Some(report) = ran(&rt, rt.alloc(), &image, jobs, &world) else {
+                panic!(&rt; "no report");
+            };
+            let (mid, out) = outcomes_behind(failing);
+            assert!(rt; came_out(&report, mid, out));
+            assert!(rt; tells(rt.alloc(), &image, &report, lines_behind(failing)));
+            assert_eq!(rt; world.calls.load(Ordering::SeqCst), calls_behind(failing));
+        }
+    }
+    Ok(())
+}
