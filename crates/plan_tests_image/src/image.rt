@@ -1,5 +1,6 @@
 //! Each public function once, on values from outside.
 
+use byteorder::{BigEndian, ByteOrder};
 use plan_image::*;
 use plan_text::{Counted, Items, RowList};
 use std::alloc::Global;
@@ -151,11 +152,18 @@ fn refused_bytes(rt: HostRuntime) -> Result<(), Fail> {
     Ok(())
 }
 
+/// Returns the head of an image, and this count of texts.
+fn counted_texts(count: u32) -> [u8; 12] {
+    let mut bytes = *b"PLANIMG\x01\0\0\0\0";
+    BigEndian::write_u32(&mut bytes[8..], count);
+    bytes
+}
+
 #[test]
 fn refused_counts(rt: HostRuntime) {
-    let fault = fault_of(rt.alloc(), b"PLANIMG\x01\0\x40\0\0");
+    let fault = fault_of(rt.alloc(), &counted_texts(4_194_304));
     assert_eq!(rt; fault, Some(ImageFault::Truncated(12)));
-    let fault = fault_of(rt.alloc(), b"PLANIMG\x01\0\x40\0\x01");
+    let fault = fault_of(rt.alloc(), &counted_texts(4_194_305));
     assert_eq!(rt; fault, Some(ImageFault::Limit(8)));
 }
 

@@ -1,5 +1,6 @@
 //! Each public function once, on values from outside.
 
+use byteorder::{BigEndian, ByteOrder};
 use plan_record::*;
 use plan_text::{Counted, Items, Memory};
 use std::alloc::Global;
@@ -10,6 +11,19 @@ use std::test::Fail;
 const ENTRY: [u8; 24] = [
     0, 0, 0, 20, 0, 1, b'a', 0, 0, 0, 1, b't', 0, 0, 0, 0, 0, 0, 0, 7, 0, 0, 0, 0,
 ];
+
+/// Returns the bytes of an entry of one output, the command `t` and no path, which says these lengths and this count.
+fn entry_bytes(body: u32, name: u16, output: u8, basis: u64, count: u32) -> [u8; 24] {
+    let mut bytes = [0u8; 24];
+    BigEndian::write_u32(&mut bytes[..], body);
+    BigEndian::write_u16(&mut bytes[4..], name);
+    bytes[6] = output;
+    BigEndian::write_u32(&mut bytes[7..], 1);
+    bytes[11] = b't';
+    BigEndian::write_u64(&mut bytes[12..], basis);
+    BigEndian::write_u32(&mut bytes[20..], count);
+    bytes
+}
 
 /// The record of some bytes.
 fn record_of(alloc: Global, bytes: &[u8]) -> Result<(Record, u64), Memory> {
@@ -33,6 +47,7 @@ fn spelling_of(alloc: Global, entry: &Entry) -> Result<Vec<u8>, WriteFault> {
 
 #[test]
 fn entry_of_24_bytes(rt: HostRuntime) -> Result<(), Fail> {
+    assert!(rt; entry_bytes(20, 1, b'a', 7, 0) == ENTRY);
     let (record, len) = record_of(rt.alloc(), &ENTRY)?;
     assert_eq!(rt; len, 24);
     assert_eq!(rt; record.entries().len(), 1);
@@ -66,18 +81,14 @@ fn torn_entries(rt: HostRuntime) -> Result<(), Fail> {
 #[test]
 fn bodies_of_another_length(rt: HostRuntime) -> Result<(), Fail> {
     let mut longer = Vec::new(rt.alloc());
-    longer.extend_from_slice(&ENTRY)?;
+    longer.extend_from_slice(&entry_bytes(21, 1, b'a', 7, 0))?;
     longer.push(0)?;
-    longer[3] = 21;
     assert_eq!(rt; front_of(rt.alloc(), &longer)?, (0, 0));
-    let mut shorter = ENTRY;
-    shorter[3] = 19;
+    let shorter = entry_bytes(19, 1, b'a', 7, 0);
     assert_eq!(rt; front_of(rt.alloc(), &shorter)?, (0, 0));
-    let mut counted = ENTRY;
-    counted[23] = 1;
+    let counted = entry_bytes(20, 1, b'a', 7, 1);
     assert_eq!(rt; front_of(rt.alloc(), &counted)?, (0, 0));
-    let mut nameless = ENTRY;
-    nameless[5] = 0;
+    let nameless = entry_bytes(20, 0, b'a', 7, 0);
     assert_eq!(rt; front_of(rt.alloc(), &nameless)?, (0, 0));
     Ok(())
 }
@@ -86,10 +97,7 @@ fn bodies_of_another_length(rt: HostRuntime) -> Result<(), Fail> {
 fn last_of_an_output(rt: HostRuntime) -> Result<(), Fail> {
     let mut file = Vec::new(rt.alloc());
     for (output, basis) in [(b'a', 1), (b'b', 2), (b'a', 3), (b'c', 4)] {
-        let mut entry = ENTRY;
-        entry[6] = output;
-        entry[19] = basis;
-        file.extend_from_slice(&entry)?;
+        file.extend_from_slice(&entry_bytes(20, 1, output, basis, 0))?;
     }
     let (record, len) = record_of(rt.alloc(), &file)?;
     assert_eq!(rt; len, 96);
