@@ -1,6 +1,7 @@
 -- The edges of an image, and what it says of them.
 use Rattle.std.proofs.Common.{◌≡◌, ℕ, zero, suc, ◌+◌, ◌≤◌, Bool, true, false, List, [], ◌∷◌, length, map, Option, Some, None, refl, ap, ◌∙◌, arith}
 use Rattle.std.specs.Prelude.{slice_get, option_map, flat_map, bytes_eq}
+use Rattle.std.specs.List.{range_with_len}
 use Rattle.std.proofs.lemmas.Option.{slice_get-map}
 use Rattle.plan_scope.specs.declared.manifest.Pool.{Pool as ManifestPool}
 use Rattle.plan_image.specs.declared.instr.Instr.{Instr}
@@ -16,10 +17,12 @@ use Rattle.plan_compile.specs.Emit.{code_of}
 use Rattle.plan_compile.specs.Slots.{base, own_len, all_made}
 use Rattle.plan_compile.specs.Names.{Text, text_number, unless_empty, label_of, texts_in, all_texts, pool_by, pool_in, used_pools, pool_number, declared}
 use Rattle.plan_compile.specs.Images.{wire, codes_from, codes, used_bodies, edge_of, edges_of, image_of}
-use Rattle.plan_compile.specs.Faithful.{IsEdge, HasPool, IsFaithful}
+use Rattle.plan_compile.specs.Numbering.{number, once}
+use Rattle.plan_compile.specs.Faithful.{IsEdge, HasPool, IsFaithful, body_numbers}
 use Rattle.plan_compile.proofs.ListLemmas.{some_is, get_front, get_past}
 use Rattle.plan_compile.proofs.NumberingLemmas.{texts_decide, found}
 use Rattle.plan_compile.proofs.BodyKeyLemmas.{bodies_decide}
+use Rattle.plan_compile.proofs.UseLemmas.{all_apart, each_used, numbers_count, same_number}
 
 -- ---- what each edge has of all
 
@@ -117,6 +120,22 @@ image_count t =
     edges_length (all_texts t.edges) (used_pools t.edges) (used_bodies (codes t.edges)) (codes t.edges) t.edges
     (codes_length (all_texts t.edges) (all_made zero t.edges) zero t.edges)
 
+-- the numbers of edges' bodies, by their codes
+numbers_of : (texts pools : List Text) (bodies : List Body) (all : List (List Instr)) (xs : List Build) → length all ≡ length xs
+    → body_numbers (edges_of texts pools bodies all xs) ≡ map (λ b. number same_body b bodies) (map body_of all)
+numbers_of texts pools bodies [] [] h = refl
+numbers_of texts pools bodies [] (x ∷ xs) h = absurd (omega (arith, h))
+numbers_of texts pools bodies (is ∷ all) [] h = absurd (omega (arith, h))
+numbers_of texts pools bodies (is ∷ all) (x ∷ xs) h =
+    ap (λ (ns : List ℕ). number same_body (body_of is) bodies ∷ ns) (numbers_of texts pools bodies all xs (omega (arith, h)))
+
+bodies_ordered : (t : Builds) → once same_number (body_numbers (image_of t).edges) ≡ range_with_len 0 (length (used_bodies (codes t.edges)))
+bodies_ordered t =
+    ap (λ (ns : List ℕ). once same_number ns)
+    (numbers_of (all_texts t.edges) (used_pools t.edges) (used_bodies (codes t.edges)) (codes t.edges) t.edges
+    (codes_length (all_texts t.edges) (all_made zero t.edges) zero t.edges))
+    ∙ numbers_count same_body bodies_decide (map body_of (codes t.edges))
+
 pub faithful : (t : Builds) → IsFaithful t (image_of t)
 faithful t = record {
   files = refl;
@@ -135,6 +154,9 @@ faithful t = record {
   );
   pools = refl;
   defaults = refl;
+  apart = all_apart same_body bodies_decide (map body_of (codes t.edges));
+  used = λ n inside. each_used (body_numbers (image_of t).edges) (length (used_bodies (codes t.edges))) n (bodies_ordered t) inside;
+  ordered = bodies_ordered t;
 }
 
 -- ---- the code of the image

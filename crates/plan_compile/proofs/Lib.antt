@@ -38,3 +38,4 @@ mod SpellingLemmas
 mod NameLemmas
 mod MatchLemmas
 mod CodeLemmas
+mod UseLemmas

@@ -1,19 +1,23 @@
 -- What the image of a manifest says, and what is asked of the manifest.
-use Rattle.std.specs.Prelude.{◌≡◌, ℕ, zero, true, false, List, [], ◌∷◌, length, map, Option, Some, None, nat_lt, nat_le, slice_get}
-use Rattle.std.specs.List.{list_any}
+use Rattle.std.specs.Prelude.{◌≡◌, ◌≢◌, ◌<◌, ◌==◌, ℕ, zero, true, false, List, [], ◌∷◌, length, map, flat_map, Option, Some, None, nat_lt, nat_le, slice_get, AllPairs, Contains}
+use Rattle.std.specs.List.{list_any, range_with_len}
 use Rattle.plan_scope.specs.declared.manifest.Manifest.{Manifest}
 use Rattle.plan_scope.specs.Sound.{IsSound as IsSoundManifest}
 use Rattle.plan_graph.specs.declared.graph_data.Graph.{Graph}
 use Rattle.plan_graph.specs.Graph.{IsGraph}
+use Rattle.plan_image.specs.declared.image.EdgeCode.{EdgeCode}
+use Rattle.plan_image.specs.declared.image.EdgeCode.TheVariants.{Own, Shared}
 use Rattle.plan_image.specs.declared.image.Edge.{Edge}
 use Rattle.plan_image.specs.declared.image.Pool.{Pool}
 use Rattle.plan_image.specs.declared.image.Parts.{Parts}
 use Rattle.plan_verify.specs.Members.{is_member}
 use Rattle.plan_compile.specs.declared.wiring.Output.{Output}
+use Rattle.plan_compile.specs.BodyKeys.{Body}
 use Rattle.plan_compile.specs.Builds.{Build, Builds, builds}
 use Rattle.plan_compile.specs.Slots.{base, made, all_made, find}
 use Rattle.plan_compile.specs.Names.{label_of, pool_in, used_pools, declared}
 use Rattle.plan_compile.specs.Images.{sort_of, image_of}
+use Rattle.plan_compile.specs.Numbering.{once}
 
 abbrev pub IsEdge : Builds → ℕ → Build → Type 0
 IsEdge t e x = slice_get t.edges e ≡ Some x
@@ -52,12 +56,32 @@ pub record IsEdgeOf (p : Parts) (x : Build) (y : Edge) : Type 0 where
   pub label : slice_get p.texts y.label ≡ Some (label_of x)
   pub pool : HasPool p y.pool (pool_in x)
 
+-- the bodies of an image, none where edges have code of their own
+abbrev pub bodies_in : Option (List Body) → List Body
+bodies_in (Some bodies) = bodies
+bodies_in None = []
+
+-- the number of the body that a code shares
+abbrev pub body_number : EdgeCode → List ℕ
+body_number (Shared body operands) = body ∷ []
+body_number (Own is) = []
+
+-- the numbers of the bodies that edges share, edge by edge
+abbrev pub body_numbers : List Edge → List ℕ
+body_numbers ys = flat_map (λ y. body_number y.code) ys
+
 pub record IsFaithful (t : Builds) (p : Parts) : Type 0 where
   pub files : p.files ≡ t.files
   pub count : length p.edges ≡ length t.edges
   pub edges : (e : ℕ) (x : Build) → IsEdge t e x → (y : Edge) × (slice_get p.edges e ≡ Some y) × IsEdgeOf p x y
   pub pools : p.pools ≡ map (declared t.pools) (used_pools t.edges)
   pub defaults : p.defaults ≡ t.defaults
+  -- no two bodies are equal
+  pub apart : AllPairs (λ a b. a ≢ b) (bodies_in p.bodies)
+  -- each body is some edge's
+  pub used : (n : ℕ) → n < length (bodies_in p.bodies) → Contains (body_numbers p.edges) n
+  -- bodies stand in the order of first use: the numbers that edges have, each once where it first stands, count up
+  pub ordered : once (λ m n. m == n) (body_numbers p.edges) ≡ range_with_len 0 (length (bodies_in p.bodies))
 
 abbrev pub ImageIsFaithful : Type 0
 ImageIsFaithful = (t : Builds) → IsFaithful t (image_of t)

@@ -19,7 +19,8 @@ pub fn manifests_are_sound()
     defaults_ascend();
 }
 
-/// The image has the manifest's edges with their labels, pools, waits and ranks, its files, and its defaults.
+/// The image has the manifest's edges with their labels, pools, waits and ranks, its files, and its defaults. Each of its
+/// bodies is some edge's, no two are equal, and they come in the order of first use.
 pub fn image_is_faithful()
     ensures { ImageIsFaithful }
 {}
