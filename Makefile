@@ -14,7 +14,7 @@ help:
 	@echo "make tests    the tests of the built program, without proofs: documents, rows, builds, ninja, memory, trees; 4 to 6 minutes"
 	@echo "make check    the whole gate: proofs, must-fail edits and these tests; docs/PROOF_NOTES.md has its time"
 	@echo "make edits    tries the must-fail edits that the gate leaves out (CRATES=plan_text for one crate); 5 to 40 minutes a crate"
-	@echo "make refusals refuses each allocation of the calls of depfiles and records in turn; five minutes"
+	@echo "make calls    calls the lower crates with refused memory, and runs damaged images, without proofs; two minutes"
 	@echo "make real     compares commands and builds of CMake's and Meson's trees with ninja's, upstream projects too; more than an hour"
 	@echo "make bench    times the program beside ninja and make, on hostile manifests, and on those of CMake and GLib, which it fetches; some minutes"
 	@echo "make install  copies the program to PREFIX/bin (PREFIX is $(PREFIX))"
@@ -97,13 +97,16 @@ tests: built
 # counts on three times as much, and leaves processors idle.
 GATE_JOBS = $(shell awk -v n=$$(nproc) '/^MemAvailable/ {m = int($$2 / 4000000); print m < 1 ? 1 : m < n ? m : n}' /proc/meminfo)
 
-# The gate: the documents, then every proof, test and must-fail edit, then the program.
+# The gate: the documents, then every proof, test and must-fail edit, the bodies that tests refuse, refused allocations,
+# and then the program.
 .PHONY: check
 check: kit
 	python3 tests/manifest_names.py
 	python3 tests/edits.py --fit $(CRATES)
 	RT_JOBS=$(GATE_JOBS) rt ci | tee gate.log
 	python3 tests/edit_log.py gate.log
+	python3 tests/wrong_bodies.py
+	$(MAKE) calls
 	$(MAKE) tests
 
 # The must-fail edits of some crates that the gate leaves out.
@@ -113,10 +116,10 @@ edits: kit
 	python3 tests/edits.py $(CRATES)
 	python3 tests/wrong_bodies.py $(CRATES)
 
-# Refuses each allocation of the calls of depfiles and records, in a program that is proved first.
-.PHONY: refusals
-refusals: kit
-	python3 tests/refused_calls.py
+# Calls the lower crates with refused memory, and runs damaged images, in a program without proofs.
+.PHONY: calls
+calls: kit
+	python3 tests/run_calls.py
 
 # Compares the commands of many trees of CMake and Meson with ninja's, upstream projects among them (from Debian's mirror); `make` first.
 .PHONY: real
