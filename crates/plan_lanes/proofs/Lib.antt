@@ -7,6 +7,8 @@ mod BoardLemmas
 mod StepLemmas
 mod RushLemmas
 mod RestLemmas
+mod ProceedLemmas
+mod HandLemmas
 mod ReportLemmas
 mod DeskLemmas
 mod Rows

@@ -1,9 +1,16 @@
 -- Lists with one item more, or one set.
 use Rattle.std.proofs.Common.{◌≡◌, ◌≢◌, ◌<◌, ℕ, zero, suc, Bool, true, false, List, [], ◌∷◌, ◌++◌, length, Option, Some, refl, ap, ◌∙◌, arith}
-use Rattle.std.specs.Prelude.{◌&&◌, if◌then◌else◌, slice_get, slice_set}
+use Rattle.std.proofs.lemmas.Bool.{lt-ltb}
+use Rattle.std.proofs.lemmas.Option.{slice_get_within}
+use Rattle.std.specs.Prelude.{◌&&◌, if◌then◌else◌, nat_lt, slice_get, slice_set}
 
 pub some_is : {A : Type 0} (x y : A) → ◌≡◌ {A = Option A} (Some x) (Some y) → x ≡ y
 some_is x y is = cc
+
+-- an item that is there lies within
+pub none_within : (xs ys : List ℕ) (i n : ℕ) → slice_get xs i ≡ Some n → ys ≡ xs → false ≡ nat_lt i (length ys) → ⊥
+none_within xs ys i n at same out =
+    let clash : false ≡ true = out ∙ ap (λ (l : List ℕ). nat_lt i (length l)) same ∙ lt-ltb i (length xs) (slice_get_within xs i n at) in cc
 
 -- an item of a list that is one longer
 pub get_before : {A : Type 0} (xs : List A) (y : A) (i : ℕ) → i < length xs → slice_get (xs ++ y ∷ []) i ≡ slice_get xs i

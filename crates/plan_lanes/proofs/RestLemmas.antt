@@ -164,7 +164,7 @@ turn_quiet p e slots l = act_at_quiet p e slots l (slice_get (code p e) l.place)
 
 -- ---- what an event leaves of its edge
 
-next_is : (t u : State) (m n : Mark) → Next t m ≡ Next u n → (t ≡ u) × (m ≡ n)
+pub next_is : (t u : State) (m n : Mark) → Next t m ≡ Next u n → (t ≡ u) × (m ≡ n)
 next_is t u m n is = (cc, cc)
 
 module _ (p : Parts) (s : State) (e : ℕ) (l : Local) (active : slice_get s.edges e ≡ Some (Active l)) where
@@ -216,7 +216,7 @@ module _ (p : Parts) (limits : Limits) (s mid : State) (e : ℕ) (told : Mark) w
 -- ---- runs
 
 -- the last event of a run
-last_step : (p : Parts) (limits : Limits) (s t : State) (xs : List Event) (ms : List Mark) (x : Event) (m : Mark) → Runs depfile p limits s (xs ++ x ∷ []) (ms ++ m ∷ []) t → (mid : State) × (step depfile p limits mid x ≡ Next t m)
+pub last_step : (p : Parts) (limits : Limits) (s t : State) (xs : List Event) (ms : List Mark) (x : Event) (m : Mark) → Runs depfile p limits s (xs ++ x ∷ []) (ms ++ m ∷ []) t → (mid : State) × (step depfile p limits mid x ≡ Next t m)
 last_step p limits s t [] [] x m run = (s, run.1 ∙ ap (λ (u : State). Next u m) run.2)
 last_step p limits s t (y ∷ ys) (n ∷ ms) x m run = last_step p limits run.0 t ys ms x m run.2
 last_step p limits s t [] (n ∷ []) x m run = absurd run.2

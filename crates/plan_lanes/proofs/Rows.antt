@@ -18,6 +18,7 @@ use Rattle.plan_lanes.specs.declared.board.Report.{Report}
 use Rattle.plan_lanes.specs.declared.fault.LaneFault.TheVariants.{NoLane}
 use Rattle.plan_lanes.specs.Faults.{number_of}
 use Rattle.plan_lanes.specs.Journals.{Rule, IsLastOf, IsAllowed}
+use Rattle.plan_lanes.specs.Proceeds.{asking}
 use Rattle.plan_lanes.specs.Progress.{Progress}
 use Rattle.plan_lanes.specs.Questions.{is_run, shown}
 use Rattle.plan_lanes.specs.Rushes.{AppliesAll}
@@ -30,6 +31,10 @@ run_is_one = refl
 
 no_lane : (r : Report) → number_of (NoLane r) ≡ 121
 no_lane r = refl
+
+-- of these marks one says that an edge asked
+one_asked : asking (mark.Started 3 ∷ mark.Asked 5 ∷ mark.Moved 4 ∷ []) ≡ 5 ∷ []
+one_asked = refl
 
 -- ---- one edge that asks for a stamp
 

@@ -121,7 +121,7 @@ steps_cons e zero = refl
 steps_cons e (suc n) = ap (λ (l : List Event). l ++ Step e ∷ []) (steps_cons e n)
 
 -- a rush that isn't still begins with a step
-rush_cons : (e : ℕ) (r : Rush) → is_still r ≡ false → (n : ℕ) × (rush_events e r ≡ Step e ∷ steps_of e n)
+pub rush_cons : (e : ℕ) (r : Rush) → is_still r ≡ false → (n : ℕ) × (rush_events e r ≡ Step e ∷ steps_of e n)
 rush_cons e r moved = by r.steps r.asked moved
   where
     by : (n : ℕ) (a : Bool) → ((n == 0) && not a) ≡ false → (k : ℕ) × (events_by e n a ≡ Step e ∷ steps_of e k)

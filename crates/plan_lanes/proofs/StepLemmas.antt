@@ -1,5 +1,5 @@
 -- What an event that needs no reply leaves.
-use Rattle.std.proofs.Common.{◌≡◌, ◌≢◌, ℕ, Bool, true, false, Option, Some, None, refl, sym, ◌∙◌, ◌⊎◌, inl, inr, subst}
+use Rattle.std.proofs.Common.{◌≡◌, ◌≢◌, ℕ, Bool, true, false, Option, Some, None, refl, sym, ap, ◌∙◌, ◌⊎◌, inl, inr, subst}
 use Rattle.std.specs.Prelude.{slice_get}
 use Rattle.plan_image.specs.declared.image.Parts.{Parts}
 use Rattle.plan_verify.specs.Turn.{Local, Request}
@@ -41,6 +41,14 @@ asks_here p g event q t told asks is =
     let after : asks.after ≡ t = next_same asks.after t (mark.Asked asks.edge) told (step depfile p g.limits g.now event) asks.next is in
     let edge : asks.edge ≡ edge_of event = (moves_alone depfile p g.limits g.now asks.after event (mark.Asked asks.edge) asks.next).asks asks.edge refl in
     subst (λ (e : ℕ). asked_at p t e ≡ Some q) edge (subst (λ (s : State). asked_at p s asks.edge ≡ Some q) after asks.asked)
+
+-- and its mark says so
+pub asks_told : (p : Parts) (g : Going) (event : Event) (q : Request) (t : State) (told : Mark) → Asks p g event q → step depfile p g.limits g.now event ≡ Next t told → told ≡ mark.Asked (edge_of event)
+asks_told p g event q t told asks is =
+    let edge : asks.edge ≡ edge_of event = (moves_alone depfile p g.limits g.now asks.after event (mark.Asked asks.edge) asks.next).asks asks.edge refl in
+    let both : Next t told ≡ Next asks.after (mark.Asked asks.edge) = sym is ∙ asks.next in
+    let same : told ≡ mark.Asked asks.edge = cc in
+    same ∙ ap (λ (e : ℕ). mark.Asked e) edge
 
 -- an edge that asked is under way
 pub asked_active : (p : Parts) (s : State) (e : ℕ) (q : Request) → asked_at p s e ≡ Some q → (l : Local) × (slice_get s.edges e ≡ Some (Active l))

@@ -7,6 +7,7 @@ use Rattle.plan_status.specs.Live.{IsFed, IsShowing, IsUnused, SameFeed}
 use Rattle.plan_lanes.specs.declared.board.Report.{Report}
 use Rattle.plan_lanes.specs.declared.fault.LaneFault.{LaneFault}
 use Rattle.plan_lanes.specs.declared.fault.LaneFault.TheVariants.{Opening, NotEnabled, NoMemory, NoLane, OtherBoard}
+use Rattle.plan_lanes.specs.declared.desk.Stopped.{Stopped}
 use Rattle.plan_lanes.specs.Progress.{Opened, Progress}
 
 -- a feed is the one that is named, later
@@ -19,6 +20,11 @@ pub record Shows (named : Option Feed) (b : Progress) (s : Showing) : Type 0 whe
   pub lines : IsShowing b.opened.parts b.marks s
   pub total : s.total ≡ total_of b.opened.parts b.state
   pub feed : IsNamed named s.feed
+
+-- what a contract sees of it: the run so far, and why lanes stop
+pub record Shared : Type 0 where
+  pub run : Progress
+  pub stopped : Stopped
 
 -- the board is of the run that is named; its lines are shown where a feed is named
 pub record IsDesk (o : Opened) (named : Option Feed) (b : Progress) (showing : Option Showing) : Type 0 where

@@ -9,3 +9,5 @@ pub mod Reports
 pub mod Faults
 pub mod Desks
 pub mod Rushes
+pub mod Proceeds
+pub mod Hands

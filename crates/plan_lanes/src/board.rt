@@ -15,15 +15,17 @@ ghost use Rattle.plan_status.specs.Consoles.{is_console};
 ghost use Rattle.plan_lanes.specs.Advances.{Advances, WouldAsk};
 ghost use Rattle.plan_lanes.specs.Boards.{Applies, IsFresh, IsOpen, MayJournal};
 ghost use Rattle.plan_lanes.specs.Journals.{IsLastOf};
+ghost use Rattle.plan_lanes.specs.Proceeds.{Proceeds};
 ghost use Rattle.plan_lanes.specs.Progress.{Opened, going_of};
 ghost use Rattle.plan_lanes.specs.Questions.{is_run, shown};
 ghost use Rattle.plan_lanes.specs.Reports.{IsRunOf};
+ghost use Rattle.plan_lanes.specs.Rushes.{GoesOn};
 
 pub(crate) mod rushing;
 
 use crate::asked::{Asked, Question};
 use crate::telling::keep;
-use crate::world::{Permit, World};
+use crate::world::World;
 use plan_journal::{Diary, Journal};
 use plan_machine::{
     Event, Mark, Options, Refused, Reply, State, depfiles_are_frugal, marks_are_orderly,
@@ -33,6 +35,38 @@ use plan_status::is_console;
 use plan_verify::Verified;
 use std::alloc::{AllocError, Global};
 use std::marker::{Model, PhantomData};
+
+/// The leave to run one command. Only a board makes one, with the question to run it, and nothing copies or drops it:
+/// whoever runs the command spends it.
+pub struct Permit {
+    edge: u32,
+    console: bool,
+}
+
+impl Permit {
+    ghost use Rattle.std.specs.Prelude.{◌≡◌};
+
+    /// Creates the permit for the command of an edge, which is a console edge or isn't.
+    fn new(edge: u32, console: bool) -> Permit
+        ensures { result.console ≡ console }
+    {
+        Permit { edge, console }
+    }
+
+    /// Whether it is of a console edge: its command has the program's own standard input, output and error, and no other
+    /// output comes between (the Ninja manual, "The console pool").
+    pub fn console(&self) -> bool
+        ensures { result ≡ self.now.console }
+    {
+        self.console
+    }
+
+    /// Gives the leave up.
+    pub fn spend(self) {
+        let Permit { edge, console } = self;
+        let _ = (edge, console);
+    }
+}
 
 /// What an advance did.
 pub enum Advance {
@@ -203,7 +237,9 @@ impl<'v, W: World> Board<'v, W> {
     fn go_on(&mut self, rooms: &mut Vec<Vec<u8>>, event: Event) -> Result<Advance, Refused>
         requires own { is_own event ≡ true }
         requires enabled { IsEnabled self.old.opened.parts (going_of self.old) event }
+        ensures goes { GoesOn self.old self.new }
         ensures ok { IfOk result (λ a. Advances self.old self.new a) }
+        ensures proceeds { IfOk result (λ a. Proceeds self.old self.new a) }
         ensures err { OnErr result (self.new ≡ self.old) }
         ensures memory { IfErr result (λ r. r ≡ Refused.Memory) }
     {
@@ -237,7 +273,9 @@ impl<'v, W: World> Board<'v, W> {
 
     /// As `advance`; rooms that are left serve for the path of a question.
     pub(crate) fn advance_in(&mut self, rooms: &mut Vec<Vec<u8>>) -> Result<Advance, Refused>
+        ensures goes { GoesOn self.old self.new }
         ensures ok { IfOk result (λ a. Advances self.old self.new a) }
+        ensures proceeds { IfOk result (λ a. Proceeds self.old self.new a) }
         ensures err { OnErr result (self.new ≡ self.old) }
         ensures memory { IfErr result (λ r. r ≡ Refused.Memory) }
     {

@@ -1,7 +1,14 @@
 //! What lies under the lanes' lock.
 
+ghost use Rattle.std.specs.Prelude.{◌≡◌, ◌≢◌, ◌⊎◌, IfErr, IfOk, IfSome, None, false, true};
+ghost use Rattle.plan_machine.specs.declared.event.Event.TheVariants.{Reply as Hear};
+ghost use Rattle.plan_machine.specs.declared.mark.Mark.{Mark};
+ghost use Rattle.plan_machine.specs.Requests.{asked_at};
+ghost use Rattle.plan_lanes.specs.Boards.{Applies, IsOpen};
 ghost use Rattle.plan_lanes.specs.Desks.{IsDesk};
+ghost use Rattle.plan_lanes.specs.Proceeds.{AwaitsReply, Proceeds};
 ghost use Rattle.plan_lanes.specs.Questions.{shown};
+ghost use Rattle.plan_lanes.specs.Rushes.{GoesOn};
 
 use crate::asked::Question;
 use crate::board::rushing::Followed;
@@ -46,7 +53,7 @@ pub enum Stopped {
 }
 
 /// What lanes share under the lock: the board of the run that `J` names, what shows its lines, why they stop, and how many
-/// of them sleep.
+/// of them sleep. A contract sees the run so far, and why lanes stop.
 #[derive(Drop)]
 pub struct Desk<'v, W: World, J: Naming> {
     board: Board<'v, W>,
@@ -57,11 +64,11 @@ pub struct Desk<'v, W: World, J: Naming> {
 }
 
 impl<'v, W: World, J: Naming> Model for Desk<'v, W, J> {
-    ghost use Rattle.plan_lanes.specs.Desks.{IsDesk};
+    ghost use Rattle.plan_lanes.specs.Desks.{IsDesk, Shared};
 
-    ghost Value = { Unit {0} };
+    ghost Value = { Shared };
 
-    ghost view = { λ _. tt };
+    ghost view = { λ d. record { run = d.board; stopped = d.stopped } };
 
     ghost invariant = { λ d. IsDesk J.run J.feed d.board d.showing };
 }
@@ -81,7 +88,9 @@ impl<'v, W: World, J: Naming> Desk<'v, W, J> {
     }
 
     /// Shows the lines of the marks that may be told of, as far as there is room.
-    pub fn show(&mut self) {
+    pub fn show(&mut self)
+        ensures { self.new ≡ self.old }
+    {
         ends_stay();
         if let Some(showing) = &mut self.showing {
             showing.show(self.board.image(), self.board.marks());
@@ -89,7 +98,13 @@ impl<'v, W: World, J: Naming> Desk<'v, W, J> {
     }
 
     /// Does what can be done next without a reply. Rooms that are left serve for the path of a question.
-    pub fn advance(&mut self, rooms: &mut Vec<Vec<u8>>) -> Result<Advance, Refused> {
+    pub fn advance(&mut self, rooms: &mut Vec<Vec<u8>>) -> Result<Advance, Refused>
+        ensures goes { GoesOn self.old.run self.new.run }
+        ensures ok { IfOk result (λ a. Proceeds self.old.run self.new.run a) }
+        ensures memory { IfErr result (λ r. r ≡ Refused.Memory) }
+        ensures named { self.new.run.opened ≡ J.run }
+        ensures stopped { self.new.stopped ≡ self.old.stopped }
+    {
         marks_may_come();
         self.board.proceed(rooms)
     }
@@ -97,6 +112,7 @@ impl<'v, W: World, J: Naming> Desk<'v, W, J> {
     /// Hands a reply in that the world's rule allows. Where the board doesn't take it, lanes stop.
     pub fn answer(&mut self, edge: u32, question: &Question, reply: Reply)
         requires { W.allows question.now.number (shown question.now.request) reply }
+        ensures { (self.new.stopped ≢ Stopped.No) ⊎ ((told : Mark) × Applies self.old.run self.new.run (Hear edge reply) told × IsOpen self.old.run edge question.now.number (shown question.now.request)) }
     {
         marks_may_come();
         let answered = self.board.answer_to(edge, question, reply);
@@ -117,6 +133,9 @@ impl<'v, W: World, J: Naming> Desk<'v, W, J> {
         reply: Reply,
     ) -> bool
         requires { W.allows question.old.number (shown question.old.request) reply }
+        ensures goes { GoesOn self.old.run self.new.run }
+        ensures asks { result ≡ true → IsOpen self.new.run edge question.new.number (shown question.new.request) }
+        ensures rests { result ≡ false → (self.new.stopped ≢ Stopped.No) ⊎ (asked_at self.new.run.opened.parts self.new.run.state edge ≡ None) }
     {
         marks_may_come();
         let followed = self.board.follow(edge, question, reply);
@@ -137,7 +156,12 @@ impl<'v, W: World, J: Naming> Desk<'v, W, J> {
 
     /// The question whose reply an edge awaits, in the place of the one before, whose room serves again. Where memory ran
     /// out, lanes stop.
-    fn ask_again(&mut self, rooms: &mut Vec<Vec<u8>>, edge: u32, question: &mut Question) -> bool {
+    fn ask_again(&mut self, rooms: &mut Vec<Vec<u8>>, edge: u32, question: &mut Question) -> bool
+        requires { AwaitsReply self.old.run edge }
+        ensures run { self.new.run ≡ self.old.run }
+        ensures asks { result ≡ true → IsOpen self.new.run edge question.new.number (shown question.new.request) }
+        ensures stops { result ≡ false → self.new.stopped ≢ Stopped.No }
+    {
         match self.board.renew(edge, question) {
             Ok(true) => return true,
             Ok(false) => {}
@@ -156,10 +180,15 @@ impl<'v, W: World, J: Naming> Desk<'v, W, J> {
         }
     }
 
-    /// The question whose reply an edge awaits. Where memory ran out, lanes stop.
-    fn next_question(&mut self, rooms: &mut Vec<Vec<u8>>, edge: u32) -> Option<Question> {
+    /// Returns the question whose reply an edge awaits. If memory ran out, it returns None, and lanes stop.
+    fn next_question(&mut self, rooms: &mut Vec<Vec<u8>>, edge: u32) -> Option<Question>
+        requires { AwaitsReply self.old.run edge }
+        ensures run { self.new.run ≡ self.old.run }
+        ensures awaited { IfSome result (λ q. IsOpen self.new.run edge q.number (shown q.request)) }
+        ensures stops { result ≡ None → self.new.stopped ≢ Stopped.No }
+    {
         match self.board.open_question(rooms, edge) {
-            Ok(question) => question,
+            Ok(question) => Some(question),
             Err(_error) => {
                 self.stop(Stopped::Memory);
                 None
@@ -168,17 +197,23 @@ impl<'v, W: World, J: Naming> Desk<'v, W, J> {
     }
 
     /// Why lanes stop, if they do.
-    pub fn stopped(&self) -> Stopped {
+    pub fn stopped(&self) -> Stopped
+        ensures { result ≡ self.now.stopped }
+    {
         self.stopped
     }
 
     /// One more lane sleeps.
-    pub fn sleeps(&mut self) {
+    pub fn sleeps(&mut self)
+        ensures { self.new ≡ self.old }
+    {
         self.waiting = self.waiting.saturating_add(1);
     }
 
     /// One lane less sleeps.
-    pub fn wakes_up(&mut self) {
+    pub fn wakes_up(&mut self)
+        ensures { self.new ≡ self.old }
+    {
         self.waiting = self.waiting.saturating_sub(1);
     }
 
@@ -196,7 +231,10 @@ impl<'v, W: World, J: Naming> Desk<'v, W, J> {
     }
 
     /// Stops the lanes for a cause, if they weren't stopped before.
-    pub fn stop(&mut self, cause: Stopped) {
+    pub fn stop(&mut self, cause: Stopped)
+        ensures run { self.new.run ≡ self.old.run }
+        ensures stops { cause ≢ Stopped.No → self.new.stopped ≢ Stopped.No }
+    {
         if self.stopped == Stopped::No {
             self.stopped = cause;
         }

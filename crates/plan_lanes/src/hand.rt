@@ -1,7 +1,11 @@
 //! What a lane holds between two visits to the desk.
 
-ghost use Rattle.std.specs.Prelude.{◌≤◌, IfSome, length};
+ghost use Rattle.std.specs.Prelude.{◌≡◌, ◌≢◌, ◌≤◌, ◌⊎◌, ◌++◌, ◌∷◌, [], IfErr, IfOk, IfSome, None, false, length, true};
+ghost use Rattle.plan_machine.specs.Requests.{asked_at};
+ghost use Rattle.plan_lanes.specs.Hands.{Answers, IsHeldOpen, held};
+ghost use Rattle.plan_lanes.specs.Proceeds.{Proceeds};
 ghost use Rattle.plan_lanes.specs.Questions.{shown};
+ghost use Rattle.plan_lanes.specs.Rushes.{GoesOn};
 
 use crate::asked::{Asked, Question};
 use crate::board::Advance;
@@ -23,11 +27,12 @@ pub struct Member<W: World> {
 
 impl<W: World> Model for Member<W> {
     ghost use Rattle.std.specs.Prelude.{IfSome};
+    ghost use Rattle.plan_lanes.specs.Hands.{Held, held};
     ghost use Rattle.plan_lanes.specs.Questions.{shown};
 
-    ghost Value = { Unit {0} };
+    ghost Value = { Held };
 
-    ghost view = { λ _. tt };
+    ghost view = { λ m. held m.edge m.question.number (shown m.question.request) };
 
     ghost invariant = { λ m. IfSome m.reply (λ r. W.allows m.question.number (shown m.question.request) r) };
 }
@@ -51,7 +56,9 @@ fn reply_of<W: World>(world: &W, question: &Question) -> Option<Reply>
 
 impl<W: World> Member<W> {
     /// A question without its reply.
-    pub fn open(edge: u32, question: Question) -> Member<W> {
+    pub fn open(edge: u32, question: Question) -> Member<W>
+        ensures { result ≡ held edge question.number (shown question.request) }
+    {
         Member {
             edge,
             question,
@@ -63,6 +70,7 @@ impl<W: World> Member<W> {
     /// A question with its reply.
     pub fn replied(edge: u32, question: Question, reply: Reply) -> Member<W>
         requires { W.allows question.number (shown question.request) reply }
+        ensures { result ≡ held edge question.number (shown question.request) }
     {
         Member {
             edge,
@@ -73,12 +81,16 @@ impl<W: World> Member<W> {
     }
 
     /// Asks the world.
-    pub fn ask(&mut self, world: &W) {
+    pub fn ask(&mut self, world: &W)
+        ensures { self.new ≡ self.old }
+    {
         self.reply = reply_of(world, &self.question);
     }
 
     /// Hands the reply in; where there is none, it is lost, and lanes stop.
-    pub fn hand_in<J: Naming>(&mut self, desk: &mut Desk<'_, W, J>) {
+    pub fn hand_in<J: Naming>(&mut self, desk: &mut Desk<'_, W, J>)
+        ensures { (desk.new.stopped ≢ Stopped.No) ⊎ Answers W.allows desk.old.run desk.new.run self.old }
+    {
         match self.reply.take() {
             Some(reply) => desk.answer(self.edge, &self.question, reply),
             None => desk.stop(Stopped::Memory),
@@ -87,11 +99,12 @@ impl<W: World> Member<W> {
 
     /// Hands the reply in, and takes the question that its edge asks then by itself: true where it does. Where there is no
     /// reply, it is lost, and lanes stop.
-    pub fn follow<J: Naming>(
-        &mut self,
-        desk: &mut Desk<'_, W, J>,
-        rooms: &mut Vec<Vec<u8>>,
-    ) -> bool {
+    pub fn follow<J: Naming>(&mut self, desk: &mut Desk<'_, W, J>, rooms: &mut Vec<Vec<u8>>) -> bool
+        ensures goes { GoesOn desk.old.run desk.new.run }
+        ensures edge { self.new.edge ≡ self.old.edge }
+        ensures asks { result ≡ true → IsHeldOpen desk.new.run self.new }
+        ensures rests { result ≡ false → (desk.new.stopped ≢ Stopped.No) ⊎ (asked_at desk.new.run.opened.parts desk.new.run.state self.old.edge ≡ None) }
+    {
         let Some(reply) = self.reply.take() else {
             desk.stop(Stopped::Memory);
             return false;
@@ -157,7 +170,7 @@ fn leave_all<W: World>(members: &mut Vec<Member<W>>, rooms: &mut Vec<Vec<u8>>) {
 }
 
 /// The questions that a lane holds, and beside them those that it has handed in: these are let go without the lock, and
-/// the rooms of their paths serve for questions to come.
+/// the rooms of their paths serve for questions to come. A contract sees those that it holds.
 #[derive(Drop)]
 pub struct Hand<W: World> {
     held: Vec<Member<W>>,
@@ -165,9 +178,20 @@ pub struct Hand<W: World> {
     rooms: Vec<Vec<u8>>,
 }
 
+impl<W: World> Model for Hand<W> {
+    ghost use Rattle.std.specs.Prelude.{List};
+    ghost use Rattle.plan_lanes.specs.Hands.{Held};
+
+    ghost Value = { List Held };
+
+    ghost view = { λ h. h.held.items };
+}
+
 impl<W: World> Hand<W> {
     /// A hand of no questions, with room for so many.
-    pub fn new(alloc: Global, most: usize) -> Result<Hand<W>, AllocError> {
+    pub fn new(alloc: Global, most: usize) -> Result<Hand<W>, AllocError>
+        ensures { IfOk result (λ h. h ≡ []) }
+    {
         let mut held = Vec::new(alloc);
         held.reserve(most)?;
         let mut told = Vec::new(alloc);
@@ -178,12 +202,16 @@ impl<W: World> Hand<W> {
     }
 
     /// How many questions it holds.
-    pub fn len(&self) -> usize {
+    pub fn len(&self) -> usize
+        ensures { result ≡ length self.now }
+    {
         self.held.len()
     }
 
     /// One more question. False where memory ran out.
-    pub fn push(&mut self, member: Member<W>) -> bool {
+    pub fn push(&mut self, member: Member<W>) -> bool
+        ensures { result ≡ true → self.new ≡ self.old ++ member ∷ [] }
+    {
         self.held.push(member).is_ok()
     }
 
@@ -193,7 +221,9 @@ impl<W: World> Hand<W> {
     }
 
     /// Hands all replies in. It holds none of the questions any more.
-    pub fn hand_in<J: Naming>(&mut self, desk: &mut Desk<'_, W, J>) {
+    pub fn hand_in<J: Naming>(&mut self, desk: &mut Desk<'_, W, J>)
+        ensures { self.new ≡ [] }
+    {
         answer_all(&mut self.held, desk);
         mem::swap(&mut self.held, &mut self.told);
         self.held.clear();
@@ -206,12 +236,21 @@ impl<W: World> Hand<W> {
     }
 
     /// What can be done next without a reply.
-    pub fn advance<J: Naming>(&mut self, desk: &mut Desk<'_, W, J>) -> Result<Advance, Refused> {
+    pub fn advance<J: Naming>(&mut self, desk: &mut Desk<'_, W, J>) -> Result<Advance, Refused>
+        ensures goes { GoesOn desk.old.run desk.new.run }
+        ensures ok { IfOk result (λ a. Proceeds desk.old.run desk.new.run a) }
+        ensures memory { IfErr result (λ r. r ≡ Refused.Memory) }
+        ensures named { desk.new.run.opened ≡ J.run }
+        ensures stopped { desk.new.stopped ≡ desk.old.stopped }
+        ensures same { self.new ≡ self.old }
+    {
         desk.advance(&mut self.rooms)
     }
 
     /// Lets go of what was handed in.
-    pub fn leave(&mut self) {
+    pub fn leave(&mut self)
+        ensures { self.new ≡ self.old }
+    {
         leave_all(&mut self.told, &mut self.rooms);
     }
 }

@@ -6,15 +6,16 @@ ghost use Rattle.plan_machine.specs.Kept.{IsStateOf};
 ghost use Rattle.plan_machine.specs.State.{has_ended};
 ghost use Rattle.plan_lanes.specs.Desks.{IsDesk, IsLeft};
 ghost use Rattle.plan_lanes.specs.Faults.{FaultReports, fault_of, report_of};
+ghost use Rattle.plan_lanes.specs.Hands.{Takes};
 ghost use Rattle.plan_lanes.specs.Progress.{Opened};
 ghost use Rattle.plan_lanes.specs.Reports.{IsRunOf};
 
 use crate::asked::{Asked, Question};
-use crate::board::{Advance, Board, Report};
+use crate::board::{Advance, Board, Permit, Report};
 use crate::desk::{Desk, Naming, Stopped};
 use crate::fault::LaneFault;
 use crate::hand::{Hand, Member};
-use crate::world::{Permit, World};
+use crate::world::World;
 use plan_machine::{Options, Refused};
 use plan_status::Showing;
 use plan_verify::Verified;
@@ -255,7 +256,9 @@ fn take<J: Naming, W: World, R: Wait>(
     rt: &R,
     desk: &mut Desk<'_, W, J>,
     hand: &mut Hand<W>,
-) -> Taken {
+) -> Taken
+    ensures { Takes desk.old.run desk.new.run hand.old hand.new result }
+{
     for _ in rt.forever() {
         if hand.len() >= HAND {
             return Taken::Full;

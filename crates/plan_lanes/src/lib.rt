@@ -1,9 +1,10 @@
 //! Images run by threads, over a world that answers what their edges ask.
 //!
-//! - `World`: files, commands and the record, as a trait with a rule: which reply may be given to which question. `Permit`:
-//!   the leave to run one command. `Question`, `Asked`: what an edge asked, with a number.
+//! - `World`: files, commands and the record, as a trait with a rule: which reply may be given to which question.
+//!   `Question`, `Asked`: what an edge asked, with a number.
 //! - `Board`: a run and its journal, changed by one event at a time: `advance` does what needs no reply, `answer` applies
-//!   a reply. `Advance`: what an advance did. `Report`: what is left of a run. `lines_are_told`: a law, what its marks say.
+//!   a reply. `Advance`: what an advance did. `Permit`: the leave to run one command, which only a board creates.
+//!   `Report`: what is left of a run. `lines_are_told`: a law, what its marks say.
 //! - `run_lanes`: a whole run by threads; `run_lanes_shown`: one whose status lines go into a feed meanwhile, which
 //!   `ShownRun` does in two steps, opening and running. `LaneFault`: why it has no end.
 //!
@@ -21,9 +22,9 @@ mod telling;
 mod world;
 
 pub use asked::{Asked, Question};
-pub use board::{Advance, Board, Report};
+pub use board::{Advance, Board, Permit, Report};
 pub use fault::LaneFault;
 pub use lanes::run_lanes;
 pub use shown_run::{ShownRun, run_lanes_shown};
 pub use telling::lines_are_told;
-pub use world::{Permit, World};
+pub use world::World;

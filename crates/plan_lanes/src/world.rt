@@ -4,42 +4,11 @@ ghost use Rattle.std.specs.Prelude.{ℕ, IfOk};
 ghost use Rattle.plan_machine.specs.declared.reply.Reply.{Reply as Answer};
 ghost use Rattle.plan_verify.specs.Turn.{Deps, Keep, Recall, Request, Run, Stat};
 
+use crate::board::Permit;
 use plan_machine::Reply;
 use plan_text::RowList;
 use plan_verify::PathList;
 use std::alloc::AllocError;
-
-/// The leave to run one command. Only a board makes one, with the question to run it, and nothing copies or drops it:
-/// whoever runs the command spends it.
-pub struct Permit {
-    edge: u32,
-    console: bool,
-}
-
-impl Permit {
-    ghost use Rattle.std.specs.Prelude.{◌≡◌};
-
-    /// The leave to run the command of an edge, which is a console edge or isn't.
-    pub(crate) fn new(edge: u32, console: bool) -> Permit
-        ensures { result.console ≡ console }
-    {
-        Permit { edge, console }
-    }
-
-    /// Whether it is of a console edge: its command has the program's own standard input, output and error, and no other
-    /// output comes between (the Ninja manual, "The console pool").
-    pub fn console(&self) -> bool
-        ensures { result ≡ self.now.console }
-    {
-        self.console
-    }
-
-    /// Gives the leave up.
-    pub fn spend(self) {
-        let Permit { edge, console } = self;
-        let _ = (edge, console);
-    }
-}
 
 /// What is outside. Each call answers what an edge asked, by the number of the question: the position in the journal of
 /// the event that asked. Lanes call it at once from several threads, never under a lock. A call may fail for want of

@@ -1,15 +1,18 @@
 //! Many events of one edge at once.
 
-ghost use Rattle.std.specs.Prelude.{◌≡◌, ◌≢◌, IfOk, IfSome, None, OnErr, Some, false, true};
+ghost use Rattle.std.specs.Prelude.{◌≡◌, ◌≢◌, IfErr, IfOk, IfSome, None, OnErr, Some, false, true};
 ghost use Rattle.plan_verify.specs.Turn.{Stat};
 ghost use Rattle.plan_machine.specs.declared.event.Event.TheVariants.{Reply as Hear};
+ghost use Rattle.plan_machine.specs.Depfile.{depfile};
 ghost use Rattle.plan_machine.specs.Requests.{asked_at};
+ghost use Rattle.plan_machine.specs.Step.{NotEnabled, step};
 ghost use Rattle.plan_machine.specs.Sweeping.{IsSweptAt};
 ghost use Rattle.plan_lanes.specs.Boards.{IsNumbered, IsOpen, MayJournal};
+ghost use Rattle.plan_lanes.specs.Proceeds.{AwaitsReply, HearsAndGoesOn, Permits, Proceeds, asks_again};
 ghost use Rattle.plan_lanes.specs.Questions.{shown};
 ghost use Rattle.plan_lanes.specs.Rushes.{Follows, GoesOn, Rushes, Sweeps};
 
-use super::{Advance, Board, put};
+use super::{Advance, Board, Permit, permit_for, put};
 use crate::asked::{Asked, Question};
 use crate::telling::keep;
 use crate::world::World;
@@ -35,6 +38,7 @@ impl<'v, W: World> Board<'v, W> {
     fn record_rush(&mut self, edge: u32) -> Result<Rush, Refused>
         ensures ok { IfOk result (λ r. Rushes self.old self.new edge r) }
         ensures err { OnErr result (self.new ≡ self.old) }
+        ensures memory { IfErr result (λ r. r ≡ Refused.Memory) }
     {
         self.diary.reserve(ROOM)?;
         let rush = self.state.rush(self.image, edge);
@@ -53,6 +57,8 @@ impl<'v, W: World> Board<'v, W> {
         requires { MayJournal W.allows self.old (Hear edge reply) }
         ensures ok { IfOk result (λ r. Follows self.old self.new edge reply r) }
         ensures err { OnErr result (self.new ≡ self.old) }
+        ensures refused { IfErr result (λ r. r ≡ Refused.NotEnabled → step depfile self.old.opened.parts self.old.opened.limits self.old.state (Hear edge reply) ≡ NotEnabled) }
+        ensures inside { IfErr result (λ r. r ≢ Refused.BadTarget) }
     {
         self.marks.reserve(1)?;
         self.diary.reserve(ROOM)?;
@@ -95,9 +101,11 @@ impl<'v, W: World> Board<'v, W> {
     ) -> Result<bool, Refused>
         requires { W.allows number (Stat path.now) (Reply.Stamp stamp) }
         ensures on { IfOk result (λ swept. swept ≡ true → Sweeps self.old self.new edge stamp) }
+        ensures awaited { IfOk result (λ swept. swept ≡ true → IsOpen self.old edge number (Stat path.now)) }
         ensures next { IfOk result (λ swept. swept ≡ true → IsSweptAt self.new.opened.parts self.new.state edge) }
         ensures off { IfOk result (λ swept. swept ≡ false → self.new ≡ self.old) }
         ensures err { OnErr result (self.new ≡ self.old) }
+        ensures memory { IfErr result (λ r. r ≡ Refused.Memory) }
     {
         if !self.is_numbered(edge, number) {
             return Ok(false);
@@ -152,9 +160,12 @@ impl<'v, W: World> Board<'v, W> {
     ) -> Result<Option<Followed>, Refused>
         requires { W.allows question.old.number (shown question.old.request) reply.now }
         ensures goes { GoesOn self.old self.new }
+        ensures awaited { IfOk result (λ r. IfSome r (λ f. IsOpen self.old edge question.old.number (shown question.old.request))) }
+        ensures hears { IfOk result (λ r. IfSome r (λ f. HearsAndGoesOn self.old self.new edge reply.now (asks_again f))) }
         ensures on { IfOk result (λ r. r ≡ Some Followed.Renewed → IsOpen self.new edge question.new.number (shown question.new.request)) }
         ensures asks { IfOk result (λ r. r ≢ Some Followed.Rests) }
         ensures off { IfOk result (λ r. r ≡ None → (self.new ≡ self.old) × (question.new ≡ question.old)) }
+        ensures memory { IfErr result (λ r. r ≡ Refused.Memory) }
     {
         match (&question.request, reply) {
             (Asked::Stat(path), Reply::Stamp(stamp)) => {
@@ -176,6 +187,11 @@ impl<'v, W: World> Board<'v, W> {
     ) -> Result<Followed, Refused>
         requires { W.allows question.old.number (shown question.old.request) reply }
         ensures goes { GoesOn self.old self.new }
+        ensures awaited { IfOk result (λ r. IsOpen self.old edge question.old.number (shown question.old.request)) }
+        ensures hears { IfOk result (λ r. HearsAndGoesOn self.old self.new edge reply (asks_again r)) }
+        ensures asks { IfOk result (λ r. asks_again r ≡ true → AwaitsReply self.new edge) }
+        ensures refused { IfErr result (λ r. r ≡ Refused.NotEnabled → (self.new ≡ self.old) × (IsOpen self.old edge question.old.number (shown question.old.request) → step depfile self.old.opened.parts self.old.opened.limits self.old.state (Hear edge reply) ≡ NotEnabled)) }
+        ensures inside { IfErr result (λ r. r ≢ Refused.BadTarget) }
         ensures renewed { IfOk result (λ r. r ≡ Followed.Renewed → IsOpen self.new edge question.new.number (shown question.new.request)) }
         ensures rests { IfOk result (λ r. r ≡ Followed.Rests → asked_at self.new.opened.parts self.new.state edge ≡ None) }
     {
@@ -194,6 +210,11 @@ impl<'v, W: World> Board<'v, W> {
     ) -> Result<Followed, Refused>
         requires { W.allows question.now.number (shown question.now.request) reply }
         ensures goes { GoesOn self.old self.new }
+        ensures awaited { IfOk result (λ r. IsOpen self.old edge question.now.number (shown question.now.request)) }
+        ensures hears { IfOk result (λ r. HearsAndGoesOn self.old self.new edge reply (asks_again r)) }
+        ensures err { OnErr result (self.new ≡ self.old) }
+        ensures refused { IfErr result (λ r. r ≡ Refused.NotEnabled → IsOpen self.old edge question.now.number (shown question.now.request) → step depfile self.old.opened.parts self.old.opened.limits self.old.state (Hear edge reply) ≡ NotEnabled) }
+        ensures inside { IfErr result (λ r. r ≢ Refused.BadTarget) }
         ensures other { IfOk result (λ r. r ≢ Followed.Renewed) }
         ensures rests { IfOk result (λ r. r ≡ Followed.Rests → asked_at self.new.opened.parts self.new.state edge ≡ None) }
     {
@@ -207,27 +228,27 @@ impl<'v, W: World> Board<'v, W> {
         Ok(Followed::Rests)
     }
 
-    /// The question whose reply an edge awaits. Rooms that are left serve for its path.
+    /// Returns the question whose reply an edge awaits. Rooms that are left serve for its path.
     pub(crate) fn open_question(
         &self,
         rooms: &mut Vec<Vec<u8>>,
         edge: u32,
-    ) -> Result<Option<Question>, AllocError>
-        ensures open { IfOk result (λ found. IfSome found (λ q. IsOpen self.now edge q.number (shown q.request))) }
-        ensures none { IfOk result (λ found. found ≡ None → asked_at self.now.opened.parts self.now.state edge ≡ None) }
+    ) -> Result<Question, AllocError>
+        requires { AwaitsReply self.now edge }
+        ensures { IfOk result (λ q. IsOpen self.now edge q.number (shown q.request)) }
     {
         let Some(request) = self.state.request(self.image, edge) else {
-            return Ok(None);
+            unreachable!()
         };
         match self.numbers.get(edge as usize) {
             Some(number) => {
                 let request = Asked::of(self.alloc, rooms, &request)?;
-                Ok(Some(Question {
+                Ok(Question {
                     number: *number,
                     request,
-                }))
+                })
             }
-            None => Ok(None),
+            None => unreachable!(),
         }
     }
 
@@ -242,10 +263,12 @@ impl<'v, W: World> Board<'v, W> {
         self.renew_for(edge, question, path)
     }
 
-    /// Does what can be done next without a reply, as `advance`; where that is the step of an edge which goes on by itself,
-    /// all that it does so. Rooms that are left serve for the path of a question.
+    /// Does what can be done next without a reply, as `advance`. If that is the step of an edge which goes on by itself, it
+    /// does all that the edge does so. Rooms that are left serve for the path of a question.
     pub(crate) fn proceed(&mut self, rooms: &mut Vec<Vec<u8>>) -> Result<Advance, Refused>
-        ensures { GoesOn self.old self.new }
+        ensures goes { GoesOn self.old self.new }
+        ensures ok { IfOk result (λ a. Proceeds self.old self.new a) }
+        ensures memory { IfErr result (λ r. r ≡ Refused.Memory) }
     {
         match self.state.pick(self.image) {
             Some(Event::Step(edge)) => self.proceed_with(rooms, edge),
@@ -255,11 +278,14 @@ impl<'v, W: World> Board<'v, W> {
 
     /// Lets an edge go on.
     fn proceed_with(&mut self, rooms: &mut Vec<Vec<u8>>, edge: u32) -> Result<Advance, Refused>
-        ensures { GoesOn self.old self.new }
+        ensures goes { GoesOn self.old self.new }
+        ensures ok { IfOk result (λ a. Proceeds self.old self.new a) }
+        ensures memory { IfErr result (λ r. r ≡ Refused.Memory) }
     {
         let rush = self.record_rush(edge)?;
         if rush.asked {
-            return self.ask_of(rooms, edge);
+            let (question, permit) = self.ask_of(rooms, edge)?;
+            return Ok(Advance::Job(edge, question, permit));
         }
         if rush.is_still() {
             return self.advance_in(rooms);
@@ -267,11 +293,18 @@ impl<'v, W: World> Board<'v, W> {
         Ok(Advance::Moved)
     }
 
-    /// The question of an edge that asked.
-    fn ask_of(&self, rooms: &mut Vec<Vec<u8>>, edge: u32) -> Result<Advance, Refused> {
-        match self.open_question(rooms, edge)? {
-            Some(question) => Ok(Advance::Job(edge, question, None)),
-            None => Ok(Advance::Moved),
-        }
+    /// Returns the question of an edge that asked, and the leave to run its command if it asks for that.
+    fn ask_of(
+        &self,
+        rooms: &mut Vec<Vec<u8>>,
+        edge: u32,
+    ) -> Result<(Question, Option<Permit>), AllocError>
+        requires { AwaitsReply self.now edge }
+        ensures awaited { IfOk result (λ x. IsOpen self.now edge x.0.number (shown x.0.request)) }
+        ensures permit { IfOk result (λ x. Permits self.now.opened.parts edge (shown x.0.request) x.1) }
+    {
+        let question = self.open_question(rooms, edge)?;
+        let permit = permit_for(self.image, edge, &question.request);
+        Ok((question, permit))
     }
 }

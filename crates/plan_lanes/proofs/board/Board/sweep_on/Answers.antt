@@ -1,4 +1,5 @@
 use Rattle.std.proofs.Common.{refl}
+use Rattle.plan_lanes.proofs.ProceedLemmas.{swept_hears}
 use Rattle.plan_lanes.proofs.RushLemmas.{goes_none, goes_swept}
 use Rattle.plan_lanes.proofs.board.Board.sweep_on.Goals as goal
 
@@ -15,3 +16,7 @@ returns-in_default-clause-goes g c = goes_none c.args.self.now c.args.self.now r
 
 pub returns-in_default-2-clause-goes : goal.returns-in_default-2-clause-goes
 returns-in_default-2-clause-goes g c = goes_none c.args.self.now c.args.self.now refl
+
+pub returns-clause-hears : goal.returns-clause-hears
+returns-clause-hears g c =
+    swept_hears c.args.self.now c.record_sweep.new.self c.args.edge c.in-Stat-Stamp.stamp c.args.reply.now c.in_ok-renew_swept.field-0 (c.in_ok-record_sweep-in-Stat-Stamp.ensures.on c.if-not-branch.false) c.in-Stat-Stamp.is-1 c.in_ok-renew_swept.ensures.asks

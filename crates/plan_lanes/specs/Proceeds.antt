@@ -1,0 +1,77 @@
+-- What lanes' own calls of a board do: as an advance and an answer, over several events.
+use Rattle.std.specs.Prelude.{◌≡◌, ◌+◌, ℕ, Bool, true, false, List, [], ◌∷◌, ◌++◌, Option, Some, IfSome, is_some, length, slice_get}
+use Rattle.plan_image.specs.declared.image.Parts.{Parts}
+use Rattle.plan_verify.specs.Turn.{Local, Request}
+use Rattle.plan_machine.specs.declared.event.Event.{Event}
+use Rattle.plan_machine.specs.declared.mark.Mark.{Mark}
+use Rattle.plan_machine.specs.declared.mark.Mark.TheVariants as mark
+use Rattle.plan_machine.specs.declared.reply.Reply.{Reply}
+use Rattle.plan_machine.specs.declared.rush.Rush.{Rush}
+use Rattle.plan_machine.specs.NeverStuck.{Awaits, is_own}
+use Rattle.plan_machine.specs.Picking.{IsEnabled}
+use Rattle.plan_machine.specs.State.{Active, has_ended}
+use Rattle.plan_status.specs.Consoles.{is_console}
+use Rattle.plan_lanes.specs.declared.board.Advance.{Advance}
+use Rattle.plan_lanes.specs.declared.board.Advance.TheVariants.{Moved, Job, Wait, Ended}
+use Rattle.plan_lanes.specs.declared.board.Permit.{Permit}
+use Rattle.plan_lanes.specs.declared.board.rushing.Followed.{Followed}
+use Rattle.plan_lanes.specs.declared.board.rushing.Followed.TheVariants.{Renewed, Asks, Rests}
+use Rattle.plan_lanes.specs.Boards.{IsOpen}
+use Rattle.plan_lanes.specs.Progress.{Progress, going_of}
+use Rattle.plan_lanes.specs.Questions.{is_run, shown}
+use Rattle.plan_lanes.specs.Rushes.{AppliesAll, Follows}
+
+-- the edges that asked, by some marks
+abbrev pub asking_by : Mark → List ℕ
+asking_by (mark.Asked e) = e ∷ []
+asking_by _ = []
+
+abbrev pub asking : List Mark → List ℕ
+asking [] = []
+asking (m ∷ marks) = asking_by m ++ asking marks
+
+-- some events were applied, and no edge asked
+pub record MovesOn (old new : Progress) : Type 0 where
+  pub first : Event
+  pub rest : List Event
+  pub told : List Mark
+  pub applies : AppliesAll old new (first ∷ rest) told
+  pub silent : asking told ≡ []
+
+-- Some events were applied, and one edge asked, by the last of them. It awaits the reply to just this question, whose
+-- number is the position of that event.
+pub record AsksLast (old new : Progress) (e number : ℕ) (q : Request) : Type 0 where
+  pub events : List Event
+  pub told : List Mark
+  pub applies : AppliesAll old new events told
+  pub alone : asking told ≡ e ∷ []
+  pub question : IsOpen new e number q
+  pub last : number + 1 ≡ length new.journal
+
+-- a permit comes with a Run alone, and says whether the edge is a console edge
+abbrev pub Permits : Parts → ℕ → Request → Option Permit → Type 0
+Permits p e q permit = (is_some permit ≡ is_run q) × IfSome permit (λ x. x.console ≡ is_console p e)
+
+-- no start, skip, stop or step is enabled, and an edge awaits a reply
+abbrev pub CanOnlyWait : Progress → Type 0
+CanOnlyWait b = ((event : Event) → is_own event ≡ true → IsEnabled b.opened.parts (going_of b) event → ⊥) × Awaits b.state
+
+-- What a board did that went on without a reply: as one advance, but for how many events that took.
+abbrev pub Proceeds : Progress → Progress → Advance → Type 0
+Proceeds old new Moved = MovesOn old new
+Proceeds old new (Job e question permit) = AsksLast old new e question.number (shown question.request) × Permits old.opened.parts e (shown question.request) permit
+Proceeds old new Wait = (new ≡ old) × CanOnlyWait old
+Proceeds old new Ended = (new ≡ old) × (has_ended old.state ≡ true)
+
+-- an edge has asked and has no reply
+abbrev pub AwaitsReply : Progress → ℕ → Type 0
+AwaitsReply b e = (l : Local) × (slice_get b.state.edges e ≡ Some (Active l)) × (l.asked ≡ true)
+
+abbrev pub asks_again : Followed → Bool
+asks_again Renewed = true
+asks_again Asks = true
+asks_again Rests = false
+
+-- an edge heard a reply and went on by itself, up to a question or not
+abbrev pub HearsAndGoesOn : Progress → Progress → ℕ → Reply → Bool → Type 0
+HearsAndGoesOn old new e reply asked = (rush : Rush) × Follows old new e reply rush × (rush.asked ≡ asked)
