@@ -9,6 +9,7 @@ mod RushLemmas
 mod RestLemmas
 mod ProceedLemmas
 mod HandLemmas
+mod RunningLemmas
 mod ReportLemmas
 mod DeskLemmas
 mod Rows

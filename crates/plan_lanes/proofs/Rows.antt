@@ -18,9 +18,10 @@ use Rattle.plan_lanes.specs.declared.board.Report.{Report}
 use Rattle.plan_lanes.specs.declared.fault.LaneFault.TheVariants.{NoLane}
 use Rattle.plan_lanes.specs.Faults.{number_of}
 use Rattle.plan_lanes.specs.Journals.{Rule, IsLastOf, IsAllowed}
-use Rattle.plan_lanes.specs.Proceeds.{asking}
+use Rattle.plan_lanes.specs.Proceeds as proceeds
 use Rattle.plan_lanes.specs.Progress.{Progress}
 use Rattle.plan_lanes.specs.Questions.{is_run, shown}
+use Rattle.plan_lanes.specs.Running.{awaits_run}
 use Rattle.plan_lanes.specs.Rushes.{AppliesAll}
 
 stat_is_no_run : is_run (shown (asked.Stat (97 ∷ []))) ≡ false
@@ -32,8 +33,14 @@ run_is_one = refl
 no_lane : (r : Report) → number_of (NoLane r) ≡ 121
 no_lane r = refl
 
+run_is_awaited : awaits_run (Some (Run (120 ∷ []) ((97 ∷ []) ∷ []))) ≡ true
+run_is_awaited = refl
+
+stamp_is_no_run : awaits_run (Some (Stat (97 ∷ []))) ≡ false
+stamp_is_no_run = refl
+
 -- of these marks one says that an edge asked
-one_asked : asking (mark.Started 3 ∷ mark.Asked 5 ∷ mark.Moved 4 ∷ []) ≡ 5 ∷ []
+one_asked : proceeds.asking (mark.Started 3 ∷ mark.Asked 5 ∷ mark.Moved 4 ∷ []) ≡ 5 ∷ []
 one_asked = refl
 
 -- ---- one edge that asks for a stamp

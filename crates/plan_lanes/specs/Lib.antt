@@ -11,3 +11,4 @@ pub mod Desks
 pub mod Rushes
 pub mod Proceeds
 pub mod Hands
+pub mod Running
