@@ -37,7 +37,7 @@ import programs
 
 BUILDS = pathlib.Path(__file__).resolve().parent / "builds"
 TICK = 0.012  # seconds: longer than a clock of files takes to move on
-OWN = {"plan.img", ".plan_record", "plan.trace"}
+OWN = {"plan.img", ".plan_record", "plan.trace"}  # and the locks of records
 NINJAS = {".ninja_log", ".ninja_deps"}
 STEPS = {"file", "executable", "append", "touch", "delete", "folder", "run", "status", "says", "left", "gone", "alone"}
 LINE = re.compile(rb"\[(\d+)/(\d+)\] (.*)")
@@ -109,7 +109,8 @@ def change(step: Step, folder: pathlib.Path) -> None:
 def files(folder: pathlib.Path) -> dict[str, bytes]:
     """The files below a folder, but for those that only one of the two builders makes."""
     found = {str(path.relative_to(folder)): path for path in folder.rglob("*") if path.is_file()}
-    return {name: path.read_bytes() for name, path in found.items() if name not in OWN | NINJAS}
+    return {name: path.read_bytes() for name, path in found.items()
+            if name not in OWN | NINJAS and not name.endswith(".lock")}
 
 
 def fits(wanted: list[bytes], found: list[bytes]) -> bool:

@@ -37,6 +37,10 @@ WHOLE = "".join(LINES)
 FRONTS = ("", LINES[0], WHOLE)
 # The sorts of calls, each with the jobs of a run in which one fails; and what a run may say of an edge.
 SORTS = (("stat", "1"), ("spawn", "1"), ("write", "1"), ("thread", "2"), ("memory", "1"), ("memory", "2"))
+# What it says on standard error then.
+REASONS = {"stat": "", "spawn": r"plan_ninja: can't start the command of (mid|out): operation would block\n",
+           "write": r"plan_ninja: can't (start the command|keep the entry) of (mid|out): no storage space\n",
+           "memory": ""}
 CAUSES = {"stat": ("stat fault",), "spawn": ("not started",), "write": ("not started", "record fault"), "thread": (),
           "memory": ("not started", "record fault")}
 REFUSALS = {f"plan: {number}\n" for number in ("22 Memory", "66 Memory", "86 Memory", "111 Memory", "120 NoMemory",
@@ -83,7 +87,8 @@ def is_told(sort: str, failing: int, done: Ended) -> bool:
         return done[:3] == (0, WHOLE, "") or (
             done.status == 2 and done.errors in REFUSALS and done.printed in FRONTS)
     said = FIRST.fullmatch(done.printed) or SECOND.fullmatch(done.printed)
-    return done.status == 1 and done.errors == "" and said is not None and said[1] in CAUSES[sort]
+    is_explained = re.fullmatch(REASONS[sort], done.errors) is not None
+    return done.status == 1 and is_explained and said is not None and said[1] in CAUSES[sort]
 
 
 def trace_fault(program: str, folder: pathlib.Path, done: Ended) -> str:

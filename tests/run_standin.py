@@ -357,7 +357,7 @@ def record_is_tidied(place: Place) -> None:
 def locked_record_is_not_tidied(place: Place) -> None:
     """The build isn't held up before its image is made; the builder may wait for the lock."""
     path = record(place)
-    with open(path, "rb+") as file:
+    with open(f"{path}.lock", "ab") as file:
         fcntl.flock(file, fcntl.LOCK_EX)
         child = place.started()
         until(lambda: place.has(".plan_build.ninja.img"), "the image is made")
@@ -368,14 +368,14 @@ def locked_record_is_not_tidied(place: Place) -> None:
 
 def recompact_waits_for_the_lock(place: Place) -> None:
     path = record(place)
-    with open(path, "rb+") as file:
+    with open(f"{path}.lock", "ab") as file:
         fcntl.flock(file, fcntl.LOCK_EX)
         child = place.started("-t", "recompact")
         time.sleep(1.0)
         expect("is over before the lock is free", None, child.poll())
         expect("record", GROWN, path.read_bytes())
-        file.seek(0, os.SEEK_END)
-        file.write(entry(b"b", b"late"))
+        with open(path, "ab") as late:
+            late.write(entry(b"b", b"late"))
     child.communicate(timeout=PATIENCE)
     expect("status", 0, child.returncode)
     expect("record", entry(b"a", b"true") + entry(b"b", b"late"), path.read_bytes())
@@ -384,7 +384,7 @@ def recompact_waits_for_the_lock(place: Place) -> None:
 def replaced_record_is_opened_again(place: Place) -> None:
     """Another file got the record's name while `-t recompact` waited for the lock of the older one."""
     path = record(place)
-    with open(path, "rb+") as file:
+    with open(f"{path}.lock", "ab") as file:
         fcntl.flock(file, fcntl.LOCK_EX)
         child = place.started("-t", "recompact")
         time.sleep(0.5)
@@ -398,7 +398,9 @@ def replaced_record_is_opened_again(place: Place) -> None:
 
 def record_held_above_stays(place: Place) -> None:
     path = record(place)
-    place.environment["PLAN_NINJA_RECORDS"] = f"/elsewhere\n{path.resolve()}"
+    lock = path.with_name(".plan_record.lock")
+    lock.touch()
+    place.environment["PLAN_NINJA_RECORDS"] = f"1:2 {lock.stat().st_dev}:{lock.stat().st_ino}"
     expect("status", 0, place.done("-t", "recompact").returncode)
     expect("record", GROWN, path.read_bytes())
 

@@ -1,6 +1,6 @@
--- Paths gone through one by one. Serves src/recorded.rt and src/shell.rt.
+-- Paths gone through one by one. Serves src/askable.rt, src/recorded.rt and src/shell.rt.
 use Rattle.std.proofs.Common.{◌≡◌, ◌+◌, ◌<◌, ◌⊎◌, ℕ, List, [], ◌∷◌, ◌++◌, None, inl, inr, sym, subst, ◌∙◌, arith, slice_get}
-use Rattle.std.specs.Prelude.{IsUtf8, get_or}
+use Rattle.std.specs.Prelude.{get_or}
 use Rattle.std.proofs.lemmas.Bool.{cases_order}
 use Rattle.std.proofs.lemmas.List.{append-nil}
 
@@ -9,12 +9,12 @@ pub nothing_more : (rows paths all : List (List ℕ)) → None ≡ slice_get pat
 nothing_more rows [] all none h = sym (append-nil rows) ∙ h
 nothing_more rows (p ∷ ps) all none h = absurd cc
 
--- where each path in front of a number is a text, and that one too, so is each in front of the next
-pub one_more_text : (n : ℕ) (paths : List (List ℕ)) (path : List ℕ) → path ≡ get_or paths n [] → ((k : ℕ) → k < n → IsUtf8 (get_or paths k []))
-    → IsUtf8 path → (k : ℕ) → k < n + 1 → IsUtf8 (get_or paths k [])
-one_more_text n paths path same before here k lt = by k lt (cases_order k n)
+-- if something holds of each path before a number, and of that one too, it holds of each before the next
+pub one_more : (P : List ℕ → Type 0) (n : ℕ) (paths : List (List ℕ)) (path : List ℕ) → path ≡ get_or paths n []
+    → ((k : ℕ) → k < n → P (get_or paths k [])) → P path → (k : ℕ) → k < n + 1 → P (get_or paths k [])
+one_more P n paths path same before here k lt = by k lt (cases_order k n)
   where
-    by : (k : ℕ) → k < n + 1 → (k ≡ n) ⊎ ((k < n) ⊎ (n < k)) → IsUtf8 (get_or paths k [])
-    by k lt (inl is) = rw is (subst (λ (p : List ℕ). IsUtf8 p) same here)
+    by : (k : ℕ) → k < n + 1 → (k ≡ n) ⊎ ((k < n) ⊎ (n < k)) → P (get_or paths k [])
+    by k lt (inl is) = rw is (subst P same here)
     by k lt (inr (inl below)) = before k below
     by k lt (inr (inr above)) = absurd (omega (arith, lt, above))

@@ -1,12 +1,17 @@
 -- The world by hand: the definitions compute what docs/WORLD.md says.
-use Rattle.std.proofs.Common.{◌≡◌, [], ◌∷◌, ◌++◌, Some, None, refl, pos, negsuc, true, false}
+use Rattle.std.proofs.Common.{◌≡◌, [], ◌∷◌, ◌++◌, Some, None, refl, pos, negsuc, true, false, length}
+use Rattle.std.specs.List.{list_all}
+use Rattle.std.proofs.Math.ListN.{replicate}
+use Rattle.plan_text.specs.Path.{components_of}
 use Rattle.plan_record.specs.Entries.{spelling}
 use Rattle.plan_verify.specs.Seam.{suits}
 use Rattle.plan_verify.specs.Turn.{Stat, Run, Keep}
 use Rattle.plan_machine.specs.Step.{answer_of}
 use Rattle.plan_machine.specs.declared.reply.Reply.TheVariants.{Stamp, Exit, Signal, Kept}
+use Rattle.plan_world.specs.Askable.{is_name}
 use Rattle.plan_world.specs.Begun.{begun, missing_path}
-use Rattle.plan_world.specs.Shells.{ending}
+use Rattle.plan_world.specs.Recording.{EndsWith, edge_entry}
+use Rattle.plan_world.specs.Shells.{ending, record_variable}
 use Rattle.plan_world.specs.Stamps.{stamp_of}
 
 second_and_seven : stamp_of (pos 1000000000) (pos 7) ≡ 1000000000000000007
@@ -40,3 +45,24 @@ kept_suits_no_run = refl
 
 exit_suits_no_keep : suits (Keep [] [] 0 []) (answer_of (Exit 0)) ≡ false
 exit_suits_no_keep = refl
+
+-- ---- the record beside other builders
+
+-- one entry of another builder comes between
+others_between : EndsWith (begun (97 ∷ []) ∷ []) (begun (97 ∷ []) ∷ begun (98 ∷ []) ∷ edge_entry (97 ∷ []) (116 ∷ []) 7 [] ∷ []) (edge_entry (97 ∷ []) (116 ∷ []) 7 [])
+others_between = (begun (98 ∷ []) ∷ [], refl)
+
+variable_of_records : length record_variable ≡ 18
+variable_of_records = refl
+
+-- ---- names between slashes
+
+-- `d/n`
+short_names : list_all is_name (components_of (100 ∷ 47 ∷ 110 ∷ [])) ≡ true
+short_names = refl
+
+longest_name : is_name (replicate 255 110) ≡ true
+longest_name = refl
+
+name_too_long : is_name (replicate 256 110) ≡ false
+name_too_long = refl

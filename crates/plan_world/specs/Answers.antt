@@ -5,6 +5,7 @@ use Rattle.plan_verify.specs.Seam.{suits}
 use Rattle.plan_machine.specs.Step.{answer_of}
 use Rattle.plan_machine.specs.declared.reply.Reply.{Reply}
 use Rattle.plan_machine.specs.declared.reply.Reply.TheVariants as reply
+use Rattle.plan_world.specs.Askable.{AreAskable}
 use Rattle.plan_world.specs.Depfiles.{longest}
 use Rattle.plan_world.specs.Shells.{AreTexts}
 
@@ -19,10 +20,15 @@ pub record StartsTexts (command : List ℕ) (outputs : List (List ℕ)) (r : Rep
   pub paths : ¬ (AreTexts outputs) → r ≡ reply.NotStarted
   pub text : ¬ (IsUtf8 command) → r ≡ reply.NotStarted
 
+-- an entry that is recalled names only paths that the system can be asked about
+abbrev pub NamesAskable : Reply → Type 0
+NamesAskable (reply.Entry recorded) = AreAskable recorded.paths
+NamesAskable r = Unit {0}
+
 -- of what isn't UTF-8 nothing is known, and nothing is started
 abbrev pub IsOfTexts : Request → Reply → Type 0
 IsOfTexts (Stat path) r = ¬ (IsUtf8 path) → r ≡ reply.Fault
-IsOfTexts (Recall output) r = Unit {0}
+IsOfTexts (Recall output) r = NamesAskable r
 IsOfTexts (Run command outputs) r = StartsTexts command outputs r
 IsOfTexts (Deps path) r = ¬ (IsUtf8 path) → r ≡ reply.Fault
 IsOfTexts (Keep output command basis paths) r = Unit {0}

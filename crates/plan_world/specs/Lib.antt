@@ -1,4 +1,5 @@
 pub mod Answers
+pub mod Askable
 pub mod Begun
 pub mod Depfiles
 pub mod Faults

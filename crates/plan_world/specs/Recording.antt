@@ -1,28 +1,40 @@
 -- What is kept of the record's file while it is open.
-use Rattle.std.specs.Prelude.{◌≡◌, ℕ, Bool, false, List, length, Option, Some, IfSome}
+use Rattle.std.specs.Prelude.{◌≡◌, ℕ, Bool, List, [], ◌∷◌, ◌++◌, length, Option}
+use Rattle.std.specs.Io.KnownBytes.{Appends}
 use Rattle.std.specs.List.{flat_map}
-use Rattle.plan_record.specs.Entries.{EntryData, spelling}
+use Rattle.plan_record.specs.Entries.{EntryData, IsGoodFront, spelling}
 
 -- the entry of an edge that ran: its first output, its command, the greatest stamp that it read, its dependencies
 abbrev pub edge_entry : (output command : List ℕ) (basis : ℕ) (paths : List (List ℕ)) → EntryData
 edge_entry output command basis paths = record { output = output; command = command; basis = basis; paths = paths }
 
--- a file whose position was known stands at this one
-abbrev pub StandsAt : (old new : Option ℕ) → ℕ → Type 0
-StandsAt old new at = IfSome old (λ _. new ≡ Some at)
-
--- The file, the entries that the record has, how many bytes of it are their spellings, and whether something may stand
--- behind these.
+-- The file, the entries that the record has, how many bytes of the file are their spellings, and whether nothing more is
+-- written, since a cut failed or the file was removed.
 pub record Recording (F : Type 0) : Type 0 where
   pub file : F
   pub entries : List EntryData
   pub good : ℕ
-  pub torn : Bool
+  pub broken : Bool
 
 abbrev pub recording : {F : Type 0} → F → List EntryData → ℕ → Bool → Recording F
-recording file entries good torn = record { file = file; entries = entries; good = good; torn = torn }
+recording file entries good broken = record { file = file; entries = entries; good = good; broken = broken }
 
--- The good front is as long as the spellings of the entries, and where nothing may stand behind it, the file is no longer.
-pub record IsInStep (entries : List EntryData) (good len : ℕ) (torn : Bool) : Type 0 where
-  pub spelled : good ≡ length (flat_map spelling entries)
-  pub whole : torn ≡ false → len ≡ good
+-- the good front is as long as the spellings of the entries
+abbrev pub IsInStep : (entries : List EntryData) (good : ℕ) → Type 0
+IsInStep entries good = good ≡ length (flat_map spelling entries)
+
+-- the old entries come first, and then maybe others
+abbrev pub Grows : (old new : List EntryData) → Type 0
+Grows old new = (others : List EntryData) × (new ≡ old ++ others)
+
+-- the old entries come first, then maybe those of other builders, and this entry comes last
+abbrev pub EndsWith : (old new : List EntryData) (entry : EntryData) → Type 0
+EndsWith old new entry = (others : List EntryData) × (new ≡ old ++ others ++ entry ∷ [])
+
+-- behind the old entries come those of the longest front of these bytes that is whole entries, a front of this length
+abbrev pub TakesIn : (bytes : List ℕ) (len : ℕ) (old new : List EntryData) → Type 0
+TakesIn bytes len old new = (others : List EntryData) × IsGoodFront bytes others len × (new ≡ old ++ others)
+
+-- the last that was done to the file was to append these bytes
+abbrev pub IsWritten : {F : Type 0} → (contents : F → Option (List ℕ)) → F → List ℕ → Type 0
+IsWritten {F} contents file bytes = (before : F) × Appends (contents before) (contents file) bytes

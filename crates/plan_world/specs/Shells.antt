@@ -1,5 +1,5 @@
 -- How a command is given to a shell, and what its end means.
-use Rattle.std.specs.Prelude.{◌≡◌, ℕ, ◌<◌, nat_lt, List, [], ◌∷◌, length, get_or, Option, Some, None, false, if◌then◌else◌, IsUtf8, ℤ, pos}
+use Rattle.std.specs.Prelude.{◌≡◌, ◌≢◌, ℕ, ◌<◌, nat_lt, List, [], ◌∷◌, length, get_or, Option, Some, None, false, if◌then◌else◌, IsUtf8, ℤ, pos}
 use Rattle.std.specs.declared.alloc.Global.{Global}
 use Rattle.std.specs.declared.process.command.Command.{Command}
 use Rattle.std.specs.Process.{command_program, command_args, command_dir, command_var, clears_env}
@@ -14,12 +14,18 @@ shell = 47 ∷ 98 ∷ 105 ∷ 110 ∷ 47 ∷ 115 ∷ 104 ∷ []
 abbrev pub shell_words : List ℕ → List (List ℕ)
 shell_words text = (45 ∷ 99 ∷ []) ∷ (45 ∷ 45 ∷ []) ∷ text ∷ []
 
--- it runs the shell on this text, in this program's own folder and environment
-pub record IsShellOf (command : Command Global) (text : List ℕ) : Type 0 where
+-- `PLAN_NINJA_RECORDS`
+abbrev pub record_variable : List ℕ
+record_variable = 80 ∷ 76 ∷ 65 ∷ 78 ∷ 95 ∷ 78 ∷ 73 ∷ 78 ∷ 74 ∷ 65 ∷ 95 ∷ 82 ∷ 69 ∷ 67 ∷ 79 ∷ 82 ∷ 68 ∷ 83 ∷ []
+
+-- It runs the shell on this text, in this program's own folder and environment, but that one variable names the records
+-- that are locked.
+pub record IsShellOf (command : Command Global) (text records : List ℕ) : Type 0 where
   pub program : command_program command ≡ shell
   pub words : command_args command ≡ shell_words text
   pub folder : command_dir command ≡ None
-  pub variables : (name : List ℕ) → command_var command name ≡ None
+  pub locked : command_var command record_variable ≡ Some (Some records)
+  pub variables : (name : List ℕ) → name ≢ record_variable → command_var command name ≡ None
   pub environment : clears_env command ≡ false
 
 -- what a status says; none where a signal ended the command

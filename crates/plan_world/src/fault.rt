@@ -32,18 +32,26 @@ impl From<DeviceFault> for OpenFault {
     fn from(fault: DeviceFault) -> OpenFault {
         match fault {
             DeviceFault::Memory => OpenFault::Memory,
-            DeviceFault::Device => OpenFault::Device,
+            _ => OpenFault::Device,
         }
     }
 }
 
 /// Why a file can't be read or written.
-#[derive(Clone, Copy, Debug, PartialEq, Eq)]
+#[derive(Clone, Copy, Debug, PartialEq, Eq, Error)]
 pub(crate) enum DeviceFault {
     /// Memory ran out. It says nothing of the file.
+    #[error("memory ran out")]
     Memory,
-    /// The file doesn't give or take it, or there is no entry of these parts.
-    Device,
+    /// The system refused it, for this reason.
+    #[error("{0}")]
+    System(ErrorKind),
+    /// There is no entry of these parts: one of them is too long.
+    #[error("a path or a command is too long")]
+    TooLong,
+    /// A cut of the record failed before, or its file was removed.
+    #[error("the build record was lost")]
+    Lost,
 }
 
 impl From<AllocError> for DeviceFault {
@@ -88,7 +96,7 @@ impl From<EntryFault> for DeviceFault {
 
     fn from(fault: EntryFault) -> DeviceFault {
         match fault {
-            EntryFault::OutsideLimits => DeviceFault::Device,
+            EntryFault::OutsideLimits => DeviceFault::TooLong,
             EntryFault::Memory => DeviceFault::Memory,
         }
     }
@@ -105,7 +113,7 @@ impl From<io::Error> for DeviceFault {
     fn from(error: io::Error) -> DeviceFault {
         match error.kind() {
             ErrorKind::OutOfMemory => DeviceFault::Memory,
-            _ => DeviceFault::Device,
+            kind => DeviceFault::System(kind),
         }
     }
 }
@@ -118,7 +126,7 @@ impl DeviceFault {
     {
         match self {
             DeviceFault::Memory => Err(AllocError),
-            DeviceFault::Device => Ok(otherwise),
+            _ => Ok(otherwise),
         }
     }
 }

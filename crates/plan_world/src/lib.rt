@@ -2,20 +2,26 @@
 //!
 //! - `RealWorld`: stamps of files, commands run by `/bin/sh`, depfiles, and a record file that is open.
 //! - `OpenFault`: why there is none.
+//! - `SharedFile`: a file with a lock, as the record's file is one.
 //!
 //! docs/WORLD.md has the rules one by one.
 #![tactic(auto)]
 
+mod askable;
+mod builder_lock;
 mod depfile;
 mod fault;
+mod reasons;
 mod record_file;
 mod record_sink;
 mod recorded;
+mod shared_file;
 mod shell;
 mod stamp;
 mod world;
 
 pub use fault::OpenFault;
+pub use shared_file::SharedFile;
 pub use world::RealWorld;
 
 #[cfg(test)]

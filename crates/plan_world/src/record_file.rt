@@ -4,16 +4,17 @@ ghost use Rattle.std.specs.Prelude.{◌≡◌, ◌++◌, ◌∷◌, [], false, I
 ghost use Rattle.std.specs.Io.KnownBytes.{Appends};
 ghost use Rattle.plan_record.specs.Entries.{HasSpelling, IsGoodFront, last_of, spelling};
 ghost use Rattle.plan_world.specs.Begun.{begun};
-ghost use Rattle.plan_world.specs.Recording.{edge_entry};
+ghost use Rattle.plan_world.specs.Recording.{EndsWith, Grows, IsWritten, TakesIn, edge_entry};
 
 use crate::fault::DeviceFault;
-use crate::record_sink::RecordSink;
+use crate::record_sink::{RecordSink, bytes_of};
 use crate::recorded::{begun_entry, entry_of};
+use crate::shared_file::SharedFile;
 use plan_record::{Entry, Record, load};
 use plan_verify::PathList;
 use std::alloc::Global;
 use std::fs::{OpenFile, OpenOptions};
-use std::io::{Read, Seek, Write};
+use std::io::{ErrorKind, Read, Seek, Write};
 use std::marker::Model;
 use std::rt::Files;
 
@@ -49,8 +50,8 @@ impl<'a> Model for Kept<'a> {
     ghost view = { λ k. edge_entry k.output.now k.command.now k.basis k.paths.now };
 }
 
-/// The record, open for more entries. Its file is cut to the bytes of just these entries, where something else may stand
-/// behind them.
+/// The record, open for more entries. Each entry of it is one that the file had when it was opened, one that this builder
+/// appended, or one that another builder appended before that.
 #[derive(Drop)]
 pub(crate) struct RecordFile<F> {
     sink: RecordSink<F>,
@@ -62,13 +63,13 @@ impl<F> Model for RecordFile<F> {
 
     ghost Value = { Recording F };
 
-    ghost view = { λ r. recording r.sink.file r.entries r.sink.good r.sink.torn };
+    ghost view = { λ r. recording r.sink.file r.entries r.sink.good r.sink.broken };
 
-    ghost invariant = { λ r. IsInStep r.entries r.sink.good r.sink.len r.sink.torn };
+    ghost invariant = { λ r. IsInStep r.entries r.sink.good };
 }
 
-/// All bytes of a file.
-fn bytes_of<F: Read>(alloc: Global, file: &mut F) -> Result<Vec<u8>, DeviceFault>
+/// Returns all bytes of a file.
+fn read_all<F: Read>(alloc: Global, file: &mut F) -> Result<Vec<u8>, DeviceFault>
     ensures { IfOk result (λ bytes. IfSome (F.remaining file.old) (λ all. bytes.items ≡ all)) }
 {
     let mut bytes = Vec::new(alloc);
@@ -76,76 +77,161 @@ fn bytes_of<F: Read>(alloc: Global, file: &mut F) -> Result<Vec<u8>, DeviceFault
     Ok(bytes)
 }
 
-/// The record that a file has from here to its end: the longest front of whole entries, to which it is cut.
+/// Reads the record that a file has from here to its end: the longest front of whole entries, to which the file is cut.
+/// Its lock has to be held.
 #[tactic(auto, using(crate::proofs::RecordingLemmas::front_spelled))]
-fn load_file<F>(alloc: Global, file: F) -> Result<RecordFile<F>, DeviceFault>
+pub(crate) fn load_file<F>(alloc: Global, file: F) -> Result<RecordFile<F>, DeviceFault>
 where
-    F: Read + Write + Seek + OpenFile + Drop,
+    F: Read + OpenFile + Drop,
     ensures loaded { IfOk result (λ r. IfSome (F.remaining file) (λ bytes. IsGoodFront bytes r.entries r.good)) }
-    ensures whole { IfOk result (λ r. r.torn ≡ false) }
+    ensures well { IfOk result (λ r. r.broken ≡ false) }
 {
     let mut file = file;
-    let bytes = bytes_of(alloc, &mut file)?;
+    let bytes = read_all(alloc, &mut file)?;
     let len = bytes.len() as u64;
     let (entries, good) = load(alloc, bytes)?;
-    let sink = RecordSink::behind(file, good, len)?;
+    let mut sink = RecordSink::new(file, good);
+    if good < len {
+        sink.cut()?;
+    }
     Ok(RecordFile { sink, entries })
 }
 
-/// Opens the record of a path, or makes an empty one where there is none, and cuts it to its good front. What is no file
-/// is refused: it may have no end.
+/// Opens the record of a path, or creates an empty one if there is none, and cuts it to its good front. What is no file is
+/// refused: it may have no end.
 pub(crate) fn open_record<R: Files + AllocGlobal>(
     rt: &R,
     path: &str,
 ) -> Result<RecordFile<R::File>, DeviceFault>
 where
-    R::File: Read + Write + Seek + OpenFile + Drop,
-    ensures whole { IfOk result (λ r. r.torn ≡ false) }
+    R::File: Read + OpenFile + SharedFile + Drop,
+    ensures well { IfOk result (λ r. r.broken ≡ false) }
 {
     let file = OpenOptions::new()
         .read(true)
-        .write(true)
+        .append(true)
         .create(true)
         .open(rt, path)?;
     if !file.metadata()?.is_file() {
-        return Err(DeviceFault::Device);
+        return Err(DeviceFault::System(ErrorKind::InvalidInput));
     }
-    load_file(rt.alloc(), file)
+    file.lock()?;
+    let record = load_file(rt.alloc(), file)?;
+    record.sink.unlock();
+    Ok(record)
 }
 
 impl<F> RecordFile<F> {
-    /// The last entry of an output.
+    /// Returns the last entry of an output.
     pub(crate) fn last(&self, output: &[u8]) -> Option<&Entry>
         ensures last { option_map (λ e. e.now) result ≡ last_of output.now self.now.entries }
         ensures own { IfSome result (λ e. e.now.output ≡ output.now) }
     {
         self.entries.entry(output)
     }
+
+    /// Takes in an entry that another builder appended.
+    #[tactic(auto, using(crate::proofs::RecordingLemmas::one_more_spelled))]
+    fn take_in(&mut self, alloc: Global, entry: &Entry) -> Result<(), DeviceFault>
+        ensures taken { OnOk result (self.new.entries ≡ self.old.entries ++ entry.now ∷ []) }
+        ensures unchanged { OnErr result (self.new ≡ self.old) }
+        ensures well { self.new.broken ≡ self.old.broken }
+    {
+        let end = self.sink.end_of(bytes_of(alloc, entry)?.len())?;
+        self.entries.add(alloc, entry.copy()?)?;
+        self.sink.accept(end);
+        Ok(())
+    }
+
+    /// Takes in these entries, which other builders appended.
+    fn take_in_each(&mut self, alloc: Global, others: &[Entry]) -> Result<(), DeviceFault>
+        ensures taken { OnOk result (self.new.entries ≡ self.old.entries ++ others.now) }
+        ensures grows { Grows self.old.entries self.new.entries }
+        ensures well { self.new.broken ≡ self.old.broken }
+    {
+        for number in 0..others.len() {
+            self.take_in(alloc, &others[number])?;
+        }
+        Ok(())
+    }
+
+    /// Takes in the entries that other builders appended in these bytes, and returns how long their front of whole entries
+    /// is.
+    fn take_in_all(&mut self, alloc: Global, bytes: Vec<u8>) -> Result<u64, DeviceFault>
+        ensures taken { IfOk result (λ len. TakesIn bytes.items len self.old.entries self.new.entries) }
+        ensures grows { Grows self.old.entries self.new.entries }
+        ensures well { self.new.broken ≡ self.old.broken }
+    {
+        let (others, len) = load(alloc, bytes)?;
+        self.take_in_each(alloc, others.entries())?;
+        Ok(len)
+    }
 }
 
-impl<F: Write + Seek + OpenFile> RecordFile<F> {
-    /// Writes an entry behind the others. Where that fails, the file is cut back to what stood before.
-    #[tactic(auto, using(crate::proofs::RecordingLemmas::one_more_spelled))]
-    fn keep(&mut self, alloc: Global, entry: Entry) -> Result<(), DeviceFault>
-        ensures kept { OnOk result (self.new.entries ≡ self.old.entries ++ entry ∷ []) }
-        ensures written { OnOk result (self.old.torn ≡ false → Appends (F.contents self.old.file) (F.contents self.new.file) (spelling entry)) }
-        ensures whole { OnOk result (self.new.torn ≡ false) }
-        ensures unchanged { OnErr result (self.new.entries ≡ self.old.entries) }
+impl<F: Read + Seek + OpenFile> RecordFile<F> {
+    /// Takes in what other builders appended since this one read or wrote the file, and cuts off what is no whole entry:
+    /// a builder was ended in the middle of it. The file's lock has to be held.
+    fn catch_up(&mut self, alloc: Global) -> Result<(), DeviceFault>
+        ensures grows { Grows self.old.entries self.new.entries }
+        ensures well { OnOk result (self.new.broken ≡ self.old.broken) }
     {
-        self.sink.put(alloc, &entry)?;
+        let bytes = self.sink.unread(alloc)?;
+        let len = bytes.len() as u64;
+        if self.take_in_all(alloc, bytes)? < len {
+            self.sink.cut()?;
+        }
+        Ok(())
+    }
+}
+
+impl<F: Read + Write + Seek + OpenFile + SharedFile> RecordFile<F> {
+    /// Appends an entry to the file, which ends with the last entry. If that fails, the file is cut back.
+    #[tactic(auto, using(crate::proofs::RecordingLemmas::one_more_spelled))]
+    fn append(&mut self, alloc: Global, entry: Entry) -> Result<(), DeviceFault>
+        ensures kept { OnOk result (self.new.entries ≡ self.old.entries ++ entry ∷ []) }
+        ensures written { OnOk result (Appends (F.contents self.old.file) (F.contents self.new.file) (spelling entry)) }
+        ensures unchanged { OnErr result (self.new.entries ≡ self.old.entries) }
+        ensures well { OnOk result (self.new.broken ≡ self.old.broken) }
+    {
+        let bytes = bytes_of(alloc, &entry)?;
+        let end = self.sink.put(&bytes)?;
         match self.entries.add(alloc, entry) {
             Ok(()) => {
-                self.sink.accept();
+                self.sink.accept(end);
                 Ok(())
             }
             Err(_) => {
-                self.sink.take_back();
+                self.sink.cut()?;
                 Err(DeviceFault::Memory)
             }
         }
     }
 
-    /// Keeps what an edge says that ran.
+    /// Keeps an entry behind those that other builders appended meanwhile. The file's lock has to be held.
+    fn keep_last(&mut self, alloc: Global, entry: Entry) -> Result<(), DeviceFault>
+        ensures kept { OnOk result (EndsWith self.old.entries self.new.entries entry) }
+        ensures written { OnOk result (IsWritten F.contents self.new.file (spelling entry)) }
+        ensures lost { OnErr result (Grows self.old.entries self.new.entries) }
+        ensures well { OnOk result (self.new.broken ≡ self.old.broken) }
+    {
+        self.catch_up(alloc)?;
+        self.append(alloc, entry)
+    }
+
+    /// Keeps an entry, once no other builder is writing to the file.
+    fn keep(&mut self, alloc: Global, entry: Entry) -> Result<(), DeviceFault>
+        ensures kept { OnOk result (EndsWith self.old.entries self.new.entries entry) }
+        ensures written { OnOk result (IsWritten F.contents self.new.file (spelling entry)) }
+        ensures lost { OnErr result (Grows self.old.entries self.new.entries) }
+        ensures well { OnOk result ((self.old.broken ≡ false) × (self.new.broken ≡ false)) }
+    {
+        self.sink.lock()?;
+        let kept = self.keep_last(alloc, entry);
+        self.sink.unlock();
+        kept
+    }
+
+    /// Keeps what an edge that ran has to say.
     pub(crate) fn keep_edge<'a>(
         &mut self,
         alloc: Global,
@@ -156,10 +242,10 @@ impl<F: Write + Seek + OpenFile> RecordFile<F> {
     ) -> Result<Kept<'a>, DeviceFault>
         ensures proof { IfOk result (λ k. k ≡ edge_entry output.now command.now basis paths.now) }
         ensures within { OnOk result (HasSpelling (edge_entry output.now command.now basis paths.now)) }
-        ensures kept { OnOk result (self.new.entries ≡ self.old.entries ++ edge_entry output.now command.now basis paths.now ∷ []) }
-        ensures written { OnOk result (self.old.torn ≡ false → Appends (F.contents self.old.file) (F.contents self.new.file) (spelling (edge_entry output.now command.now basis paths.now))) }
-        ensures whole { OnOk result (self.new.torn ≡ false) }
-        ensures unchanged { OnErr result (self.new.entries ≡ self.old.entries) }
+        ensures kept { OnOk result (EndsWith self.old.entries self.new.entries (edge_entry output.now command.now basis paths.now)) }
+        ensures written { OnOk result (IsWritten F.contents self.new.file (spelling (edge_entry output.now command.now basis paths.now))) }
+        ensures lost { OnErr result (Grows self.old.entries self.new.entries) }
+        ensures well { OnOk result ((self.old.broken ≡ false) × (self.new.broken ≡ false)) }
     {
         let entry = entry_of(alloc, output, command, basis, paths)?;
         self.keep(alloc, entry)?;
@@ -179,10 +265,10 @@ impl<F: Write + Seek + OpenFile> RecordFile<F> {
     ) -> Result<Begun<'a>, DeviceFault>
         ensures proof { IfOk result (λ b. b ≡ output.now) }
         ensures within { OnOk result (HasSpelling (begun output.now)) }
-        ensures kept { OnOk result (self.new.entries ≡ self.old.entries ++ begun output.now ∷ []) }
-        ensures written { OnOk result (self.old.torn ≡ false → Appends (F.contents self.old.file) (F.contents self.new.file) (spelling (begun output.now))) }
-        ensures whole { OnOk result (self.new.torn ≡ false) }
-        ensures unchanged { OnErr result (self.new.entries ≡ self.old.entries) }
+        ensures kept { OnOk result (EndsWith self.old.entries self.new.entries (begun output.now)) }
+        ensures written { OnOk result (IsWritten F.contents self.new.file (spelling (begun output.now))) }
+        ensures lost { OnErr result (Grows self.old.entries self.new.entries) }
+        ensures well { OnOk result ((self.old.broken ≡ false) × (self.new.broken ≡ false)) }
     {
         let begun = begun_entry(alloc, output)?;
         self.keep(alloc, begun)?;

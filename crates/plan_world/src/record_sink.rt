@@ -1,20 +1,20 @@
-//! The record's file as a sink, with its good front.
+//! The record's file as a sink. Other builders append to it too, each under the file's lock.
 
-ghost use Rattle.std.specs.Prelude.{◌≡◌, ◌≤◌, ◌<◌, ◌+◌, false, true, IfErr, IfOk, OnErr, OnOk, length};
+ghost use Rattle.std.specs.Prelude.{◌≡◌, ◌≤◌, ◌+◌, false, true, IfErr, IfOk, OnErr, OnOk, length};
 ghost use Rattle.std.specs.Io.KnownBytes.{Appends};
-ghost use Rattle.plan_record.specs.Appending.{AppendsSpelling};
 ghost use Rattle.plan_record.specs.Entries.{spelling};
-ghost use Rattle.plan_world.specs.Recording.{StandsAt};
 
 use crate::fault::DeviceFault;
+use crate::shared_file::SharedFile;
 use plan_record::{Entry, append};
 use plan_text::Counted;
 use std::alloc::Global;
 use std::fs::OpenFile;
-use std::io::{Seek, SeekFrom, Write};
+use std::io::{ErrorKind, Read, Seek, SeekFrom, Write};
+use std::os::unix::fs::MetadataExt;
 
-/// The bytes of an entry's spelling.
-fn bytes_of(alloc: Global, entry: &Entry) -> Result<Vec<u8>, DeviceFault>
+/// Returns the bytes of an entry's spelling.
+pub(crate) fn bytes_of(alloc: Global, entry: &Entry) -> Result<Vec<u8>, DeviceFault>
     ensures bytes { IfOk result (λ bytes. bytes.items ≡ spelling entry.now) }
     ensures memory { IfErr result (λ f. f ≡ DeviceFault.Memory) }
 {
@@ -25,118 +25,143 @@ fn bytes_of(alloc: Global, entry: &Entry) -> Result<Vec<u8>, DeviceFault>
     }
 }
 
-/// Writes an entry behind so many bytes, and answers how many there are with it.
-fn write_entry<F: Write>(
-    alloc: Global,
-    file: &mut F,
-    good: u64,
-    entry: &Entry,
-) -> Result<u64, DeviceFault>
-    ensures written { OnOk result (Appends (F.contents file.old) (F.contents file.new) (spelling entry.now)) }
-    ensures len { IfOk result (λ len. len ≡ good + length (spelling entry.now)) }
+/// Writes all of the bytes by one write, so that what others append doesn't come between.
+fn write_at_once<F: Write>(file: &mut F, bytes: &[u8]) -> Result<(), DeviceFault>
+    ensures { OnOk result (Appends (F.contents file.old) (F.contents file.new) bytes.now) }
 {
-    let bytes = bytes_of(alloc, entry)?;
-    let Some(len) = good.checked_add(bytes.len() as u64) else {
-        return Err(DeviceFault::Device);
-    };
-    file.write_all(&bytes)?;
-    file.flush()?;
-    Ok(len)
+    let count = file.write(bytes)?;
+    if count < bytes.len() {
+        return Err(DeviceFault::System(ErrorKind::WriteZero));
+    }
+    Ok(())
 }
 
-/// The record's file. What stands behind its good front is cut off before more is written.
+/// The record's file, opened to append. Its front of `good` bytes is whole entries, which this builder has read or written.
+/// What other builders appended since then comes behind.
 #[derive(Drop)]
 pub(crate) struct RecordSink<F> {
     file: F,
-    /// How many bytes of it are whole entries that the record has too.
+    /// The length of the front that this builder knows, in bytes.
     good: u64,
-    /// How many bytes it has with the entry that was put last.
-    len: u64,
-    /// Whether something may stand behind the good front.
-    torn: bool,
+    /// Whether a cut failed, or the file was removed: then nothing more is written.
+    broken: bool,
 }
 
-impl<F: Write + Seek + OpenFile> RecordSink<F> {
-    /// A file that was read to its end, of so many bytes, cut to its good front.
-    pub(crate) fn behind(file: F, good: u64, len: u64) -> Result<RecordSink<F>, DeviceFault>
-    where
-        F: Drop,
-        ensures good { IfOk result (λ s. s.good ≡ good) }
-        ensures whole { IfOk result (λ s. s.torn ≡ false) }
-        ensures len { good ≤ len → IfOk result (λ s. s.len ≡ good) }
-        ensures place { good < len → IfOk result (λ s. StandsAt (F.stream_position file) (F.stream_position s.file) good) }
+impl<F> RecordSink<F> {
+    /// A file whose front of `good` bytes was read and is whole entries.
+    pub(crate) fn new(file: F, good: u64) -> RecordSink<F>
+        ensures { (result.good ≡ good) × (result.broken ≡ false) }
     {
-        let mut sink = RecordSink {
+        RecordSink {
             file,
             good,
-            len,
-            torn: good < len,
-        };
-        sink.mend()?;
-        Ok(sink)
+            broken: false,
+        }
     }
 
-    /// Cuts the file to its good front, where something may stand behind it.
-    fn mend(&mut self) -> Result<(), DeviceFault>
-        ensures whole { OnOk result (self.new.torn ≡ false) }
-        ensures same { self.old.torn ≡ false → self.new ≡ self.old }
-        ensures good { self.new.good ≡ self.old.good }
-        ensures cut { OnOk result (self.old.torn ≡ true → self.new.len ≡ self.old.good) }
-        ensures place { OnOk result (self.old.torn ≡ true → StandsAt (F.stream_position self.old.file) (F.stream_position self.new.file) self.old.good) }
-        ensures torn { OnErr result (self.new.torn ≡ true) }
-        ensures left { OnErr result (self.new.len ≡ self.old.len) }
+    /// Returns the length that the front has with `len` more bytes.
+    pub(crate) fn end_of(&self, len: usize) -> Result<u64, DeviceFault>
+        ensures { IfOk result (λ end. end ≡ self.now.good + len) }
     {
-        if !self.torn {
-            return Ok(());
+        match self.good.checked_add(len as u64) {
+            Some(end) => Ok(end),
+            None => Err(DeviceFault::TooLong),
         }
-        self.file.set_len(self.good)?;
-        self.file.seek(SeekFrom::Start(self.good))?;
-        self.len = self.good;
-        self.torn = false;
+    }
+
+    /// Sets the length of the front, after an entry behind it was read or written.
+    pub(crate) fn accept(&mut self, end: u64)
+        ensures { (self.new.file ≡ self.old.file) × (self.new.good ≡ end) × (self.new.broken ≡ self.old.broken) }
+    {
+        self.good = end;
+    }
+}
+
+impl<F: SharedFile> RecordSink<F> {
+    /// Waits for the file's lock and takes it, unless nothing more is to be written.
+    pub(crate) fn lock(&self) -> Result<(), DeviceFault>
+        ensures { OnOk result (self.now.broken ≡ false) }
+    {
+        if self.broken {
+            return Err(DeviceFault::Lost);
+        }
+        self.file.lock()?;
         Ok(())
     }
 
-    /// Writes an entry behind the good front. It isn't part of it until it is accepted; where it can't be written, the
-    /// file is cut back.
-    pub(crate) fn put(&mut self, alloc: Global, entry: &Entry) -> Result<(), DeviceFault>
-        ensures written { OnOk result (self.old.torn ≡ false → Appends (F.contents self.old.file) (F.contents self.new.file) (spelling entry.now)) }
+    /// Gives the file's lock back.
+    pub(crate) fn unlock(&self) {
+        let _ = self.file.unlock();
+    }
+}
+
+impl<F: OpenFile> RecordSink<F> {
+    /// Cuts the file to the front. If that fails, nothing more is written. Nobody else may be writing meanwhile, so the
+    /// file's lock has to be held.
+    pub(crate) fn cut(&mut self) -> Result<(), DeviceFault>
+        ensures file { self.new.file ≡ self.old.file }
         ensures good { self.new.good ≡ self.old.good }
-        ensures len { OnOk result (self.new.len ≡ self.old.good + length (spelling entry.now)) }
-        ensures torn { OnOk result (self.new.torn ≡ true) }
-        ensures cut { OnErr result (self.new.torn ≡ false → self.new.len ≡ self.old.good) }
+        ensures well { OnOk result (self.new.broken ≡ self.old.broken) }
+        ensures broken { OnErr result (self.new.broken ≡ true) }
     {
-        self.mend()?;
-        self.torn = true;
-        match write_entry(alloc, &mut self.file, self.good, entry) {
-            Ok(len) => {
-                self.len = len;
-                Ok(())
-            }
-            Err(fault) => {
-                self.take_back();
-                Err(fault)
+        match self.file.set_len(self.good) {
+            Ok(()) => Ok(()),
+            Err(error) => {
+                self.broken = true;
+                Err(DeviceFault::from(error))
             }
         }
     }
 
-    /// What was put is part of the good front.
-    pub(crate) fn accept(&mut self)
-        ensures same { self.new.file ≡ self.old.file }
-        ensures whole { self.new.torn ≡ false }
-        ensures good { self.new.good ≡ self.old.len }
-        ensures len { self.new.len ≡ self.old.len }
-    {
-        self.good = self.len;
-        self.torn = false;
-    }
-
-    /// What was put is cut off again, now or before the next entry.
-    pub(crate) fn take_back(&mut self)
-        ensures same { self.old.torn ≡ false → self.new ≡ self.old }
+    /// Returns how many bytes the file has behind the front. A file that is shorter, or that was removed, is another
+    /// record: then nothing more is written.
+    fn unread_len(&mut self) -> Result<u64, DeviceFault>
+        ensures file { self.new.file ≡ self.old.file }
         ensures good { self.new.good ≡ self.old.good }
-        ensures cut { self.old.torn ≡ true → self.new.torn ≡ false → self.new.len ≡ self.old.good }
-        ensures place { self.old.torn ≡ true → self.new.torn ≡ false → StandsAt (F.stream_position self.old.file) (F.stream_position self.new.file) self.old.good }
+        ensures well { OnOk result (self.new.broken ≡ self.old.broken) }
     {
-        let _ = self.mend();
+        let found = self.file.metadata()?;
+        match found.len().checked_sub(self.good) {
+            Some(len) if found.nlink() > 0 => Ok(len),
+            _ => {
+                self.broken = true;
+                Err(DeviceFault::Lost)
+            }
+        }
+    }
+}
+
+impl<F: Read + Seek + OpenFile> RecordSink<F> {
+    /// Returns the bytes behind the front, which other builders appended.
+    pub(crate) fn unread(&mut self, alloc: Global) -> Result<Vec<u8>, DeviceFault>
+        ensures good { self.new.good ≡ self.old.good }
+        ensures well { OnOk result (self.new.broken ≡ self.old.broken) }
+    {
+        let mut bytes = Vec::new(alloc);
+        if self.unread_len()? > 0 {
+            self.file.seek(SeekFrom::Start(self.good))?;
+            self.file.read_to_end(&mut bytes)?;
+        }
+        Ok(bytes)
+    }
+}
+
+impl<F: Write + OpenFile> RecordSink<F> {
+    /// Appends bytes to the file, which ends with the front, and returns the length that it has then. The bytes count to
+    /// the front once they are accepted. If they can't be written whole, the file is cut to the front.
+    pub(crate) fn put(&mut self, bytes: &[u8]) -> Result<u64, DeviceFault>
+        ensures written { OnOk result (Appends (F.contents self.old.file) (F.contents self.new.file) bytes.now) }
+        ensures good { self.new.good ≡ self.old.good }
+        ensures end { IfOk result (λ end. end ≡ self.old.good + length bytes.now) }
+        ensures well { OnOk result (self.new.broken ≡ self.old.broken) }
+    {
+        let end = self.end_of(bytes.len())?;
+        match write_at_once(&mut self.file, bytes) {
+            Ok(()) => Ok(end),
+            Err(fault) => {
+                self.cut()?;
+                Err(fault)
+            }
+        }
     }
 }

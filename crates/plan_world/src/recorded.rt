@@ -1,6 +1,6 @@
 //! Entries of the record, as the machine and the record have them.
 
-ghost use Rattle.std.specs.Prelude.{◌≡◌, IfErr, IfOk, OnOk};
+ghost use Rattle.std.specs.Prelude.{◌≡◌, ◌≢◌, IfErr, IfOk, OnOk};
 ghost use Rattle.plan_record.specs.Entries.{HasSpelling};
 ghost use Rattle.plan_world.specs.Begun.{begun};
 ghost use Rattle.plan_world.specs.Recording.{edge_entry};
@@ -70,7 +70,7 @@ pub(crate) fn entry_of(
 ) -> Result<Entry, DeviceFault>
     ensures made { IfOk result (λ entry. entry ≡ edge_entry output.now command.now basis paths.now) }
     ensures within { OnOk result (HasSpelling (edge_entry output.now command.now basis paths.now)) }
-    ensures outside { IfErr result (λ f. f ≡ DeviceFault.Device → HasSpelling (edge_entry output.now command.now basis paths.now) → ⊥) }
+    ensures outside { IfErr result (λ f. f ≢ DeviceFault.Memory → HasSpelling (edge_entry output.now command.now basis paths.now) → ⊥) }
 {
     let paths = items_of(alloc, paths)?;
     Ok(Entry::new(alloc, output, command, basis, &paths)?)
@@ -80,7 +80,7 @@ pub(crate) fn entry_of(
 pub(crate) fn begun_entry(alloc: Global, output: &[u8]) -> Result<Entry, DeviceFault>
     ensures made { IfOk result (λ entry. entry ≡ begun output.now) }
     ensures within { OnOk result (HasSpelling (begun output.now)) }
-    ensures outside { IfErr result (λ f. f ≡ DeviceFault.Device → HasSpelling (begun output.now) → ⊥) }
+    ensures outside { IfErr result (λ f. f ≢ DeviceFault.Memory → HasSpelling (begun output.now) → ⊥) }
 {
     let mut paths = Vec::new(alloc);
     paths.push(Items::new(Vec::from_slice(alloc, &MISSING)?))?;

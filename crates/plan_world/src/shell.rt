@@ -2,30 +2,33 @@
 
 ghost use Rattle.std.specs.Prelude.{◌≡◌, ◌↔◌, ◌++◌, true, IfErr, IfOk, IsErr, IsUtf8, Ok, OnOk, Some, slice_get};
 ghost use Rattle.std.specs.Io.KnownBytes.{Appends};
-ghost use Rattle.std.specs.IoError.{error_kind};
 ghost use Rattle.plan_machine.specs.declared.reply.Reply.TheVariants.{NotStarted};
 ghost use Rattle.plan_verify.specs.Turn.{Run};
 ghost use Rattle.plan_world.specs.Answers.{IsAnswer};
 ghost use Rattle.plan_world.specs.Shells.{AreTexts, IsShellOf, ending};
 
+use crate::builder_lock::VARIABLE;
 use crate::fault::DeviceFault;
+use crate::reasons::say;
 use crate::record_file::Begun;
 use plan_machine::Reply;
 use plan_text::RowList;
 use std::alloc::{AllocError, Global};
-use std::io::{self, ErrorKind, Write};
+use std::io::{self, Write};
 use std::path::Path;
 use std::process::{Command, Output, Processes};
 use std::rt::Files;
 use std::sync::{Mutex, Wait};
 use std::{fs, str};
 
-/// The shell with a command as its argument. A command that begins with a hyphen is no option.
-fn shell_of(alloc: Global, text: &str) -> Result<Command, AllocError>
-    ensures { IfOk result (λ command. IsShellOf command text.now) }
+/// Returns the shell with a command as its argument, and with these names of locked records in its environment. A command
+/// that begins with a hyphen is no option.
+fn shell_of(alloc: Global, text: &str, records: &str) -> Result<Command, AllocError>
+    ensures { IfOk result (λ command. IsShellOf command text.now records.now) }
 {
     let mut shell = Command::new(alloc, "/bin/sh")?;
     shell.arg("-c")?.arg("--")?.arg(text)?;
+    shell.env(VARIABLE, records)?;
     Ok(shell)
 }
 
@@ -42,15 +45,15 @@ fn how_ended(code: Option<i32>) -> Reply
     }
 }
 
-/// What is replied of a command that a shell was to run.
-fn replied(ended: io::Result<Option<i32>>) -> Result<Reply, AllocError>
+/// Returns the reply to the question to run a command that a shell was to run.
+fn replied(ended: Result<Option<i32>, DeviceFault>) -> Result<Reply, AllocError>
     ensures run { IfOk ended (λ code. result ≡ Ok (ending code)) }
     ensures not { IfErr ended (λ _. IfOk result (λ r. r ≡ NotStarted)) }
-    ensures memory { IfErr ended (λ e. IsErr result ↔ (error_kind e ≡ ErrorKind.OutOfMemory)) }
+    ensures memory { IfErr ended (λ e. IsErr result ↔ (e ≡ DeviceFault.Memory)) }
 {
     match ended {
         Ok(code) => Ok(how_ended(code)),
-        Err(error) => DeviceFault::from(error).replied(Reply::NotStarted),
+        Err(fault) => fault.replied(Reply::NotStarted),
     }
 }
 
@@ -76,21 +79,32 @@ fn show<R: Print + Wait>(rt: &R, screen: &Mutex<()>, printed: &Output) {
     drop(guard);
 }
 
-/// Makes the folder of a file, where it isn't there, and tells whether it is there.
-fn make_folder<R: Files>(rt: &R, file: &[u8]) -> bool
+/// Creates the folder of a path, if it is missing, or returns why it can't be created.
+fn create_folder<R: Files>(rt: &R, path: &str) -> Result<(), DeviceFault> {
+    match Path::new(path).parent() {
+        Some(folder) if !folder.as_str().is_empty() => Ok(fs::create_dir_all(rt, folder)?),
+        _ => Ok(()),
+    }
+}
+
+/// Creates the folder of a file, if it is missing, and returns whether it is there. If not, it says why.
+fn make_folder<R: Files + Eprint>(rt: &R, file: &[u8]) -> bool
     ensures { result ≡ true → IsUtf8 file.now }
 {
     let Ok(path) = str::from_utf8(file) else {
         return false;
     };
-    match Path::new(path).parent() {
-        None => true,
-        Some(folder) => folder.as_str().is_empty() || fs::create_dir_all(rt, folder).is_ok(),
+    match create_folder(rt, path) {
+        Ok(()) => true,
+        Err(fault) => {
+            say(rt, "can't create the folder of", file, fault);
+            false
+        }
     }
 }
 
-/// Makes the folders of files, and tells whether all are there.
-pub(crate) fn make_folders<R: Files>(rt: &R, files: &RowList<u8>) -> bool
+/// Creates the folders of files that are missing, and returns whether all are there.
+pub(crate) fn make_folders<R: Files + Eprint>(rt: &R, files: &RowList<u8>) -> bool
     ensures { result ≡ true → AreTexts files.now }
 {
     for number in 0..files.len() {
@@ -106,7 +120,7 @@ fn run_aside<R: Processes + Print + Wait>(
     rt: &R,
     screen: &Mutex<()>,
     shell: &mut Command,
-) -> io::Result<Option<i32>> {
+) -> Result<Option<i32>, DeviceFault> {
     let printed = shell.output(rt)?;
     show(rt, screen, &printed);
     Ok(printed.status.code())
@@ -118,24 +132,25 @@ fn run_on_terminal<R: Processes + Wait>(
     rt: &R,
     screen: &Mutex<()>,
     shell: &mut Command,
-) -> io::Result<Option<i32>> {
+) -> Result<Option<i32>, DeviceFault> {
     let guard = screen.lock(rt);
     let status = shell.status(rt)?;
     drop(guard);
     Ok(status.code())
 }
 
-/// Runs a command of an edge that the record says was begun: on the terminal where it is a console command, else with
-/// empty standard input, and then it shows what it printed.
+/// Runs a command of an edge that the record says was begun: on the terminal if it is a console command, else with empty
+/// standard input, and then it shows what the command printed. If the shell can't be started, it says why.
 ///
 /// # Errors
-/// Want of memory alone, also of what it printed: then it was killed.
-pub(crate) fn run_shell<R: Processes + Print + Wait + AllocGlobal>(
+/// Out of memory only, also for what the command printed: then it was killed.
+pub(crate) fn run_shell<R: Processes + Print + Eprint + Wait + AllocGlobal>(
     rt: &R,
     screen: &Mutex<()>,
     command: &[u8],
     console: bool,
     outputs: &RowList<u8>,
+    records: &str,
     begun: Begun<'_>,
 ) -> Result<Reply, AllocError>
     requires { slice_get outputs.now 0 ≡ Some begun }
@@ -145,11 +160,14 @@ pub(crate) fn run_shell<R: Processes + Print + Wait + AllocGlobal>(
     let Ok(text) = str::from_utf8(command) else {
         return Ok(Reply::NotStarted);
     };
-    let mut shell = shell_of(rt.alloc(), text)?;
+    let mut shell = shell_of(rt.alloc(), text, records)?;
     let ended = if console {
         run_on_terminal(rt, screen, &mut shell)
     } else {
         run_aside(rt, screen, &mut shell)
     };
+    if let Err(fault) = ended {
+        say(rt, "can't start the command of", outputs.row(0), fault);
+    }
     replied(ended)
 }

@@ -1,15 +1,15 @@
 //! Real files and commands, in a folder of each test's own.
 
-use crate::record_sink::RecordSink;
-use crate::{OpenFault, RealWorld};
+use crate::builder_lock::is_named;
+use crate::record_file::{RecordFile, load_file};
+use crate::{OpenFault, RealWorld, SharedFile};
 use plan_lanes::World;
 use plan_machine::{Recorded, Reply};
-use plan_record::Entry;
 use plan_text::RowList;
 use plan_verify::PathList;
 use std::alloc::{AllocError, Global};
-use std::fs::{File, Metadata, OpenFile};
-use std::io::{self, ErrorKind, Seek, SeekFrom, Write};
+use std::fs::{File, Metadata, OpenFile, OpenOptions};
+use std::io::{self, ErrorKind, Read, Seek, SeekFrom, Write};
 use std::process::Processes;
 use std::rt::Files;
 use std::sync::Wait;
@@ -267,11 +267,11 @@ fn torn_record(rt: HostRuntime) -> Result<(), Fail> {
 }
 
 /// What the record has for the output `a`.
-fn recalled<R: Files + Processes + Print + Wait + AllocGlobal>(
+fn recalled<R: Files + Processes + Print + Eprint + Wait + AllocGlobal>(
     world: &RealWorld<R>,
 ) -> Result<Recorded, Fail>
 where
-    R::File: Write + Seek + OpenFile,
+    R::File: Read + Write + Seek + OpenFile + SharedFile,
 {
     match world.recall(0, b"a")? {
         Reply::Entry(recorded) => Ok(recorded),
@@ -308,6 +308,7 @@ fn failed_is_begun(rt: HostRuntime) -> Result<(), Fail> {
     let begun = recalled(&world)?;
     assert_eq!(rt; begun.command().as_slice(), b"\0".as_slice());
     assert_eq!(rt; begun.paths().path(0), b"/dev/null/begun".as_slice());
+    drop(world);
     let again = world_in(&rt, folder.as_str())?;
     assert_eq!(rt; recalled(&again)?.command().as_slice(), b"\0".as_slice());
     assert_eq!(rt;
@@ -322,12 +323,18 @@ fn failed_is_begun(rt: HostRuntime) -> Result<(), Fail> {
     Ok(())
 }
 
-/// A file that takes so many bytes and then fails once, and that can't be cut so many times.
+/// A file that takes a number of bytes and then fails once, and that can't be cut a number of times.
 #[derive(Drop)]
 struct Failing {
     file: File,
     left: usize,
     uncut: AtomicU64,
+}
+
+impl Read for Failing {
+    fn read(&mut self, bytes: &mut [u8]) -> io::Result<usize> {
+        self.file.read(bytes)
+    }
 }
 
 impl Write for Failing {
@@ -375,28 +382,163 @@ impl OpenFile for Failing {
     }
 }
 
-#[test]
-fn writes_that_fail(rt: HostRuntime) -> Result<(), Fail> {
-    let alloc = rt.alloc();
-    let folder = folder(&rt, "writes_that_fail")?;
-    let path = format!(in alloc; "{folder}/record")?;
-    let entry = Entry::new(alloc, b"a", b"t", 7, &[])?;
+impl SharedFile for Failing {
+    fn lock(&self) -> io::Result<()> {
+        Ok(())
+    }
+
+    fn try_lock(&self) -> io::Result<bool> {
+        Ok(true)
+    }
+
+    fn unlock(&self) -> io::Result<()> {
+        Ok(())
+    }
+}
+
+/// Opens a record that takes `left` bytes before a write fails, and whose file can't be cut `uncut` times.
+fn failing_record(
+    rt: &HostRuntime,
+    path: &str,
+    left: usize,
+    uncut: u64,
+) -> Result<RecordFile<Failing>, Fail> {
+    let file = OpenOptions::new()
+        .read(true)
+        .append(true)
+        .create(true)
+        .open(rt, path)?;
     let failing = Failing {
-        file: File::create(&rt, path.as_str())?,
-        left: 30,
-        uncut: AtomicU64::new(2),
+        file,
+        left,
+        uncut: AtomicU64::new(uncut),
     };
-    let mut sink = RecordSink::behind(failing, 0, 0)?;
-    assert!(rt; sink.put(alloc, &entry).is_ok());
-    sink.accept();
-    assert!(rt; sink.put(alloc, &entry).is_err());
-    assert_eq!(rt; fs::read(&rt, path.as_str())?.len(), 30);
-    assert!(rt; sink.put(alloc, &entry).is_err());
-    assert!(rt; sink.put(alloc, &entry).is_ok());
-    sink.accept();
+    match load_file(rt.alloc(), failing) {
+        Ok(record) => Ok(record),
+        Err(_) => Err(Fail::from(AllocError)),
+    }
+}
+
+/// Keeps the entry of 24 bytes, and returns whether it was kept.
+fn keeps(alloc: Global, record: &mut RecordFile<Failing>) -> Result<bool, Fail> {
+    let none = PathList::empty(alloc)?;
+    Ok(record.keep_edge(alloc, b"a", b"t", 7, &none).is_ok())
+}
+
+/// An entry that is written in part is cut off, and the next one is kept.
+#[test]
+fn torn_write_is_cut_off(rt: HostRuntime) -> Result<(), Fail> {
+    let alloc = rt.alloc();
+    let folder = folder(&rt, "torn_write")?;
+    let path = format!(in alloc; "{folder}/record")?;
+    let mut record = failing_record(&rt, path.as_str(), 30, 0)?;
+    assert!(rt; keeps(alloc, &mut record)?);
+    assert!(rt; !keeps(alloc, &mut record)?);
+    assert_eq!(rt; fs::read(&rt, path.as_str())?.as_slice(), ENTRY.as_slice());
+    assert!(rt; !keeps(alloc, &mut record)?);
+    assert!(rt; keeps(alloc, &mut record)?);
     let mut bytes = Vec::from_slice(alloc, &ENTRY)?;
     bytes.extend_from_slice(&ENTRY)?;
     assert_eq!(rt; fs::read(&rt, path.as_str())?.as_slice(), bytes.as_slice());
     fs::remove_dir_all(&rt, folder.as_str())?;
+    Ok(())
+}
+
+/// After a cut that failed nothing more is kept, also if the file could be cut and written again.
+#[test]
+fn nothing_is_kept_after_a_failed_cut(rt: HostRuntime) -> Result<(), Fail> {
+    let alloc = rt.alloc();
+    let folder = folder(&rt, "failed_cut")?;
+    let path = format!(in alloc; "{folder}/record")?;
+    let mut record = failing_record(&rt, path.as_str(), 30, 1)?;
+    assert!(rt; keeps(alloc, &mut record)?);
+    assert!(rt; !keeps(alloc, &mut record)?);
+    assert_eq!(rt; fs::read(&rt, path.as_str())?.len(), 30);
+    assert!(rt; !keeps(alloc, &mut record)?);
+    assert!(rt; !keeps(alloc, &mut record)?);
+    assert_eq!(rt; fs::read(&rt, path.as_str())?.len(), 30);
+    fs::remove_dir_all(&rt, folder.as_str())?;
+    Ok(())
+}
+
+/// Entries that another builder appended are recalled after the next keep, and what it left in part is cut off.
+#[test]
+fn entries_of_another_builder(rt: HostRuntime) -> Result<(), Fail> {
+    let alloc = rt.alloc();
+    let folder = folder(&rt, "another_builder")?;
+    let path = format!(in alloc; "{folder}/record")?;
+    let mut record = failing_record(&rt, path.as_str(), usize::MAX, 0)?;
+    let mut other = OpenOptions::new().append(true).open(&rt, path.as_str())?;
+    other.write_all(&BEGUN_ENTRY)?;
+    other.write_all(&ENTRY[..10])?;
+    assert!(rt; record.last(b"a").is_none());
+    let none = PathList::empty(alloc)?;
+    assert!(rt; record.keep_edge(alloc, b"b", b"t", 7, &none).is_ok());
+    match record.last(b"a") {
+        Some(entry) => assert_eq!(rt; entry.command(), b"\0".as_slice()),
+        None => panic!(rt; "no entry"),
+    }
+    let mut bytes = Vec::from_slice(alloc, &BEGUN_ENTRY)?;
+    bytes.extend_from_slice(&ENTRY)?;
+    bytes[BEGUN_ENTRY.len() + 6] = b'b';
+    assert_eq!(rt; fs::read(&rt, path.as_str())?.as_slice(), bytes.as_slice());
+    fs::remove_dir_all(&rt, folder.as_str())?;
+    Ok(())
+}
+
+/// A record that was removed while it is open keeps nothing more: another file may stand in its place.
+#[test]
+fn removed_record(rt: HostRuntime) -> Result<(), Fail> {
+    let alloc = rt.alloc();
+    let folder = folder(&rt, "removed_record")?;
+    let record = format!(in alloc; "{folder}/record")?;
+    let world = world_in(&rt, folder.as_str())?;
+    fs::remove_file(&rt, record.as_str())?;
+    let none = PathList::empty(alloc)?;
+    assert_eq!(rt;
+        said(alloc, world.keep(0, b"a", b"t", 7, &none)?)?.as_str(),
+        "fault"
+    );
+    fs::remove_dir_all(&rt, folder.as_str())?;
+    Ok(())
+}
+
+/// An entry with a path that the system can't be asked about isn't recalled.
+#[test]
+fn spoilt_paths(rt: HostRuntime) -> Result<(), Fail> {
+    let alloc = rt.alloc();
+    let folder = folder(&rt, "spoilt_paths")?;
+    let world = world_in(&rt, folder.as_str())?;
+    let long_name = vec![in alloc; b'n'; 256]?;
+    let mut long_path = vec![in alloc; b'/'; 4096]?;
+    long_path[4095] = b'p';
+    for (path, reply) in [
+        (b"dir/name".as_slice(), "entry"),
+        (b"\xc3\xa9".as_slice(), "entry"),
+        (&long_name[..255], "entry"),
+        (&long_path[1..], "entry"),
+        (b"\xff".as_slice(), "nothing"),
+        (b"a\0b".as_slice(), "nothing"),
+        (&long_name, "nothing"),
+        (&long_path, "nothing"),
+    ] {
+        let paths = PathList::new(alloc, rows(alloc, &[b"first", path])?)?;
+        assert_eq!(rt;
+            said(alloc, world.keep(0, b"a", b"t", 7, &paths)?)?.as_str(),
+            "kept"
+        );
+        assert_eq!(rt; said(alloc, world.recall(0, b"a")?)?.as_str(), reply);
+    }
+    fs::remove_dir_all(&rt, folder.as_str())?;
+    Ok(())
+}
+
+/// Names are whole words.
+#[test]
+fn names_of_locks(rt: HostRuntime) -> Result<(), Fail> {
+    assert!(rt; is_named("1:2 3:45", "3:45"));
+    assert!(rt; is_named("1:2 3:45", "1:2"));
+    assert!(rt; !is_named("1:2 3:45", "3:4"));
+    assert!(rt; !is_named("", "3:4"));
     Ok(())
 }

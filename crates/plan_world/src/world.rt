@@ -3,28 +3,35 @@
 ghost use Rattle.std.specs.Prelude.{◌≡◌, [], IfErr, IfOk, IfSome, IsUtf8, None, Ok};
 ghost use Rattle.plan_machine.specs.declared.reply.Reply.TheVariants as reply;
 ghost use Rattle.plan_verify.specs.Turn.{Keep, Recall, Run};
-ghost use Rattle.plan_world.specs.Answers.{IsAnswer};
+ghost use Rattle.plan_world.specs.Answers.{IsAnswer, MayAnswer};
+ghost use Rattle.plan_world.specs.Askable.{IsRecalled, RecallsAs};
 ghost use Rattle.plan_world.specs.Recording.{edge_entry};
 ghost use Rattle.plan_world.specs.Shells.{AreTexts};
 
+use crate::askable::are_askable;
+use crate::builder_lock::{BuilderLock, take_lock};
 use crate::depfile::read_depfile;
 use crate::fault::{DeviceFault, OpenFault};
+use crate::reasons::say;
 use crate::record_file::{Kept, RecordFile, open_record};
 use crate::recorded::recorded_of;
+use crate::shared_file::SharedFile;
 use crate::shell::{make_folders, run_shell};
 use crate::stamp::stat;
 use plan_lanes::{Permit, World};
-use plan_machine::Reply;
+use plan_machine::{Recorded, Reply};
 use plan_record::Entry;
 use plan_text::RowList;
 use plan_verify::PathList;
 use std::alloc::{AllocError, Global};
+use std::env::Env;
 use std::fs::OpenFile;
 use std::io::{Read, Seek, Write};
 use std::process::Processes;
 use std::rt::Files;
 use std::sync::{Mutex, Wait};
 use std::thread::Parker;
+use std::time::Clock;
 
 /// Real files and commands, and a record file that is open. Lanes ask it at once.
 ///
@@ -38,29 +45,54 @@ pub struct RealWorld<R: Files> {
     /// Rung before a command is started.
     bell: Parker,
     record: Mutex<RecordFile<R::File>>,
+    /// Keeps other builders from the record.
+    lock: BuilderLock<R::File>,
 }
 
-impl<R: Files + AllocGlobal> RealWorld<R>
+impl<R: Files + Env + Clock + Eprint + AllocGlobal> RealWorld<R>
 where
-    R::File: Read + Write + Seek + OpenFile + Drop,
+    R::File: Read + Write + Seek + OpenFile + SharedFile + Drop,
 {
-    /// The world of a runtime, with the record of this path: made empty where it is missing, though not its folder, and
-    /// cut to its good front.
+    /// Opens the world of a runtime, with the record of this path, which is created empty if it is missing, and cut to its
+    /// good front. Its folder must exist.
+    ///
+    /// It waits while another builder uses the record, and says so on standard error after a second. A builder that was
+    /// started by a command of that one goes on beside it.
     ///
     /// # Errors
-    /// `Device` where the record can't be made, read or cut, and `Memory`.
+    /// `Device` if the record or its lock can't be created, read, locked or cut, and `Memory`.
     pub fn open(rt: R, record: &str) -> Result<RealWorld<R>, OpenFault>
     where
         R: Drop,
     {
-        let file = open_record(&rt, record)?;
+        let (lock, file) = match locked_record(&rt, record) {
+            Ok(opened) => opened,
+            Err(fault) => {
+                say(&rt, "can't open the record", record.as_bytes(), fault);
+                return Err(OpenFault::from(fault));
+            }
+        };
         Ok(RealWorld {
             rt,
             screen: Mutex::new(()),
             bell: Parker::new(),
             record: Mutex::new(file),
+            lock,
         })
     }
+}
+
+/// Takes the lock of a record, and opens it. What is no file gets no lock.
+fn locked_record<R: Files + Env + Clock + Eprint + AllocGlobal>(
+    rt: &R,
+    record: &str,
+) -> Result<(BuilderLock<R::File>, RecordFile<R::File>), DeviceFault>
+where
+    R::File: Read + Write + Seek + OpenFile + SharedFile + Drop,
+{
+    drop(open_record(rt, record)?);
+    let lock = take_lock(rt, record)?;
+    Ok((lock, open_record(rt, record)?))
 }
 
 impl<R: Files> RealWorld<R> {
@@ -77,9 +109,9 @@ impl<R: Files> RealWorld<R> {
     }
 }
 
-impl<R: Files + Processes + Print + Wait + AllocGlobal> RealWorld<R>
+impl<R: Files + Processes + Print + Eprint + Wait + AllocGlobal> RealWorld<R>
 where
-    R::File: Write + Seek + OpenFile,
+    R::File: Read + Write + Seek + OpenFile + SharedFile,
 {
     /// Runs a command whose edge makes these files, the first of which names it in the record.
     pub(crate) fn start(
@@ -102,8 +134,24 @@ where
             .lock(&self.rt)
             .begin(self.rt.alloc(), outputs.row(0));
         match begun {
-            Ok(begun) => run_shell(&self.rt, &self.screen, command, console, outputs, begun),
-            Err(fault) => fault.replied(Reply::NotStarted),
+            Ok(begun) => run_shell(
+                &self.rt,
+                &self.screen,
+                command,
+                console,
+                outputs,
+                self.lock.names(),
+                begun,
+            ),
+            Err(fault) => {
+                say(
+                    &self.rt,
+                    "can't start the command of",
+                    outputs.row(0),
+                    fault,
+                );
+                fault.replied(Reply::NotStarted)
+            }
         }
     }
 
@@ -135,17 +183,43 @@ where
     }
 }
 
-/// What the record has for an output.
+/// Returns the reply to a recall that found what this says. If the system can't be asked about one of its paths, the entry is
+/// spoilt: nothing is replied, so that the edge's command runs again.
+fn replied_entry(recorded: Recorded) -> Reply
+    ensures { RecallsAs recorded result }
+{
+    if are_askable(recorded.paths()) {
+        Reply::Entry(recorded)
+    } else {
+        Reply::Nothing
+    }
+}
+
+/// Returns the reply to a recall: the entry that was found for the output, if it isn't spoilt.
 fn recalled(alloc: Global, output: &[u8], found: Option<Entry>) -> Result<Reply, DeviceFault>
     requires { IfSome found (λ e. e.output ≡ output.now) }
     ensures suits { IfOk result (λ r. IsAnswer (Recall output.now) r) }
-    ensures nothing { found ≡ None → result ≡ Ok reply.Nothing }
-    ensures said { IfSome found (λ e. IfOk result (λ r. r ≡ reply.Entry (record { command = e.command; basis = e.basis; paths = e.paths }))) }
+    ensures recalled { IfOk result (λ r. IsRecalled found r) }
     ensures memory { IfErr result (λ f. f ≡ DeviceFault.Memory) }
 {
     match found {
-        Some(entry) => Ok(Reply::Entry(recorded_of(alloc, &entry)?)),
+        Some(entry) => Ok(replied_entry(recorded_of(alloc, &entry)?)),
         None => Ok(Reply::Nothing),
+    }
+}
+
+impl<R: Files + Processes + Print + Eprint + Wait + AllocGlobal> RealWorld<R>
+where
+    R::File: Read + Write + Seek + OpenFile + SharedFile,
+{
+    /// Returns the reply to a recall of an output: its last entry, if it isn't spoilt.
+    #[tactic(auto, using(crate::proofs::AnswerLemmas::may_recall))]
+    fn recall_last(&self, output: &[u8]) -> Result<Reply, DeviceFault>
+        ensures may { IfOk result (λ r. MayAnswer (Recall output.now) r) }
+        ensures memory { IfErr result (λ f. f ≡ DeviceFault.Memory) }
+    {
+        let found = self.last(output)?;
+        recalled(self.rt.alloc(), output, found)
     }
 }
 
@@ -160,9 +234,9 @@ fn told(kept: Kept<'_>, output: &[u8], command: &[u8], basis: u64, paths: &PathL
 
 /// Replies by `MayAnswer`: their sort suits the question, and of what isn't UTF-8 nothing is known or started. What a
 /// file or a command does is no matter of a contract.
-impl<R: Files + Processes + Print + Wait + AllocGlobal> World for RealWorld<R>
+impl<R: Files + Processes + Print + Eprint + Wait + AllocGlobal> World for RealWorld<R>
 where
-    R::File: Write + Seek + OpenFile,
+    R::File: Read + Write + Seek + OpenFile + SharedFile,
 {
     ghost use Rattle.plan_world.specs.Answers.{MayAnswer};
 
@@ -173,11 +247,7 @@ where
     }
 
     fn recall(&self, _number: u64, output: &[u8]) -> Result<Reply, AllocError> {
-        let recalled = match self.last(output) {
-            Ok(found) => recalled(self.rt.alloc(), output, found),
-            Err(fault) => Err(fault),
-        };
-        match recalled {
+        match self.recall_last(output) {
             Ok(reply) => Ok(reply),
             Err(fault) => fault.replied(Reply::Fault),
         }
@@ -209,7 +279,10 @@ where
     ) -> Result<Reply, AllocError> {
         match self.append(output, command, basis, paths) {
             Ok(kept) => Ok(told(kept, output, command, basis, paths)),
-            Err(fault) => fault.replied(Reply::Fault),
+            Err(fault) => {
+                say(&self.rt, "can't keep the entry of", output, fault);
+                fault.replied(Reply::Fault)
+            }
         }
     }
 }

@@ -1,0 +1,59 @@
+//! Paths that the system can be asked about.
+
+ghost use Rattle.std.specs.Prelude.{◌≡◌, ◌↔◌, IsTrue, IsUtf8};
+ghost use Rattle.std.specs.List.{list_all};
+ghost use Rattle.plan_text.specs.Path.{components_of};
+ghost use Rattle.plan_world.specs.Askable.{AreAskable, IsAskable, is_name};
+
+use plan_text::nul_at;
+use plan_verify::PathList;
+use std::str;
+
+/// The length in bytes that a path must not reach: the system counts a NUL byte behind it.
+const PATH_LIMIT: usize = 4096;
+
+/// The most bytes that a file's name may have.
+const LONGEST_NAME: usize = 255;
+
+/// Checks whether a file can have this name, by its length.
+fn is_name(name: &[u8]) -> bool
+    ensures { result ≡ is_name name.now }
+{
+    name.len() <= LONGEST_NAME
+}
+
+/// Checks whether files can have the names between the slashes of a path.
+fn are_names(path: &[u8]) -> bool
+    ensures { result ≡ list_all is_name (components_of path.now) }
+{
+    path.split(|b| *b == b'/').all(|name| is_name(name))
+}
+
+/// Checks whether a path is text.
+fn is_text(path: &[u8]) -> bool
+    ensures { IsTrue result ↔ IsUtf8 path.now }
+{
+    str::from_utf8(path).is_ok()
+}
+
+/// Checks whether the system can be asked about a path: it answers an error of its own for any other, whatever files there
+/// are.
+pub(crate) fn is_askable(path: &[u8]) -> bool
+    ensures { IsTrue result ↔ IsAskable path.now }
+{
+    let whole = nul_at(path) == path.len();
+    let short = path.len() < PATH_LIMIT;
+    is_text(path) & whole & short & are_names(path)
+}
+
+/// Checks whether the system can be asked about each of these paths.
+pub(crate) fn are_askable(paths: &PathList) -> bool
+    ensures { IsTrue result ↔ AreAskable paths.now }
+{
+    for number in 0..paths.len() {
+        if !is_askable(paths.path(number)) {
+            return false;
+        }
+    }
+    true
+}

@@ -1,0 +1,111 @@
+//! The lock that keeps a second builder from a record.
+
+use crate::fault::DeviceFault;
+use crate::shared_file::SharedFile;
+use std::alloc::Global;
+use std::env::{self, Env, VarError};
+use std::fs::{Metadata, OpenFile, OpenOptions};
+use std::os::unix::fs::MetadataExt;
+use std::rt::Files;
+use std::time::{Clock, Duration};
+use std::{io, thread};
+
+/// The environment variable that tells a command which locks the builders above it hold: for each its file's device and
+/// inode, as `DEVICE:INODE`, with blanks between them.
+pub(crate) const VARIABLE: &str = "PLAN_NINJA_RECORDS";
+
+/// How often a builder looks for the lock before it says that it waits.
+const LOOKS: u32 = 100;
+
+/// The time between two looks, in milliseconds.
+const PAUSE: u64 = 10;
+
+/// The lock of a record, held until it is dropped, or the leave to work without one below the builder that holds it.
+#[derive(Drop)]
+pub(crate) struct BuilderLock<F> {
+    /// The file next to the record. None if a builder above holds its lock.
+    file: Option<F>,
+    /// The value of the variable for commands of this builder.
+    names: String,
+}
+
+/// Checks whether a name is one of those in a text.
+pub(crate) fn is_named(names: &str, name: &str) -> bool {
+    names.split(' ').any(|one| one == name)
+}
+
+/// Returns the name of a file: its device and its inode.
+fn name_of(alloc: Global, file: &Metadata) -> Result<String, DeviceFault> {
+    Ok(format!(in alloc; "{}:{}", file.dev(), file.ino())?)
+}
+
+/// Returns the names of the locks that the builders above hold.
+fn names_above<R: Env + AllocGlobal>(rt: &R) -> Result<String, DeviceFault> {
+    match env::var(rt, VARIABLE) {
+        Ok(names) => Ok(names),
+        Err(VarError::OutOfMemory) => Err(DeviceFault::Memory),
+        Err(_) => Ok(String::new(rt.alloc())),
+    }
+}
+
+/// Adds a name to others.
+fn names_with(alloc: Global, names: &str, name: &str) -> Result<String, DeviceFault> {
+    if names.is_empty() {
+        return Ok(String::from_str(alloc, name)?);
+    }
+    Ok(format!(in alloc; "{names} {name}")?)
+}
+
+/// Waits until no other builder holds the lock of a record. After a second it says once that it waits.
+fn wait_for<R: Clock + Eprint, F: SharedFile>(rt: &R, file: &F, record: &str) -> io::Result<()> {
+    for _ in 0..LOOKS {
+        if file.try_lock()? {
+            return Ok(());
+        }
+        thread::sleep(rt, Duration::from_millis(PAUSE));
+    }
+    let _ = eprintln!(rt; "plan_ninja: waiting for another build that uses {record}");
+    file.lock()
+}
+
+/// Takes the lock of a record, whose folder there must be. A builder that was started by a command of the builder which
+/// holds it goes on without it, since that one waits for the command; every other builder waits.
+///
+/// # Errors
+/// `Device` if the lock's file, RECORD.lock, can't be opened or locked, and `Memory`.
+pub(crate) fn take_lock<R: Files + Env + Clock + Eprint + AllocGlobal>(
+    rt: &R,
+    record: &str,
+) -> Result<BuilderLock<R::File>, DeviceFault>
+where
+    R::File: OpenFile + SharedFile + Drop,
+{
+    let alloc = rt.alloc();
+    let path = format!(in alloc; "{record}.lock")?;
+    let file = OpenOptions::new()
+        .append(true)
+        .create(true)
+        .open(rt, path.as_str())?;
+    let above = names_above(rt)?;
+    let own = name_of(alloc, &file.metadata()?)?;
+    if !file.try_lock()? {
+        if is_named(&above, &own) {
+            return Ok(BuilderLock {
+                file: None,
+                names: above,
+            });
+        }
+        wait_for(rt, &file, record)?;
+    }
+    Ok(BuilderLock {
+        file: Some(file),
+        names: names_with(alloc, &above, &own)?,
+    })
+}
+
+impl<F> BuilderLock<F> {
+    /// Returns the value of the variable for the commands of this builder.
+    pub(crate) fn names(&self) -> &str {
+        &self.names
+    }
+}
