@@ -1,44 +1,24 @@
 //! plan_ninja: a builder for Ninja manifests. This is the program; the work is done in the crates below it.
 #![tactic(auto)]
 
-ghost use Rattle.std.specs.Prelude.{◌≡◌, ◌⊎◌};
-ghost use Rattle.plan_ninja.specs.Faults as defined;
+ghost use Rattle.std.specs.Prelude.{◌≡◌};
 
-mod commands;
-mod comparing;
-mod compile_fault;
-mod compiling;
-mod fault;
-mod files;
-mod graph_fault;
-mod image_fault;
-mod images;
-mod playing;
-mod replay_fault;
-mod replaying;
-mod running;
 mod screen;
-mod targets;
-mod verdicts;
+mod streams;
 
-use crate::commands::do_commands;
-use crate::comparing::{Compared, do_compare};
-use crate::compiling::do_compile;
-use crate::fault::{PlanFault, file_fault, no_memory, output_fault};
-use crate::files::{FileSource, IMAGE_BYTES, MANIFEST_BYTES, NewFile, TRACE_BYTES};
-use crate::images::do_dump;
-use crate::replaying::do_replay;
-use crate::running::{Build, do_run};
-use crate::screen::Screen;
-use crate::verdicts::do_verify;
+use crate::screen::{Screen, Standard};
+use crate::streams::open_streams;
+use plan_commands::{
+    Buffer, Build, Compared, FileSource, IMAGE_BYTES, MANIFEST_BYTES, NewFile, PlanFault,
+    TRACE_BYTES, do_commands, do_compare, do_compile, do_dump, do_replay, do_run, do_verify, ended,
+    file_fault, lost_output, no_memory,
+};
 use plan_lanes::World;
 use plan_machine::Options;
 use plan_text::{Counted, Sink};
 use plan_words::{FileRequest, NoRequest, Request, RunWords, request_in, words_in};
 use plan_world::{OpenFault, RealWorld};
 use std::alloc::{AllocError, Global};
-use std::io;
-use std::io::{BufWriter, Write};
 use std::process::ExitCode;
 use std::rt::Files;
 use std::sync::{Mutex, Wait};
@@ -51,7 +31,7 @@ const REFUSED: u8 = 2;
 const OUTPUT_BUFFER: usize = 65_536;
 
 /// Writes what is asked for to a sink, or to the file that is asked for, and says with which status the program ends.
-fn answer<R: Files + AllocGlobal, W: Sink>(
+fn answer<R: Files + Eprint + AllocGlobal, W: Sink>(
     rt: &R,
     request: FileRequest<'_>,
     out: &mut W,
@@ -94,31 +74,19 @@ fn answer<R: Files + AllocGlobal, W: Sink>(
     }
 }
 
-/// Prints what is asked for, and says with which status the program ends.
-fn print<R: Files + Print + AllocGlobal>(
+/// Prints what is asked for, and returns the status that the program ends with.
+fn print<R: Files + Print + Eprint + AllocGlobal>(
     rt: &R,
     request: FileRequest<'_>,
 ) -> Result<u8, PlanFault> {
     let alloc = rt.alloc();
-    let Ok(buffer) = BufWriter::with_capacity(alloc, OUTPUT_BUFFER, io::writer(rt)) else {
+    let Ok(room) = Vec::with_capacity(alloc, OUTPUT_BUFFER) else {
         return Err(no_memory(alloc));
     };
-    let mut out = Counted::new(buffer);
-    let status = answer(rt, request, &mut out)?;
-    match out.into_writer().flush() {
-        Ok(()) => Ok(status),
-        Err(_) => Err(output_fault_or_memory(alloc)),
-    }
-}
-
-/// The fault of the standard output.
-fn output_fault_or_memory(alloc: Global) -> PlanFault
-    ensures { (result ≡ defined.output_fault) ⊎ (result ≡ defined.no_memory) }
-{
-    match output_fault(alloc) {
-        Ok(fault) => fault,
-        Err(_) => no_memory(alloc),
-    }
+    let mut out = Buffer::new(Standard::new(rt), room);
+    let status = answer(rt, request, &mut out);
+    let (status, _out) = ended(alloc, status, out);
+    status
 }
 
 /// Prints why the program is refused.
@@ -143,7 +111,7 @@ fn show<R: Print + Eprint + AllocGlobal, E: Print>(rt: &R, errors: &E, told: &No
         }
         NoRequest::Help(text) => match rt.print(text) {
             Ok(()) => 0,
-            Err(_) => report(rt.alloc(), errors, &output_fault_or_memory(rt.alloc())),
+            Err(_) => report(rt.alloc(), errors, &lost_output(rt.alloc())),
         },
     }
 }
@@ -179,7 +147,10 @@ fn world_at(rt: &HostRuntime, record: &str) -> Result<RealWorld<HostRuntime>, Pl
 }
 
 /// Runs an image in a world, and says with which status the program ends.
-fn run_image<R: Threads + Wait + Sync + Files + Print + AllocGlobal, W: World + Send + Sync>(
+fn run_image<
+    R: Threads + Wait + Sync + Files + Print + Eprint + AllocGlobal,
+    W: World + Send + Sync,
+>(
     rt: &R,
     asked: &RunWords<'_>,
     world: &W,
@@ -188,10 +159,10 @@ fn run_image<R: Threads + Wait + Sync + Files + Print + AllocGlobal, W: World + 
 ) -> Result<u8, PlanFault> {
     let alloc = rt.alloc();
     let file = NewFile::new(rt, asked.trace.unwrap_or(""));
-    let (Some(options), Ok(targets), Ok(trace_buffer)) = (
+    let (Some(options), Ok(targets), Ok(room)) = (
         Options::new(asked.jobs, asked.keep),
         names_of(alloc, &asked.targets),
-        BufWriter::with_capacity(alloc, OUTPUT_BUFFER, file),
+        Vec::with_capacity(alloc, OUTPUT_BUFFER),
     ) else {
         return Err(no_memory(alloc));
     };
@@ -203,11 +174,27 @@ fn run_image<R: Threads + Wait + Sync + Files + Print + AllocGlobal, W: World + 
     };
     let mut images = FileSource::new(rt, IMAGE_BYTES);
     let out = Screen::new(rt, screen);
-    let mut trace = Counted::new(trace_buffer);
+    let mut trace = Buffer::new(Counted::new(file), room);
     let (ran, _out) = do_run(rt, alloc, &mut images, &build, world, bell, out, &mut trace);
-    match (ran, trace.into_writer().flush()) {
+    let (written, _file) = trace.finish();
+    match (ran, written) {
         (Ok(_), Err(_)) => Err(file_fault(alloc, build.trace.unwrap_or(b""))),
         (ran, _) => ran,
+    }
+}
+
+/// The fault of a file that doesn't begin as an image does.
+const BAD_MAGIC: u8 = 60;
+
+/// If a manifest was given for an image, says what to do instead.
+fn advise<R: Eprint>(rt: &R, image: &str, done: &Result<u8, PlanFault>) {
+    match done {
+        Err(fault) if fault.number == BAD_MAGIC && image.ends_with(".ninja") => {
+            let _ = eprintln!(rt;
+                "plan_ninja: {image} is a manifest, and no image: compile it first, by plan_ninja compile {image} -o plan.img"
+            );
+        }
+        _ => {}
     }
 }
 
@@ -220,6 +207,7 @@ fn status_of<E: Print>(alloc: Global, errors: &E, done: Result<u8, PlanFault>) -
 }
 
 fn main(rt: HostRuntime) -> ExitCode {
+    let _streams = open_streams(&rt);
     let errors = rt.stderr();
     let words = match words_in(&rt) {
         Ok(words) => words,
@@ -227,7 +215,11 @@ fn main(rt: HostRuntime) -> ExitCode {
     };
     let done = match request_in(rt.alloc(), &words) {
         Ok(Request::Run(asked)) => match world_at(&rt, asked.record) {
-            Ok(world) => run_image(&rt, &asked, &world, world.screen(), world.bell()),
+            Ok(world) => {
+                let done = run_image(&rt, &asked, &world, world.screen(), world.bell());
+                advise(&rt, asked.image, &done);
+                done
+            }
             Err(fault) => Err(fault),
         },
         Ok(Request::Files(asked)) => print(&rt, asked),

@@ -49,3 +49,40 @@ impl<R: Print + Wait> Sink for Screen<'_, R> {
         }
     }
 }
+
+/// Standard output, unlocked.
+#[derive(Drop)]
+pub struct Standard<'a, R> {
+    rt: &'a R,
+    failures: Tally,
+}
+
+impl<'a, R: Print> Standard<'a, R> {
+    /// Returns the standard output of a runtime, no write of which has failed.
+    pub fn new(rt: &'a R) -> Standard<'a, R>
+        ensures { result.failures.count ≡ 0 }
+    {
+        Standard {
+            rt,
+            failures: Tally::new(),
+        }
+    }
+}
+
+impl<R: Print> Sink for Standard<'_, R> {
+    ghost use Rattle.std.specs.Prelude.{None};
+
+    ghost failures = { λ s. s.failures.count };
+
+    ghost taken = { λ _. None };
+
+    fn write(&mut self, bytes: &[u8]) -> Result<usize, SinkFault> {
+        match io::writer(self.rt).write_all(bytes) {
+            Ok(()) => Ok(bytes.len()),
+            Err(_) => {
+                self.failures = self.failures.next();
+                Err(SinkFault)
+            }
+        }
+    }
+}

@@ -1,0 +1,7 @@
+pub mod Rows
+pub mod VerdictsLemmas
+mod TargetLemmas
+mod RunningLemmas
+mod BufferLemmas
+mod ComparingLemmas
+mod CompilingLemmas

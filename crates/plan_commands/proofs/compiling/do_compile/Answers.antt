@@ -1,0 +1,11 @@
+use Rattle.std.proofs.Common.{inl, refl}
+use Rattle.plan_commands.proofs.CompilingLemmas.{not_compiled}
+use Rattle.plan_commands.proofs.compiling.do_compile.Goals as goal
+
+pub image_of-image-requires : goal.image_of-image-requires
+image_of-image-requires g c =
+    let meant = c.in_ok-manifest.ensures.meant in
+    c.loaded_manifests_are_sound.ensures c.args.source.now (g.S.Source.failures c.args.source.now) (g.S.Source.failures c.manifest_at.new.source) c.args.path.now meant.0 c.in_ok-manifest.manifest meant.1 meant.2
+
+pub returns-in-Err-clause-refused : goal.returns-in-Err-clause-refused
+returns-in-Err-clause-refused g c = inl (refl, not_compiled _ c.args.path.now c.in_ok-manifest.manifest c.in-Err.fault c.in_ok-manifest.ensures.meant c.in-Err.ensures.refused)

@@ -1,0 +1,179 @@
+-- What `run IMG` does.
+use Rattle.std.specs.Prelude.{◌≡◌, ◌⊎◌, ℕ, Bool, true, false, List, [], Option, Some, None, Result, Ok, Err}
+use Rattle.plan_scope.specs.Scopes.{Text}
+use Rattle.plan_scope.specs.Loading.{FileContents, PathSet}
+use Rattle.plan_image.specs.declared.image.Parts.{Parts}
+use Rattle.plan_verify.specs.WellShaped.{IsWellShaped}
+use Rattle.plan_machine.specs.Limits.{Limits}
+use Rattle.plan_machine.specs.State.{has_ended}
+use Rattle.plan_machine.specs.Total.{total_of}
+use Rattle.plan_status.specs.Lines.{lines_of}
+use Rattle.plan_status.specs.Outcomes.{all_done}
+use Rattle.plan_status.specs.Printing.{Prints}
+use Rattle.plan_status.specs.declared.fault.PrintFault.{PrintFault}
+use Rattle.plan_status.specs.declared.fault.PrintFault.TheVariants as print
+use Rattle.plan_trace.specs.Spelling.{run_text}
+use Rattle.plan_lanes.specs.Journals.{Rule}
+use Rattle.plan_lanes.specs.Progress.{Opened}
+use Rattle.plan_lanes.specs.Reports.{IsRunOf}
+use Rattle.plan_lanes.specs.Faults.{number_of, report_of}
+use Rattle.plan_lanes.specs.declared.board.Report.{Report}
+use Rattle.plan_lanes.specs.declared.fault.LaneFault.{LaneFault}
+use Rattle.plan_commands.specs.declared.fault.PlanFault.{PlanFault}
+use Rattle.plan_commands.specs.Faults.{file_fault, no_memory, output_fault}
+use Rattle.plan_commands.specs.Images.{SinkState, IsImageAt}
+use Rattle.plan_commands.specs.Targets.{targets}
+use Rattle.plan_commands.specs.Verdicts.{IsRejected}
+
+-- What is asked for: the run of the image at a path with these options, for the targets of these names; and the file of
+-- its trace, where it is to have one.
+pub record Wanted : Type 0 where
+  pub path : Text
+  pub limits : Limits
+  pub names : List Text
+  pub trace : Option Text
+
+abbrev pub wanted : Text → Limits → List Text → Option Text → Wanted
+wanted p l ns t = record { path = p; limits = l; names = ns; trace = t }
+
+-- What a run is opened with: an image that the source may give for the path, which is well shaped, these options, and
+-- the edges that make the files of these names.
+pub record IsOpened (gives : FileContents) (w : Wanted) (o : Opened) : Type 0 where
+  pub image : IsImageAt gives w.path o.parts
+  pub shaped : IsWellShaped o.parts
+  pub within : o.limits ≡ w.limits
+  pub targets : targets o.parts w.names ≡ Ok o.targets
+
+-- the status of a run that has ended: 0 where all wanted edges ended well, else 1
+abbrev pub status_of : Bool → ℕ
+status_of true = 0
+status_of false = 1
+
+-- the status lines of a report
+abbrev pub lines_in : Parts → Report → List ℕ
+lines_in p r = lines_of p (total_of p r.state.going.now) r.marks.items
+
+-- The trace of a run was written, where it is to have one, as far as that went: its options, its targets, its events.
+abbrev pub Traces : Option Text → Limits → List ℕ → Report → Option PrintFault → (old new : SinkState) → Type 0
+Traces None limits edges r stop old new = (stop ≡ None) × (new ≡ old)
+Traces (Some path) limits edges r stop old new = Prints (run_text limits edges r.journal) stop old new
+
+-- the report of a run that has ended, or of one that has stopped
+abbrev pub report_in : Result Report LaneFault → Option Report
+report_in (Ok report) = Some report
+report_in (Err fault) = report_of fault
+
+-- what the program writes to: its output, and the file of a trace
+abbrev pub Written : Type 0
+Written = SinkState × SinkState
+
+-- A run of such an image that has ended, in which each reply is one that the rule of the world allows; its status lines
+-- were printed, and its trace was written.
+pub record Runs (gives : FileContents) (rule : Rule) (w : Wanted) (old new : Written) (status : ℕ) : Type 0 where
+  pub opened : Opened
+  pub is : IsOpened gives w opened
+  pub report : Report
+  pub run : IsRunOf rule opened report
+  pub ended : has_ended report.state.going.now ≡ true
+  pub printed : Prints (lines_in opened.parts report) None old.0 new.0
+  pub traced : Traces w.trace opened.limits opened.targets report None old.1 new.1
+  pub answers : status ≡ status_of (all_done opened.parts report.state.going.now)
+
+-- why a text isn't printed, as the program prints it
+abbrev pub printed_print_fault : PrintFault → PlanFault
+printed_print_fault print.Memory = no_memory
+printed_print_fault print.Write = output_fault
+
+-- why a trace isn't written, as the program prints it
+abbrev pub printed_trace_fault : Option Text → PrintFault → PlanFault
+printed_trace_fault (Some path) print.Write = file_fault path
+printed_trace_fault trace fault = no_memory
+
+-- the first target that no edge makes, of an image that is accepted
+abbrev pub IsUnknown : FileContents → Text → List Text → PlanFault → Type 0
+IsUnknown gives path names fault = (p : Parts) × IsImageAt gives path p × IsWellShaped p × (targets p names ≡ Err fault)
+
+abbrev pub opening_memory : PlanFault
+opening_memory = record { number = 111; rest = [] }
+
+-- No run begins: the image isn't accepted, a target is unknown, or memory is wanted.
+abbrev pub IsNotBegun : FileContents → PathSet → Wanted → PlanFault → Type 0
+IsNotBegun gives missing w fault =
+    IsRejected gives missing w.path fault ⊎ (IsUnknown gives w.path w.names fault ⊎ ((fault ≡ no_memory) ⊎ (fault ≡ opening_memory)))
+
+-- a fault of lanes, as the program prints it
+abbrev pub printed_lane_fault : LaneFault → PlanFault
+printed_lane_fault fault = record { number = number_of fault; rest = [] }
+
+-- A run began, and lanes stopped: the lines of what was done were printed, and its trace was written, as far as that
+-- went.
+pub record StopsEarly (gives : FileContents) (rule : Rule) (w : Wanted) (old new : Written) (fault : PlanFault) : Type 0 where
+  pub opened : Opened
+  pub is : IsOpened gives w opened
+  pub report : Report
+  pub run : IsRunOf rule opened report
+  pub stop : Option PrintFault
+  pub printed : Prints (lines_in opened.parts report) stop old.0 new.0
+  pub trace_stop : Option PrintFault
+  pub traced : Traces w.trace opened.limits opened.targets report trace_stop old.1 new.1
+  pub stopped : LaneFault
+  pub reports : report_of stopped ≡ Some report
+  pub says : fault ≡ printed_lane_fault stopped
+
+-- A run has ended, and its lines weren't printed to the end; its trace was written, as far as that went.
+pub record FailsToTell (gives : FileContents) (rule : Rule) (w : Wanted) (old new : Written) (fault : PlanFault) : Type 0 where
+  pub opened : Opened
+  pub is : IsOpened gives w opened
+  pub report : Report
+  pub run : IsRunOf rule opened report
+  pub ended : has_ended report.state.going.now ≡ true
+  pub stop : PrintFault
+  pub printed : Prints (lines_in opened.parts report) (Some stop) old.0 new.0
+  pub trace_stop : Option PrintFault
+  pub traced : Traces w.trace opened.limits opened.targets report trace_stop old.1 new.1
+  pub says : (fault ≡ printed_print_fault stop) ⊎ (fault ≡ no_memory)
+
+-- A run has ended, its lines were printed, and its trace wasn't written to the end.
+pub record FailsToTrace (gives : FileContents) (rule : Rule) (w : Wanted) (old new : Written) (fault : PlanFault) : Type 0 where
+  pub opened : Opened
+  pub is : IsOpened gives w opened
+  pub report : Report
+  pub run : IsRunOf rule opened report
+  pub ended : has_ended report.state.going.now ≡ true
+  pub printed : Prints (lines_in opened.parts report) None old.0 new.0
+  pub stop : PrintFault
+  pub traced : Traces w.trace opened.limits opened.targets report (Some stop) old.1 new.1
+  pub says : (fault ≡ printed_trace_fault w.trace stop) ⊎ (fault ≡ no_memory)
+
+-- why a run that began gives no status
+abbrev pub FailsToRun : FileContents → Rule → Wanted → (old new : Written) → PlanFault → Type 0
+FailsToRun gives rule w old new fault =
+    StopsEarly gives rule w old new fault ⊎ (FailsToTell gives rule w old new fault ⊎ FailsToTrace gives rule w old new fault)
+
+-- ---- parts of it
+
+-- the status lines of a run that has ended were printed, which gives its status; or they weren't
+abbrev pub Tells : Parts → Report → (old new : SinkState) → Result ℕ PlanFault → Type 0
+Tells p r old new (Ok status) = Prints (lines_in p r) None old new × (status ≡ status_of (all_done p r.state.going.now))
+Tells p r old new (Err fault) = (stop : PrintFault) × Prints (lines_in p r) (Some stop) old new × ((fault ≡ printed_print_fault stop) ⊎ (fault ≡ no_memory))
+
+-- the trace of a run was written, or it wasn't
+abbrev pub WritesTrace : Option Text → Limits → List ℕ → Report → (old new : SinkState) → Result Unit PlanFault → Type 0
+WritesTrace trace limits edges r old new (Ok done) = Traces trace limits edges r None old new
+WritesTrace trace limits edges r old new (Err fault) =
+    (stop : PrintFault) × Traces trace limits edges r (Some stop) old new × ((fault ≡ printed_trace_fault trace stop) ⊎ (fault ≡ no_memory))
+
+-- the first of the two faults, else the status
+abbrev pub both : Result ℕ PlanFault → Result Unit PlanFault → Result ℕ PlanFault
+both (Ok status) (Err fault) = Err fault
+both told written = told
+
+-- both for a run that has ended
+abbrev pub TellsAll : Option Text → Parts → Limits → List ℕ → Report → (old new : Written) → Result ℕ PlanFault → Type 0
+TellsAll trace p limits edges r old new result =
+    (told : Result ℕ PlanFault) × (written : Result Unit PlanFault) × Tells p r old.0 new.0 told × WritesTrace trace limits edges r old.1 new.1 written × (result ≡ both told written)
+
+-- both for a run that has stopped, as far as that went
+abbrev pub TellsSome : Option Text → Parts → Limits → List ℕ → Report → (old new : Written) → Type 0
+TellsSome trace p limits edges r old new =
+    (stop : Option PrintFault) × (trace_stop : Option PrintFault) × Prints (lines_in p r) stop old.0 new.0 × Traces trace limits edges r trace_stop old.1 new.1

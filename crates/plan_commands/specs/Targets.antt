@@ -1,0 +1,26 @@
+-- Which edges the targets of a command line name.
+use Rattle.std.specs.Prelude.{ℕ, List, Option, Some, None, Result, Ok, Err}
+use Rattle.plan_text.specs.Outcome.{each}
+use Rattle.plan_text.specs.declared.fault.TextFault.{TextFault}
+use Rattle.plan_text.specs.Path.{canonical_of}
+use Rattle.plan_scope.specs.Scopes.{Text}
+use Rattle.plan_image.specs.declared.image.Parts.{Parts}
+use Rattle.plan_image.specs.Makers.{first_maker}
+use Rattle.plan_commands.specs.declared.fault.PlanFault.{PlanFault}
+use Rattle.plan_commands.specs.Faults.{unknown_target}
+
+abbrev pub or_unknown : Text → Option ℕ → Result ℕ PlanFault
+or_unknown name (Some edge) = Ok edge
+or_unknown name None = Err (unknown_target name)
+
+abbrev pub maker : Parts → Text → Result (List ℕ) TextFault → Result ℕ PlanFault
+maker p name (Ok path) = or_unknown name (first_maker p path 0 p.edges)
+maker p name (Err fault) = Err (unknown_target name)
+
+-- the least edge that makes the file of this name, in canonical form; an empty name is unknown
+abbrev pub target : Parts → Text → Result ℕ PlanFault
+target p name = maker p name (canonical_of name)
+
+-- the edges of these names, in their order, or the fault of the first that no edge makes
+abbrev pub targets : Parts → List Text → Result (List ℕ) PlanFault
+targets p names = each (target p) names

@@ -1,0 +1,77 @@
+//! The command `commands`.
+
+ghost use Rattle.std.specs.Prelude.{◌≡◌, ◌⊎◌, IfOk, IfErr, OnOk};
+ghost use Rattle.plan_commands.specs.Commands.{WritesAll, HasGraph, IsRefused, IsMeant, LacksGraph, FailsToWrite, loading_by};
+
+use crate::fault::{PlanFault, no_memory, output_fault, printed_fault};
+use crate::graph_fault::printed_graph_fault;
+use plan_graph::graph;
+use plan_scope::{Manifest, Source, evaluate, load, write_commands};
+use plan_text::Sink;
+use std::alloc::Global;
+use std::mem::forget;
+
+/// What the manifest at the path means.
+pub fn manifest_at<S: Source>(
+    alloc: Global,
+    source: &mut S,
+    path: &[u8],
+) -> Result<Manifest, PlanFault>
+    ensures meant { let loads = loading_by (S.gives source.old) (S.fails source.old) (S.failures source.old) (S.failures source.new) in
+        IfOk result (λ manifest. IsMeant loads path.now manifest) }
+    ensures read { OnOk result (S.failures source.new ≡ S.failures source.old) }
+    ensures refused { let loads = loading_by (S.gives source.old) (S.fails source.old) (S.failures source.old) (S.failures source.new) in
+        IfErr result (λ fault. IsRefused loads path.now fault) }
+{
+    let tree = match load(alloc, source, path) {
+        Ok(tree) => tree,
+        Err(fault) => return Err(printed_fault(alloc, &fault)),
+    };
+    match evaluate(alloc, &tree) {
+        Ok(manifest) => Ok(manifest),
+        Err(fault) => Err(printed_fault(alloc, &fault)),
+    }
+}
+
+/// Refuses a manifest that has no graph.
+fn check_graph(alloc: Global, manifest: &Manifest) -> Result<(), PlanFault>
+    ensures graph { OnOk result (HasGraph manifest.now) }
+    ensures refused { IfErr result (λ fault. LacksGraph manifest.now fault) }
+{
+    match graph(alloc, manifest) {
+        Ok(_) => Ok(()),
+        Err(fault) => Err(printed_graph_fault(alloc, manifest, &fault)),
+    }
+}
+
+/// Writes the command of each edge of the manifest at the path that isn't a phony, in order, a newline after each, and
+/// answers the status 0: then no read and no write failed.
+///
+/// Where the manifest, or a file that it includes, is missing or refused, or the manifest has no graph, nothing is
+/// written, and the fault says why and where. Where a write fails, the fault is that of the output.
+pub fn do_commands<S: Source, W: Sink>(
+    alloc: Global,
+    source: &mut S,
+    path: &[u8],
+    out: &mut W,
+) -> Result<u8, PlanFault>
+    ensures done { let loads = loading_by (S.gives source.old) (S.fails source.old) (S.failures source.old) (S.failures source.new) in
+        IfOk result (λ status. (status ≡ 0) × WritesAll loads path.now (W.failures out.old, W.taken out.old) (W.failures out.new, W.taken out.new)) }
+    ensures read { OnOk result (S.failures source.new ≡ S.failures source.old) }
+    ensures refused { let loads = loading_by (S.gives source.old) (S.fails source.old) (S.failures source.old) (S.failures source.new) in
+        IfErr result (λ fault. ((out.new ≡ out.old) × IsRefused loads path.now fault)
+        ⊎ FailsToWrite loads path.now (W.failures out.old, W.taken out.old) (W.failures out.new, W.taken out.new) fault) }
+{
+    let manifest = manifest_at(alloc, source, path)?;
+    check_graph(alloc, &manifest)?;
+    let Ok(failed) = output_fault(alloc) else {
+        return Err(no_memory(alloc));
+    };
+    let written = write_commands(&manifest, out);
+    // It is not freed piece by piece: the program ends soon.
+    forget(manifest);
+    match written {
+        Ok(()) => Ok(0),
+        Err(_) => Err(failed),
+    }
+}

@@ -1,0 +1,19 @@
+//! Why a manifest has no image, as it is printed.
+
+ghost use Rattle.std.specs.Prelude.{◌≡◌};
+ghost use Rattle.plan_commands.specs.Faults as defined;
+
+use crate::fault::PlanFault;
+use plan_compile::CompileFault;
+use plan_text::Items;
+use std::alloc::Global;
+
+/// Why a manifest has no image, as it is printed.
+pub fn printed_compile_fault(alloc: Global, fault: CompileFault) -> PlanFault
+    ensures { result ≡ defined.printed_compile_fault fault }
+{
+    PlanFault {
+        number: fault.number(),
+        rest: Items::empty(alloc),
+    }
+}

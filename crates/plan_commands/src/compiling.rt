@@ -1,0 +1,90 @@
+//! The command `compile`.
+
+ghost use Rattle.std.specs.Prelude.{◌≡◌, ◌⊎◌, IfOk, IfErr, OnOk};
+ghost use Rattle.plan_scope.specs.Sound.{IsSound};
+ghost use Rattle.plan_graph.specs.Graph.{IsGraph};
+ghost use Rattle.plan_image.specs.Spelling.{spelling};
+ghost use Rattle.plan_commands.specs.Commands.{LacksGraph, loading_by};
+ghost use Rattle.plan_commands.specs.Compiling.{SpellsImage, LacksImageOf, IsNotCompiled, Compiles, FailsToCompile};
+
+use crate::commands::manifest_at;
+use crate::compile_fault::printed_compile_fault;
+use crate::fault::{PlanFault, no_memory, write_fault};
+use crate::graph_fault::printed_graph_fault;
+use crate::image_fault::printed_image_fault;
+use plan_compile::{compile, image_is_shaped, manifests_are_sound};
+use plan_graph::{Graph, graph};
+use plan_image::{Image, ImageFault, print_image};
+use plan_scope::{Manifest, Source, loaded_manifests_are_sound};
+use plan_text::Sink;
+use std::alloc::Global;
+use std::mem::forget;
+
+/// The graph of the manifest.
+fn graph_of<'a>(alloc: Global, manifest: &'a Manifest) -> Result<Graph<'a>, PlanFault>
+    ensures graph { IfOk result (λ g. IsGraph manifest.now g) }
+    ensures refused { IfErr result (λ fault. LacksGraph manifest.now fault) }
+{
+    match graph(alloc, manifest) {
+        Ok(graph) => Ok(graph),
+        Err(fault) => Err(printed_graph_fault(alloc, manifest, &fault)),
+    }
+}
+
+/// How many bytes of an image are written at once.
+const ROOM: usize = 65_536;
+
+/// The image of the manifest. The verifier accepts it.
+fn image_of(alloc: Global, manifest: &Manifest) -> Result<Image, PlanFault>
+    requires { IsSound manifest.now }
+    ensures image { IfOk result (λ image. SpellsImage manifest.now (spelling image)) }
+    ensures refused { IfErr result (λ fault. LacksGraph manifest.now fault ⊎ LacksImageOf manifest.now fault) }
+{
+    let graph = graph_of(alloc, manifest)?;
+    manifests_are_sound();
+    image_is_shaped();
+    match compile(alloc, manifest, &graph) {
+        Ok(image) => Ok(image),
+        Err(fault) => Err(printed_compile_fault(alloc, fault)),
+    }
+}
+
+/// Writes the image of the manifest at the path, and answers the status 0: then no read and no write failed, and the
+/// verifier accepts the image. `output` is the name of the sink's file.
+///
+/// Where the manifest, or a file that it includes, is missing or refused, or the manifest has no graph or no image,
+/// nothing is written, and the fault says why and where. Where a write fails, the fault is that of the sink's file.
+pub fn do_compile<S: Source, W: Sink>(
+    alloc: Global,
+    source: &mut S,
+    path: &[u8],
+    output: &[u8],
+    out: &mut W,
+) -> Result<u8, PlanFault>
+    ensures done { let loads = loading_by (S.gives source.old) (S.fails source.old) (S.failures source.old) (S.failures source.new) in
+        IfOk result (λ status. (status ≡ 0) × Compiles loads path.now (W.failures out.old, W.taken out.old) (W.failures out.new, W.taken out.new)) }
+    ensures read { OnOk result (S.failures source.new ≡ S.failures source.old) }
+    ensures refused { let loads = loading_by (S.gives source.old) (S.fails source.old) (S.failures source.old) (S.failures source.new) in
+        IfErr result (λ fault. ((out.new ≡ out.old) × IsNotCompiled loads path.now fault)
+        ⊎ FailsToCompile loads path.now output.now (W.failures out.old, W.taken out.old) (W.failures out.new, W.taken out.new) fault) }
+{
+    let manifest = manifest_at(alloc, source, path)?;
+    loaded_manifests_are_sound::<S>();
+    let image = image_of(alloc, &manifest);
+    // It is not freed piece by piece: the program ends soon.
+    forget(manifest);
+    let image = match image {
+        Ok(image) => image,
+        Err(fault) => return Err(fault),
+    };
+    let Ok(failed) = write_fault(alloc, output) else {
+        return Err(no_memory(alloc));
+    };
+    let Ok(mut room) = Vec::with_capacity(alloc, ROOM) else {
+        return Err(printed_image_fault(alloc, ImageFault::Memory));
+    };
+    match print_image(&image, &mut room, out) {
+        Ok(()) => Ok(0),
+        Err(_) => Err(failed),
+    }
+}

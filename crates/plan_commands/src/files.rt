@@ -1,0 +1,160 @@
+//! The files of the system.
+
+ghost use Rattle.std.specs.Prelude.{◌≡◌};
+ghost use Rattle.std.specs.Io.{WritesAtMost};
+
+use plan_image::MAX_IMAGE;
+use plan_scope::{Source, SourceFault};
+use plan_text::{MAX_SOURCE, Tally};
+use std::alloc::Global;
+use std::fs::OpenFile;
+use std::io::{ErrorKind, Read, Write};
+use std::rt::Files;
+use std::{fs, io, str};
+
+/// One byte more than a manifest may have, so that one which is too long is seen to be.
+pub const MANIFEST_BYTES: u64 = MAX_SOURCE as u64 + 1;
+
+/// One byte more than an image may have, so that one which is too long is seen to be.
+pub const IMAGE_BYTES: u64 = MAX_IMAGE as u64 + 1;
+
+/// A trace may have any length.
+pub const TRACE_BYTES: u64 = u64::MAX;
+
+/// The files of the system, by their paths. If one can't be read, standard error says why.
+#[derive(Drop)]
+pub struct FileSource<'a, R> {
+    rt: &'a R,
+    /// How many bytes of a file are read.
+    most: u64,
+    failures: Tally,
+}
+
+impl<'a, R: Files> FileSource<'a, R> {
+    /// Returns the files that the runtime reaches, `most` bytes of each, no read of which has failed.
+    pub fn new(rt: &'a R, most: u64) -> FileSource<'a, R>
+        ensures { result.failures.count ≡ 0 }
+    {
+        FileSource {
+            rt,
+            most,
+            failures: Tally::new(),
+        }
+    }
+}
+
+/// Says on standard error what can't be done with a file, and why. Nothing is said if memory ran out: the fault says so.
+fn say<R: Eprint>(rt: &R, what: &str, path: &str, error: &io::Error) {
+    if error.kind() != ErrorKind::OutOfMemory {
+        let _ = eprintln!(rt; "plan_ninja: can't {what} {path}: {error}");
+    }
+}
+
+impl<R: Eprint> FileSource<'_, R> {
+    /// Says on standard error why a file can't be read.
+    fn say(&self, path: &[u8], error: &io::Error) {
+        say(
+            self.rt,
+            "read",
+            str::from_utf8(path).unwrap_or("a file"),
+            error,
+        );
+    }
+}
+
+/// Reads the file at a path, or a front of so many bytes of a longer one. Room is made at once for the length that the
+/// system tells, and a byte more, so that its end is seen without growing.
+fn read_file<R: Files>(rt: &R, alloc: Global, path: &[u8], most: u64) -> io::Result<Vec<u8>> {
+    let Ok(path) = str::from_utf8(path) else {
+        return Err(io::Error::from(ErrorKind::InvalidInput));
+    };
+    let file = fs::open(rt, path)?;
+    let room = file.metadata()?.len().min(most).saturating_add(1);
+    let mut bytes = Vec::with_capacity(alloc, usize::try_from(room).unwrap_or(0))?;
+    file.take(most).read_to_end(&mut bytes)?;
+    Ok(bytes)
+}
+
+impl<R: Files + Eprint> Source for FileSource<'_, R> {
+    ghost use Rattle.std.specs.Prelude.{◌≡◌};
+
+    ghost gives = { λ _ _ _. Unit {0} };
+
+    ghost fails = { λ _ _. Unit {0} };
+
+    ghost failures = { λ s. s.failures.count };
+
+    fn read(&mut self, alloc: Global, path: &[u8]) -> Result<Vec<u8>, SourceFault> {
+        match read_file(self.rt, alloc, path, self.most) {
+            Ok(bytes) => Ok(bytes),
+            Err(error) => match error.kind() {
+                ErrorKind::NotFound | ErrorKind::NotADirectory => {
+                    // A manifest that is missing has a fault of its own.
+                    if self.most != MANIFEST_BYTES {
+                        self.say(path, &error);
+                    }
+                    Err(SourceFault::Missing)
+                }
+                ErrorKind::OutOfMemory => Err(SourceFault::Memory),
+                _ => {
+                    say(
+                        self.rt,
+                        "read",
+                        str::from_utf8(path).unwrap_or("a file"),
+                        &error,
+                    );
+                    self.failures = self.failures.next();
+                    Err(SourceFault::Failed)
+                }
+            },
+        }
+    }
+}
+
+/// A file that is created, or emptied if it is there, at the first write to it. If it can't be written, standard error says
+/// why.
+#[derive(Drop)]
+pub struct NewFile<'a, R: Files> {
+    rt: &'a R,
+    path: &'a str,
+    /// What was made at the first write.
+    file: Option<R::File>,
+}
+
+impl<'a, R: Files> NewFile<'a, R> {
+    /// The file at a path, which isn't made yet.
+    pub fn new(rt: &'a R, path: &'a str) -> NewFile<'a, R> {
+        NewFile {
+            rt,
+            path,
+            file: None,
+        }
+    }
+}
+
+impl<R: Files> NewFile<'_, R> {
+    /// Writes to the file, which is created if it isn't yet.
+    fn put(&mut self, bytes: &[u8]) -> io::Result<usize>
+        ensures { WritesAtMost result bytes.now }
+    {
+        if let Some(made) = &mut self.file {
+            return made.write(bytes);
+        }
+        let made = self.file.insert(fs::create(self.rt, self.path)?);
+        made.write(bytes)
+    }
+}
+
+impl<R: Files + Eprint> Write for NewFile<'_, R> {
+    fn write(&mut self, bytes: &[u8]) -> io::Result<usize> {
+        let written = self.put(bytes);
+        if let Err(error) = &written {
+            say(self.rt, "write", self.path, error);
+        }
+        written
+    }
+
+    fn flush(&mut self) -> io::Result<()> {
+        Ok(())
+    }
+}

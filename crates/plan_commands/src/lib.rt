@@ -1,0 +1,38 @@
+//! The commands of plan_ninja, over any files, outputs and worlds, and the real files.
+//!
+//! - `do_commands`, `do_compile`, `do_verify`, `do_dump`, `do_replay`, `do_compare`: what a command writes to a sink, by
+//!   what its sources give, and the status that it ends with.
+//! - `do_run`: runs an image in a world.
+//! - `PlanFault`: why a command is refused, with the line that is printed.
+//! - `FileSource`, `NewFile`: the files of the system. `Buffer`: bytes held back before a sink.
+//!
+//! docs/RUN.md, docs/REPLAY.md and docs/MANIFEST.md have the rules one by one.
+#![tactic(auto)]
+
+mod buffer;
+mod commands;
+mod comparing;
+mod compile_fault;
+mod compiling;
+mod fault;
+mod files;
+mod graph_fault;
+mod image_fault;
+mod images;
+mod playing;
+mod replay_fault;
+mod replaying;
+mod running;
+mod targets;
+mod verdicts;
+
+pub use buffer::{Buffer, ended};
+pub use commands::do_commands;
+pub use comparing::{Compared, do_compare};
+pub use compiling::do_compile;
+pub use fault::{PlanFault, file_fault, lost_output, no_memory};
+pub use files::{FileSource, IMAGE_BYTES, MANIFEST_BYTES, NewFile, TRACE_BYTES};
+pub use images::do_dump;
+pub use replaying::do_replay;
+pub use running::{Build, do_run};
+pub use verdicts::do_verify;

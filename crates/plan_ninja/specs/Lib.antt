@@ -1,9 +1,0 @@
-pub mod Commands
-pub mod Comparing
-pub mod Compiling
-pub mod Faults
-pub mod Images
-pub mod Replaying
-pub mod Verdicts
-pub mod Running
-pub mod Targets

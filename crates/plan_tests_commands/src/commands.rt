@@ -1,0 +1,283 @@
+//! Each command over files in memory, with what it writes, its status, and why it is refused.
+
+use crate::fakes::{Failing, File, Files, Fresh};
+use plan_commands::*;
+use plan_machine::Options;
+use plan_text::Counted;
+use std::alloc::Global;
+use std::mem::forget;
+use std::sync::Wait;
+use std::test::Fail;
+use std::thread::{Parker, Threads};
+
+/// What a command wrote, and its status; or the line of its fault.
+type Told = (Vec<u8>, Result<u8, Vec<u8>>);
+
+const TREE: [File<'static>; 4] = [
+    (b"build.ninja", b"include rules\nbuild out: cc in\n"),
+    (b"rules", b"rule cc\n  command = cc $in -o $out\n"),
+    (b"bad.ninja", b"rule cc\n  command = $!\n"),
+    (b"read.ninja", b"include x/failing\n"),
+];
+
+/// Returns what a sink took, and the status or the line of the fault.
+fn told(alloc: Global, out: Counted<Vec<u8>>, done: Result<u8, PlanFault>) -> Result<Told, Fail> {
+    let done = match done {
+        Ok(status) => Ok(status),
+        Err(fault) => Err(fault.line(alloc)?),
+    };
+    Ok((out.into_writer(), done))
+}
+
+fn commands_of(alloc: Global, path: &[u8]) -> Result<Told, Fail> {
+    let mut source = Files::new(&TREE);
+    let mut out = Counted::new(Vec::new(alloc));
+    let done = do_commands(alloc, &mut source, path, &mut out);
+    told(alloc, out, done)
+}
+
+fn compiled(alloc: Global, path: &[u8]) -> Result<Told, Fail> {
+    let mut source = Files::new(&TREE);
+    let mut out = Counted::new(Vec::new(alloc));
+    let done = do_compile(alloc, &mut source, path, b"plan.img", &mut out);
+    told(alloc, out, done)
+}
+
+#[test]
+fn commands_are_written(rt: HostRuntime) -> Result<(), Fail> {
+    let (text, done) = commands_of(rt.alloc(), b"build.ninja")?;
+    assert_eq!(rt; text.as_slice(), b"cc in -o out\n".as_slice());
+    assert!(rt; matches!(&done, Ok(0)));
+    Ok(())
+}
+
+#[test]
+fn refusals_write_nothing(rt: HostRuntime) -> Result<(), Fail> {
+    for (path, line) in [
+        (
+            b"bad.ninja".as_slice(),
+            b"plan: 3 BadEscape bad.ninja:20\n".as_slice(),
+        ),
+        (b"none.ninja", b"plan: 20 SourceMissing none.ninja:0\n"),
+        (b"read.ninja", b"plan: 20 SourceMissing x/failing:0\n"),
+    ] {
+        for (text, done) in [commands_of(rt.alloc(), path)?, compiled(rt.alloc(), path)?] {
+            assert!(rt; text.is_empty());
+            match done {
+                Err(found) => assert_eq!(rt; found.as_slice(), line),
+                Ok(_) => panic!(rt; "no refusal"),
+            }
+        }
+    }
+    Ok(())
+}
+
+#[test]
+fn failed_output_is_133(rt: HostRuntime) -> Result<(), Fail> {
+    let mut source = Files::new(&TREE);
+    let mut out = Failing::new(0);
+    match do_commands(rt.alloc(), &mut source, b"build.ninja", &mut out) {
+        Err(fault) => {
+            let line = fault.line(rt.alloc())?;
+            assert_eq!(rt; line.as_slice(), b"plan: 133 FileFault -\n".as_slice());
+        }
+        Ok(_) => panic!(rt; "no refusal"),
+    }
+    Ok(())
+}
+
+/// The image of `build.ninja`, as `compile` writes it, is verified and listed.
+#[test]
+fn image_is_verified_and_listed(rt: HostRuntime) -> Result<(), Fail> {
+    let alloc = rt.alloc();
+    let (image, _done) = compiled(alloc, b"build.ninja")?;
+    assert!(rt; image.starts_with(b"PLANIMG\x02"));
+    let files = [(b"plan.img".as_slice(), image.as_slice())];
+    let mut source = Files::new(&files);
+    let mut verdict = Counted::new(Vec::new(alloc));
+    let verified = do_verify(alloc, &mut source, b"plan.img", &mut verdict);
+    let (text, done) = told(alloc, verdict, verified)?;
+    assert!(rt; text.starts_with(b"ok 1 "));
+    assert!(rt; matches!(&done, Ok(0)));
+    let mut listing = Counted::new(Vec::new(alloc));
+    let dumped = do_dump(alloc, &mut source, b"plan.img", &mut listing);
+    let (text, done) = told(alloc, listing, dumped)?;
+    assert!(rt; text.starts_with(b"text 0 "));
+    assert!(rt; matches!(&done, Ok(0)));
+    let mut none = Counted::new(Vec::new(alloc));
+    let missing = do_verify(alloc, &mut source, b"other.img", &mut none);
+    match told(alloc, none, missing)?.1 {
+        Err(line) => assert_eq!(rt;
+            line.as_slice(),
+            b"plan: 133 FileFault other.img\n".as_slice()
+        ),
+        Ok(_) => panic!(rt; "no refusal"),
+    }
+    Ok(())
+}
+
+/// Runs `build.ninja` in a world in which its command ends with a status. Returns what was printed, the status or the line
+/// of the fault, and the trace.
+fn ran<R: Threads + Wait + Sync + AllocGlobal>(
+    rt: &R,
+    image: &[u8],
+    target: &[u8],
+    status: u8,
+) -> Result<(Told, Vec<u8>), Fail> {
+    let alloc = rt.alloc();
+    let files = [(b"plan.img".as_slice(), image)];
+    let mut source = Files::new(&files);
+    let Some(options) = Options::new(2, 1) else {
+        return Err(Fail::from(std::alloc::AllocError));
+    };
+    let targets = [target];
+    let build = Build {
+        image: b"plan.img",
+        options,
+        targets: &targets,
+        trace: Some(b"run.trace"),
+    };
+    let world = Fresh { status };
+    let bell = Parker::new();
+    let out = Counted::new(Vec::new(alloc));
+    let mut trace = Counted::new(Vec::new(alloc));
+    let (done, out) = do_run(
+        rt,
+        alloc,
+        &mut source,
+        &build,
+        &world,
+        &bell,
+        out,
+        &mut trace,
+    );
+    Ok((told(alloc, out, done)?, trace.into_writer()))
+}
+
+#[test]
+fn run_is_printed_and_replayed(rt: HostRuntime) -> Result<(), Fail> {
+    let alloc = rt.alloc();
+    let (image, _done) = compiled(alloc, b"build.ninja")?;
+    let ((text, done), trace) = ran(&rt, &image, b"out", 0)?;
+    assert_eq!(rt; text.as_slice(), b"[1/1] cc in -o out\n".as_slice());
+    assert!(rt; matches!(&done, Ok(0)));
+    assert!(rt; trace.starts_with(b"plan-trace 1 j 2 k 1\ntarget 0\n"));
+    let images = [(b"plan.img".as_slice(), image.as_slice())];
+    let traces = [(b"run.trace".as_slice(), trace.as_slice())];
+    let mut source = Files::new(&images);
+    let mut events = Files::new(&traces);
+    let mut out = Counted::new(Vec::new(alloc));
+    let replayed = do_replay(
+        alloc,
+        &mut source,
+        b"plan.img",
+        &mut events,
+        b"run.trace",
+        &mut out,
+    );
+    let (text, done) = told(alloc, out, replayed)?;
+    assert_eq!(rt;
+        text.as_slice(),
+        b"[1/1] cc in -o out\n0 out Ran\n".as_slice()
+    );
+    assert!(rt; matches!(&done, Ok(0)));
+    Ok(())
+}
+
+#[test]
+fn failed_run_has_status_one(rt: HostRuntime) -> Result<(), Fail> {
+    let (image, _done) = compiled(rt.alloc(), b"build.ninja")?;
+    let ((text, done), _trace) = ran(&rt, &image, b"out", 3)?;
+    assert_eq!(rt; text.as_slice(), b"FAILED out: exit 3\n".as_slice());
+    assert!(rt; matches!(&done, Ok(1)));
+    Ok(())
+}
+
+#[test]
+fn unknown_target_runs_nothing(rt: HostRuntime) -> Result<(), Fail> {
+    let (image, _done) = compiled(rt.alloc(), b"build.ninja")?;
+    let ((text, done), trace) = ran(&rt, &image, b"in", 0)?;
+    assert!(rt; text.is_empty() & trace.is_empty());
+    match done {
+        Err(line) => assert_eq!(rt; line.as_slice(), b"plan: 132 UnknownTarget in\n".as_slice()),
+        Ok(_) => panic!(rt; "no refusal"),
+    }
+    Ok(())
+}
+
+/// Two traces of the empty image end alike; those of a run with a target aren't compared.
+#[test]
+fn runs_are_compared(rt: HostRuntime) -> Result<(), Fail> {
+    let alloc = rt.alloc();
+    let mut image = Vec::from_slice(alloc, b"PLANIMG\x02")?;
+    image.resize(36, 0)?;
+    let images = [(b"plan.img".as_slice(), image.as_slice())];
+    for (text, answer) in [
+        (b"plan-trace 1 j 4 k 1\n".as_slice(), b"same\n".as_slice()),
+        (b"plan-trace 1 j 4 k 0\n", b"plan: 134 TracesDiffer\n"),
+    ] {
+        let firsts = [(b"one".as_slice(), b"plan-trace 1 j 4 k 1\n".as_slice())];
+        let seconds = [(b"two".as_slice(), text)];
+        let mut source = Files::new(&images);
+        let (mut one, mut two) = (Files::new(&firsts), Files::new(&seconds));
+        let paths = Compared {
+            image: b"plan.img",
+            first: b"one",
+            second: b"two",
+        };
+        let mut out = Counted::new(Vec::new(alloc));
+        let done = do_compare(alloc, &mut source, &mut one, &mut two, &paths, &mut out);
+        let (printed, done) = told(alloc, out, done)?;
+        match done {
+            Ok(_) => assert_eq!(rt; printed.as_slice(), answer),
+            Err(line) => assert_eq!(rt; line.as_slice(), answer),
+        }
+    }
+    Ok(())
+}
+
+/// A buffer hands on what it holds at its end, and a failed write then is the fault.
+#[test]
+fn buffer_is_handed_on(rt: HostRuntime) -> Result<(), Fail> {
+    let alloc = rt.alloc();
+    for capacity in [0, 5, 100] {
+        let mut source = Files::new(&TREE);
+        let room = Vec::with_capacity(alloc, capacity)?;
+        let mut out = Buffer::new(Counted::new(Vec::new(alloc)), room);
+        let done = do_commands(alloc, &mut source, b"build.ninja", &mut out);
+        let (done, out) = ended(alloc, done, out);
+        let (text, done) = told(alloc, out, done)?;
+        assert_eq!(rt; text.as_slice(), b"cc in -o out\n".as_slice());
+        assert!(rt; matches!(&done, Ok(0)));
+    }
+    let mut source = Files::new(&TREE);
+    let mut out = Buffer::new(Failing::new(0), Vec::with_capacity(alloc, 100)?);
+    let done = do_commands(alloc, &mut source, b"build.ninja", &mut out);
+    assert!(rt; matches!(&done, Ok(0)));
+    let (done, out) = ended(alloc, done, out);
+    forget(out);
+    match done {
+        Err(fault) => {
+            let line = fault.line(alloc)?;
+            assert_eq!(rt; line.as_slice(), b"plan: 133 FileFault -\n".as_slice());
+        }
+        Ok(_) => panic!(rt; "no refusal"),
+    }
+    Ok(())
+}
+
+#[test]
+fn faults_have_lines(rt: HostRuntime) -> Result<(), Fail> {
+    let alloc = rt.alloc();
+    for (fault, line) in [
+        (
+            file_fault(alloc, b"a"),
+            b"plan: 133 FileFault a\n".as_slice(),
+        ),
+        (lost_output(alloc), b"plan: 133 FileFault -\n"),
+        (no_memory(alloc), b"plan: 131 Memory\n"),
+    ] {
+        assert_eq!(rt; fault.line(alloc)?.as_slice(), line);
+    }
+    Ok(())
+}
