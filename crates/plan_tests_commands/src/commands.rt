@@ -86,33 +86,36 @@ fn failed_output_is_133(rt: HostRuntime) -> Result<(), Fail> {
     Ok(())
 }
 
+/// Verifies the image at a path, where `plan.img` has these bytes.
+fn verified(alloc: Global, image: &[u8], path: &[u8]) -> Result<Told, Fail> {
+    let files = [(b"plan.img".as_slice(), image)];
+    let mut source = Files::new(&files);
+    let mut out = Counted::new(Vec::new(alloc));
+    let done = do_verify(alloc, &mut source, path, &mut out);
+    told(alloc, out, done)
+}
+
+/// Lists the image of these bytes.
+fn listed(alloc: Global, image: &[u8]) -> Result<Told, Fail> {
+    let files = [(b"plan.img".as_slice(), image)];
+    let mut source = Files::new(&files);
+    let mut out = Counted::new(Vec::new(alloc));
+    let done = do_dump(alloc, &mut source, b"plan.img", &mut out);
+    told(alloc, out, done)
+}
+
 /// The image of `build.ninja`, as `compile` writes it, is verified and listed.
 #[test]
 fn image_is_verified_and_listed(rt: HostRuntime) -> Result<(), Fail> {
     let alloc = rt.alloc();
     let (image, _done) = compiled(alloc, b"build.ninja")?;
     assert!(rt; image.starts_with(b"PLANIMG\x02"));
-    let files = [(b"plan.img".as_slice(), image.as_slice())];
-    let mut source = Files::new(&files);
-    let mut verdict = Counted::new(Vec::new(alloc));
-    let verified = do_verify(alloc, &mut source, b"plan.img", &mut verdict);
-    let (text, done) = told(alloc, verdict, verified)?;
+    let (text, done) = verified(alloc, &image, b"plan.img")?;
     assert!(rt; text.starts_with(b"ok 1 "));
     assert!(rt; matches!(&done, Ok(0)));
-    let mut listing = Counted::new(Vec::new(alloc));
-    let dumped = do_dump(alloc, &mut source, b"plan.img", &mut listing);
-    let (text, done) = told(alloc, listing, dumped)?;
+    let (text, done) = listed(alloc, &image)?;
     assert!(rt; text.starts_with(b"text 0 "));
     assert!(rt; matches!(&done, Ok(0)));
-    let mut none = Counted::new(Vec::new(alloc));
-    let missing = do_verify(alloc, &mut source, b"other.img", &mut none);
-    match told(alloc, none, missing)?.1 {
-        Err(line) => assert_eq!(rt;
-            line.as_slice(),
-            b"plan: 133 FileFault other.img\n".as_slice()
-        ),
-        Ok(_) => panic!(rt; "no refusal"),
-    }
     Ok(())
 }
 
@@ -201,37 +204,6 @@ fn unknown_target_runs_nothing(rt: HostRuntime) -> Result<(), Fail> {
     match done {
         Err(line) => assert_eq!(rt; line.as_slice(), b"plan: 132 UnknownTarget in\n".as_slice()),
         Ok(_) => panic!(rt; "no refusal"),
-    }
-    Ok(())
-}
-
-/// Two traces of the empty image end alike; those of a run with a target aren't compared.
-#[test]
-fn runs_are_compared(rt: HostRuntime) -> Result<(), Fail> {
-    let alloc = rt.alloc();
-    let mut image = Vec::from_slice(alloc, b"PLANIMG\x02")?;
-    image.resize(36, 0)?;
-    let images = [(b"plan.img".as_slice(), image.as_slice())];
-    for (text, answer) in [
-        (b"plan-trace 1 j 4 k 1\n".as_slice(), b"same\n".as_slice()),
-        (b"plan-trace 1 j 4 k 0\n", b"plan: 134 TracesDiffer\n"),
-    ] {
-        let firsts = [(b"one".as_slice(), b"plan-trace 1 j 4 k 1\n".as_slice())];
-        let seconds = [(b"two".as_slice(), text)];
-        let mut source = Files::new(&images);
-        let (mut one, mut two) = (Files::new(&firsts), Files::new(&seconds));
-        let paths = Compared {
-            image: b"plan.img",
-            first: b"one",
-            second: b"two",
-        };
-        let mut out = Counted::new(Vec::new(alloc));
-        let done = do_compare(alloc, &mut source, &mut one, &mut two, &paths, &mut out);
-        let (printed, done) = told(alloc, out, done)?;
-        match done {
-            Ok(_) => assert_eq!(rt; printed.as_slice(), answer),
-            Err(line) => assert_eq!(rt; line.as_slice(), answer),
-        }
     }
     Ok(())
 }
