@@ -2,12 +2,13 @@
 use Rattle.std.specs.Prelude.{ℕ, ◌≤◌, List}
 use Rattle.plan_machine.specs.declared.event.Event.{Event}
 
--- the events so far, and how many more fit into the columns of sorts and edges
+-- the events so far, and how many more items fit into the columns of sorts, edges and stamps
 pub record Draft : Type 0 where
   pub events : List Event
   pub sorts_left : ℕ
   pub edges_left : ℕ
+  pub stamps_left : ℕ
 
--- so many more fit in
+-- so many more events without a stamp fit in
 abbrev pub HasRoom : ℕ → Draft → Type 0
 HasRoom n d = (n ≤ d.sorts_left) × (n ≤ d.edges_left)

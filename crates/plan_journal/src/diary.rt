@@ -1,10 +1,11 @@
 //! Journals that are being written.
 
-ghost use Rattle.std.specs.Prelude.{◌≡◌, ◌++◌, ◌∷◌, ◌+◌, ◌-◌, ℕ, [], OnErr, OnOk, length, take};
+ghost use Rattle.std.specs.Prelude.{◌≡◌, ◌≤◌, ◌++◌, ◌∷◌, ◌+◌, ◌-◌, ℕ, [], OnErr, OnOk, length, take};
 ghost use Rattle.plan_machine.specs.declared.event.Event.TheVariants.{Reply as Hear};
 ghost use Rattle.plan_machine.specs.declared.event.Event.TheVariants as happens;
 ghost use Rattle.plan_machine.specs.declared.reply.Reply.TheVariants.{Stamp};
 ghost use Rattle.plan_machine.specs.Rushes.{steps_of};
+ghost use Rattle.plan_machine.specs.Sweeping.{sweep_events};
 ghost use Rattle.plan_journal.specs.Columns.{event_of, stamps_in, wholes_in};
 ghost use Rattle.plan_journal.specs.Drafts.{HasRoom};
 
@@ -32,7 +33,7 @@ impl Model for Diary {
 
     ghost Value = { Draft };
 
-    ghost view = { λ j. record { events = events j.sorts.items j.edges.items j.stamps.items j.wholes.items; sorts_left = vec_capacity j.sorts - vec_len j.sorts; edges_left = vec_capacity j.edges - vec_len j.edges } };
+    ghost view = { λ j. record { events = events j.sorts.items j.edges.items j.stamps.items j.wholes.items; sorts_left = vec_capacity j.sorts - vec_len j.sorts; edges_left = vec_capacity j.edges - vec_len j.edges; stamps_left = vec_capacity j.stamps - vec_len j.stamps } };
 
     ghost invariant = { λ j. Fit j.sorts.items j.edges.items j.stamps.items j.wholes.items };
 }
@@ -70,16 +71,18 @@ impl Diary {
         Journal::of(sorts, edges, stamps, wholes)
     }
 
-    /// Makes room for so many events that are known by their sort and their edge.
+    /// Makes room for `count` events, of which one may bring a stamp; the others are known by their sort and their edge.
     ///
     /// # Errors
-    /// Want of memory.
+    /// Want of memory. Then no event is lost.
     pub fn reserve(&mut self, count: usize) -> Result<(), AllocError>
         ensures same { self.new.events ≡ self.old.events }
         ensures room { OnOk result (HasRoom count self.new) }
+        ensures stamp { OnOk result (1 ≤ self.new.stamps_left) }
     {
         self.sorts.reserve(count)?;
         self.edges.reserve(count)?;
+        self.stamps.reserve(1)?;
         Ok(())
     }
 
@@ -101,6 +104,29 @@ impl Diary {
         for _turn in 0..count {
             self.push_step(edge);
         }
+    }
+
+    /// Appends the stamp that an edge heard for a path that it sweeps, and the step that asks for the next one. It takes no
+    /// memory.
+    pub fn push_swept(&mut self, edge: u32, stamp: u64)
+        requires room { HasRoom 2 self.old }
+        requires stamp { 1 ≤ self.old.stamps_left }
+        ensures { self.new.events ≡ self.old.events ++ sweep_events edge stamp }
+    {
+        self.push_stamp_within(edge, stamp);
+        self.push_step(edge);
+    }
+
+    /// Appends a stamp that an edge heard. It takes no memory.
+    fn push_stamp_within(&mut self, edge: u32, stamp: u64)
+        requires room { HasRoom 1 self.old }
+        requires stamp { 1 ≤ self.old.stamps_left }
+        ensures events { self.new.events ≡ self.old.events ++ Hear edge (Stamp stamp) ∷ [] }
+        ensures room { (n : ℕ) → HasRoom (n + 1) self.old → HasRoom n self.new }
+    {
+        self.sorts.push_reserved(Sort::Stamp);
+        self.edges.push_reserved(edge);
+        self.stamps.push_reserved(stamp);
     }
 
     /// One more event, the same as this one. It shares what its reply brings.

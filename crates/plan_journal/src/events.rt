@@ -1,14 +1,14 @@
 //! What is left of a journal.
 
-ghost use Rattle.std.specs.Prelude.{◌≡◌, ◌≤◌, ◌<◌, ◌∷◌, [], IfOk, IfSome, get_or, length};
+ghost use Rattle.std.specs.Prelude.{◌≡◌, ◌≤◌, ◌<◌, ◌∷◌, [], IfSome, get_or, length};
 ghost use Rattle.std.specs.Option.{IfNone};
 ghost use Rattle.plan_machine.specs.declared.event.Event.TheVariants.{Start};
 ghost use Rattle.plan_journal.specs.Columns as columns;
 ghost use Rattle.plan_journal.specs.Columns.{Fit};
 
+use crate::read_event::ReadEvent;
 use crate::sort::Sort;
 use plan_machine::{Event, Reply};
-use std::alloc::AllocError;
 use std::marker::Model;
 
 /// The events of a journal that are left to be read, which a contract sees as their list.
@@ -51,13 +51,10 @@ impl<'a> Events<'a> {
         }
     }
 
-    /// The first of them, and those behind it. It shares what a reply brings.
-    ///
-    /// # Errors
-    /// Want of memory, as `Event::copy`.
-    pub fn split_first(self) -> Result<Option<(Event, Events<'a>)>, AllocError>
-        ensures some { IfOk result (λ found. IfSome found (λ x. self.entry ≡ x.0 ∷ x.1)) }
-        ensures none { IfOk result (λ found. IfNone found (self.entry ≡ [])) }
+    /// Returns the first of them, and those behind it. It takes no memory: an event that the journal keeps whole is lent.
+    pub fn split_first(self) -> Option<(ReadEvent<'a>, Events<'a>)>
+        ensures some { IfSome result (λ x. self.entry ≡ x.0 ∷ x.1) }
+        ensures none { IfNone result (self.entry ≡ []) }
     {
         let Events {
             sorts,
@@ -66,36 +63,36 @@ impl<'a> Events<'a> {
             wholes,
         } = self;
         let Some(sort) = sorts.first() else {
-            return Ok(None);
+            return None;
         };
-        let event = first_event(*sort, edges, stamps, wholes)?;
+        let event = first_event(*sort, edges, stamps, wholes);
         let behind = Events {
             sorts: &sorts[1..],
             edges: &edges[1..],
             stamps: &stamps[sort.stamps()..],
             wholes: &wholes[sort.wholes()..],
         };
-        Ok(Some((event, behind)))
+        Some((event, behind))
     }
 }
 
-/// The event of this sort that stands first in the columns.
-fn first_event(
+/// Returns the event of this sort that stands first in the columns.
+fn first_event<'a>(
     sort: Sort,
-    edges: &[u32],
-    stamps: &[u64],
-    wholes: &[Event],
-) -> Result<Event, AllocError>
+    edges: &'a [u32],
+    stamps: &'a [u64],
+    wholes: &'a [Event],
+) -> ReadEvent<'a>
     requires edge { 0 < length edges.now }
     requires stamp { columns.stamps_in sort ≤ length stamps.now }
     requires whole { columns.wholes_in sort ≤ length wholes.now }
-    ensures { IfOk result (λ e. e ≡ columns.event_of sort (get_or edges.now 0 0) (get_or stamps.now 0 0) (get_or wholes.now 0 (Start 0))) }
+    ensures { result ≡ columns.event_of sort (get_or edges.now 0 0) (get_or stamps.now 0 0) (get_or wholes.now 0 (Start 0)) }
 {
     match sort {
-        Sort::Start => Ok(Event::Start(edges[0])),
-        Sort::Stop => Ok(Event::Stop(edges[0])),
-        Sort::Step => Ok(Event::Step(edges[0])),
-        Sort::Stamp => Ok(Event::Reply(edges[0], Reply::Stamp(stamps[0]))),
-        Sort::Whole => wholes[0].copy(),
+        Sort::Start => ReadEvent::made(Event::Start(edges[0])),
+        Sort::Stop => ReadEvent::made(Event::Stop(edges[0])),
+        Sort::Step => ReadEvent::made(Event::Step(edges[0])),
+        Sort::Stamp => ReadEvent::made(Event::Reply(edges[0], Reply::Stamp(stamps[0]))),
+        Sort::Whole => ReadEvent::kept(&wholes[0]),
     }
 }

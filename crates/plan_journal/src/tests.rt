@@ -69,9 +69,9 @@ fn read(alloc: Global, journal: &Journal) -> Result<Vec<Said>, AllocError> {
     let mut all = Vec::new(alloc);
     let mut rest = journal.events();
     for _ in 0..journal.len() {
-        match rest.split_first()? {
+        match rest.split_first() {
             Some((event, behind)) => {
-                all.push(said_by(&event))?;
+                all.push(said_by(event.event()))?;
                 rest = behind;
             }
             None => return Ok(all),
@@ -115,6 +115,20 @@ fn replies_come_back(rt: HostRuntime) -> Result<(), Fail> {
     diary.push_heard(4, &Reply::Stamp(9))?;
     diary.push_heard(5, &Reply::Exit(3))?;
     let said = [Said::Stamp(4, 9), Said::Exit(5, 3)];
+    assert_eq!(rt;
+        read(rt.alloc(), &diary.finish())?.as_slice(),
+        said.as_slice()
+    );
+    Ok(())
+}
+
+#[test]
+fn swept_stamps_come_with_their_step(rt: HostRuntime) -> Result<(), Fail> {
+    let mut diary = Diary::new(rt.alloc());
+    diary.push(&event(Said::Start(7)))?;
+    diary.reserve(2)?;
+    diary.push_swept(7, 3);
+    let said = [Said::Start(7), Said::Stamp(7, 3), Said::Step(7)];
     assert_eq!(rt;
         read(rt.alloc(), &diary.finish())?.as_slice(),
         said.as_slice()

@@ -8,7 +8,7 @@
 //! - `run_lanes`: a whole run by threads; `run_lanes_shown`: one whose status lines go into a feed meanwhile, which
 //!   `ShownRun` does in two steps, opening and running. `LaneFault`: why it has no end.
 //!
-//! docs/LANES.md says how lanes run, and what is promised.
+//! docs/rules/lanes.md says how lanes run, and what is promised.
 #![tactic(auto)]
 
 mod asked;

@@ -111,12 +111,10 @@ impl<'v, W: World> Board<'v, W> {
             return Ok(false);
         }
         self.diary.reserve(ROOM)?;
-        self.diary.push_heard(edge, &Reply::Stamp(stamp))?;
         if !self.state.sweep_on(self.image, edge, path, stamp) {
-            self.diary.remove_last();
             return Ok(false);
         }
-        self.diary.push_steps(edge, 1);
+        self.diary.push_swept(edge, stamp);
         let last = self.diary.len() - 1;
         put(&mut self.numbers, edge as usize, last as u64);
         Ok(true)
