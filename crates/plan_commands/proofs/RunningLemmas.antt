@@ -1,5 +1,5 @@
 -- What a run that is told comes to. Serves src/running.rt.
-use Rattle.std.proofs.Common.{◌≡◌, ◌⊎◌, ◌∙◌, ℕ, true, List, Option, Some, None, Result, Ok, Err, IfOk, IfErr, IfSome, IfNone, inl, inr, false, refl, sym, ap, subst}
+use Rattle.std.proofs.Common.{◌≡◌, ◌⊎◌, ◌∙◌, ℕ, Bool, true, List, Option, Some, None, Result, Ok, Err, IfOk, IfErr, IfSome, IfNone, inl, inr, false, refl, sym, ap, subst}
 use Rattle.plan_image.specs.declared.image.Parts.{Parts}
 use Rattle.plan_verify.specs.WellShaped.{IsWellShaped}
 use Rattle.plan_machine.specs.Limits.{Limits}
@@ -51,18 +51,18 @@ untold : (same : Type 0) (gives : FileContents) (missing : PathSet) (rule : Rule
     → IfErr (both told written) (λ fault. IsRefusedRun same gives missing rule w old new fault)
 untold same gives missing rule w o r old new (Ok status) (Ok done) is run ended told written = tt
 untold same gives missing rule w o r old new (Ok status) (Err fault) is run ended told written =
-    inr (inr (inr (record { opened = o; is = is; report = r; run = run; ended = ended; printed = told.0; stop = written.0; traced = written.1; says = written.2 })))
+    inr (inr (inr (record { opened = o; is = is; report = r; run = run; ended = ended; printed = told.0; traced = written.0; says = written.1 })))
 untold same gives missing rule w o r old new (Err fault) (Ok done) is run ended told written =
-    inr (inr (inl (record { opened = o; is = is; report = r; run = run; ended = ended; stop = told.0; printed = told.1; trace_stop = None; traced = written; says = told.2 })))
+    inr (inr (inl (record { opened = o; is = is; report = r; run = run; ended = ended; stop = told.0; printed = told.1; whole = true; traced = written; says = told.2 })))
 untold same gives missing rule w o r old new (Err fault) (Err other) is run ended told written =
-    inr (inr (inl (record { opened = o; is = is; report = r; run = run; ended = ended; stop = told.0; printed = told.1; trace_stop = Some written.0; traced = written.1; says = told.2 })))
+    inr (inr (inl (record { opened = o; is = is; report = r; run = run; ended = ended; stop = told.0; printed = told.1; whole = false; traced = written.0; says = told.2 })))
 
 -- lanes that stopped with a report
 stopped_with : (same : Type 0) (gives : FileContents) (missing : PathSet) (rule : Rule) (w : Wanted) (o : Opened) (r : Report) (f : LaneFault) (old new : Written)
     → IsOpened gives w o → IsRunOf rule o r → report_of f ≡ Some r → TellsSome w.trace o.parts o.limits o.targets r old new
     → IsRefusedRun same gives missing rule w old new (printed_lane_fault f)
 stopped_with same gives missing rule w o r f old new is run reports some =
-    inr (inl (record { opened = o; is = is; report = r; run = run; stop = some.0; printed = some.2; trace_stop = some.1; traced = some.3; stopped = f; reports = reports; says = refl }))
+    inr (inl (record { opened = o; is = is; report = r; run = run; stop = some.0; printed = some.2; whole = some.1; traced = some.3; stopped = f; reports = reports; says = refl }))
 
 stopped_run : (same : Type 0) (gives : FileContents) (missing : PathSet) (rule : Rule) (w : Wanted) (o : Opened) (f : LaneFault) (old new : Written)
     → IsOpened gives w o → FaultReports rule o f → IfNone (report_of f) same → IfSome (report_of f) (λ r. TellsSome w.trace o.parts o.limits o.targets r old new)
@@ -104,14 +104,14 @@ told_all trace p limits edges (Ok r) stop old new result printed tells = tells o
 told_all trace p limits edges (Err f) stop old new result printed tells = tt
 
 some_of : (trace : Option Text) (p : Parts) (limits : Limits) (edges : List ℕ) (o : Option Report) (stop : Option PrintFault) (old new : Written)
-    → IfSome o (λ r. Prints (lines_in p r) stop old.0 new.0) → IfSome o (λ r. (s : Option PrintFault) × Traces trace limits edges r s old.1 new.1)
+    → IfSome o (λ r. Prints (lines_in p r) stop old.0 new.0) → IfSome o (λ r. (whole : Bool) × Traces trace limits edges r whole old.1 new.1)
     → IfSome o (λ r. TellsSome trace p limits edges r old new)
 some_of trace p limits edges None stop old new printed traced = tt
 some_of trace p limits edges (Some r) stop old new printed traced = (stop, traced.0, printed, traced.1)
 
 pub told_some : (trace : Option Text) (p : Parts) (limits : Limits) (edges : List ℕ) (ran : Result Report LaneFault) (stop : Option PrintFault) (old new : Written)
     → IfSome (report_in ran) (λ r. Prints (lines_in p r) stop old.0 new.0)
-    → IfErr ran (λ f. IfSome (report_of f) (λ r. (s : Option PrintFault) × Traces trace limits edges r s old.1 new.1))
+    → IfErr ran (λ f. IfSome (report_of f) (λ r. (whole : Bool) × Traces trace limits edges r whole old.1 new.1))
     → IfErr ran (λ f. IfSome (report_of f) (λ r. TellsSome trace p limits edges r old new))
 told_some trace p limits edges (Ok r) stop old new printed traced = tt
 told_some trace p limits edges (Err f) stop old new printed traced = some_of trace p limits edges (report_of f) stop old new printed traced

@@ -1,5 +1,6 @@
 -- What `run IMG` does.
 use Rattle.std.specs.Prelude.{◌≡◌, ◌⊎◌, ℕ, Bool, true, false, List, [], Option, Some, None, Result, Ok, Err}
+use Rattle.plan_text.specs.Sinks.{Writes}
 use Rattle.plan_scope.specs.Scopes.{Text}
 use Rattle.plan_scope.specs.Loading.{FileContents, PathSet}
 use Rattle.plan_image.specs.declared.image.Parts.{Parts}
@@ -53,10 +54,11 @@ status_of false = 1
 abbrev pub lines_in : Parts → Report → List ℕ
 lines_in p r = lines_of p (total_of p r.state.going.now) r.marks.items
 
--- The trace of a run was written, where it is to have one, as far as that went: its options, its targets, its events.
-abbrev pub Traces : Option Text → Limits → List ℕ → Report → Option PrintFault → (old new : SinkState) → Type 0
-Traces None limits edges r stop old new = (stop ≡ None) × (new ≡ old)
-Traces (Some path) limits edges r stop old new = Prints (run_text limits edges r.journal) stop old new
+-- The trace of a run, where it is to have one, was written whole: its options, its targets, its events; or a write of its
+-- file failed.
+abbrev pub Traces : Option Text → Limits → List ℕ → Report → (whole : Bool) → (old new : SinkState) → Type 0
+Traces None limits edges r whole old new = (whole ≡ true) × (new ≡ old)
+Traces (Some path) limits edges r whole old new = Writes whole old new (run_text limits edges r.journal)
 
 -- the report of a run that has ended, or of one that has stopped
 abbrev pub report_in : Result Report LaneFault → Option Report
@@ -76,7 +78,7 @@ pub record Runs (gives : FileContents) (rule : Rule) (w : Wanted) (old new : Wri
   pub run : IsRunOf rule opened report
   pub ended : has_ended report.state.going.now ≡ true
   pub printed : Prints (lines_in opened.parts report) None old.0 new.0
-  pub traced : Traces w.trace opened.limits opened.targets report None old.1 new.1
+  pub traced : Traces w.trace opened.limits opened.targets report true old.1 new.1
   pub answers : status ≡ status_of (all_done opened.parts report.state.going.now)
 
 -- why a text isn't printed, as the program prints it
@@ -85,9 +87,9 @@ printed_print_fault print.Memory = no_memory
 printed_print_fault print.Write = output_fault
 
 -- why a trace isn't written, as the program prints it
-abbrev pub printed_trace_fault : Option Text → PrintFault → PlanFault
-printed_trace_fault (Some path) print.Write = file_fault path
-printed_trace_fault trace fault = no_memory
+abbrev pub printed_trace_fault : Option Text → PlanFault
+printed_trace_fault (Some path) = file_fault path
+printed_trace_fault None = no_memory
 
 -- the first target that no edge makes, of an image that is accepted
 abbrev pub IsUnknown : FileContents → Text → List Text → PlanFault → Type 0
@@ -105,8 +107,8 @@ IsNotBegun gives missing w fault =
 abbrev pub printed_lane_fault : LaneFault → PlanFault
 printed_lane_fault fault = record { number = number_of fault; rest = [] }
 
--- A run began, and lanes stopped: the lines of what was done were printed, and its trace was written, as far as that
--- went.
+-- A run began, and lanes stopped: the lines of what was done were printed, as far as that went. The trace of what was
+-- done was written whole, or a write of its file failed.
 pub record StopsEarly (gives : FileContents) (rule : Rule) (w : Wanted) (old new : Written) (fault : PlanFault) : Type 0 where
   pub opened : Opened
   pub is : IsOpened gives w opened
@@ -114,13 +116,13 @@ pub record StopsEarly (gives : FileContents) (rule : Rule) (w : Wanted) (old new
   pub run : IsRunOf rule opened report
   pub stop : Option PrintFault
   pub printed : Prints (lines_in opened.parts report) stop old.0 new.0
-  pub trace_stop : Option PrintFault
-  pub traced : Traces w.trace opened.limits opened.targets report trace_stop old.1 new.1
+  pub whole : Bool
+  pub traced : Traces w.trace opened.limits opened.targets report whole old.1 new.1
   pub stopped : LaneFault
   pub reports : report_of stopped ≡ Some report
   pub says : fault ≡ printed_lane_fault stopped
 
--- A run has ended, and its lines weren't printed to the end; its trace was written, as far as that went.
+-- A run has ended, and its lines weren't printed to the end. Its trace was written whole, or a write of its file failed.
 pub record FailsToTell (gives : FileContents) (rule : Rule) (w : Wanted) (old new : Written) (fault : PlanFault) : Type 0 where
   pub opened : Opened
   pub is : IsOpened gives w opened
@@ -129,11 +131,11 @@ pub record FailsToTell (gives : FileContents) (rule : Rule) (w : Wanted) (old ne
   pub ended : has_ended report.state.going.now ≡ true
   pub stop : PrintFault
   pub printed : Prints (lines_in opened.parts report) (Some stop) old.0 new.0
-  pub trace_stop : Option PrintFault
-  pub traced : Traces w.trace opened.limits opened.targets report trace_stop old.1 new.1
+  pub whole : Bool
+  pub traced : Traces w.trace opened.limits opened.targets report whole old.1 new.1
   pub says : (fault ≡ printed_print_fault stop) ⊎ (fault ≡ no_memory)
 
--- A run has ended, its lines were printed, and its trace wasn't written to the end.
+-- A run has ended, its lines were printed, and a write of its trace's file failed.
 pub record FailsToTrace (gives : FileContents) (rule : Rule) (w : Wanted) (old new : Written) (fault : PlanFault) : Type 0 where
   pub opened : Opened
   pub is : IsOpened gives w opened
@@ -141,9 +143,8 @@ pub record FailsToTrace (gives : FileContents) (rule : Rule) (w : Wanted) (old n
   pub run : IsRunOf rule opened report
   pub ended : has_ended report.state.going.now ≡ true
   pub printed : Prints (lines_in opened.parts report) None old.0 new.0
-  pub stop : PrintFault
-  pub traced : Traces w.trace opened.limits opened.targets report (Some stop) old.1 new.1
-  pub says : (fault ≡ printed_trace_fault w.trace stop) ⊎ (fault ≡ no_memory)
+  pub traced : Traces w.trace opened.limits opened.targets report false old.1 new.1
+  pub says : (fault ≡ printed_trace_fault w.trace) ⊎ (fault ≡ no_memory)
 
 -- why a run that began gives no status
 abbrev pub FailsToRun : FileContents → Rule → Wanted → (old new : Written) → PlanFault → Type 0
@@ -157,11 +158,10 @@ abbrev pub Tells : Parts → Report → (old new : SinkState) → Result ℕ Pla
 Tells p r old new (Ok status) = Prints (lines_in p r) None old new × (status ≡ status_of (all_done p r.state.going.now))
 Tells p r old new (Err fault) = (stop : PrintFault) × Prints (lines_in p r) (Some stop) old new × ((fault ≡ printed_print_fault stop) ⊎ (fault ≡ no_memory))
 
--- the trace of a run was written, or it wasn't
+-- the trace of a run was written whole, or a write of its file failed
 abbrev pub WritesTrace : Option Text → Limits → List ℕ → Report → (old new : SinkState) → Result Unit PlanFault → Type 0
-WritesTrace trace limits edges r old new (Ok done) = Traces trace limits edges r None old new
-WritesTrace trace limits edges r old new (Err fault) =
-    (stop : PrintFault) × Traces trace limits edges r (Some stop) old new × ((fault ≡ printed_trace_fault trace stop) ⊎ (fault ≡ no_memory))
+WritesTrace trace limits edges r old new (Ok done) = Traces trace limits edges r true old new
+WritesTrace trace limits edges r old new (Err fault) = Traces trace limits edges r false old new × ((fault ≡ printed_trace_fault trace) ⊎ (fault ≡ no_memory))
 
 -- the first of the two faults, else the status
 abbrev pub both : Result ℕ PlanFault → Result Unit PlanFault → Result ℕ PlanFault
@@ -173,7 +173,7 @@ abbrev pub TellsAll : Option Text → Parts → Limits → List ℕ → Report �
 TellsAll trace p limits edges r old new result =
     (told : Result ℕ PlanFault) × (written : Result Unit PlanFault) × Tells p r old.0 new.0 told × WritesTrace trace limits edges r old.1 new.1 written × (result ≡ both told written)
 
--- both for a run that has stopped, as far as that went
+-- both for a run that has stopped, the lines as far as that went
 abbrev pub TellsSome : Option Text → Parts → Limits → List ℕ → Report → (old new : Written) → Type 0
 TellsSome trace p limits edges r old new =
-    (stop : Option PrintFault) × (trace_stop : Option PrintFault) × Prints (lines_in p r) stop old.0 new.0 × Traces trace limits edges r trace_stop old.1 new.1
+    (stop : Option PrintFault) × (whole : Bool) × Prints (lines_in p r) stop old.0 new.0 × Traces trace limits edges r whole old.1 new.1

@@ -6,7 +6,7 @@
 //! - `PlanFault`: why a command is refused, with the line that is printed.
 //! - `FileSource`, `NewFile`: the files of the system. `Buffer`: bytes held back before a sink.
 //!
-//! docs/RUN.md, docs/REPLAY.md and docs/MANIFEST.md have the rules one by one.
+//! docs/using/running.md, docs/rules/replay.md and docs/rules/manifest.md have the rules one by one.
 #![tactic(auto)]
 
 mod buffer;

@@ -1,11 +1,10 @@
 //! The command `run`.
 
-ghost use Rattle.std.specs.Prelude.{◌≡◌, ◌⊎◌, Err, IfErr, IfNone, IfOk, IfSome, OnOk, Option, Some, map, option_map};
+ghost use Rattle.std.specs.Prelude.{◌≡◌, ◌⊎◌, Bool, Err, IfErr, IfNone, IfOk, IfSome, OnOk, Some, map, option_map};
 ghost use Rattle.std.specs.Result.{result_err};
 ghost use Rattle.plan_scope.specs.Loading.{IsMissing};
 ghost use Rattle.plan_machine.specs.Kept.{IsStateOf};
 ghost use Rattle.plan_status.specs.Printing.{Prints};
-ghost use Rattle.plan_status.specs.declared.fault.PrintFault.{PrintFault as Stop};
 ghost use Rattle.plan_lanes.specs.Faults as faults;
 ghost use Rattle.plan_commands.specs.Faults.{no_memory};
 ghost use Rattle.plan_commands.specs.Images.{SinkState};
@@ -67,17 +66,7 @@ fn tell(
     }
 }
 
-/// Why a trace wasn't written, as the program prints it.
-fn printed_trace_fault(alloc: Global, path: &[u8], fault: PrintFault) -> PlanFault
-    ensures { (result ≡ defined.printed_trace_fault (Some path.now) fault) ⊎ (result ≡ no_memory) }
-{
-    match fault {
-        PrintFault::Memory => no_memory(alloc),
-        PrintFault::Write => file_fault(alloc, path),
-    }
-}
-
-/// Writes the trace of a run of these targets to the file at a path.
+/// Writes the trace of a run of these targets to the file at a path. Only a failed write refuses it: it takes no memory.
 fn traced_at<T: Sink>(
     alloc: Global,
     path: &[u8],
@@ -88,9 +77,9 @@ fn traced_at<T: Sink>(
 ) -> Result<(), PlanFault>
     ensures { WritesTrace (Some path.now) options targets.now report.now (T.failures trace.old, T.taken trace.old) (T.failures trace.new, T.taken trace.new) result }
 {
-    match write_run(alloc, options, targets, &report.journal, trace) {
+    match write_run(options, targets, &report.journal, trace) {
         Ok(()) => Ok(()),
-        Err(fault) => Err(printed_trace_fault(alloc, path, fault)),
+        Err(_) => Err(file_fault(alloc, path)),
     }
 }
 
@@ -181,7 +170,7 @@ fn told<T: Sink>(
     ensures ended { IfOk played.now.ran (λ r. (old new : SinkState) → Prints (lines_in image.now r) (result_err played.now.printed) old new → TellsAll (option_map (λ t. t.now) build.now.trace) image.now build.now.options targets.now r
         (old, (T.failures trace.old, T.taken trace.old)) (new, (T.failures trace.new, T.taken trace.new)) result) }
     ensures err { IfErr played.now.ran (λ f. result ≡ Err (defined.printed_lane_fault f)) }
-    ensures some { IfErr played.now.ran (λ f. IfSome (faults.report_of f) (λ r. (stop : Option Stop) × Traces (option_map (λ t. t.now) build.now.trace) build.now.options targets.now r stop
+    ensures some { IfErr played.now.ran (λ f. IfSome (faults.report_of f) (λ r. (whole : Bool) × Traces (option_map (λ t. t.now) build.now.trace) build.now.options targets.now r whole
         (T.failures trace.old, T.taken trace.old) (T.failures trace.new, T.taken trace.new))) }
     ensures none { IfErr played.now.ran (λ f. IfNone (faults.report_of f) (trace.new ≡ trace.old)) }
 {
@@ -200,8 +189,9 @@ fn told<T: Sink>(
 /// writes the trace where it is to have one, and answers 0 where all that is wanted ended well, else 1. The sink comes
 /// back. Whoever rings the bell has the lines printed that are there.
 ///
-/// Where the image is missing or isn't accepted, or a target is unknown, nothing is asked of the world, and nothing is
-/// printed or written. Where lanes stop early, the lines and the trace of what was done are, and the fault is theirs.
+/// If the image is missing or isn't accepted, or a target is unknown, nothing is asked of the world, and nothing is
+/// printed or written. If lanes stop early, the lines of what was done are printed, and the fault is theirs. Whenever a
+/// run began, its trace is written whole, or a write of its file failed.
 pub fn do_run<
     S: Source,
     W: World + Send + Sync,

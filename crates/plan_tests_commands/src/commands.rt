@@ -3,7 +3,7 @@
 use crate::fakes::{Failing, File, Files, Fresh};
 use plan_commands::*;
 use plan_machine::Options;
-use plan_text::Counted;
+use plan_text::{Counted, Sink};
 use std::alloc::Global;
 use std::mem::forget;
 use std::sync::Wait;
@@ -119,41 +119,53 @@ fn image_is_verified_and_listed(rt: HostRuntime) -> Result<(), Fail> {
     Ok(())
 }
 
-/// Runs `build.ninja` in a world in which its command ends with a status. Returns what was printed, the status or the line
-/// of the fault, and the trace.
-fn ran<R: Threads + Wait + Sync + AllocGlobal>(
+/// Runs targets of `build.ninja`, or the default one, in a world in which its command ends with a status. Writes the lines
+/// and the trace to these sinks.
+fn run_to<'x, R: Threads + Wait + Sync + AllocGlobal, O: Sink + Send + Drop, T: Sink>(
     rt: &R,
-    image: &[u8],
-    target: &[u8],
+    image: &'x [u8],
+    targets: &'x [&'x [u8]],
     status: u8,
-) -> Result<(Told, Vec<u8>), Fail> {
-    let alloc = rt.alloc();
+    out: O,
+    trace: &mut T,
+) -> Result<(Result<u8, PlanFault>, O), Fail> {
     let files = [(b"plan.img".as_slice(), image)];
     let mut source = Files::new(&files);
     let Some(options) = Options::new(2, 1) else {
         return Err(Fail::from(std::alloc::AllocError));
     };
-    let targets = [target];
     let build = Build {
         image: b"plan.img",
         options,
-        targets: &targets,
+        targets,
         trace: Some(b"run.trace"),
     };
     let world = Fresh { status };
     let bell = Parker::new();
-    let out = Counted::new(Vec::new(alloc));
-    let mut trace = Counted::new(Vec::new(alloc));
-    let (done, out) = do_run(
+    Ok(do_run(
         rt,
-        alloc,
+        rt.alloc(),
         &mut source,
         &build,
         &world,
         &bell,
         out,
-        &mut trace,
-    );
+        trace,
+    ))
+}
+
+/// Runs targets of `build.ninja`, or the default one, in a world in which its command ends with a status. Returns what was
+/// printed, the status or the line of the fault, and the trace.
+fn ran<'x, R: Threads + Wait + Sync + AllocGlobal>(
+    rt: &R,
+    image: &'x [u8],
+    targets: &'x [&'x [u8]],
+    status: u8,
+) -> Result<(Told, Vec<u8>), Fail> {
+    let alloc = rt.alloc();
+    let out = Counted::new(Vec::new(alloc));
+    let mut trace = Counted::new(Vec::new(alloc));
+    let (done, out) = run_to(rt, image, targets, status, out, &mut trace)?;
     Ok((told(alloc, out, done)?, trace.into_writer()))
 }
 
@@ -161,7 +173,7 @@ fn ran<R: Threads + Wait + Sync + AllocGlobal>(
 fn run_is_printed_and_replayed(rt: HostRuntime) -> Result<(), Fail> {
     let alloc = rt.alloc();
     let (image, _done) = compiled(alloc, b"build.ninja")?;
-    let ((text, done), trace) = ran(&rt, &image, b"out", 0)?;
+    let ((text, done), trace) = ran(&rt, &image, &[b"out"], 0)?;
     assert_eq!(rt; text.as_slice(), b"[1/1] cc in -o out\n".as_slice());
     assert!(rt; matches!(&done, Ok(0)));
     assert!(rt; trace.starts_with(b"plan-trace 1 j 2 k 1\ntarget 0\n"));
@@ -190,7 +202,7 @@ fn run_is_printed_and_replayed(rt: HostRuntime) -> Result<(), Fail> {
 #[test]
 fn failed_run_has_status_one(rt: HostRuntime) -> Result<(), Fail> {
     let (image, _done) = compiled(rt.alloc(), b"build.ninja")?;
-    let ((text, done), _trace) = ran(&rt, &image, b"out", 3)?;
+    let ((text, done), _trace) = ran(&rt, &image, &[b"out"], 3)?;
     assert_eq!(rt; text.as_slice(), b"FAILED out: exit 3\n".as_slice());
     assert!(rt; matches!(&done, Ok(1)));
     Ok(())
@@ -199,10 +211,123 @@ fn failed_run_has_status_one(rt: HostRuntime) -> Result<(), Fail> {
 #[test]
 fn unknown_target_runs_nothing(rt: HostRuntime) -> Result<(), Fail> {
     let (image, _done) = compiled(rt.alloc(), b"build.ninja")?;
-    let ((text, done), trace) = ran(&rt, &image, b"in", 0)?;
+    let ((text, done), trace) = ran(&rt, &image, &[b"in"], 0)?;
     assert!(rt; text.is_empty() & trace.is_empty());
     match done {
         Err(line) => assert_eq!(rt; line.as_slice(), b"plan: 132 UnknownTarget in\n".as_slice()),
+        Ok(_) => panic!(rt; "no refusal"),
+    }
+    Ok(())
+}
+
+/// A run whose lines are lost has its whole trace.
+#[test]
+fn trace_of_a_run_without_its_lines(rt: HostRuntime) -> Result<(), Fail> {
+    let alloc = rt.alloc();
+    let (image, _done) = compiled(alloc, b"build.ninja")?;
+    let (_told, whole) = ran(&rt, &image, &[], 0)?;
+    let mut trace = Counted::new(Vec::new(alloc));
+    let (done, out) = run_to(&rt, &image, &[], 0, Failing::new(0), &mut trace)?;
+    forget(out);
+    assert_eq!(rt; trace.into_writer().as_slice(), whole.as_slice());
+    match done {
+        Err(fault) => {
+            let line = fault.line(alloc)?;
+            assert_eq!(rt; line.as_slice(), b"plan: 133 FileFault -\n".as_slice());
+        }
+        Ok(_) => panic!(rt; "no refusal"),
+    }
+    Ok(())
+}
+
+/// A trace of which a write failed is the fault of a run that has ended.
+#[test]
+fn lost_trace_is_133(rt: HostRuntime) -> Result<(), Fail> {
+    let alloc = rt.alloc();
+    let (image, _done) = compiled(alloc, b"build.ninja")?;
+    let mut trace = Failing::new(2);
+    let out = Counted::new(Vec::new(alloc));
+    let (done, out) = run_to(&rt, &image, &[], 0, out, &mut trace)?;
+    let (text, done) = told(alloc, out, done)?;
+    assert_eq!(rt; text.as_slice(), b"[1/1] cc in -o out\n".as_slice());
+    match done {
+        Err(line) => {
+            assert_eq!(rt;
+                line.as_slice(),
+                b"plan: 133 FileFault run.trace\n".as_slice()
+            )
+        }
+        Ok(_) => panic!(rt; "no refusal"),
+    }
+    Ok(())
+}
+
+/// Compares the runs that two traces tell of an image.
+fn compared<'x>(
+    alloc: Global,
+    image: &'x [u8],
+    first: &'x [u8],
+    second: &'x [u8],
+) -> Result<Told, Fail> {
+    let image = [(b"plan.img".as_slice(), image)];
+    let first = [(b"one.trace".as_slice(), first)];
+    let second = [(b"other.trace".as_slice(), second)];
+    let mut images = Files::new(&image);
+    let mut firsts = Files::new(&first);
+    let mut seconds = Files::new(&second);
+    let paths = Compared {
+        image: b"plan.img",
+        first: b"one.trace",
+        second: b"other.trace",
+    };
+    let mut out = Counted::new(Vec::new(alloc));
+    let done = do_compare(
+        alloc,
+        &mut images,
+        &mut firsts,
+        &mut seconds,
+        &paths,
+        &mut out,
+    );
+    told(alloc, out, done)
+}
+
+#[test]
+fn runs_are_compared(rt: HostRuntime) -> Result<(), Fail> {
+    let alloc = rt.alloc();
+    let (image, _done) = compiled(alloc, b"build.ninja")?;
+    let (_told, well) = ran(&rt, &image, &[], 0)?;
+    let (_told, failed) = ran(&rt, &image, &[], 3)?;
+    let (text, done) = compared(alloc, &image, &well, &well)?;
+    assert_eq!(rt; text.as_slice(), b"same\n".as_slice());
+    assert!(rt; matches!(&done, Ok(0)));
+    let (text, done) = compared(alloc, &image, &well, &failed)?;
+    assert_eq!(rt; text.as_slice(), b"different\n".as_slice());
+    assert!(rt; matches!(&done, Ok(1)));
+    Ok(())
+}
+
+/// Traces of targets, and a text that is no trace, aren't compared.
+#[test]
+fn other_traces_are_not_compared(rt: HostRuntime) -> Result<(), Fail> {
+    let alloc = rt.alloc();
+    let (image, _done) = compiled(alloc, b"build.ninja")?;
+    let (_told, trace) = ran(&rt, &image, &[b"out"], 0)?;
+    let (text, done) = compared(alloc, &image, &trace, &trace)?;
+    assert!(rt; text.is_empty());
+    match done {
+        Err(line) => assert_eq!(rt; line.as_slice(), b"plan: 134 TracesDiffer\n".as_slice()),
+        Ok(_) => panic!(rt; "no refusal"),
+    }
+    let (text, done) = compared(alloc, &image, &trace, b"none")?;
+    assert!(rt; text.is_empty());
+    match done {
+        Err(line) => {
+            assert_eq!(rt;
+                line.as_slice(),
+                b"plan: 130 BadTrace at line 1\n".as_slice()
+            )
+        }
         Ok(_) => panic!(rt; "no refusal"),
     }
     Ok(())

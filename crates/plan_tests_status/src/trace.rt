@@ -1,7 +1,6 @@
 //! Each public function once, on texts from outside.
 
 use plan_machine::{Event, Options, Reply};
-use plan_status::PrintFault;
 use plan_text::{Counted, Items};
 use plan_trace::*;
 use std::alloc::Global;
@@ -34,7 +33,7 @@ fn comes_back(alloc: Global, text: &[u8], targets: usize, events: usize) -> bool
         return false;
     };
     let mut out = Counted::new(Vec::new(alloc));
-    write_trace(alloc, &trace, &mut out).is_ok()
+    write_trace(&trace, &mut out).is_ok()
         && trace.targets.len() == targets
         && trace.events.len() == events
         && out.into_writer().as_slice() == text
@@ -92,7 +91,7 @@ fn what_lines_say(rt: HostRuntime) -> Result<(), Fail> {
     Ok(())
 }
 
-/// A writer whose writes fail once so many have passed.
+/// A writer that takes so many bytes, and whose writes fail behind them.
 #[derive(Drop)]
 struct Failing {
     left: usize,
@@ -100,7 +99,7 @@ struct Failing {
 
 impl Write for Failing {
     fn write(&mut self, bytes: &[u8]) -> io::Result<usize> {
-        match self.left.checked_sub(1) {
+        match self.left.checked_sub(bytes.len()) {
             Some(left) => self.left = left,
             None => return Err(io::Error::from(io::ErrorKind::BrokenPipe)),
         }
@@ -112,7 +111,7 @@ impl Write for Failing {
     }
 }
 
-/// Whether writing a trace of one target and one event fails as a write does, where so many writes pass.
+/// Whether writing a trace of one target and one event fails if the writer takes so many bytes.
 fn stops(alloc: Global, left: usize) -> bool {
     let Some(options) = Options::new(1, 0) else {
         return false;
@@ -129,13 +128,16 @@ fn stops(alloc: Global, left: usize) -> bool {
         events: Items::new(events),
     };
     let mut out = Counted::new(Failing { left });
-    matches!(write_trace(alloc, &trace, &mut out), Err(PrintFault::Write))
+    write_trace(&trace, &mut out).is_err()
 }
 
 #[test]
 fn failed_writes(rt: HostRuntime) {
+    let text = b"plan-trace 1 j 1 k 0\ntarget 0\nstart 0\n".as_slice();
+    assert!(rt; comes_back(rt.alloc(), text, 1, 1));
     assert!(rt; stops(rt.alloc(), 0));
-    assert!(rt; stops(rt.alloc(), 1));
-    assert!(rt; stops(rt.alloc(), 2));
-    assert!(rt; !stops(rt.alloc(), 3));
+    assert!(rt; stops(rt.alloc(), 20));
+    assert!(rt; stops(rt.alloc(), 29));
+    assert!(rt; stops(rt.alloc(), text.len() - 1));
+    assert!(rt; !stops(rt.alloc(), text.len()));
 }

@@ -1,5 +1,4 @@
 pub mod Words
 pub mod Spelling
 pub mod Reading
-pub mod Writing
 pub mod Laws

@@ -1,12 +1,14 @@
 //! Bytes in hexadecimal digits, read and written.
 
-ghost use Rattle.std.specs.Prelude.{◌≡◌, ◌<◌, ◌∷◌, ◌++◌, IfOk, IfSome, OnOk, false, length, map, option_map};
+ghost use Rattle.std.specs.Prelude.{◌≡◌, ◌<◌, ◌∷◌, IfOk, IfSome, false, is_ok, length, map, option_map};
 ghost use Rattle.std.specs.Option.{IfNone};
 ghost use Rattle.std.specs.Fmt.{digit_glyph};
 ghost use Rattle.std.specs.List.{concat};
+ghost use Rattle.plan_text.specs.Sinks.{Writes};
 ghost use Rattle.plan_image.specs.Listing.{hex, hex_byte};
 ghost use Rattle.plan_trace.specs.Words as defined;
 
+use plan_text::{Sink, SinkFault, write_all, writes_join};
 use std::alloc::{AllocError, Global};
 
 /// The value of a digit.
@@ -83,27 +85,33 @@ const fn digit(n: u8) -> u8
     if n < 10 { 48 + n } else { 87 + n }
 }
 
-/// Two digits more for each byte.
-fn push_digits(line: &mut Vec<u8>, bytes: &[u8]) -> Result<(), AllocError>
-    ensures { OnOk result (line.new.items ≡ line.old.items ++ concat (map hex_byte bytes.now)) }
+/// Writes the two digits of a byte.
+fn write_byte<W: Sink>(byte: u8, out: &mut W) -> Result<(), SinkFault>
+    ensures { Writes (is_ok result) (W.failures out.old, W.taken out.old) (W.failures out.new, W.taken out.new) (hex_byte byte) }
 {
-    line.reserve(bytes.len())?;
+    write_all(out, &[digit(byte / 16), digit(byte % 16)])
+}
+
+/// Writes two digits for each byte. It takes no memory.
+fn write_digits<W: Sink>(bytes: &[u8], out: &mut W) -> Result<(), SinkFault>
+    ensures { Writes (is_ok result) (W.failures out.old, W.taken out.old) (W.failures out.new, W.taken out.new) (concat (map hex_byte bytes.now)) }
+{
+    writes_join();
     for byte in bytes {
-        line.push(digit(*byte / 16))?;
-        line.push(digit(*byte % 16))?;
+        match write_byte(*byte, out) {
+            Ok(()) => {}
+            Err(fault) => return Err(fault),
+        }
     }
     Ok(())
 }
 
-/// Bytes in hexadecimal digits, behind a line; a dash where there is none.
-pub(crate) fn push_hex(line: &mut Vec<u8>, bytes: &[u8]) -> Result<(), AllocError>
-    ensures { OnOk result (line.new.items ≡ line.old.items ++ hex bytes.now) }
+/// Writes bytes in hexadecimal digits, or a dash if there is none. It takes no memory.
+pub(crate) fn write_hex<W: Sink>(bytes: &[u8], out: &mut W) -> Result<(), SinkFault>
+    ensures { Writes (is_ok result) (W.failures out.old, W.taken out.old) (W.failures out.new, W.taken out.new) (hex bytes.now) }
 {
     match bytes {
-        [] => {
-            line.push(b'-')?;
-            Ok(())
-        }
-        [_, ..] => push_digits(line, bytes),
+        [] => write_all(out, b"-"),
+        [_, ..] => write_digits(bytes, out),
     }
 }

@@ -5,10 +5,10 @@ use Rattle.plan_trace.specs.Spelling.{event_line}
 use Rattle.plan_trace.proofs.writing.write_journal.Given as goal
 
 -- what was written, and what is still written behind it
-abbrev pub invariant-loop-behind : goal.invariant-loop-behind
-invariant-loop-behind g l =
+abbrev pub invariant-loop-event : goal.invariant-loop-event
+invariant-loop-event g l =
     (done : List ℕ) × (done ++ flat_map event_line l.rest ≡ flat_map event_line l.journal)
     × Writes true (g.W.Sink.failures l.fn.out, g.W.Sink.taken l.fn.out) (g.W.Sink.failures l.out, g.W.Sink.taken l.out) done
 
-abbrev pub decreases-loop-behind : goal.decreases-loop-behind
-decreases-loop-behind g l = length l.rest
+abbrev pub decreases-loop-event : goal.decreases-loop-event
+decreases-loop-event g l = length l.rest

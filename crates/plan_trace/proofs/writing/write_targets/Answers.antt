@@ -13,9 +13,8 @@ returns-in-Err g c =
     let old : ℕ × Option (List ℕ) = (g.W.Sink.failures c.args.out.now, g.W.Sink.taken c.args.out.now) in
     let mid : ℕ × Option (List ℕ) = (g.W.Sink.failures c.loop-target.out, g.W.Sink.taken c.loop-target.out) in
     let new : ℕ × Option (List ℕ) = (g.W.Sink.failures c.write_target.new.out, g.W.Sink.taken c.write_target.new.out) in
-    let whole = one_more target_line items i item 0 so_far.0 c.loop-target-test.true refl so_far.1 in
-    stops c.prints_join.ensures.join c.prints_join.ensures.stopped old mid new so_far.0 (target_line item) (flat_map target_line (drop (i + 1) items)) (flat_map target_line items)
-    c.in-Err.fault whole so_far.2 c.in-Err.ensures
+    stops c.writes_join.ensures.join c.writes_join.ensures.failed old mid new so_far.0 (target_line item) (flat_map target_line (drop (i + 1) items)) (flat_map target_line items)
+    (one_more target_line (flat_map target_line) (λ y ys. refl) items i item 0 so_far.0 c.loop-target-test.true refl so_far.1) so_far.2 c.in-Err.ensures
 
 pub loop-target-preserved : goal.loop-target-preserved
 loop-target-preserved g c =
@@ -27,6 +26,6 @@ loop-target-preserved g c =
     let mid : ℕ × Option (List ℕ) = (g.W.Sink.failures c.loop-target.out, g.W.Sink.taken c.loop-target.out) in
     let new : ℕ × Option (List ℕ) = (g.W.Sink.failures c.write_target.new.out, g.W.Sink.taken c.write_target.new.out) in (
       so_far.0 ++ target_line item,
-      one_more target_line items i item 0 so_far.0 c.loop-target-test.true refl so_far.1,
+      one_more target_line (flat_map target_line) (λ y ys. refl) items i item 0 so_far.0 c.loop-target-test.true refl so_far.1,
       c.writes_join.ensures.join true old mid new so_far.0 (target_line item) so_far.2 c.in-Ok.ensures,
     )
