@@ -4,78 +4,75 @@ use crate::run::run_command;
 use clap::{Arg, ArgAction, Command};
 use std::alloc::{AllocError, Global};
 
-/// What `--version` prints behind the program's name.
-const VERSION: &str = "0.1.0";
+/// The version that `--version` prints after the program's name.
+const VERSION: &str = "0.2.0";
 
 const ABOUT: &str =
-    "Reads Ninja manifests and plan images. What it writes is proved to be what they mean.";
+    "A formally verified builder for Ninja manifests: compile them into plan images, and run those";
 
-const COMMANDS_ABOUT: &str = "Prints the command of each build line of a manifest, in order";
+const COMMANDS_ABOUT: &str = "Print the commands of a manifest, in order";
 
 const COMMANDS_LONG_ABOUT: &str = "\
-Reads a manifest (build.ninja) and prints the command of each `build` line, in order and one a line, with its variables expanded. \
-Nothing is run.
+Print the command of each `build` statement of a manifest (build.ninja) that is not a phony: one line each, in order, with all \
+variables expanded. Run nothing.
 
-Where the manifest is refused nothing is printed but the reason, on standard error and with status 2: \
-`plan: NUMBER NAME FILE:OFFSET`, the offset in bytes from 0.";
+If the manifest is refused, only the reason is printed, on standard error: `plan: NUMBER NAME FILE:OFFSET`. The offset is in \
+bytes and starts at 0. The exit status is 2 then.";
 
-const FILE_HELP: &str = "The manifest to read, as build.ninja";
+const FILE_HELP: &str = "Manifest to read, for example build.ninja";
 
-const COMPILE_ABOUT: &str = "Writes the plan image of a manifest";
+const COMPILE_ABOUT: &str = "Compile a manifest into a plan image";
 
 const COMPILE_LONG_ABOUT: &str = "\
-Reads a manifest (build.ninja) and writes its plan image, of version 2: each edge's code says what it looks at, when its \
-command runs, and what is kept of it. Nothing is run, and nothing is printed.
+Compile a manifest (build.ninja) into a plan image of version 2. The code of each edge in the image says which files it checks, \
+when its command runs, and what the build record keeps. Run nothing, and print nothing on success.
 
-The file of the image is made at its first write, and replaced where it is there. Where the manifest is refused no file is \
-made or touched; printed is the reason, on standard error and with status 2: `plan: NUMBER NAME` and its place, as for \
-`commands`.";
+The image file is created at the first write, and replaced if it exists. If the manifest is refused, no file is created or \
+changed. The reason is printed on standard error as for `commands`, and the exit status is 2.";
 
-const OUTPUT_HELP: &str = "The file to write the plan image to";
+const OUTPUT_HELP: &str = "File to write the plan image to";
 
-const DUMP_ABOUT: &str = "Prints the tables and the code of a plan image as text";
+const DUMP_ABOUT: &str = "Print a plan image as text";
 
 const DUMP_LONG_ABOUT: &str = "\
-Reads a plan image of either version and prints it as text, one line for each text, file, pool, slot, body, edge and \
-instruction. Whether the image can be run is not asked: `verify` says that.
+Print the tables and the code of a plan image of either version: one line for each text, file, pool, slot, body, edge and \
+instruction. It does not check whether the image can be run; `verify` does.
 
-Where the bytes are no image nothing is printed but the reason, on standard error and with status 2: \
-`plan: NUMBER NAME at OFFSET`, the offset in bytes from 0.";
+If the bytes are not an image, only the reason is printed, on standard error: `plan: NUMBER NAME at OFFSET`. The offset is in \
+bytes and starts at 0. The exit status is 2 then.";
 
-const VERIFY_ABOUT: &str = "Says whether a plan image can be run without a step that goes wrong";
+const VERIFY_ABOUT: &str = "Check whether a plan image is safe to run";
 
 const VERIFY_LONG_ABOUT: &str = "\
-Reads a plan image of either version and checks its tables and the code of each edge. An image that passes is proved never \
-to go wrong when it is run; printed is `ok EDGES BUDGET`: how many edges it has, and how many events they have at most, \
-but for those that dependencies bring.
+Check the tables of a plan image of either version, and the code of each edge. It is proved that a run of an accepted image \
+never goes wrong. For such an image `ok EDGES BUDGET` is printed: the number of its edges, and the most events that a run of it \
+can have, not counting those for the bytes of dependencies that it reads.
 
-Else nothing is printed but the first check that fails, on standard error and with status 2: \
-`plan: NUMBER NAME at edge E place P`.";
+Otherwise only the first check that fails is printed, on standard error: `plan: NUMBER NAME at edge E place P`. The exit status \
+is 2 then.";
 
-const REPLAY_ABOUT: &str =
-    "Prints what happened in a run of a plan image, from its trace, or whether two runs end alike";
+const REPLAY_ABOUT: &str = "Print what happened in a recorded run, or compare two runs";
 
 const REPLAY_LONG_ABOUT: &str = "\
-Reads a plan image and a trace, which has the events of a run of it, goes through them, and prints the status lines and how \
-each edge came out. Nothing is run, and no file is looked at but these two.
+Replay the events of a trace on a plan image, and print the status lines and how each edge ended. Run nothing, and look at no \
+other file than these two.
 
-A status line is `[N/M] LABEL` where a command ended well, N the commands that came out so far and M those that the targets \
-need, `FAILED NAME: CAUSE`, `SKIPPED NAME: needs NAME` or `STOPPED NAME`. Behind them stands for each edge \
-`NUMBER NAME OUTCOME`.
+A status line is `[N/M] LABEL` if a command succeeded: N is the number of commands that are settled so far, and M the number \
+that the targets need. It is `FAILED NAME: CAUSE`, `SKIPPED NAME: needs NAME` or `STOPPED NAME` otherwise. After these lines \
+comes a line `NUMBER NAME OUTCOME` for each edge.
 
-With a second trace nothing of that is printed but `same`, where both runs have ended, each edge came out alike (whichever edge \
-a skipped one names) and the slots have the same, and else `different`. Both traces need the same first line, and no line \
-`target`.
+With a second trace print only `same` or `different`. It is `same` if both runs ended, each edge ended alike in both (a skipped \
+edge may name another edge) and the slots have the same values. Both traces must have the same first line, and no line `target`.
 
-The status is 0 where all that the targets need ended well, or both runs end alike, else 1; 2 says that the image, a trace or \
-one of its events is refused, for the reason on standard error: `plan: 110 NotEnabled at event N`, counted from 0, through the \
-first trace and then the second.";
+The exit status is 0 if all that the targets need succeeded, or if both runs end alike; else it is 1. It is 2 if the image, a \
+trace or one of its events is refused. The reason is printed on standard error then, for example `plan: 110 NotEnabled at event \
+N`. Events are counted from 0, through the first trace and then the second.";
 
-const TRACE_HELP: &str = "The trace to go through";
+const TRACE_HELP: &str = "Trace to replay, as `run --trace` writes it";
 
-const TRACE2_HELP: &str = "A second trace: whether both runs end alike";
+const TRACE2_HELP: &str = "Second trace: compare both runs";
 
-const IMAGE_HELP: &str = "The plan image to read";
+const IMAGE_HELP: &str = "Plan image to read";
 
 /// A command that reads one file.
 fn file_command<'a>(

@@ -20,32 +20,31 @@ pub struct RunWords<'a> {
     pub targets: Vec<&'a str>,
 }
 
-const ABOUT: &str =
-    "Runs a plan image: asks files and the record what is out of date, and runs the commands";
+const ABOUT: &str = "Run a plan image: build its targets";
 
 const LONG_ABOUT: &str = "\
-Reads a plan image, checks it as `verify` does, and builds the targets that are named, or the image's defaults: commands run \
-by /bin/sh where files or the build record say that something is out of date.
+Check a plan image as `verify` does, and build the targets that you name, or the manifest's default targets. A command runs \
+by /bin/sh if the files or the build record say that an output is out of date.
 
-A line is printed for each edge whose command ran, failed, was skipped or stopped, while others run: `[n/m] LABEL`, \
-`FAILED NAME: CAUSE`, `SKIPPED NAME: needs NAME`, `STOPPED NAME`. m is how many commands the targets have in all, also of \
-edges that are up to date; n is how many of these are settled so far. What a command prints comes before its line.
+A line is printed for each edge when its command succeeded, when it failed, was skipped or was stopped, while other commands \
+run: `[n/m] LABEL`, `FAILED NAME: CAUSE`, `SKIPPED NAME: needs NAME`, `STOPPED NAME`. m is the number of all commands that the \
+targets need, including those that are up to date; n is the number of those that are settled so far. The output of a command \
+comes before its line.
 
-The status is 0 where all that was asked for is built, 1 where an edge failed, was skipped or stopped, 2 where the run was \
-refused; then the reason is on standard error: `plan: NUMBER NAME` and its place. What failed or was interrupted runs again \
-the next time.";
+The exit status is 0 if everything was built, 1 if an edge failed, was skipped or was stopped, and 2 if the run was refused. \
+The reason for a refusal is printed on standard error: `plan: NUMBER NAME` and its place. A command that failed or was \
+interrupted runs again the next time.";
 
-const JOBS_HELP: &str = "How many commands may run at once, 1 to 64";
+const JOBS_HELP: &str = "Run up to N commands at once, 1 to 64";
 
-const KEEP_HELP: &str =
-    "Stop once so many edges have failed; 0 goes on as long as anything can be built";
+const KEEP_HELP: &str = "Stop after K failures; 0 means no limit";
 
-const RECORD_HELP: &str = "The build record, which is made where it is missing";
+const RECORD_HELP: &str = "Build record to use; it is created if it is missing";
 
 const TRACE_HELP: &str =
-    "A file to write the run's trace to, when the last command has ended; `replay` reads it";
+    "Write the trace of the run to this file when the last command has ended, for `replay`";
 
-const TARGETS_HELP: &str = "Files to build, in place of the image's defaults";
+const TARGETS_HELP: &str = "Files to build, instead of the default targets";
 
 /// The options of `run`.
 fn options<'a>(alloc: Global, command: Command<'a>) -> Result<Command<'a>, AllocError> {
