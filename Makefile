@@ -1,59 +1,65 @@
 # plan_ninja: see README.md. `make help` lists the targets.
 PREFIX ?= /usr/local
 PROGRAM = crates/plan_ninja/out/plan_ninja
+UNPROVED = out/unproved/plan_ninja
 SHELL = /bin/bash -o pipefail
 
 .DEFAULT_GOAL = all
 
 .PHONY: help
 help:
-	@echo "make          proves and builds the program ($(PROGRAM)); from nothing some 50 minutes on 4 cores"
-	@echo "make demo     compiles and runs examples/demo/build.ninja by the program, not yet proved; two to four minutes"
-	@echo "make quick    proves one crate, or one module of it (CRATE=plan_text ONLY=path); 5 to 60 seconds for a module"
-	@echo "make rows     runs the rows of the built program, or some (NAMES='tab_* scopes/*'); half a minute"
-	@echo "make tests    the tests of the built program, without proofs: documents, rows, builds, ninja, memory, trees; 4 to 6 minutes"
-	@echo "make check    the whole gate: proofs, must-fail edits and these tests; docs/PROOF_NOTES.md has its time"
-	@echo "make edits    tries the must-fail edits that the gate leaves out (CRATES=plan_text for one crate); 5 to 40 minutes a crate"
-	@echo "make calls    calls the lower crates with refused memory, and runs damaged images, without proofs; two minutes"
-	@echo "make real     compares commands and builds of CMake's and Meson's trees with ninja's, upstream projects too; more than an hour"
-	@echo "make bench    times the program beside ninja and make, on hostile manifests, and on those of CMake and GLib, which it fetches; some minutes"
-	@echo "make install  copies the program to PREFIX/bin (PREFIX is $(PREFIX))"
-	@echo "make clean    takes away what checks and builds left"
-	@echo "PROGRAM=.. tests another program than $(PROGRAM)"
+	@echo "Try it:"
+	@echo "  make demo      build a small C project, edit it, build it again; less than three minutes from a fresh clone"
+	@echo "  make unproved  compile the program without its proofs, to try it out: $(UNPROVED); two minutes"
+	@echo "Build and install it:"
+	@echo "  make           prove and build the program: $(PROGRAM); some 50 minutes from scratch on 4 cores"
+	@echo "  make install   copy what was built to PREFIX ($(PREFIX)); it builds nothing"
+	@echo "  make dist      pack a tarball and a .deb of the proved program: out/dist; after make check"
+	@echo "Change it:"
+	@echo "  make quick     prove one crate, or one module of it (CRATE=plan_text ONLY=path); 5 to 60 s for a module"
+	@echo "  make rows      run the rows, or some of them (NAMES='tab_* scopes/*'); half a minute"
+	@echo "  make tests     run all tests of the program; 4 to 6 minutes"
+	@echo "  make check     run the whole gate: proofs, must-fail edits, tests"
+	@echo "  make edits     try the must-fail edits that the gate leaves out (CRATES=plan_text); 5 to 40 minutes a crate"
+	@echo "  make calls     refuse each allocation of the lower crates' calls, and run damaged images; two minutes"
+	@echo "  make real      compare commands and builds of CMake's and Meson's trees with ninja's; more than an hour"
+	@echo "  make bench     time the program, ninja and make; some minutes"
+	@echo "  make clean     remove what checks and builds left"
+	@echo "PROGRAM=.. tests, packs or installs another program, for example PROGRAM=$(UNPROVED) for tests."
 
 # Python, for the tests and the benches.
 .PHONY: python
 python:
-	@command -v python3 > /dev/null || { echo "python3 is not on the PATH: the tests and this project's scripts need Python 3.8 or newer" >&2; exit 1; }
-	@python3 -c 'import sys; sys.exit(sys.version_info < (3, 8))' || { echo "python3 is too old: README.md, 'Install', says which version is needed" >&2; exit 1; }
+	@command -v python3 > /dev/null || { echo "python3 is missing: apt-get install python3 (3.8 or newer)" >&2; exit 1; }
+	@python3 -c 'import sys; sys.exit(sys.version_info < (3, 8))' || { echo "python3 is too old: 3.8 or newer is needed" >&2; exit 1; }
 
 # The toolchain.
 .PHONY: kit
 kit: python
-	@command -v rt > /dev/null || { echo "the Rattle kit's command rt is not on the PATH: README.md, 'Install', says what it is and which version" >&2; exit 1; }
+	@command -v rt > /dev/null || { echo "rt is missing: the Rattle kit is not on the PATH; README.md, \"Install\", names it" >&2; exit 1; }
 
 # The program, as `make` left it.
 .PHONY: built
 built: python
-	@test -x $(PROGRAM) || { echo "$(PROGRAM) is not there: make proves and builds it" >&2; exit 1; }
+	@test -x $(PROGRAM) || { echo "$(PROGRAM) is missing: make proves and builds it, make unproved compiles $(UNPROVED)" >&2; exit 1; }
 
 # Builds the proved program.
 .PHONY: all
 all: kit
-	@echo "proving and building: from nothing some 50 minutes on 4 cores, less where earlier checks are kept" >&2
+	@echo "proving and building: some 50 minutes from scratch on 4 cores, less if earlier proofs are kept" >&2
 	@cd crates/plan_ninja && rt run -- --help > /dev/null
 	@echo "built and proved: $(PROGRAM)"
 
-# Compiles and runs the example by the program, not yet proved.
-TRY = cd crates/plan_ninja && rt try --data build.ninja=../../examples/demo/build.ninja --
+# Compiles the program without its proofs. It runs the tests as the proved one does: make tests PROGRAM=$(UNPROVED).
+.PHONY: unproved
+unproved: kit
+	@python3 tools/unproved.py $(UNPROVED)
+	@echo "compiled without proofs: $(UNPROVED)"
+
+# Builds a small C project, by the proved program if there is one, else by one without proofs.
 .PHONY: demo
-demo: kit
-	@echo "without the proofs (rt try), one or two minutes each: plan_ninja compile examples/demo/build.ninja -o demo.img" >&2
-	@demo=$$(mktemp -d); trap "rm -rf $$demo" EXIT; \
-	  ($(TRY) compile build.ninja -o $$demo/demo.img) > $$demo/log 2>&1 || { cat $$demo/log >&2; exit 1; }; \
-	  echo "and then: plan_ninja run demo.img" >&2; \
-	  ($(TRY) run $$demo/demo.img --record $$demo/record) 2> $$demo/log || { cat $$demo/log >&2; exit 1; }
-	@echo "(run without the proofs; make proves and builds the program, make check is the whole gate)" >&2
+demo: python
+	@python3 tools/demo.py $(PROGRAM)
 
 # Proves one crate, or one module of it.
 CRATE =
@@ -67,34 +73,13 @@ quick: kit
 NAMES =
 .PHONY: rows
 rows: built
-	@set -f; python3 tests/run_rows.py $(PROGRAM) $(NAMES)
+	@python3 tests/run.py rows $(foreach name,$(NAMES),-k '$(name)') $(PROGRAM)
 
 # The built program: documents, rows, ninja's commands, refused allocations, and real trees.
 .PHONY: tests
 tests: built
-	python3 tests/manifest_names.py
-	python3 tests/run_rows.py $(PROGRAM)
-	python3 tests/run_images.py $(PROGRAM)
-	python3 tests/run_compiled.py $(PROGRAM)
-	python3 tests/run_machine.py $(PROGRAM)
-	python3 tests/run_orders.py $(PROGRAM)
-	python3 tests/run_chain.py $(PROGRAM)
-	python3 tests/run_builds.py $(PROGRAM)
-	python3 tests/run_interrupted.py $(PROGRAM)
-	python3 tests/run_failing.py $(PROGRAM)
-	python3 tests/run_cut_depfiles.py $(PROGRAM)
-	python3 tests/run_console.py $(PROGRAM)
-	python3 tests/run_live.py $(PROGRAM)
-	python3 tests/run_twice.py $(PROGRAM)
-	python3 tests/run_together.py $(PROGRAM)
-	python3 tests/run_spoilt.py $(PROGRAM)
-	python3 tests/run_closed.py $(PROGRAM)
-	python3 tests/run_limited.py $(PROGRAM)
-	python3 tests/run_standin.py $(PROGRAM)
-	python3 tests/against_ninja.py $(PROGRAM)
-	python3 tests/fail_alloc.py $(PROGRAM)
-	python3 tests/real/real.py --short $(PROGRAM)
-	python3 tests/real/building.py --short $(PROGRAM)
+	python3 tools/manifest_names.py
+	python3 tests/run.py $(PROGRAM)
 
 # How many checks run side by side: one a processor, as memory allows. A check takes less than 3 GB; rt ci by itself
 # counts on three times as much, and leaves processors idle.
@@ -104,37 +89,45 @@ GATE_JOBS = $(shell awk -v n=$$(nproc) '/^MemAvailable/ {m = int($$2 / 4000000);
 # and then the program.
 .PHONY: check
 check: kit
-	python3 tests/manifest_names.py
-	python3 tests/edits.py --fit $(CRATES)
+	python3 tools/manifest_names.py
+	python3 tools/edits.py --fit $(CRATES)
 	RT_JOBS=$(GATE_JOBS) rt ci | tee gate.log
-	python3 tests/edit_log.py gate.log
-	python3 tests/wrong_bodies.py
+	python3 tools/edit_log.py gate.log
+	python3 tools/wrong_bodies.py
 	$(MAKE) calls
 	$(MAKE) tests
 
 # The must-fail edits of some crates that the gate leaves out.
-CRATES = $(notdir $(wildcard crates/*))
+CRATES = $(notdir $(patsubst %/,%,$(wildcard crates/*/)))
 .PHONY: edits
 edits: kit
-	python3 tests/edits.py $(CRATES)
-	python3 tests/wrong_bodies.py $(CRATES)
+	python3 tools/edits.py $(CRATES)
+	python3 tools/wrong_bodies.py $(CRATES)
 
 # Calls the lower crates with refused memory, and runs damaged images, in a program without proofs.
 .PHONY: calls
 calls: kit
-	python3 tests/run_calls.py
+	python3 tests/run.py calls
 
 # Compares the commands of many trees of CMake and Meson with ninja's, upstream projects among them (from Debian's mirror); `make` first.
 .PHONY: real
 real: built
-	python3 tests/real/real.py $(PROGRAM)
-	python3 tests/real/building.py $(PROGRAM)
-	python3 tests/real/using.py $(PROGRAM)
+	python3 tests/run.py --long real building using $(PROGRAM)
 
+# Installs what was built: the program, and the stand-in that CMake and Meson call as ninja.
 .PHONY: install
-install: all
-	install -d "$(DESTDIR)$(PREFIX)/bin"
-	install -m 755 $(PROGRAM) "$(DESTDIR)$(PREFIX)/bin/plan_ninja"
+install:
+	@test -x $(PROGRAM) || { echo "$(PROGRAM) is missing: run make first (as yourself, not as root)" >&2; exit 1; }
+	install -D -m 755 $(PROGRAM) "$(DESTDIR)$(PREFIX)/bin/plan_ninja"
+	install -D -m 755 examples/ninja/ninja "$(DESTDIR)$(PREFIX)/libexec/plan_ninja/ninja"
+	install -D -m 644 LICENSE "$(DESTDIR)$(PREFIX)/share/doc/plan_ninja/LICENSE"
+	install -D -m 644 docs/GUARANTEE.md "$(DESTDIR)$(PREFIX)/share/doc/plan_ninja/GUARANTEE.md"
+	@echo "installed; for CMake and Meson put $(PREFIX)/libexec/plan_ninja on the PATH"
+
+# Packs the proved program with the gate's log: a tarball and a .deb, with SHA-256 sums.
+.PHONY: dist
+dist: built
+	@python3 tools/dist.py $(PROGRAM)
 
 # Times the program beside ninja and make, and on hostile manifests; `make` first.
 .PHONY: bench
@@ -149,4 +142,5 @@ bench: built
 
 .PHONY: clean
 clean:
-	rm -rf crates/*/out gate.log tests/__pycache__ tests/real/__pycache__ bench/__pycache__
+	rm -rf out crates/*/out gate.log
+	find tests tools bench -name __pycache__ -type d -prune -exec rm -rf {} +

@@ -7,6 +7,8 @@ before; how long that takes is printed beside. The words name numbers of objects
 OBJECTSxHEADERS another number of headers, 1000x200. Printed are medians of seven rounds that take turns. It is no test
 and asserts nothing.
 """
+from __future__ import annotations
+
 import pathlib
 import shutil
 import statistics

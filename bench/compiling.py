@@ -8,6 +8,8 @@ Printed are the least wall time of each, since other work on the machine only ad
 `compile` to `commands`, both to files: of the least times, of the medians, and of memory; and the ratio of the medians
 where `commands` prints to nowhere. It is no test and asserts nothing.
 """
+from __future__ import annotations
+
 import os
 import pathlib
 import shutil

@@ -6,6 +6,8 @@ other; and paths of three bytes that all differ, for which the reader keeps most
 is proved and built first, in a folder of its own. Printed are the median wall time of seven runs, the peak memory less
 that of a run on no text, and its ratio to the text. It is no test and asserts nothing.
 """
+from __future__ import annotations
+
 import itertools
 import pathlib
 import random
@@ -15,9 +17,11 @@ import subprocess
 import tempfile
 from collections.abc import Iterator
 
-from throwaway import built
 from timing import Run, measured
 
+from lib.throwaway import built
+
+HERE = pathlib.Path(__file__).resolve().parent
 MIB = 2**20
 SIZES = (1, 4, 16)
 RUNS = 7
@@ -75,7 +79,7 @@ def main() -> None:
     with tempfile.TemporaryDirectory() as name:
         folder = pathlib.Path(name)
         (folder / "program").mkdir()
-        program = built(folder / "program", "read_depfile.rt.txt", ["plan_text", "plan_depfile"])
+        program = built(folder / "program", HERE / "read_depfile.rt.txt", ["plan_text", "plan_depfile"])
         (folder / "sources").mkdir()
         texts = list(compilers_texts(folder / "sources"))
         none = run(program, b"", folder)

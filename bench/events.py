@@ -9,6 +9,8 @@ of `run` 5 bytes and of a stamp 8 more, of an event of `replay` 24 in its list a
 the text of the trace too, which it holds while it reads. The word is the number of objects. It is no test and asserts
 nothing.
 """
+from __future__ import annotations
+
 import os
 import pathlib
 import shutil

@@ -3,12 +3,14 @@
 
 What takes longer than a minute is stopped and told as such. It is no test and asserts nothing.
 """
+from __future__ import annotations
+
 import pathlib
 import tempfile
 
 from timing import LIMIT, measured, programs
 
-from hostile_shapes import SHAPES
+from lib.hostile_shapes import SHAPES
 
 
 def main() -> None:

@@ -7,18 +7,17 @@ Printed are the sizes, what each part takes, the median wall time of five runs, 
 file's size; and version 2's size beside version 1's: of the whole file, of one with short texts, and of the edges with
 their bodies alone. It is no test and asserts nothing.
 """
+from __future__ import annotations
+
 import pathlib
 import statistics
-import sys
 import tempfile
 from collections.abc import Iterator
 
 from timing import Run, measured, programs
 
-sys.path.insert(0, str(pathlib.Path(__file__).resolve().parent.parent / "tests" / "images"))
-
-import image
-from image import Code, Edge, Image, Instr, Slot
+from lib import image
+from lib.image import Code, Edge, Image, Instr, Slot
 
 EDGES = 100_000
 HEADERS = 2_000  # that order-only sources and named inputs are among

@@ -3,6 +3,8 @@
 A Makefile has one scope, so a variable of a file below the first has the file's name in front. Pools have no
 counterpart, and are left out.
 """
+from __future__ import annotations
+
 import re
 from collections.abc import Iterable, Mapping
 

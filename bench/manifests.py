@@ -1,4 +1,6 @@
 """Writes a project as manifests: its rules in the one file, or in an included one; the other files by `subninja`."""
+from __future__ import annotations
+
 from collections.abc import Sequence
 
 from projects import Edge, File, Project, Variables

@@ -1,8 +1,10 @@
 """C projects as edges: one flat file, or a tree of files. manifests.py writes them for ninja, makefiles.py for make."""
-from collections.abc import Iterable
-from typing import NamedTuple
+from __future__ import annotations
 
-Variables = dict[str, str]
+from collections.abc import Iterable
+from typing import Dict, NamedTuple
+
+Variables = Dict[str, str]
 
 
 class Edge(NamedTuple):

@@ -5,6 +5,8 @@
 first, in a folder of its own; it reads the file, and tells how long `load` took. Printed are the median of seven runs,
 and the peak memory of the whole program and its ratio to the file. It is no test and asserts nothing.
 """
+from __future__ import annotations
+
 import pathlib
 import statistics
 import struct
@@ -12,9 +14,11 @@ import subprocess
 import tempfile
 from collections.abc import Iterator
 
-from throwaway import built
 from timing import measured
 
+from lib.throwaway import built
+
+HERE = pathlib.Path(__file__).resolve().parent
 ENTRIES = 100_000
 PATHS = 1_850_000
 HEADERS = 20_000
@@ -27,7 +31,7 @@ def text(size: str, bytes_of: bytes) -> bytes:
 
 
 def entry(number: int, count: int) -> bytes:
-    """The spelling of an entry, as docs/RECORD.md tells."""
+    """The spelling of an entry, as docs/rules/record.md tells."""
     source = b"module%d/file%d" % (number // 50, number)
     command = b"cc -O2 -Wall -Iinclude -MMD -MF obj/%b.o.d -c src/%b.c -o obj/%b.o" % (source, source, source)
     body = text(">H", b"obj/%b.o" % source) + text(">I", command) + struct.pack(">QI", number, count)
@@ -45,7 +49,7 @@ def main() -> None:
     with tempfile.TemporaryDirectory() as name:
         folder = pathlib.Path(name)
         (folder / "program").mkdir()
-        program = built(folder / "program", "read_record.rt.txt", ["plan_text", "plan_record"])
+        program = built(folder / "program", HERE / "read_record.rt.txt", ["plan_text", "plan_record"])
         record = b"".join(spelled())
         (folder / "record").write_bytes(record)
         said = [subprocess.check_output([program], cwd=folder, text=True) for _ in range(RUNS)]

@@ -9,6 +9,8 @@ those of ninja and of make (below 1: plan_ninja needs less). Before that it comp
 same edges and commands as Makefiles, without its built-in rules (-rR); nothing is built, so it prints them all. What
 takes longer than a minute is stopped and told as such. It is no test and asserts no time.
 """
+from __future__ import annotations
+
 import pathlib
 import re
 import shutil
@@ -17,7 +19,7 @@ import subprocess
 import sys
 import tempfile
 from collections.abc import Sequence
-from typing import NamedTuple
+from typing import NamedTuple, Optional
 
 import makefiles
 import manifests
@@ -37,7 +39,7 @@ class Median(NamedTuple):
     mebibytes: float
 
 
-Found = Median | None  # none where a run took too long
+Found = Optional[Median]  # none where a run took too long
 
 
 def median(runs: Sequence[Run]) -> Found:

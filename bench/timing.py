@@ -1,4 +1,6 @@
-"""Runs a program under a limit of time, and measures it; and what the benches share of tests/."""
+"""Runs a program under a limit of time, and measures it; finds the helpers in tests/ for all benches."""
+from __future__ import annotations
+
 import os
 import pathlib
 import shutil
@@ -11,7 +13,7 @@ from typing import NamedTuple
 
 sys.path.insert(0, str(pathlib.Path(__file__).resolve().parent.parent / "tests"))
 
-import programs
+from lib import programs
 
 TIME = shutil.which("time")  # Debian: time
 LIMIT = 60  # seconds

@@ -7,6 +7,8 @@ What can't be made is skipped, and why is said. The programs take turns. Printed
 memory, and the ratios of `commands` and of `compile` to ninja, of the medians and of the least times (below 1:
 plan_ninja needs less). It is no test and asserts nothing.
 """
+from __future__ import annotations
+
 import os
 import pathlib
 import shutil
@@ -17,10 +19,7 @@ from collections.abc import Iterator
 
 from timing import Run, measured, programs
 
-sys.path.insert(0, str(pathlib.Path(__file__).resolve().parent.parent / "tests" / "real"))
-
-import trees
-import upstream
+from real import trees, upstream
 
 ROUNDS = 25
 IMAGE = "plan.img"
@@ -43,7 +42,7 @@ def build_folders(home: pathlib.Path) -> Iterator[tuple[str, pathlib.Path]]:
     if not missing:
         return
     with tempfile.TemporaryDirectory(dir=home) as sources:
-        for tree in upstream.fetched(pathlib.Path(sources), [], skip, missing):
+        for tree in upstream.fetched(pathlib.Path(sources), lambda name: True, skip, missing):
             name = tree.name.split()[0]
             try:
                 yield name, trees.configured(tree, home / name)

@@ -1,9 +1,7 @@
 """Projects of this repository's own that can be built by CMake and Meson: what a build makes depends on each source."""
 from __future__ import annotations
 
-import buildable_cmake
-import buildable_meson
-import trees
+from real import buildable_cmake, buildable_meson, trees
 
 TOP = """\
 cmake_minimum_required(VERSION 3.16...3.31)

@@ -1,8 +1,8 @@
 """More projects of this repository's own that CMake configures and that can be built: a kind of edge in each."""
 from __future__ import annotations
 
-import trees
-from odd_names import but
+from real import trees
+from real.odd_names import but
 
 HEAD = "cmake_minimum_required(VERSION 3.20...3.31)\n"
 

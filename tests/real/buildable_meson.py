@@ -1,9 +1,9 @@
 """More projects of this repository's own that Meson configures and that can be built: a kind of edge in each."""
 from __future__ import annotations
 
-import trees
-from buildable_cmake import ALWAYS, ASSEMBLER, JOINER, LINKED, MAKER, PRECOMPILED, TEMPLATES
-from odd_names import but
+from real import trees
+from real.buildable_cmake import ALWAYS, ASSEMBLER, JOINER, LINKED, MAKER, PRECOMPILED, TEMPLATES
+from real.odd_names import but
 
 GENERATED = {
     "meson.build": """\

@@ -53,14 +53,14 @@ def is_below(path: pathlib.Path, folder: pathlib.Path) -> bool:
 
 
 def source_file(place: Place, name: str) -> pathlib.Path | None:
-    """The file of an input, where it is a source."""
+    """Returns the file of an input, if it is a source."""
     path = pathlib.Path(os.path.normpath(place.build / name))
     inside = is_below(path, place.source) and not is_below(path, place.build)
     return path if inside and path.is_file() else None
 
 
 def compiled(place: Place) -> list[pathlib.Path]:
-    """The sources that are compiled, by path."""
+    """Returns the sources that are compiled, by path."""
     found = set()
     for edge in edges(place):
         if edge.outputs[0].endswith(".o") and edge.inputs and edge.inputs[0].endswith(SOURCES):
@@ -69,13 +69,13 @@ def compiled(place: Place) -> list[pathlib.Path]:
 
 
 def source(place: Place) -> pathlib.Path | None:
-    """A source that is compiled, else any."""
+    """Returns a source that is compiled, or else any."""
     found = compiled(place)
     return found[0] if found else first(place.source, *SOURCES)
 
 
 def header(place: Place) -> pathlib.Path | None:
-    """A header that a source names which is compiled, else any."""
+    """Returns a header that a compiled source names, or else any."""
     there: dict[str, list[pathlib.Path]] = {}
     for path in sorted(place.source.rglob("*")):
         if path.is_file() and not is_below(path, place.build):
@@ -89,14 +89,14 @@ def header(place: Place) -> pathlib.Path | None:
 
 
 def input_of_a_command(place: Place) -> pathlib.Path | None:
-    """A source that a command of the project's own reads."""
+    """Returns a source that one of the project's own commands reads."""
     own = (edge for edge in edges(place) if edge.rule.startswith("CUSTOM_COMMAND"))
     found = (source_file(place, name) for edge in own for name in edge.inputs)
     return min((path for path in found if path is not None and path.name not in MANIFESTS), default=None)
 
 
 def first(folder: pathlib.Path, *suffixes: str) -> pathlib.Path | None:
-    """The first file below a folder with one of these suffixes, by path."""
+    """Returns the first file below a folder with one of these suffixes, by path."""
     found = (path for path in folder.rglob("*") if path.suffix in suffixes and path.is_file() and not path.is_symlink())
     return min((path for path in found if "CMakeFiles/3." not in str(path)), default=None)
 
@@ -131,7 +131,7 @@ def delete_library(place: Place) -> bool:
 
 
 def change_flag(place: Place) -> bool:
-    """The flags of one edge in the manifest, whose stamp stays."""
+    """Changes the flags of one edge in the manifest, whose stamp stays."""
     for path in sorted(place.build.rglob("*.ninja")):
         found, text = path.stat(), path.read_bytes()
         changed = re.sub(rb"(?m)^( +(?:FLAGS|ARGS) = )", rb"\1-DCHANGED ", text, count=1)
@@ -148,7 +148,7 @@ def touch_manifest(place: Place) -> bool:
 
 
 def change_numbers(place: Place, text: str) -> bool:
-    """A project of this repository's own makes a header from the sum of these numbers."""
+    """Changes the numbers from whose sum one of this repository's own projects makes a header."""
     path = place.source / "numbers.txt"
     return appended(path if path.exists() else None, text)
 

@@ -1,8 +1,8 @@
 """CMake projects that this repository writes itself."""
 from __future__ import annotations
 
-import trees
-from odd_names import but
+from real import trees
+from real.odd_names import but
 
 TOP = """\
 cmake_minimum_required(VERSION 3.16...3.31)

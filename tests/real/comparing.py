@@ -7,11 +7,11 @@ import subprocess
 import tempfile
 from typing import Literal, NamedTuple
 
-import compiling
-import programs
-from programs import Lines
+from lib import programs
+from lib.programs import Lines
+from real import compiling
 
-DECIDED = {36: "dyndep", 37: "response files"}  # what this project refuses by its number: docs/FAULTS.md
+DECIDED = {36: "dyndep", 37: "response files"}  # what this project refuses by its number: docs/using/refusals.md
 REFUSED_LINE = re.compile(rb"^ +(?:dyndep|rspfile|rspfile_content) = .*\n", re.MULTILINE)
 SHOWN = 5
 WIDTH = 400
@@ -30,33 +30,33 @@ def text(printed: bytes) -> str:
 
 
 def first_lines(side: str, found: Lines) -> list[str]:
-    """The first of these lines, each with the side that printed it."""
+    """Returns the first of these lines, each with the side that printed it."""
     shown = [f"    {side}: {text(line)}" for line in sorted(found.elements())[:SHOWN]]
     more = sum(found.values()) - len(shown)
     return shown + ([f"    {side}: {more} more"] if more else [])
 
 
 def difference(ours: Lines, theirs: Lines) -> str:
-    """What one prints and the other doesn't; empty where both print the same lines as often."""
+    """Returns what only one of both prints, or an empty text if both print the same lines as often."""
     shown = [*first_lines("only ninja", theirs - ours), *first_lines("only here", ours - theirs)]
     return "\n".join(shown)
 
 
 def refusal(done: subprocess.CompletedProcess[bytes]) -> int | None:
-    """The number of a refusal that the project decided on, else None."""
+    """Returns the number of a refusal that the project decided on, or None."""
     found = re.match(rb"plan: (\d+) ", done.stderr)
     number = int(found[1]) if done.returncode == 2 and found else None
     return number if number in DECIDED else None
 
 
 def doctored(printed: bytes) -> list[bytes]:
-    """Wrong outputs: the first command left out, printed twice, with a blank behind it, and no newline at the end."""
+    """Returns wrong outputs: the first command missing, twice, or with a blank after it, and no newline at the end."""
     first, newline, rest = printed.partition(b"\n")
     return [rest, first + newline + printed, first + b" " + newline + rest, printed[:-1]]
 
 
 def outcome(done: subprocess.CompletedProcess[bytes], theirs: Lines) -> Outcome:
-    """What came of a run that was not refused. Where the output is equal, wrong ones must be told from it."""
+    """Returns what came of a run that was not refused. Wrong outputs must differ from an output that is equal."""
     commands = sum(theirs.values())
     if done.returncode != 0:
         return Outcome("differs", commands, f"    status {done.returncode}: {text(done.stderr)}")
@@ -67,7 +67,7 @@ def outcome(done: subprocess.CompletedProcess[bytes], theirs: Lines) -> Outcome:
 
 
 def with_image(found: Outcome, said: str) -> Outcome:
-    """What came of the commands and of the image, of which this is said."""
+    """Returns what came of the commands and of the image, of which this is said."""
     return Outcome("differs", found.commands, f"{found.said}\n{said}".strip("\n")) if said else found
 
 

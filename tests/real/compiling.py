@@ -3,18 +3,14 @@ from __future__ import annotations
 
 import pathlib
 import re
-import sys
 import tempfile
 from collections.abc import Iterator
 from typing import Set
 
-import programs
-from programs import Lines
+from lib import plain_reader, programs
 
-sys.path.insert(0, str(pathlib.Path(__file__).resolve().parent.parent / "images"))
-
-import reading
-from image import SORTS, Code, Image, code_of
+from lib.image import SORTS, Code, Image, code_of
+from lib.programs import Lines
 
 PHONY = b"phony"
 QUERIED = 2_000  # outputs of a tree of which ninja is asked for inputs and users: all, but for the largest trees
@@ -23,14 +19,14 @@ Users = Set[bytes]
 
 
 def made(program: str, manifest: str, folder: pathlib.Path) -> Image | str:
-    """The image that `compile` writes and `verify` accepts, or why there is none."""
+    """Returns the image that `compile` writes and `verify` accepts, or why there is none."""
     with tempfile.TemporaryDirectory() as home:
         path = pathlib.Path(home) / "plan.img"
         done = programs.run([program, "compile", manifest, "-o", str(path)], folder)
         if done.returncode != 0 or done.stdout or done.stderr:
             return f"compile: status {done.returncode}: {done.stderr.decode(errors='replace').strip()}"
         verdict = programs.run([program, "verify", str(path)], folder)
-        image = reading.read(path.read_bytes())
+        image = plain_reader.read(path.read_bytes())
     if isinstance(image, str):
         return f"what compile wrote is no image: {image}"
     if not re.fullmatch(rb"ok %d \d+\n" % len(image.edges), verdict.stdout):
@@ -39,14 +35,14 @@ def made(program: str, manifest: str, folder: pathlib.Path) -> Image | str:
 
 
 def commands(image: Image, code: Code) -> Iterator[bytes]:
-    """The texts that a code gives to `Run`."""
+    """Yields the texts that a code gives to `Run`."""
     for (name, number), (following, _) in zip(code, code[1:]):
         if following == "Run":
             yield image.texts[number or 0] if name == "Text" else b"no text"
 
 
 def maker_faults(image: Image, targets: Lines) -> Iterator[str]:
-    """Where an edge makes other paths, or is a phony where ninja says otherwise."""
+    """Yields edges that make other paths than ninja says, or that are a phony only here or only there."""
     theirs = dict(line.rstrip(b"\n").rsplit(b": ", 1) for line in targets)
     ours = {image.files[file]: edge for edge in image.edges for file in edge.outputs}
     if ours.keys() != theirs.keys():
@@ -57,7 +53,7 @@ def maker_faults(image: Image, targets: Lines) -> Iterator[str]:
 
 
 def code_faults(image: Image) -> Iterator[str]:
-    """A code without what tools look for: a command compares what is recorded, and a phony runs nothing."""
+    """Yields codes without what tools look for: a command runs once with a place, and a phony runs nothing."""
     for edge in image.edges:
         names = [name for name, _ in code_of(image, edge)]
         if SORTS[edge.sort] == "phony" and set(names) & {"Run", "Keep", "Recall", "Deps", "Take"}:
@@ -67,7 +63,7 @@ def code_faults(image: Image) -> Iterator[str]:
 
 
 def queried(printed: bytes) -> Iterator[tuple[bytes, Inputs, Users]]:
-    """Each path that `ninja -t query` was asked for, with its inputs of any sort and the outputs that use it."""
+    """Yields each path that `ninja -t query` was asked for, with all its inputs and the outputs that use it."""
     for block in re.split(rb"^(?=\S)", printed, flags=re.MULTILINE)[1:]:
         head, *lines = block.splitlines()
         inputs: Inputs = set()
@@ -82,7 +78,7 @@ def queried(printed: bytes) -> Iterator[tuple[bytes, Inputs, Users]]:
 
 
 def query_faults(image: Image, printed: bytes) -> Iterator[str]:
-    """Where an edge waits for others than those that make its inputs, asks for other sources, or isn't waited for."""
+    """Yields edges that wait for other edges than ninja says, ask for other sources, or aren't waited for."""
     maker = {image.files[file]: number for number, edge in enumerate(image.edges) for file in edge.outputs}
     for path, inputs, users in queried(printed):
         edge = image.edges[maker[path]]
@@ -98,13 +94,13 @@ def query_faults(image: Image, printed: bytes) -> Iterator[str]:
 
 
 def sample(image: Image) -> list[str]:
-    """Some outputs, evenly spread."""
+    """Returns some outputs, evenly spread."""
     paths = [image.files[file].decode(errors="surrogateescape") for edge in image.edges for file in edge.outputs]
     return paths[::max(1, len(paths) // QUERIED)]
 
 
 def difference(program: str, ninja: str, manifest: str, folder: pathlib.Path, theirs: Lines) -> str:
-    """Where the image says other than ninja of commands, makers, inputs and users; empty where it says the same."""
+    """Returns how the image and ninja differ in commands, makers, inputs and users, or an empty text."""
     image = made(program, manifest, folder)
     if isinstance(image, str):
         return f"    {image}"

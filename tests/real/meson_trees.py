@@ -1,8 +1,8 @@
 """Meson projects that this repository writes itself."""
 from __future__ import annotations
 
-import trees
-from odd_names import but
+from real import trees
+from real.odd_names import but
 
 TOP = """\
 project('shapes', 'c', 'cpp', version: '1.2.3', default_options: ['warning_level=2', 'cpp_std=c++14'], subproject_dir: 'subprojects')

@@ -8,5 +8,5 @@ ODD = [
 
 
 def but(*parts: str) -> list[str]:
-    """The odd names without those that a tool refuses, or writes as ninja can't read them."""
+    """Returns the odd names without those that a tool refuses, or writes as ninja can't read them."""
     return [name for name in ODD if not any(part in name for part in parts)]

@@ -8,7 +8,7 @@ import subprocess
 from collections.abc import Callable, Mapping, Sequence
 from typing import Any
 
-import programs
+from lib import programs
 
 SECONDS = 300
 
@@ -44,13 +44,13 @@ def of_tool(tool: str) -> Callable[..., Tree]:
 
 
 def many_sources(manifest: str, count: int, text: Callable[[list[str]], str]) -> dict[str, str]:
-    """One folder's manifest, whose text is made of the names of its sources, and these."""
+    """Returns the files of one folder: a manifest, whose text is made of the names of its sources, and these."""
     names = [f"part{n // 50}/file{n}.c" for n in range(count)]
     return {manifest: text(names), "main.c": "", **{name: "" for name in names}}
 
 
 def many_folders(manifest: str, count: int, top: str, text: Callable[[int], str]) -> dict[str, str]:
-    """A manifest above many folders, each with one of its own and two sources."""
+    """Returns a manifest above many folders, each with its own manifest and two sources."""
     files = {manifest: top}
     for n in range(count):
         files[f"part{n}/{manifest}"] = text(n)
@@ -62,13 +62,18 @@ class NotConfigured(Exception):
     """The tool failed, or wrote no manifest; what it said."""
 
 
+def say_left_out(name: str, why: str) -> None:
+    """Prints that a tree is left out."""
+    print(f"{name}: left out, {why}", flush=True)
+
+
 def lacking(tree: Tree) -> list[str]:
-    """The programs that a tree needs and that are not here."""
+    """Returns the programs that a tree needs and that are missing here."""
     return [name for name in tree.needs if shutil.which(name) is None]
 
 
 def command(tree: Tree, source: pathlib.Path, build: pathlib.Path) -> list[str]:
-    """The tool's words; `@source@` in an option is the folder of the sources."""
+    """Returns the tool's words; `@source@` in an option is the folder of the sources."""
     options = [option.replace("@source@", str(source)) for option in tree.options]
     if tree.tool == "cmake":
         generator = [] if "-G" in options else ["-G", "Ninja"]
@@ -95,5 +100,5 @@ def configured(tree: Tree, folder: pathlib.Path) -> pathlib.Path:
 
 
 def manifests(folder: pathlib.Path) -> list[str]:
-    """Manifests that stand by themselves: CMake writes one for each of several configurations."""
+    """Returns the manifests of a build folder: CMake writes one for each of several configurations."""
     return sorted(path.name for path in folder.glob("build*.ninja"))

@@ -7,8 +7,8 @@ import shutil
 import subprocess
 from collections.abc import Callable, Iterator, Sequence
 
-import programs
-from trees import Tree
+from lib import programs
+from real.trees import Tree
 
 SECONDS = 20
 WIDTH = 300
@@ -79,7 +79,7 @@ class Mirror:
         self.said = " ".join(done.stderr.decode(errors="replace").split())
 
     def fetched(self, package: str) -> pathlib.Path | None:
-        """The folder of a package's sources as upstream gave them out, or None."""
+        """Returns the folder of a package's sources as upstream published them, or None."""
         unpacked = self.folder / "unpacked" / package
         if not unpacked.exists():
             self.run("source", "--download-only", package)
@@ -91,7 +91,7 @@ class Mirror:
 
 
 def of_sources(text: str) -> str:
-    """A list of package sources that names the source packages alone."""
+    """Returns a list of package sources that names only source packages."""
     return re.sub(r"^deb(?=[ \t])", "deb-src", re.sub(r"^Types:.*$", "Types: deb-src", text, flags=re.MULTILINE), flags=re.MULTILINE)
 
 
@@ -101,11 +101,11 @@ def title(project: Sequence[str]) -> str:
 
 
 def fetched(
-    folder: pathlib.Path, words: Sequence[str], skip: Callable[[str, str], None],
+    folder: pathlib.Path, wanted: Callable[[str], bool], skip: Callable[[str, str], None],
     projects: Sequence[tuple[str, ...]] = PROJECTS,
 ) -> Iterator[Tree]:
-    """The trees of upstream projects, one after the other, as they are fetched; with words, those with one in their name."""
-    projects = [project for project in projects if not words or any(word in title(project) for word in words)]
+    """Yields the trees of upstream projects whose names are wanted, one after the other, as they are fetched."""
+    projects = [project for project in projects if wanted(title(project))]
     if not projects:
         return
     if shutil.which("apt-get") is None:

@@ -189,7 +189,7 @@ fn parts<'a>(alloc: Global, manifest: &Manifest, graph: &Graph<'a>) -> Result<Pa
 ///
 /// # Errors
 ///
-/// `Limit` only where the image would pass a limit of images (docs/IMAGE.md); `Memory` where memory runs out, which is
+/// `Limit` only where the image would pass a limit of images (docs/rules/image.md); `Memory` where memory runs out, which is
 /// asked for only where there are no more files than an image may have.
 pub fn compile<'a>(
     alloc: Global,

@@ -88,7 +88,7 @@ pub(crate) fn put_code(code: &mut Code, wiring: &Wiring) -> Result<(), CompileFa
 }
 
 /// The code of an edge: what it asks, when its command runs, and what it keeps, by the out-of-date rule of
-/// docs/COMPILER.md. Linear in its inputs and outputs.
+/// docs/rules/out-of-date.md. Linear in its inputs and outputs.
 ///
 /// # Errors
 ///

@@ -10,7 +10,7 @@ use std::alloc::{AllocError, AllocFailed};
 /// Why a manifest has no image.
 #[derive(Clone, Copy, Debug, PartialEq, Eq)]
 pub enum CompileFault {
-    /// The image would pass a limit of images; docs/IMAGE.md has them.
+    /// The image would pass a limit of images; docs/rules/image.md has them.
     Limit,
     /// Memory ran out. It says nothing of the manifest.
     Memory,

@@ -7,7 +7,7 @@
 //!   every edge, for the proofs of what stands above: it keeps to the out-of-date rule, and the verifier accepts it.
 //!
 //! The rule is Ninja's, as far as the manual says it; the order of an edge's questions is this project's own.
-//! docs/COMPILER.md has it rule by rule.
+//! docs/rules/out-of-date.md has it rule by rule.
 #![tactic(auto)]
 
 mod bodies;

@@ -73,7 +73,7 @@ pub enum Version {
     Two,
 }
 
-/// The tables of an image; items are named by their places, from 0. docs/IMAGE.md has their limits.
+/// The tables of an image; items are named by their places, from 0. docs/rules/image.md has their limits.
 #[derive(Debug, Drop)]
 pub struct Parts {
     pub texts: RowList<u8>,

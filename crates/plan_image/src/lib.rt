@@ -9,7 +9,7 @@
 //! - `ImageFault`: why bytes or tables are refused, with the offset; `WriteFault`: a write failed.
 //! - `image_law`, `split_law`: what holds of all images and bodies, for the proofs of the crates above.
 //!
-//! The format is this project's own choice; docs/IMAGE.md has it rule by rule.
+//! The format is this project's own choice; docs/rules/image.md has it rule by rule.
 #![tactic(auto)]
 
 mod body;

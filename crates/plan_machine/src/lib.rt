@@ -11,7 +11,7 @@
 //!   are orderly (`marks_are_orderly`), it never gets stuck (`never_stuck`), its events are bounded (`stays_in_budget`).
 //!   Where any number of failures is borne, the order of events doesn't matter (`interleavings_agree`).
 //!
-//! docs/MACHINE.md has the rules one by one.
+//! docs/rules/machine.md has the rules one by one.
 #![tactic(auto)]
 
 mod activity;

@@ -1,4 +1,4 @@
--- Entries by hand: the definitions compute what docs/RECORD.md says.
+-- Entries by hand: the definitions compute what docs/rules/record.md says.
 use Rattle.std.proofs.Common.{◌≡◌, ℕ, List, [], ◌∷◌, ◌++◌, take, drop, Some, None, Err, refl, arith}
 use Rattle.plan_record.specs.Appending.{AppendsSpelling}
 use Rattle.plan_record.specs.Entries.{EntryData, spelling, last_of}

@@ -9,7 +9,7 @@
 //! - `lines_join`, `prints_join`, `marks_may_come`, `ends_stay`: what holds of all lines, prints and rings, for the proofs
 //!   of the crates above.
 //!
-//! The lines are this project's own choice; docs/REPLAY.md has them one by one.
+//! The lines are this project's own choice; docs/rules/replay.md has them one by one.
 #![tactic(auto)]
 
 mod consoles;

@@ -6,7 +6,7 @@
 //! - The laws say what holds of each edge of a verified image, for the proofs of the crates above: run alone it never
 //!   goes wrong and stays in its budget, its tables are in range.
 //!
-//! docs/VERIFIER.md has the rules one by one.
+//! docs/rules/verifier.md has the rules one by one.
 #![tactic(auto)]
 
 mod arrivals;

@@ -1,4 +1,4 @@
--- The world by hand: the definitions compute what docs/WORLD.md says.
+-- The world by hand: the definitions compute what docs/rules/world.md says.
 use Rattle.std.proofs.Common.{◌≡◌, [], ◌∷◌, ◌++◌, Some, None, refl, pos, negsuc, true, false, length}
 use Rattle.std.specs.List.{list_all}
 use Rattle.std.proofs.Math.ListN.{replicate}

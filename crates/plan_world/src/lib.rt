@@ -4,7 +4,7 @@
 //! - `OpenFault`: why there is none.
 //! - `SharedFile`: a file with a lock, as the record's file is one.
 //!
-//! docs/WORLD.md has the rules one by one.
+//! docs/rules/world.md has the rules one by one.
 #![tactic(auto)]
 
 mod askable;

@@ -1,5 +1,5 @@
 import pathlib
 
-from row_files import listed
+from lib.row_files import listed
 
 pathlib.Path("build.ninja").write_text(f"rule r\n  command = true\nbuild out: r || {listed(32_747)}\n")

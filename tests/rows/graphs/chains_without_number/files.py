@@ -1,4 +1,4 @@
-from row_files import in_files
+from lib.row_files import in_files
 
 # each edge waits for both edges of the next row
 rows = range(10**4)

@@ -1,3 +1,3 @@
-from row_files import in_files, listed
+from lib.row_files import in_files, listed
 
 in_files([f"build {listed(10**5)}: phony\n", f"build made: r {listed(10**5)}\n"])

@@ -1,3 +1,3 @@
-from row_files import edges, in_files
+from lib.row_files import edges, in_files
 
 in_files([*edges(2**20), "build made: r\n", "default x\n"])

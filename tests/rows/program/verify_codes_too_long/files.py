@@ -1,3 +1,3 @@
-from row_files import image_of_one_body
+from lib.row_files import image_of_one_body
 
 image_of_one_body("plan.img", 1_025)

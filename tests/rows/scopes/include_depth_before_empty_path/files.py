@@ -1,3 +1,3 @@
-from row_files import chain
+from lib.row_files import chain
 
 chain("include", 63, "include $none\n")

@@ -1,0 +1,9 @@
+#ifndef GREETING_H
+#define GREETING_H
+
+#define NAME "world"
+
+/* Prints a greeting for name on standard output. */
+void greet(const char *name);
+
+#endif

@@ -1,0 +1,1 @@
+"""Helpers that suites, tools and benches share."""

@@ -1,0 +1,1 @@
+"""Build trees of CMake and Meson: what they consist of, and how they are changed and compared."""

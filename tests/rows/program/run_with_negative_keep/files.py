@@ -1,3 +1,0 @@
-from row_files import image
-
-image("plan.img", "")

@@ -1,3 +1,0 @@
-import pathlib
-
-pathlib.Path("plan.img").write_bytes(b"PLANIMG")

@@ -1,9 +1,0 @@
-from row_files import image
-
-image("plan.img", """\
-text x
-file a
-edge command
-  End
-default 0
-""")
