@@ -1,17 +1,18 @@
 -- What the rule is told of an edge of a manifest, and what is promised of the edge's code.
-use Rattle.std.specs.Prelude.{ℕ, zero, Bool, true, false, map, Option, Some, None, slice_get}
-use Rattle.plan_verify.specs.Turn.{Slots, Meaning}
-use Rattle.plan_verify.specs.Alone.{at_begin}
+use Rattle.std.specs.Prelude.{ℕ, zero, Bool, true, false, List, map, Option, Some, None, slice_get}
+use Rattle.plan_verify.specs.Turn.{Slots, Meaning, Request, Reply}
+use Rattle.plan_verify.specs.Alone.{Alone, at_begin, RunsAlone}
 use Rattle.plan_verify.specs.Sound.{AreTyped, AreLentSet}
 use Rattle.plan_verify.specs.WellShaped.{IsWellShaped}
 use Rattle.plan_compile.specs.declared.wiring.Output.{Output}
-use Rattle.plan_compile.specs.Talk.{Talk, Obeys}
+use Rattle.plan_compile.specs.Talk.{Talk, Obeys, Follows}
 use Rattle.plan_compile.specs.Rule.{Path, Given, SourceFile, Command, does, does_phony}
 use Rattle.plan_compile.specs.Rule.{Made as MadeBy}
-use Rattle.plan_compile.specs.Means.{text_in, stamp_at, flag_at, Leaves}
+use Rattle.plan_compile.specs.Means.{text_in, stamp_at, flag_at, Leaves, IsWired}
 use Rattle.plan_compile.specs.Builds.{Build, Builds}
 use Rattle.plan_compile.specs.Slots.{base, made, all_made, find}
-use Rattle.plan_compile.specs.Images.{image_of}
+use Rattle.plan_compile.specs.Names.{all_texts}
+use Rattle.plan_compile.specs.Images.{wire, image_of}
 use Rattle.plan_compile.specs.Faithful.{IsEdge, IsSound}
 
 -- the path of a file
@@ -48,6 +49,19 @@ ImageMeans =
     (t : Builds) → IsSound t → (e : ℕ) (x : Build) → IsEdge t e x
     → (meaning : Meaning) (slots : Slots) → AreTyped (image_of t) slots → AreLentSet (image_of t) e slots
     → Obeys meaning (image_of t) e (Leaves (made (base t.edges e) x)) (at_begin slots) (edge_does x.edge.phony meaning (facts t slots x))
+
+-- What an edge that ran by itself was told leads along the rule, and the edge keeps to what is left of it.
+abbrev pub ImageKeepsToRule : Type 0
+ImageKeepsToRule =
+    (t : Builds) → IsSound t → (e : ℕ) (x : Build) → IsEdge t e x
+    → (meaning : Meaning) (slots : Slots) → AreTyped (image_of t) slots → AreLentSet (image_of t) e slots
+    → (n : ℕ) (told : List (Request × Reply)) (y : Alone) → RunsAlone meaning (image_of t) e n (at_begin slots) told y
+    → (rest : Talk) × Follows (edge_does x.edge.phony meaning (facts t slots x)) told rest × Obeys meaning (image_of t) e (Leaves (made (base t.edges e) x)) y rest
+
+-- The numbers of each edge are right in the image: the slots of its outputs are its own, and those of a named input that
+-- an edge makes are lent to it.
+abbrev pub ImageIsWired : Type 0
+ImageIsWired = (t : Builds) → IsSound t → (e : ℕ) (x : Build) → IsEdge t e x → IsWired (image_of t) e (wire (all_texts t.edges) (all_made zero t.edges) (base t.edges e) x)
 
 -- the verifier accepts the image
 abbrev pub ImageIsShaped : Type 0

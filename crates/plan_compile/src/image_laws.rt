@@ -1,7 +1,7 @@
 //! Laws of the images of all manifests.
 ghost use Rattle.plan_compile.specs.Faithful.{ImageIsFaithful, ManifestsAreSound, OneAssignment};
 ghost use Rattle.plan_compile.specs.Refusals.{ImageIsSpelled};
-ghost use Rattle.plan_compile.specs.Told.{ImageIsShaped, ImageMeans};
+ghost use Rattle.plan_compile.specs.Told.{ImageIsShaped, ImageIsWired, ImageKeepsToRule, ImageMeans};
 
 use crate::laws::{command_means, command_shaped, phony_means, phony_shaped};
 use plan_graph::{defaults_ascend, files_complete, producers_waited, ranks_rise, waits_ascend};
@@ -38,6 +38,19 @@ pub fn image_means()
     command_means();
     phony_means();
 }
+
+/// What an edge that ran by itself was told leads along the out-of-date rule, as it is told by the manifest; and the edge
+/// keeps to what is left of it.
+pub fn image_keeps_to_rule()
+    ensures { ImageKeepsToRule }
+{
+    image_means();
+}
+
+/// The slots of an edge's outputs are its own, and those of a named input that an edge makes are lent to it.
+pub fn image_is_wired()
+    ensures { ImageIsWired }
+{}
 
 /// The image is well shaped: the verifier refuses it for no cause but want of memory.
 pub fn image_is_shaped()

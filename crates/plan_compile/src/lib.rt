@@ -39,8 +39,8 @@ pub use emitting::edge_code;
 pub use fault::CompileFault;
 pub use form::Form;
 pub use image_laws::{
-    image_is_faithful, image_is_shaped, image_is_spelled, image_means, manifests_are_sound,
-    one_assignment,
+    image_is_faithful, image_is_shaped, image_is_spelled, image_is_wired, image_keeps_to_rule,
+    image_means, manifests_are_sound, one_assignment,
 };
 pub use laws::{command_means, command_shaped, phony_means, phony_shaped, runs_keep_to_rule};
 pub use wiring::{CommandWiring, GatherWiring, Input, Output, Wiring};

@@ -24,7 +24,7 @@ use Rattle.plan_machine.proofs.VerifyLaws.{VerifyLaws, rank_of, wait_below}
 use Rattle.plan_machine.proofs.OnlySlotsLemmas.{only, only_on, only_same, only_only, same_slots}
 use Rattle.plan_machine.proofs.SoloLemmas.{sees, seen, lent, owned_seen, Solo, solo, solo_after, Closed, one_end}
 use Rattle.plan_machine.proofs.HistoryLemmas.{RanAlone, History, Recalls}
-use Rattle.plan_machine.proofs.RecallLemmas.{reached_recalls}
+use Rattle.plan_machine.proofs.RecallLemmas.{none_spent, reached_recalls}
 
 -- ---- outcomes alike
 
@@ -73,7 +73,7 @@ outcome_in (Broke cause) = Failed cause
 outcome_in (WentWrong flaw) = Stopped
 
 module _ (laws : VerifyLaws) (meaning : Meaning) (p : Parts) (shaped : IsWellShaped p) (wanted wanted2 : List Bool) (s t : State) (told told2 : ℕ → List Reply)
-    (r : Recalls meaning p wanted s told) (r2 : Recalls meaning p wanted2 t told2) (done : has_ended s ≡ true) (done2 : has_ended t ≡ true)
+    (r : Recalls ⊥ meaning p wanted s told) (r2 : Recalls ⊥ meaning p wanted2 t told2) (done : has_ended s ≡ true) (done2 : has_ended t ≡ true)
     (same_told : (e : ℕ) → told e ≡ told2 e) (same_wishes : (e : ℕ) (a b : Bool) → slice_get wanted e ≡ Some a → slice_get wanted2 e ≡ Some b → a ≡ b) where
   record Same (e : ℕ) : Type 0 where
     first : Outcome
@@ -144,7 +144,7 @@ module _ (laws : VerifyLaws) (meaning : Meaning) (p : Parts) (shaped : IsWellSha
 
   -- one that ran in the first
   went_first : (e : ℕ) (x : Outcome) (a : Stage) → SameWaits e → Closed a → outcome_in a ≡ x → RanAlone meaning p s s.slots (told e) e a
-      → (y : Outcome) → is_wanted (Over y) ≡ true → History meaning p t t.slots (told2 e) e (Over y) → Agree e x y
+      → (y : Outcome) → is_wanted (Over y) ≡ true → History ⊥ meaning p t t.slots (told2 e) e (Over y) → Agree e x y
   unfolding outcome_in
   went_first e x a waits shut is h y want k = by y want k
     where
@@ -154,7 +154,7 @@ module _ (laws : VerifyLaws) (meaning : Meaning) (p : Parts) (shaped : IsWellSha
           let same : x ≡ outcome_in b = sym is ∙ ap outcome_in q.0 in
           (subst (λ (z : Outcome). AreAlike x z) same (alike_same x), q.1)
 
-      by : (y : Outcome) → is_wanted (Over y) ≡ true → History meaning p t t.slots (told2 e) e (Over y) → Agree e x y
+      by : (y : Outcome) → is_wanted (Over y) ≡ true → History ⊥ meaning p t t.slots (told2 e) e (Over y) → Agree e x y
       by Clean want k = both (Ended false) tt k
       by Ran want k = both (Ended true) tt k
       by (Failed cause) want k = both (Broke cause) tt k
@@ -162,7 +162,7 @@ module _ (laws : VerifyLaws) (meaning : Meaning) (p : Parts) (shaped : IsWellSha
       by Stopped want k = absurd k
       by NotWanted want k = absurd cc
 
-  compare : (e : ℕ) → SameWaits e → (x y : Outcome) → is_wanted (Over x) ≡ is_wanted (Over y) → History meaning p s s.slots (told e) e (Over x) → History meaning p t t.slots (told2 e) e (Over y) → Agree e x y
+  compare : (e : ℕ) → SameWaits e → (x y : Outcome) → is_wanted (Over x) ≡ is_wanted (Over y) → History ⊥ meaning p s s.slots (told e) e (Over x) → History ⊥ meaning p t t.slots (told2 e) e (Over y) → Agree e x y
   unfolding outcome_in
   compare e waits Clean y want h k = went_first e Clean (Ended false) waits tt refl h y (sym want) k
   compare e waits Ran y want h k = went_first e Ran (Ended true) waits tt refl h y (sym want) k
@@ -217,7 +217,7 @@ module _ (laws : VerifyLaws) (meaning : Meaning) (p : Parts) (shaped : IsWellSha
 
 pub interleavings_agree : VerifyLaws → InterleavingsAgree
 interleavings_agree laws meaning p shaped limits other all_borne all_borne2 targets events marks s reached done events2 marks2 t reached2 done2 same =
-    let a = reached_recalls laws meaning p shaped limits all_borne targets events marks s reached in
-    let b = reached_recalls laws meaning p shaped other all_borne2 targets events2 marks2 t reached2 in
+    let a = reached_recalls laws meaning p shaped limits ⊥ (none_spent limits all_borne) targets events marks s reached in
+    let b = reached_recalls laws meaning p shaped other ⊥ (none_spent other all_borne2) targets events2 marks2 t reached2 in
     end_alike laws meaning p shaped reached.opens.wanted reached2.opens.wanted s t a.0 b.0 a.2 b.2 done done2
     (λ e. a.1 e ∙ same e ∙ sym (b.1 e)) (same_wish p targets reached.opens.wanted reached2.opens.wanted reached.opens.are reached2.opens.are)

@@ -27,20 +27,21 @@ pub record RanAlone (meaning : Meaning) (p : Parts) (s : State) (slots : Slots) 
 abbrev pub Bare : Parts → ℕ → Slots → Type 0
 Bare p e slots = only (owns p e) slots ≡ unset (length p.slots)
 
-abbrev pub History : Meaning → Parts → State → Slots → List Reply → ℕ → Status → Type 0
-History meaning p s slots told e Unbegun = Bare p e slots × (told ≡ [])
-History meaning p s slots told e (Active l) = RanAlone meaning p s slots told e (Runs l)
-History meaning p s slots told e (Over Clean) = RanAlone meaning p s slots told e (Ended false)
-History meaning p s slots told e (Over Ran) = RanAlone meaning p s slots told e (Ended true)
-History meaning p s slots told e (Over (Failed cause)) = RanAlone meaning p s slots told e (Broke cause)
-History meaning p s slots told e (Over (Skipped w)) = Bare p e slots × (is_member w (waits_of p e) ≡ true) × (stands is_ill s w ≡ true)
-History meaning p s slots told e (Over Stopped) = ⊥
-History meaning p s slots told e (Over NotWanted) = Bare p e slots
+-- `gone` is what is known where an edge was stopped
+abbrev pub History : (gone : Type 0) → Meaning → Parts → State → Slots → List Reply → ℕ → Status → Type 0
+History gone meaning p s slots told e Unbegun = Bare p e slots × (told ≡ [])
+History gone meaning p s slots told e (Active l) = RanAlone meaning p s slots told e (Runs l)
+History gone meaning p s slots told e (Over Clean) = RanAlone meaning p s slots told e (Ended false)
+History gone meaning p s slots told e (Over Ran) = RanAlone meaning p s slots told e (Ended true)
+History gone meaning p s slots told e (Over (Failed cause)) = RanAlone meaning p s slots told e (Broke cause)
+History gone meaning p s slots told e (Over (Skipped w)) = Bare p e slots × (is_member w (waits_of p e) ≡ true) × (stands is_ill s w ≡ true)
+History gone meaning p s slots told e (Over Stopped) = gone
+History gone meaning p s slots told e (Over NotWanted) = Bare p e slots
 
-pub record Recalls (meaning : Meaning) (p : Parts) (wanted : List Bool) (s : State) (told : ℕ → List Reply) : Type 0 where
+pub record Recalls (gone : Type 0) (meaning : Meaning) (p : Parts) (wanted : List Bool) (s : State) (told : ℕ → List Reply) : Type 0 where
   pub sound : Stands p s
   pub wants : (e : ℕ) (status : Status) → slice_get s.edges e ≡ Some status → slice_get wanted e ≡ Some (is_wanted status)
-  pub each : (e : ℕ) (status : Status) → slice_get s.edges e ≡ Some status → History meaning p s s.slots (told e) e status
+  pub each : (e : ℕ) (status : Status) → slice_get s.edges e ≡ Some status → History gone meaning p s s.slots (told e) e status
 
 -- nothing but an edge's own slots differs
 abbrev pub Apart : Parts → ℕ → Slots → Slots → Type 0
@@ -88,7 +89,7 @@ both_false true b h k = absurd cc
 
 -- ---- one edge stands otherwise
 
-module _ (meaning : Meaning) (p : Parts) (s : State) (e : ℕ) (old new : Status) (slots : Slots) (now : slice_get s.edges e ≡ Some old) (going : is_over old ≡ false) (apart : Apart p e s.slots slots) where
+module _ (gone : Type 0) (meaning : Meaning) (p : Parts) (s : State) (e : ℕ) (old new : Status) (slots : Slots) (now : slice_get s.edges e ≡ Some old) (going : is_over old ≡ false) (apart : Apart p e s.slots slots) where
   mid : State
   mid = record { edges = slice_set s.edges e new; slots = slots }
 
@@ -102,14 +103,14 @@ module _ (meaning : Meaning) (p : Parts) (s : State) (e : ℕ) (old new : Status
   went_on : (f : ℕ) (told : List Reply) (x : Slots) (stage : Stage) → RanAlone meaning p s x told f stage → RanAlone meaning p mid x told f stage
   went_on f told x stage h = record { turns = h.turns; is = h.is; waited = λ w wait. still is_well w (over_well old going) (h.waited w wait) }
 
-  kept_state : (f : ℕ) (told : List Reply) (x : Slots) (status : Status) → History meaning p s x told f status → History meaning p mid x told f status
+  kept_state : (f : ℕ) (told : List Reply) (x : Slots) (status : Status) → History gone meaning p s x told f status → History gone meaning p mid x told f status
   kept_state f told x Unbegun h = h
   kept_state f told x (Active l) h = went_on f told x (Runs l) h
   kept_state f told x (Over Clean) h = went_on f told x (Ended false) h
   kept_state f told x (Over Ran) h = went_on f told x (Ended true) h
   kept_state f told x (Over (Failed cause)) h = went_on f told x (Broke cause) h
   kept_state f told x (Over (Skipped w)) h = (h.0, h.1, still is_ill w (over_ill old going) h.2)
-  kept_state f told x (Over Stopped) h = absurd h
+  kept_state f told x (Over Stopped) h = h
   kept_state f told x (Over NotWanted) h = h
 
   -- an edge that is under way isn't among the waits of one that began
@@ -129,18 +130,18 @@ module _ (meaning : Meaning) (p : Parts) (s : State) (e : ℕ) (old new : Status
   bare_beside : (f : ℕ) → (e ≡ f → ⊥) → Bare p f s.slots → Bare p f slots
   bare_beside f ne h = apart (owns p f) (λ k own. not_own p e f k ne own) ∙ h
 
-  kept_slots : (f : ℕ) (told : List Reply) (status : Status) → (e ≡ f → ⊥) → History meaning p s s.slots told f status → History meaning p s slots told f status
+  kept_slots : (f : ℕ) (told : List Reply) (status : Status) → (e ≡ f → ⊥) → History gone meaning p s s.slots told f status → History gone meaning p s slots told f status
   kept_slots f told Unbegun ne h = (bare_beside f ne h.0, h.1)
   kept_slots f told (Active l) ne h = went_beside f told (Runs l) ne h
   kept_slots f told (Over Clean) ne h = went_beside f told (Ended false) ne h
   kept_slots f told (Over Ran) ne h = went_beside f told (Ended true) ne h
   kept_slots f told (Over (Failed cause)) ne h = went_beside f told (Broke cause) ne h
   kept_slots f told (Over (Skipped w)) ne h = (bare_beside f ne h.0, h.1, h.2)
-  kept_slots f told (Over Stopped) ne h = absurd h
+  kept_slots f told (Over Stopped) ne h = h
   kept_slots f told (Over NotWanted) ne h = bare_beside f ne h
 
-  pub changed : (wanted : List Bool) (told after_told : ℕ → List Reply) → Recalls meaning p wanted s told → is_wanted new ≡ true → ((f : ℕ) → (e ≡ f → ⊥) → after_told f ≡ told f)
-      → History meaning p s slots (after_told e) e new → Stands p (record { edges = slice_set s.edges e new; slots = slots }) → Recalls meaning p wanted (record { edges = slice_set s.edges e new; slots = slots }) after_told
+  pub changed : (wanted : List Bool) (told after_told : ℕ → List Reply) → Recalls gone meaning p wanted s told → is_wanted new ≡ true → ((f : ℕ) → (e ≡ f → ⊥) → after_told f ≡ told f)
+      → History gone meaning p s slots (after_told e) e new → Stands p (record { edges = slice_set s.edges e new; slots = slots }) → Recalls gone meaning p wanted (record { edges = slice_set s.edges e new; slots = slots }) after_told
   unfolding mid
   changed wanted told after_told r want same owed sound =
       record {
@@ -153,10 +154,10 @@ module _ (meaning : Meaning) (p : Parts) (s : State) (e : ℕ) (old new : Status
         ];
         each = λ f status is. elim (get_cases s.edges e f new status is) [
           | inl q ↦
-              let here : History meaning p mid slots (after_told e) e status = subst (λ (st : Status). History meaning p mid slots (after_told e) e st) q.1 (kept_state e (after_told e) slots new owed) in
-              subst (λ (g : ℕ). History meaning p mid slots (after_told g) g status) q.0 here
+              let here : History gone meaning p mid slots (after_told e) e status = subst (λ (st : Status). History gone meaning p mid slots (after_told e) e st) q.1 (kept_state e (after_told e) slots new owed) in
+              subst (λ (g : ℕ). History gone meaning p mid slots (after_told g) g status) q.0 here
           | inr q ↦
-              let there : History meaning p mid slots (told f) f status = kept_state f (told f) slots status (kept_slots f (told f) status q.0 (r.each f status q.1)) in
-              subst (λ (x : List Reply). History meaning p mid slots x f status) (sym (same f q.0)) there
+              let there : History gone meaning p mid slots (told f) f status = kept_state f (told f) slots status (kept_slots f (told f) status q.0 (r.each f status q.1)) in
+              subst (λ (x : List Reply). History gone meaning p mid slots x f status) (sym (same f q.0)) there
         ];
       }

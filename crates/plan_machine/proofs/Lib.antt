@@ -31,3 +31,5 @@ pub mod SamenessLemmas
 pub mod EndsLemmas
 pub mod RushLemmas
 pub mod SweepLemmas
+pub mod ByItselfLemmas
+pub mod StayLemmas

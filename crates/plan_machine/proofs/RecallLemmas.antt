@@ -1,4 +1,4 @@
--- Each event keeps what is recalled of a run that bears any number of failures.
+-- Each event keeps what is recalled of a run.
 use Rattle.std.proofs.Common.{◌≡◌, ℕ, zero, suc, Bool, true, false, not, eqb, List, [], ◌∷◌, ◌++◌, length, map, Option, Some, None, refl, sym, ap, ◌∙◌, subst, inl, inr}
 use Rattle.std.specs.Prelude.{◌⊎◌, ◌==◌, ◌&&◌, ◌||◌, if◌then◌else◌, nat_lt, nat_le, slice_get, slice_set, count_by, IfSome}
 use Rattle.std.specs.List.{list_all}
@@ -19,7 +19,7 @@ use Rattle.plan_machine.specs.declared.reply.Reply.{Reply}
 use Rattle.plan_machine.specs.declared.event.Event.{Event}
 use Rattle.plan_machine.specs.declared.event.Event.TheVariants.{Start, Skip, Stop, Step, Reply as Hear}
 use Rattle.plan_machine.specs.declared.mark.Mark.{Mark}
-use Rattle.plan_machine.specs.declared.mark.Outcome.TheVariants.{Failed, Skipped, NotWanted}
+use Rattle.plan_machine.specs.declared.mark.Outcome.TheVariants.{Failed, Skipped, Stopped, NotWanted}
 use Rattle.plan_machine.specs.State.{Status, Unbegun, Active, Over, State, is_well, is_ill, stands, has_failed}
 use Rattle.plan_machine.specs.Step.{Stepped, Next, Wrong, NotEnabled, stepped, answered, ended, settles, hears_by, starts, skips, stops, steps, hears, answer_of, step}
 use Rattle.plan_machine.specs.Places.{is_spent, is_free, at_take}
@@ -58,18 +58,15 @@ loud_of meaning p e l r t is = by l.asked is
     by true h = refl
     by false h = absurd cc
 
-module _ (laws : VerifyLaws) (meaning : Meaning) (p : Parts) (shaped : IsWellShaped p) (limits : Limits) (all_borne : limits.keep ≡ 0) (wanted : List Bool) where
-  module _ (s : State) (told after_told : ℕ → List Reply) (r : Recalls meaning p wanted s told) where
+module _ (laws : VerifyLaws) (meaning : Meaning) (p : Parts) (shaped : IsWellShaped p) (limits : Limits) (gone : Type 0) (spent : (s : State) → is_spent limits s ≡ true → gone) (wanted : List Bool) where
+  module _ (s : State) (told after_told : ℕ → List Reply) (r : Recalls gone meaning p wanted s told) where
     abbrev Fine : Stepped → Type 0
-    Fine (Next t mark) = Stands p t → Recalls meaning p wanted t after_told
+    Fine (Next t mark) = Stands p t → Recalls gone meaning p wanted t after_told
     Fine (Wrong flaw) = Unit {0}
     Fine NotEnabled = Unit {0}
 
     alike : (e : ℕ) → Apart p e s.slots s.slots
     alike e f off = refl
-
-    unspent : is_spent limits s ≡ false
-    unspent = ap (λ (k : ℕ). nat_lt 0 k && nat_le k (count_by has_failed s.edges)) all_borne
 
     module _ (same : (f : ℕ) → after_told f ≡ told f) where
       starts_fine : (e : ℕ) (o : Option Status) → slice_get s.edges e ≡ o → Fine (starts p s e o)
@@ -78,7 +75,7 @@ module _ (laws : VerifyLaws) (meaning : Meaning) (p : Parts) (shaped : IsWellSha
           let none : after_told e ≡ [] = same e ∙ h.1 in
           let both : seen p e s.slots ≡ lent p e s.slots = only_or (owns p e) (is_lent p e) s.slots (length p.slots) h.0 in
           when_either Fine (list_all (stands is_well s) (waits_of p e)) _ _
-          (λ all sound. changed meaning p s e Unbegun (Active begun) s.slots now refl (alike e) wanted told after_told r refl (λ f ne. same f)
+          (λ all sound. changed gone meaning p s e Unbegun (Active begun) s.slots now refl (alike e) wanted told after_told r refl (λ f ne. same f)
           (record {
             turns = 0;
             is = λ rest. ap (λ (x : List Reply). solo (Runs begun) (lent p e s.slots) (x ++ rest)) none ∙ ap (λ (x : Slots). solo (Runs begun) x rest) (sym both);
@@ -94,17 +91,19 @@ module _ (laws : VerifyLaws) (meaning : Meaning) (p : Parts) (shaped : IsWellSha
           when_either Fine (is_member w (waits_of p e) && stands is_ill s w) _ _
           (λ on sound.
           let b = and_both (is_member w (waits_of p e)) (stands is_ill s w) on in
-          changed meaning p s e Unbegun (Over (Skipped w)) s.slots now refl (alike e) wanted told after_told r refl (λ f ne. same f) ((r.each e Unbegun now).0, b.0, b.1) sound)
+          changed gone meaning p s e Unbegun (Over (Skipped w)) s.slots now refl (alike e) wanted told after_told r refl (λ f ne. same f) ((r.each e Unbegun now).0, b.0, b.1) sound)
           (λ off. tt)
       skips_fine e w None now = tt
       skips_fine e w (Some (Active l)) now = tt
       skips_fine e w (Some (Over outcome)) now = tt
 
       stops_fine : (e : ℕ) (o : Option Status) → slice_get s.edges e ≡ o → Fine (stops p limits s e o)
-      stops_fine e (Some Unbegun) now = when_either Fine (is_spent limits s) _ _ (λ spent. absurd (let clash : true ≡ false = sym spent ∙ unspent in cc)) (λ off. tt)
+      stops_fine e (Some Unbegun) now =
+          when_either Fine (is_spent limits s) _ _
+          (λ on sound. changed gone meaning p s e Unbegun (Over Stopped) s.slots now refl (alike e) wanted told after_told r refl (λ f ne. same f) (spent s on) sound) (λ off. tt)
       stops_fine e (Some (Active l)) now =
           when_either Fine (is_spent limits s && at_take p e l) _ _
-          (λ on. absurd (let clash : true ≡ false = sym (and_both (is_spent limits s) (at_take p e l) on).0 ∙ unspent in cc)) (λ off. tt)
+          (λ on sound. changed gone meaning p s e (Active l) (Over Stopped) s.slots now refl (alike e) wanted told after_told r refl (λ f ne. same f) (spent s (and_both (is_spent limits s) (at_take p e l) on).0) sound) (λ off. tt)
       stops_fine e None now = tt
       stops_fine e (Some (Over outcome)) now = tt
 
@@ -112,7 +111,7 @@ module _ (laws : VerifyLaws) (meaning : Meaning) (p : Parts) (shaped : IsWellSha
       waits_well : (w : ℕ) → is_member w (waits_of p e) ≡ true → stands is_well s w ≡ true
       waits_well = (r.sound.active e l now).waited
 
-      over_history : (ran : Bool) → RanAlone meaning p s s.slots (after_told e) e (Ended ran) → History meaning p s s.slots (after_told e) e (Over (ended ran))
+      over_history : (ran : Bool) → RanAlone meaning p s s.slots (after_told e) e (Ended ran) → History gone meaning p s s.slots (after_told e) e (Over (ended ran))
       over_history true h = h
       over_history false h = h
 
@@ -122,24 +121,24 @@ module _ (laws : VerifyLaws) (meaning : Meaning) (p : Parts) (shaped : IsWellSha
 
       settles_fine : (say : Did → Mark) (shapes : List Shape) (t : Turn) → IsSafe p e shapes s.slots l t → Comes meaning p e s.slots (after_told e) (after l (seen p e s.slots) t) → Fine (settles s e l say t)
       settles_fine say shapes (Goes did m) safe c = λ sound.
-          changed meaning p s e (Active l) (Active m) s.slots now refl (alike e) wanted told after_told r refl others (record { turns = c.0; is = c.1; waited = waits_well }) sound
+          changed gone meaning p s e (Active l) (Active m) s.slots now refl (alike e) wanted told after_told r refl others (record { turns = c.0; is = c.1; waited = waits_well }) sound
       settles_fine say shapes (Sets k v m) safe c = λ sound.
           let same_lent : lent p e (slice_set s.slots k (Some v)) ≡ lent p e s.slots =
-          only_set_off (is_lent p e) s.slots k (Some v) (unlent meaning p s e (Active l) (Active l) s.slots now refl (alike e) e waits_well k safe.0) in
+          only_set_off (is_lent p e) s.slots k (Some v) (unlent gone meaning p s e (Active l) (Active l) s.slots now refl (alike e) e waits_well k safe.0) in
           let same_seen : seen p e (slice_set s.slots k (Some v)) ≡ slice_set (seen p e s.slots) k (Some v) = only_set_on (sees p e) s.slots k (Some v) (owned_seen p e k safe.0) in
-          changed meaning p s e (Active l) (Active m) (slice_set s.slots k (Some v)) now refl (λ f off. only_set_off f s.slots k (Some v) (off k safe.0)) wanted told after_told r refl others
+          changed gone meaning p s e (Active l) (Active m) (slice_set s.slots k (Some v)) now refl (λ f off. only_set_off f s.slots k (Some v) (off k safe.0)) wanted told after_told r refl others
           (record {
             turns = c.0;
             is = λ rest. ap (λ (x : Slots). solo_after meaning p e c.0 (solo (Runs begun) x (after_told e ++ rest))) same_lent ∙ c.1 rest ∙ ap (λ (x : Slots). solo (Runs m) x rest) (sym same_seen);
             waited = waits_well;
           }) sound
       settles_fine say shapes (Asks q) safe c = λ sound.
-          changed meaning p s e (Active l) (Active (asking l)) s.slots now refl (alike e) wanted told after_told r refl others (record { turns = c.0; is = c.1; waited = waits_well }) sound
+          changed gone meaning p s e (Active l) (Active (asking l)) s.slots now refl (alike e) wanted told after_told r refl others (record { turns = c.0; is = c.1; waited = waits_well }) sound
       settles_fine say shapes Ends safe c = λ sound.
-          changed meaning p s e (Active l) (Over (ended l.ran)) s.slots now refl (alike e) wanted told after_told r (over_wants l.ran) others
+          changed gone meaning p s e (Active l) (Over (ended l.ran)) s.slots now refl (alike e) wanted told after_told r (over_wants l.ran) others
           (over_history l.ran (record { turns = c.0; is = c.1; waited = waits_well })) sound
       settles_fine say shapes (Fails cause) safe c = λ sound.
-          changed meaning p s e (Active l) (Over (Failed cause)) s.slots now refl (alike e) wanted told after_told r refl others (record { turns = c.0; is = c.1; waited = waits_well }) sound
+          changed gone meaning p s e (Active l) (Over (Failed cause)) s.slots now refl (alike e) wanted told after_told r refl others (record { turns = c.0; is = c.1; waited = waits_well }) sound
       settles_fine say shapes (Errs flaw) safe c = tt
 
     steps_fine : ((f : ℕ) → after_told f ≡ told f) → (e : ℕ) (o : Option Status) → slice_get s.edges e ≡ o → Fine (steps p limits s e o)
@@ -193,7 +192,7 @@ module _ (laws : VerifyLaws) (meaning : Meaning) (p : Parts) (shaped : IsWellSha
     hears_fine e reply (Some Unbegun) grown now = tt
     hears_fine e reply (Some (Over outcome)) grown now = tt
 
-  next_recalls : (s mid : State) (told : ℕ → List Reply) (event : Event) (say : Mark) → Recalls meaning p wanted s told → step meaning p limits s event ≡ Next mid say → Recalls meaning p wanted mid (more told event)
+  next_recalls : (s mid : State) (told : ℕ → List Reply) (event : Event) (say : Mark) → Recalls gone meaning p wanted s told → step meaning p limits s event ≡ Next mid say → Recalls gone meaning p wanted mid (more told event)
   unfolding step
   next_recalls s mid told event say r is =
       let fine : Fine s told (more told event) r (Next mid say) = subst (λ (x : Stepped). Fine s told (more told event) r x) is (by event) in
@@ -206,8 +205,8 @@ module _ (laws : VerifyLaws) (meaning : Meaning) (p : Parts) (shaped : IsWellSha
       by (Step e) = steps_fine s told (more told (Step e)) r (λ f. refl) e (slice_get s.edges e) refl
       by (Hear e reply) = hears_fine s told (more told (Hear e reply)) r e reply (slice_get s.edges e) (λ f. refl) refl
 
-  runs_recall : (s : State) (told : ℕ → List Reply) (events : List Event) (marks : List Mark) (end : State) → Recalls meaning p wanted s told → Passes meaning p limits s events marks end → Recalls meaning p wanted end (all_more told events)
-  runs_recall s told [] [] end r run = subst (λ (x : State). Recalls meaning p wanted x told) run r
+  runs_recall : (s : State) (told : ℕ → List Reply) (events : List Event) (marks : List Mark) (end : State) → Recalls gone meaning p wanted s told → Passes meaning p limits s events marks end → Recalls gone meaning p wanted end (all_more told events)
+  runs_recall s told [] [] end r run = subst (λ (x : State). Recalls gone meaning p wanted x told) run r
   runs_recall s told (event ∷ events) (say ∷ marks) end r run = runs_recall run.0 (more told event) events marks end (next_recalls s run.0 told event say r run.1) run.2
   runs_recall s told [] (say ∷ marks) end r run = absurd run
   runs_recall s told (event ∷ events) [] end r run = absurd run
@@ -238,14 +237,14 @@ first_stands (true ∷ wanted) zero status h = let is : Unbegun ≡ status = som
 first_stands (false ∷ wanted) zero status h = let is : Over NotWanted ≡ status = some_is (Over NotWanted) status h in (ap (λ (st : Status). Some (is_wanted st)) is, inr (sym is))
 first_stands (b ∷ wanted) (suc e) status h = first_stands wanted e status h
 
-opens_recall : (meaning : Meaning) (p : Parts) (targets : List ℕ) (s : State) → (opens : Opens p targets s) → Recalls meaning p opens.wanted s (λ e. [])
-opens_recall meaning p targets s opens =
+opens_recall : (gone : Type 0) (meaning : Meaning) (p : Parts) (targets : List ℕ) (s : State) → (opens : Opens p targets s) → Recalls gone meaning p opens.wanted s (λ e. [])
+opens_recall gone meaning p targets s opens =
     record {
       sound = opens_stand p targets s opens;
       wants = λ e status is. (first_stands opens.wanted e status (read e ∙ is)).0;
       each = λ e status is. elim (first_stands opens.wanted e status (read e ∙ is)).1 [
-        | inl q ↦ subst (λ (st : Status). History meaning p s s.slots [] e st) (sym q) (bare e, refl)
-        | inr q ↦ subst (λ (st : Status). History meaning p s s.slots [] e st) (sym q) (bare e)
+        | inl q ↦ subst (λ (st : Status). History gone meaning p s s.slots [] e st) (sym q) (bare e, refl)
+        | inr q ↦ subst (λ (st : Status). History gone meaning p s s.slots [] e st) (sym q) (bare e)
       ];
     }
   where
@@ -256,10 +255,16 @@ opens_recall meaning p targets s opens =
     bare e = ap (only (owns p e)) opens.slots ∙ only_unset (owns p e) (length p.slots)
 
 -- what is recalled of a reached state, by the replies of all events
-pub reached_recalls : VerifyLaws → (meaning : Meaning) (p : Parts) → IsWellShaped p → (limits : Limits) → limits.keep ≡ 0 → (targets : List ℕ) (events : List Event) (marks : List Mark) (s : State)
-    → (reached : Reached meaning p limits targets events marks s) → (told : ℕ → List Reply) × ((e : ℕ) → told e ≡ replies_to e events) × Recalls meaning p reached.opens.wanted s told
-reached_recalls laws meaning p shaped limits all_borne targets events marks s reached = (
+pub reached_recalls : VerifyLaws → (meaning : Meaning) (p : Parts) → IsWellShaped p → (limits : Limits) (gone : Type 0) → ((s : State) → is_spent limits s ≡ true → gone) → (targets : List ℕ) (events : List Event) (marks : List Mark) (s : State)
+    → (reached : Reached meaning p limits targets events marks s) → (told : ℕ → List Reply) × ((e : ℕ) → told e ≡ replies_to e events) × Recalls gone meaning p reached.opens.wanted s told
+reached_recalls laws meaning p shaped limits gone spent targets events marks s reached = (
   all_more (λ e. []) events,
   (λ e. all_told (λ e. []) events e),
-  runs_recall laws meaning p shaped limits all_borne reached.opens.wanted reached.start (λ e. []) events marks s (opens_recall meaning p targets reached.start reached.opens) reached.run,
+  runs_recall laws meaning p shaped limits gone spent reached.opens.wanted reached.start (λ e. []) events marks s (opens_recall gone meaning p targets reached.start reached.opens) reached.run,
 )
+
+-- where any number of failures is borne no edge is stopped
+pub none_spent : (limits : Limits) → limits.keep ≡ 0 → (s : State) → is_spent limits s ≡ true → ⊥
+none_spent limits all_borne s spent =
+    let unspent : is_spent limits s ≡ false = ap (λ (k : ℕ). nat_lt 0 k && nat_le k (count_by has_failed s.edges)) all_borne in
+    absurd (let clash : true ≡ false = sym spent ∙ unspent in cc)

@@ -34,3 +34,4 @@ pub mod Sameness
 pub mod Ends
 pub mod Rushes
 pub mod Sweeping
+pub mod Histories

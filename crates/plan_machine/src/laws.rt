@@ -2,6 +2,7 @@
 
 ghost use Rattle.plan_machine.specs.Agreement.{InterleavingsAgree};
 ghost use Rattle.plan_machine.specs.Depfile.{depfile};
+ghost use Rattle.plan_machine.specs.Histories.{EachRanByItself, SlotsStay};
 ghost use Rattle.plan_machine.specs.InBudget.{StaysInBudget};
 ghost use Rattle.plan_machine.specs.NeverStuck.{NeverStuck};
 ghost use Rattle.plan_machine.specs.NeverWrong.{NeverWrong};
@@ -10,7 +11,7 @@ ghost use Rattle.plan_verify.specs.Budget.{IsFrugal};
 
 use plan_depfile::paths_are_few;
 use plan_verify::{
-    all_turns_pay, instructions_fit, replies_are_safe, stays_typed, steps_are_safe,
+    all_turns_pay, goes_on_alone, instructions_fit, replies_are_safe, stays_typed, steps_are_safe,
     tables_are_in_range,
 };
 
@@ -67,6 +68,31 @@ pub fn stays_in_budget()
 /// same replies, have the same outcomes and the same slots; a skipped edge may name any edge, and the jobs may differ.
 pub fn interleavings_agree()
     ensures { InterleavingsAgree }
+{
+    all_turns_pay();
+    instructions_fit();
+    steps_are_safe();
+    replies_are_safe();
+    stays_typed();
+    tables_are_in_range();
+}
+
+/// Each edge of a run ran by itself: from the slots that its waits left it, by the replies that it got, in their order.
+pub fn each_ran_by_itself()
+    ensures { EachRanByItself }
+{
+    all_turns_pay();
+    goes_on_alone();
+    instructions_fit();
+    steps_are_safe();
+    replies_are_safe();
+    stays_typed();
+    tables_are_in_range();
+}
+
+/// What an edge that ended well left in its slots stays there.
+pub fn slots_stay()
+    ensures { SlotsStay }
 {
     all_turns_pay();
     instructions_fit();

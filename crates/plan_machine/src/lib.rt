@@ -47,8 +47,8 @@ mod wanted;
 pub use ends::same_end;
 pub use event::Event;
 pub use laws::{
-    depfiles_are_frugal, interleavings_agree, marks_are_orderly, never_stuck, never_wrong,
-    stays_in_budget,
+    depfiles_are_frugal, each_ran_by_itself, interleavings_agree, marks_are_orderly, never_stuck,
+    never_wrong, slots_stay, stays_in_budget,
 };
 pub use mark::{Mark, Outcome};
 pub use options::Options;
