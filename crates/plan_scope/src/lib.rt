@@ -19,4 +19,4 @@ pub use manifest::{DefaultTarget, Manifest, Pool};
 pub use tree::loader::load;
 pub use tree::source::{Source, SourceFault};
 pub use tree::statements::Statements;
-pub use tree::{Tree, TreeStatement};
+pub use tree::{Said, Tree, TreeStatement};
