@@ -1,0 +1,9 @@
+mod Rows
+mod EndLemmas
+mod OnceLemmas
+mod SlotLemmas
+mod BegunLemmas
+mod AllowedLemmas
+mod RightLemmas
+mod OwnRunLemmas
+mod ReasonLemmas

@@ -1,0 +1,4 @@
+pub mod Ends
+pub mod Right
+pub mod Manifests
+pub mod Reasons
