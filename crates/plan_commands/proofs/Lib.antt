@@ -3,5 +3,7 @@ pub mod VerdictsLemmas
 mod TargetLemmas
 mod RunningLemmas
 mod BufferLemmas
+mod BuildingLemmas
+mod BuildRightLemmas
 mod ComparingLemmas
 mod CompilingLemmas

@@ -1,11 +1,17 @@
--- Worked examples of how faults of graphs are printed.
-use Rattle.std.proofs.Common.{◌≡◌, ℕ, List, [], ◌∷◌, refl}
+-- Worked examples: how faults of graphs are printed, the edge that makes a manifest, and how builds end.
+use Rattle.std.proofs.Common.{◌≡◌, ℕ, List, [], ◌∷◌, None, Some, refl}
 use Rattle.std.specs.Prelude.{codes, false, map}
 use Rattle.plan_scope.specs.Edge.{Edge}
 use Rattle.plan_scope.specs.declared.manifest.Manifest.{Manifest}
 use Rattle.plan_graph.specs.declared.fault.GraphFault.{GraphFault}
 use Rattle.plan_graph.specs.declared.fault.GraphFault.TheVariants.{TwoProducers, Cycle, UnknownDefault, TooManyEdges, Memory}
+use Rattle.plan_image.specs.declared.image.Edge.{Edge as ImageEdge}
+use Rattle.plan_image.specs.declared.image.EdgeCode.TheVariants.{Own}
+use Rattle.plan_image.specs.declared.image.Parts.{Parts}
+use Rattle.plan_image.specs.declared.image.Sort.TheVariants as sort
+use Rattle.plan_commands.specs.declared.building.Done.TheVariants as done
 use Rattle.plan_commands.specs.declared.fault.PlanFault.{PlanFault}
+use Rattle.plan_commands.specs.Building.{exit_status, maker_of, most_rounds}
 use Rattle.plan_commands.specs.Faults.{graph_memory, name_of, printed_graph_fault}
 
 abbrev edge : List (List ℕ) → List (List ℕ) → Edge
@@ -61,3 +67,39 @@ memory = refl
 
 names : map name_of (50 ∷ 51 ∷ 52 ∷ 53 ∷ 54 ∷ []) ≡ codes "TwoProducers" ∷ codes "Cycle" ∷ codes "UnknownDefault" ∷ codes "TooManyEdges" ∷ codes "Memory" ∷ []
 names = refl
+
+-- ---- builds
+
+abbrev image_edge : List ℕ → ImageEdge
+image_edge outputs = record { sort = sort.Command; pool = None; rank = 0; label = 0; outputs = outputs; waits = []; code = Own [] }
+
+-- `build out: cc in` and `build build.ninja: configure in`
+abbrev two : Parts
+two = record {
+  texts = codes "x" ∷ [];
+  files = codes "out" ∷ codes "build.ninja" ∷ codes "in" ∷ [];
+  pools = [];
+  slots = [];
+  bodies = None;
+  edges = image_edge (0 ∷ []) ∷ image_edge (1 ∷ []) ∷ [];
+  defaults = 0 ∷ [];
+}
+
+maker_is_found : maker_of two (codes "build.ninja") ≡ Some 1
+maker_is_found = refl
+
+maker_is_found_by_another_spelling : maker_of two (codes "./a/../build.ninja") ≡ Some 1
+maker_is_found_by_another_spelling = refl
+
+source_has_no_maker : maker_of two (codes "in") ≡ None
+source_has_no_maker = refl
+
+empty_path_has_no_maker : maker_of two [] ≡ None
+empty_path_has_no_maker = refl
+
+statuses : map exit_status (done.Built ∷ done.UpToDate ∷ done.Failed ∷ done.ManifestFails ∷ done.NeverSettles ∷ []) ≡ 0 ∷ 0 ∷ 1 ∷ 1 ∷ 1 ∷ []
+statuses = refl
+
+-- so many rounds as ninja's
+hundred_rounds : most_rounds ≡ 100
+hundred_rounds = refl

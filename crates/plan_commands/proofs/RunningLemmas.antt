@@ -28,7 +28,7 @@ whole_run : (gives : FileContents) (rule : Rule) (w : Wanted) (o : Opened) (r : 
     → IsOpened gives w o → IsRunOf rule o r → has_ended r.state.going.now ≡ true → Tells o.parts r old.0 new.0 told → WritesTrace w.trace o.limits o.targets r old.1 new.1 written
     → IfOk (both told written) (λ status. Runs gives rule w old new status)
 whole_run gives rule w o r old new (Ok status) (Ok done) is run ended told written =
-    record { opened = o; is = is; report = r; run = run; ended = ended; printed = told.0; traced = written; answers = told.1 }
+    record { opened = o; is = is; report = r; ends = record { run = run; ended = ended; printed = told.0 }; traced = written; answers = told.1 }
 whole_run gives rule w o r old new (Ok status) (Err fault) is run ended told written = tt
 whole_run gives rule w o r old new (Err fault) (Ok done) is run ended told written = tt
 whole_run gives rule w o r old new (Err fault) (Err other) is run ended told written = tt
@@ -51,18 +51,18 @@ untold : (same : Type 0) (gives : FileContents) (missing : PathSet) (rule : Rule
     → IfErr (both told written) (λ fault. IsRefusedRun same gives missing rule w old new fault)
 untold same gives missing rule w o r old new (Ok status) (Ok done) is run ended told written = tt
 untold same gives missing rule w o r old new (Ok status) (Err fault) is run ended told written =
-    inr (inr (inr (record { opened = o; is = is; report = r; run = run; ended = ended; printed = told.0; traced = written.0; says = written.1 })))
+    inr (inr (inr (record { opened = o; is = is; report = r; ends = record { run = run; ended = ended; printed = told.0 }; traced = written.0; says = written.1 })))
 untold same gives missing rule w o r old new (Err fault) (Ok done) is run ended told written =
-    inr (inr (inl (record { opened = o; is = is; report = r; run = run; ended = ended; stop = told.0; printed = told.1; whole = true; traced = written; says = told.2 })))
+    inr (inr (inl (record { opened = o; is = is; report = r; fails = record { run = run; ended = ended; stop = told.0; printed = told.1; says = told.2 }; whole = true; traced = written })))
 untold same gives missing rule w o r old new (Err fault) (Err other) is run ended told written =
-    inr (inr (inl (record { opened = o; is = is; report = r; run = run; ended = ended; stop = told.0; printed = told.1; whole = false; traced = written.0; says = told.2 })))
+    inr (inr (inl (record { opened = o; is = is; report = r; fails = record { run = run; ended = ended; stop = told.0; printed = told.1; says = told.2 }; whole = false; traced = written.0 })))
 
 -- lanes that stopped with a report
 stopped_with : (same : Type 0) (gives : FileContents) (missing : PathSet) (rule : Rule) (w : Wanted) (o : Opened) (r : Report) (f : LaneFault) (old new : Written)
     → IsOpened gives w o → IsRunOf rule o r → report_of f ≡ Some r → TellsSome w.trace o.parts o.limits o.targets r old new
     → IsRefusedRun same gives missing rule w old new (printed_lane_fault f)
 stopped_with same gives missing rule w o r f old new is run reports some =
-    inr (inl (record { opened = o; is = is; report = r; run = run; stop = some.0; printed = some.2; whole = some.1; traced = some.3; stopped = f; reports = reports; says = refl }))
+    inr (inl (record { opened = o; is = is; report = r; stops = record { run = run; stop = some.0; printed = some.2; stopped = f; reports = reports; says = refl }; whole = some.1; traced = some.3 }))
 
 stopped_run : (same : Type 0) (gives : FileContents) (missing : PathSet) (rule : Rule) (w : Wanted) (o : Opened) (f : LaneFault) (old new : Written)
     → IsOpened gives w o → FaultReports rule o f → IfNone (report_of f) same → IfSome (report_of f) (λ r. TellsSome w.trace o.parts o.limits o.targets r old new)

@@ -4,9 +4,11 @@ use Rattle.plan_text.specs.Sinks.{Writes}
 use Rattle.plan_scope.specs.Trees.{TreeStatement}
 use Rattle.plan_scope.specs.Scopes.{Text}
 use Rattle.plan_scope.specs.Edges.{manifest_of}
+use Rattle.plan_scope.specs.Sound.{IsSound}
 use Rattle.plan_scope.specs.declared.manifest.Manifest.{Manifest}
 use Rattle.plan_graph.specs.Graph.{IsGraph}
 use Rattle.plan_graph.specs.declared.graph_data.Graph.{Graph}
+use Rattle.plan_image.specs.declared.image.Parts.{Parts}
 use Rattle.plan_image.specs.Spelling.{HasSpelling, spelling}
 use Rattle.plan_image.specs.declared.fault.ImageFault.TheVariants as image
 use Rattle.plan_verify.specs.WellShaped.{IsWellShaped}
@@ -17,6 +19,14 @@ use Rattle.plan_commands.specs.declared.fault.PlanFault.{PlanFault}
 use Rattle.plan_commands.specs.Faults.{printed_compile_fault, printed_image_fault, file_fault}
 use Rattle.plan_commands.specs.Commands.{MayLoad, IsRefused}
 use Rattle.plan_commands.specs.Images.{SinkState}
+
+-- the tables are the image of a sound manifest with a graph of it, and the image is well shaped
+pub record IsImageOf (manifest : Manifest) (p : Parts) : Type 0 where
+  pub sound : IsSound manifest
+  pub graph : Graph
+  pub is_graph : IsGraph manifest graph
+  pub same : p ≡ compiled manifest graph
+  pub shaped : IsWellShaped p
 
 -- the bytes are those of the image of the manifest with a graph of it, and the verifier accepts that image
 pub record SpellsImage (manifest : Manifest) (bytes : List ℕ) : Type 0 where

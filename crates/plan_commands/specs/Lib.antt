@@ -1,4 +1,6 @@
+pub mod BuildIsRight
 pub mod Buffers
+pub mod Building
 pub mod Commands
 pub mod Comparing
 pub mod Compiling

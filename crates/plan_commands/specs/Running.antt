@@ -69,15 +69,19 @@ report_in (Err fault) = report_of fault
 abbrev pub Written : Type 0
 Written = SinkState × SinkState
 
--- A run of such an image that has ended, in which each reply is one that the rule of the world allows; its status lines
--- were printed, and its trace was written.
+-- A run that was opened so has ended, and each reply in it is one that the rule of the world allows. Its status lines
+-- were printed.
+pub record EndsPrinted (rule : Rule) (o : Opened) (r : Report) (old new : SinkState) : Type 0 where
+  pub run : IsRunOf rule o r
+  pub ended : has_ended r.state.going.now ≡ true
+  pub printed : Prints (lines_in o.parts r) None old new
+
+-- A run of such an image has ended, its status lines were printed, and its trace was written.
 pub record Runs (gives : FileContents) (rule : Rule) (w : Wanted) (old new : Written) (status : ℕ) : Type 0 where
   pub opened : Opened
   pub is : IsOpened gives w opened
   pub report : Report
-  pub run : IsRunOf rule opened report
-  pub ended : has_ended report.state.going.now ≡ true
-  pub printed : Prints (lines_in opened.parts report) None old.0 new.0
+  pub ends : EndsPrinted rule opened report old.0 new.0
   pub traced : Traces w.trace opened.limits opened.targets report true old.1 new.1
   pub answers : status ≡ status_of (all_done opened.parts report.state.going.now)
 
@@ -107,42 +111,47 @@ IsNotBegun gives missing w fault =
 abbrev pub printed_lane_fault : LaneFault → PlanFault
 printed_lane_fault fault = record { number = number_of fault; rest = [] }
 
--- A run began, and lanes stopped: the lines of what was done were printed, as far as that went. The trace of what was
--- done was written whole, or a write of its file failed.
+-- A run began, and lanes stopped: the lines of what was done were printed, or a prefix of them.
+pub record LanesStop (rule : Rule) (o : Opened) (r : Report) (old new : SinkState) (fault : PlanFault) : Type 0 where
+  pub run : IsRunOf rule o r
+  pub stop : Option PrintFault
+  pub printed : Prints (lines_in o.parts r) stop old new
+  pub stopped : LaneFault
+  pub reports : report_of stopped ≡ Some r
+  pub says : fault ≡ printed_lane_fault stopped
+
+-- A run has ended, and its lines weren't printed to the end.
+pub record FailsToPrint (rule : Rule) (o : Opened) (r : Report) (old new : SinkState) (fault : PlanFault) : Type 0 where
+  pub run : IsRunOf rule o r
+  pub ended : has_ended r.state.going.now ≡ true
+  pub stop : PrintFault
+  pub printed : Prints (lines_in o.parts r) (Some stop) old new
+  pub says : (fault ≡ printed_print_fault stop) ⊎ (fault ≡ no_memory)
+
+-- A run stopped. The trace of what was done was written whole, or a write of its file failed.
 pub record StopsEarly (gives : FileContents) (rule : Rule) (w : Wanted) (old new : Written) (fault : PlanFault) : Type 0 where
   pub opened : Opened
   pub is : IsOpened gives w opened
   pub report : Report
-  pub run : IsRunOf rule opened report
-  pub stop : Option PrintFault
-  pub printed : Prints (lines_in opened.parts report) stop old.0 new.0
+  pub stops : LanesStop rule opened report old.0 new.0 fault
   pub whole : Bool
   pub traced : Traces w.trace opened.limits opened.targets report whole old.1 new.1
-  pub stopped : LaneFault
-  pub reports : report_of stopped ≡ Some report
-  pub says : fault ≡ printed_lane_fault stopped
 
--- A run has ended, and its lines weren't printed to the end. Its trace was written whole, or a write of its file failed.
+-- The lines of a run weren't printed to the end. Its trace was written whole, or a write of its file failed.
 pub record FailsToTell (gives : FileContents) (rule : Rule) (w : Wanted) (old new : Written) (fault : PlanFault) : Type 0 where
   pub opened : Opened
   pub is : IsOpened gives w opened
   pub report : Report
-  pub run : IsRunOf rule opened report
-  pub ended : has_ended report.state.going.now ≡ true
-  pub stop : PrintFault
-  pub printed : Prints (lines_in opened.parts report) (Some stop) old.0 new.0
+  pub fails : FailsToPrint rule opened report old.0 new.0 fault
   pub whole : Bool
   pub traced : Traces w.trace opened.limits opened.targets report whole old.1 new.1
-  pub says : (fault ≡ printed_print_fault stop) ⊎ (fault ≡ no_memory)
 
 -- A run has ended, its lines were printed, and a write of its trace's file failed.
 pub record FailsToTrace (gives : FileContents) (rule : Rule) (w : Wanted) (old new : Written) (fault : PlanFault) : Type 0 where
   pub opened : Opened
   pub is : IsOpened gives w opened
   pub report : Report
-  pub run : IsRunOf rule opened report
-  pub ended : has_ended report.state.going.now ≡ true
-  pub printed : Prints (lines_in opened.parts report) None old.0 new.0
+  pub ends : EndsPrinted rule opened report old.0 new.0
   pub traced : Traces w.trace opened.limits opened.targets report false old.1 new.1
   pub says : (fault ≡ printed_trace_fault w.trace) ⊎ (fault ≡ no_memory)
 

@@ -1,6 +1,7 @@
 //! The command `commands`.
 
 ghost use Rattle.std.specs.Prelude.{◌≡◌, ◌⊎◌, IfOk, IfErr, OnOk};
+ghost use Rattle.plan_scope.specs.Sources.{SameFiles};
 ghost use Rattle.plan_commands.specs.Commands.{WritesAll, HasGraph, IsRefused, IsMeant, LacksGraph, FailsToWrite, loading_by};
 
 use crate::fault::{PlanFault, no_memory, output_fault, printed_fault};
@@ -20,6 +21,7 @@ pub fn manifest_at<S: Source>(
     ensures meant { let loads = loading_by (S.gives source.old) (S.fails source.old) (S.failures source.old) (S.failures source.new) in
         IfOk result (λ manifest. IsMeant loads path.now manifest) }
     ensures read { OnOk result (S.failures source.new ≡ S.failures source.old) }
+    ensures same { SameFiles (S.gives source.new) (S.fails source.new) (S.gives source.old) (S.fails source.old) }
     ensures refused { let loads = loading_by (S.gives source.old) (S.fails source.old) (S.failures source.old) (S.failures source.new) in
         IfErr result (λ fault. IsRefused loads path.now fault) }
 {

@@ -5,7 +5,7 @@ ghost use Rattle.plan_scope.specs.Sound.{IsSound};
 ghost use Rattle.plan_graph.specs.Graph.{IsGraph};
 ghost use Rattle.plan_image.specs.Spelling.{spelling};
 ghost use Rattle.plan_commands.specs.Commands.{LacksGraph, loading_by};
-ghost use Rattle.plan_commands.specs.Compiling.{SpellsImage, LacksImageOf, IsNotCompiled, Compiles, FailsToCompile};
+ghost use Rattle.plan_commands.specs.Compiling.{IsImageOf, SpellsImage, LacksImageOf, IsNotCompiled, Compiles, FailsToCompile};
 
 use crate::commands::manifest_at;
 use crate::compile_fault::printed_compile_fault;
@@ -34,10 +34,11 @@ fn graph_of<'a>(alloc: Global, manifest: &'a Manifest) -> Result<Graph<'a>, Plan
 /// How many bytes of an image are written at once.
 const ROOM: usize = 65_536;
 
-/// The image of the manifest. The verifier accepts it.
-fn image_of(alloc: Global, manifest: &Manifest) -> Result<Image, PlanFault>
+/// Returns the image of a manifest. The verifier accepts it.
+pub fn image_of(alloc: Global, manifest: &Manifest) -> Result<Image, PlanFault>
     requires { IsSound manifest.now }
-    ensures image { IfOk result (λ image. SpellsImage manifest.now (spelling image)) }
+    ensures spelled { IfOk result (λ image. SpellsImage manifest.now (spelling image)) }
+    ensures image { IfOk result (λ image. IsImageOf manifest.now image) }
     ensures refused { IfErr result (λ fault. LacksGraph manifest.now fault ⊎ LacksImageOf manifest.now fault) }
 {
     let graph = graph_of(alloc, manifest)?;

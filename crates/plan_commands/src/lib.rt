@@ -3,6 +3,8 @@
 //! - `do_commands`, `do_compile`, `do_verify`, `do_dump`, `do_replay`, `do_compare`: what a command writes to a sink, by
 //!   what its sources give, and the status that it ends with.
 //! - `do_run`: runs an image in a world.
+//! - `do_build`: brings a manifest up to date, and builds its targets in a world.
+//! - `build_is_right`, `idle_builds_run_nothing`: what the end of a build means for the edges of the manifest.
 //! - `PlanFault`: why a command is refused, with the line that is printed.
 //! - `FileSource`, `NewFile`: the files of the system. `Buffer`: bytes held back before a sink.
 //!
@@ -10,6 +12,7 @@
 #![tactic(auto)]
 
 mod buffer;
+mod building;
 mod commands;
 mod comparing;
 mod compile_fault;
@@ -19,6 +22,7 @@ mod files;
 mod graph_fault;
 mod image_fault;
 mod images;
+mod laws;
 mod playing;
 mod replay_fault;
 mod replaying;
@@ -27,12 +31,14 @@ mod targets;
 mod verdicts;
 
 pub use buffer::{Buffer, ended};
+pub use building::{Done, Order, do_build};
 pub use commands::do_commands;
 pub use comparing::{Compared, do_compare};
 pub use compiling::do_compile;
 pub use fault::{PlanFault, file_fault, lost_output, no_memory};
 pub use files::{FileSource, IMAGE_BYTES, MANIFEST_BYTES, NewFile, TRACE_BYTES};
 pub use images::do_dump;
+pub use laws::{build_is_right, idle_builds_run_nothing};
 pub use replaying::do_replay;
 pub use running::{Build, do_run};
 pub use verdicts::do_verify;

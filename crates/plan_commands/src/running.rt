@@ -41,7 +41,7 @@ pub struct Build<'a> {
 }
 
 /// Why a text wasn't printed, as the program prints it.
-fn printed_print_fault(alloc: Global, fault: PrintFault) -> PlanFault
+pub fn printed_print_fault(alloc: Global, fault: PrintFault) -> PlanFault
     ensures { (result ≡ defined.printed_print_fault fault) ⊎ (result ≡ no_memory) }
 {
     match fault {
@@ -121,7 +121,7 @@ fn tell_all<T: Sink>(
 }
 
 /// A fault of lanes, as the program prints it.
-fn printed_lane_fault(alloc: Global, fault: &LaneFault) -> PlanFault
+pub fn printed_lane_fault(alloc: Global, fault: &LaneFault) -> PlanFault
     ensures { result ≡ defined.printed_lane_fault fault.now }
 {
     PlanFault {

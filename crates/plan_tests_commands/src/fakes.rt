@@ -6,6 +6,7 @@ use plan_scope::{Source, SourceFault};
 use plan_text::{RowList, Sink, SinkFault, Tally};
 use plan_verify::PathList;
 use std::alloc::{AllocError, Global};
+use std::sync::atomic::{AtomicU64, Ordering};
 
 /// A file in memory: its path and its bytes.
 pub type File<'a> = (&'a [u8], &'a [u8]);
@@ -44,6 +45,52 @@ impl Source for Files<'_> {
             }
         }
         Err(SourceFault::Missing)
+    }
+}
+
+/// A manifest in memory that changes: the first read gives the first text, each later one the next, and the last text is
+/// given from then on. There is no other file.
+#[derive(Drop)]
+pub struct Versions<'a> {
+    texts: &'a [&'a [u8]],
+    reads: usize,
+    failures: Tally,
+}
+
+impl<'a> Versions<'a> {
+    pub fn new(texts: &'a [&'a [u8]]) -> Versions<'a> {
+        Versions {
+            texts,
+            reads: 0,
+            failures: Tally::new(),
+        }
+    }
+
+    /// Returns the text of this read.
+    fn text(&self) -> Option<&'a [u8]> {
+        match self.texts.get(self.reads) {
+            Some(text) => Some(*text),
+            None => self.texts.last().copied(),
+        }
+    }
+}
+
+impl Source for Versions<'_> {
+    ghost gives = { λ _ _ _. Unit {0} };
+
+    ghost fails = { λ _ _. Unit {0} };
+
+    ghost failures = { λ s. s.failures.count };
+
+    fn read(&mut self, alloc: Global, path: &[u8]) -> Result<Vec<u8>, SourceFault> {
+        if path != b"build.ninja".as_slice() {
+            return Err(SourceFault::Missing);
+        }
+        let Some(text) = self.text() else {
+            return Err(SourceFault::Missing);
+        };
+        self.reads = self.reads.saturating_add(1);
+        Vec::from_slice(alloc, text).map_err(|_| SourceFault::Memory)
     }
 }
 
@@ -107,6 +154,83 @@ impl World for Fresh {
         permit: Permit,
     ) -> Result<Reply, AllocError> {
         permit.spend();
+        Ok(Reply::Exit(self.status))
+    }
+
+    fn read_depfile(&self, _number: u64, _path: &[u8]) -> Result<Reply, AllocError> {
+        Ok(Reply::Nothing)
+    }
+
+    fn keep(
+        &self,
+        _number: u64,
+        _output: &[u8],
+        _command: &[u8],
+        _basis: u64,
+        _paths: &PathList,
+    ) -> Result<Reply, AllocError> {
+        Ok(Reply::Kept)
+    }
+}
+
+/// A world in which `build.ninja` is older than its input until its maker ran a number of times. The file `done` is new,
+/// no other output exists, and nothing is recorded. Commands end with one status.
+#[derive(Drop)]
+pub struct Generator {
+    /// How often the maker runs until `build.ninja` is up to date.
+    pub rounds: u64,
+    /// The number of commands that ran.
+    pub commands: AtomicU64,
+    pub status: u8,
+}
+
+impl Generator {
+    pub fn new(rounds: u64, status: u8) -> Generator {
+        Generator {
+            rounds,
+            commands: AtomicU64::new(0),
+            status,
+        }
+    }
+
+    /// Returns the number of commands that ran.
+    pub fn commands(&self) -> u64 {
+        self.commands.load(Ordering::SeqCst)
+    }
+
+    /// Returns when a file was changed: 0 if it is missing.
+    fn stamp(&self, path: &[u8]) -> u64 {
+        match path {
+            b"build.ninja" if self.commands() < self.rounds => 1,
+            b"build.ninja" | b"done" => 3,
+            b"in" => 2,
+            _ => 0,
+        }
+    }
+}
+
+impl World for Generator {
+    ghost use Rattle.std.specs.Prelude.{⊤};
+
+    ghost allows = { λ number request reply. ⊤ };
+
+    fn stat(&self, _number: u64, path: &[u8]) -> Result<Reply, AllocError> {
+        Ok(Reply::Stamp(self.stamp(path)))
+    }
+
+    fn recall(&self, _number: u64, _output: &[u8]) -> Result<Reply, AllocError> {
+        Ok(Reply::Nothing)
+    }
+
+    fn run(
+        &self,
+        _number: u64,
+        _command: &[u8],
+        _outputs: &RowList<u8>,
+        permit: Permit,
+    ) -> Result<Reply, AllocError> {
+        permit.spend();
+        self.commands.fetch_add(1, Ordering::SeqCst);
         Ok(Reply::Exit(self.status))
     }
 

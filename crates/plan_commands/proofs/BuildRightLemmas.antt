@@ -1,0 +1,55 @@
+-- What the end of a build means. Serves src/laws.rt.
+use Rattle.std.proofs.Common.{◌≡◌, ◌∙◌, ℕ, Bool, true, false, List, [], Some, refl, sym, ap, subst}
+use Rattle.std.specs.Prelude.{slice_get}
+use Rattle.plan_image.specs.declared.image.Parts.{Parts}
+use Rattle.plan_scope.specs.Loading.{FileContents}
+use Rattle.plan_scope.specs.Sound.{IsSound}
+use Rattle.plan_scope.specs.declared.manifest.Manifest.{Manifest}
+use Rattle.plan_graph.specs.Graph.{IsGraph}
+use Rattle.plan_graph.specs.declared.graph_data.Graph.{Graph}
+use Rattle.plan_verify.specs.Turn.{Meaning}
+use Rattle.plan_compile.specs.Images.{compiled}
+use Rattle.plan_compile.specs.Rule.{Command}
+use Rattle.plan_compile.specs.Talk.{Left}
+use Rattle.plan_machine.specs.Limits.{Limits}
+use Rattle.plan_machine.specs.State.{Over, outcome_at}
+use Rattle.plan_machine.specs.Step.{ended}
+use Rattle.plan_status.specs.Outcomes.{all_done}
+use Rattle.plan_lanes.specs.Journals.{Rule}
+use Rattle.plan_lanes.specs.Reports.{IsRunOf}
+use Rattle.plan_lanes.specs.declared.board.Report.{Report}
+use Rattle.plan_laws.specs.Ends.{CommandsRunOnce, Exchange, Succeeds, commands_in}
+use Rattle.plan_laws.specs.Right.{AllIsBuilt, FinishedRunsAreRight}
+use Rattle.plan_commands.specs.declared.building.Done.{Done}
+use Rattle.plan_commands.specs.declared.building.Done.TheVariants as done
+use Rattle.plan_commands.specs.Building.{EndsAs, HasRunNothing, exit_status, opened, outcome_in}
+use Rattle.plan_commands.specs.BuildIsRight.{BuildIsRight, IdleBuildsRunNothing}
+
+-- status 0 is given only if all that was wanted succeeded
+all_succeeded : (p : Parts) (r : Report) (d : Done) → exit_status d ≡ 0 → EndsAs p r d → all_done p r.state.going.now ≡ true
+all_succeeded p r done.Built zero ends = ends.0
+all_succeeded p r done.UpToDate zero ends = ends.0
+all_succeeded p r done.Failed zero ends = absurd cc
+all_succeeded p r done.ManifestFails zero ends = absurd ends
+all_succeeded p r done.NeverSettles zero ends = absurd ends
+
+-- the tables of a run, if they are a manifest's image
+run_is_right : (rule : Rule) → FinishedRunsAreRight rule → (m : Manifest) (g : Graph) → IsSound m → IsGraph m g → (limits : Limits) (edges : List ℕ) (r : Report) (p : Parts) → p ≡ compiled m g
+    → (run : IsRunOf rule (opened p limits edges) r) → all_done p r.state.going.now ≡ true → AllIsBuilt rule m g edges r run.left
+run_is_right rule right m g sound graph limits edges r p same =
+    subst (λ (q : Parts). (run : IsRunOf rule (opened q limits edges) r) → all_done q r.state.going.now ≡ true → AllIsBuilt rule m g edges r run.left) (sym same) (right m g sound graph limits edges r)
+
+pub build_is_right : (gives : FileContents) (rule : Rule) → FinishedRunsAreRight rule → BuildIsRight gives rule
+build_is_right gives rule right a old new d zero b =
+    run_is_right rule right b.read.manifest b.read.image.graph b.read.image.sound b.read.image.is_graph a.limits b.edges b.report b.parts b.read.image.same b.run.run
+    (all_succeeded b.parts b.report d zero b.ends)
+
+-- an edge that succeeded in a run in which no command ran asked for none
+asked_for_none : (r : Report) (e : ℕ) → HasRunNothing r → CommandsRunOnce → (phony : Bool) (meaning : Meaning) (c : Command) (conversation : List Exchange) (ran : Bool) (left : Left)
+    → slice_get r.state.going.now.edges e ≡ Some (Over (ended ran)) → Succeeds phony meaning c ran conversation left → commands_in conversation ≡ []
+asked_for_none r e nothing once phony meaning c conversation true left is succeeds = absurd (nothing e (ap outcome_at is))
+asked_for_none r e nothing once phony meaning c conversation false left is succeeds = once phony meaning c conversation false left succeeds
+
+pub idle_builds_run_nothing : (gives : FileContents) (rule : Rule) → CommandsRunOnce → IdleBuildsRunNothing gives rule
+idle_builds_run_nothing gives rule once a old new b e x =
+    asked_for_none b.report e b.ends.1 once _ _ _ x.right.conversation x.ran x.right.left x.succeeded x.right.succeeds

@@ -1,0 +1,310 @@
+-- What a build comes to. Serves src/building.rt.
+use Rattle.std.proofs.Common.{◌≡◌, ◌⊎◌, ◌∙◌, ℕ, suc, ◌+◌, ◌<◌, ◌≤◌, true, false, List, [], ◌∷◌, Option, Some, None, Result, Ok, Err, IfOk, IfErr, IfSome, IfNone, OnOk, inl, inr, refl, sym, ap, subst, arith, length, get_or}
+use Rattle.std.specs.Prelude.{slice_get}
+use Rattle.std.proofs.lemmas.Bool.{cases_order}
+use Rattle.std.proofs.lemmas.Option.{slice_get_cases}
+use Rattle.plan_scope.specs.Trees.{TreeStatement}
+use Rattle.plan_scope.specs.Scopes.{Text}
+use Rattle.plan_scope.specs.Sources.{SameFiles}
+use Rattle.plan_scope.specs.Loading.{FileContents, PathSet, Outcome, Job, MayLoad, is_missing, has_fault, is_read, ends, is_refused, is_added, includes_file, includes_fault, LoadsFirst, IsMissing, more_files}
+use Rattle.plan_scope.specs.declared.manifest.Manifest.{Manifest}
+use Rattle.plan_image.specs.declared.image.Parts.{Parts}
+use Rattle.plan_machine.specs.State.{Status, has_ended, outcome_at}
+use Rattle.plan_machine.specs.Wanted.{any_outside}
+use Rattle.plan_machine.specs.declared.mark.Outcome.TheVariants.{Ran}
+use Rattle.plan_machine.specs.declared.refused.Refused.TheVariants as refused
+use Rattle.plan_lanes.specs.Faults.{FaultReports}
+use Rattle.plan_lanes.specs.Journals.{Rule}
+use Rattle.plan_lanes.specs.Progress.{Opened}
+use Rattle.plan_lanes.specs.Reports.{IsRunOf}
+use Rattle.plan_lanes.specs.declared.board.Report.{Report}
+use Rattle.plan_lanes.specs.declared.fault.LaneFault.{LaneFault}
+use Rattle.plan_lanes.specs.declared.fault.LaneFault.TheVariants as lanes
+use Rattle.plan_status.specs.Printing.{Prints}
+use Rattle.plan_status.specs.declared.fault.PrintFault.{PrintFault}
+use Rattle.plan_commands.specs.declared.fault.PlanFault.{PlanFault}
+use Rattle.plan_commands.specs.declared.building.Round.{Round}
+use Rattle.plan_commands.specs.declared.building.Round.TheVariants as round
+use Rattle.plan_commands.specs.declared.building.Done.{Done}
+use Rattle.plan_commands.specs.declared.building.Done.TheVariants as done
+use Rattle.plan_commands.specs.Commands.{IsMeant, IsRefused, loading_by}
+use Rattle.plan_commands.specs.Compiling.{IsImageOf, IsNotCompiled, LacksImageOf}
+use Rattle.plan_commands.specs.Images.{SinkState}
+use Rattle.plan_commands.specs.Running.{EndsPrinted, LanesStop, lines_in, report_in}
+use Rattle.plan_commands.specs.Targets.{target, targets}
+use Rattle.plan_commands.specs.Building.{Asked, IsRead, Nowhere, opened, maker_of, ok_of, outcome_in, Remakes, Rounds, no_round, one_more, IsUpToDate, MakerFails, FailsToRemake, BuildsTargets, Builds, EndsAs, most_rounds, IsNotRead, LacksMemory, RunStops, IsNotRun, RoundStops, TargetsStop, Stops, IsLost, IsRoundOf, EndsRound, HasRunNothing, RunsTargets}
+use Rattle.plan_commands.proofs.TargetLemmas.{all_inside}
+
+-- ---- the manifest is read
+
+module _ (g h : FileContents) (m n : PathSet) (gh : (p : Text) (bytes : Option (List ℕ)) → g p bytes → h p bytes) (mn : (p : Text) → m p → n p) where
+  -- what may be loaded if files may hold more, and more may be missing
+  loads_wider : (left : ℕ) (job : Job) (above : List TreeStatement) (out : Outcome) → MayLoad g m left job above out → MayLoad h n left job above out
+  loads_wider left job above out (is_missing l path scopes a miss) = is_missing l path scopes a (mn path miss)
+  loads_wider left job above out (has_fault l path scopes a bytes fault given faulty) = has_fault l path scopes a bytes fault (gh path (Some bytes) given) faulty
+  loads_wider left job above out (is_read l path scopes a bytes statements o given said rest) = is_read l path scopes a bytes statements o (gh path (Some bytes) given) said (loads_wider l _ a o rest)
+  loads_wider left job above out (ends l path scopes a) = ends l path scopes a
+  loads_wider left job above out (is_refused l path scopes a s more cause why) = is_refused l path scopes a s more cause why
+  loads_wider left job above out (is_added l path scopes a s more o fine plain rest) = is_added l path scopes a s more o fine plain (loads_wider l _ _ o rest)
+  loads_wider left job above out (includes_file l path scopes a s more inner within o fine names inside rest) =
+      includes_file l path scopes a s more inner within o fine names (loads_wider l _ a (Ok within) inside) (loads_wider (suc l) _ within o rest)
+  loads_wider left job above out (includes_fault l path scopes a s more inner fault fine names inside) =
+      includes_fault l path scopes a s more inner fault fine names (loads_wider l _ a (Err fault) inside)
+
+  -- a refusal by what may be loaded
+  refused_wider : (path : Text) (fault : PlanFault) → IsRefused (LoadsFirst g m) path fault → IsRefused (LoadsFirst h n) path fault
+  refused_wider path fault (inl r) = inl (record { lines = r.lines; cause = r.cause; loaded = loads_wider more_files _ [] _ r.loaded; means = r.means; says = r.says })
+  refused_wider path fault (inr (inl r)) = inr (inl (record { cause = r.cause; loaded = loads_wider more_files _ [] _ r.loaded; says = r.says }))
+  refused_wider path fault (inr (inr (inl r))) =
+      inr (inr (inl (record { lines = r.lines; manifest = r.manifest; cause = r.cause; loaded = loads_wider more_files _ [] _ r.loaded; means = r.means; refused = r.refused; says = r.says })))
+  refused_wider path fault (inr (inr (inr r))) = inr (inr (inr r))
+
+  compiled_wider : (path : Text) (fault : PlanFault) → IsNotCompiled (LoadsFirst g m) path fault → IsNotCompiled (LoadsFirst h n) path fault
+  compiled_wider path fault (inl r) = inl (refused_wider path fault r)
+  compiled_wider path fault (inr (inl r)) = inr (inl (record { lines = r.lines; manifest = r.manifest; loaded = loads_wider more_files _ [] _ r.loaded; means = r.means; refused = r.refused }))
+  compiled_wider path fault (inr (inr r)) = inr (inr r)
+
+  not_read_wider : (path : Text) (fault : PlanFault) → IsNotRead g m path fault → IsNotRead h n path fault
+  not_read_wider path fault (inl r) = inl (compiled_wider path fault r)
+  not_read_wider path fault (inr r) = inr r
+
+-- all lines are loaded only if no file is missing
+loads_there : (g : FileContents) (m : PathSet) (left : ℕ) (job : Job) (above : List TreeStatement) (out : Outcome) (lines : List TreeStatement) → out ≡ Ok lines → MayLoad g m left job above out
+    → MayLoad g Nowhere left job above out
+loads_there g m left job above out lines is (is_missing l path scopes a miss) = absurd cc
+loads_there g m left job above out lines is (has_fault l path scopes a bytes fault given faulty) = absurd cc
+loads_there g m left job above out lines is (is_read l path scopes a bytes statements o given said rest) = is_read l path scopes a bytes statements o given said (loads_there g m l _ a o lines is rest)
+loads_there g m left job above out lines is (ends l path scopes a) = ends l path scopes a
+loads_there g m left job above out lines is (is_refused l path scopes a s more cause why) = absurd cc
+loads_there g m left job above out lines is (is_added l path scopes a s more o fine plain rest) = is_added l path scopes a s more o fine plain (loads_there g m l _ _ o lines is rest)
+loads_there g m left job above out lines is (includes_file l path scopes a s more inner within o fine names inside rest) =
+    includes_file l path scopes a s more inner within o fine names (loads_there g m l _ a (Ok within) within refl inside) (loads_there g m (suc l) _ within o lines is rest)
+loads_there g m left job above out lines is (includes_fault l path scopes a s more inner fault fine names inside) = absurd cc
+
+-- the image of a manifest that may be loaded is read
+pub read_of : (g : FileContents) (f : PathSet) (b c : ℕ) (path : Text) (manifest : Manifest) (result : Result Parts PlanFault) → IsMeant (loading_by g f b c) path manifest
+    → IfOk result (λ p. IsImageOf manifest p) → IfOk result (λ p. IsRead g path p)
+read_of g f b c path manifest (Ok p) m image =
+    record { lines = m.0; manifest = manifest; loaded = loads_there g (IsMissing g f b c) more_files _ [] (Ok m.0) m.0 refl m.1; means = m.2; image = image }
+read_of g f b c path manifest (Err fault) m image = tt
+
+-- ---- a run
+
+stopped_run : (rule : Rule) (o : Opened) (ran : Result Report LaneFault) (stop : Option PrintFault) (old new : SinkState) (fault : PlanFault) → any_outside o.parts o.targets ≡ false
+    → IfOk ran (λ r. IsRunOf rule o r) → IfOk ran (λ r. has_ended r.state.going.now ≡ true) → IfErr ran (λ f. FaultReports rule o f)
+    → IfSome (report_in ran) (λ r. Prints (lines_in o.parts r) stop old new) → IfNone (report_in ran) (new ≡ old)
+    → IsLost ran stop fault → IsNotRun rule o old new fault
+stopped_run rule o (Ok r) (Some stop) old new fault inside run ended reports printed none lost =
+    inr (r, inr (record { run = run; ended = ended; stop = stop; printed = printed; says = lost }))
+stopped_run rule o (Ok r) None old new fault inside run ended reports printed none lost = absurd lost
+stopped_run rule o (Err (lanes.Opening refused.Memory)) stop old new fault inside run ended reports printed none lost = inl (none, lost)
+stopped_run rule o (Err (lanes.Opening refused.BadTarget)) stop old new fault inside run ended reports printed none lost = absurd (let clash : false ≡ true = sym inside ∙ reports in cc)
+stopped_run rule o (Err (lanes.Opening refused.NotEnabled)) stop old new fault inside run ended reports printed none lost = absurd reports
+stopped_run rule o (Err (lanes.NotEnabled r)) stop old new fault inside run ended reports printed none lost =
+    inr (r, inl (record { run = reports; stop = stop; printed = printed; stopped = lanes.NotEnabled r; reports = refl; says = lost }))
+stopped_run rule o (Err (lanes.NoMemory r)) stop old new fault inside run ended reports printed none lost =
+    inr (r, inl (record { run = reports; stop = stop; printed = printed; stopped = lanes.NoMemory r; reports = refl; says = lost }))
+stopped_run rule o (Err (lanes.NoLane r)) stop old new fault inside run ended reports printed none lost =
+    inr (r, inl (record { run = reports; stop = stop; printed = printed; stopped = lanes.NoLane r; reports = refl; says = lost }))
+stopped_run rule o (Err (lanes.OtherBoard r)) stop old new fault inside run ended reports printed none lost =
+    inr (r, inl (record { run = reports; stop = stop; printed = printed; stopped = lanes.OtherBoard r; reports = refl; says = lost }))
+
+-- why a run has no report, if its clauses hold
+pub not_run : (rule : Rule) (o : Opened) (ran : Result Report LaneFault) (stop : Option PrintFault) (old new : SinkState) (result : Result Report PlanFault) → any_outside o.parts o.targets ≡ false
+    → IfOk ran (λ r. IsRunOf rule o r) → IfOk ran (λ r. has_ended r.state.going.now ≡ true) → IfErr ran (λ f. FaultReports rule o f)
+    → IfSome (report_in ran) (λ r. Prints (lines_in o.parts r) stop old new) → IfNone (report_in ran) (new ≡ old)
+    → IfErr result (λ fault. IsLost ran stop fault) → IfErr result (λ fault. IsNotRun rule o old new fault)
+not_run rule o ran stop old new (Ok r) inside run ended reports printed none lost = tt
+not_run rule o ran stop old new (Err fault) inside run ended reports printed none lost = stopped_run rule o ran stop old new fault inside run ended reports printed none lost
+
+-- ---- the edge that makes the manifest
+
+target_of_maker : (r : Result ℕ PlanFault) (e : ℕ) → Some e ≡ ok_of r → r ≡ Ok e
+target_of_maker (Ok d) e is = let same : e ≡ d = cc in ap (λ (n : ℕ). Ok n) (sym same)
+target_of_maker (Err fault) e is = absurd cc
+
+pub maker_inside : (p : Parts) (path : Text) (e : ℕ) → Some e ≡ maker_of p path → any_outside p (e ∷ []) ≡ false
+maker_inside p path e is = all_inside p (path ∷ []) (e ∷ []) (rw (target_of_maker (target p path) e is) refl)
+
+pub maker_is : (p q : Parts) (path : Text) (m : ℕ) (o : Option ℕ) → q ≡ p → ◌≡◌ {A = Option ℕ} o (Some m) → ◌≡◌ {A = Option ℕ} o (maker_of q path) → ◌≡◌ {A = Option ℕ} (Some m) (maker_of p path)
+maker_is p q path m o same is by = sym is ∙ by ∙ ap (λ (x : Parts). maker_of x path) same
+
+-- what a round did, by the run of the maker
+pub round_by : (gives : FileContents) (rule : Rule) (a : Asked) (p : Parts) (maker : ℕ) (r : Report) (old new : SinkState) (x : Round) → IsRead gives a.path p → Some maker ≡ maker_of p a.path
+    → EndsPrinted rule (opened p a.limits (maker ∷ [])) r old new → IsRoundOf p maker r x → EndsRound gives rule a old new x
+round_by gives rule a p maker r old new (round.UpToDate q) read makes run is =
+    subst (λ (x : Parts). IsRead gives a.path x × IsUpToDate rule a x old new) (sym is.0)
+    (read, inr (record { maker = maker; makes = sym makes; report = r; run = run; well = is.1; clean = is.2 }))
+round_by gives rule a p maker r old new round.Remade read makes run is = record { parts = p; read = read; maker = maker; makes = sym makes; report = r; run = run; well = is.0; ran = is.1 }
+round_by gives rule a p maker r old new round.Failed read makes run is = record { parts = p; read = read; maker = maker; makes = sym makes; report = r; run = run; ill = is }
+
+-- why a round stops, by the run of the maker
+pub maker_stops : (gives : FileContents) (missing : PathSet) (rule : Rule) (a : Asked) (p : Parts) (maker : ℕ) (old new : SinkState) (fault : PlanFault) → IsRead gives a.path p → Some maker ≡ maker_of p a.path
+    → IsNotRun rule (opened p a.limits (maker ∷ [])) old new fault → RoundStops gives missing rule a old new fault
+maker_stops gives missing rule a p maker old new fault read makes (inl x) = inl (x.0, inr (inr x.1))
+maker_stops gives missing rule a p maker old new fault read makes (inr x) = inr (record { parts = p; read = read; maker = maker; makes = sym makes; stops = x })
+
+-- ---- if files may hold the same
+
+module _ (g h : FileContents) (gh : (p : Text) (bytes : Option (List ℕ)) → g p bytes → h p bytes) where
+  read_wider : (path : Text) (p : Parts) → IsRead g path p → IsRead h path p
+  read_wider path p r = record { lines = r.lines; manifest = r.manifest; loaded = loads_wider g h Nowhere Nowhere gh (λ q x. x) more_files _ [] _ r.loaded; means = r.means; image = r.image }
+
+  pub round_wider : (rule : Rule) (a : Asked) (old new : SinkState) (x : Round) → EndsRound g rule a old new x → EndsRound h rule a old new x
+  round_wider rule a old new (round.UpToDate p) x = (read_wider a.path p x.0, x.1)
+  round_wider rule a old new round.Remade x = record { parts = x.parts; read = read_wider a.path x.parts x.read; maker = x.maker; makes = x.makes; report = x.report; run = x.run; well = x.well; ran = x.ran }
+  round_wider rule a old new round.Failed x = record { parts = x.parts; read = read_wider a.path x.parts x.read; maker = x.maker; makes = x.makes; report = x.report; run = x.run; ill = x.ill }
+
+  pub stops_wider : (m n : PathSet) → ((p : Text) → m p → n p) → (rule : Rule) (a : Asked) (old new : SinkState) (fault : PlanFault) → RoundStops g m rule a old new fault → RoundStops h n rule a old new fault
+  stops_wider m n mn rule a old new fault (inl (same, inl x)) = inl (same, inl (not_read_wider g h m n gh mn a.path fault x))
+  stops_wider m n mn rule a old new fault (inl (same, inr x)) = inl (same, inr x)
+  stops_wider m n mn rule a old new fault (inr x) = inr (record { parts = x.parts; read = read_wider a.path x.parts x.read; maker = x.maker; makes = x.makes; stops = x.stops })
+
+-- ---- facts on the way
+
+-- a sink that came back as it was has the same counts
+pub same_if_none : {A : Type 0} (P Q : Type 0) (o : Option A) → (P → Q) → IfNone o P → IfNone o Q
+same_if_none P Q None f p = f p
+same_if_none P Q (Some x) f p = tt
+
+pub ok_so : {A B : Type 0} (P : A → Type 0) (r : Result A B) (x : A) → r ≡ Ok x → IfOk r P → P x
+ok_so P r x is h = subst (λ t. IfOk t P) is h
+
+pub err_so : {A B : Type 0} (P : B → Type 0) (r : Result A B) (x : B) → r ≡ Err x → IfErr r P → P x
+err_so P r x is h = subst (λ t. IfErr t P) is h
+
+pub on_ok : {A B : Type 0} (P : Type 0) (r : Result A B) (x : A) → r ≡ Ok x → OnOk r P → P
+on_ok P r x is h = subst (λ t. OnOk t P) is h
+
+pub round_so : (P : Round → Type 0) (r : Result Round PlanFault) (x y : Round) → r ≡ Ok x → x ≡ y → IfOk r P → P y
+round_so P r x y is same h = subst P same (ok_so P r x is h)
+
+same_targets : (p q : Parts) (names : List Text) (edges : List ℕ) → q ≡ p → targets q names ≡ Ok edges → targets p names ≡ Ok edges
+same_targets p q names edges same is = ap (λ (x : Parts). targets x names) (sym same) ∙ is
+
+-- ---- how a build ends
+
+-- no edge with a number below this ran its command
+abbrev pub HasRunNoneBelow : Report → ℕ → Type 0
+HasRunNoneBelow r n = (e : ℕ) → e < n → outcome_in r e ≡ Some Ran → ⊥
+
+pub none_below_zero : (r : Report) → HasRunNoneBelow r 0
+none_below_zero r e below is = absurd (omega (arith, below))
+
+pub one_more_idle : (r : Report) (n : ℕ) → HasRunNoneBelow r n → (outcome_in r n ≡ Some Ran → ⊥) → HasRunNoneBelow r (n + 1)
+one_more_idle r n before here e below is = by (cases_order e n)
+  where
+    by : (e ≡ n) ⊎ ((e < n) ⊎ (n < e)) → ⊥
+    by (inl same) = here (subst (λ (k : ℕ). outcome_in r k ≡ Some Ran) same is)
+    by (inr (inl less)) = before e less is
+    by (inr (inr more)) = absurd (omega (arith, below, more))
+
+pub none_at_all : (r : Report) (n : ℕ) → length r.state.going.now.edges ≡ n → HasRunNoneBelow r n → HasRunNothing r
+none_at_all r n long before e is = by (slice_get_cases r.state.going.now.edges e).1
+  where
+    by : ((x : Status) × (e < length r.state.going.now.edges) × (slice_get r.state.going.now.edges e ≡ Some x) × (get_or r.state.going.now.edges e x ≡ x)) ⊎ ((length r.state.going.now.edges ≤ e) × (slice_get r.state.going.now.edges e ≡ None)) → ⊥
+    by (inl (x, below, at, there)) = before e (subst (λ (k : ℕ). e < k) long below) is
+    by (inr (beyond, none)) = absurd (let clash = sym (ap outcome_at none) ∙ is in cc)
+
+-- ---- the run for the targets
+
+pub targets_inside : (p q : Parts) (names : List Text) (edges given : List ℕ) → q ≡ p → targets q names ≡ Ok edges → given ≡ edges → any_outside p given ≡ false
+targets_inside p q names edges given same is as' = ap (any_outside p) as' ∙ all_inside p names edges (same_targets p q names edges same is)
+
+pub targets_run : (rule : Rule) (a : Asked) (p q : Parts) (edges given : List ℕ) (ran : Result Report PlanFault) (r : Report) (old new : SinkState) (d : Done) → q ≡ p → targets q a.names ≡ Ok edges → given ≡ edges
+    → ran ≡ Ok r → IfOk ran (λ x. EndsPrinted rule (opened p a.limits given) x old new) → EndsAs p r d → RunsTargets rule a p old new d
+targets_run rule a p q edges given ran r old new d same is as' ok run ended =
+    record {
+      edges = edges;
+      targets = same_targets p q a.names edges same is;
+      report = r;
+      run = subst (λ (es : List ℕ). EndsPrinted rule (opened p a.limits es) r old new) as' (ok_so (λ x. EndsPrinted rule (opened p a.limits given) x old new) ran r ok run);
+      ends = ended;
+    }
+
+-- no edge makes a target, or memory ran out
+pub unknown_target : (a : Asked) (rule : Rule) (p q : Parts) (s : SinkState) (memory fault : PlanFault) → q ≡ p → (fault ≡ memory) ⊎ (targets q a.names ≡ Err fault) → ((fault ≡ memory) → LacksMemory fault)
+    → TargetsStop rule a p s s fault
+unknown_target a rule p q s memory fault same (inl is) lacks = inl (refl, inr (lacks is))
+unknown_target a rule p q s memory fault same (inr is) lacks = inl (refl, inl (ap (λ (x : Parts). targets x a.names) (sym same) ∙ is))
+
+pub targets_stop : (rule : Rule) (a : Asked) (p q : Parts) (edges given : List ℕ) (old new : SinkState) (fault : PlanFault) → q ≡ p → targets q a.names ≡ Ok edges → given ≡ edges
+    → IsNotRun rule (opened p a.limits given) old new fault → TargetsStop rule a p old new fault
+targets_stop rule a p q edges given old new fault same is as' (inl x) = inl (x.0, inr (inr x.1))
+targets_stop rule a p q edges given old new fault same is as' (inr x) =
+    inr (edges, same_targets p q a.names edges same is, subst (λ (es : List ℕ). RunStops rule (opened p a.limits es) old new fault) as' x)
+
+-- ---- rounds
+
+-- n rounds went by, and what files may hold is what they might at first
+pub record AreRounds (g h : FileContents) (f k : PathSet) (b c : ℕ) (rule : Rule) (a : Asked) (n : ℕ) (old new : SinkState) : Type 0 where
+  pub same : SameFiles h k g f
+  pub count : c ≡ b
+  pub rounds : Rounds g rule a n old new
+
+pub no_rounds : (g : FileContents) (f : PathSet) (b : ℕ) (rule : Rule) (a : Asked) (s : SinkState) → AreRounds g g f f b b rule a 0 s s
+no_rounds g f b rule a s = record { same = (λ p bytes. (λ x. x, λ x. x), λ p. (λ x. x, λ x. x)); count = refl; rounds = no_round }
+
+module _ (g h : FileContents) (f k : PathSet) (b c : ℕ) (rule : Rule) (a : Asked) (n : ℕ) (old mid : SinkState) (so : AreRounds g h f k b c rule a n old mid) where
+  back : (p : Text) (bytes : Option (List ℕ)) → h p bytes → g p bytes
+  back p bytes x = (so.same.0 p bytes).0 x
+
+  missed : (d : ℕ) (p : Text) → IsMissing h k c d p → IsMissing g f b d p
+  missed d p (inl x) = inl (back p None x.0, x.1 ∙ so.count)
+  missed d p (inr x) = inr ((so.same.1 p).0 x.0, x.1 ∙ ap (λ (i : ℕ). i + 1) so.count)
+
+  pub then_remade : (h2 : FileContents) (k2 : PathSet) (c2 : ℕ) (new : SinkState) → EndsRound h rule a mid new round.Remade → SameFiles h2 k2 h k → c2 ≡ c → AreRounds g h2 f k2 b c2 rule a (suc n) old new
+  then_remade h2 k2 c2 new ended files count =
+      record {
+        same = (
+          λ p bytes. (λ x. (so.same.0 p bytes).0 ((files.0 p bytes).0 x), λ x. (files.0 p bytes).1 ((so.same.0 p bytes).1 x)),
+          λ p. (λ x. (so.same.1 p).0 ((files.1 p).0 x), λ x. (files.1 p).1 ((so.same.1 p).1 x)),
+        );
+        count = count ∙ so.count;
+        rounds = one_more so.rounds (round_wider h g back rule a mid new round.Remade ended);
+      }
+
+  pub then_fails : (new : SinkState) → n < most_rounds → EndsRound h rule a mid new round.Failed → FailsToRemake g rule a old new
+  then_fails new few ended = record { rounds = n; few = few; middle = mid; remade = so.rounds; fails = round_wider h g back rule a mid new round.Failed ended }
+
+  targets_built : (p : Parts) (later new : SinkState) (d : Done) → n < most_rounds → EndsRound h rule a mid later (round.UpToDate p) → RunsTargets rule a p later new d → BuildsTargets g rule a old new d
+  targets_built p later new d few ended x =
+      let settled = round_wider h g back rule a mid later (round.UpToDate p) ended in
+      record {
+        rounds = n;
+        few = few;
+        middle = mid;
+        remade = so.rounds;
+        parts = p;
+        read = settled.0;
+        later = later;
+        settled = settled.1;
+        edges = x.edges;
+        targets = x.targets;
+        report = x.report;
+        run = x.run;
+        ends = x.ends;
+      }
+
+  then_built : (p : Parts) (later new : SinkState) (d : Done) → n < most_rounds → EndsRound h rule a mid later (round.UpToDate p) → RunsTargets rule a p later new d → Builds g rule a old new d
+  then_built p later new done.Built few ended x = targets_built p later new done.Built few ended x
+  then_built p later new done.UpToDate few ended x = targets_built p later new done.UpToDate few ended x
+  then_built p later new done.Failed few ended x = targets_built p later new done.Failed few ended x
+  then_built p later new done.ManifestFails few ended x = absurd x.ends
+  then_built p later new done.NeverSettles few ended x = absurd x.ends
+
+  pub all_built : {B : Type 0} (p : Parts) (later new : SinkState) (result : Result Done B) → n < most_rounds → EndsRound h rule a mid later (round.UpToDate p) → IfOk result (λ d. RunsTargets rule a p later new d)
+      → IfOk result (λ d. Builds g rule a old new d)
+  all_built p later new (Ok d) few ended x = then_built p later new d few ended x
+  all_built p later new (Err fault) few ended x = tt
+
+  pub then_stops : (d : ℕ) (new : SinkState) (fault : PlanFault) → n < most_rounds → RoundStops h (IsMissing h k c d) rule a mid new fault → Stops g (IsMissing g f b d) rule a old new fault
+  then_stops d new fault few stops =
+      record { rounds = n; few = few; middle = mid; remade = so.rounds; stops = inl (stops_wider h g back (IsMissing h k c d) (IsMissing g f b d) (missed d) rule a mid new fault stops) }
+
+  pub all_stopped : {B : Type 0} (missing : PathSet) (p : Parts) (later new : SinkState) (result : Result B PlanFault) → n < most_rounds → EndsRound h rule a mid later (round.UpToDate p)
+      → IfErr result (λ fault. TargetsStop rule a p later new fault) → IfErr result (λ fault. Stops g missing rule a old new fault)
+  all_stopped missing p later new (Ok d) few ended why = tt
+  all_stopped missing p later new (Err fault) few ended why =
+      let settled = round_wider h g back rule a mid later (round.UpToDate p) ended in
+      record { rounds = n; few = few; middle = mid; remade = so.rounds; stops = inr (record { parts = p; read = settled.0; later = later; settled = settled.1; stops = why }) }

@@ -1,0 +1,9 @@
+use Rattle.std.proofs.Common.{map}
+use Rattle.plan_commands.specs.Building as defined
+use Rattle.plan_commands.proofs.BuildingLemmas.{AreRounds}
+use Rattle.plan_commands.proofs.building.do_build.Given as goal
+
+abbrev pub invariant-loop : goal.invariant-loop
+invariant-loop g l =
+    AreRounds (g.S.Source.gives l.fn.source) (g.S.Source.gives l.source) (g.S.Source.fails l.fn.source) (g.S.Source.fails l.source) (g.S.Source.failures l.fn.source) (g.S.Source.failures l.source) g.W.World.allows
+    (defined.asked l.fn.order.manifest.now l.fn.order.options (map (λ n. n.now) l.fn.order.targets.now)) l.counter (g.O.Sink.failures l.fn.out, g.O.Sink.taken l.fn.out) (g.O.Sink.failures l.out, g.O.Sink.taken l.out)

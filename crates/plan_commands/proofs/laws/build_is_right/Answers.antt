@@ -1,0 +1,5 @@
+use Rattle.plan_commands.proofs.BuildRightLemmas.{build_is_right}
+use Rattle.plan_commands.proofs.laws.build_is_right.Goals as goal
+
+pub returns : goal.returns
+returns g c = λ source. build_is_right (g.S.Source.gives source) g.W.World.allows c.finished_runs_are_right.ensures

@@ -1,0 +1,357 @@
+//! The building of a manifest's targets: the manifest is read, remade if it is out of date, and its image is run.
+
+ghost use Rattle.std.specs.Prelude.{◌≡◌, ◌⊎◌, IfErr, IfOk, None, OnOk, Ok, false, map, true, ◌∷◌, []};
+ghost use Rattle.std.specs.Result.{result_err};
+ghost use Rattle.plan_scope.specs.Loading.{IsMissing};
+ghost use Rattle.plan_scope.specs.Sound.{IsSound};
+ghost use Rattle.plan_scope.specs.Sources.{SameFiles};
+ghost use Rattle.plan_machine.specs.Kept.{IsStateOf};
+ghost use Rattle.plan_machine.specs.Wanted.{any_outside};
+ghost use Rattle.plan_commands.specs.Commands.{LacksGraph};
+ghost use Rattle.plan_commands.specs.Compiling.{IsImageOf, LacksImageOf};
+ghost use Rattle.plan_commands.specs.Faults as faults;
+ghost use Rattle.plan_commands.specs.Building as defined;
+ghost use Rattle.plan_commands.specs.Building.{Builds, EndsAs, EndsRound, HasRun, HasRunNothing, IsLost, IsNotRead, IsNotRun, IsRead, IsRoundOf, LacksVerdict, RoundStops, RunsTargets, Stops, TargetsStop};
+ghost use Rattle.plan_commands.specs.Running.{EndsPrinted};
+
+use crate::commands::manifest_at;
+use crate::compiling::image_of;
+use crate::fault::{PlanFault, no_memory};
+use crate::image_fault::printed_verify_fault;
+use crate::playing::{Played, play};
+use crate::running::{printed_lane_fault, printed_print_fault};
+use crate::targets::targets_of;
+use plan_image::{Image, edge_of};
+use plan_lanes::{Report, World};
+use plan_machine::{Options, Outcome};
+use plan_scope::{Manifest, Source, loaded_manifests_are_sound};
+use plan_status::all_done;
+use plan_text::{Sink, TextFault, canonical};
+use plan_verify::{Verified, verify_by};
+use std::alloc::Global;
+use std::mem::forget;
+use std::sync::Wait;
+use std::thread::{Parker, Threads};
+
+/// What a build is asked for.
+#[derive(Clone, Copy)]
+pub struct Order<'a> {
+    /// The path of the manifest.
+    pub manifest: &'a [u8],
+    /// How many commands may run at once, and after how many failures no further command starts.
+    pub options: Options,
+    /// The names of the targets; none for the manifest's defaults.
+    pub targets: &'a [&'a [u8]],
+}
+
+/// How a build ended.
+#[derive(Clone, Copy, Debug, PartialEq, Eq)]
+pub enum Done {
+    /// All wanted edges succeeded, and a command of one of them ran.
+    Built,
+    /// All wanted edges were up to date: no command ran for the targets. Commands that remade the manifest don't count.
+    UpToDate,
+    /// A wanted edge failed, was skipped, or was stopped.
+    Failed,
+    /// The manifest isn't up to date: an edge that it needs failed, was skipped, or was stopped. The targets were not run.
+    ManifestFails,
+    /// The manifest was remade 100 times, and may still be out of date. The targets were not run.
+    NeverSettles,
+}
+
+impl Done {
+    /// Returns the exit status: 0 if all wanted edges succeeded, otherwise 1.
+    pub fn status(self) -> u8
+        ensures { result ≡ defined.exit_status self }
+    {
+        match self {
+            Done::Built | Done::UpToDate => 0,
+            Done::Failed | Done::ManifestFails | Done::NeverSettles => 1,
+        }
+    }
+}
+
+/// The greatest number of times that a manifest is remade.
+const MOST_ROUNDS: u32 = 100;
+
+/// Returns the image of a manifest, which the verifier accepts. That many threads verify it.
+fn verified_image<R: Threads + Sync>(
+    rt: &R,
+    alloc: Global,
+    threads: u8,
+    manifest: &Manifest,
+) -> Result<Verified, PlanFault>
+    requires { IsSound manifest.now }
+    ensures image { IfOk result (λ image. IsImageOf manifest.now image) }
+    ensures refused { IfErr result (λ fault. (LacksGraph manifest.now fault ⊎ LacksImageOf manifest.now fault) ⊎ LacksVerdict fault) }
+{
+    let image = match image_of(alloc, manifest) {
+        Ok(image) => image,
+        Err(fault) => return Err(fault),
+    };
+    match verify_by(rt, alloc, threads, image) {
+        Ok(verified) => Ok(verified),
+        Err((_, fault)) => Err(printed_verify_fault(alloc, fault)),
+    }
+}
+
+/// Reads the manifest at a path, and returns its image.
+fn read_image<S: Source, R: Threads + Sync>(
+    rt: &R,
+    alloc: Global,
+    threads: u8,
+    source: &mut S,
+    path: &[u8],
+) -> Result<Verified, PlanFault>
+    ensures read { IfOk result (λ p. IsRead (S.gives source.old) path.now p) }
+    ensures whole { OnOk result (S.failures source.new ≡ S.failures source.old) }
+    ensures same { SameFiles (S.gives source.new) (S.fails source.new) (S.gives source.old) (S.fails source.old) }
+    ensures refused { let missing = IsMissing (S.gives source.old) (S.fails source.old) (S.failures source.old) (S.failures source.new) in
+        IfErr result (λ fault. IsNotRead (S.gives source.old) missing path.now fault) }
+{
+    let manifest = match manifest_at(alloc, source, path) {
+        Ok(manifest) => manifest,
+        Err(fault) => return Err(fault),
+    };
+    loaded_manifests_are_sound::<S>();
+    let image = verified_image(rt, alloc, threads, &manifest);
+    // It is not freed piece by piece: the program ends soon.
+    forget(manifest);
+    image
+}
+
+/// Returns the edge that makes the manifest, if there is one.
+fn maker_of(alloc: Global, image: &Image, path: &[u8]) -> Result<Option<u32>, PlanFault>
+    ensures maker { IfOk result (λ m. m ≡ defined.maker_of image.now path.now) }
+    ensures memory { IfErr result (λ fault. fault ≡ faults.no_memory) }
+{
+    let path = match canonical(alloc, path) {
+        Ok(path) => path,
+        Err(TextFault::Memory) => return Err(no_memory(alloc)),
+        Err(_) => return Ok(None),
+    };
+    Ok(edge_of(image, &path))
+}
+
+/// Returns the report of a run that has ended and whose lines were printed.
+fn printed_run(alloc: Global, played: Played) -> Result<Report, PlanFault>
+    ensures done { IfOk result (λ r. (played.ran ≡ Ok r) × (result_err played.printed ≡ None)) }
+    ensures fault { IfErr result (λ fault. IsLost played.ran (result_err played.printed) fault) }
+{
+    match (played.ran, played.printed) {
+        (Ok(report), Ok(())) => Ok(report),
+        (Ok(report), Err(fault)) => {
+            forget(report);
+            Err(printed_print_fault(alloc, fault))
+        }
+        (Err(stopped), _) => {
+            let fault = printed_lane_fault(alloc, &stopped);
+            forget(stopped);
+            Err(fault)
+        }
+    }
+}
+
+/// Runs an image for some edges, and prints its lines.
+fn run_edges<W: World + Send + Sync, O: Sink + Send + Drop, R: Threads + Wait + Sync>(
+    rt: &R,
+    alloc: Global,
+    image: &Verified,
+    options: Options,
+    edges: &[u32],
+    world: &W,
+    bell: &Parker,
+    out: O,
+) -> (Result<Report, PlanFault>, O)
+    requires { any_outside image.now edges.now ≡ false }
+    ensures ran { IfOk result.0 (λ r. EndsPrinted W.allows (defined.opened image.now options edges.now) r (O.failures out, O.taken out) (O.failures result.1, O.taken result.1)) }
+    ensures refused { IfErr result.0 (λ fault. IsNotRun W.allows (defined.opened image.now options edges.now) (O.failures out, O.taken out) (O.failures result.1, O.taken result.1) fault) }
+{
+    let (played, out) = play(rt, alloc, image, options, edges, world, bell, out);
+    (printed_run(alloc, played), out)
+}
+
+/// How a round ended.
+enum Round {
+    /// The manifest was remade, and has to be read again.
+    Remade,
+    /// The manifest's maker, or an edge that it needs, did not succeed.
+    Failed,
+    /// The manifest is up to date, and this is its image.
+    UpToDate(Verified),
+}
+
+/// Returns how a round ended in which the manifest's maker was run alone, with this report.
+fn round_of(image: Verified, maker: u32, report: Report) -> Round
+    requires { IsStateOf image report.state }
+    ensures { IsRoundOf image maker report result }
+{
+    let well = all_done(&image, &report.state);
+    let ran = report.state.outcome(maker) == Some(Outcome::Ran);
+    forget(report);
+    if !well {
+        forget(image);
+        return Round::Failed;
+    }
+    if !ran {
+        return Round::UpToDate(image);
+    }
+    forget(image);
+    Round::Remade
+}
+
+/// Reads the manifest, and runs the edge that makes it, if there is one.
+fn update_manifest<
+    S: Source,
+    W: World + Send + Sync,
+    O: Sink + Send + Drop,
+    R: Threads + Wait + Sync,
+>(
+    rt: &R,
+    alloc: Global,
+    source: &mut S,
+    order: &Order<'_>,
+    world: &W,
+    bell: &Parker,
+    out: O,
+) -> (Result<Round, PlanFault>, O)
+    ensures round { let a = defined.asked order.now.manifest.now order.now.options (map (λ n. n.now) order.now.targets.now) in
+        IfOk result.0 (λ r. EndsRound (S.gives source.old) W.allows a (O.failures out, O.taken out) (O.failures result.1, O.taken result.1) r) }
+    ensures whole { OnOk result.0 (S.failures source.new ≡ S.failures source.old) }
+    ensures same { SameFiles (S.gives source.new) (S.fails source.new) (S.gives source.old) (S.fails source.old) }
+    ensures refused { let a = defined.asked order.now.manifest.now order.now.options (map (λ n. n.now) order.now.targets.now) in
+        let missing = IsMissing (S.gives source.old) (S.fails source.old) (S.failures source.old) (S.failures source.new) in
+        IfErr result.0 (λ fault. RoundStops (S.gives source.old) missing W.allows a (O.failures out, O.taken out) (O.failures result.1, O.taken result.1) fault) }
+{
+    let image = match read_image(rt, alloc, order.options.jobs(), source, order.manifest) {
+        Ok(image) => image,
+        Err(fault) => return (Err(fault), out),
+    };
+    let maker = match maker_of(alloc, image.image(), order.manifest) {
+        Ok(Some(maker)) => maker,
+        Ok(None) => return (Ok(Round::UpToDate(image)), out),
+        Err(fault) => {
+            forget(image);
+            return (Err(fault), out);
+        }
+    };
+    let (ran, out) = run_edges(rt, alloc, &image, order.options, &[maker], world, bell, out);
+    match ran {
+        Ok(report) => (Ok(round_of(image, maker, report)), out),
+        Err(fault) => {
+            forget(image);
+            (Err(fault), out)
+        }
+    }
+}
+
+/// Checks whether a command ran in a run of the image, and its edge succeeded.
+fn has_run(image: &Verified, report: &Report) -> bool
+    requires { IsStateOf image.now report.now.state }
+    ensures ran { result ≡ true → HasRun report.now }
+    ensures idle { result ≡ false → HasRunNothing report.now }
+{
+    for edge in 0..image.image().parts().edges.len() {
+        if report.state.outcome(edge as u32) == Some(Outcome::Ran) {
+            return true;
+        }
+    }
+    false
+}
+
+/// Returns how a build ends whose last run has this report.
+fn end_of(image: &Verified, report: &Report) -> Done
+    requires { IsStateOf image.now report.now.state }
+    ensures { EndsAs image.now report.now result }
+{
+    if !all_done(image, &report.state) {
+        return Done::Failed;
+    }
+    if has_run(image, report) {
+        return Done::Built;
+    }
+    Done::UpToDate
+}
+
+/// Runs the image of a manifest that is up to date for the targets.
+fn build_targets<W: World + Send + Sync, O: Sink + Send + Drop, R: Threads + Wait + Sync>(
+    rt: &R,
+    alloc: Global,
+    image: Verified,
+    order: &Order<'_>,
+    world: &W,
+    bell: &Parker,
+    out: O,
+) -> (Result<Done, PlanFault>, O)
+    ensures done { let a = defined.asked order.now.manifest.now order.now.options (map (λ n. n.now) order.now.targets.now) in
+        IfOk result.0 (λ d. RunsTargets W.allows a image (O.failures out, O.taken out) (O.failures result.1, O.taken result.1) d) }
+    ensures refused { let a = defined.asked order.now.manifest.now order.now.options (map (λ n. n.now) order.now.targets.now) in
+        IfErr result.0 (λ fault. TargetsStop W.allows a image (O.failures out, O.taken out) (O.failures result.1, O.taken result.1) fault) }
+{
+    let edges = match targets_of(alloc, image.image(), order.targets) {
+        Ok(edges) => edges,
+        Err(fault) => {
+            forget(image);
+            return (Err(fault), out);
+        }
+    };
+    let (ran, out) = run_edges(rt, alloc, &image, order.options, &edges, world, bell, out);
+    match ran {
+        Ok(report) => {
+            let done = end_of(&image, &report);
+            // They are not freed piece by piece: the program ends soon.
+            forget(report);
+            forget(image);
+            (Ok(done), out)
+        }
+        Err(fault) => {
+            forget(image);
+            (Err(fault), out)
+        }
+    }
+}
+
+/// Builds the targets of a manifest, prints the status lines while commands run, and returns how the build ended. The sink
+/// comes back. Unparking the bell makes the lines that are there be printed.
+///
+/// The manifest is read and compiled. If an edge makes it, that edge is run first, with all that it needs. As long as its
+/// command ran, the manifest is read again, at most 100 times (the Ninja manual, "The build file": a build statement may
+/// have the manifest as its output). Then the image of the manifest that was read last is run for the targets.
+///
+/// # Errors
+/// - The manifest, or a file that it includes, is missing or refused, or it has no graph or no image: as of `do_compile`.
+/// - 132, with the name: the first target that no edge makes. The manifest is up to date then.
+/// - 110, 120 to 122: lanes stopped. The lines of what was done were printed, or a prefix of them.
+/// - 133 ` -`: the lines were not printed to the end.
+/// - 111, 131 or the number of a lower layer: memory ran out.
+pub fn do_build<S: Source, W: World + Send + Sync, O: Sink + Send + Drop, R: Threads + Wait + Sync>(
+    rt: &R,
+    alloc: Global,
+    source: &mut S,
+    order: &Order<'_>,
+    world: &W,
+    bell: &Parker,
+    out: O,
+) -> (Result<Done, PlanFault>, O)
+    ensures done { let a = defined.asked order.now.manifest.now order.now.options (map (λ n. n.now) order.now.targets.now) in
+        IfOk result.0 (λ d. Builds (S.gives source.old) W.allows a (O.failures out, O.taken out) (O.failures result.1, O.taken result.1) d) }
+    ensures read { OnOk result.0 (S.failures source.new ≡ S.failures source.old) }
+    ensures refused { let a = defined.asked order.now.manifest.now order.now.options (map (λ n. n.now) order.now.targets.now) in
+        let missing = IsMissing (S.gives source.old) (S.fails source.old) (S.failures source.old) (S.failures source.new) in
+        IfErr result.0 (λ fault. Stops (S.gives source.old) missing W.allows a (O.failures out, O.taken out) (O.failures result.1, O.taken result.1) fault) }
+{
+    let mut out = out;
+    for _ in 0..MOST_ROUNDS {
+        let (round, left) = update_manifest(rt, alloc, source, order, world, bell, out);
+        out = left;
+        match round {
+            Ok(Round::Remade) => {}
+            Ok(Round::Failed) => return (Ok(Done::ManifestFails), out),
+            Ok(Round::UpToDate(image)) => {
+                return build_targets(rt, alloc, image, order, world, bell, out);
+            }
+            Err(fault) => return (Err(fault), out),
+        }
+    }
+    (Ok(Done::NeverSettles), out)
+}

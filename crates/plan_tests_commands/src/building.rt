@@ -1,0 +1,241 @@
+//! Builds of manifests in memory, in a world in which the manifest's maker is out of date a number of times.
+
+use crate::fakes::{Failing, Generator, Versions};
+use plan_commands::{Done, Order, PlanFault, do_build};
+use plan_machine::Options;
+use plan_text::{Counted, Sink};
+use std::alloc::{AllocError, Global};
+use std::mem::forget;
+use std::sync::Wait;
+use std::test::Fail;
+use std::thread::{Parker, Threads};
+
+/// What a build printed, and how it ended; or the line of its fault.
+type Told = (Vec<u8>, Result<Done, Vec<u8>>);
+
+/// No edge makes it.
+const PLAIN: &[u8] = b"rule cc\n  command = cc $in -o $out\nbuild out: cc in\n";
+
+/// An edge makes it.
+const MADE: &[u8] =
+    b"rule cc\n  command = cc $in -o $out\nbuild out: cc in\nrule make\n  command = make $out\n  generator = 1\nbuild build.ninja: make in\n";
+
+/// Another edge makes it, and it has another target.
+const REMADE: &[u8] =
+    b"rule cc\n  command = cc $in -o $out\nbuild other: cc in\nrule make\n  command = again $out\n  generator = 1\nbuild build.ninja: make in\n";
+
+/// An edge makes it, and its other target, `done`, is up to date.
+const IDLE: &[u8] =
+    b"rule make\n  command = make $out\n  generator = 1\nbuild build.ninja: make in\nbuild done: make in\ndefault done\n";
+
+/// Builds targets of a manifest that changes between its reads, and prints the lines to a sink.
+fn build_to<'x, R: Threads + Wait + Sync + AllocGlobal, O: Sink + Send + Drop>(
+    rt: &R,
+    texts: &'x [&'x [u8]],
+    targets: &'x [&'x [u8]],
+    world: &Generator,
+    out: O,
+) -> Result<(Result<Done, PlanFault>, O), Fail> {
+    let mut source = Versions::new(texts);
+    let Some(options) = Options::new(1, 1) else {
+        return Err(Fail::from(AllocError));
+    };
+    let order = Order {
+        manifest: b"build.ninja",
+        options,
+        targets,
+    };
+    let bell = Parker::new();
+    Ok(do_build(rt, rt.alloc(), &mut source, &order, world, &bell, out))
+}
+
+/// Returns how a build ended, or the line of its fault.
+fn line_of(alloc: Global, done: Result<Done, PlanFault>) -> Result<Result<Done, Vec<u8>>, Fail> {
+    match done {
+        Ok(done) => Ok(Ok(done)),
+        Err(fault) => Ok(Err(fault.line(alloc)?)),
+    }
+}
+
+/// Builds targets of a manifest that changes between its reads.
+fn built<'x, R: Threads + Wait + Sync + AllocGlobal>(
+    rt: &R,
+    texts: &'x [&'x [u8]],
+    targets: &'x [&'x [u8]],
+    world: &Generator,
+) -> Result<Told, Fail> {
+    let out = Counted::new(Vec::new(rt.alloc()));
+    let (done, out) = build_to(rt, texts, targets, world, out)?;
+    Ok((out.into_writer(), line_of(rt.alloc(), done)?))
+}
+
+#[test]
+fn manifest_without_a_maker_is_built(rt: HostRuntime) -> Result<(), Fail> {
+    let world = Generator::new(0, 0);
+    let (text, done) = built(&rt, &[PLAIN], &[], &world)?;
+    assert_eq!(rt; text.as_slice(), b"[1/1] cc in -o out\n".as_slice());
+    assert!(rt; matches!(&done, Ok(Done::Built)));
+    Ok(())
+}
+
+#[test]
+fn clean_maker_does_not_run(rt: HostRuntime) -> Result<(), Fail> {
+    let world = Generator::new(0, 0);
+    let (text, done) = built(&rt, &[MADE], &[b"out"], &world)?;
+    assert_eq!(rt; text.as_slice(), b"[1/1] cc in -o out\n".as_slice());
+    assert!(rt; matches!(&done, Ok(Done::Built)));
+    assert!(rt; world.commands() == 1);
+    Ok(())
+}
+
+/// The image of the second manifest is run, and its maker is found to be clean.
+#[test]
+fn remade_manifest_is_read_again(rt: HostRuntime) -> Result<(), Fail> {
+    let world = Generator::new(1, 0);
+    let (text, done) = built(&rt, &[MADE, REMADE], &[b"other"], &world)?;
+    assert_eq!(rt;
+        text.as_slice(),
+        b"[1/1] make build.ninja\n[1/1] cc in -o other\n".as_slice()
+    );
+    assert!(rt; matches!(&done, Ok(Done::Built)));
+    assert!(rt; world.commands() == 2);
+    Ok(())
+}
+
+/// The command of the second manifest's maker runs in the second round.
+#[test]
+fn manifest_is_remade_twice(rt: HostRuntime) -> Result<(), Fail> {
+    let world = Generator::new(2, 0);
+    let (text, done) = built(&rt, &[MADE, REMADE, IDLE], &[], &world)?;
+    assert_eq!(rt;
+        text.as_slice(),
+        b"[1/1] make build.ninja\n[1/1] again build.ninja\n".as_slice()
+    );
+    assert!(rt; matches!(&done, Ok(Done::UpToDate)));
+    Ok(())
+}
+
+#[test]
+fn nothing_to_do_is_up_to_date(rt: HostRuntime) -> Result<(), Fail> {
+    let world = Generator::new(0, 0);
+    let (text, done) = built(&rt, &[IDLE], &[], &world)?;
+    assert!(rt; text.is_empty());
+    assert!(rt; matches!(&done, Ok(Done::UpToDate)));
+    assert!(rt; world.commands() == 0);
+    Ok(())
+}
+
+/// A command that remade the manifest is no work for the targets.
+#[test]
+fn remaking_is_no_work(rt: HostRuntime) -> Result<(), Fail> {
+    let world = Generator::new(1, 0);
+    let (text, done) = built(&rt, &[IDLE], &[], &world)?;
+    assert_eq!(rt; text.as_slice(), b"[1/1] make build.ninja\n".as_slice());
+    assert!(rt; matches!(&done, Ok(Done::UpToDate)));
+    Ok(())
+}
+
+#[test]
+fn failed_command_fails_the_build(rt: HostRuntime) -> Result<(), Fail> {
+    let world = Generator::new(0, 3);
+    let (text, done) = built(&rt, &[MADE], &[b"out"], &world)?;
+    assert_eq!(rt; text.as_slice(), b"FAILED out: exit 3\n".as_slice());
+    assert!(rt; matches!(&done, Ok(Done::Failed)));
+    Ok(())
+}
+
+#[test]
+fn failed_maker_ends_the_build(rt: HostRuntime) -> Result<(), Fail> {
+    let world = Generator::new(1, 3);
+    let (text, done) = built(&rt, &[MADE], &[], &world)?;
+    assert_eq!(rt; text.as_slice(), b"FAILED build.ninja: exit 3\n".as_slice());
+    assert!(rt; matches!(&done, Ok(Done::ManifestFails)));
+    assert!(rt; world.commands() == 1);
+    Ok(())
+}
+
+#[test]
+fn manifest_never_settles(rt: HostRuntime) -> Result<(), Fail> {
+    let world = Generator::new(1_000, 0);
+    let (text, done) = built(&rt, &[MADE], &[], &world)?;
+    assert!(rt; text.len() == 100 * b"[1/1] make build.ninja\n".len());
+    assert!(rt; matches!(&done, Ok(Done::NeverSettles)));
+    assert!(rt; world.commands() == 100);
+    Ok(())
+}
+
+/// A target is unknown only if the manifest that was read last has no edge that makes it.
+#[test]
+fn unknown_target_is_named(rt: HostRuntime) -> Result<(), Fail> {
+    let world = Generator::new(1, 0);
+    let (text, done) = built(&rt, &[MADE, REMADE], &[b"other", b"out"], &world)?;
+    assert_eq!(rt; text.as_slice(), b"[1/1] make build.ninja\n".as_slice());
+    match done {
+        Err(line) => assert_eq!(rt;
+            line.as_slice(),
+            b"plan: 132 UnknownTarget out\n".as_slice()
+        ),
+        Ok(_) => panic!(rt; "no refusal"),
+    }
+    Ok(())
+}
+
+#[test]
+fn missing_manifest_is_20(rt: HostRuntime) -> Result<(), Fail> {
+    let world = Generator::new(0, 0);
+    let (text, done) = built(&rt, &[], &[], &world)?;
+    assert!(rt; text.is_empty());
+    match done {
+        Err(line) => {
+            assert_eq!(rt;
+                line.as_slice(),
+                b"plan: 20 SourceMissing build.ninja:0\n".as_slice()
+            )
+        }
+        Ok(_) => panic!(rt; "no refusal"),
+    }
+    Ok(())
+}
+
+/// A manifest that is refused after it was remade is the fault, and the targets are not run.
+#[test]
+fn refused_remade_manifest_stops(rt: HostRuntime) -> Result<(), Fail> {
+    let world = Generator::new(1, 0);
+    let (text, done) = built(&rt, &[MADE, b"build out: cc in\n"], &[], &world)?;
+    assert_eq!(rt; text.as_slice(), b"[1/1] make build.ninja\n".as_slice());
+    match done {
+        Err(line) => assert_eq!(rt;
+            line.as_slice(),
+            b"plan: 31 UnknownRule build.ninja:0\n".as_slice()
+        ),
+        Ok(_) => panic!(rt; "no refusal"),
+    }
+    assert!(rt; world.commands() == 1);
+    Ok(())
+}
+
+#[test]
+fn lost_lines_are_133(rt: HostRuntime) -> Result<(), Fail> {
+    let world = Generator::new(1, 0);
+    let (done, out) = build_to(&rt, &[MADE], &[], &world, Failing::new(0))?;
+    forget(out);
+    match line_of(rt.alloc(), done)? {
+        Err(line) => assert_eq!(rt; line.as_slice(), b"plan: 133 FileFault -\n".as_slice()),
+        Ok(_) => panic!(rt; "no refusal"),
+    }
+    Ok(())
+}
+
+#[test]
+fn ends_have_statuses(rt: HostRuntime) -> Result<(), Fail> {
+    for (done, status) in [
+        (Done::Built, 0),
+        (Done::UpToDate, 0),
+        (Done::Failed, 1),
+        (Done::ManifestFails, 1),
+        (Done::NeverSettles, 1),
+    ] {
+        assert!(rt; done.status() == status);
+    }
+    Ok(())
+}
