@@ -1,0 +1,88 @@
+//! Standard output, as several threads share it.
+
+ghost use Rattle.std.specs.Prelude.{◌≡◌};
+
+use plan_text::{Sink, SinkFault, Tally};
+use std::io;
+use std::io::Write;
+use std::sync::{Mutex, Wait};
+
+/// Standard output, locked while a piece is written, which is written whole: so it waits while a console command runs, and
+/// doesn't come between what another command printed.
+#[derive(Drop)]
+pub struct Screen<'a, R> {
+    rt: &'a R,
+    lock: &'a Mutex<()>,
+    failures: Tally,
+}
+
+impl<'a, R: Print + Wait> Screen<'a, R> {
+    /// The standard output of a runtime, no write of which has failed, and the lock that is held round its writes.
+    pub fn new(rt: &'a R, lock: &'a Mutex<()>) -> Screen<'a, R>
+        ensures { result.failures.count ≡ 0 }
+    {
+        Screen {
+            rt,
+            lock,
+            failures: Tally::new(),
+        }
+    }
+}
+
+impl<R: Print + Wait> Sink for Screen<'_, R> {
+    ghost use Rattle.std.specs.Prelude.{None};
+
+    ghost failures = { λ s. s.failures.count };
+
+    ghost taken = { λ _. None };
+
+    fn write(&mut self, bytes: &[u8]) -> Result<usize, SinkFault> {
+        let guard = self.lock.lock(self.rt);
+        let written = io::writer(self.rt).write_all(bytes);
+        drop(guard);
+        match written {
+            Ok(()) => Ok(bytes.len()),
+            Err(_) => {
+                self.failures = self.failures.next();
+                Err(SinkFault)
+            }
+        }
+    }
+}
+
+/// Standard output, unlocked.
+#[derive(Drop)]
+pub struct Standard<'a, R> {
+    rt: &'a R,
+    failures: Tally,
+}
+
+impl<'a, R: Print> Standard<'a, R> {
+    /// Returns the standard output of a runtime, no write of which has failed.
+    pub fn new(rt: &'a R) -> Standard<'a, R>
+        ensures { result.failures.count ≡ 0 }
+    {
+        Standard {
+            rt,
+            failures: Tally::new(),
+        }
+    }
+}
+
+impl<R: Print> Sink for Standard<'_, R> {
+    ghost use Rattle.std.specs.Prelude.{None};
+
+    ghost failures = { λ s. s.failures.count };
+
+    ghost taken = { λ _. None };
+
+    fn write(&mut self, bytes: &[u8]) -> Result<usize, SinkFault> {
+        match io::writer(self.rt).write_all(bytes) {
+            Ok(()) => Ok(bytes.len()),
+            Err(_) => {
+                self.failures = self.failures.next();
+                Err(SinkFault)
+            }
+        }
+    }
+}

@@ -1,0 +1,236 @@
+//! Arguments at which the program ends before it does anything else.
+
+use crate::said::{REFUSED, complain, say, status_after};
+use plan_options::{
+    Argument, CommandLine, Flag, Misuse, Setting, Stop, flags_named, name_of, stop_of,
+};
+use plan_text::Memory;
+use std::alloc::{AllocError, Global};
+
+/// The version of ninja that programs are told. Since 1.10 they use dyndep, which this program doesn't know.
+const VERSION: &[u8] = b"1.9.0\n";
+
+const ABOUT: &[u8] = b"plan_build 0.2.0: a formally verified builder with ninja's command line.
+It is proved that a build which ends with status 0 ran what the manifest's out-of-date rule asks for, and nothing else:
+GUARANTEE.md (share/doc/plan_ninja, or docs/ of the sources) has the words and their limits.
+";
+
+const USAGE_TO_JOBS: &[u8] = b"usage: ninja [options] [targets...]
+
+if targets are unspecified, builds the 'default' target (see manual).
+
+options:
+  --version      print the ninja version whose features are supported (\"1.9.0\")
+  --about        print what this program is: plan_build of plan_ninja
+  -v, --verbose  show all command lines while building
+  --quiet        don't show progress status, just command output
+
+  -C DIR   change to DIR before doing anything else
+  -f FILE  specify input build file [default=build.ninja]
+
+  -j N     run N jobs in parallel (0 means 64, the most) [default=";
+
+const USAGE_AFTER_JOBS: &[u8] = b" on this system]
+  -k N     keep going until N jobs fail (0 means infinity) [default=1]
+
+  -t TOOL  run a subtool (use '-t list' to list subtools)
+    terminates toplevel options; further flags are passed to the tool
+
+without effect, with a warning:
+  -l N     do not start new jobs if the load average is greater than N
+  -d MODE  enable debugging (use '-d list' to list modes)
+  -w FLAG  adjust warnings (use '-w list' to list warnings)
+";
+
+const MODES: &[u8] = b"debugging modes:
+  stats        print operation counts/timing info
+  explain      explain what caused a command to execute
+  keepdepfile  don't delete depfiles after they're read by ninja
+  keeprsp      don't delete @response files on success
+multiple modes can be enabled via -d FOO -d BAR
+";
+
+const WARNINGS: &[u8] = b"warning flags:
+  phonycycle={err,warn}  phony build statement references itself
+";
+
+/// Returns the digits of a number, or a mark if there was no memory for them.
+fn digits_in(digits: &Result<String, AllocError>) -> &[u8] {
+    match digits {
+        Ok(digits) => digits.as_bytes(),
+        Err(_) => b"?",
+    }
+}
+
+/// Prints the options on standard error, after a line on what is wrong.
+fn print_usage<E: Print>(alloc: Global, errors: &E, line: &[u8], jobs: u8) {
+    let digits: Result<String, AllocError> = jobs.to_string(alloc);
+    let default = digits_in(&digits);
+    complain(
+        alloc,
+        errors,
+        &[&*line, USAGE_TO_JOBS, &*default, USAGE_AFTER_JOBS],
+    );
+}
+
+/// Appends ` '--NAME'` of each long option that begins with this.
+fn append_possible(alloc: Global, text: &mut Vec<u8>, front: &[u8]) -> Result<(), Memory> {
+    for flag in flags_named(alloc, front)? {
+        text.extend_from_slice(b" '--")?;
+        text.extend_from_slice(name_of(flag))?;
+        text.push(b'\'')?;
+    }
+    Ok(())
+}
+
+/// Returns what is wrong with a word, as C's getopt_long says it after the program's name.
+fn misuse_text(alloc: Global, misuse: &Misuse) -> Result<Vec<u8>, Memory> {
+    let mut text = Vec::new(alloc);
+    match misuse {
+        Misuse::UnknownLetter(letter) => {
+            text.extend_from_slice(b"invalid option -- '")?;
+            text.push(*letter)?;
+            text.push(b'\'')?;
+        }
+        Misuse::UnknownName(word) => {
+            text.extend_from_slice(b"unrecognized option '")?;
+            text.extend_from_slice(word.as_slice())?;
+            text.push(b'\'')?;
+        }
+        Misuse::Ambiguous(word) => {
+            text.extend_from_slice(b"option '")?;
+            text.extend_from_slice(word.as_slice())?;
+            text.extend_from_slice(b"' is ambiguous; possibilities:")?;
+            append_possible(
+                alloc,
+                &mut text,
+                plan_options::long_name_in(word.as_slice()),
+            )?;
+        }
+        Misuse::TakesNoValue(flag) => {
+            text.extend_from_slice(b"option '--")?;
+            text.extend_from_slice(name_of(*flag))?;
+            text.extend_from_slice(b"' doesn't allow an argument")?;
+        }
+        Misuse::NeedsValue(setting) => {
+            text.extend_from_slice(b"option requires an argument -- '")?;
+            text.push(setting.letter())?;
+            text.push(b'\'')?;
+        }
+    }
+    Ok(text)
+}
+
+/// Says what is wrong with an argument that isn't understood, and prints the options.
+fn refuse_misuse<E: Print>(
+    alloc: Global,
+    errors: &E,
+    program: &[u8],
+    jobs: u8,
+    argument: &Argument,
+) {
+    let mut line = Vec::new(alloc);
+    if let Argument::Misuse(misuse) = argument {
+        if let Ok(text) = misuse_text(alloc, misuse) {
+            let _ = line.extend_from_slice(program);
+            let _ = line.extend_from_slice(b": ");
+            let _ = line.extend_from_slice(&text);
+            let _ = line.push(b'\n');
+        }
+    }
+    print_usage(alloc, errors, &line, jobs);
+}
+
+/// Returns the value of an option.
+fn value_in(argument: &Argument) -> &[u8] {
+    match argument {
+        Argument::Setting(_, value) => value.as_slice(),
+        _ => b"",
+    }
+}
+
+/// Says why the value of an option is refused.
+fn refuse_value<E: Print>(alloc: Global, errors: &E, stop: Stop, value: &[u8]) {
+    match stop {
+        Stop::InvalidJobs => complain(alloc, errors, &[b"ninja: fatal: invalid -j parameter\n"]),
+        Stop::InvalidFailures => complain(
+            alloc,
+            errors,
+            &[b"ninja: fatal: -k parameter not numeric; did you mean -k 0?\n"],
+        ),
+        Stop::InvalidLoad => complain(
+            alloc,
+            errors,
+            &[b"ninja: fatal: -l parameter not numeric: did you mean -l 0.0?\n"],
+        ),
+        Stop::UnknownMode => {
+            complain(
+                alloc,
+                errors,
+                &[b"ninja: error: unknown debug setting '", &*value, b"'\n"],
+            )
+        }
+        Stop::UnknownWarning => {
+            complain(
+                alloc,
+                errors,
+                &[b"ninja: error: unknown warning flag '", &*value, b"'\n"],
+            )
+        }
+        _ => complain(
+            alloc,
+            errors,
+            &[b"ninja: error: -n (a dry run) is not supported\n"],
+        ),
+    }
+}
+
+/// Says what an argument asks for at which the program ends, or why it is refused, and returns the exit status.
+pub fn stop_at<R: Print + AllocGlobal, E: Print>(
+    rt: &R,
+    errors: &E,
+    program: &[u8],
+    jobs: u8,
+    argument: &Argument,
+) -> u8 {
+    let alloc = rt.alloc();
+    match stop_of(argument) {
+        Some(Stop::Version) => status_after(say(rt, errors, &[VERSION]), 0),
+        Some(Stop::About) => status_after(say(rt, errors, &[ABOUT]), 0),
+        Some(Stop::ModeList) => status_after(say(rt, errors, &[MODES]), REFUSED),
+        Some(Stop::WarningList) => status_after(say(rt, errors, &[WARNINGS]), REFUSED),
+        Some(Stop::Help) | Some(Stop::Misuse) | None => {
+            refuse_misuse(alloc, errors, program, jobs, argument);
+            REFUSED
+        }
+        Some(stop) => {
+            refuse_value(alloc, errors, stop, value_in(argument));
+            REFUSED
+        }
+    }
+}
+
+/// Says on standard error which options have no effect.
+pub fn warn<E: Print>(alloc: Global, errors: &E, line: &CommandLine) {
+    if let Some(mode) = line.value(Setting::Mode) {
+        complain(
+            alloc,
+            errors,
+            &[b"ninja: warning: -d ", &*mode, b" has no effect\n"],
+        );
+    }
+    if let Some(load) = line.value(Setting::Load) {
+        complain(
+            alloc,
+            errors,
+            &[b"ninja: warning: -l ", &*load, b" has no effect\n"],
+        );
+    }
+    if let Some(warning) = line.value(Setting::Warning) {
+        complain(
+            alloc,
+            errors,
+            &[b"ninja: warning: -w ", &*warning, b" has no effect\n"],
+        );
+    }
+}

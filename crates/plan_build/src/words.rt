@@ -1,0 +1,43 @@
+//! The words that the program was started with.
+
+use plan_text::Memory;
+use std::alloc::Global;
+use std::rt::Env;
+use std::{env, io};
+
+/// Returns the words of the command line, the program's own name first.
+///
+/// # Errors
+/// Why they can't be read: one isn't UTF-8, or memory runs out.
+pub fn words_in<R: Env + AllocGlobal>(rt: &R) -> Result<Vec<String>, &'static [u8]> {
+    match env::args(rt) {
+        Ok(words) => match words.collect(rt.alloc()) {
+            Ok(words) => Ok(words),
+            Err(_) => Err(b"out of memory"),
+        },
+        Err(error) => match error.kind() {
+            io::ErrorKind::InvalidData => Err(b"an argument is not valid UTF-8"),
+            _ => Err(b"out of memory"),
+        },
+    }
+}
+
+/// Returns the program's own name.
+pub fn name_in(words: &[String]) -> &[u8] {
+    match words {
+        [name, ..] => name.as_bytes(),
+        [] => b"ninja",
+    }
+}
+
+/// Returns the words after the program's own name.
+///
+/// # Errors
+/// `Memory` if memory runs out.
+pub fn after_name(alloc: Global, words: &[String]) -> Result<Vec<&[u8]>, Memory> {
+    let mut after = Vec::with_capacity(alloc, words.len())?;
+    for word in words.iter().skip(1) {
+        after.push(word.as_bytes())?;
+    }
+    Ok(after)
+}

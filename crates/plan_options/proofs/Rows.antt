@@ -1,0 +1,118 @@
+-- Worked examples of command lines.
+use Rattle.std.proofs.Common.{◌≡◌, List, [], ◌∷◌, refl, ℕ}
+use Rattle.std.specs.Prelude.{codes, Option, Some, None}
+use Rattle.plan_options.specs.declared.argument.Flag.TheVariants as flag
+use Rattle.plan_options.specs.declared.argument.Setting.TheVariants as setting
+use Rattle.plan_options.specs.declared.argument.Misuse.TheVariants as misuse
+use Rattle.plan_options.specs.declared.argument.Argument.{Argument}
+use Rattle.plan_options.specs.declared.argument.Argument.TheVariants as argument
+use Rattle.plan_options.specs.declared.stop.Stop.TheVariants as stop
+use Rattle.plan_options.specs.declared.integer.Integer.TheVariants.{Negative, AtLeastZero}
+use Rattle.plan_options.specs.Integers.{integer_in}
+use Rattle.plan_options.specs.Reading.{Text, reading}
+use Rattle.plan_options.specs.Stops.{stop_of_load, stop_of_mode}
+use Rattle.plan_options.specs.Saying.{failures, first_stop, jobs, last_value, targets, tool_words, verbosity}
+
+-- `-vj3 a -f x b`
+letters_share_a_word : reading (codes "-vj3" ∷ codes "a" ∷ codes "-f" ∷ codes "x" ∷ codes "b" ∷ [])
+    ≡ argument.Flag flag.Verbose ∷ argument.Setting setting.Jobs (codes "3") ∷ argument.Target (codes "a") ∷ argument.Setting setting.Manifest (codes "x") ∷ argument.Target (codes "b") ∷ []
+letters_share_a_word = refl
+
+-- `-j -1`: a value may begin with a hyphen
+value_with_a_hyphen : reading (codes "-j" ∷ codes "-1" ∷ []) ≡ argument.Setting setting.Jobs (codes "-1") ∷ []
+value_with_a_hyphen = refl
+
+-- `-C -- -- -v -`
+targets_after_dashes : reading (codes "-C" ∷ codes "--" ∷ codes "--" ∷ codes "-v" ∷ codes "-" ∷ [])
+    ≡ argument.Setting setting.Folder (codes "--") ∷ argument.Target (codes "-v") ∷ argument.Target (codes "-") ∷ []
+targets_after_dashes = refl
+
+-- `-t clean -g x --version`
+words_of_a_tool : reading (codes "-t" ∷ codes "clean" ∷ codes "-g" ∷ codes "x" ∷ codes "--version" ∷ [])
+    ≡ argument.Setting setting.Tool (codes "clean") ∷ argument.ToolWord (codes "-g") ∷ argument.ToolWord (codes "x") ∷ argument.ToolWord (codes "--version") ∷ []
+words_of_a_tool = refl
+
+-- `-vtclean -g`
+joined_tool : reading (codes "-vtclean" ∷ codes "-g" ∷ []) ≡ argument.Flag flag.Verbose ∷ argument.Setting setting.Tool (codes "clean") ∷ argument.ToolWord (codes "-g") ∷ []
+joined_tool = refl
+
+-- `--verb --q --vers`
+shortened_names : reading (codes "--verb" ∷ codes "--q" ∷ codes "--vers" ∷ []) ≡ argument.Flag flag.Verbose ∷ argument.Flag flag.Quiet ∷ argument.Flag flag.Version ∷ []
+shortened_names = refl
+
+-- `a --ver b`
+ambiguous_name : reading (codes "a" ∷ codes "--ver" ∷ codes "b" ∷ []) ≡ argument.Target (codes "a") ∷ argument.Misuse (misuse.Ambiguous (codes "--ver")) ∷ []
+ambiguous_name = refl
+
+-- `--nosuch=1`
+unknown_name : reading (codes "--nosuch=1" ∷ []) ≡ argument.Misuse (misuse.UnknownName (codes "--nosuch=1")) ∷ []
+unknown_name = refl
+
+-- `--quiet=`
+no_value_taken : reading (codes "--quiet=" ∷ []) ≡ argument.Misuse (misuse.TakesNoValue flag.Quiet) ∷ []
+no_value_taken = refl
+
+-- `-vxj3`
+unknown_letter : reading (codes "-vxj3" ∷ []) ≡ argument.Flag flag.Verbose ∷ argument.Misuse (misuse.UnknownLetter 120) ∷ []
+unknown_letter = refl
+
+-- `a -k`
+missing_value : reading (codes "a" ∷ codes "-k" ∷ []) ≡ argument.Target (codes "a") ∷ argument.Misuse (misuse.NeedsValue setting.Failures) ∷ []
+missing_value = refl
+
+numbers_with_signs : integer_in 64 (codes " +07") ≡ Some (AtLeastZero 7)
+numbers_with_signs = refl
+
+number_below_zero : integer_in 64 (codes "-1") ≡ Some Negative
+number_below_zero = refl
+
+minus_zero : integer_in 64 (codes "-0") ≡ Some (AtLeastZero 0)
+minus_zero = refl
+
+greatest_number : integer_in 64 (codes "100") ≡ Some (AtLeastZero 64)
+greatest_number = refl
+
+no_number : integer_in 64 (codes "3x") ≡ None
+no_number = refl
+
+only_a_sign : integer_in 64 (codes "-") ≡ None
+only_a_sign = refl
+
+load_of_a_half : stop_of_load (codes "-.5") ≡ None
+load_of_a_half = refl
+
+no_load : stop_of_load (codes "x1") ≡ Some stop.InvalidLoad
+no_load = refl
+
+known_mode : stop_of_mode (codes "stats") ≡ None
+known_mode = refl
+
+unknown_mode : stop_of_mode (codes "stat") ≡ Some stop.UnknownMode
+unknown_mode = refl
+
+-- `-j 0 -k -1 --quiet -v x -j7`
+abbrev said : List Argument
+said = reading (codes "-j" ∷ codes "0" ∷ codes "-k" ∷ codes "-1" ∷ codes "--quiet" ∷ codes "-v" ∷ codes "x" ∷ codes "-j7" ∷ [])
+
+last_jobs_count : jobs said ≡ Some 7
+last_jobs_count = refl
+
+no_limit_on_failures : failures 100 said ≡ 0
+no_limit_on_failures = refl
+
+last_verbosity_counts : verbosity said ≡ Some flag.Verbose
+last_verbosity_counts = refl
+
+named_targets : targets said ≡ codes "x" ∷ []
+named_targets = refl
+
+nothing_stops : first_stop said ≡ None
+nothing_stops = refl
+
+-- `-j x --version`: the first counts
+first_stop_counts : first_stop (reading (codes "-j" ∷ codes "x" ∷ codes "--version" ∷ [])) ≡ Some (argument.Setting setting.Jobs (codes "x"))
+first_stop_counts = refl
+
+-- `-j 0`
+as_many_as_can_be : jobs (reading (codes "-j" ∷ codes "0" ∷ [])) ≡ Some 64
+as_many_as_can_be = refl

@@ -1,0 +1,6 @@
+pub mod Integers
+pub mod Letters
+pub mod LongOptions
+pub mod Reading
+pub mod Saying
+pub mod Stops

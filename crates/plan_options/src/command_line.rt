@@ -1,0 +1,229 @@
+//! A command line, and what its arguments say together.
+
+ghost use Rattle.std.specs.Prelude.{◌≡◌, ◌-◌, ◌^◌, IfOk, map, option_map};
+ghost use Rattle.plan_options.specs.Reading as reading;
+ghost use Rattle.plan_options.specs.Saying as defined;
+ghost use Rattle.plan_options.specs.Integers.{integer_in};
+
+use crate::argument::{Argument, Flag, Setting};
+use crate::integer::{Integer, integer_in};
+use crate::reader::arguments;
+use crate::stop::stop_of;
+use plan_text::Memory;
+use std::alloc::Global;
+use std::marker::Model;
+
+/// The arguments of a command line, in their order. A contract sees it as these.
+#[derive(Debug, Drop)]
+pub struct CommandLine {
+    arguments: Vec<Argument>,
+}
+
+impl Model for CommandLine {
+    ghost use Rattle.std.specs.Prelude.{List};
+    ghost use Rattle.plan_options.specs.declared.argument.Argument.{Argument as One};
+
+    ghost Value = { List One };
+
+    ghost view = { λ l. l.arguments.items };
+}
+
+/// The most commands that may run at once.
+const MOST_JOBS: u32 = 64;
+
+/// Returns how many commands a value of `-j` asks for: 0 is as many as there can be.
+fn jobs_of(value: &[u8]) -> Option<u8>
+    ensures { result ≡ defined.jobs_of (integer_in 64 value.now) }
+{
+    match integer_in(value, MOST_JOBS) {
+        Some(Integer::AtLeastZero(0)) => Some(MOST_JOBS as u8),
+        Some(Integer::AtLeastZero(number)) => Some(number as u8),
+        _ => None,
+    }
+}
+
+/// Returns how many failures a value of `-k` asks for: 0, and what is less, is any number.
+fn failures_of(value: &[u8]) -> u32
+    ensures { result ≡ defined.failures_of (integer_in (2 ^ 32 - 1) value.now) }
+{
+    match integer_in(value, u32::MAX) {
+        Some(Integer::AtLeastZero(number)) => number,
+        Some(Integer::Negative) => 0,
+        None => 1,
+    }
+}
+
+/// Returns the first argument at which ninja ends.
+fn first_stop(arguments: &[Argument]) -> Option<&Argument>
+    ensures { option_map (λ a. a.now) result ≡ defined.first_stop arguments.now }
+{
+    for at in 0..arguments.len() {
+        if stop_of(&arguments[at]).is_some() {
+            return Some(&arguments[at]);
+        }
+    }
+    None
+}
+
+/// Returns the value that an argument gives to an option.
+fn value_of(argument: &Argument, setting: Setting) -> Option<&[u8]>
+    ensures { option_map (λ v. v.now) result ≡ defined.value_of setting argument.now }
+{
+    match argument {
+        Argument::Setting(own, value) => {
+            if own.letter() == setting.letter() {
+                Some(value.as_slice())
+            } else {
+                None
+            }
+        }
+        _ => None,
+    }
+}
+
+/// Returns the last value of an option.
+fn last_value(arguments: &[Argument], setting: Setting) -> Option<&[u8]>
+    ensures { option_map (λ v. v.now) result ≡ defined.last_value setting arguments.now }
+{
+    let mut last = None;
+    for at in 0..arguments.len() {
+        let value = value_of(&arguments[at], setting);
+        if value.is_some() {
+            last = value;
+        }
+    }
+    last
+}
+
+/// Returns an argument that is `-v` or `--quiet`.
+fn verbosity_of(argument: &Argument) -> Option<Flag>
+    ensures { result ≡ defined.verbosity_of argument.now }
+{
+    match argument {
+        Argument::Flag(Flag::Verbose) => Some(Flag::Verbose),
+        Argument::Flag(Flag::Quiet) => Some(Flag::Quiet),
+        _ => None,
+    }
+}
+
+/// Returns the last of `-v` and `--quiet`.
+fn last_verbosity(arguments: &[Argument]) -> Option<Flag>
+    ensures { result ≡ defined.verbosity arguments.now }
+{
+    let mut last = None;
+    for at in 0..arguments.len() {
+        let flag = verbosity_of(&arguments[at]);
+        if flag.is_some() {
+            last = flag;
+        }
+    }
+    last
+}
+
+/// Returns the targets among arguments.
+fn targets_in(alloc: Global, arguments: &[Argument]) -> Result<Vec<&[u8]>, Memory>
+    ensures { IfOk result (λ names. map (λ n. n.now) names.items ≡ defined.targets arguments.now) }
+{
+    let mut names = Vec::new(alloc);
+    for at in 0..arguments.len() {
+        if let Argument::Target(name) = &arguments[at] {
+            names.push(name.as_slice())?;
+        }
+    }
+    Ok(names)
+}
+
+/// Returns the words of the tool among arguments.
+fn tool_words_in(alloc: Global, arguments: &[Argument]) -> Result<Vec<&[u8]>, Memory>
+    ensures { IfOk result (λ words. map (λ w. w.now) words.items ≡ defined.tool_words arguments.now) }
+{
+    let mut words = Vec::new(alloc);
+    for at in 0..arguments.len() {
+        if let Argument::ToolWord(word) = &arguments[at] {
+            words.push(word.as_slice())?;
+        }
+    }
+    Ok(words)
+}
+
+impl CommandLine {
+    /// Reads the words after a program's name.
+    ///
+    /// # Errors
+    /// `Memory` if memory runs out.
+    pub fn read(alloc: Global, words: &[&[u8]]) -> Result<CommandLine, Memory>
+        ensures { IfOk result (λ l. l ≡ reading.reading (map (λ w. w.now) words.now)) }
+    {
+        Ok(CommandLine {
+            arguments: arguments(alloc, words)?,
+        })
+    }
+
+    /// Returns the arguments in their order.
+    pub fn arguments(&self) -> &[Argument]
+        ensures { result.now ≡ self.now }
+    {
+        &self.arguments
+    }
+
+    /// Returns the first argument at which ninja ends. None if it goes on.
+    pub fn stop(&self) -> Option<&Argument>
+        ensures { option_map (λ a. a.now) result ≡ defined.first_stop self.now }
+    {
+        first_stop(self.arguments())
+    }
+
+    /// Returns the last value of an option. None if it isn't there.
+    pub fn value(&self, setting: Setting) -> Option<&[u8]>
+        ensures { option_map (λ v. v.now) result ≡ defined.last_value setting self.now }
+    {
+        last_value(self.arguments(), setting)
+    }
+
+    /// Returns the last of `-v` and `--quiet`. None if neither is there.
+    pub fn verbosity(&self) -> Option<Flag>
+        ensures { result ≡ defined.verbosity self.now }
+    {
+        last_verbosity(self.arguments())
+    }
+
+    /// Returns how many commands may run at once, 1 to 64. None if no `-j` says it.
+    pub fn jobs(&self) -> Option<u8>
+        ensures { result ≡ defined.jobs self.now }
+    {
+        match self.value(Setting::Jobs) {
+            Some(value) => jobs_of(value),
+            None => None,
+        }
+    }
+
+    /// Returns after how many failures no more commands start; 0 is any number. It is 1 if no `-k` says it.
+    pub fn failures(&self) -> u32
+        ensures { result ≡ defined.failures (2 ^ 32 - 1) self.now }
+    {
+        match self.value(Setting::Failures) {
+            Some(value) => failures_of(value),
+            None => 1,
+        }
+    }
+
+    /// Returns the targets in their order.
+    ///
+    /// # Errors
+    /// `Memory` if memory runs out.
+    pub fn targets(&self, alloc: Global) -> Result<Vec<&[u8]>, Memory>
+        ensures { IfOk result (λ names. map (λ n. n.now) names.items ≡ defined.targets self.now) }
+    {
+        targets_in(alloc, self.arguments())
+    }
+
+    /// Returns the words of the tool in their order.
+    ///
+    /// # Errors
+    /// `Memory` if memory runs out.
+    pub fn tool_words(&self, alloc: Global) -> Result<Vec<&[u8]>, Memory>
+        ensures { IfOk result (λ words. map (λ w. w.now) words.items ≡ defined.tool_words self.now) }
+    {
+        tool_words_in(alloc, self.arguments())
+    }
+}

@@ -1,0 +1,29 @@
+//! The forms of a word.
+
+ghost use Rattle.std.specs.Prelude.{◌≡◌};
+ghost use Rattle.plan_options.specs.Reading.{form_of};
+
+/// What a word looks like.
+#[derive(Clone, Copy, Debug, PartialEq, Eq)]
+pub(crate) enum Form {
+    /// It is no option: the name of a target.
+    Name,
+    /// It is `--`.
+    Dashes,
+    /// It is `--` and a name.
+    Long,
+    /// It is `-` and letters.
+    Letters,
+}
+
+/// Returns the form of a word.
+pub(crate) fn form_of(word: &[u8]) -> Form
+    ensures { result ≡ form_of word.now }
+{
+    match word {
+        [b'-', b'-'] => Form::Dashes,
+        [b'-', b'-', ..] => Form::Long,
+        [b'-', _, ..] => Form::Letters,
+        _ => Form::Name,
+    }
+}

@@ -1,0 +1,110 @@
+//! Numbers in values of options.
+
+ghost use Rattle.std.specs.Prelude.{◌≡◌, ◌≤◌, length, option_map};
+ghost use Rattle.std.specs.List.{list_all, prefix_len};
+ghost use Rattle.plan_text.specs.Numerals as numerals;
+ghost use Rattle.plan_options.specs.Integers as defined;
+
+use plan_text::number_in;
+
+/// A number that a value says.
+#[derive(Clone, Copy, Debug, PartialEq, Eq)]
+pub enum Integer {
+    /// It is below 0.
+    Negative,
+    /// It is this number, or greater than the most that was asked for, and this is the most.
+    AtLeastZero(u32),
+}
+
+/// Whether a byte is white space of C.
+fn is_white(b: u8) -> bool
+    ensures { result ≡ defined.is_white b }
+{
+    b == b' ' || (9 <= b && b <= 13)
+}
+
+/// Returns how many bytes of white space a text begins with.
+fn white_len(text: &[u8]) -> usize
+    ensures len { result ≡ prefix_len defined.is_white text.now }
+    ensures within { result ≤ length text.now }
+{
+    text.iter().take_while(|b| is_white(**b)).count()
+}
+
+/// Returns a text after the white space that it begins with.
+pub(crate) fn past_white(text: &[u8]) -> &[u8]
+    ensures { result.now ≡ defined.past_white text.now }
+{
+    &text[white_len(text)..]
+}
+
+/// Whether each byte of a text is a digit.
+fn is_all_digits(text: &[u8]) -> bool
+    ensures { result ≡ list_all numerals.is_digit text.now }
+{
+    text.iter().all(|b| matches!(*b, b'0'..=b'9'))
+}
+
+/// Whether a text is a digit or more.
+fn is_numeral(text: &[u8]) -> bool
+    ensures { result ≡ numerals.is_numeral text.now }
+{
+    !text.is_empty() && is_all_digits(text)
+}
+
+/// Returns the number that digits mean, or `most` if it is greater.
+fn magnitude(digits: &[u8], most: u32) -> Option<u32>
+    ensures { result ≡ defined.magnitude most digits.now }
+{
+    if !is_numeral(digits) {
+        return None;
+    }
+    match number_in(digits, u64::from(most)) {
+        Some(number) => Some(number as u32),
+        None => Some(most),
+    }
+}
+
+/// Returns a number with a minus before it.
+fn negative(number: Option<u32>) -> Option<Integer>
+    ensures { result ≡ option_map defined.negative number }
+{
+    match number {
+        Some(0) => Some(Integer::AtLeastZero(0)),
+        Some(_) => Some(Integer::Negative),
+        None => None,
+    }
+}
+
+/// Returns a number without a minus.
+fn at_least_zero(number: Option<u32>) -> Option<Integer>
+    ensures { result ≡ option_map (λ n. Integer.AtLeastZero n) number }
+{
+    match number {
+        Some(number) => Some(Integer::AtLeastZero(number)),
+        None => None,
+    }
+}
+
+/// Returns the number of digits after a sign, or without one.
+fn signed(text: &[u8], most: u32) -> Option<Integer>
+    ensures { result ≡ defined.signed most text.now }
+{
+    match text {
+        [] => None,
+        [b'-', digits @ ..] => negative(magnitude(digits, most)),
+        [b'+', digits @ ..] => at_least_zero(magnitude(digits, most)),
+        _ => at_least_zero(magnitude(text, most)),
+    }
+}
+
+/// Returns the number that a text says in decimal digits, with a sign and white space before it or without them, as C's
+/// strtol reads it; `most` if it is greater. An empty text is 0. None if the text is anything else.
+pub fn integer_in(text: &[u8], most: u32) -> Option<Integer>
+    ensures { result ≡ defined.integer_in most text.now }
+{
+    match text {
+        [] => Some(Integer::AtLeastZero(0)),
+        _ => signed(past_white(text), most),
+    }
+}

@@ -1,0 +1,95 @@
+//! Each public function once, on command lines that ninja 1.11 was given.
+
+use plan_options::*;
+use std::test::Fail;
+
+/// Whether these texts are those.
+fn are_texts(found: &[&[u8]], wanted: &[&[u8]]) -> bool {
+    if found.len() != wanted.len() {
+        return false;
+    }
+    for at in 0..found.len() {
+        if found[at] != wanted[at] {
+            return false;
+        }
+    }
+    true
+}
+
+#[test]
+fn line_with_options(rt: HostRuntime) -> Result<(), Fail> {
+    let words: [&[u8]; 8] = [b"a", b"-vj3", b"-C", b"out", b"--qui", b"-k", b"-1", b"b"];
+    let line = CommandLine::read(rt.alloc(), &words)?;
+    assert_eq!(rt; line.arguments().len(), 7);
+    assert!(rt; line.stop().is_none());
+    assert!(rt; line.value(Setting::Folder) == Some(b"out".as_slice()));
+    assert!(rt; line.value(Setting::Manifest).is_none());
+    assert_eq!(rt; line.verbosity(), Some(Flag::Quiet));
+    assert_eq!(rt; line.jobs(), Some(3));
+    assert_eq!(rt; line.failures(), 0);
+    assert!(rt; are_texts(&line.targets(rt.alloc())?, &[b"a", b"b"]));
+    Ok(())
+}
+
+#[test]
+fn line_with_a_tool(rt: HostRuntime) -> Result<(), Fail> {
+    let words: [&[u8]; 5] = [b"-f", b"x.ninja", b"-tclean", b"-g", b"--version"];
+    let line = CommandLine::read(rt.alloc(), &words)?;
+    assert!(rt; line.stop().is_none());
+    assert!(rt; line.value(Setting::Tool) == Some(b"clean".as_slice()));
+    assert!(rt; are_texts(&line.tool_words(rt.alloc())?, &[b"-g", b"--version"]));
+    assert!(rt; line.targets(rt.alloc())?.is_empty());
+    Ok(())
+}
+
+#[test]
+fn lines_that_end(rt: HostRuntime) -> Result<(), Fail> {
+    for (word, stop) in [
+        (b"--vers".as_slice(), Stop::Version),
+        (b"--help".as_slice(), Stop::Help),
+        (b"-vx".as_slice(), Stop::Misuse),
+        (b"--ver".as_slice(), Stop::Misuse),
+        (b"-j-1".as_slice(), Stop::InvalidJobs),
+        (b"-kx".as_slice(), Stop::InvalidFailures),
+        (b"-lx".as_slice(), Stop::InvalidLoad),
+        (b"-dlist".as_slice(), Stop::ModeList),
+        (b"-dnosuch".as_slice(), Stop::UnknownMode),
+        (b"-wlist".as_slice(), Stop::WarningList),
+        (b"-wnosuch".as_slice(), Stop::UnknownWarning),
+    ] {
+        let line = CommandLine::read(rt.alloc(), &[b"a", word])?;
+        let found = match line.stop() {
+            Some(argument) => stop_of(argument),
+            None => None,
+        };
+        assert_eq!(rt; found, Some(stop));
+    }
+    Ok(())
+}
+
+#[test]
+fn names_of_flags(rt: HostRuntime) -> Result<(), Fail> {
+    let flags = flags_named(rt.alloc(), b"ve")?;
+    assert_eq!(rt; flags.as_slice(), [Flag::Version, Flag::Verbose].as_slice());
+    assert!(rt; name_of(Flag::Quiet) == b"quiet".as_slice());
+    assert!(rt; long_name_in(b"--ver=1") == b"ver".as_slice());
+    assert_eq!(rt; Setting::Tool.letter(), b't');
+    Ok(())
+}
+
+#[test]
+fn numbers(rt: HostRuntime) {
+    for (text, wanted) in [
+        (b"8".as_slice(), Some(Integer::AtLeastZero(8))),
+        (b" +8".as_slice(), Some(Integer::AtLeastZero(8))),
+        (b"".as_slice(), Some(Integer::AtLeastZero(0))),
+        (b"-8".as_slice(), Some(Integer::Negative)),
+        (
+            b"99999999999999999999".as_slice(),
+            Some(Integer::AtLeastZero(64)),
+        ),
+        (b"8x".as_slice(), None),
+    ] {
+        assert_eq!(rt; integer_in(text, 64), wanted);
+    }
+}
