@@ -1,0 +1,205 @@
+//! Each public function once, on a manifest from outside.
+
+use plan_graph::{Graph, graph};
+use plan_scope::{Manifest, Source, SourceFault, Tree, evaluate, load};
+use plan_text::{Counted, RowList};
+use plan_tools::*;
+use std::alloc::Global;
+
+/// A source that gives one text under each path.
+#[derive(Drop)]
+struct Text {
+    bytes: &'static [u8],
+}
+
+impl Source for Text {
+    ghost gives = { λ _ _ _. Unit {0} };
+
+    ghost fails = { λ _ _. ⊥ };
+
+    ghost failures = { λ _. 0 };
+
+    fn read(&mut self, alloc: Global, _path: &[u8]) -> Result<Vec<u8>, SourceFault> {
+        match Vec::from_slice(alloc, self.bytes) {
+            Ok(bytes) => Ok(bytes),
+            Err(_) => Err(SourceFault::Memory),
+        }
+    }
+}
+
+/// A program of one source, a name for it, and the manifest itself.
+const PROJECT: &[u8] =
+    b"rule cc\n  command = cc $in -o $out\n  depfile = $out.d\nrule gen\n  command = gen \"x\"\n  generator = 1\n\
+build a.o | a.lst: cc a.c | a.h\nbuild app: cc a.o\nbuild all: phony app\nbuild build.ninja: gen conf\n";
+
+/// The statements of the project.
+fn tree_of(alloc: Global) -> Option<Tree> {
+    match load(alloc, &mut Text { bytes: PROJECT }, b"build.ninja") {
+        Ok(tree) => Some(tree),
+        Err(_) => None,
+    }
+}
+
+/// What they mean.
+fn manifest_of(alloc: Global, tree: &Tree) -> Option<Manifest> {
+    match evaluate(alloc, tree) {
+        Ok(manifest) => Some(manifest),
+        Err(_) => None,
+    }
+}
+
+/// Its graph.
+fn graph_of<'a>(alloc: Global, manifest: &'a Manifest) -> Option<Graph<'a>> {
+    match graph(alloc, manifest) {
+        Ok(graph) => Some(graph),
+        Err(_) => None,
+    }
+}
+
+/// Whether the listing of all targets is this text.
+fn all_targets_are(alloc: Global, text: &[u8]) -> Option<bool> {
+    let tree = tree_of(alloc)?;
+    let manifest = manifest_of(alloc, &tree)?;
+    let graph = graph_of(alloc, &manifest)?;
+    let rules = rules_of(alloc, &tree).ok()?;
+    let mut out = Counted::new(Vec::new(alloc));
+    write_all_targets(&graph, &rules, &mut out).ok()?;
+    Some(out.into_writer().as_slice() == text)
+}
+
+#[test]
+fn all_targets(rt: HostRuntime) {
+    let text = b"a.o: cc\na.lst: cc\napp: cc\nall: phony\nbuild.ninja: gen\n".as_slice();
+    assert!(rt; all_targets_are(rt.alloc(), text) == Some(true));
+}
+
+/// Whether the listing of sources is this text.
+fn sources_are(alloc: Global, text: &[u8]) -> Option<bool> {
+    let tree = tree_of(alloc)?;
+    let manifest = manifest_of(alloc, &tree)?;
+    let graph = graph_of(alloc, &manifest)?;
+    let mut out = Counted::new(Vec::new(alloc));
+    write_sources(&graph, &mut out).ok()?;
+    Some(out.into_writer().as_slice() == text)
+}
+
+#[test]
+fn sources(rt: HostRuntime) {
+    assert!(rt; sources_are(rt.alloc(), b"a.c\na.h\nconf\n".as_slice()) == Some(true));
+}
+
+/// Whether the compilation database of a rule is this text.
+fn database_is(alloc: Global, rule: &[u8], text: &[u8]) -> Option<bool> {
+    let tree = tree_of(alloc)?;
+    let manifest = manifest_of(alloc, &tree)?;
+    let graph = graph_of(alloc, &manifest)?;
+    let rules = rules_of(alloc, &tree).ok()?;
+    let edges = chosen_edges(alloc, &graph, &rules, &[rule]).ok()?;
+    let mut out = Counted::new(Vec::new(alloc));
+    write_compilation_database(b"/w", &manifest, &graph, &edges, &mut out).ok()?;
+    Some(out.into_writer().as_slice() == text)
+}
+
+/// What is listed of the commands that compile.
+const COMPILED: &[u8] = b"[
+  {
+    \"directory\": \"/w\",
+    \"command\": \"cc a.c -o a.o\",
+    \"file\": \"a.c\",
+    \"output\": \"a.o\"
+  },
+  {
+    \"directory\": \"/w\",
+    \"command\": \"cc a.o -o app\",
+    \"file\": \"a.o\",
+    \"output\": \"app\"
+  }
+]
+";
+
+/// What is listed of a command with quotes.
+const QUOTED: &[u8] = b"[
+  {
+    \"directory\": \"/w\",
+    \"command\": \"gen \\\"x\\\"\",
+    \"file\": \"conf\",
+    \"output\": \"build.ninja\"
+  }
+]
+";
+
+#[test]
+fn compilation_database(rt: HostRuntime) {
+    assert!(rt; database_is(rt.alloc(), b"cc", COMPILED) == Some(true));
+    assert!(rt; database_is(rt.alloc(), b"gen", QUOTED) == Some(true));
+    assert!(rt; database_is(rt.alloc(), b"none", b"[\n]\n") == Some(true));
+}
+
+/// Whether the commands that an edge needs are this text.
+fn commands_are(alloc: Global, edge: u32, text: &[u8]) -> Option<bool> {
+    let tree = tree_of(alloc)?;
+    let manifest = manifest_of(alloc, &tree)?;
+    let graph = graph_of(alloc, &manifest)?;
+    let edges = build_order(alloc, &graph, &[edge]).ok()?;
+    let mut out = Counted::new(Vec::new(alloc));
+    write_build_commands(&manifest, &edges, &mut out).ok()?;
+    Some(out.into_writer().as_slice() == text)
+}
+
+#[test]
+fn commands_in_order(rt: HostRuntime) {
+    let both = b"cc a.c -o a.o\ncc a.o -o app\n".as_slice();
+    assert!(rt; commands_are(rt.alloc(), 2, both) == Some(true));
+    assert!(rt; commands_are(rt.alloc(), 0, b"cc a.c -o a.o\n") == Some(true));
+    assert!(rt; commands_are(rt.alloc(), 9, b"").is_none());
+}
+
+/// Whether the rows are these.
+fn are_rows(rows: &RowList<u8>, expected: &[&[u8]]) -> bool {
+    if rows.len() != expected.len() {
+        return false;
+    }
+    for at in 0..expected.len() {
+        if rows.row(at) != expected[at] {
+            return false;
+        }
+    }
+    true
+}
+
+/// Whether the files of all commands are these.
+fn cleaned_are(alloc: Global, generators: bool, expected: &[&[u8]]) -> Option<bool> {
+    let tree = tree_of(alloc)?;
+    let manifest = manifest_of(alloc, &tree)?;
+    let graph = graph_of(alloc, &manifest)?;
+    let edges = command_edges(alloc, &manifest, generators).ok()?;
+    let files = files_of_edges(alloc, &manifest, &graph, None, &edges).ok()?;
+    Some(are_rows(&files, expected))
+}
+
+/// Whether the files of a rule are these, of which the second path of the graph doesn't count.
+fn cleaned_of_rule_are(alloc: Global, rule: &[u8], expected: &[&[u8]]) -> Option<bool> {
+    let tree = tree_of(alloc)?;
+    let manifest = manifest_of(alloc, &tree)?;
+    let graph = graph_of(alloc, &manifest)?;
+    let rules = rules_of(alloc, &tree).ok()?;
+    let edges = edges_of_rules(alloc, &manifest, &rules, &[rule]).ok()?;
+    let counted = [true, false, true, true, true];
+    let files = files_of_edges(alloc, &manifest, &graph, Some(&counted), &edges).ok()?;
+    Some(are_rows(&files, expected))
+}
+
+#[test]
+fn cleaned_files(rt: HostRuntime) {
+    let without: [&[u8]; 5] = [b"a.o", b"a.lst", b"a.o.d", b"app", b"app.d"];
+    let with: [&[u8]; 6] = [b"a.o", b"a.lst", b"a.o.d", b"app", b"app.d", b"build.ninja"];
+    assert!(rt; cleaned_are(rt.alloc(), false, &without) == Some(true));
+    assert!(rt; cleaned_are(rt.alloc(), true, &with) == Some(true));
+}
+
+#[test]
+fn cleaned_files_of_a_rule(rt: HostRuntime) {
+    let counted: [&[u8]; 4] = [b"a.o", b"a.o.d", b"app", b"app.d"];
+    assert!(rt; cleaned_of_rule_are(rt.alloc(), b"cc", &counted) == Some(true));
+    assert!(rt; cleaned_of_rule_are(rt.alloc(), b"phony", &[]) == Some(true));
+}

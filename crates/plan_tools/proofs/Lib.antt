@@ -1,0 +1,3 @@
+pub mod WritingLemmas
+pub mod OrderLemmas
+mod Rows

@@ -1,0 +1,33 @@
+use Rattle.std.proofs.Common.{◌++◌, ◌∷◌, [], ◌+◌, List, Option, ℕ, true, Bor, refl, get_or, drop}
+use Rattle.std.specs.List.{flat_map}
+use Rattle.plan_tools.proofs.WritingLemmas.{bytes_of}
+use Rattle.plan_tools.proofs.WritingLemmas.{one_more, stops}
+use Rattle.plan_tools.proofs.parts.write_parts.Goals as goal
+
+pub returns-in-Err : goal.returns-in-Err
+returns-in-Err g c =
+    let so_far = c.loop-part.invariant in
+    let items = c.args.parts.now in
+    let i = c.loop-part.part-index in
+    let default : Bor (List ℕ) = record { ref_ptr = (0, 0); now = [] } in
+    let item : Bor (List ℕ) = get_or c.args.parts.now i default in
+    let old : ℕ × Option (List ℕ) = (g.W.Sink.failures c.args.out.now, g.W.Sink.taken c.args.out.now) in
+    let mid : ℕ × Option (List ℕ) = (g.W.Sink.failures c.loop-part.out, g.W.Sink.taken c.loop-part.out) in
+    let new : ℕ × Option (List ℕ) = (g.W.Sink.failures c.write_all.new.sink, g.W.Sink.taken c.write_all.new.sink) in
+    stops c.writes_join.ensures.join c.writes_join.ensures.failed old mid new so_far.0 (bytes_of item) (flat_map (bytes_of) (drop (i + 1) items)) (flat_map (bytes_of) items)
+    (one_more (bytes_of) (flat_map (bytes_of)) (λ y ys. refl) items i item default so_far.0 c.loop-part-test.true refl so_far.1) so_far.2 c.in-Err.ensures
+
+pub loop-part-preserved : goal.loop-part-preserved
+loop-part-preserved g c =
+    let so_far = c.loop-part.invariant in
+    let items = c.args.parts.now in
+    let i = c.loop-part.part-index in
+    let default : Bor (List ℕ) = record { ref_ptr = (0, 0); now = [] } in
+    let item : Bor (List ℕ) = get_or c.args.parts.now i default in
+    let old : ℕ × Option (List ℕ) = (g.W.Sink.failures c.args.out.now, g.W.Sink.taken c.args.out.now) in
+    let mid : ℕ × Option (List ℕ) = (g.W.Sink.failures c.loop-part.out, g.W.Sink.taken c.loop-part.out) in
+    let new : ℕ × Option (List ℕ) = (g.W.Sink.failures c.write_all.new.sink, g.W.Sink.taken c.write_all.new.sink) in (
+      so_far.0 ++ bytes_of item,
+      one_more (bytes_of) (flat_map (bytes_of)) (λ y ys. refl) items i item default so_far.0 c.loop-part-test.true refl so_far.1,
+      c.writes_join.ensures.join true old mid new so_far.0 (bytes_of item) so_far.2 c.in-Ok.ensures,
+    )

@@ -1,0 +1,191 @@
+//! The files that `-t clean` removes.
+
+ghost use Rattle.std.specs.Prelude.{◌≡◌, ◌++◌, ◌<◌, IfOk, OnOk, [], ◌∷◌, bytes_eq, filter, get_or, if◌then◌else◌, length, map, option_map, slice_get};
+ghost use Rattle.std.specs.List.{list_any};
+ghost use Rattle.plan_tools.specs.Cleaning as defined;
+ghost use Rattle.plan_tools.specs.Listings.{path_at as path_of};
+
+use crate::targets::path_at;
+use plan_graph::Graph;
+use plan_scope::Manifest;
+use plan_text::{Memory, RowList};
+use std::alloc::Global;
+
+/// Whether an edge has a command, and is no generator unless generators count; false if there is no such edge.
+fn is_cleaned(manifest: &Manifest, edge: usize, generators: bool) -> bool
+    ensures { result ≡ defined.holds_of (defined.is_cleaned generators) (slice_get manifest.now.edges edge) }
+{
+    if edge >= manifest.edges.len() {
+        return false;
+    }
+    let edge = manifest.edges.edge(edge);
+    !edge.is_phony() && (generators || !edge.is_generator())
+}
+
+/// Appends an edge if it is chosen.
+fn add_if(chosen: bool, edge: usize, edges: &mut Vec<u32>) -> Result<(), Memory>
+    ensures { OnOk result (edges.new.items ≡ edges.old.items ++ (if chosen then edge ∷ [] else [])) }
+{
+    if !chosen {
+        return Ok(());
+    }
+    match u32::try_from(edge) {
+        Ok(number) => edges.push(number)?,
+        Err(_) => return Err(Memory),
+    }
+    Ok(())
+}
+
+/// Returns the edges that have a command, without generators unless these count, in the order of build lines.
+///
+/// # Errors
+/// Memory runs out.
+pub fn command_edges(
+    alloc: Global,
+    manifest: &Manifest,
+    generators: bool,
+) -> Result<Vec<u32>, Memory>
+    ensures { IfOk result (λ edges. edges.items ≡ defined.edges_with (defined.is_cleaned generators) manifest.now.edges) }
+{
+    let mut edges = Vec::new(alloc);
+    for edge in 0..manifest.edges.len() {
+        add_if(is_cleaned(manifest, edge, generators), edge, &mut edges)?;
+    }
+    Ok(edges)
+}
+
+/// Whether a text is among some.
+fn is_among(names: &[&[u8]], text: &[u8]) -> bool
+    ensures { result ≡ list_any (λ name. bytes_eq name text.now) (map (λ n. n.now) names.now) }
+{
+    for name in names {
+        if *name == text {
+            return true;
+        }
+    }
+    false
+}
+
+/// Whether an edge has a command and one of these rules.
+fn has_rule(manifest: &Manifest, rules: &RowList<u8>, names: &[&[u8]], edge: usize) -> bool
+    ensures { result ≡ defined.has_rule rules.now (map (λ n. n.now) names.now) manifest.now.edges edge }
+{
+    is_cleaned(manifest, edge, true) && is_among(names, rules.row(edge))
+}
+
+/// Returns the edges that have a command and one of these rules, in the order of build lines.
+///
+/// # Errors
+/// Memory runs out.
+pub fn edges_of_rules(
+    alloc: Global,
+    manifest: &Manifest,
+    rules: &RowList<u8>,
+    names: &[&[u8]],
+) -> Result<Vec<u32>, Memory>
+    ensures { IfOk result (λ edges. edges.items ≡ defined.edges_of_rules rules.now (map (λ n. n.now) names.now) manifest.now.edges) }
+{
+    let mut edges = Vec::new(alloc);
+    for edge in 0..manifest.edges.len() {
+        add_if(has_rule(manifest, rules, names, edge), edge, &mut edges)?;
+    }
+    Ok(edges)
+}
+
+/// Whether the path of a number counts; all do if none are told.
+fn is_counted(counted: Option<&[bool]>, number: u32) -> bool
+    ensures { result ≡ defined.is_counted (option_map (λ c. c.now) counted.entry) number }
+{
+    match counted {
+        None => true,
+        Some(flags) => match flags.get(number as usize) {
+            Some(flag) => *flag,
+            None => false,
+        },
+    }
+}
+
+/// Appends a path if it counts.
+fn add_output(
+    graph: &Graph<'_>,
+    counted: Option<&[bool]>,
+    output: u32,
+    files: &mut RowList<u8>,
+) -> Result<(), Memory>
+    ensures { OnOk result (files.new ≡ files.old ++ map (path_of graph.now) (filter (defined.is_counted (option_map (λ c. c.now) counted.entry)) (output ∷ []))) }
+{
+    if is_counted(counted, output) {
+        files.push(path_at(graph, output))?;
+    }
+    Ok(())
+}
+
+/// Appends those outputs that count.
+fn add_outputs(
+    graph: &Graph<'_>,
+    counted: Option<&[bool]>,
+    outputs: &[u32],
+    files: &mut RowList<u8>,
+) -> Result<(), Memory>
+    ensures { OnOk result (files.new ≡ files.old ++ map (path_of graph.now) (filter (defined.is_counted (option_map (λ c. c.now) counted.entry)) outputs.now)) }
+{
+    for output in outputs {
+        add_output(graph, counted, *output, files)?;
+    }
+    Ok(())
+}
+
+/// The depfile of an edge; empty if it has none, or there is no such edge.
+fn depfile_at(manifest: &Manifest, edge: usize) -> &[u8]
+    ensures { result.now ≡ defined.depfile_of (slice_get manifest.now.edges edge) }
+{
+    if edge >= manifest.edges.len() {
+        return &[];
+    }
+    manifest.edges.edge(edge).depfile()
+}
+
+/// Appends a path unless it is empty.
+fn add_path(path: &[u8], files: &mut RowList<u8>) -> Result<(), Memory>
+    ensures { OnOk result (files.new ≡ files.old ++ defined.unless_empty path.now) }
+{
+    match path {
+        [] => {}
+        [_, ..] => files.push(path)?,
+    }
+    Ok(())
+}
+
+/// Appends the files of an edge.
+fn add_files(
+    manifest: &Manifest,
+    graph: &Graph<'_>,
+    counted: Option<&[bool]>,
+    edge: u32,
+    files: &mut RowList<u8>,
+) -> Result<(), Memory>
+    ensures { OnOk result (files.new ≡ files.old ++ defined.files_of_edge manifest.now graph.now (option_map (λ c. c.now) counted.entry) edge) }
+{
+    add_outputs(graph, counted, graph.outputs.row(edge as usize), files)?;
+    add_path(depfile_at(manifest, edge as usize), files)
+}
+
+/// Returns the outputs of some edges, those that count if that is told, and their depfiles.
+///
+/// # Errors
+/// Memory runs out.
+pub fn files_of_edges(
+    alloc: Global,
+    manifest: &Manifest,
+    graph: &Graph<'_>,
+    counted: Option<&[bool]>,
+    edges: &[u32],
+) -> Result<RowList<u8>, Memory>
+    ensures { IfOk result (λ files. files ≡ defined.files_of_edges manifest.now graph.now (option_map (λ c. c.now) counted.entry) edges.now) }
+{
+    let mut files = RowList::new(alloc);
+    for edge in edges {
+        add_files(manifest, graph, counted, *edge, &mut files)?;
+    }
+    Ok(files)
+}

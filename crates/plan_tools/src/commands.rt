@@ -1,0 +1,55 @@
+//! The commands of `-t commands`.
+
+ghost use Rattle.std.specs.Prelude.{◌≡◌, is_ok, option_map, slice_get};
+ghost use Rattle.std.specs.List.{flat_map};
+ghost use Rattle.plan_text.specs.Sinks.{Writes};
+ghost use Rattle.plan_tools.specs.Commands as defined;
+
+use crate::targets::write_line;
+use plan_scope::Manifest;
+use plan_text::{Sink, SinkFault, writes_join};
+
+/// The command of an edge; none of a phony, or if there is no such edge.
+fn command_at(manifest: &Manifest, edge: usize) -> Option<&[u8]>
+    ensures { option_map (λ c. c.now) result ≡ defined.command_in (slice_get manifest.now.edges edge) }
+{
+    if edge >= manifest.edges.len() {
+        return None;
+    }
+    let edge = manifest.edges.edge(edge);
+    if edge.is_phony() {
+        return None;
+    }
+    Some(edge.command())
+}
+
+/// Writes the command of an edge on a line, if it has one.
+fn write_command<W: Sink>(manifest: &Manifest, edge: u32, out: &mut W) -> Result<(), SinkFault>
+    ensures { Writes (is_ok result) (W.failures out.old, W.taken out.old) (W.failures out.new, W.taken out.new) (defined.command_line manifest.now edge) }
+{
+    match command_at(manifest, edge as usize) {
+        Some(command) => write_line(command, out),
+        None => Ok(()),
+    }
+}
+
+/// Writes the command of each of these edges that isn't a phony, in their order, a newline after each.
+///
+/// # Errors
+/// A write failed: then the sink took a front of the text.
+pub fn write_build_commands<W: Sink>(
+    manifest: &Manifest,
+    edges: &[u32],
+    out: &mut W,
+) -> Result<(), SinkFault>
+    ensures { Writes (is_ok result) (W.failures out.old, W.taken out.old) (W.failures out.new, W.taken out.new) (flat_map (defined.command_line manifest.now) edges.now) }
+{
+    writes_join();
+    for edge in edges {
+        match write_command(manifest, *edge, out) {
+            Ok(()) => {}
+            Err(fault) => return Err(fault),
+        }
+    }
+    Ok(())
+}
