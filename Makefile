@@ -2,6 +2,8 @@
 PREFIX ?= /usr/local
 PROGRAM = crates/plan_ninja/out/plan_ninja
 UNPROVED = out/unproved/plan_ninja
+# plan_build is next to plan_ninja, or in its own crate.
+FRONT = $(firstword $(wildcard $(dir $(PROGRAM))plan_build) crates/plan_build/out/plan_build)
 SHELL = /bin/bash -o pipefail
 
 .DEFAULT_GOAL = all
@@ -10,11 +12,11 @@ SHELL = /bin/bash -o pipefail
 help:
 	@echo "Try it:"
 	@echo "  make demo      build a small C project, edit it, build it again; less than three minutes from a fresh clone"
-	@echo "  make unproved  compile the program without its proofs, to try it out: $(UNPROVED); two minutes"
+	@echo "  make unproved  compile both programs without their proofs, to try them out: $(dir $(UNPROVED)); four minutes"
 	@echo "Build and install it:"
-	@echo "  make           prove and build the program: $(PROGRAM); some 50 minutes from scratch on 4 cores"
+	@echo "  make           prove and build plan_ninja and plan_build; some 70 minutes from scratch on 4 cores"
 	@echo "  make install   copy what was built to PREFIX ($(PREFIX)); it builds nothing"
-	@echo "  make dist      pack a tarball and a .deb of the proved program: out/dist; after make check"
+	@echo "  make dist      pack a tarball and a .deb of the proved programs: out/dist; after make check"
 	@echo "Change it:"
 	@echo "  make quick     prove one crate, or one module of it (CRATE=plan_text ONLY=path); 5 to 60 s for a module"
 	@echo "  make rows      run the rows, or some of them (NAMES='tab_* scopes/*'); half a minute"
@@ -38,28 +40,30 @@ python:
 kit: python
 	@command -v rt > /dev/null || { echo "rt is missing: the Rattle kit is not on the PATH; README.md, \"Install\", names it" >&2; exit 1; }
 
-# The program, as `make` left it.
+# The programs, as `make` left them.
 .PHONY: built
 built: python
-	@test -x $(PROGRAM) || { echo "$(PROGRAM) is missing: make proves and builds it, make unproved compiles $(UNPROVED)" >&2; exit 1; }
+	@for program in $(PROGRAM) $(FRONT); do test -x $$program \
+	  || { echo "$$program is missing: make proves and builds it, make unproved compiles $(UNPROVED)" >&2; exit 1; }; done
 
-# Builds the proved program.
+# Builds the proved programs.
 .PHONY: all
 all: kit
-	@echo "proving and building: some 50 minutes from scratch on 4 cores, less if earlier proofs are kept" >&2
+	@echo "proving and building: some 70 minutes from scratch on 4 cores, less if earlier proofs are kept" >&2
 	@cd crates/plan_ninja && rt run -- --help > /dev/null
-	@echo "built and proved: $(PROGRAM)"
+	@cd crates/plan_build && rt run -- --version > /dev/null
+	@echo "built and proved: $(PROGRAM) and $(FRONT)"
 
-# Compiles the program without its proofs. It runs the tests as the proved one does: make tests PROGRAM=$(UNPROVED).
+# Compiles both programs without their proofs. They run the tests as the proved ones do: make tests PROGRAM=$(UNPROVED).
 .PHONY: unproved
 unproved: kit
 	@python3 tools/unproved.py $(UNPROVED)
-	@echo "compiled without proofs: $(UNPROVED)"
+	@echo "compiled without proofs: $(UNPROVED) and $(dir $(UNPROVED))plan_build"
 
 # Builds a small C project, by the proved program if there is one, else by one without proofs.
 .PHONY: demo
 demo: python
-	@python3 tools/demo.py $(PROGRAM)
+	@python3 tools/demo.py $(FRONT)
 
 # Proves one crate, or one module of it.
 CRATE =
@@ -114,17 +118,19 @@ calls: kit
 real: built
 	python3 tests/run.py --long real building using $(PROGRAM)
 
-# Installs what was built: the program, and the stand-in that CMake and Meson call as ninja.
+# Installs what was built: the programs, and the stand-in that CMake and Meson call as ninja.
 .PHONY: install
 install:
-	@test -x $(PROGRAM) || { echo "$(PROGRAM) is missing: run make first (as yourself, not as root)" >&2; exit 1; }
+	@for program in $(PROGRAM) $(FRONT); do test -x $$program \
+	  || { echo "$$program is missing: run make first (as yourself, not as root)" >&2; exit 1; }; done
 	install -D -m 755 $(PROGRAM) "$(DESTDIR)$(PREFIX)/bin/plan_ninja"
+	install -D -m 755 $(FRONT) "$(DESTDIR)$(PREFIX)/bin/plan_build"
 	install -D -m 755 examples/ninja/ninja "$(DESTDIR)$(PREFIX)/libexec/plan_ninja/ninja"
 	install -D -m 644 LICENSE "$(DESTDIR)$(PREFIX)/share/doc/plan_ninja/LICENSE"
 	install -D -m 644 docs/GUARANTEE.md "$(DESTDIR)$(PREFIX)/share/doc/plan_ninja/GUARANTEE.md"
 	@echo "installed; for CMake and Meson put $(PREFIX)/libexec/plan_ninja on the PATH"
 
-# Packs the proved program with the gate's log: a tarball and a .deb, with SHA-256 sums.
+# Packs the proved programs with the gate's log: a tarball and a .deb, with SHA-256 sums.
 .PHONY: dist
 dist: built
 	@python3 tools/dist.py $(PROGRAM)

@@ -1,10 +1,11 @@
 #!/usr/bin/env python3
-"""Packs the proved program: a tarball and a .deb, with checksums.
+"""Packs the proved programs: a tarball and a .deb, with checksums.
 
     tools/dist.py PROGRAM [--log GATE_LOG] [--out FOLDER]
 
-Both hold the program, the stand-in that CMake and Meson call as `ninja`, LICENSE, the guarantee and the guides, the
-log of the gate, and SHA-256 sums. The tarball has a Makefile of its own for `make install`. Neither needs the kit.
+PROGRAM is plan_ninja; plan_build is next to it, or in its own crate. Both packages hold the programs, the stand-in that
+CMake and Meson call as `ninja`, LICENSE, the guarantee and the guides, the log of the gate, and SHA-256 sums. The
+tarball has a Makefile of its own for `make install`. Neither needs the kit.
 A program without proofs is refused, and so are one that is older than the sources, and the log of a gate that failed.
 """
 from __future__ import annotations
@@ -20,10 +21,13 @@ import sys
 import tarfile
 import tempfile
 
+import tests_path  # noqa: F401: it makes lib known
 import unproved
+from lib import programs
 
 ROOT = pathlib.Path(__file__).resolve().parent.parent
 NAME = "plan_ninja"
+FRONT = "plan_build"
 DOCUMENTS = ("README.md", "LICENSE", "CHANGELOG.md", "docs/GUARANTEE.md")
 CONTROL = """Package: plan-ninja
 Version: {version}
@@ -38,6 +42,7 @@ Description: formally verified builder for Ninja manifests
  on many threads. It is proved that the image is what the manifest means, and
  that no run of it goes wrong.
  .
+ plan_build builds what a manifest says, with the command line of ninja.
  /usr/libexec/plan_ninja/ninja is a stand-in that CMake and Meson can call.
 """
 
@@ -64,9 +69,21 @@ def check_program(program: pathlib.Path) -> None:
         sys.exit(f"{program} was compiled without its proofs: only a proved program is packed")
     if not unproved.is_current(program):
         sys.exit(f"{program} is older than the sources: run make check first")
-    said = subprocess.run([program, "--version"], stdout=subprocess.PIPE, check=True).stdout.decode().strip()
-    if said != f"{NAME} {version()}":
-        sys.exit(f"{program} says {said!r}, and the sources have version {version()}: run make first")
+
+
+def check_version(program: pathlib.Path, option: str, name: str) -> None:
+    """Ends this script if a program doesn't say that it has the version of the sources."""
+    said = subprocess.run([program, option], stdout=subprocess.PIPE, check=True).stdout.decode()
+    if not said.startswith((f"{name} {version()}:", f"{name} {version()}\n")):
+        sys.exit(f"{program} says {said[:60]!r}, and the sources have version {version()}: run make first")
+
+
+def front(program: pathlib.Path) -> pathlib.Path:
+    """Returns the path of plan_build, or ends this script."""
+    try:
+        return pathlib.Path(programs.front(str(program)))
+    except programs.Refused as error:
+        sys.exit(str(error))
 
 
 def copy(source: pathlib.Path, target: pathlib.Path, mode: int = 0o644) -> None:
@@ -79,6 +96,7 @@ def copy(source: pathlib.Path, target: pathlib.Path, mode: int = 0o644) -> None:
 def lay_out(program: pathlib.Path, log: pathlib.Path, prefix: pathlib.Path) -> None:
     """Copies all that is packed to the folders below a prefix."""
     copy(program, prefix / "bin" / NAME, 0o755)
+    copy(front(program), prefix / "bin" / FRONT, 0o755)
     copy(ROOT / "examples" / "ninja" / "ninja", prefix / "libexec" / NAME / "ninja", 0o755)
     documents = prefix / "share" / "doc" / NAME
     for name in DOCUMENTS:
@@ -139,6 +157,9 @@ def main() -> None:
     parser.add_argument("--out", type=pathlib.Path, default=ROOT / "out" / "dist", help="folder to write to (out/dist)")
     asked = parser.parse_args()
     check_program(asked.program)
+    check_program(front(asked.program))
+    check_version(asked.program, "--version", NAME)
+    check_version(front(asked.program), "--about", FRONT)
     check_log(asked.log)
     asked.out.mkdir(parents=True, exist_ok=True)
     made = [tarball(asked.program, asked.log, asked.out), package(asked.program, asked.log, asked.out)]

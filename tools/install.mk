@@ -1,4 +1,4 @@
-# Installs plan_ninja from this tarball: make install [PREFIX=/usr/local] [DESTDIR=..]. It needs no other tool.
+# Installs plan_ninja and plan_build from this tarball: make install [PREFIX=/usr/local] [DESTDIR=..]. It needs no other tool.
 PREFIX ?= /usr/local
 FILES = $(shell find bin libexec share -type f)
 
@@ -8,7 +8,7 @@ install: check
 	  mode=644; test -x "$$file" && mode=755; \
 	  install -D -m $$mode "$$file" "$(DESTDIR)$(PREFIX)/$$file" || exit 1; \
 	done
-	@echo "installed plan_ninja in $(DESTDIR)$(PREFIX)/bin; for CMake and Meson put $(PREFIX)/libexec/plan_ninja on the PATH"
+	@echo "installed plan_ninja and plan_build in $(DESTDIR)$(PREFIX)/bin; for CMake and Meson put $(PREFIX)/libexec/plan_ninja on the PATH"
 
 # Compares the files with their SHA-256 sums.
 .PHONY: check

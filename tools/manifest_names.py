@@ -42,7 +42,7 @@ ROOT = pathlib.Path(__file__).resolve().parent.parent
 
 PAGES = ("rules/manifest.md", "rules/depfile.md", "rules/record.md", "rules/image.md", "rules/verifier.md",
          "rules/machine.md", "rules/lanes.md", "rules/world.md", "rules/out-of-date.md", "rules/replay.md",
-         "using/running.md")
+         "rules/build.md", "rules/command-line.md", "rules/tools.md", "using/running.md")
 KEYS = {"defined", "done", "offered", "rows", "cases", "builds", "tests", "examples", "edits"}
 
 

@@ -32,6 +32,19 @@ def program(path: str) -> str:
     return str(found)
 
 
+def front(program: str) -> str:
+    """Returns the path of plan_build that belongs to a plan_ninja: next to it, or in its own crate.
+
+    Raises Refused if there is none.
+    """
+    own = pathlib.Path(program)
+    places = [own.with_name("plan_build"), own.parents[2] / "plan_build" / "out" / "plan_build"]
+    for place in places:
+        if place.is_file():
+            return str(place)
+    raise Refused(f"plan_build is missing next to {program}: make, or make unproved, builds it")
+
+
 def end_by_signal(number: int, _frame: object) -> NoReturn:
     """Ends the script as if it had been killed by a signal, but only after it has ended what it started."""
     sys.exit(128 + number)

@@ -1,4 +1,4 @@
-"""Builds trees with ninja and with the stand-in of examples/ninja, changes them, and builds them again.
+"""Builds trees with ninja and with plan_build, changes them, and builds them again.
 
 Each tree is configured once; both builders begin with the same bytes and stamps in the same folder, at -j 4 and -k 0.
 After each change (real/changing.py) both must have run the same commands (as the lines say), as many of which failed,
@@ -24,6 +24,7 @@ import time
 from collections.abc import Iterator
 from typing import NamedTuple
 
+from lib import programs
 from lib.suite import Case, LeftOut, Setting, Wrong
 from real import buildable, changing, trees, upstream
 from real.changing import CHANGES, Place
@@ -69,11 +70,11 @@ def files(place: Place) -> dict[str, str]:
     return found
 
 
-def built(words: list[str], place: Place, program: str) -> Built:
+def built(builder: str, place: Place) -> Built:
     """Builds a tree."""
-    environment = {**os.environ, "LC_ALL": "C.UTF-8", "PLAN_NINJA": program}
+    environment = {**os.environ, "LC_ALL": "C.UTF-8"}
     begun = time.monotonic()
-    done = subprocess.run([*words, "-j", "4", "-k", "0"], cwd=place.build, env=environment, stdin=subprocess.DEVNULL,
+    done = subprocess.run([builder, "-j", "4", "-k", "0"], cwd=place.build, env=environment, stdin=subprocess.DEVNULL,
                           stdout=subprocess.PIPE, stderr=subprocess.STDOUT, timeout=3600)
     seconds = time.monotonic() - begun
     printed = done.stdout.decode(errors="replace")
@@ -82,13 +83,13 @@ def built(words: list[str], place: Place, program: str) -> Built:
     return Built(labels, done.returncode == 0, failed, printed, files(place), seconds)
 
 
-def story(words: list[str], place: Place, program: str) -> dict[str, Built]:
+def story(builder: str, place: Place) -> dict[str, Built]:
     """Returns the builds of a tree by one builder, each after a change that could be made."""
     builds: dict[str, Built] = {}
     for name, change in CHANGES:
         time.sleep(TICK)
         if change(place):
-            builds[name] = built(words, place, program)
+            builds[name] = built(builder, place)
     return builds
 
 
@@ -133,9 +134,9 @@ def drained(group: int) -> None:
         time.sleep(0.01)
 
 
-def killed(place: Place, program: str, longest: float, chance: random.Random) -> None:
+def killed(place: Place, builder: str, longest: float, chance: random.Random) -> None:
     """Starts a run, and ends it at a random moment: only the builder, or its commands too."""
-    words = [program, "run", ".plan_build.ninja.img", "-j", "4", "--record", ".plan_record"]
+    words = [builder, "-j", "4"]
     child = subprocess.Popen(words, cwd=place.build, stdin=subprocess.DEVNULL, stdout=subprocess.DEVNULL,
                              stderr=subprocess.DEVNULL, preexec_fn=os.setpgrp)
     try:
@@ -152,31 +153,30 @@ def killed(place: Place, program: str, longest: float, chance: random.Random) ->
         child.wait()
 
 
-def interrupted(place: Place, program: str, theirs: dict[str, Built], seed: int) -> None:
+def interrupted(place: Place, builder: str, theirs: dict[str, Built], seed: int) -> None:
     """Checks that builds after killed ones, in which a source changed, give what ninja built."""
     chance, source = random.Random(seed), changing.source(place)
     whole, nothing = theirs["the first build"], theirs["nothing to do"]
     before = source.read_bytes() if source is not None else b""
-    subprocess.run([program, "compile", "build.ninja", "-o", ".plan_build.ninja.img"], cwd=place.build, check=True)
     for number in range(KILLS):
-        killed(place, program, min(whole.seconds, LONGEST), chance)
+        killed(place, builder, min(whole.seconds, LONGEST), chance)
         changing.appended(source, f"{changing.WEAK}plan_ninja_changed_{number};\n")
     if source is not None:
         source.write_bytes(before)
-    last = built([str(STANDIN)], place, program)
+    last = built(builder, place)
     if not last.well:
         raise Wrong(f"after builds that were killed: failed\n{last.printed[-2000:]}")
     made = {name: found for name, found in last.files.items() if name in whole.files}  # not what killed commands left
     if made != whole.files:
         raise Wrong(f"after builds that were killed, other files: {differing(made, whole.files)}")
-    again = built([str(STANDIN)], place, program)
+    again = built(builder, place)
     if again.labels != nothing.labels:
         raise Wrong(f"after builds that were killed, and one that wasn't: ran {sorted(again.labels)[:5]} again")
 
 
 # ---- trees
 
-def compared(tree: Tree, program: str, ninja: str, seed: int, folder: pathlib.Path) -> dict[str, Built]:
+def compared(tree: Tree, builder: str, ninja: str, seed: int, folder: pathlib.Path) -> dict[str, Built]:
     """Builds a tree with both builders, and compares what they do; returns ninja's builds."""
     top, kept = folder / "tree", folder / "kept"
     top.mkdir()
@@ -186,23 +186,23 @@ def compared(tree: Tree, program: str, ninja: str, seed: int, folder: pathlib.Pa
     build = trees.configured(tree, top)
     place = Place(top, top / "source", top / "source" / tree.place, build)
     subprocess.run(["cp", "-a", top, kept], check=True)
-    theirs = story([ninja], place, program)
+    theirs = story(ninja, place)
     if not theirs["the first build"].well:
         raise trees.NotConfigured(f"ninja doesn't build it: {theirs['the first build'].printed[-1000:]}")
     restored(place, kept)
-    compare(story([str(STANDIN)], place, program), theirs)
+    compare(story(builder, place), theirs)
     restored(place, kept)
-    interrupted(place, program, theirs, seed)
+    interrupted(place, builder, theirs, seed)
     return theirs
 
 
-def try_tree(tree: Tree, program: str, ninja: str, seed: int, folder: pathlib.Path) -> None:
+def try_tree(tree: Tree, builder: str, ninja: str, seed: int, folder: pathlib.Path) -> None:
     """Compares the builds of a tree, and prints what was run. A tree from elsewhere may be one that can't be built."""
     lacking = trees.lacking(tree)
     if lacking:
         raise LeftOut(f"no {', no '.join(lacking)}")
     try:
-        builds = compared(tree, program, ninja, seed, folder)
+        builds = compared(tree, builder, ninja, seed, folder)
     except trees.NotConfigured as error:
         raise (Wrong if tree.own else LeftOut)(f"not made here: {str(error)[-300:]}") from None
     failed = sum(not one.well for one in builds.values())
@@ -223,5 +223,6 @@ def cases(setting: Setting) -> Iterator[Case]:
     ninja = shutil.which("ninja")
     if ninja is None:
         raise LeftOut("no ninja")
+    builder = programs.front(setting.program)
     for tree in all_trees(setting):
-        yield Case(tree.name, functools.partial(try_tree, tree, setting.program, ninja, setting.seed))
+        yield Case(tree.name, functools.partial(try_tree, tree, builder, ninja, setting.seed))

@@ -1,4 +1,4 @@
-"""Packs the program as `make dist` does, installs what was packed, and builds a C project with it.
+"""Packs the programs as `make dist` does, installs what was packed, and builds a C project with it.
 
 Nothing of the kit or of the repository may be needed after that: the installed program runs with an environment of its
 own, in which only the system's folders are on the PATH.
@@ -37,8 +37,9 @@ def need(*commands: str) -> None:
 
 
 def pack(program: str, folder: pathlib.Path, log: str = PASSED, status: int = 0) -> str:
-    """Packs a copy of a program into folder/out."""
+    """Packs copies of the programs into folder/out."""
     shutil.copy(program, folder / "plan_ninja")
+    shutil.copy(programs.front(program), folder / "plan_build")
     (folder / "gate.log").write_text(log)
     words = [shutil.which("python3"), ROOT / "tools" / "dist.py", folder / "plan_ninja"]
     return run(*words, "--log", folder / "gate.log", "--out", folder / "out", folder=folder, status=status)
@@ -54,13 +55,13 @@ def unpack(program: str, folder: pathlib.Path) -> pathlib.Path:
 
 
 def build_with(prefix: pathlib.Path, folder: pathlib.Path) -> None:
-    """Builds the demo by the installed stand-in, twice; the second time nothing is to do."""
+    """Builds the demo by what is installed as ninja, twice; the second time nothing is to do."""
     shutil.copytree(ROOT / "examples" / "demo", folder / "demo")
-    standin = prefix / "libexec" / "plan_ninja" / "ninja"
-    said = run(standin, folder=folder / "demo")
+    ninja = prefix / "libexec" / "plan_ninja" / "ninja"
+    said = run(ninja, folder=folder / "demo")
     check("[3/3] LINK hello" in said, f"the demo isn't built: {said}")
     check(run("./hello", folder=folder / "demo") == "Hello, world!\n", "the demo doesn't run")
-    check("no work to do" in run(standin, folder=folder / "demo"), "the second build has something to do")
+    check("no work to do" in run(ninja, folder=folder / "demo"), "the second build has something to do")
 
 
 def tarball_installs(program: str, folder: pathlib.Path) -> None:
@@ -69,6 +70,8 @@ def tarball_installs(program: str, folder: pathlib.Path) -> None:
     run("make", "install", "PREFIX=/usr", f"DESTDIR={folder}/root", folder=unpack(program, folder))
     said = run(folder / "root" / "usr" / "bin" / "plan_ninja", "--version", folder=folder)
     check(said.startswith("plan_ninja "), f"--version says {said!r}")
+    said = run(folder / "root" / "usr" / "bin" / "plan_build", "--version", folder=folder)
+    check(said == "1.9.0\n", f"--version of plan_build says {said!r}")
     build_with(folder / "root" / "usr", folder)
 
 

@@ -41,7 +41,7 @@ first_has_no_comma = refl
 
 -- ---- commands and files
 
-an_edge : Bool → Bool → Edge
+abbrev an_edge : Bool → Bool → Edge
 an_edge phony generator = record {
   paths = record { outputs = codes "o" ∷ []; implicit_outputs = []; inputs = []; implicit_inputs = []; order_only_inputs = [] };
   command = codes "touch o";

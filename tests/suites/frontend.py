@@ -1,0 +1,530 @@
+"""Uses plan_build as CMake, Meson and people use ninja: its words, what it says, its exit statuses, signals, terminals.
+
+If ninja is installed, it gets the same words on the same files. Its status and sentences must be those of the table.
+"""
+from __future__ import annotations
+
+import ctypes
+import functools
+import os
+import pathlib
+import shlex
+import shutil
+import signal
+import stat
+import subprocess
+import time
+from collections.abc import Callable, Iterator
+from typing import NamedTuple
+
+from lib import programs
+from lib.place import CAUGHT, GATED, SLEEPING, Place, Terminal, expect, group_of
+from lib.suite import PATIENCE, Case, LeftOut, Setting, until
+
+ALONE = True
+NO_WORK = "ninja: no work to do.\n"
+STOPPED = "ninja: build stopped: subcommand failed.\n"
+WAITING = b"plan_ninja: waiting for another build that uses .plan_record\n"
+DROP_A_CAPABILITY, OVERRIDE, READ_AND_SEARCH = 24, 1, 2  # of prctl(2) and capabilities(7)
+
+# ---- words
+
+MANIFEST = """rule cp
+  command = cp $in $out
+rule no
+  command = false
+build a: cp src
+build b: cp src
+build bad: no src
+default a b
+"""
+FILES = {"build.ninja": MANIFEST, "src": "x\n", "a": "x\n", "b": "x\n"}
+
+
+class Said(NamedTuple):
+    """What is wanted of a command line: its status, standard output and standard error.
+
+    An error that ends with USAGE is followed by the options, of which only the first line is compared.
+    """
+
+    status: int
+    printed: str = ""
+    error: str = ""
+
+
+USAGE = "usage: ninja [options] [targets...]\n"
+NO_JOBS = Said(1, "", "ninja: fatal: invalid -j parameter\n")
+NO_LIMIT = Said(1, "", "ninja: fatal: -k parameter not numeric; did you mean -k 0?\n")
+NO_LOAD = Said(1, "", "ninja: fatal: -l parameter not numeric: did you mean -l 0.0?\n")
+DONE = Said(0, NO_WORK)
+MODES = """debugging modes:
+  stats        print operation counts/timing info
+  explain      explain what caused a command to execute
+  keepdepfile  don't delete depfiles after they're read by ninja
+  keeprsp      don't delete @response files on success
+multiple modes can be enabled via -d FOO -d BAR
+"""
+WARNINGS = "warning flags:\n  phonycycle={err,warn}  phony build statement references itself\n"
+POSSIBLE = "possibilities: '--version' '--verbose'\n"
+
+
+def misused(said: str) -> Said:
+    """Returns what is wanted of words that aren't understood; NINJA stands for the builder's own name."""
+    return Said(1, "", f"NINJA: {said}\n{USAGE}")
+
+
+def refused(said: str) -> Said:
+    return Said(1, "", f"ninja: {said}\n")
+
+
+# What ninja 1.11 answers, and plan_build too.
+SAME = {
+    "": DONE,
+    "a b": DONE,
+    "./a": DONE,
+    "-v": DONE,
+    "--quiet": DONE,
+    "--verb": DONE,
+    "--q": DONE,
+    "a -j3 b": DONE,
+    "-vj3 -k2": DONE,
+    "-vj 3": DONE,
+    "-j ' +3' -j0": DONE,
+    "-j -0": DONE,
+    "-k -5": DONE,
+    "-k ''": DONE,
+    "-j ''": DONE,
+    "-f nosuch -f build.ninja": DONE,
+    "-fbuild.ninja": DONE,
+    "-C .": Said(0, "ninja: Entering directory `.'\n" + NO_WORK),
+    "-C. a": Said(0, "ninja: Entering directory `.'\n" + NO_WORK),
+    "a -C nosuch -C .": Said(0, "ninja: Entering directory `.'\n" + NO_WORK),
+    "--quiet -C .": DONE,
+    "-j -1": NO_JOBS,
+    "-j x": NO_JOBS,
+    "-jx": NO_JOBS,
+    "-j 3x": NO_JOBS,
+    "-j -": NO_JOBS,
+    "-j 0x10": NO_JOBS,
+    "-k x": NO_LIMIT,
+    "-k 1.5": NO_LIMIT,
+    "-l x": NO_LOAD,
+    "-l ''": NO_LOAD,
+    "-l .": NO_LOAD,
+    "-d nosuch": refused("error: unknown debug setting 'nosuch'"),
+    "-w nosuch": refused("error: unknown warning flag 'nosuch'"),
+    "-d list": Said(1, MODES),
+    "-dlist a": Said(1, MODES),
+    "-w list": Said(1, WARNINGS),
+    "-t nosuch": refused("fatal: unknown tool 'nosuch'"),
+    "-t nosuch -C nosuch": refused("fatal: unknown tool 'nosuch'"),
+    "-x": misused("invalid option -- 'x'"),
+    "-vx3": misused("invalid option -- 'x'"),
+    "a -J": misused("invalid option -- 'J'"),
+    "--nosuch": misused("unrecognized option '--nosuch'"),
+    "--nosuch=1 -x": misused("unrecognized option '--nosuch=1'"),
+    "--versions": misused("unrecognized option '--versions'"),
+    "---": misused("unrecognized option '---'"),
+    "--ver": misused(f"option '--ver' is ambiguous; {POSSIBLE}".rstrip()),
+    "--v=1": misused(f"option '--v=1' is ambiguous; {POSSIBLE}".rstrip()),
+    "--quiet=1": misused("option '--quiet' doesn't allow an argument"),
+    "--verb=": misused("option '--verbose' doesn't allow an argument"),
+    "-j": misused("option requires an argument -- 'j'"),
+    "a -vC": misused("option requires an argument -- 'C'"),
+    "-t": misused("option requires an argument -- 't'"),
+    "-h": Said(1, "", USAGE),
+    "a --he": Said(1, "", USAGE),
+    "-j x --version": NO_JOBS,
+    "-- -nosuch": refused("error: unknown target '-nosuch'"),
+    "nosuch a": refused("error: unknown target 'nosuch'"),
+    "''": refused("error: empty path"),
+    "-f nosuch.ninja": refused("error: loading 'nosuch.ninja': No such file or directory"),
+    "-f ''": refused("error: loading '': No such file or directory"),
+    "-f src/x": refused("error: loading 'src/x': Not a directory"),
+    "-f .": refused("error: loading '.': Is a directory"),
+    "-C nosuch": Said(1, "ninja: Entering directory `nosuch'\n",
+                      "ninja: fatal: chdir to 'nosuch' - No such file or directory\n"),
+    "-C src": Said(1, "ninja: Entering directory `src'\n", "ninja: fatal: chdir to 'src' - Not a directory\n"),
+}
+# What only plan_build answers.
+OWN = {
+    "--version": Said(0, "1.9.0\n"),
+    "--vers nosuch": Said(0, "1.9.0\n"),
+    "--version -j x": Said(0, "1.9.0\n"),
+    "-l .5": Said(0, NO_WORK, "ninja: warning: -l .5 has no effect\n"),
+    "-d stats": Said(0, NO_WORK, "ninja: warning: -d stats has no effect\n"),
+    "-w dupbuild=err": Said(0, NO_WORK, "ninja: warning: -w dupbuild=err has no effect\n"),
+    "-n": refused("error: -n (a dry run) is not supported"),
+    "a -t list": refused("fatal: 'a' comes before -t; it is no word of the tool"),
+    "bad": Said(1, "FAILED bad: exit 1\n" + STOPPED),
+}
+
+
+def said_by(builder: str, words: str, folder: pathlib.Path) -> Said:
+    """Runs a builder, and returns what it said. Its own name and the options are replaced."""
+    done = programs.run([builder, *shlex.split(words)], folder)
+    error = done.stderr.decode().replace(f"{builder}: ", "NINJA: ")
+    before, usage, _ = error.partition(USAGE)
+    return Said(done.returncode, done.stdout.decode(), before + usage)
+
+
+def words_say(builder: str, words: str, wanted: Said, folder: pathlib.Path) -> str:
+    """Returns how the answer to a command line differs, or an empty text."""
+    programs.write(FILES, folder)
+    programs.run([builder], folder)
+    found = said_by(builder, words, folder)
+    return "" if found == wanted else f"{found}, wanted {wanted}"
+
+
+def ninja_says(words: str, wanted: Said, folder: pathlib.Path) -> str:
+    """Returns how ninja's answer to a command line differs from the table, or an empty text."""
+    ninja = shutil.which("ninja")
+    if not ninja:
+        raise LeftOut("ninja is missing")
+    if programs.run([ninja, "--version"], folder).stdout[:5] != b"1.11.":
+        raise LeftOut("ninja isn't version 1.11")
+    return words_say(ninja, words, wanted, folder)
+
+
+# ---- builds
+
+def called_ninja(place: Place) -> None:
+    """Called by the name ninja it is the same program."""
+    place.write("a touch $out")
+    link = place.folder / "ninja"
+    link.symlink_to(place.builder)
+    done = programs.run([str(link), "-x"], place.folder)
+    expect("said", f"{link}: invalid option -- 'x'\n".encode(), done.stderr.partition(USAGE.encode())[0])
+    expect("built", (b"[1/1] a\n", 0), (lambda d: (d.stdout, d.returncode))(programs.run([str(link)], place.folder)))
+
+
+def about(place: Place) -> None:
+    done = place.done("--about")
+    expect("status", 0, done.returncode)
+    expect("said", True, b"GUARANTEE.md" in done.stdout)
+
+
+def says(place: Place, *words: str) -> tuple[str, str, int]:
+    """Runs the builder, and returns what it printed, its errors, and its status."""
+    done = place.done(*words)
+    return done.stdout.decode(), done.stderr.decode(), done.returncode
+
+
+def nothing_to_do(place: Place) -> None:
+    place.write("a touch $out", ">b touch $out")
+    expect("first", ("[1/2] a\n[2/2] b\n", "", 0), says(place))
+    expect("then", (NO_WORK, "", 0), says(place))
+    (place.folder / "b").unlink()
+    expect("again", ("[2/2] b\n", "", 0), says(place))
+
+
+def failures(place: Place) -> None:
+    """-k 0 goes on after failures; what failed runs again."""
+    place.write("a exit 3", "b exit 4", "c touch $out", ">d touch $out")
+    stopped = "ninja: build stopped: cannot make progress due to previous errors.\n"
+    printed, error, status = says(place, "-k", "0", "-j1")
+    expect("printed", (["FAILED a: exit 3\n", "FAILED b: exit 4\n", stopped], "", 1),
+           ([line for line in printed.splitlines(True) if not line.startswith("[")], error, status))
+    expect("made", True, place.has("c", "d"))
+    expect("again", ("FAILED a: exit 3\n" + STOPPED, "", 1), says(place, "a"))
+
+
+def limited_jobs(place: Place) -> None:
+    """-j 2 runs two commands at once, and no third."""
+    place.write(f"a {GATED}", f"b {GATED}", f"c {GATED}")
+    child = place.started("-j2")
+    until(lambda: sum(place.has(f"begun{name}") for name in "abc") == 2, "two don't begin in time")
+    time.sleep(0.3)
+    expect("begun", 2, sum(place.has(f"begun{name}") for name in "abc"))
+    (place.folder / "go").touch()
+    child.communicate(timeout=PATIENCE)
+    expect("status", 0, child.returncode)
+
+
+def another_folder(place: Place) -> None:
+    below = Place(place.builder, place.folder / "below")
+    below.write("a touch $out")
+    expect("said", ("ninja: Entering directory `below'\n[1/1] a\n", "", 0), says(place, "-C", "below", "a"))
+    expect("made", True, below.has("a", ".plan_record"))
+    expect("here", False, place.has("a") or place.has(".plan_record"))
+
+
+def missing_manifest(place: Place) -> None:
+    """Nothing is created in a folder without a manifest."""
+    expect("said", ("", "ninja: error: loading 'build.ninja': No such file or directory\n", 1), says(place))
+    expect("files", [], os.listdir(place.folder))
+
+
+def refused_manifest(place: Place) -> None:
+    """A refusal has the line, its text and a caret, and plan_ninja's own line."""
+    texts = {
+        "rule r\n  command = true\n  depfile\n": "ninja: error: build.ninja:3: expected '='\n  depfile\n"
+                                                 "         ^ near here\nplan: 11 ExpectedEquals build.ninja:33\n",
+        "build a: nosuch b\n": "ninja: error: build.ninja:1: unknown build rule\nbuild a: nosuch b\n^ near here\n"
+                               "plan: 31 UnknownRule build.ninja:0\n",
+        "include nosuch\n": "ninja: error: loading 'nosuch': No such file or directory\n"
+                            "plan: 20 SourceMissing nosuch:0\n",
+        "build a: phony b\nbuild b: phony a\n": "ninja: error: dependency cycle: a -> b\nplan: 51 Cycle a -> b\n",
+        "rule r\n  command = true\nbuild a: r\nbuild a: r\n": "ninja: error: multiple rules generate a\n"
+                                                             "plan: 50 TwoProducers a\n",
+    }
+    for text, wanted in texts.items():
+        programs.write({"build.ninja": text}, place.folder)
+        expect(f"said of {text!r}", ("", wanted, 1), says(place))
+
+
+def long_line(place: Place) -> None:
+    """Of a long line only the part around the fault is shown."""
+    programs.write({"build.ninja": f"rule r\n  command = true\nbuild a: r {'x ' * 300}|@ v\n"}, place.folder)
+    lines = says(place)[1].splitlines()
+    expect("lines", 4, len(lines))
+    expect("length", True, len(lines[1]) < 130 and lines[1].startswith("...") and lines[2].endswith("^ near here"))
+    at = lines[2].index("^")
+    expect("what the caret shows", "|@", lines[1][at:at + 2])
+
+
+# ---- manifests that are built
+
+MAKER = """rule make
+  command = {command}
+  generator = 1
+rule touch
+  command = touch $out
+build build.ninja: make {inputs}
+build {target}: touch
+"""
+
+
+def manifest_makes_itself(place: Place) -> None:
+    """The manifest is made once, and the targets are those of the new one."""
+    new = MAKER.format(command="cp new build.ninja; touch build.ninja", inputs="new", target="late")
+    old = MAKER.format(command="cp new build.ninja; touch build.ninja", inputs="new", target="early")
+    programs.write({"build.ninja": old}, place.folder)
+    os.utime(place.folder / "build.ninja", (1, 1))
+    programs.write({"new": new}, place.folder)
+    expect("first", ("[1/1] cp new build.ninja; touch build.ninja\n[2/2] touch late\n", "", 0),
+           (lambda found: (found[0].replace("[1/1] touch late", "[2/2] touch late"), *found[1:]))(says(place, "late")))
+    expect("files", (True, False), (place.has("late"), place.has("early")))
+    expect("then", (NO_WORK, "", 0), says(place, "late"))
+
+
+def manifest_never_settles(place: Place) -> None:
+    text = MAKER.format(command="touch in", inputs="in", target="late")
+    programs.write({"build.ninja": text}, place.folder)
+    os.utime(place.folder / "build.ninja", (1, 1))
+    programs.write({"in": ""}, place.folder)
+    printed, error, status = says(place)
+    expect("tries", 100, printed.count("touch in\n"))
+    dirty = "ninja: error: manifest 'build.ninja' still dirty after 100 tries, perhaps system time is not set\n"
+    expect("said", (dirty, 1), (error, status))
+    expect("built", False, place.has("late"))
+
+
+def manifest_fails(place: Place) -> None:
+    text = MAKER.format(command="exit 2", inputs="in", target="late")
+    programs.write({"build.ninja": text}, place.folder)
+    os.utime(place.folder / "build.ninja", (1, 1))
+    programs.write({"in": ""}, place.folder)
+    expect("said", ("FAILED build.ninja: exit 2\n", "ninja: error: rebuilding 'build.ninja': subcommand failed\n", 1),
+           says(place))
+    expect("built", False, place.has("late"))
+
+
+def manifest_as_target(place: Place) -> None:
+    """`meson test` asks for build.ninja as a target."""
+    text = MAKER.format(command="touch build.ninja", inputs="in", target="late")
+    programs.write({"in": "", "build.ninja": text}, place.folder)
+    says(place, "build.ninja")
+    expect("said", (NO_WORK, "", 0), says(place, "build.ninja"))
+    expect("built", False, place.has("late"))
+
+
+# ---- streams and files
+
+def closed_streams(place: Place) -> None:
+    """Nothing is printed into files that were opened meanwhile, and lost output is a failure."""
+    lost = b"ninja: error: standard output can't be written\nplan: 133 FileFault -\n"
+    for closed, wanted in ((">&-", (lost, 1)), ("<&- >&- 2>&-", (b"", 1)), ("<&-", (b"", 0)), ("2>&-", (b"", 0))):
+        shutil.rmtree(place.folder)
+        place.folder.mkdir()
+        place.write("a echo text; touch $out", ">b touch $out")
+        done = subprocess.run(["sh", "-c", f'"$0" {closed}', place.builder], cwd=place.folder, timeout=PATIENCE,
+                              stdin=subprocess.DEVNULL, stdout=subprocess.PIPE, stderr=subprocess.PIPE)
+        expect(f"said with {closed}", wanted, (done.stderr, done.returncode))
+        expect("made", True, place.has("a", "b"))
+        expect("record", False, b"] " in (place.folder / ".plan_record").read_bytes())
+        expect("again", NO_WORK, says(place)[0])
+    done = subprocess.run(["sh", "-c", '"$0" --version >&-', place.builder], stderr=subprocess.PIPE, timeout=PATIENCE)
+    expect("version", (lost, 1), (done.stderr, done.returncode))
+
+
+def reader_goes_away(place: Place) -> None:
+    """`| head -1` ends the program soon, with a fault."""
+    place.write(*(f"{'long' * 40}{number} true" for number in range(1000)))
+    child = subprocess.Popen([place.builder, "-j1"], cwd=place.folder, stdout=subprocess.PIPE, stderr=subprocess.PIPE,
+                             stdin=subprocess.DEVNULL)
+    assert child.stdout and child.stderr
+    child.stdout.readline()
+    child.stdout.close()
+    error = child.stderr.read()
+    child.stderr.close()
+    expect("status", 1, child.wait(PATIENCE))
+    expect("said", b"ninja: error: standard output can't be written\nplan: 133 FileFault -\n", error)
+
+
+def as_stranger() -> None:
+    """Lets this process obey the modes of files, also if root runs it."""
+    for capability in (OVERRIDE, READ_AND_SEARCH):
+        ctypes.CDLL(None).prctl(DROP_A_CAPABILITY, capability, 0, 0, 0)
+
+
+def read_only_folder(place: Place) -> None:
+    """A record that may not be written is refused, also if there is nothing to do; nothing runs then."""
+    place.write("a touch $out", ">b touch $out")
+    expect("built", 0, place.done().returncode)
+    for path in [place.folder, *place.folder.iterdir()]:
+        path.chmod(path.stat().st_mode & ~(stat.S_IWUSR | stat.S_IWGRP | stat.S_IWOTH))
+    try:
+        done = place.done(preexec_fn=as_stranger)
+        expect("status", 1, done.returncode)
+        expect("output", b"", done.stdout)
+        expect("the fault", b"plan: 133 FileFault .plan_record\n", done.stderr[-33:])
+    finally:
+        place.folder.chmod(0o755)
+
+
+# ---- terminals and signals
+
+def console_reads_the_terminal(place: Place) -> None:
+    place.write("a read word; echo $$word > $out", pool="console")
+    terminal = Terminal(place)
+    try:
+        terminal.types(b"hello\n")
+        expect("status", b"0", terminal.reads(rb"<ended (-?\d+)>"))
+    finally:
+        terminal.close()
+    expect("read", "hello\n", (place.folder / "a").read_text())
+
+
+def key_ends_all(key: bytes, number: int) -> Callable[[Place], None]:
+    def trial(place: Place) -> None:
+        """The key ends the program and its commands, and the next build runs them again."""
+        place.write(f"a {SLEEPING}", f"b {SLEEPING}")
+        terminal = Terminal(place, "-j", "2")
+        try:
+            place.begun("a", "b")
+            terminal.types(key)
+            expect("status", str(-number).encode(), terminal.reads(rb"<ended (-?\d+)>"))
+            until(lambda: not group_of(terminal.job), "the commands don't end in time")
+        finally:
+            terminal.close()
+        expect("made", False, place.has("a") or place.has("b"))
+        place.write("a touch $out", "b touch $out")
+        expect("lines", 2, place.done().stdout.count(b"] "))
+
+    trial.__name__ = f"key_of_{signal.Signals(number).name.lower()}"
+    return trial
+
+
+def ctrl_z(place: Place) -> None:
+    """The builder and its command stop, and go on together."""
+    place.write(f"a {GATED}")
+    terminal = Terminal(place)
+    try:
+        place.begun("a")
+        terminal.types(b"\x1a")
+        terminal.reads(b"<stopped>")
+        # D is the state of a process that waits in vfork(2) for one that has stopped.
+        until(lambda: not set(group_of(terminal.job).values()) & set("RS"), "not all stop in time")
+        expect("processes", True, len(group_of(terminal.job)) >= 2)
+        (place.folder / "go").touch()
+        (place.folder / "continue").touch()
+        expect("status", b"0", terminal.reads(rb"<ended (-?\d+)>"))
+    finally:
+        terminal.close()
+    expect("a is made", True, place.has("a"))
+
+
+def killed(place: Place) -> None:
+    """A command that runs goes on to its end, as with ninja; no other is started, and it runs again the next time."""
+    for number in (signal.SIGKILL, *CAUGHT):
+        for path in place.folder.iterdir():
+            path.unlink()
+        place.write(f"a {GATED}", ">b touch $out")
+        child = place.started()
+        place.begun("a")
+        child.send_signal(number)
+        expect("status", -number, child.wait(PATIENCE))
+        (place.folder / "go").touch()
+        until(lambda: not group_of(child.pid), "the command doesn't end in time")
+        expect("a and b are made", (True, False), (place.has("a"), place.has("b")))
+        expect("next", ("[1/2] a\n[2/2] b\n", "", 0), says(place))
+
+
+def half_outputs_run_again(place: Place) -> None:
+    """A command that was interrupted or failed after it had touched its output runs again."""
+    place.write("a touch $out; exit 1")
+    expect("first", 1, place.done().returncode)
+    expect("second", ("FAILED a: exit 1\n" + STOPPED, "", 1), says(place))
+
+
+def hangup_is_ignored_under_nohup(place: Place) -> None:
+    place.write(f"a {GATED}")
+    child = place.started(hangup=signal.SIG_IGN)
+    place.begun("a")
+    os.killpg(child.pid, signal.SIGHUP)
+    (place.folder / "go").touch()
+    expect("said", b"[1/1] a\n", child.communicate(timeout=PATIENCE)[0])
+    expect("status", 0, child.returncode)
+
+
+# ---- several at once
+
+def second_build_waits(place: Place) -> None:
+    """The second builder in a folder waits for the first, and has nothing to do then."""
+    place.write(f"a {GATED}")
+    first = place.started()
+    place.begun("a")
+    second = place.started()
+    time.sleep(1.5)
+    expect("is over before the first", None, second.poll())
+    (place.folder / "go").touch()
+    expect("first", b"[1/1] a\n", first.communicate(timeout=PATIENCE)[0])
+    expect("second", WAITING + NO_WORK.encode(), second.communicate(timeout=PATIENCE)[0])
+    expect("statuses", (0, 0), (first.returncode, second.returncode))
+
+
+def nested_build(place: Place) -> None:
+    """A command builds in the same folder, as CMake's dashboards do."""
+    place.write("a touch $out", f"b '{place.builder}' a && touch $out", "c true")
+    printed, error, status = says(place, "b")
+    expect("said", (["[1/1] a", "[1/1] b"], "", 0), (printed.splitlines(), error, status))
+    expect("then", (NO_WORK, "", 0), says(place, "a", "b"))
+
+
+TRIALS: tuple[Callable[[Place], None], ...] = (
+    called_ninja, about, nothing_to_do, failures, limited_jobs, another_folder, missing_manifest, refused_manifest,
+    long_line, manifest_makes_itself, manifest_never_settles, manifest_fails, manifest_as_target, closed_streams,
+    reader_goes_away, read_only_folder, console_reads_the_terminal, key_ends_all(b"\x03", signal.SIGINT),
+    key_ends_all(b"\x1c", signal.SIGQUIT), ctrl_z, killed, half_outputs_run_again, hangup_is_ignored_under_nohup,
+    second_build_waits, nested_build)
+
+
+def check(builder: str, trial: Callable[[Place], None], folder: pathlib.Path) -> None:
+    """Does a trial in a fresh build folder, and ends what it started."""
+    place = Place(builder, folder)
+    try:
+        trial(place)
+    finally:
+        place.end()
+
+
+def cases(setting: Setting) -> Iterator[Case]:
+    """Yields the command lines, and then the trials."""
+    builder = programs.front(setting.program)
+    for words, wanted in {**SAME, **OWN}.items():
+        yield Case(f"words {words}".strip(), functools.partial(words_say, builder, words, wanted))
+    for words, wanted in SAME.items():
+        yield Case(f"ninja {words}".strip(), functools.partial(ninja_says, words, wanted))
+    for trial in TRIALS:
+        yield Case(trial.__name__, functools.partial(check, builder, trial))
