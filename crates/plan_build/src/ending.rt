@@ -1,5 +1,8 @@
 //! How a build ended.
 
+ghost use Rattle.std.specs.Prelude.{◌≡◌};
+ghost use Rattle.plan_commands.specs.Building.{exit_status};
+
 use crate::said::{complain_of, say, status_after};
 use plan_commands::Done;
 use std::alloc::Global;
@@ -47,22 +50,25 @@ fn refuse_manifest<E: Print>(
     }
 }
 
-/// Says how the build of a manifest ended, in ninja's words, and returns the exit status.
+/// Says how the build of a manifest ended, in ninja's words, and returns the exit status: that of the build, or 1 if
+/// `no work to do` can't be written. Standard error says so then.
 pub fn end_build<R: Print + AllocGlobal, E: Print>(
     rt: &R,
     errors: &E,
     manifest: &[u8],
     failures: u32,
     done: Done,
-) -> u8 {
+) -> u8
+    ensures { result ≡ 0 → exit_status done ≡ 0 }
+{
     let status = done.status();
     let reason = failed(failures);
     match done {
         Done::Built => status,
         Done::UpToDate => status_after(say(rt, errors, &[b"ninja: no work to do.\n"]), status),
         Done::Failed => {
-            let said = say(rt, errors, &[b"ninja: build stopped: ", &*reason, b".\n"]);
-            status_after(said, status)
+            let _ = say(rt, errors, &[b"ninja: build stopped: ", &*reason, b".\n"]);
+            status
         }
         Done::ManifestFails => {
             refuse_manifest(rt.alloc(), errors, manifest, failures, false);

@@ -242,8 +242,15 @@ fn order_in<R: Files + Env + Print + Eprint + AllocGlobal, E: Print>(
 }
 
 fn main(rt: HostRuntime) -> ExitCode {
-    let _streams = open_streams(&rt);
     let errors = rt.stderr();
+    let Ok(_streams) = open_streams(&rt) else {
+        complain(
+            rt.alloc(),
+            &errors,
+            &[b"ninja: fatal: /dev/null can't be opened\n"],
+        );
+        return ExitCode::from(REFUSED);
+    };
     let jobs = default_jobs(&rt);
     let line = match order_in(&rt, &errors, jobs) {
         Ok(line) => line,

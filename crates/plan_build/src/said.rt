@@ -1,5 +1,7 @@
 //! What the program says.
 
+ghost use Rattle.std.specs.Prelude.{◌≡◌, IfErr, OnOk};
+
 use plan_commands::lost_output;
 use std::alloc::{AllocError, Global};
 use std::io;
@@ -44,11 +46,9 @@ pub fn complain_of<'a, E: Print>(
 ///
 /// # Errors
 /// The exit status, if they aren't written; standard error says why.
-pub fn say<R: Print + AllocGlobal, E: Print>(
-    rt: &R,
-    errors: &E,
-    parts: &[&[u8]],
-) -> Result<(), u8> {
+pub fn say<R: Print + AllocGlobal, E: Print>(rt: &R, errors: &E, parts: &[&[u8]]) -> Result<(), u8>
+    ensures { IfErr result (λ status. status ≡ 1) }
+{
     let alloc = rt.alloc();
     let written = match joined(alloc, parts) {
         Ok(text) => io::writer(rt).write_all(&text).is_ok(),
@@ -65,7 +65,10 @@ pub fn say<R: Print + AllocGlobal, E: Print>(
 }
 
 /// Returns the status of what was said last: `status`, unless it wasn't written.
-pub fn status_after(said: Result<(), u8>, status: u8) -> u8 {
+pub fn status_after(said: Result<(), u8>, status: u8) -> u8
+    ensures written { OnOk said (result ≡ status) }
+    ensures lost { IfErr said (λ refused. result ≡ refused) }
+{
     match said {
         Ok(()) => status,
         Err(refused) => refused,

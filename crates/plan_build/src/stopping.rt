@@ -11,8 +11,8 @@ use std::alloc::{AllocError, Global};
 const VERSION: &[u8] = b"1.9.0\n";
 
 const ABOUT: &[u8] = b"plan_build 0.2.0: a formally verified builder with ninja's command line.
-It is proved that a build which ends with status 0 ran what the manifest's out-of-date rule asks for, and nothing else:
-GUARANTEE.md (share/doc/plan_ninja, or docs/ of the sources) has the words and their limits.
+It is proved: if a build ends with status 0, each wanted edge was up to date by the out-of-date rule, or its own command
+was asked for once and the reply was exit status 0. GUARANTEE.md (share/doc/plan_ninja, or docs/) has all words and limits.
 ";
 
 const USAGE_TO_JOBS: &[u8] = b"usage: ninja [options] [targets...]
