@@ -3,5 +3,6 @@ pub mod ReadingLemmas
 pub mod PlacedLemmas
 pub mod FrontLemmas
 pub mod RecordLemmas
+pub mod CompactionLemmas
 pub mod PathsLemmas
 mod Rows

@@ -2,6 +2,7 @@
 use Rattle.std.proofs.Common.{◌≡◌, ℕ, List, [], ◌∷◌, ◌++◌, take, drop, Some, None, Err, refl, arith}
 use Rattle.plan_record.specs.Appending.{AppendsSpelling}
 use Rattle.plan_record.specs.Entries.{EntryData, spelling, last_of}
+use Rattle.plan_record.specs.Compaction.{last_entries}
 use Rattle.plan_record.specs.Paths.{paths_in}
 use Rattle.plan_record.specs.Reading.{number_at, bytes_at, path_at, command_at, some_paths_at, head_at, body_at, entry_of, entry_at}
 
@@ -71,6 +72,16 @@ last_counts = refl
 
 none_of_that_output : last_of (99 ∷ []) (kept ∷ other ∷ []) ≡ None
 none_of_that_output = refl
+
+-- the last entries come in the record's order
+earlier_left_out : last_entries (kept ∷ other ∷ record kept { basis = 8 } ∷ []) ≡ other ∷ record kept { basis = 8 } ∷ []
+earlier_left_out = refl
+
+one_of_many : last_entries (kept ∷ record kept { basis = 8 } ∷ record kept { basis = 9 } ∷ []) ≡ record kept { basis = 9 } ∷ []
+one_of_many = refl
+
+nothing_left_out : last_entries (kept ∷ other ∷ []) ≡ kept ∷ other ∷ []
+nothing_left_out = refl
 
 two_paths : paths_in (some_paths_at 2 (0 ∷ 1 ∷ 97 ∷ 0 ∷ 1 ∷ 98 ∷ [])) ≡ (97 ∷ []) ∷ (98 ∷ []) ∷ []
 unfolding path_at some_paths_at number_at bytes_at

@@ -12,7 +12,7 @@ mod writing;
 
 pub use entry::Entry;
 pub use fault::EntryFault;
-pub use laws::entry_law;
+pub use laws::{compaction_law, entry_law};
 pub use paths::Paths;
-pub use record::{Record, load};
+pub use record::{Record, load, spellings};
 pub use writing::{WriteFault, append};

@@ -1,9 +1,11 @@
 //! The entries of a record file.
 
-ghost use Rattle.std.specs.Prelude.{◌≡◌, ◌≤◌, ◌++◌, ◌∷◌, [], ℕ, IfOk, OnOk, OnErr, length, drop, option_map, slice_get};
+ghost use Rattle.std.specs.Prelude.{◌≡◌, ◌≤◌, ◌<◌, ◌+◌, ◌++◌, ◌∷◌, [], ℕ, IfOk, OnOk, OnErr, Some, List, length, drop, not, option_map, slice_get};
 ghost use Rattle.std.specs.Arc.{arc_value};
-ghost use Rattle.plan_record.specs.Entries.{IsGoodFront, last_of};
-ghost use Rattle.plan_record.specs.Outputs.{IsIndexOf};
+ghost use Rattle.std.specs.List.{flat_map};
+ghost use Rattle.plan_record.specs.Compaction.{has_entry, last_entries};
+ghost use Rattle.plan_record.specs.Entries.{EntryData, IsGoodFront, last_of, spelling};
+ghost use Rattle.plan_record.specs.Outputs.{HasOneEach, IsIndexOf};
 
 use crate::entry::{Entry, bytes_from};
 use crate::reading::skip_entry;
@@ -25,13 +27,13 @@ pub struct Record {
 impl Model for Record {
     ghost use Rattle.std.specs.Prelude.{List};
     ghost use Rattle.plan_record.specs.Entries.{EntryData};
-    ghost use Rattle.plan_record.specs.Outputs.{IsIndexOf};
+    ghost use Rattle.plan_record.specs.Outputs.{HasOneEach, IsIndexOf};
 
     ghost Value = { List EntryData };
 
     ghost view = { λ r. r.entries.items };
 
-    ghost invariant = { λ r. IsIndexOf r.numbers.entries r.entries.items };
+    ghost invariant = { λ r. IsIndexOf r.numbers.entries r.entries.items × HasOneEach r.numbers.entries r.entries.items };
 }
 
 /// The entries of the longest front of whole ones, and the length of that front in bytes.
@@ -52,7 +54,7 @@ fn read_entries(alloc: Global, bytes: Vec<u8>) -> Result<(Vec<Entry>, usize), Me
 
 /// By its output, how many entries stand before the last one of it.
 fn numbers_of(alloc: Global, entries: &[Entry]) -> Result<IndexMap<Vec<u8>, usize>, Memory>
-    ensures { IfOk result (λ numbers. IsIndexOf numbers.entries entries.now) }
+    ensures { IfOk result (λ numbers. IsIndexOf numbers.entries entries.now × HasOneEach numbers.entries entries.now) }
 {
     let mut numbers = IndexMap::new(alloc);
     for number in 0..entries.len() {
@@ -80,6 +82,47 @@ fn nth_entry(entries: &[Entry], number: usize) -> Option<&Entry>
     entries.get(number)
 }
 
+/// Checks whether the entry of a number is the last one of its output.
+fn is_last(numbers: &IndexMap<Vec<u8>, usize>, entries: &[Entry], number: usize) -> bool
+    requires index { IsIndexOf numbers.now.entries entries.now }
+    requires within { number < length entries.now }
+    ensures { (x : EntryData) → slice_get entries.now number ≡ Some x → result ≡ not (has_entry x.output (drop (number + 1) entries.now)) }
+{
+    match numbers.get(entries[number].output()) {
+        Some(last) => *last == number,
+        None => false,
+    }
+}
+
+/// Copies those entries that are the last ones of their outputs. They share the bytes.
+fn copy_last(
+    alloc: Global,
+    numbers: &IndexMap<Vec<u8>, usize>,
+    entries: &[Entry],
+) -> Result<Vec<Entry>, Memory>
+    requires { IsIndexOf numbers.now.entries entries.now }
+    ensures { IfOk result (λ last. last.items ≡ last_entries entries.now) }
+{
+    let mut last = Vec::new(alloc);
+    for number in 0..entries.len() {
+        if is_last(numbers, entries, number) {
+            last.push(entries[number].copy()?)?;
+        }
+    }
+    Ok(last)
+}
+
+/// The spellings of entries, one after the other: the bytes of a record file.
+pub fn spellings(alloc: Global, entries: &[Entry]) -> Result<Vec<u8>, Memory>
+    ensures { IfOk result (λ bytes. bytes.items ≡ flat_map spelling entries.now) }
+{
+    let mut bytes = Vec::new(alloc);
+    for entry in entries {
+        bytes.extend_from_slice(entry.spelling())?;
+    }
+    Ok(bytes)
+}
+
 impl Record {
     /// All entries, in the file's order.
     pub fn entries(&self) -> &[Entry]
@@ -96,6 +139,28 @@ impl Record {
             Some(number) => nth_entry(&self.entries, *number),
             None => None,
         }
+    }
+
+    /// How many outputs the entries have.
+    pub fn count_outputs(&self) -> usize
+        ensures { result ≡ length (last_entries self.now) }
+    {
+        self.numbers.len()
+    }
+
+    /// The last entry of each output, in the file's order. They share the bytes.
+    pub fn last_entries(&self, alloc: Global) -> Result<Vec<Entry>, Memory>
+        ensures { IfOk result (λ entries. entries.items ≡ last_entries self.now) }
+    {
+        copy_last(alloc, &self.numbers, &self.entries)
+    }
+
+    /// The bytes of the record's file when it is compacted: the last entry of each output, in their order.
+    pub fn compacted(&self, alloc: Global) -> Result<Vec<u8>, Memory>
+        ensures { IfOk result (λ bytes. bytes.items ≡ flat_map spelling (last_entries self.now)) }
+    {
+        let entries = self.last_entries(alloc)?;
+        spellings(alloc, &entries)
     }
 
     /// Puts an entry behind the others, as where it was appended to the file. Without memory nothing changes.

@@ -114,6 +114,31 @@ fn last_of_an_output(rt: HostRuntime) -> Result<(), Fail> {
     Ok(())
 }
 
+/// The last entries stay in the record's order, and a compacted record is compacted already.
+#[test]
+fn compacted_record(rt: HostRuntime) -> Result<(), Fail> {
+    let alloc = rt.alloc();
+    let mut file = Vec::new(alloc);
+    for (output, basis) in [(b'a', 1), (b'b', 2), (b'a', 3), (b'c', 4), (b'a', 5)] {
+        file.extend_from_slice(&entry_bytes(20, 1, output, basis, 0))?;
+    }
+    let mut left = Vec::new(alloc);
+    for (output, basis) in [(b'b', 2), (b'c', 4), (b'a', 5)] {
+        left.extend_from_slice(&entry_bytes(20, 1, output, basis, 0))?;
+    }
+    let (record, _) = record_of(alloc, &file)?;
+    assert_eq!(rt; record.count_outputs(), 3);
+    assert_eq!(rt; record.last_entries(alloc)?.len(), 3);
+    assert_eq!(rt; record.compacted(alloc)?.as_slice(), left.as_slice());
+    assert_eq!(rt;
+        spellings(alloc, record.entries())?.as_slice(),
+        file.as_slice()
+    );
+    let (again, _) = record_of(alloc, &left)?;
+    assert_eq!(rt; again.compacted(alloc)?.as_slice(), left.as_slice());
+    Ok(())
+}
+
 #[test]
 fn added_behind_the_file(rt: HostRuntime) -> Result<(), Fail> {
     let (mut record, _) = record_of(rt.alloc(), &ENTRY)?;
