@@ -39,6 +39,13 @@ def entry(record: bytes, at: int) -> Tuple[Entry, int]:
     return Entry(output, paths), end
 
 
+def spelled(output: bytes, command: bytes = b"t", basis: int = 7) -> bytes:
+    """Returns the bytes of an entry without paths."""
+    parts = [struct.pack(">H", len(output)), output, struct.pack(">I", len(command)), command]
+    body = b"".join([*parts, struct.pack(">QI", basis, 0)])
+    return struct.pack(">I", len(body)) + body
+
+
 def entries(record: bytes) -> Iterator[Entry]:
     """Yields the entries of a whole record, in order."""
     at = 0

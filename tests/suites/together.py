@@ -1,5 +1,9 @@
 """Runs several builders of one record: nested, one after the other, and at once, some of them killed.
 
+Records that have grown are compacted as a builder opens them, also next to a nested builder whose own builder was
+killed: that one then keeps nothing more. A builder that is killed meanwhile leaves the old record or the new one. In a
+folder that may not be written a build with nothing to do ends well.
+
 A nested builder, which a command of another one starts, must not wait for it; what it began and what it kept must count
 in the next build. A builder that nobody's command started must wait, and say so. In the rounds, two or three builders
 run at once, as waiting ones or as nested ones, and some are killed at random moments: the next build must then make
@@ -18,7 +22,7 @@ import time
 from typing import Callable, Dict, Iterator, List, Optional
 
 from lib import programs, records
-from lib.suite import PATIENCE, Case, Setting, Wrong, alive, check, until
+from lib.suite import PATIENCE, Case, LeftOut, Setting, Wrong, alive, check, until
 
 ALONE = True
 ROUNDS = 200
@@ -197,6 +201,155 @@ def other_records_are_free(program: str, folder: pathlib.Path) -> None:
     check(ended(first) + ended(second) == b"", "a builder said something")
 
 
+# ---- records that have grown
+
+OLD = records.spelled(b"old")
+COPY = """rule copy
+  command = cat in > $out
+build out: copy in
+"""
+
+
+def grow(folder: pathlib.Path, count: int = 150) -> None:
+    """Appends entries of one output to the record, so that it has grown."""
+    with open(folder / ".plan_record", "ab") as record:
+        record.write(OLD * count)
+
+
+def grown_record_is_compacted(program: str, folder: pathlib.Path) -> None:
+    """A build with nothing to do leaves one entry for each output, in order, and the next one changes nothing."""
+    tree = Tree(program, folder, COPY, {"in": "text\n"})
+    tree.builds(0, ["[1/1] cat in > out"])
+    grow(folder, 98)
+    tree.builds(0, [])
+    check(len(outputs(folder)) == 100, "a record of 100 entries was compacted")
+    grow(folder, 1)
+    tree.builds(0, [])
+    check(outputs(folder) == [b"out", b"old"], f"{outputs(folder)}")
+    tree.builds(0, [])
+    check(outputs(folder) == [b"out", b"old"], f"{outputs(folder)}")
+    check(not (folder / ".plan_record.new").exists(), ".plan_record.new stays")
+
+
+def compacted_before_a_nested_builder(program: str, folder: pathlib.Path) -> None:
+    """The builder that compacted the record and its nested builder both keep their entries in the new one."""
+    tree = Tree(program, folder, BOTH.format(program=program), {"in": "text\n"})
+    grow(folder)
+    nested = f"{program} run plan.img a b > log && touch check"
+    tree.builds(0, [f"[1/2] {nested}", "[2/2] cat in > c"], "c")
+    check(sorted(outputs(folder)) == [b"a", b"a", b"b", b"b", b"c", b"c", b"check", b"check", b"old"],
+          f"{outputs(folder)}")
+    tree.builds(0, [])
+
+
+ORPHAN = """rule gate
+  command = touch begun; while ! [ -e go ]; do sleep 0.02; done; cat in > $out
+rule nested
+  command = {program} run plan.img inner > log 2> said; touch end
+rule copy
+  command = cat in > $out
+build inner: gate in
+build outer: nested
+build side: copy in
+"""
+
+
+def compacted_next_to_a_nested_builder(program: str, folder: pathlib.Path) -> None:
+    """A nested builder goes on after its own was killed, and another builder compacts the record.
+
+    What the nested builder has begun is in the new record, and it keeps nothing more. So its command runs again.
+    """
+    tree = Tree(program, folder, ORPHAN.format(program=program), {"in": "text\n"})
+    first = tree.start("outer")
+    until((folder / "begun").exists, "the command doesn't begin")
+    first.kill()
+    grow(folder)
+    tree.builds(0, ["[1/1] cat in > side"], "side")
+    check(outputs(folder) == [b"outer", b"inner", b"old", b"side", b"side"], f"{outputs(folder)}")
+    (folder / "go").touch()
+    until((folder / "end").exists, "the nested builder doesn't end")
+    said = tree.text("said")
+    check(said == "plan_ninja: can't keep the entry of inner: the build record was lost\n", f"it said {said!r}")
+    tree.builds(0, ["[1/1] touch begun; while ! [ -e go ]; do sleep 0.02; done; cat in > inner"], "inner")
+    tree.builds(0, [], "inner")
+
+
+KILLS = 40
+
+
+def killed_while_compacting(program: str, folder: pathlib.Path) -> None:
+    """A builder that is killed as it compacts the record leaves the old record or the new one."""
+    tree = Tree(program, folder, COPY, {"in": "text\n"})
+    tree.builds(0, ["[1/1] cat in > out"])
+    record = folder / ".plan_record"
+    grow(folder, 50000)
+    old = record.read_bytes()
+    begin = time.monotonic()
+    tree.builds(0, [])
+    took = time.monotonic() - begin
+    new = record.read_bytes()
+    check(outputs(folder) == [b"out", b"old"], f"{outputs(folder)}")
+    chance = random.Random(1)
+    for _ in range(KILLS):
+        record.write_bytes(old)
+        child = tree.start()
+        time.sleep(chance.random() * took)
+        child.kill()
+        child.communicate(timeout=PATIENCE)
+        check(record.read_bytes() in (old, new), "the record is neither the old nor the new one")
+    tree.builds(0, [])
+    check(record.read_bytes() == new, "the record wasn't compacted after the kills")
+
+
+# ---- folders that may not be written
+
+NOBODY = 65534
+
+
+def run_without_leave(tree: Tree) -> subprocess.CompletedProcess[bytes]:
+    """Runs a builder that may not write into its folder, as another user if this one may write everywhere."""
+    words = {"user": NOBODY, "group": NOBODY, "extra_groups": []} if os.geteuid() == 0 else {}
+    try:
+        return subprocess.run([tree.program, "run", "plan.img"], cwd=tree.folder, stdin=subprocess.DEVNULL,
+                              capture_output=True, timeout=programs.SECONDS, **words)
+    except PermissionError:
+        raise LeftOut("another user may not run the program") from None
+
+
+def allow(folder: pathlib.Path, writing: bool) -> None:
+    """Lets everybody read a folder and its files, and lets their owner write them, or nobody."""
+    for path in folder.iterdir():
+        path.chmod(0o644 if writing else 0o444)
+    folder.chmod(0o755 if writing else 0o555)
+
+
+def read_only_folder(program: str, folder: pathlib.Path) -> None:
+    """A build with nothing to do ends well, also with a torn record; another one says what is in its way."""
+    tree = Tree(program, folder, COPY, {"in": "text\n"})
+    tree.builds(0, ["[1/1] cat in > out"])
+    record = folder / ".plan_record"
+    for more in (b"", OLD * 150, OLD[:10]):
+        record.write_bytes(record.read_bytes() + more)
+        before = record.read_bytes()
+        allow(folder, False)
+        try:
+            ran = run_without_leave(tree)
+        finally:
+            allow(folder, True)
+        check((ran.returncode, ran.stdout, ran.stderr) == (0, b"", b""), f"with nothing to do: {ran}")
+        check(record.read_bytes() == before, "the record was changed")
+    time.sleep(0.02)
+    (folder / "in").write_text("changed\n")
+    allow(folder, False)
+    try:
+        ran = run_without_leave(tree)
+    finally:
+        allow(folder, True)
+    check((ran.returncode, ran.stdout) == (1, b"FAILED out: not started\n"), f"with something to do: {ran}")
+    check(ran.stderr == b"plan_ninja: can't start the command of out: permission denied\n", f"it said {ran.stderr!r}")
+    tree.builds(0, ["[1/1] cat in > out"])
+
+
 # ---- builders at once
 
 COUNT = 6
@@ -211,6 +364,11 @@ def wanted(words: List[str]) -> List[str]:
     for number, word in enumerate(words):
         found.append(word + (found[-1] if number % 3 else ""))
     return found
+
+
+def is_of_lost_record(said: bytes) -> bool:
+    """Checks whether a builder only said that its record was replaced: another one compacted it."""
+    return bool(said) and all(line.endswith(b": the build record was lost") for line in said.splitlines())
 
 
 class Rounds:
@@ -256,8 +414,9 @@ class Rounds:
         self.kill(children)
         for child in children:
             said = child.communicate(timeout=PATIENCE)[1]
-            check(child.returncode in (0, -signal.SIGKILL), f"a builder ended with {child.returncode}: {said!r}")
-            check(said in (b"", WAITS), f"a builder said {said!r}")
+            if child.returncode != 1 or child is children[0] or not is_of_lost_record(said):
+                check(child.returncode in (0, -signal.SIGKILL), f"a builder ended with {child.returncode}: {said!r}")
+                check(said in (b"", WAITS), f"a builder said {said!r}")
             until(lambda child=child: not alive(child.pid), "a command of a killed builder doesn't end")
         STARTED.clear()
         self.settle()
@@ -283,7 +442,9 @@ def rounds(program: str, count: int, seed: int, folder: pathlib.Path) -> None:
 
 
 TRIALS = (nested_failure, entries_of_both_survive, second_builder_waits, short_wait_is_silent,
-          killed_builder_is_not_waited_for, other_records_are_free)
+          killed_builder_is_not_waited_for, other_records_are_free, grown_record_is_compacted,
+          compacted_before_a_nested_builder, compacted_next_to_a_nested_builder, killed_while_compacting,
+          read_only_folder)
 
 
 def ending(trial: Callable[[pathlib.Path], None], folder: pathlib.Path) -> None:

@@ -3,7 +3,7 @@ use Rattle.std.proofs.Common.{◌≡◌, [], ◌∷◌, ◌++◌, Some, None, re
 use Rattle.std.specs.List.{list_all}
 use Rattle.std.proofs.Math.ListN.{replicate}
 use Rattle.plan_text.specs.Path.{components_of}
-use Rattle.plan_record.specs.Entries.{spelling}
+use Rattle.plan_record.specs.Entries.{EntryData, spelling}
 use Rattle.plan_verify.specs.Seam.{suits}
 use Rattle.plan_verify.specs.Turn.{Stat, Run, Keep}
 use Rattle.plan_machine.specs.Step.{answer_of}
@@ -11,6 +11,7 @@ use Rattle.plan_machine.specs.declared.reply.Reply.TheVariants.{Stamp, Exit, Sig
 use Rattle.plan_world.specs.Askable.{is_name}
 use Rattle.plan_world.specs.Begun.{begun, missing_path}
 use Rattle.plan_world.specs.Recording.{EndsWith, edge_entry}
+use Rattle.plan_world.specs.Rewriting.{restated}
 use Rattle.plan_world.specs.Shells.{ending, record_variable}
 use Rattle.plan_world.specs.Stamps.{stamp_of}
 
@@ -66,3 +67,18 @@ longest_name = refl
 
 name_too_long : is_name (replicate 256 110) ≡ false
 name_too_long = refl
+
+-- ---- records that are rewritten
+
+abbrev kept_entry : EntryData
+kept_entry = edge_entry (97 ∷ []) (116 ∷ []) 7 []
+
+-- of these outputs only `a` is named
+named_output : restated ((97 ∷ []) ∷ []) (9 ∷ 8 ∷ []) (kept_entry ∷ edge_entry (98 ∷ []) [] 3 [] ∷ []) ≡ edge_entry (97 ∷ []) (116 ∷ []) 9 [] ∷ edge_entry (98 ∷ []) [] 3 [] ∷ []
+named_output = refl
+
+no_output_named : restated [] (9 ∷ 0 ∷ []) (kept_entry ∷ edge_entry (98 ∷ []) [] 3 [] ∷ []) ≡ edge_entry (97 ∷ []) (116 ∷ []) 9 [] ∷ edge_entry (98 ∷ []) [] 0 [] ∷ []
+no_output_named = refl
+
+begun_stays : restated [] (9 ∷ []) (begun (97 ∷ []) ∷ []) ≡ begun (97 ∷ []) ∷ []
+begun_stays = refl

@@ -6,3 +6,4 @@ pub mod Faults
 pub mod Shells
 pub mod Stamps
 pub mod Recording
+pub mod Rewriting

@@ -1,10 +1,10 @@
 //! The lock that keeps a second builder from a record.
 
 use crate::fault::DeviceFault;
-use crate::shared_file::SharedFile;
+use crate::shared_file::{SharedFile, open_shared};
 use std::alloc::Global;
 use std::env::{self, Env, VarError};
-use std::fs::{Metadata, OpenFile, OpenOptions};
+use std::fs::{Metadata, OpenFile};
 use std::os::unix::fs::MetadataExt;
 use std::rt::Files;
 use std::time::{Clock, Duration};
@@ -82,10 +82,7 @@ where
 {
     let alloc = rt.alloc();
     let path = format!(in alloc; "{record}.lock")?;
-    let file = OpenOptions::new()
-        .append(true)
-        .create(true)
-        .open(rt, path.as_str())?;
+    let (file, _) = open_shared(rt, path.as_str())?;
     let above = names_above(rt)?;
     let own = name_of(alloc, &file.metadata()?)?;
     if !file.try_lock()? {
@@ -104,6 +101,11 @@ where
 }
 
 impl<F> BuilderLock<F> {
+    /// Checks whether this builder holds the lock itself, and not one above it.
+    pub(crate) fn is_held(&self) -> bool {
+        self.file.is_some()
+    }
+
     /// Returns the value of the variable for the commands of this builder.
     pub(crate) fn names(&self) -> &str {
         &self.names

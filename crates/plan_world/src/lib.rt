@@ -2,6 +2,7 @@
 //!
 //! - `RealWorld`: stamps of files, commands run by `/bin/sh`, depfiles, and a record file that is open.
 //! - `OpenFault`: why there is none.
+//! - `recompact`, `restat`, `recorded_outputs`: what is done with a record between builds.
 //! - `SharedFile`: a file with a lock, as the record's file is one.
 //!
 //! docs/rules/world.md has the rules one by one.
@@ -11,16 +12,21 @@ mod askable;
 mod builder_lock;
 mod depfile;
 mod fault;
+mod maintenance;
 mod reasons;
 mod record_file;
 mod record_sink;
 mod recorded;
+mod replacing;
+mod restating;
+mod rewriting;
 mod shared_file;
 mod shell;
 mod stamp;
 mod world;
 
 pub use fault::OpenFault;
+pub use maintenance::{recompact, recorded_outputs, restat};
 pub use shared_file::SharedFile;
 pub use world::RealWorld;
 

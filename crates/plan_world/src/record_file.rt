@@ -1,22 +1,32 @@
 //! The record's file, while it is open.
 
-ghost use Rattle.std.specs.Prelude.{◌≡◌, ◌++◌, ◌∷◌, [], false, IfOk, IfSome, OnOk, OnErr, option_map};
+ghost use Rattle.std.specs.Prelude.{◌≡◌, ◌++◌, ◌∷◌, [], false, IfOk, IfSome, OnOk, OnErr, map, option_map};
 ghost use Rattle.std.specs.Io.KnownBytes.{Appends};
+ghost use Rattle.std.specs.List.{flat_map};
+ghost use Rattle.plan_record.specs.Compaction.{last_entries};
 ghost use Rattle.plan_record.specs.Entries.{HasSpelling, IsGoodFront, last_of, spelling};
 ghost use Rattle.plan_world.specs.Begun.{begun};
 ghost use Rattle.plan_world.specs.Recording.{EndsWith, Grows, IsWritten, TakesIn, edge_entry};
+ghost use Rattle.plan_world.specs.Rewriting.{has_grown};
 
 use crate::fault::DeviceFault;
 use crate::record_sink::{RecordSink, bytes_of};
-use crate::recorded::{begun_entry, entry_of};
-use crate::shared_file::SharedFile;
+use crate::recorded::{begun_entry, entry_of, outputs_of};
+use crate::shared_file::{SharedFile, open_shared};
 use plan_record::{Entry, Record, load};
+use plan_text::RowList;
 use plan_verify::PathList;
 use std::alloc::Global;
-use std::fs::{OpenFile, OpenOptions};
+use std::fs::{Metadata, OpenFile};
 use std::io::{ErrorKind, Read, Seek, Write};
 use std::marker::Model;
 use std::rt::Files;
+
+/// How many entries a record may have that is never compacted.
+const FEW: usize = 100;
+
+/// How many entries for each output a record may have before it is compacted.
+const MOST_EACH: u128 = 3;
 
 /// That the record says of an output that its edge was begun: nothing else makes one. Contracts see the output.
 #[derive(Drop)]
@@ -77,10 +87,14 @@ fn read_all<F: Read>(alloc: Global, file: &mut F) -> Result<Vec<u8>, DeviceFault
     Ok(bytes)
 }
 
-/// Reads the record that a file has from here to its end: the longest front of whole entries, to which the file is cut.
-/// Its lock has to be held.
+/// Reads the record that a file has from here to its end: the longest front of whole entries, to which the file is cut if it
+/// may be written. Its lock has to be held.
 #[tactic(auto, using(crate::proofs::RecordingLemmas::front_spelled))]
-pub(crate) fn load_file<F>(alloc: Global, file: F) -> Result<RecordFile<F>, DeviceFault>
+pub(crate) fn load_file<F>(
+    alloc: Global,
+    file: F,
+    unwritable: Option<ErrorKind>,
+) -> Result<RecordFile<F>, DeviceFault>
 where
     F: Read + OpenFile + Drop,
     ensures loaded { IfOk result (λ r. IfSome (F.remaining file) (λ bytes. IsGoodFront bytes r.entries r.good)) }
@@ -90,15 +104,31 @@ where
     let bytes = read_all(alloc, &mut file)?;
     let len = bytes.len() as u64;
     let (entries, good) = load(alloc, bytes)?;
-    let mut sink = RecordSink::new(file, good);
-    if good < len {
+    let mut sink = RecordSink::new(file, good, unwritable);
+    if good < len && unwritable.is_none() {
         sink.cut()?;
     }
     Ok(RecordFile { sink, entries })
 }
 
-/// Opens the record of a path, or creates an empty one if there is none, and cuts it to its good front. What is no file is
-/// refused: it may have no end.
+/// Opens the file of a path, or creates an empty one if there is none, and returns why it may only be read, if it may not be
+/// written. What is no file is refused: it may have no end.
+pub(crate) fn open_file<R: Files>(
+    rt: &R,
+    path: &str,
+) -> Result<(R::File, Option<ErrorKind>), DeviceFault>
+where
+    R::File: OpenFile + Drop,
+{
+    let (file, unwritable) = open_shared(rt, path)?;
+    if !file.metadata()?.is_file() {
+        return Err(DeviceFault::System(ErrorKind::InvalidInput));
+    }
+    Ok((file, unwritable))
+}
+
+/// Opens the record of a path, or creates an empty one if there is none, and cuts it to its good front. A record that may not
+/// be written is only read. What is no file is refused.
 pub(crate) fn open_record<R: Files + AllocGlobal>(
     rt: &R,
     path: &str,
@@ -107,16 +137,9 @@ where
     R::File: Read + OpenFile + SharedFile + Drop,
     ensures well { IfOk result (λ r. r.broken ≡ false) }
 {
-    let file = OpenOptions::new()
-        .read(true)
-        .append(true)
-        .create(true)
-        .open(rt, path)?;
-    if !file.metadata()?.is_file() {
-        return Err(DeviceFault::System(ErrorKind::InvalidInput));
-    }
+    let (file, unwritable) = open_file(rt, path)?;
     file.lock()?;
-    let record = load_file(rt.alloc(), file)?;
+    let record = load_file(rt.alloc(), file, unwritable)?;
     record.sink.unlock();
     Ok(record)
 }
@@ -128,6 +151,35 @@ impl<F> RecordFile<F> {
         ensures own { IfSome result (λ e. e.now.output ≡ output.now) }
     {
         self.entries.entry(output)
+    }
+
+    /// Checks whether the record has grown so that it is compacted.
+    pub(crate) fn has_grown(&self) -> bool
+        ensures { result ≡ has_grown self.now.entries }
+    {
+        let count = self.entries.entries().len();
+        (count > FEW) & (count as u128 > MOST_EACH * self.entries.count_outputs() as u128)
+    }
+
+    /// Returns the last entry of each output, in the record's order.
+    pub(crate) fn last_entries(&self, alloc: Global) -> Result<Vec<Entry>, DeviceFault>
+        ensures { IfOk result (λ entries. entries.items ≡ last_entries self.now.entries) }
+    {
+        Ok(self.entries.last_entries(alloc)?)
+    }
+
+    /// Returns the bytes of the record with only the last entry of each output.
+    pub(crate) fn compacted(&self, alloc: Global) -> Result<Vec<u8>, DeviceFault>
+        ensures { IfOk result (λ bytes. bytes.items ≡ flat_map spelling (last_entries self.now.entries)) }
+    {
+        Ok(self.entries.compacted(alloc)?)
+    }
+
+    /// Returns the outputs that the record has entries of, each once, in the order of their last entries.
+    pub(crate) fn outputs(&self, alloc: Global) -> Result<RowList<u8>, DeviceFault>
+        ensures { IfOk result (λ rows. rows ≡ map (λ x. x.output) (last_entries self.now.entries)) }
+    {
+        Ok(outputs_of(alloc, &self.entries.last_entries(alloc)?)?)
     }
 
     /// Takes in an entry that another builder appended.
@@ -168,10 +220,29 @@ impl<F> RecordFile<F> {
     }
 }
 
+impl<F: SharedFile> RecordFile<F> {
+    /// Waits for the file's lock and takes it, unless nothing more is to be written.
+    pub(crate) fn lock(&self) -> Result<(), DeviceFault> {
+        self.sink.lock()
+    }
+
+    /// Gives the file's lock back.
+    pub(crate) fn unlock(&self) {
+        self.sink.unlock();
+    }
+}
+
+impl<F: OpenFile> RecordFile<F> {
+    /// What the system says of the file.
+    pub(crate) fn metadata(&self) -> Result<Metadata, DeviceFault> {
+        self.sink.metadata()
+    }
+}
+
 impl<F: Read + Seek + OpenFile> RecordFile<F> {
     /// Takes in what other builders appended since this one read or wrote the file, and cuts off what is no whole entry:
     /// a builder was ended in the middle of it. The file's lock has to be held.
-    fn catch_up(&mut self, alloc: Global) -> Result<(), DeviceFault>
+    pub(crate) fn catch_up(&mut self, alloc: Global) -> Result<(), DeviceFault>
         ensures grows { Grows self.old.entries self.new.entries }
         ensures well { OnOk result (self.new.broken ≡ self.old.broken) }
     {

@@ -9,7 +9,7 @@ use crate::shared_file::SharedFile;
 use plan_record::{Entry, append};
 use plan_text::Counted;
 use std::alloc::Global;
-use std::fs::OpenFile;
+use std::fs::{Metadata, OpenFile};
 use std::io::{ErrorKind, Read, Seek, SeekFrom, Write};
 use std::os::unix::fs::MetadataExt;
 
@@ -36,7 +36,7 @@ fn write_at_once<F: Write>(file: &mut F, bytes: &[u8]) -> Result<(), DeviceFault
     Ok(())
 }
 
-/// The record's file, opened to append. Its front of `good` bytes is whole entries, which this builder has read or written.
+/// The record's file, opened to append, or only to be read if it may not be written. Its front of `good` bytes is whole entries, which this builder has read or written.
 /// What other builders appended since then comes behind.
 #[derive(Drop)]
 pub(crate) struct RecordSink<F> {
@@ -45,17 +45,21 @@ pub(crate) struct RecordSink<F> {
     good: u64,
     /// Whether a cut failed, or the file was removed: then nothing more is written.
     broken: bool,
+    /// Why the file may only be read: then nothing is written. None if it may be written.
+    unwritable: Option<ErrorKind>,
 }
 
 impl<F> RecordSink<F> {
-    /// A file whose front of `good` bytes was read and is whole entries.
-    pub(crate) fn new(file: F, good: u64) -> RecordSink<F>
+    /// A file whose front of `good` bytes was read and is whole entries, and why it may only be read, if it may not be
+    /// written.
+    pub(crate) fn new(file: F, good: u64, unwritable: Option<ErrorKind>) -> RecordSink<F>
         ensures { (result.good ≡ good) × (result.broken ≡ false) }
     {
         RecordSink {
             file,
             good,
             broken: false,
+            unwritable,
         }
     }
 
@@ -85,6 +89,9 @@ impl<F: SharedFile> RecordSink<F> {
         if self.broken {
             return Err(DeviceFault::Lost);
         }
+        if let Some(kind) = self.unwritable {
+            return Err(DeviceFault::System(kind));
+        }
         self.file.lock()?;
         Ok(())
     }
@@ -96,6 +103,11 @@ impl<F: SharedFile> RecordSink<F> {
 }
 
 impl<F: OpenFile> RecordSink<F> {
+    /// What the system says of the file.
+    pub(crate) fn metadata(&self) -> Result<Metadata, DeviceFault> {
+        Ok(self.file.metadata()?)
+    }
+
     /// Cuts the file to the front. If that fails, nothing more is written. Nobody else may be writing meanwhile, so the
     /// file's lock has to be held.
     pub(crate) fn cut(&mut self) -> Result<(), DeviceFault>

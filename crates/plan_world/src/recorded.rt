@@ -1,9 +1,10 @@
 //! Entries of the record, as the machine and the record have them.
 
-ghost use Rattle.std.specs.Prelude.{◌≡◌, ◌≢◌, IfErr, IfOk, OnOk};
+ghost use Rattle.std.specs.Prelude.{◌≡◌, ◌≢◌, IfErr, IfOk, OnOk, map};
 ghost use Rattle.plan_record.specs.Entries.{HasSpelling};
 ghost use Rattle.plan_world.specs.Begun.{begun};
 ghost use Rattle.plan_world.specs.Recording.{edge_entry};
+ghost use Rattle.plan_world.specs.Rewriting.{is_begun};
 
 use crate::fault::DeviceFault;
 use plan_machine::Recorded;
@@ -74,6 +75,24 @@ pub(crate) fn entry_of(
 {
     let paths = items_of(alloc, paths)?;
     Ok(Entry::new(alloc, output, command, basis, &paths)?)
+}
+
+/// Checks whether an entry says that its edge was begun.
+pub(crate) fn is_begun(entry: &Entry) -> bool
+    ensures { result ≡ is_begun entry.now }
+{
+    entry.command() == BEGUN.as_slice()
+}
+
+/// Returns the outputs of these entries.
+pub(crate) fn outputs_of(alloc: Global, entries: &[Entry]) -> Result<RowList<u8>, AllocError>
+    ensures { IfOk result (λ rows. rows ≡ map (λ x. x.output) entries.now) }
+{
+    let mut rows = RowList::new(alloc);
+    for entry in entries {
+        rows.push(entry.output())?;
+    }
+    Ok(rows)
 }
 
 /// The entry of an edge whose command is about to start.

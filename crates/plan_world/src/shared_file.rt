@@ -1,7 +1,8 @@
 //! Files that several processes use at once.
 
-use std::fs::{File, TryLockError};
+use std::fs::{self, File, OpenOptions, TryLockError};
 use std::io::{self, ErrorKind};
+use std::rt::Files;
 
 /// A file with a lock that one process holds at a time. The lock ends when the file is closed, also if its process is
 /// killed. A file system without locks grants each one.
@@ -14,6 +15,29 @@ pub trait SharedFile {
 
     /// Gives the lock back.
     fn unlock(&self) -> io::Result<()>;
+}
+
+/// Checks whether an error says that a file may not be written.
+fn is_unwritable(kind: ErrorKind) -> bool {
+    kind == ErrorKind::PermissionDenied || kind == ErrorKind::ReadOnlyFilesystem
+}
+
+/// Opens a file to read it and to append to it, and creates it if it is missing. A file that may not be written is opened
+/// only to be read, and the reason is returned.
+pub(crate) fn open_shared<R: Files>(
+    rt: &R,
+    path: &str,
+) -> io::Result<(R::File, Option<ErrorKind>)> {
+    let mut options = OpenOptions::new();
+    options.read(true).append(true).create(true);
+    match options.open(rt, path) {
+        Ok(file) => Ok((file, None)),
+        Err(error) if is_unwritable(error.kind()) => match fs::open(rt, path) {
+            Ok(file) => Ok((file, Some(error.kind()))),
+            Err(_) => Err(error),
+        },
+        Err(error) => Err(error),
+    }
 }
 
 /// Passes over the error of a file system that has no locks.

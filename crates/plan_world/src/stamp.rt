@@ -5,10 +5,10 @@ ghost use Rattle.std.specs.IoError.{error_kind};
 ghost use Rattle.plan_machine.specs.declared.reply.Reply.TheVariants.{Fault, Stamp};
 ghost use Rattle.plan_verify.specs.Turn.{Stat};
 ghost use Rattle.plan_world.specs.Answers.{IsAnswer};
-ghost use Rattle.plan_world.specs.Faults.{IsToldOf};
+ghost use Rattle.plan_world.specs.Faults.{IsMissing, IsToldOf};
 ghost use Rattle.plan_world.specs.Stamps.{IsThere, stamp_of};
 
-use crate::fault::without;
+use crate::fault::{DeviceFault, without};
 use plan_machine::Reply;
 use std::alloc::AllocError;
 use std::fs::Metadata;
@@ -59,4 +59,29 @@ pub(crate) fn stat<R: Files>(rt: &R, path: &[u8]) -> Result<Reply, AllocError>
         return Ok(Reply::Fault);
     };
     seen(fs::metadata(rt, path))
+}
+
+/// The stamp of a file that was looked for; 0 where it is missing.
+fn found_stamp(found: io::Result<Metadata>) -> Result<u64, DeviceFault>
+    ensures there { OnOk found (IsOkAnd result (λ stamp. 1 ≤ stamp)) }
+    ensures missing { IfErr found (λ e. IsMissing (error_kind e) → result ≡ Ok 0) }
+    ensures unknown { IfErr found (λ e. ¬ (IsMissing (error_kind e)) → IsErr result) }
+{
+    match found {
+        Ok(file) => Ok(stamp_at(file.mtime(), file.mtime_nsec())),
+        Err(error) => match error.kind() {
+            ErrorKind::NotFound | ErrorKind::NotADirectory => Ok(0),
+            _ => Err(DeviceFault::from(error)),
+        },
+    }
+}
+
+/// The stamp of the file at a path, as `stat` replies it, and why it can't be known.
+pub(crate) fn stamp_of<R: Files>(rt: &R, path: &[u8]) -> Result<u64, DeviceFault>
+    ensures { ¬ (IsUtf8 path.now) → IsErr result }
+{
+    match str::from_utf8(path) {
+        Ok(path) => found_stamp(fs::metadata(rt, path)),
+        Err(_) => Err(DeviceFault::System(ErrorKind::InvalidFilename)),
+    }
 }

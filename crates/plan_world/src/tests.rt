@@ -2,7 +2,7 @@
 
 use crate::builder_lock::is_named;
 use crate::record_file::{RecordFile, load_file};
-use crate::{OpenFault, RealWorld, SharedFile};
+use crate::{OpenFault, RealWorld, SharedFile, recompact, recorded_outputs, restat};
 use plan_lanes::World;
 use plan_machine::{Recorded, Reply};
 use plan_text::RowList;
@@ -413,7 +413,7 @@ fn failing_record(
         left,
         uncut: AtomicU64::new(uncut),
     };
-    match load_file(rt.alloc(), failing) {
+    match load_file(rt.alloc(), failing, None) {
         Ok(record) => Ok(record),
         Err(_) => Err(Fail::from(AllocError)),
     }
@@ -540,5 +540,149 @@ fn names_of_locks(rt: HostRuntime) -> Result<(), Fail> {
     assert!(rt; is_named("1:2 3:45", "1:2"));
     assert!(rt; !is_named("1:2 3:45", "3:4"));
     assert!(rt; !is_named("", "3:4"));
+    Ok(())
+}
+
+/// Writes a record of the entry of 24 bytes, so many times.
+fn write_entries(rt: &HostRuntime, record: &str, count: usize) -> Result<(), Fail> {
+    let mut bytes = Vec::new(rt.alloc());
+    for _ in 0..count {
+        bytes.extend_from_slice(&ENTRY)?;
+    }
+    fs::write(rt, record, bytes.as_slice())?;
+    Ok(())
+}
+
+/// A record with more than 100 entries, and more than three for each output, is compacted as it is opened.
+#[test]
+fn grown_record(rt: HostRuntime) -> Result<(), Fail> {
+    let folder = folder(&rt, "grown_record")?;
+    let record = format!(in rt.alloc(); "{folder}/record")?;
+    for (count, left) in [(100, 2400), (101, 24), (5, 120)] {
+        write_entries(&rt, record.as_str(), count)?;
+        let world = world_in(&rt, folder.as_str())?;
+        assert_eq!(rt; recalled(&world)?.basis(), 7);
+        assert_eq!(rt; fs::read(&rt, record.as_str())?.len(), left);
+    }
+    fs::remove_dir_all(&rt, folder.as_str())?;
+    Ok(())
+}
+
+/// A record is compacted whatever its length, and no record is created.
+#[test]
+fn recompacted(rt: HostRuntime) -> Result<(), Fail> {
+    let folder = folder(&rt, "recompacted")?;
+    let record = format!(in rt.alloc(); "{folder}/record")?;
+    recompact(&rt, record.as_str())?;
+    restat(&rt, record.as_str(), &[])?;
+    assert_eq!(rt; recorded_outputs(&rt, record.as_str())?.len(), 0);
+    assert!(rt; !fs::exists(&rt, record.as_str())?);
+    write_entries(&rt, record.as_str(), 2)?;
+    recompact(&rt, record.as_str())?;
+    assert_eq!(rt;
+        fs::read(&rt, record.as_str())?.as_slice(),
+        ENTRY.as_slice()
+    );
+    assert_eq!(rt; recompact(&rt, folder.as_str()), Err(OpenFault::Device));
+    fs::remove_dir_all(&rt, folder.as_str())?;
+    Ok(())
+}
+
+/// A builder whose record was replaced keeps nothing more.
+#[test]
+fn replaced_record(rt: HostRuntime) -> Result<(), Fail> {
+    let folder = folder(&rt, "replaced_record")?;
+    let path = format!(in rt.alloc(); "{folder}/record")?;
+    let mut record = failing_record(&rt, path.as_str(), usize::MAX, 0)?;
+    assert!(rt; keeps(rt.alloc(), &mut record)?);
+    recompact(&rt, path.as_str())?;
+    assert!(rt; !keeps(rt.alloc(), &mut record)?);
+    assert_eq!(rt; fs::read(&rt, path.as_str())?.as_slice(), ENTRY.as_slice());
+    fs::remove_dir_all(&rt, folder.as_str())?;
+    Ok(())
+}
+
+/// Each output is listed once, in the order of the last entries.
+#[test]
+fn outputs_of_a_record(rt: HostRuntime) -> Result<(), Fail> {
+    let folder = folder(&rt, "outputs_of_a_record")?;
+    let path = format!(in rt.alloc(); "{folder}/record")?;
+    let mut bytes = Vec::from_slice(rt.alloc(), &ENTRY)?;
+    bytes.extend_from_slice(&ENTRY)?;
+    bytes.extend_from_slice(&BEGUN_ENTRY)?;
+    bytes[ENTRY.len() + 6] = b'b';
+    fs::write(&rt, path.as_str(), bytes.as_slice())?;
+    let outputs = recorded_outputs(&rt, path.as_str())?;
+    assert_eq!(rt; outputs.len(), 2);
+    assert_eq!(rt; outputs.row(0), b"b".as_slice());
+    assert_eq!(rt; outputs.row(1), b"a".as_slice());
+    fs::remove_dir_all(&rt, folder.as_str())?;
+    Ok(())
+}
+
+/// The basis that a record has for an output.
+fn basis_of<R: Files + Processes + Print + Eprint + Wait + AllocGlobal>(
+    world: &RealWorld<R>,
+    output: &[u8],
+) -> Result<u64, Fail>
+where
+    R::File: Read + Write + Seek + OpenFile + SharedFile,
+{
+    match world.recall(0, output)? {
+        Reply::Entry(recorded) => Ok(recorded.basis()),
+        _ => Err(Fail::from(AllocError)),
+    }
+}
+
+/// Keeps an entry with basis 7 for an output.
+fn keep_seven<R: Files + Processes + Print + Eprint + Wait + AllocGlobal>(
+    alloc: Global,
+    world: &RealWorld<R>,
+    output: &[u8],
+) -> Result<(), Fail>
+where
+    R::File: Read + Write + Seek + OpenFile + SharedFile,
+{
+    let none = PathList::empty(alloc)?;
+    match world.keep(0, output, b"t", 7, &none)? {
+        Reply::Kept => Ok(()),
+        _ => Err(Fail::from(AllocError)),
+    }
+}
+
+/// The basis of a named output becomes the stamp of its file, or 0 if that is missing, and the others stay.
+#[test]
+fn restated_outputs(rt: HostRuntime) -> Result<(), Fail> {
+    let folder = folder(&rt, "restated_outputs")?;
+    let record = format!(in rt.alloc(); "{folder}/record")?;
+    let missing = format!(in rt.alloc(); "{folder}/missing")?;
+    let world = world_in(&rt, folder.as_str())?;
+    keep_seven(rt.alloc(), &world, folder.as_bytes())?;
+    keep_seven(rt.alloc(), &world, missing.as_bytes())?;
+    drop(world);
+    restat(&rt, record.as_str(), &[missing.as_bytes()])?;
+    let world = world_in(&rt, folder.as_str())?;
+    assert_eq!(rt; basis_of(&world, missing.as_bytes())?, 0);
+    assert_eq!(rt; basis_of(&world, folder.as_bytes())?, 7);
+    drop(world);
+    restat(&rt, record.as_str(), &[])?;
+    let world = world_in(&rt, folder.as_str())?;
+    assert!(rt; basis_of(&world, folder.as_bytes())? > 1_000_000_000);
+    fs::remove_dir_all(&rt, folder.as_str())?;
+    Ok(())
+}
+
+/// An entry that says that its edge was begun stays as it is.
+#[test]
+fn begun_is_not_restated(rt: HostRuntime) -> Result<(), Fail> {
+    let folder = folder(&rt, "begun_not_restated")?;
+    let path = format!(in rt.alloc(); "{folder}/record")?;
+    fs::write(&rt, path.as_str(), BEGUN_ENTRY.as_slice())?;
+    restat(&rt, path.as_str(), &[])?;
+    assert_eq!(rt;
+        fs::read(&rt, path.as_str())?.as_slice(),
+        BEGUN_ENTRY.as_slice()
+    );
+    fs::remove_dir_all(&rt, folder.as_str())?;
     Ok(())
 }

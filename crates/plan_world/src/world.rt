@@ -9,12 +9,14 @@ ghost use Rattle.plan_world.specs.Recording.{edge_entry};
 ghost use Rattle.plan_world.specs.Shells.{AreTexts};
 
 use crate::askable::are_askable;
-use crate::builder_lock::{BuilderLock, take_lock};
+use crate::builder_lock::BuilderLock;
 use crate::depfile::read_depfile;
 use crate::fault::{DeviceFault, OpenFault};
+use crate::maintenance::locked_record;
 use crate::reasons::say;
-use crate::record_file::{Kept, RecordFile, open_record};
+use crate::record_file::{Kept, RecordFile};
 use crate::recorded::recorded_of;
+use crate::rewriting::compact_grown;
 use crate::shared_file::SharedFile;
 use crate::shell::{make_folders, run_shell};
 use crate::stamp::stat;
@@ -54,18 +56,20 @@ where
     R::File: Read + Write + Seek + OpenFile + SharedFile + Drop,
 {
     /// Opens the world of a runtime, with the record of this path, which is created empty if it is missing, and cut to its
-    /// good front. Its folder must exist.
+    /// good front. Its folder must exist. A record that may not be written is only read. A record that has grown is
+    /// compacted, if no builder above this one holds its lock.
     ///
     /// It waits while another builder uses the record, and says so on standard error after a second. A builder that was
     /// started by a command of that one goes on beside it.
     ///
     /// # Errors
-    /// `Device` if the record or its lock can't be created, read, locked or cut, and `Memory`.
+    /// `Device` if the record or its lock can't be created, read, locked or cut, and `Memory`. A record that can't be
+    /// compacted is used as it is.
     pub fn open(rt: R, record: &str) -> Result<RealWorld<R>, OpenFault>
     where
         R: Drop,
     {
-        let (lock, file) = match locked_record(&rt, record) {
+        let (lock, file) = match record_for_building(&rt, record) {
             Ok(opened) => opened,
             Err(fault) => {
                 say(&rt, "can't open the record", record.as_bytes(), fault);
@@ -82,17 +86,17 @@ where
     }
 }
 
-/// Takes the lock of a record, and opens it. What is no file gets no lock.
-fn locked_record<R: Files + Env + Clock + Eprint + AllocGlobal>(
+/// Takes the lock of a record, opens it, and compacts it if it has grown.
+fn record_for_building<R: Files + Env + Clock + Eprint + AllocGlobal>(
     rt: &R,
     record: &str,
 ) -> Result<(BuilderLock<R::File>, RecordFile<R::File>), DeviceFault>
 where
     R::File: Read + Write + Seek + OpenFile + SharedFile + Drop,
 {
-    drop(open_record(rt, record)?);
-    let lock = take_lock(rt, record)?;
-    Ok((lock, open_record(rt, record)?))
+    let (lock, file) = locked_record(rt, record)?;
+    let file = compact_grown(rt, record, &lock, file)?;
+    Ok((lock, file))
 }
 
 impl<R: Files> RealWorld<R> {

@@ -1,0 +1,161 @@
+//! Records between builds: they are rewritten, and their outputs are listed.
+
+use crate::builder_lock::{BuilderLock, take_lock};
+use crate::fault::{DeviceFault, OpenFault};
+use crate::reasons::say;
+use crate::record_file::{RecordFile, open_file, open_record};
+use crate::rewriting::{compact, restate};
+use crate::shared_file::SharedFile;
+use plan_text::RowList;
+use std::env::Env;
+use std::fs::{self, OpenFile};
+use std::io::{Read, Seek, Write};
+use std::rt::Files;
+use std::time::Clock;
+
+/// Takes the lock of a record, and opens it. What is no file gets no lock.
+pub(crate) fn locked_record<R: Files + Env + Clock + Eprint + AllocGlobal>(
+    rt: &R,
+    record: &str,
+) -> Result<(BuilderLock<R::File>, RecordFile<R::File>), DeviceFault>
+where
+    R::File: Read + Write + Seek + OpenFile + SharedFile + Drop,
+{
+    drop(open_file(rt, record)?);
+    let lock = take_lock(rt, record)?;
+    Ok((lock, open_record(rt, record)?))
+}
+
+/// Returns what became of a request, and says on standard error why the record can't be changed or read.
+fn told<T, R: Eprint>(
+    rt: &R,
+    what: &str,
+    record: &str,
+    done: Result<T, DeviceFault>,
+) -> Result<T, OpenFault> {
+    match done {
+        Ok(done) => Ok(done),
+        Err(fault) => {
+            say(rt, what, record.as_bytes(), fault);
+            Err(OpenFault::from(fault))
+        }
+    }
+}
+
+/// Compacts a record that there is.
+fn recompact_file<R: Files + Env + Clock + Eprint + AllocGlobal>(
+    rt: &R,
+    record: &str,
+) -> Result<(), DeviceFault>
+where
+    R::File: Read + Write + Seek + OpenFile + SharedFile + Drop,
+{
+    if !fs::exists(rt, record)? {
+        return Ok(());
+    }
+    let (lock, mut file) = locked_record(rt, record)?;
+    if lock.is_held() {
+        compact(rt, record, &mut file)?;
+    }
+    Ok(())
+}
+
+/// Rewrites a record, so that it has only the last entry of each output. If there is no record, none is created.
+///
+/// It waits while a builder uses the record. Below a builder that holds the record's lock the record stays as it is.
+///
+/// # Errors
+/// `Device` if the record or its lock can't be opened, read or locked, or if the new file can't be written, and `Memory`.
+/// Then the record is as it was.
+pub fn recompact<R: Files + Env + Clock + Eprint + AllocGlobal>(
+    rt: &R,
+    record: &str,
+) -> Result<(), OpenFault>
+where
+    R::File: Read + Write + Seek + OpenFile + SharedFile + Drop,
+{
+    told(
+        rt,
+        "can't rewrite the record",
+        record,
+        recompact_file(rt, record),
+    )
+}
+
+/// Restates a record that there is.
+fn restat_file<R: Files + Env + Clock + Eprint + AllocGlobal>(
+    rt: &R,
+    record: &str,
+    outputs: &[&[u8]],
+) -> Result<(), DeviceFault>
+where
+    R::File: Read + Write + Seek + OpenFile + SharedFile + Drop,
+{
+    if !fs::exists(rt, record)? {
+        return Ok(());
+    }
+    let (lock, mut file) = locked_record(rt, record)?;
+    if lock.is_held() {
+        restate(rt, record, &mut file, outputs)?;
+    }
+    Ok(())
+}
+
+/// Rewrites a record as `recompact` does. The basis of the last entry of each of these outputs, or of all outputs if none
+/// is named, becomes the stamp that the output's file has now, or 0 if it is missing. An entry that says that its edge was
+/// begun stays as it is.
+///
+/// # Errors
+/// As for `recompact`, and `Device` if the stamp of an output can't be determined.
+pub fn restat<R: Files + Env + Clock + Eprint + AllocGlobal>(
+    rt: &R,
+    record: &str,
+    outputs: &[&[u8]],
+) -> Result<(), OpenFault>
+where
+    R::File: Read + Write + Seek + OpenFile + SharedFile + Drop,
+{
+    told(
+        rt,
+        "can't rewrite the record",
+        record,
+        restat_file(rt, record, outputs),
+    )
+}
+
+/// Returns the outputs of a record that there is.
+fn outputs_of_file<R: Files + Env + Clock + Eprint + AllocGlobal>(
+    rt: &R,
+    record: &str,
+) -> Result<RowList<u8>, DeviceFault>
+where
+    R::File: Read + Write + Seek + OpenFile + SharedFile + Drop,
+{
+    if !fs::exists(rt, record)? {
+        return Ok(RowList::new(rt.alloc()));
+    }
+    let (_lock, file) = locked_record(rt, record)?;
+    file.outputs(rt.alloc())
+}
+
+/// Returns the outputs that a record has entries of, each once, in the order of their last entries. If there is no record,
+/// there are none, and none is created.
+///
+/// It waits while a builder uses the record, unless it is below that builder.
+///
+/// # Errors
+/// `Device` if the record or its lock can't be opened, read or locked, and `Memory`.
+pub fn recorded_outputs<R: Files + Env + Clock + Eprint + AllocGlobal>(
+    rt: &R,
+    record: &str,
+) -> Result<RowList<u8>, OpenFault>
+where
+    R::File: Read + Write + Seek + OpenFile + SharedFile + Drop,
+{
+    told(
+        rt,
+        "can't read the record",
+        record,
+        outputs_of_file(rt, record),
+    )
+}

@@ -1,0 +1,104 @@
+//! Files that are replaced whole.
+
+ghost use Rattle.std.specs.Prelude.{◌≡◌, IfOk, OnOk};
+ghost use Rattle.std.specs.Io.KnownBytes.{Appends};
+
+use crate::fault::DeviceFault;
+use std::fs::{self, Metadata, OpenFile, OpenOptions};
+use std::io::{ErrorKind, Write};
+use std::marker::Model;
+use std::os::unix::fs::{MetadataExt, chown};
+use std::rt::Files;
+
+/// That a file got these bytes, and that the system was told to keep them: nothing else makes one. Contracts see the bytes.
+#[derive(Drop)]
+pub(crate) struct Written<'a> {
+    bytes: &'a [u8],
+}
+
+impl<'a> Model for Written<'a> {
+    ghost use Rattle.std.specs.Prelude.{List, ℕ};
+
+    ghost Value = { List ℕ };
+
+    ghost view = { λ w. w.bytes.now };
+}
+
+/// Writes all of the bytes, and waits until they are on the disk.
+fn write_whole<'a, F: Write + OpenFile>(
+    file: &mut F,
+    bytes: &'a [u8],
+) -> Result<Written<'a>, DeviceFault>
+    ensures written { OnOk result (Appends (F.contents file.old) (F.contents file.new) bytes.now) }
+    ensures proof { IfOk result (λ w. w ≡ bytes.now) }
+{
+    file.write_all(bytes)?;
+    file.sync_all()?;
+    Ok(Written { bytes })
+}
+
+/// Creates a file with these bytes, and with the owner and the permissions of another one. An old file of this path is
+/// removed.
+fn create_like<'a, R: Files>(
+    rt: &R,
+    path: &str,
+    bytes: &'a [u8],
+    like: &Metadata,
+) -> Result<Written<'a>, DeviceFault>
+    ensures { IfOk result (λ w. w ≡ bytes.now) }
+{
+    let _ = fs::remove_file(rt, path);
+    let mut file = OpenOptions::new()
+        .write(true)
+        .create_new(true)
+        .open(rt, path)?;
+    chown(rt, path, Some(like.uid()), Some(like.gid()))?;
+    file.set_permissions(like.permissions())?;
+    write_whole(&mut file, bytes)
+}
+
+/// Puts a file that was written in the place of another one.
+fn put_in_place<R: Files>(
+    rt: &R,
+    new: &str,
+    path: &str,
+    _written: Written<'_>,
+) -> Result<(), DeviceFault> {
+    fs::rename(rt, new, path)?;
+    Ok(())
+}
+
+/// Creates a file with these bytes, and puts it in the place of another one.
+fn create_in_place<R: Files>(
+    rt: &R,
+    new: &str,
+    path: &str,
+    bytes: &[u8],
+    like: &Metadata,
+) -> Result<(), DeviceFault> {
+    let written = create_like(rt, new, bytes, like)?;
+    put_in_place(rt, new, path, written)
+}
+
+/// Replaces a file by one with these bytes, and with its owner and its permissions. The new file is PATH.new until it is
+/// whole, so a kill at any time leaves the old file or the new one at the path. Whoever has the old file open finds that it
+/// has no name: so a file with several names is refused.
+///
+/// # Errors
+/// `System` if the new file can't be created, written or renamed, or if the file has several names, and `Memory`.
+pub(crate) fn replace_file<R: Files + AllocGlobal>(
+    rt: &R,
+    path: &str,
+    bytes: &[u8],
+    like: &Metadata,
+) -> Result<(), DeviceFault> {
+    if like.nlink() > 1 {
+        return Err(DeviceFault::System(ErrorKind::TooManyLinks));
+    }
+    let new = format!(in rt.alloc(); "{path}.new")?;
+    let replaced = create_in_place(rt, new.as_str(), path, bytes, like);
+    if replaced.is_err() {
+        let _ = fs::remove_file(rt, new.as_str());
+    }
+    replaced
+}
