@@ -2,4 +2,12 @@
 #![tactic(auto)]
 
 #[cfg(test)]
+mod needs;
+#[cfg(test)]
+mod project;
+#[cfg(test)]
+mod suggestions;
+#[cfg(test)]
 mod tools;
+#[cfg(test)]
+mod trees;

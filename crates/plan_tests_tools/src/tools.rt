@@ -1,60 +1,9 @@
 //! Each public function once, on a manifest from outside.
 
-use plan_graph::{Graph, graph};
-use plan_scope::{Manifest, Source, SourceFault, Tree, evaluate, load};
-use plan_text::{Counted, RowList};
+use crate::project::{are_rows, graph_of, manifest_of, tree_of};
+use plan_text::Counted;
 use plan_tools::*;
 use std::alloc::Global;
-
-/// A source that gives one text under each path.
-#[derive(Drop)]
-struct Text {
-    bytes: &'static [u8],
-}
-
-impl Source for Text {
-    ghost gives = { λ _ _ _. Unit {0} };
-
-    ghost fails = { λ _ _. ⊥ };
-
-    ghost failures = { λ _. 0 };
-
-    fn read(&mut self, alloc: Global, _path: &[u8]) -> Result<Vec<u8>, SourceFault> {
-        match Vec::from_slice(alloc, self.bytes) {
-            Ok(bytes) => Ok(bytes),
-            Err(_) => Err(SourceFault::Memory),
-        }
-    }
-}
-
-/// A program of one source, a name for it, and the manifest itself.
-const PROJECT: &[u8] =
-    b"rule cc\n  command = cc $in -o $out\n  depfile = $out.d\nrule gen\n  command = gen \"x\"\n  generator = 1\n\
-build a.o | a.lst: cc a.c | a.h\nbuild app: cc a.o\nbuild all: phony app\nbuild build.ninja: gen conf\n";
-
-/// The statements of the project.
-fn tree_of(alloc: Global) -> Option<Tree> {
-    match load(alloc, &mut Text { bytes: PROJECT }, b"build.ninja") {
-        Ok(tree) => Some(tree),
-        Err(_) => None,
-    }
-}
-
-/// What they mean.
-fn manifest_of(alloc: Global, tree: &Tree) -> Option<Manifest> {
-    match evaluate(alloc, tree) {
-        Ok(manifest) => Some(manifest),
-        Err(_) => None,
-    }
-}
-
-/// Its graph.
-fn graph_of<'a>(alloc: Global, manifest: &'a Manifest) -> Option<Graph<'a>> {
-    match graph(alloc, manifest) {
-        Ok(graph) => Some(graph),
-        Err(_) => None,
-    }
-}
 
 /// Whether the listing of all targets is this text.
 fn all_targets_are(alloc: Global, text: &[u8]) -> Option<bool> {
@@ -152,19 +101,6 @@ fn commands_in_order(rt: HostRuntime) {
     assert!(rt; commands_are(rt.alloc(), 2, both) == Some(true));
     assert!(rt; commands_are(rt.alloc(), 0, b"cc a.c -o a.o\n") == Some(true));
     assert!(rt; commands_are(rt.alloc(), 9, b"").is_none());
-}
-
-/// Whether the rows are these.
-fn are_rows(rows: &RowList<u8>, expected: &[&[u8]]) -> bool {
-    if rows.len() != expected.len() {
-        return false;
-    }
-    for at in 0..expected.len() {
-        if rows.row(at) != expected[at] {
-            return false;
-        }
-    }
-    true
 }
 
 /// Whether the files of all commands are these.

@@ -1,5 +1,5 @@
 -- Texts written one behind another. Serves src/parts.rt and src/targets.rt.
-use Rattle.std.proofs.Common.{◌≡◌, ℕ, zero, suc, ◌+◌, ◌-◌, ◌<◌, Bool, true, false, List, [], ◌∷◌, ◌++◌, Option, length, get_or, drop, Bor, refl, sym, ap, subst, ◌∙◌, append_assoc, append-nil, arith}
+use Rattle.std.proofs.Common.{◌≡◌, ℕ, zero, suc, ◌+◌, ◌-◌, ◌<◌, true, false, List, [], ◌∷◌, ◌++◌, Option, length, get_or, drop, Bor, sym, ap, subst, ◌∙◌, append_assoc, append-nil, arith}
 use Rattle.std.proofs.lemmas.List.{drop_more}
 use Rattle.plan_text.specs.Laws.{FailedWriteStays, WritesJoin}
 use Rattle.plan_text.specs.Sinks.{Writes}
@@ -18,14 +18,20 @@ pub stops : WritesJoin → FailedWriteStays → (a b c : ℕ × Option (List ℕ
     → Writes true a b done → Writes false b c text → Writes false a c whole
 stops joins stays a b c done text rest whole all h k = failed stays a c (done ++ text) rest whole all (joins false a b c done text h k)
 
--- one item more, of a text that is made item by item
-pub one_more : {X : Type 0} (each : X → List ℕ) (text : List X → List ℕ) → ((y : X) (ys : List X) → text (y ∷ ys) ≡ each y ++ text ys)
-    → (xs : List X) (i : ℕ) (x d : X) (done : List ℕ) → i < length xs → x ≡ get_or xs i d
-    → done ++ text (drop i xs) ≡ text xs → (done ++ each x) ++ text (drop (i + 1) xs) ≡ text xs
-one_more each text parts xs i x d done lt is so_far =
+-- one item more, of a text that is made item by item, behind any other
+pub one_more_of : {X : Type 0} (each : X → List ℕ) (text : List X → List ℕ) → ((y : X) (ys : List X) → text (y ∷ ys) ≡ each y ++ text ys)
+    → (xs : List X) (i : ℕ) (x d : X) (done whole : List ℕ) → i < length xs → x ≡ get_or xs i d
+    → done ++ text (drop i xs) ≡ whole → (done ++ each x) ++ text (drop (i + 1) xs) ≡ whole
+one_more_of each text parts xs i x d done whole lt is so_far =
     let left : drop i xs ≡ x ∷ drop (i + 1) xs = drop_more xs i d lt ∙ ap (λ y. y ∷ drop (i + 1) xs) (sym is) in
     append_assoc done (each x) (text (drop (i + 1) xs))
     ∙ (ap (λ (ys : List ℕ). done ++ ys) (sym (parts x (drop (i + 1) xs))) ∙ (ap (λ ys. done ++ text ys) (sym left) ∙ so_far))
+
+-- the same of the text of all items
+pub one_more : {X : Type 0} (each : X → List ℕ) (text : List X → List ℕ) → ((y : X) (ys : List X) → text (y ∷ ys) ≡ each y ++ text ys)
+    → (xs : List X) (i : ℕ) (x d : X) (done : List ℕ) → i < length xs → x ≡ get_or xs i d
+    → done ++ text (drop i xs) ≡ text xs → (done ++ each x) ++ text (drop (i + 1) xs) ≡ text xs
+one_more each text parts xs i x d done lt is so_far = one_more_of each text parts xs i x d done (text xs) lt is so_far
 
 -- what comes of the first numbers begins with what comes of fewer
 pub more_first : (each : ℕ → List ℕ) (i k : ℕ) → (rest : List ℕ) × (of_first each i ++ rest ≡ of_first each (k + i))

@@ -4,7 +4,9 @@ use Rattle.std.specs.List.{list_any, flat_map}
 use Rattle.plan_scope.specs.Scopes.{Text}
 use Rattle.plan_scope.specs.Edge.{Edge}
 use Rattle.plan_scope.specs.declared.manifest.Manifest.{Manifest}
+use Rattle.plan_scope.specs.Edges.{is_among}
 use Rattle.plan_graph.specs.declared.graph_data.Graph.{Graph}
+use Rattle.plan_graph.specs.Files.{paths_in}
 use Rattle.plan_tools.specs.Listings.{of_first, path_at}
 
 -- ---- which edges
@@ -54,3 +56,15 @@ files_of_edge m g counted e = map (path_at g) (filter (is_counted counted) (get_
 -- the files of these edges
 abbrev pub files_of_edges : Manifest → Graph → Option (List Bool) → List ℕ → List Text
 files_of_edges m g counted edges = flat_map (files_of_edge m g counted) edges
+
+-- whether an edge has a command, and an output that counts
+abbrev pub makes_counted : Manifest → Graph → (counted : List Bool) → (edge : ℕ) → Bool
+makes_counted m g counted n = holds_of (is_cleaned true) (slice_get m.edges n) && list_any (is_counted (Some counted)) (get_or g.outputs n [])
+
+-- the edges that have a command, and an output that counts
+abbrev pub edges_of_paths : Manifest → Graph → (counted : List Bool) → List ℕ
+edges_of_paths m g counted = of_first (λ n. if makes_counted m g counted n then n ∷ [] else []) (length m.edges)
+
+-- those of these paths that no build line names
+abbrev pub dead_outputs : Graph → (outputs : List Text) → List Text
+dead_outputs g outputs = filter (λ path. not (is_among (paths_in g.files) path)) outputs

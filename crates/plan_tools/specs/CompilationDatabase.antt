@@ -5,6 +5,7 @@ use Rattle.plan_scope.specs.Scopes.{Text}
 use Rattle.plan_scope.specs.Edge.{Edge}
 use Rattle.plan_scope.specs.declared.manifest.Manifest.{Manifest}
 use Rattle.plan_graph.specs.declared.graph_data.Graph.{Graph}
+use Rattle.plan_tools.specs.Inputs.{inputs_at}
 use Rattle.plan_tools.specs.Json.{json_text}
 use Rattle.plan_tools.specs.Listings.{of_first, path_at}
 
@@ -24,7 +25,7 @@ if_used (i ∷ is) chosen = chosen
 
 -- the edges of these rules that have inputs, all such edges if no rule is named
 abbrev pub chosen_edges : Graph → (rules names : List Text) → List ℕ
-chosen_edges g rules names = of_first (λ e. if_used (get_or g.inputs e []) (named_or_all names (get_or rules e []) e)) (length g.inputs)
+chosen_edges g rules names = of_first (λ e. if_used (inputs_at g e) (named_or_all names (get_or rules e []) e)) (length g.inputs)
 
 -- a member of an object, behind what stands in front of its text
 abbrev pub member : (front text : Text) → Text
@@ -50,7 +51,7 @@ object folder command file output =
 
 -- the object of an edge
 abbrev pub object_of : (folder : Text) → Manifest → Graph → (edge : ℕ) → Text
-object_of folder m g e = object folder (command_of (slice_get m.edges e)) (first_path g (get_or g.inputs e [])) (first_path g (get_or g.outputs e []))
+object_of folder m g e = object folder (command_of (slice_get m.edges e)) (first_path g (inputs_at g e)) (first_path g (get_or g.outputs e []))
 
 -- a comma in front of all objects but the first
 abbrev pub comma_before : ℕ → Text

@@ -1,5 +1,6 @@
--- Texts in JSON strings (RFC 8259, section 7). Bytes of 128 and more stay as they are.
-use Rattle.std.specs.Prelude.{ℕ, ◌==◌, ◌/◌, ◌%◌, List, [], ◌∷◌, codes, if◌then◌else◌, nat_lt, ◌+◌}
+-- Texts in the strings of JSON. Its grammar lets a string have any character except a quotation mark, a backslash and
+-- the control characters below 32, which are escaped. Bytes of 128 and more stay as they are.
+use Rattle.std.specs.Prelude.{ℕ, ◌==◌, ◌/◌, ◌%◌, [], ◌∷◌, codes, if◌then◌else◌, nat_lt, ◌+◌}
 use Rattle.std.specs.List.{flat_map}
 use Rattle.plan_scope.specs.Scopes.{Text}
 

@@ -6,3 +6,9 @@ pub mod Pieces
 pub mod Cleaning
 pub mod Order
 pub mod Commands
+pub mod Inputs
+pub mod Roots
+pub mod Need
+pub mod Tree
+pub mod RuleTargets
+pub mod Suggestion

@@ -1,6 +1,6 @@
 //! The files that `-t clean` removes.
 
-ghost use Rattle.std.specs.Prelude.{◌≡◌, ◌++◌, ◌<◌, IfOk, OnOk, [], ◌∷◌, bytes_eq, filter, get_or, if◌then◌else◌, length, map, option_map, slice_get};
+ghost use Rattle.std.specs.Prelude.{◌≡◌, ◌++◌, IfOk, OnOk, Some, [], ◌∷◌, bytes_eq, filter, get_or, if◌then◌else◌, length, map, option_map, slice_get};
 ghost use Rattle.std.specs.List.{list_any};
 ghost use Rattle.plan_tools.specs.Cleaning as defined;
 ghost use Rattle.plan_tools.specs.Listings.{path_at as path_of};
@@ -188,4 +188,75 @@ pub fn files_of_edges(
         add_files(manifest, graph, counted, *edge, &mut files)?;
     }
     Ok(files)
+}
+
+/// Checks whether one of some outputs counts.
+fn has_counted(counted: &[bool], outputs: &[u32]) -> bool
+    ensures { result ≡ list_any (defined.is_counted (Some counted.now)) outputs.now }
+{
+    for output in outputs {
+        if is_counted(Some(counted), *output) {
+            return true;
+        }
+    }
+    false
+}
+
+/// Checks whether an edge has a command, and an output that counts.
+fn makes_counted(manifest: &Manifest, graph: &Graph<'_>, counted: &[bool], edge: usize) -> bool
+    ensures { result ≡ defined.makes_counted manifest.now graph.now counted.now edge }
+{
+    is_cleaned(manifest, edge, true) && has_counted(counted, graph.outputs.row(edge))
+}
+
+/// Returns the edges that have a command and an output that counts, in the order of build lines.
+///
+/// # Errors
+/// Memory runs out.
+pub fn edges_of_paths(
+    alloc: Global,
+    manifest: &Manifest,
+    graph: &Graph<'_>,
+    counted: &[bool],
+) -> Result<Vec<u32>, Memory>
+    ensures { IfOk result (λ edges. edges.items ≡ defined.edges_of_paths manifest.now graph.now counted.now) }
+{
+    let mut edges = Vec::new(alloc);
+    for edge in 0..manifest.edges.len() {
+        add_if(
+            makes_counted(manifest, graph, counted, edge),
+            edge,
+            &mut edges,
+        )?;
+    }
+    Ok(edges)
+}
+
+/// Appends a path that no build line names.
+fn add_dead(graph: &Graph<'_>, path: &[u8], dead: &mut RowList<u8>) -> Result<(), Memory>
+    ensures { OnOk result (dead.new ≡ dead.old ++ defined.dead_outputs graph.now (path.now ∷ [])) }
+{
+    match graph.files.number(path) {
+        Some(_) => {}
+        None => dead.push(path)?,
+    }
+    Ok(())
+}
+
+/// Returns those of these paths that no build line names, neither as an output nor as an input.
+///
+/// # Errors
+/// Memory runs out.
+pub fn dead_outputs(
+    alloc: Global,
+    graph: &Graph<'_>,
+    outputs: &RowList<u8>,
+) -> Result<RowList<u8>, Memory>
+    ensures { IfOk result (λ dead. dead ≡ defined.dead_outputs graph.now outputs.now) }
+{
+    let mut dead = RowList::new(alloc);
+    for number in 0..outputs.len() {
+        add_dead(graph, outputs.row(number), &mut dead)?;
+    }
+    Ok(dead)
 }

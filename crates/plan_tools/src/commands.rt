@@ -4,30 +4,37 @@ ghost use Rattle.std.specs.Prelude.{◌≡◌, is_ok, option_map, slice_get};
 ghost use Rattle.std.specs.List.{flat_map};
 ghost use Rattle.plan_text.specs.Sinks.{Writes};
 ghost use Rattle.plan_tools.specs.Commands as defined;
+ghost use Rattle.plan_tools.specs.CompilationDatabase.{command_of};
 
 use crate::targets::write_line;
 use plan_scope::Manifest;
 use plan_text::{Sink, SinkFault, writes_join};
 
-/// The command of an edge; none of a phony, or if there is no such edge.
-fn command_at(manifest: &Manifest, edge: usize) -> Option<&[u8]>
-    ensures { option_map (λ c. c.now) result ≡ defined.command_in (slice_get manifest.now.edges edge) }
+/// Returns the command of an edge; empty if there is no such edge.
+pub(crate) fn command_at(manifest: &Manifest, edge: usize) -> &[u8]
+    ensures { result.now ≡ command_of (slice_get manifest.now.edges edge) }
 {
     if edge >= manifest.edges.len() {
+        return &[];
+    }
+    manifest.edges.edge(edge).command()
+}
+
+/// Returns the command of an edge; none of a phony, or if there is no such edge.
+fn command_to_list(manifest: &Manifest, edge: usize) -> Option<&[u8]>
+    ensures { option_map (λ c. c.now) result ≡ defined.command_in (slice_get manifest.now.edges edge) }
+{
+    if edge >= manifest.edges.len() || manifest.edges.edge(edge).is_phony() {
         return None;
     }
-    let edge = manifest.edges.edge(edge);
-    if edge.is_phony() {
-        return None;
-    }
-    Some(edge.command())
+    Some(command_at(manifest, edge))
 }
 
 /// Writes the command of an edge on a line, if it has one.
 fn write_command<W: Sink>(manifest: &Manifest, edge: u32, out: &mut W) -> Result<(), SinkFault>
     ensures { Writes (is_ok result) (W.failures out.old, W.taken out.old) (W.failures out.new, W.taken out.new) (defined.command_line manifest.now edge) }
 {
-    match command_at(manifest, edge as usize) {
+    match command_to_list(manifest, edge as usize) {
         Some(command) => write_line(command, out),
         None => Ok(()),
     }

@@ -3,9 +3,12 @@
 ghost use Rattle.std.specs.Prelude.{◌≡◌, ◌++◌, ◌<◌, IfOk, OnOk, codes, is_ok, length, map, slice_get};
 ghost use Rattle.plan_text.specs.Sinks.{Writes};
 ghost use Rattle.plan_tools.specs.CompilationDatabase as defined;
+ghost use Rattle.plan_tools.specs.Inputs.{inputs_at};
 ghost use Rattle.plan_tools.specs.Listings.{of_first};
 
+use crate::commands::command_at;
 use crate::json::{Piece, write_pieces};
+use crate::roots::is_made_by;
 use crate::targets::path_at;
 use plan_graph::Graph;
 use plan_scope::Manifest;
@@ -24,17 +27,29 @@ fn add_named(edge: u32, rule: &[u8], names: &[&[u8]], chosen: &mut Vec<u32>) -> 
     Ok(())
 }
 
+/// Returns the first input of an edge that the edge doesn't make.
+fn first_input(graph: &Graph<'_>, edge: usize) -> Option<u32>
+    ensures { result ≡ slice_get (inputs_at graph.now edge) 0 }
+{
+    for input in graph.inputs.row(edge) {
+        if !is_made_by(graph, edge, *input) {
+            return Some(*input);
+        }
+    }
+    None
+}
+
 /// Appends an edge as often as its rule is among these names, once if there are no names; never without inputs.
 fn add_chosen(
+    graph: &Graph<'_>,
     edge: u32,
-    inputs: &[u32],
     rule: &[u8],
     names: &[&[u8]],
     chosen: &mut Vec<u32>,
 ) -> Result<(), Memory>
-    ensures { OnOk result (chosen.new.items ≡ chosen.old.items ++ defined.if_used inputs.now (defined.named_or_all (map (λ n. n.now) names.now) rule.now edge)) }
+    ensures { OnOk result (chosen.new.items ≡ chosen.old.items ++ defined.if_used (inputs_at graph.now edge) (defined.named_or_all (map (λ n. n.now) names.now) rule.now edge)) }
 {
-    if inputs.is_empty() {
+    if first_input(graph, edge as usize).is_none() {
         return Ok(());
     }
     if names.is_empty() {
@@ -44,8 +59,8 @@ fn add_chosen(
     add_named(edge, rule, names, chosen)
 }
 
-/// Returns the edges of the rules of these names that have inputs, in the order of build lines; all of them if there are no
-/// names. An edge whose rule is named twice is there twice, as in ninja.
+/// Returns the edges of the rules of these names that have inputs, in the order of build lines; all of them if there
+/// are no names. An edge whose rule is named twice is there twice, as in ninja.
 ///
 /// # Errors
 /// Memory runs out.
@@ -62,18 +77,22 @@ pub fn chosen_edges(
         let Ok(number) = u32::try_from(edge) else {
             return Err(Memory);
         };
-        add_chosen(
-            number,
-            graph.inputs.row(edge),
-            rules.row(edge),
-            names,
-            &mut chosen,
-        )?;
+        add_chosen(graph, number, rules.row(edge), names, &mut chosen)?;
     }
     Ok(chosen)
 }
 
-/// The path of the first of some numbers; empty if there is none.
+/// Returns the path of the first input of an edge; empty if there is none.
+fn first_input_path<'a>(graph: &Graph<'a>, edge: usize) -> &'a [u8]
+    ensures { result.now ≡ defined.first_path graph.now (inputs_at graph.now edge) }
+{
+    match first_input(graph, edge) {
+        Some(input) => path_at(graph, input),
+        None => &[],
+    }
+}
+
+/// Returns the path of the first of some numbers; empty if there is none.
 fn first_path<'a>(graph: &Graph<'a>, numbers: &[u32]) -> &'a [u8]
     ensures { result.now ≡ defined.first_path graph.now numbers.now }
 {
@@ -81,16 +100,6 @@ fn first_path<'a>(graph: &Graph<'a>, numbers: &[u32]) -> &'a [u8]
         [] => &[],
         [number, ..] => path_at(graph, *number),
     }
-}
-
-/// The command of an edge; empty if there is no such edge.
-fn command_at(manifest: &Manifest, edge: usize) -> &[u8]
-    ensures { result.now ≡ defined.command_of (slice_get manifest.now.edges edge) }
-{
-    if edge >= manifest.edges.len() {
-        return &[];
-    }
-    manifest.edges.edge(edge).command()
 }
 
 /// What stands in front of the object of a number: a comma, but for the first.
@@ -143,7 +152,7 @@ fn write_listed<W: Sink>(
         comma_before(number),
         folder,
         command_at(manifest, edge),
-        first_path(graph, graph.inputs.row(edge)),
+        first_input_path(graph, edge),
         first_path(graph, graph.outputs.row(edge)),
         out,
     )

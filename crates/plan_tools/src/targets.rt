@@ -20,7 +20,11 @@ pub(crate) fn path_at<'a>(graph: &Graph<'a>, number: u32) -> &'a [u8]
 }
 
 /// Writes a line of a path and the rule that makes it.
-fn write_rule_line<W: Sink>(path: &[u8], rule: &[u8], out: &mut W) -> Result<(), SinkFault>
+pub(crate) fn write_rule_line<W: Sink>(
+    path: &[u8],
+    rule: &[u8],
+    out: &mut W,
+) -> Result<(), SinkFault>
     ensures { Writes (is_ok result) (W.failures out.old, W.taken out.old) (W.failures out.new, W.taken out.new) (defined.rule_line path.now rule.now) }
 {
     write_parts(&[path, b": ", rule, b"\n"], out)

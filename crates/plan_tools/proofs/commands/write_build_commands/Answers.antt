@@ -1,4 +1,4 @@
-use Rattle.std.proofs.Common.{◌++◌, ◌∷◌, [], ◌+◌, List, Option, ℕ, true, refl, get_or, drop}
+use Rattle.std.proofs.Common.{◌++◌, ◌+◌, List, Option, ℕ, true, refl, get_or, drop}
 use Rattle.std.specs.List.{flat_map}
 use Rattle.plan_tools.specs.Commands.{command_line}
 use Rattle.plan_tools.proofs.WritingLemmas.{one_more, stops}

@@ -1,4 +1,4 @@
-use Rattle.std.proofs.Common.{◌∷◌, ◌++◌, [], List, Option, ℕ, length, is_ok}
+use Rattle.std.proofs.Common.{◌∷◌, ◌++◌, [], List, ℕ, length, is_ok}
 use Rattle.plan_tools.specs.Listings.{of_first}
 use Rattle.plan_tools.specs.CompilationDatabase.{listed_object}
 use Rattle.plan_tools.proofs.compilation_database.write_compilation_database.Goals as goal

@@ -1,4 +1,4 @@
-use Rattle.std.proofs.Common.{◌≡◌, ◌++◌, ◌<◌, ◌+◌, suc, List, Option, ℕ, true, length, arith, subst}
+use Rattle.std.proofs.Common.{◌≡◌, ◌<◌, ◌+◌, suc, List, Option, ℕ, true, length, arith, subst}
 use Rattle.plan_text.specs.Sinks.{Writes}
 use Rattle.plan_tools.specs.Listings.{of_first}
 use Rattle.plan_tools.specs.CompilationDatabase.{listed_object}

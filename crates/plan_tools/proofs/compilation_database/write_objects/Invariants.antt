@@ -1,4 +1,4 @@
-use Rattle.std.proofs.Common.{ℕ, true}
+use Rattle.std.proofs.Common.{true}
 use Rattle.plan_text.specs.Sinks.{Writes}
 use Rattle.plan_tools.specs.Listings.{of_first}
 use Rattle.plan_tools.specs.CompilationDatabase.{listed_object}

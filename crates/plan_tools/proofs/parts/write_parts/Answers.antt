@@ -1,4 +1,4 @@
-use Rattle.std.proofs.Common.{◌++◌, ◌∷◌, [], ◌+◌, List, Option, ℕ, true, Bor, refl, get_or, drop}
+use Rattle.std.proofs.Common.{◌++◌, [], ◌+◌, List, Option, ℕ, true, Bor, refl, get_or, drop}
 use Rattle.std.specs.List.{flat_map}
 use Rattle.plan_tools.proofs.WritingLemmas.{bytes_of}
 use Rattle.plan_tools.proofs.WritingLemmas.{one_more, stops}

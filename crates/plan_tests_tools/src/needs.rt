@@ -1,0 +1,74 @@
+//! What targets need, what is built by default, and what no edge makes.
+
+use crate::project::{are_rows, graph_of, manifest_of, tree_of};
+use plan_text::RowList;
+use plan_tools::*;
+use std::alloc::Global;
+
+/// Whether a target needs these paths.
+fn needed_are(alloc: Global, target: u32, expected: &[bool]) -> Option<bool> {
+    let tree = tree_of(alloc)?;
+    let manifest = manifest_of(alloc, &tree)?;
+    let graph = graph_of(alloc, &manifest)?;
+    let needed = needed_paths(alloc, &graph, &[target]).ok()?;
+    Some(needed.as_slice() == expected)
+}
+
+#[test]
+fn needed(rt: HostRuntime) {
+    let of_app = [true, false, true, true, true, false, false, false];
+    assert!(rt; needed_are(rt.alloc(), 4, &of_app) == Some(true));
+    let of_source = [false, false, true, false, false, false, false, false];
+    assert!(rt; needed_are(rt.alloc(), 2, &of_source) == Some(true));
+}
+
+/// Whether these files are cleaned of a target.
+fn cleaned_of_target_are(alloc: Global, target: u32, expected: &[&[u8]]) -> Option<bool> {
+    let tree = tree_of(alloc)?;
+    let manifest = manifest_of(alloc, &tree)?;
+    let graph = graph_of(alloc, &manifest)?;
+    let needed = needed_paths(alloc, &graph, &[target]).ok()?;
+    let edges = edges_of_paths(alloc, &manifest, &graph, &needed).ok()?;
+    let files = files_of_edges(alloc, &manifest, &graph, Some(&needed), &edges).ok()?;
+    Some(are_rows(&files, expected))
+}
+
+#[test]
+fn cleaned_files_of_a_target(rt: HostRuntime) {
+    let of_all: [&[u8]; 4] = [b"a.o", b"a.o.d", b"app", b"app.d"];
+    assert!(rt; cleaned_of_target_are(rt.alloc(), 5, &of_all) == Some(true));
+}
+
+/// Whether these are the roots, and what is built by default.
+fn roots_are(alloc: Global, expected: &[u32]) -> Option<bool> {
+    let tree = tree_of(alloc)?;
+    let manifest = manifest_of(alloc, &tree)?;
+    let graph = graph_of(alloc, &manifest)?;
+    let roots = root_paths(alloc, &graph).ok()?;
+    let defaults = default_paths(alloc, &manifest, &graph).ok()?;
+    Some(roots.as_slice() == expected && defaults.as_slice() == expected)
+}
+
+#[test]
+fn roots(rt: HostRuntime) {
+    assert!(rt; roots_are(rt.alloc(), &[1, 5, 6]) == Some(true));
+}
+
+/// Whether these of three paths are dead.
+fn dead_are(alloc: Global, expected: &[&[u8]]) -> Option<bool> {
+    let tree = tree_of(alloc)?;
+    let manifest = manifest_of(alloc, &tree)?;
+    let graph = graph_of(alloc, &manifest)?;
+    let mut outputs = RowList::new(alloc);
+    outputs.push(b"a.c").ok()?;
+    outputs.push(b"old.o").ok()?;
+    outputs.push(b"a.o").ok()?;
+    let dead = dead_outputs(alloc, &graph, &outputs).ok()?;
+    Some(are_rows(&dead, expected))
+}
+
+#[test]
+fn dead(rt: HostRuntime) {
+    let only: [&[u8]; 1] = [b"old.o"];
+    assert!(rt; dead_are(rt.alloc(), &only) == Some(true));
+}

@@ -1,0 +1,10 @@
+//! Why a listing is not written to its end.
+
+/// Why a listing is not written to its end.
+#[derive(Clone, Copy, Debug, PartialEq, Eq)]
+pub enum TreeFault {
+    /// Memory ran out.
+    Memory,
+    /// A write failed.
+    Sink,
+}
