@@ -8,6 +8,7 @@ use Rattle.plan_scope.specs.declared.manifest.Manifest.{Manifest}
 use Rattle.plan_graph.specs.Graph.{IsGraph}
 use Rattle.plan_graph.specs.declared.graph_data.Graph.{Graph}
 use Rattle.plan_verify.specs.Turn.{Meaning}
+use Rattle.plan_compile.specs.declared.baseline.OutOfDateRule.TheVariants.{Stricter}
 use Rattle.plan_compile.specs.Images.{compiled}
 use Rattle.plan_compile.specs.Rule.{Command}
 use Rattle.plan_compile.specs.Talk.{Left}
@@ -34,10 +35,10 @@ all_succeeded p r done.ManifestFails zero ends = absurd ends
 all_succeeded p r done.NeverSettles zero ends = absurd ends
 
 -- the tables of a run, if they are a manifest's image
-run_is_right : (rule : Rule) → FinishedRunsAreRight rule → (m : Manifest) (g : Graph) → IsSound m → IsGraph m g → (limits : Limits) (edges : List ℕ) (r : Report) (p : Parts) → p ≡ compiled m g
-    → (run : IsRunOf rule (opened p limits edges) r) → all_done p r.state.going.now ≡ true → AllIsBuilt rule m g edges r run.left
+run_is_right : (rule : Rule) → FinishedRunsAreRight rule → (m : Manifest) (g : Graph) → IsSound m → IsGraph m g → (limits : Limits) (edges : List ℕ) (r : Report) (p : Parts) → p ≡ compiled Stricter m g
+    → (run : IsRunOf rule (opened p limits edges) r) → all_done p r.state.going.now ≡ true → AllIsBuilt rule Stricter m g edges r run.left
 run_is_right rule right m g sound graph limits edges r p same =
-    subst (λ (q : Parts). (run : IsRunOf rule (opened q limits edges) r) → all_done q r.state.going.now ≡ true → AllIsBuilt rule m g edges r run.left) (sym same) (right m g sound graph limits edges r)
+    subst (λ (q : Parts). (run : IsRunOf rule (opened q limits edges) r) → all_done q r.state.going.now ≡ true → AllIsBuilt rule Stricter m g edges r run.left) (sym same) (right Stricter m g sound graph limits edges r)
 
 pub build_is_right : (gives : FileContents) (rule : Rule) → FinishedRunsAreRight rule → BuildIsRight gives rule
 build_is_right gives rule right a old new d zero b =

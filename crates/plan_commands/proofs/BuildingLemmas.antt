@@ -9,6 +9,7 @@ use Rattle.plan_scope.specs.Sources.{SameFiles}
 use Rattle.plan_scope.specs.Loading.{FileContents, PathSet, Outcome, Job, MayLoad, is_missing, has_fault, is_read, ends, is_refused, is_added, includes_file, includes_fault, LoadsFirst, IsMissing, more_files}
 use Rattle.plan_scope.specs.declared.manifest.Manifest.{Manifest}
 use Rattle.plan_image.specs.declared.image.Parts.{Parts}
+use Rattle.plan_compile.specs.declared.baseline.OutOfDateRule.TheVariants.{Stricter}
 use Rattle.plan_machine.specs.State.{Status, has_ended, outcome_at}
 use Rattle.plan_machine.specs.Wanted.{any_outside}
 use Rattle.plan_machine.specs.declared.mark.Outcome.TheVariants.{Ran}
@@ -59,7 +60,7 @@ module _ (g h : FileContents) (m n : PathSet) (gh : (p : Text) (bytes : Option (
       inr (inr (inl (record { lines = r.lines; manifest = r.manifest; cause = r.cause; loaded = loads_wider more_files _ [] _ r.loaded; means = r.means; refused = r.refused; says = r.says })))
   refused_wider path fault (inr (inr (inr r))) = inr (inr (inr r))
 
-  compiled_wider : (path : Text) (fault : PlanFault) → IsNotCompiled (LoadsFirst g m) path fault → IsNotCompiled (LoadsFirst h n) path fault
+  compiled_wider : (path : Text) (fault : PlanFault) → IsNotCompiled Stricter (LoadsFirst g m) path fault → IsNotCompiled Stricter (LoadsFirst h n) path fault
   compiled_wider path fault (inl r) = inl (refused_wider path fault r)
   compiled_wider path fault (inr (inl r)) = inr (inl (record { lines = r.lines; manifest = r.manifest; loaded = loads_wider more_files _ [] _ r.loaded; means = r.means; refused = r.refused }))
   compiled_wider path fault (inr (inr r)) = inr (inr r)
@@ -83,7 +84,7 @@ loads_there g m left job above out lines is (includes_fault l path scopes a s mo
 
 -- the image of a manifest that may be loaded is read
 pub read_of : (g : FileContents) (f : PathSet) (b c : ℕ) (path : Text) (manifest : Manifest) (result : Result Parts PlanFault) → IsMeant (loading_by g f b c) path manifest
-    → IfOk result (λ p. IsImageOf manifest p) → IfOk result (λ p. IsRead g path p)
+    → IfOk result (λ p. IsImageOf Stricter manifest p) → IfOk result (λ p. IsRead g path p)
 read_of g f b c path manifest (Ok p) m image =
     record { lines = m.0; manifest = manifest; loaded = loads_there g (IsMissing g f b c) more_files _ [] (Ok m.0) m.0 refl m.1; means = m.2; image = image }
 read_of g f b c path manifest (Err fault) m image = tt

@@ -1,6 +1,7 @@
 -- What the end of a build means for the edges of the manifest.
 use Rattle.std.specs.Prelude.{◌≡◌, ℕ, []}
 use Rattle.plan_scope.specs.Loading.{FileContents}
+use Rattle.plan_compile.specs.declared.baseline.OutOfDateRule.TheVariants.{Stricter}
 use Rattle.plan_lanes.specs.Journals.{Rule}
 use Rattle.plan_laws.specs.Ends.{commands_in}
 use Rattle.plan_laws.specs.Right.{AllIsBuilt, IsBuilt}
@@ -10,15 +11,15 @@ use Rattle.plan_commands.specs.Images.{SinkState}
 use Rattle.plan_commands.specs.Building.{Asked, BuildsTargets, exit_status}
 
 -- If a build ends with status 0, each wanted edge of the manifest that was read last is built by the run of its image: the
--- edge began after everything that it waits for had succeeded, and then it was clean by its rule, or its own command ran to
--- exit status 0. The world's rule allows each reply that says so.
+-- edge began after everything that it waits for had succeeded, and then it was clean by the stricter out-of-date rule, or
+-- its own command ran to exit status 0. The world's rule allows each reply that says so.
 abbrev pub BuildIsRight : FileContents → Rule → Type 0
 BuildIsRight gives rule =
     (a : Asked) (old new : SinkState) (d : Done) → exit_status d ≡ 0 → (b : BuildsTargets gives rule a old new d)
-    → AllIsBuilt rule b.read.manifest b.read.image.graph b.edges b.report b.run.run.left
+    → AllIsBuilt rule Stricter b.read.manifest b.read.image.graph b.edges b.report b.run.run.left
 
 -- If a build ends with no work to do, no edge that is built by the run asked for a command in it.
 abbrev pub IdleBuildsRunNothing : FileContents → Rule → Type 0
 IdleBuildsRunNothing gives rule =
     (a : Asked) (old new : SinkState) (b : BuildsTargets gives rule a old new done.UpToDate) (e : ℕ)
-    → (x : IsBuilt rule b.read.manifest b.read.image.graph b.report b.run.run.left e) → commands_in x.right.conversation ≡ []
+    → (x : IsBuilt rule Stricter b.read.manifest b.read.image.graph b.report b.run.run.left e) → commands_in x.right.conversation ≡ []

@@ -8,6 +8,7 @@ use Rattle.plan_scope.specs.Edges.{manifest_of}
 use Rattle.plan_scope.specs.declared.manifest.Manifest.{Manifest}
 use Rattle.plan_image.specs.declared.image.Parts.{Parts}
 use Rattle.plan_verify.specs.declared.fault.VerifyFault.TheVariants as verdict
+use Rattle.plan_compile.specs.declared.baseline.OutOfDateRule.TheVariants.{Stricter}
 use Rattle.plan_machine.specs.Limits.{Limits}
 use Rattle.plan_machine.specs.declared.mark.Outcome.{Outcome}
 use Rattle.plan_machine.specs.declared.mark.Outcome.TheVariants.{Ran}
@@ -44,13 +45,14 @@ asked path limits names = record { path = path; limits = limits; names = names }
 abbrev pub Nowhere : PathSet
 Nowhere path = ⊥
 
--- the tables are the image of the manifest that some lines mean which the files may hold, none of which is missing
+-- the tables are the image, by the stricter out-of-date rule, of the manifest that some lines mean which the files may
+-- hold, none of which is missing
 pub record IsRead (gives : FileContents) (path : Text) (p : Parts) : Type 0 where
   pub lines : List TreeStatement
   pub manifest : Manifest
   pub loaded : LoadsFirst gives Nowhere path (Ok lines)
   pub means : manifest_of lines ≡ Ok manifest
-  pub image : IsImageOf manifest p
+  pub image : IsImageOf Stricter manifest p
 
 -- ---- the manifest is remade
 
@@ -184,7 +186,7 @@ LacksVerdict fault = (fault ≡ printed_verify_fault verdict.Memory) ⊎ (fault 
 
 -- the manifest isn't read, or has no image, or memory ran out
 abbrev pub IsNotRead : FileContents → PathSet → Text → PlanFault → Type 0
-IsNotRead gives missing path fault = IsNotCompiled (LoadsFirst gives missing) path fault ⊎ LacksVerdict fault
+IsNotRead gives missing path fault = IsNotCompiled Stricter (LoadsFirst gives missing) path fault ⊎ LacksVerdict fault
 
 -- memory ran out before a run began
 abbrev pub LacksMemory : PlanFault → Type 0

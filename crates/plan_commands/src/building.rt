@@ -5,6 +5,7 @@ ghost use Rattle.std.specs.Result.{result_err};
 ghost use Rattle.plan_scope.specs.Loading.{IsMissing};
 ghost use Rattle.plan_scope.specs.Sound.{IsSound};
 ghost use Rattle.plan_scope.specs.Sources.{SameFiles};
+ghost use Rattle.plan_compile.specs.declared.baseline.OutOfDateRule.TheVariants as OutOfDateRule;
 ghost use Rattle.plan_machine.specs.Kept.{IsStateOf};
 ghost use Rattle.plan_machine.specs.Wanted.{any_outside};
 ghost use Rattle.plan_commands.specs.Commands.{LacksGraph};
@@ -21,6 +22,7 @@ use crate::image_fault::printed_verify_fault;
 use crate::playing::{Played, play};
 use crate::running::{printed_lane_fault, printed_print_fault};
 use crate::targets::targets_of;
+use plan_compile::OutOfDateRule;
 use plan_image::{Image, edge_of};
 use plan_lanes::{Report, World};
 use plan_machine::{Options, Outcome};
@@ -74,7 +76,7 @@ impl Done {
 /// The greatest number of times that a manifest is remade.
 const MOST_ROUNDS: u32 = 100;
 
-/// Returns the image of a manifest, which the verifier accepts. That many threads verify it.
+/// Returns the image of a manifest by the stricter out-of-date rule, which the verifier accepts. That many threads verify it.
 fn verified_image<R: Threads + Sync>(
     rt: &R,
     alloc: Global,
@@ -82,10 +84,10 @@ fn verified_image<R: Threads + Sync>(
     manifest: &Manifest,
 ) -> Result<Verified, PlanFault>
     requires { IsSound manifest.now }
-    ensures image { IfOk result (λ image. IsImageOf manifest.now image) }
-    ensures refused { IfErr result (λ fault. (LacksGraph manifest.now fault ⊎ LacksImageOf manifest.now fault) ⊎ LacksVerdict fault) }
+    ensures image { IfOk result (λ image. IsImageOf OutOfDateRule.Stricter manifest.now image) }
+    ensures refused { IfErr result (λ fault. (LacksGraph manifest.now fault ⊎ LacksImageOf OutOfDateRule.Stricter manifest.now fault) ⊎ LacksVerdict fault) }
 {
-    let image = match image_of(alloc, manifest) {
+    let image = match image_of(alloc, manifest, OutOfDateRule::Stricter) {
         Ok(image) => image,
         Err(fault) => return Err(fault),
     };
@@ -172,7 +174,7 @@ fn run_edges<W: World + Send + Sync, O: Sink + Send + Drop, R: Threads + Wait + 
 }
 
 /// How a round ended.
-enum Round {
+pub(crate) enum Round {
     /// The manifest was remade, and has to be read again.
     Remade,
     /// The manifest's maker, or an edge that it needs, did not succeed.
@@ -201,7 +203,7 @@ fn round_of(image: Verified, maker: u32, report: Report) -> Round
 }
 
 /// Reads the manifest, and runs the edge that makes it, if there is one.
-fn update_manifest<
+pub(crate) fn update_manifest<
     S: Source,
     W: World + Send + Sync,
     O: Sink + Send + Drop,
@@ -274,7 +276,11 @@ fn end_of(image: &Verified, report: &Report) -> Done
 }
 
 /// Runs the image of a manifest that is up to date for the targets.
-fn build_targets<W: World + Send + Sync, O: Sink + Send + Drop, R: Threads + Wait + Sync>(
+pub(crate) fn build_targets<
+    W: World + Send + Sync,
+    O: Sink + Send + Drop,
+    R: Threads + Wait + Sync,
+>(
     rt: &R,
     alloc: Global,
     image: Verified,

@@ -3,6 +3,7 @@
 ghost use Rattle.std.specs.Prelude.{◌≡◌, ◌⊎◌, IfOk, IfErr, OnOk};
 ghost use Rattle.plan_scope.specs.Sound.{IsSound};
 ghost use Rattle.plan_graph.specs.Graph.{IsGraph};
+ghost use Rattle.plan_compile.specs.declared.baseline.OutOfDateRule.TheVariants as OutOfDateRule;
 ghost use Rattle.plan_image.specs.Spelling.{spelling};
 ghost use Rattle.plan_commands.specs.Commands.{LacksGraph, loading_by};
 ghost use Rattle.plan_commands.specs.Compiling.{IsImageOf, SpellsImage, LacksImageOf, IsNotCompiled, Compiles, FailsToCompile};
@@ -12,7 +13,7 @@ use crate::compile_fault::printed_compile_fault;
 use crate::fault::{PlanFault, no_memory, write_fault};
 use crate::graph_fault::printed_graph_fault;
 use crate::image_fault::printed_image_fault;
-use plan_compile::{compile, image_is_shaped, manifests_are_sound};
+use plan_compile::{OutOfDateRule, compile, image_is_shaped, manifests_are_sound};
 use plan_graph::{Graph, graph};
 use plan_image::{Image, ImageFault, print_image};
 use plan_scope::{Manifest, Source, loaded_manifests_are_sound};
@@ -34,23 +35,23 @@ fn graph_of<'a>(alloc: Global, manifest: &'a Manifest) -> Result<Graph<'a>, Plan
 /// How many bytes of an image are written at once.
 const ROOM: usize = 65_536;
 
-/// Returns the image of a manifest. The verifier accepts it.
-pub fn image_of(alloc: Global, manifest: &Manifest) -> Result<Image, PlanFault>
+/// Returns the image of a manifest, by an out-of-date rule. The verifier accepts it.
+pub fn image_of(alloc: Global, manifest: &Manifest, rule: OutOfDateRule) -> Result<Image, PlanFault>
     requires { IsSound manifest.now }
-    ensures spelled { IfOk result (λ image. SpellsImage manifest.now (spelling image)) }
-    ensures image { IfOk result (λ image. IsImageOf manifest.now image) }
-    ensures refused { IfErr result (λ fault. LacksGraph manifest.now fault ⊎ LacksImageOf manifest.now fault) }
+    ensures spelled { IfOk result (λ image. SpellsImage rule manifest.now (spelling image)) }
+    ensures image { IfOk result (λ image. IsImageOf rule manifest.now image) }
+    ensures refused { IfErr result (λ fault. LacksGraph manifest.now fault ⊎ LacksImageOf rule manifest.now fault) }
 {
     let graph = graph_of(alloc, manifest)?;
     manifests_are_sound();
     image_is_shaped();
-    match compile(alloc, manifest, &graph) {
+    match compile(alloc, manifest, &graph, rule) {
         Ok(image) => Ok(image),
         Err(fault) => Err(printed_compile_fault(alloc, fault)),
     }
 }
 
-/// Writes the image of the manifest at the path, and answers the status 0: then no read and no write failed, and the
+/// Writes the image of the manifest at the path, by the specified out-of-date rule, and answers the status 0: then no read and no write failed, and the
 /// verifier accepts the image. `output` is the name of the sink's file.
 ///
 /// Where the manifest, or a file that it includes, is missing or refused, or the manifest has no graph or no image,
@@ -66,12 +67,12 @@ pub fn do_compile<S: Source, W: Sink>(
         IfOk result (λ status. (status ≡ 0) × Compiles loads path.now (W.failures out.old, W.taken out.old) (W.failures out.new, W.taken out.new)) }
     ensures read { OnOk result (S.failures source.new ≡ S.failures source.old) }
     ensures refused { let loads = loading_by (S.gives source.old) (S.fails source.old) (S.failures source.old) (S.failures source.new) in
-        IfErr result (λ fault. ((out.new ≡ out.old) × IsNotCompiled loads path.now fault)
+        IfErr result (λ fault. ((out.new ≡ out.old) × IsNotCompiled OutOfDateRule.Specified loads path.now fault)
         ⊎ FailsToCompile loads path.now output.now (W.failures out.old, W.taken out.old) (W.failures out.new, W.taken out.new) fault) }
 {
     let manifest = manifest_at(alloc, source, path)?;
     loaded_manifests_are_sound::<S>();
-    let image = image_of(alloc, &manifest);
+    let image = image_of(alloc, &manifest, OutOfDateRule::Specified);
     // It is not freed piece by piece: the program ends soon.
     forget(manifest);
     let image = match image {

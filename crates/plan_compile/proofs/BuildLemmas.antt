@@ -5,12 +5,14 @@ use Rattle.std.proofs.lemmas.List.{append_assoc, length-append}
 use Rattle.std.proofs.Math.Seq.{take-append_seam, drop-append_seam}
 use Rattle.plan_scope.specs.Edge.{Edge as ManifestEdge}
 use Rattle.plan_graph.specs.declared.graph_data.Graph.{Graph}
+use Rattle.plan_compile.specs.declared.baseline.Baseline.{Baseline}
+use Rattle.plan_compile.specs.declared.baseline.OutOfDateRule.{OutOfDateRule}
 use Rattle.plan_compile.specs.Builds.{Build, build_at, builds_from}
 use Rattle.plan_compile.proofs.ListLemmas.{some_is}
 
-pub same_build : (e f : ManifestEdge) (a b c d v w x y : List ℕ) (r s : ℕ) → e ≡ f → a ≡ b → c ≡ d → v ≡ w → x ≡ y → r ≡ s
-    → ◌≡◌ {A = Build} (record { edge = e; outputs = a; named = c; order_only = v; waits = x; rank = r }) (record { edge = f; outputs = b; named = d; order_only = w; waits = y; rank = s })
-same_build e f a b c d v w x y r s he ha hc hv hx hr = cc
+pub same_build : (e f : ManifestEdge) (a b c d v w x y : List ℕ) (r s : ℕ) (k l : Baseline) → e ≡ f → a ≡ b → c ≡ d → v ≡ w → x ≡ y → r ≡ s → k ≡ l
+    → ◌≡◌ {A = Build} (record { edge = e; outputs = a; named = c; order_only = v; waits = x; rank = r; baseline = k }) (record { edge = f; outputs = b; named = d; order_only = w; waits = y; rank = s; baseline = l })
+same_build e f a b c d v w x y r s k l he ha hc hv hx hr hk = cc
 
 pub drop_here : {A : Type 0} (xs : List A) (i : ℕ) (x : A) → slice_get xs i ≡ Some x → drop i xs ≡ x ∷ drop (i + 1) xs
 drop_here [] i x h = absurd cc
@@ -22,14 +24,14 @@ get_at [] k lt = absurd (omega arith)
 get_at (x ∷ xs) zero lt = (x, refl)
 get_at (x ∷ xs) (suc k) lt = get_at xs k (omega (arith, lt))
 
-pub builds_step : (g : Graph) (es : List ManifestEdge) (n : ℕ) (e : ManifestEdge) (old new whole : List Build) → slice_get es n ≡ Some e → new ≡ old ++ build_at g n e ∷ []
-    → old ++ builds_from g n (drop n es) ≡ whole → new ++ builds_from g (n + 1) (drop (n + 1) es) ≡ whole
-builds_step g es n e old new whole at pushed h =
+pub builds_step : (rule : OutOfDateRule) (g : Graph) (es : List ManifestEdge) (n : ℕ) (e : ManifestEdge) (old new whole : List Build) → slice_get es n ≡ Some e → new ≡ old ++ build_at rule g n e ∷ []
+    → old ++ builds_from rule g n (drop n es) ≡ whole → new ++ builds_from rule g (n + 1) (drop (n + 1) es) ≡ whole
+builds_step rule g es n e old new whole at pushed h =
     let next : n + 1 ≡ suc n = omega arith in
-    ap (λ (k : ℕ). new ++ builds_from g k (drop (n + 1) es)) next
-    ∙ ap (λ (bs : List Build). bs ++ builds_from g (suc n) (drop (n + 1) es)) pushed
-    ∙ append_assoc old (build_at g n e ∷ []) (builds_from g (suc n) (drop (n + 1) es))
-    ∙ ap (λ (xs : List ManifestEdge). old ++ builds_from g n xs) (sym (drop_here es n e at))
+    ap (λ (k : ℕ). new ++ builds_from rule g k (drop (n + 1) es)) next
+    ∙ ap (λ (bs : List Build). bs ++ builds_from rule g (suc n) (drop (n + 1) es)) pushed
+    ∙ append_assoc old (build_at rule g n e ∷ []) (builds_from rule g (suc n) (drop (n + 1) es))
+    ∙ ap (λ (xs : List ManifestEdge). old ++ builds_from rule g n xs) (sym (drop_here es n e at))
     ∙ h
 
 -- one item more of a list that is copied

@@ -15,18 +15,20 @@ use Rattle.plan_verify.specs.Tables.{is_lent, own_slots}
 use Rattle.plan_verify.specs.Shape.{left, targets, refused, bad_jump, is_wanted, falls_off, table_refusal}
 use Rattle.plan_verify.specs.WellShaped.{at_start, begins, IsShapedEdge}
 use Rattle.plan_compile.specs.Laws.{CommandShaped, PhonyShaped}
+use Rattle.plan_compile.specs.declared.baseline.Baseline.{Baseline}
+use Rattle.plan_compile.specs.declared.baseline.Baseline.TheVariants.{Outputs, Basis, OutputsAndBasis}
 use Rattle.plan_compile.specs.declared.wiring.Input.{Input}
 use Rattle.plan_compile.specs.declared.wiring.Input.TheVariants.{File, Made}
 use Rattle.plan_compile.specs.declared.wiring.Output.{Output}
 use Rattle.plan_compile.specs.declared.wiring.CommandWiring.{CommandWiring}
 use Rattle.plan_compile.specs.declared.wiring.GatherWiring.{GatherWiring}
-use Rattle.plan_compile.specs.Emit.{has_source_file, order_code, newer_code, newest_code, or_code, any_code, stat_code, older_code, oldest_code, alarm_code, weighed_code, front, flag_code, holders, restat_code, after_code, same_code, ready_code, ready_len, skip_code, clean_code, clean_len, deps_code, run_code, dirty_code, judge_code, judged_code, dirty_place, other_code, same_place, compare_code, known_place, pass_code, recalled_code, alone_code, gather_code}
+use Rattle.plan_compile.specs.Emit.{compares_basis, has_source_file, order_code, newer_code, newest_code, or_code, any_code, stat_code, older_code, oldest_code, alarm_code, weighed_code, front, flag_code, holders, restat_code, after_code, same_code, under_code, ready_code, ready_len, skip_code, clean_code, clean_len, deps_code, run_code, dirty_code, judge_code, judged_code, dirty_place, other_code, same_place, compare_code, known_place, pass_code, recalled_code, alone_code, gather_code}
 use Rattle.plan_compile.specs.Means.{IsText, IsOwnOf, IsLentOf, AreInputs, AreSourceFiles, AreOutputs, ShareFlag, HaveFlagSlots, slots_of, IsCommand, IsGather, IsAlone}
 use Rattle.plan_compile.proofs.Wired.{or_cases, or_right, flags_lent}
 use Rattle.plan_compile.proofs.Machine.{drop_length}
 use Rattle.plan_compile.proofs.SlotFacts.{and_both}
 use Rattle.plan_compile.proofs.Placing.{recalled_stands, judge_stands, same_stands, known_stands, baseline_stands, passed_stands, dirty_stands, run_stands}
-use Rattle.plan_compile.proofs.Whole.{less, app_long, ready_long}
+use Rattle.plan_compile.proofs.Whole.{less, app_long, under_long, ready_long}
 use Rattle.plan_compile.proofs.Edge.{skip_long, ready_some}
 use Rattle.plan_compile.proofs.Scanning.{Good, good_long, are_shapes}
 use Rattle.plan_compile.proofs.Shaping.{Fit, AreAhead, IsEasy, pass, branch, jump_land, end_land, end_land_twice, join, last, none_refused, one_arrives}
@@ -451,18 +453,31 @@ module _ (p : Parts) (e : ℕ) where
         ahead_more (due ++ ((d, sd) ∷ [])) r (sh [] false set) (xs ++ (op.End ∷ dirty_code w))
         (ahead_more due d sd (xs ++ (op.End ∷ dirty_code w)) (ahead (xs ++ (op.End ∷ dirty_code w)) l2) (omega (arith, d_long, l2))) (omega (arith, r_long, l2))) (omega arith) f)))))))
 
-    pub ready_fit : (r : Bool) (rest : List Instr) (set : List ℕ) (due : List (ℕ × Shape)) → IsReady set → IsAhead due rest → 0 < length rest
-        → Fit p e rest (sh (Paths ∷ Flag ∷ Stamp ∷ Stamp ∷ []) false set) due → Fit p e (ready_code r w rest) (sh (Stamp ∷ Paths ∷ under r) false set) due
+    -- from a baseline over the paths
+    pub under_fit : (looks : Bool) (rest : List Instr) (set : List ℕ) (due : List (ℕ × Shape)) → IsReady set → IsAhead due rest → 0 < length rest
+        → Fit p e rest (sh (Paths ∷ Flag ∷ Stamp ∷ Stamp ∷ []) false set) due → Fit p e (under_code looks w rest) (sh (Stamp ∷ Paths ∷ []) false set) due
     unfolding left
-    ready_fit true rest set due ready ahead some f =
-        let alarm : List Instr = alarm_code true w.outputs w.flags ++ (op.Swap ∷ rest) in
-        let l : length (op.Swap ∷ rest) ≤ length alarm = app_long (alarm_code true w.outputs w.flags) (op.Swap ∷ rest) in
+    under_fit looks rest set due ready ahead some f =
+        let alarm : List Instr = alarm_code looks w.outputs w.flags ++ (op.Swap ∷ rest) in
+        let l : length (op.Swap ∷ rest) ≤ length alarm = app_long (alarm_code looks w.outputs w.flags) (op.Swap ∷ rest) in
         go_on op.Swap (sh (Stamp ∷ Paths ∷ []) false set) (sh (Paths ∷ Stamp ∷ []) false set) (λ at. refl) (λ at. refl) (λ at. refl) refl (refl, refl, refl, refl, refl, refl, refl, refl, refl, refl) (ahead (op.Load w.newest ∷ op.Swap ∷ alarm) (omega (arith, l))) (omega arith)
         (load_own w.newest Stamp right.newest.0 ready.0 refl (ahead (op.Swap ∷ alarm) (omega (arith, l))) (omega arith)
         (go_on op.Swap (sh (Stamp ∷ Paths ∷ Stamp ∷ []) false set) (sh (Paths ∷ Stamp ∷ Stamp ∷ []) false set) (λ at. refl) (λ at. refl) (λ at. refl) refl (refl, refl, refl, refl, refl, refl, refl, refl, refl, refl) (ahead alarm (omega (arith, l))) (omega (arith, l))
-        (alarm_fit true w.outputs w.flags (op.Swap ∷ rest) set (Paths ∷ Stamp ∷ Stamp ∷ []) due refl right.outputs ready.1 lent (λ xs le. ahead xs (omega (arith, le))) (omega arith)
+        (alarm_fit looks w.outputs w.flags (op.Swap ∷ rest) set (Paths ∷ Stamp ∷ Stamp ∷ []) due refl right.outputs ready.1 lent (λ xs le. ahead xs (omega (arith, le))) (omega arith)
         (go_on op.Swap (sh (Flag ∷ Paths ∷ Stamp ∷ Stamp ∷ []) false set) (sh (Paths ∷ Flag ∷ Stamp ∷ Stamp ∷ []) false set) (λ at. refl) (λ at. refl) (λ at. refl) refl (refl, refl, refl, refl, refl, refl, refl, refl, refl, refl) (ahead rest (omega arith)) some f))))
-    ready_fit false rest set due ready ahead some f =
+
+    pub ready_fit : (b : Baseline) (rest : List Instr) (set : List ℕ) (due : List (ℕ × Shape)) → IsReady set → IsAhead due rest → 0 < length rest
+        → Fit p e rest (sh (Paths ∷ Flag ∷ Stamp ∷ Stamp ∷ []) false set) due → Fit p e (ready_code b w rest) (sh (Stamp ∷ Paths ∷ under (compares_basis b)) false set) due
+    unfolding left
+    ready_fit Basis rest set due ready ahead some f = under_fit true rest set due ready ahead some f
+    ready_fit OutputsAndBasis rest set due ready ahead some f =
+        let looks : Bool = not (has_source_file w.named) in
+        let tail : List Instr = under_code looks w rest in
+        let l : length rest ≤ length tail = under_long looks w rest in
+        oldest_fit w.outputs (op.Older ∷ tail) set (Stamp ∷ Paths ∷ []) due refl right.outputs ready.1 (λ xs le. ahead xs (omega (arith, l, le))) (omega arith)
+        (go_on op.Older (sh (Stamp ∷ Stamp ∷ Paths ∷ []) false set) (sh (Stamp ∷ Paths ∷ []) false set) (λ at. refl) (λ at. refl) (λ at. refl) refl (refl, refl, refl, refl, refl, refl, refl, refl, refl, refl) (ahead tail l) (omega arith)
+        (under_fit looks rest set due ready ahead some f))
+    ready_fit Outputs rest set due ready ahead some f =
         go_on op.Drop (sh (Stamp ∷ Paths ∷ Flag ∷ Stamp ∷ Stamp ∷ []) false set) (sh (Paths ∷ Flag ∷ Stamp ∷ Stamp ∷ []) false set) (λ at. refl) (λ at. refl) (λ at. refl) refl (refl, refl, refl, refl, refl, refl, refl, refl, refl, refl) (ahead rest (omega arith)) some f
 
     pub skip_fit : (r : Bool) (rest : List Instr) (set : List ℕ) (due : List (ℕ × Shape)) → IsAhead due rest → 0 < length rest
@@ -497,7 +512,7 @@ module _ (p : Parts) (e : ℕ) where
         (go_on op.Equal (sh (Text ∷ Text ∷ Stamp ∷ Paths ∷ deep) false set) (sh (Flag ∷ Stamp ∷ Paths ∷ deep) false set) (λ at. refl) (λ at. refl) (λ at. refl) refl (refl, refl, refl, refl, refl, enough_two two, refl, refl, refl, less (omega arith) low) tt some f))
 
     -- the judging, where no jump is still to land
-    pub judged_fit : (r : Bool) → w.restat ≡ r → (at : ℕ) (set : List ℕ) → IsReady set → drop at (code p e) ≡ judged_code w at → Fit p e (judged_code w at) (sh (Stamp ∷ Paths ∷ under r) false set) []
+    pub judged_fit : (r : Bool) → compares_basis w.baseline ≡ r → (at : ℕ) (set : List ℕ) → IsReady set → drop at (code p e) ≡ judged_code w at → Fit p e (judged_code w at) (sh (Stamp ∷ Paths ∷ under r) false set) []
     judged_fit r is at set ready stands =
         let place : ℕ = at + ready_len w in
         let judge : drop place (code p e) ≡ judge_code w place = judge_stands (code p e) w at stands in
@@ -507,13 +522,13 @@ module _ (p : Parts) (e : ℕ) where
         let r_stands : drop rr (code p e) ≡ run_code w = run_stands (code p e) w place judge in
         let r_long : length (run_code w) ≡ length (code p e) - rr = sym (ap length r_stands) ∙ drop_length (code p e) rr in
         subst (λ (x : Bool). Fit p e (judged_code w at) (sh (Stamp ∷ Paths ∷ under x) false set) []) is
-        (ready_fit w.restat (judge_code w place) set [] ready (λ xs le. tt) (omega arith)
+        (ready_fit w.baseline (judge_code w place) set [] ready (λ xs le. tt) (omega arith)
         (judge_fit place d rr set [] ready refl refl d_stands r_stands (λ xs le. tt)
         (end_land p e d rr (dirty_code w) (sh [] false (flags_set set (holders w.restat w.outputs))) (sh (Stamp ∷ Stamp ∷ []) false set) (sh [] false set)
         d_stands (omega arith) (omega (arith, r_long)) (clean_fine set ready) (dirty_fit set rr ready r_stands))))
 
     -- the same with a jump to the dirty code
-    pub judged_twice_fit : (at : ℕ) (set : List ℕ) → IsReady set → drop at (code p e) ≡ judged_code w at → Fit p e (judged_code w at) (sh (Stamp ∷ Paths ∷ under w.restat) false set) ((dirty_place w at, sh (Stamp ∷ Stamp ∷ []) false set) ∷ [])
+    pub judged_twice_fit : (at : ℕ) (set : List ℕ) → IsReady set → drop at (code p e) ≡ judged_code w at → Fit p e (judged_code w at) (sh (Stamp ∷ Paths ∷ under (compares_basis w.baseline)) false set) ((dirty_place w at, sh (Stamp ∷ Stamp ∷ []) false set) ∷ [])
     judged_twice_fit at set ready stands =
         let place : ℕ = at + ready_len w in
         let judge : drop place (code p e) ≡ judge_code w place = judge_stands (code p e) w at stands in
@@ -526,18 +541,18 @@ module _ (p : Parts) (e : ℕ) where
         let r_long : length (run_code w) ≡ length (code p e) - rr = sym (ap length r_stands) ∙ drop_length (code p e) rr in
         let tail : List Instr = clean_code w ++ (op.End ∷ dirty_code w) in
         let long : length (op.End ∷ dirty_code w) ≤ length tail = app_long (clean_code w) (op.End ∷ dirty_code w) in
-        ready_fit w.restat (judge_code w place) set ((d, sd) ∷ []) ready (λ xs le. (omega (arith, d_long, long, le), tt)) (omega arith)
+        ready_fit w.baseline (judge_code w place) set ((d, sd) ∷ []) ready (λ xs le. (omega (arith, d_long, long, le), tt)) (omega arith)
         (judge_fit place d rr set ((d, sd) ∷ []) ready refl refl d_stands r_stands (λ xs le. (omega (arith, d_long, le), tt))
         (end_land_twice p e d rr (dirty_code w) (sh [] false (flags_set set (holders w.restat w.outputs))) sd (sh [] false set)
         d_stands (omega arith) (omega (arith, r_long)) (clean_fine set ready) (dirty_fit set rr ready r_stands)))
 
-    pub compare_fit : (at : ℕ) (set : List ℕ) → IsReady set → drop at (code p e) ≡ compare_code w at → Fit p e (compare_code w at) (sh (Flag ∷ Text ∷ Stamp ∷ Paths ∷ under w.restat) false set) []
+    pub compare_fit : (at : ℕ) (set : List ℕ) → IsReady set → drop at (code p e) ≡ compare_code w at → Fit p e (compare_code w at) (sh (Flag ∷ Text ∷ Stamp ∷ Paths ∷ under (compares_basis w.baseline)) false set) []
     unfolding left
     compare_fit at set ready stands =
         let place : ℕ = same_place w at in
         let d : ℕ = dirty_place w place in
         let judged : List Instr = judged_code w place in
-        let sj : Shape = sh (Stamp ∷ Paths ∷ under w.restat) false set in
+        let sj : Shape = sh (Stamp ∷ Paths ∷ under (compares_basis w.baseline)) false set in
         let sd : Shape = sh (Stamp ∷ Stamp ∷ []) false set in
         let judged_at : drop place (code p e) ≡ judged = same_stands (code p e) w at stands in
         let judge : drop (place + ready_len w) (code p e) ≡ judge_code w (place + ready_len w) = judge_stands (code p e) w place judged_at in
@@ -546,14 +561,14 @@ module _ (p : Parts) (e : ℕ) where
         let d_long : length (dirty_code w) ≡ length (code p e) - d = sym (ap length d_stands) ∙ drop_length (code p e) d in
         let tail : List Instr = clean_code w ++ (op.End ∷ dirty_code w) in
         let long : length (op.End ∷ dirty_code w) ≤ length tail = app_long (clean_code w) (op.End ∷ dirty_code w) in
-        let longer : length (judge_code w (place + ready_len w)) ≤ length judged = ready_long w.restat w (judge_code w (place + ready_len w)) in
+        let longer : length (judge_code w (place + ready_len w)) ≤ length judged = ready_long w.baseline w (judge_code w (place + ready_len w)) in
         let other : List Instr = other_code w d judged in
-        let skip : suc (suc (suc (suc (length judged)))) < length other = skip_long w.restat (op.Sweep ∷ op.Drop ∷ op.Drop ∷ op.Jump d ∷ judged) in
-        same_fit w.blank (under w.restat) (op.JumpIf place ∷ other) set (under_roomy w.restat) (omega arith)
-        (branch p e place other (sh (Flag ∷ Stamp ∷ Paths ∷ under w.restat) false set) [] tt (omega (arith, j_long, skip)) (omega (arith, j_long, longer))
-        (λ here a b c. none_refused p e here (op.JumpIf place) (sh (Flag ∷ Stamp ∷ Paths ∷ under w.restat) false set)
-        (refl, refl, refl, refl, refl, enough_one (suc (suc (length (under w.restat)))), refl, refl, refl, less (omega arith) (under_roomy w.restat)) (ap (λ (x : Bool). x || nat_le (length (code p e)) place) a ∙ b) c)
-        (skip_fit w.restat (op.Sweep ∷ op.Drop ∷ op.Drop ∷ op.Jump d ∷ judged) set ((place, sj) ∷ []) (λ xs le. (omega (arith, j_long, le), tt)) (omega arith)
+        let skip : suc (suc (suc (suc (length judged)))) < length other = skip_long (compares_basis w.baseline) (op.Sweep ∷ op.Drop ∷ op.Drop ∷ op.Jump d ∷ judged) in
+        same_fit w.blank (under (compares_basis w.baseline)) (op.JumpIf place ∷ other) set (under_roomy (compares_basis w.baseline)) (omega arith)
+        (branch p e place other (sh (Flag ∷ Stamp ∷ Paths ∷ under (compares_basis w.baseline)) false set) [] tt (omega (arith, j_long, skip)) (omega (arith, j_long, longer))
+        (λ here a b c. none_refused p e here (op.JumpIf place) (sh (Flag ∷ Stamp ∷ Paths ∷ under (compares_basis w.baseline)) false set)
+        (refl, refl, refl, refl, refl, enough_one (suc (suc (length (under (compares_basis w.baseline))))), refl, refl, refl, less (omega arith) (under_roomy (compares_basis w.baseline))) (ap (λ (x : Bool). x || nat_le (length (code p e)) place) a ∙ b) c)
+        (skip_fit (compares_basis w.baseline) (op.Sweep ∷ op.Drop ∷ op.Drop ∷ op.Jump d ∷ judged) set ((place, sj) ∷ []) (λ xs le. (omega (arith, j_long, le), tt)) (omega arith)
         (go_on op.Sweep (sh (Paths ∷ Flag ∷ Stamp ∷ Stamp ∷ []) false set) (sh (Swept ∷ Flag ∷ Stamp ∷ Stamp ∷ []) false set) (λ at. refl) (λ at. refl) (λ at. refl) refl (refl, refl, refl, refl, refl, refl, refl, refl, refl, refl) (omega (arith, j_long), tt) (omega arith)
         (go_on op.Drop (sh (Swept ∷ Flag ∷ Stamp ∷ Stamp ∷ []) false set) (sh (Flag ∷ Stamp ∷ Stamp ∷ []) false set) (λ at. refl) (λ at. refl) (λ at. refl) refl (refl, refl, refl, refl, refl, refl, refl, refl, refl, refl) (omega (arith, j_long), tt) (omega arith)
         (go_on op.Drop (sh (Flag ∷ Stamp ∷ Stamp ∷ []) false set) (sh (Stamp ∷ Stamp ∷ []) false set) (λ at. refl) (λ at. refl) (λ at. refl) refl (refl, refl, refl, refl, refl, refl, refl, refl, refl, refl) (omega (arith, j_long), tt) (omega arith)
@@ -561,12 +576,12 @@ module _ (p : Parts) (e : ℕ) where
         (λ here a b. none_refused p e here (op.Jump d) sd (refl, refl, refl, refl, refl, refl, refl, refl, refl, refl) (ap (λ (x : Bool). x || nat_le (length (code p e)) d) a ∙ b) refl)
         (judged_twice_fit place set ready judged_at)))))))
 
-    pub pass_fit : (r : Bool) → w.restat ≡ r → (at : ℕ) (set : List ℕ) → IsReady set → drop at (code p e) ≡ pass_code r w at → Fit p e (pass_code r w at) (sh (Flag ∷ Text ∷ Stamp ∷ Paths ∷ under r) false set) []
+    pub pass_fit : (r : Bool) → compares_basis w.baseline ≡ r → (at : ℕ) (set : List ℕ) → IsReady set → drop at (code p e) ≡ pass_code r w at → Fit p e (pass_code r w at) (sh (Flag ∷ Text ∷ Stamp ∷ Paths ∷ under r) false set) []
     unfolding left
     pass_fit false is at set ready stands =
         go_on op.Drop (sh (Flag ∷ Text ∷ Stamp ∷ Paths ∷ Flag ∷ Stamp ∷ Stamp ∷ []) false set) (sh (Text ∷ Stamp ∷ Paths ∷ Flag ∷ Stamp ∷ Stamp ∷ []) false set) (λ at. refl) (λ at. refl) (λ at. refl) refl (refl, refl, refl, refl, refl, refl, refl, refl, refl, refl) tt (omega arith)
         (go_on op.Drop (sh (Text ∷ Stamp ∷ Paths ∷ Flag ∷ Stamp ∷ Stamp ∷ []) false set) (sh (Stamp ∷ Paths ∷ Flag ∷ Stamp ∷ Stamp ∷ []) false set) (λ at. refl) (λ at. refl) (λ at. refl) refl (refl, refl, refl, refl, refl, refl, refl, refl, refl, refl) tt
-        (ready_some w.restat w (judge_code w (at + 2 + ready_len w))) (judged_fit false is (at + 2) set ready (passed_stands (code p e) w at stands)))
+        (ready_some w.baseline w (judge_code w (at + 2 + ready_len w))) (judged_fit false is (at + 2) set ready (passed_stands (code p e) w at stands)))
     pass_fit true is at set ready stands =
         let place : ℕ = known_place w at in
         let judged : List Instr = judged_code w (place + 1) in
@@ -574,7 +589,7 @@ module _ (p : Parts) (e : ℕ) where
         let based : drop (place + 1) (code p e) ≡ judged = baseline_stands (code p e) w at stands in
         let k_long : length (op.Drop ∷ judged) ≡ length (code p e) - place = sym (ap length known) ∙ drop_length (code p e) place in
         let m_long : length judged ≡ length (code p e) - (place + 1) = sym (ap length based) ∙ drop_length (code p e) (place + 1) in
-        let some : 0 < length judged = ready_some w.restat w (judge_code w (place + 1 + ready_len w)) in
+        let some : 0 < length judged = ready_some w.baseline w (judge_code w (place + 1 + ready_len w)) in
         let sk : Shape = sh (Text ∷ Stamp ∷ Paths ∷ []) false set in
         let sj : Shape = sh (Stamp ∷ Paths ∷ []) false set in
         let back : List Instr = op.Jump (place + 1) ∷ op.Drop ∷ judged in
@@ -592,8 +607,8 @@ module _ (p : Parts) (e : ℕ) where
         (judged_fit true is (place + 1) set ready based))))))
 
     -- what follows the entry
-    pub recalled_fit : (g : Bool) (at : ℕ) (set : List ℕ) → IsReady set → drop at (code p e) ≡ recalled_code g w at → Fit p e (recalled_code g w at) (sh (Flag ∷ Text ∷ Stamp ∷ Paths ∷ under w.restat) false set) []
-    recalled_fit true at set ready stands = pass_fit w.restat refl at set ready stands
+    pub recalled_fit : (g : Bool) (at : ℕ) (set : List ℕ) → IsReady set → drop at (code p e) ≡ recalled_code g w at → Fit p e (recalled_code g w at) (sh (Flag ∷ Text ∷ Stamp ∷ Paths ∷ under (compares_basis w.baseline)) false set) []
+    recalled_fit true at set ready stands = pass_fit (compares_basis w.baseline) refl at set ready stands
     recalled_fit false at set ready stands = compare_fit at set ready stands
 
     pub weighed_some : (r : Bool) (rest : List Instr) → 0 < length rest → 0 < length (weighed_code r w rest)
@@ -608,22 +623,22 @@ module _ (p : Parts) (e : ℕ) where
         (load_own w.newest Stamp right.newest.0 ready.0 refl tt (some_app alarm rest some)
         (alarm_fit (not (has_source_file w.named)) w.outputs w.flags rest set (Stamp ∷ Stamp ∷ []) [] refl right.outputs ready.1 lent (λ xs le. tt) some f))
 
-    pub front_fit : (rest : List Instr) → 0 < length rest → ((set : List ℕ) → IsReady set → Fit p e rest (sh (Flag ∷ Text ∷ Stamp ∷ Paths ∷ under w.restat) false set) []) → Fit p e (front w rest) at_start []
+    pub front_fit : (rest : List Instr) → 0 < length rest → ((set : List ℕ) → IsReady set → Fit p e rest (sh (Flag ∷ Text ∷ Stamp ∷ Paths ∷ under (compares_basis w.baseline)) false set) []) → Fit p e (front w rest) at_start []
     unfolding left
     front_fit rest some f =
         let set : List ℕ = stamps_set (with_member w.newest []) w.outputs in
         let has : HasStamps set w.outputs = stamps_have (with_member w.newest []) w.outputs in
         let newest : is_member w.newest set ≡ true = stamps_stay w.newest (with_member w.newest []) w.outputs (mem_here w.newest []) in
-        let weighed : List Instr = weighed_code w.restat w (op.Recall ∷ rest) in
-        let s1 : 0 < length weighed = weighed_some w.restat (op.Recall ∷ rest) (omega arith) in
+        let weighed : List Instr = weighed_code (compares_basis w.baseline) w (op.Recall ∷ rest) in
+        let s1 : 0 < length weighed = weighed_some (compares_basis w.baseline) (op.Recall ∷ rest) (omega arith) in
         let stats : List Instr = stat_code w.outputs ++ weighed in
         order_fit w.order_only (newest_code w.named ++ (op.Store w.newest ∷ stats)) [] right.order_only (some_app (newest_code w.named) (op.Store w.newest ∷ stats) (omega arith))
         (newest_fit w.named (op.Store w.newest ∷ stats) [] right.named (omega arith)
         (store_own w.newest Stamp right.newest.0 refl tt (some_app (stat_code w.outputs) weighed s1)
         (stat_fit w.outputs weighed (with_member w.newest []) right.outputs s1
-        (weighed_fit w.restat (op.Recall ∷ rest) set (newest, has) (omega arith)
-        (go_on op.Recall (sh (under w.restat) false set) (sh (Flag ∷ Text ∷ Stamp ∷ Paths ∷ under w.restat) false set) (λ at. refl) (λ at. refl) (λ at. refl) refl
-        (refl, refl, refl, refl, refl, enough (length (under w.restat)), refl, refl, refl, less (omega arith) (under_roomy w.restat)) tt some (f set (newest, has)))))))
+        (weighed_fit (compares_basis w.baseline) (op.Recall ∷ rest) set (newest, has) (omega arith)
+        (go_on op.Recall (sh (under (compares_basis w.baseline)) false set) (sh (Flag ∷ Text ∷ Stamp ∷ Paths ∷ under (compares_basis w.baseline)) false set) (λ at. refl) (λ at. refl) (λ at. refl) refl
+        (refl, refl, refl, refl, refl, enough (length (under (compares_basis w.baseline))), refl, refl, refl, less (omega arith) (under_roomy (compares_basis w.baseline))) tt some (f set (newest, has)))))))
 
   -- ---- code that has shapes from the start on
 
@@ -685,12 +700,12 @@ command_shaped p e w is right tables =
     (front_fit p e w right rest some (λ set ready. recalled_fit p e w right w.generator at set ready (recalled_stands (code p e) w is))) tables
   where
     by_generator : (g : Bool) (at : ℕ) → 0 < length (recalled_code g w at)
-    by_generator true at = recalled_some w.restat w at
+    by_generator true at = recalled_some (compares_basis w.baseline) w at
     by_generator false at = some_app (same_code w.blank w.command) (op.JumpIf (same_place w at) ∷ other_code w (dirty_place w (same_place w at)) (judged_code w (same_place w at))) (omega arith)
 
     front_some : (rest : List Instr) → 0 < length (front w rest)
     front_some rest =
-        let stats : List Instr = stat_code w.outputs ++ weighed_code w.restat w (op.Recall ∷ rest) in
+        let stats : List Instr = stat_code w.outputs ++ weighed_code (compares_basis w.baseline) w (op.Recall ∷ rest) in
         some_app (order_code w.order_only) (newest_code w.named ++ (op.Store w.newest ∷ stats)) (some_app (newest_code w.named) (op.Store w.newest ∷ stats) (omega arith))
 
 pub gather_shaped : (p : Parts) (e : ℕ) (g : GatherWiring) → code p e ≡ gather_code g → IsGather p e g → table_refusal p e ≡ None → IsShapedEdge p e

@@ -4,6 +4,8 @@ use Rattle.std.specs.Prelude.{◌||◌, ◌&&◌, not, nat_lt, nat_le, if◌then
 use Rattle.std.proofs.lemmas.Bool.{eqb-true, eq-eqb, ne_eqb, lt-ltb, leb-true, leb-false}
 use Rattle.plan_verify.specs.Turn.{Meaning, earlier, later, Deps}
 use Rattle.plan_compile.specs.Talk.{Talk, Ask, Left}
+use Rattle.plan_compile.specs.declared.baseline.Baseline.{Baseline}
+use Rattle.plan_compile.specs.declared.baseline.Baseline.TheVariants.{Outputs, Basis, OutputsAndBasis}
 use Rattle.plan_compile.specs.declared.wiring.Output.{Output}
 use Rattle.plan_compile.specs.Rule.{Path, Command, Recorded, greatest_from, greatest, least_from, least, some_missing, some_changed, is_new, baseline, is_dirty, changed, depfile, read}
 use Rattle.plan_compile.proofs.Machine.{missing_from}
@@ -75,6 +77,25 @@ or_swallows true true x h = refl
 or_swallows true false x h = h refl
 or_swallows false m x h = refl
 
+pub or_true : (b : Bool) → (b || true) ≡ true
+or_true true = refl
+or_true false = refl
+
+-- a baseline that is no later than the oldest output is 0 if an output is missing
+pub baseline_none : (b : Baseline) (old : List ℕ) (entry : Option Recorded) → (b ≡ Basis → ⊥) → least old ≡ 0 → baseline b old entry ≡ 0
+baseline_none Outputs old entry other none = none
+baseline_none Basis old entry other none = absurd (other refl)
+baseline_none OutputsAndBasis old None other none = none
+baseline_none OutputsAndBasis old (Some y) other none =
+    eqb-true (earlier y.basis (least old)) 0 (earlier_missing y.basis (least old) ∙ (ap (λ (n : ℕ). (y.basis == 0) || (n == 0)) none ∙ or_true (y.basis == 0)))
+
+-- the earlier of the oldest output and itself
+pub earlier_same : (n : ℕ) → earlier n n ≡ n
+earlier_same n = by_test (nat_le n n) where
+  by_test : (t : Bool) → (if t then n else n) ≡ n
+  by_test true = refl
+  by_test false = refl
+
 module _ (c : Command) (named old : List ℕ) (entry : Option Recorded) where
   pub missing_is : (b : Bool) (ts : List ℕ) → missing_from b ts ≡ (b || some_missing ts)
   missing_is b [] = sym (or_false_right b)
@@ -82,28 +103,28 @@ module _ (c : Command) (named old : List ℕ) (entry : Option Recorded) where
 
   -- The edge is dirty by the alarm that the sweep goes on with, or by its baseline, where its command isn't another.
   pub dirty_is : (swept : List ℕ) → (not c.generator && is_new c.command entry) ≡ false
-      → is_dirty c named old entry swept ≡ (missing_from (some_missing old || some_changed c.named) swept || nat_lt (baseline c.restat old entry) (greatest_from (greatest named) swept))
+      → is_dirty c named old entry swept ≡ (missing_from (some_missing old || some_changed c.named) swept || nat_lt (baseline c.baseline old entry) (greatest_from (greatest named) swept))
   dirty_is swept same =
-      or_chain (some_missing old) (some_changed c.named) (not c.generator && is_new c.command entry) (some_missing swept) (nat_lt (baseline c.restat old entry) (greatest (named ++ swept))) same
-      ∙ (ap (λ (b : Bool). b || nat_lt (baseline c.restat old entry) (greatest (named ++ swept))) (sym (missing_is (some_missing old || some_changed c.named) swept))
-      ∙ ap (λ (n : ℕ). missing_from (some_missing old || some_changed c.named) swept || nat_lt (baseline c.restat old entry) n) (greatest_app 0 named swept))
+      or_chain (some_missing old) (some_changed c.named) (not c.generator && is_new c.command entry) (some_missing swept) (nat_lt (baseline c.baseline old entry) (greatest (named ++ swept))) same
+      ∙ (ap (λ (b : Bool). b || nat_lt (baseline c.baseline old entry) (greatest (named ++ swept))) (sym (missing_is (some_missing old || some_changed c.named) swept))
+      ∙ ap (λ (n : ℕ). missing_from (some_missing old || some_changed c.named) swept || nat_lt (baseline c.baseline old entry) n) (greatest_app 0 named swept))
 
   pub dirty_new : (swept : List ℕ) → (not c.generator && is_new c.command entry) ≡ true → is_dirty c named old entry swept ≡ true
-  dirty_new swept fresh = new_chain (some_missing old) (some_changed c.named) (not c.generator && is_new c.command entry) (some_missing swept) (nat_lt (baseline c.restat old entry) (greatest (named ++ swept))) fresh
+  dirty_new swept fresh = new_chain (some_missing old) (some_changed c.named) (not c.generator && is_new c.command entry) (some_missing swept) (nat_lt (baseline c.baseline old entry) (greatest (named ++ swept))) fresh
 
   -- a missing output is older than any input that is there
-  pub dirty_later : (swept : List ℕ) → c.restat ≡ false → (old ≡ [] → ⊥) → 0 < greatest named → some_missing old ≡ true → nat_lt (baseline c.restat old entry) (greatest_from (greatest named) swept) ≡ true
+  pub dirty_later : (swept : List ℕ) → (c.baseline ≡ Basis → ⊥) → (old ≡ [] → ⊥) → 0 < greatest named → some_missing old ≡ true → nat_lt (baseline c.baseline old entry) (greatest_from (greatest named) swept) ≡ true
   dirty_later swept plain some positive missing =
       let zero_is : least old ≡ 0 = eqb-true (least old) 0 (missing_least old some ∙ missing) in
-      let baseline_is : baseline c.restat old entry ≡ 0 = ap (λ (r : Bool). baseline r old entry) plain ∙ zero_is in
+      let baseline_is : baseline c.baseline old entry ≡ 0 = baseline_none c.baseline old entry plain zero_is in
       let more : greatest named ≤ greatest_from (greatest named) swept = greatest_more (greatest named) swept in
       ap (λ (n : ℕ). nat_lt n (greatest_from (greatest named) swept)) baseline_is ∙ lt-ltb 0 (greatest_from (greatest named) swept) (omega (arith, more, positive))
 
   -- the same without a look at the outputs
-  pub dirty_unlooked : (swept : List ℕ) → (not c.generator && is_new c.command entry) ≡ false → c.restat ≡ false → (old ≡ [] → ⊥) → 0 < greatest named
-      → is_dirty c named old entry swept ≡ (missing_from (some_changed c.named) swept || nat_lt (baseline c.restat old entry) (greatest_from (greatest named) swept))
+  pub dirty_unlooked : (swept : List ℕ) → (not c.generator && is_new c.command entry) ≡ false → (c.baseline ≡ Basis → ⊥) → (old ≡ [] → ⊥) → 0 < greatest named
+      → is_dirty c named old entry swept ≡ (missing_from (some_changed c.named) swept || nat_lt (baseline c.baseline old entry) (greatest_from (greatest named) swept))
   dirty_unlooked swept same plain some positive =
-      let x : Bool = nat_lt (baseline c.restat old entry) (greatest_from (greatest named) swept) in
+      let x : Bool = nat_lt (baseline c.baseline old entry) (greatest_from (greatest named) swept) in
       dirty_is swept same
       ∙ (ap (λ (b : Bool). b || x) (missing_is (some_missing old || some_changed c.named) swept ∙ or_assoc (some_missing old) (some_changed c.named) (some_missing swept))
       ∙ (sym (or_swallows (some_missing old) (some_changed c.named || some_missing swept) x (dirty_later swept plain some positive))

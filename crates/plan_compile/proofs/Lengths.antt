@@ -5,9 +5,11 @@ use Rattle.std.proofs.lemmas.Bool.{lt-ltb}
 use Rattle.plan_compile.specs.declared.fault.CompileFault.TheVariants.{Limit}
 use Rattle.plan_image.specs.declared.instr.Instr.{Instr}
 use Rattle.plan_image.specs.declared.instr.Instr.TheVariants as op
+use Rattle.plan_compile.specs.declared.baseline.Baseline.{Baseline}
+use Rattle.plan_compile.specs.declared.baseline.Baseline.TheVariants.{Outputs, Basis, OutputsAndBasis}
 use Rattle.plan_compile.specs.declared.wiring.Output.{Output}
 use Rattle.plan_compile.specs.declared.wiring.CommandWiring.{CommandWiring}
-use Rattle.plan_compile.specs.Emit.{has_source_file, order_code, newest_code, or_code, any_code, stat_code, older_code, oldest_code, flag_code, holders, alarm_code, weighed_code, front, same_code, ready_code, ready_len, clean_len, judge_code, judged_code, dirty_place, other_code, same_place, known_place, pass_code, recalled_code, command_code, emitted}
+use Rattle.plan_compile.specs.Emit.{compares_basis, has_source_file, order_code, newest_code, or_code, any_code, stat_code, older_code, oldest_code, flag_code, holders, alarm_code, weighed_code, front, same_code, under_code, ready_code, ready_len, clean_len, judge_code, judged_code, dirty_place, other_code, same_place, known_place, pass_code, recalled_code, command_code, emitted}
 use Rattle.plan_compile.proofs.Placing.{front_app}
 use Rattle.plan_compile.proofs.Edge.{skip_long}
 
@@ -49,19 +51,34 @@ clean_shared w is some = ap (λ (r : Bool). length (flag_code false (holders r w
 pub clean_none : (w : CommandWiring) → w.restat ≡ false → length w.outputs ≡ 0 → clean_len w ≡ 0
 clean_none w is none = ap (λ (r : Bool). length (flag_code false (holders r w.outputs))) is ∙ shared_none false w.outputs none
 
--- what makes ready for the sweep
-pub ready_restat : (w : CommandWiring) → w.restat ≡ true → ready_len w ≡ 5 + length (oldest_code w.outputs) + 2 * length w.flags
-ready_restat w is =
-    let oldest : List Instr = oldest_code w.outputs in
-    let flags : List Instr = or_code w.flags in
-    let a : length (oldest ++ (op.IsMissing ∷ flags)) ≡ length oldest + suc (length flags) = length-append oldest (op.IsMissing ∷ flags) in
-    let b : length ((oldest ++ (op.IsMissing ∷ flags)) ++ (op.Swap ∷ [])) ≡ length (oldest ++ (op.IsMissing ∷ flags)) + 1 = length-append (oldest ++ (op.IsMissing ∷ flags)) (op.Swap ∷ []) in
-    let c : length flags ≡ 2 * length w.flags = or_length w.flags in
-    let whole : length (ready_code true w []) ≡ 5 + length oldest + 2 * length w.flags = omega (arith, a, b, c) in
-    ap (λ (r : Bool). length (ready_code r w [])) is ∙ whole
+-- what looks for the alarm
+pub alarm_looks : (os : List Output) (flags : List ℕ) → length (alarm_code true os flags) ≡ length (oldest_code os) + 1 + 2 * length flags
+alarm_looks os flags =
+    let a : length (oldest_code os ++ (op.IsMissing ∷ or_code flags)) ≡ length (oldest_code os) + suc (length (or_code flags)) = length-append (oldest_code os) (op.IsMissing ∷ or_code flags) in
+    let c : length (or_code flags) ≡ 2 * length flags = or_length flags in
+    omega (arith, a, c)
 
-pub ready_plain : (w : CommandWiring) → w.restat ≡ false → ready_len w ≡ 1
-ready_plain w is = ap (λ (r : Bool). length (ready_code r w [])) is
+pub any_none : (flags : List ℕ) → 2 * length flags ≡ 0 → length (any_code flags) ≡ 1
+any_none [] none = refl
+any_none (s ∷ ss) none = absurd (omega (arith, none))
+
+pub any_some : (flags : List ℕ) → (2 * length flags ≡ 0 → ⊥) → length (any_code flags) ≡ 2 * length flags - 1
+any_some [] some = absurd (some refl)
+any_some (s ∷ ss) some = let h : length (or_code ss) ≡ 2 * length ss = or_length ss in omega (arith, h)
+
+-- what makes ready for the sweep
+pub under_length : (looks : Bool) (w : CommandWiring) → length (under_code looks w []) ≡ length (alarm_code looks w.outputs w.flags) + 4
+under_length looks w =
+    let alarm : List Instr = alarm_code looks w.outputs w.flags in
+    let a : length (alarm ++ (op.Swap ∷ [])) ≡ length alarm + 1 = length-append alarm (op.Swap ∷ []) in
+    omega (arith, a)
+
+pub ready_both : (w : CommandWiring) → w.baseline ≡ OutputsAndBasis → ready_len w ≡ length (oldest_code w.outputs) + 1 + length (under_code (not (has_source_file w.named)) w [])
+ready_both w is =
+    let tail : List Instr = under_code (not (has_source_file w.named)) w [] in
+    let a : length (oldest_code w.outputs ++ (op.Older ∷ tail)) ≡ length (oldest_code w.outputs) + suc (length tail) = length-append (oldest_code w.outputs) (op.Older ∷ tail) in
+    let whole : length (ready_code OutputsAndBasis w []) ≡ length (oldest_code w.outputs) + 1 + length tail = omega (arith, a) in
+    ap (λ (b : Baseline). length (ready_code b w [])) is ∙ whole
 
 -- ---- what the whole code is longer than
 
@@ -97,9 +114,9 @@ module _ (w : CommandWiring) where
   pub recalled_within : length behind_front ≤ length (command_code w)
   recalled_within = let l : length behind_front ≤ length (front w [] ++ behind_front) = longer_back (front w []) behind_front in omega (arith, l, ap (λ (xs : List Instr). length xs) (front_app w behind_front))
 
-  pub asked_within : (rest : List Instr) → length (stat_code w.outputs ++ weighed_code w.restat w (op.Recall ∷ rest)) ≤ length (front w rest)
+  pub asked_within : (rest : List Instr) → length (stat_code w.outputs ++ weighed_code (compares_basis w.baseline) w (op.Recall ∷ rest)) ≤ length (front w rest)
   asked_within rest =
-      let asked : List Instr = stat_code w.outputs ++ weighed_code w.restat w (op.Recall ∷ rest) in
+      let asked : List Instr = stat_code w.outputs ++ weighed_code (compares_basis w.baseline) w (op.Recall ∷ rest) in
       let a : length (op.Store w.newest ∷ asked) ≤ length (newest_code w.named ++ (op.Store w.newest ∷ asked)) = longer_back (newest_code w.named) (op.Store w.newest ∷ asked) in
       let b : length (newest_code w.named ++ (op.Store w.newest ∷ asked)) ≤ length (front w rest) = longer_back (order_code w.order_only) (newest_code w.named ++ (op.Store w.newest ∷ asked)) in
       omega (arith, a, b)
@@ -107,8 +124,8 @@ module _ (w : CommandWiring) where
   pub outputs_within : length w.outputs ≤ length (command_code w)
   outputs_within =
       let a : length (stat_code w.outputs) ≡ 2 * length w.outputs = stat_length w.outputs in
-      let b : length (stat_code w.outputs) ≤ length (stat_code w.outputs ++ weighed_code w.restat w (op.Recall ∷ behind_front)) = longer_front (stat_code w.outputs) (weighed_code w.restat w (op.Recall ∷ behind_front)) in
-      let c : length (stat_code w.outputs ++ weighed_code w.restat w (op.Recall ∷ behind_front)) ≤ length (command_code w) = asked_within behind_front in
+      let b : length (stat_code w.outputs) ≤ length (stat_code w.outputs ++ weighed_code (compares_basis w.baseline) w (op.Recall ∷ behind_front)) = longer_front (stat_code w.outputs) (weighed_code (compares_basis w.baseline) w (op.Recall ∷ behind_front)) in
+      let c : length (stat_code w.outputs ++ weighed_code (compares_basis w.baseline) w (op.Recall ∷ behind_front)) ≤ length (command_code w) = asked_within behind_front in
       omega (arith, a, b, c)
 
   -- the flags are among what is weighed
@@ -121,41 +138,50 @@ module _ (w : CommandWiring) where
       omega (arith, a, b, c)
 
   -- or among what makes ready for the sweep
-  pub ready_flags : (rest : List Instr) → length w.flags ≤ length (ready_code true w rest)
-  ready_flags rest =
-      let alarm : List Instr = alarm_code true w.outputs w.flags in
-      let a : length w.flags ≤ length alarm = alarm_longer true w.outputs w.flags in
+  pub under_flags : (looks : Bool) (rest : List Instr) → length w.flags ≤ length (under_code looks w rest)
+  under_flags looks rest =
+      let alarm : List Instr = alarm_code looks w.outputs w.flags in
+      let a : length w.flags ≤ length alarm = alarm_longer looks w.outputs w.flags in
       let b : length alarm ≤ length (alarm ++ (op.Swap ∷ rest)) = longer_front alarm (op.Swap ∷ rest) in
       omega (arith, a, b)
 
+  pub ready_flags : (b : Baseline) → compares_basis b ≡ true → (rest : List Instr) → length w.flags ≤ length (ready_code b w rest)
+  ready_flags Outputs is rest = absurd cc
+  ready_flags Basis is rest = under_flags true rest
+  ready_flags OutputsAndBasis is rest =
+      let tail : List Instr = op.Older ∷ under_code (not (has_source_file w.named)) w rest in
+      let a : length w.flags ≤ length (under_code (not (has_source_file w.named)) w rest) = under_flags (not (has_source_file w.named)) rest in
+      let b : length tail ≤ length (oldest_code w.outputs ++ tail) = longer_back (oldest_code w.outputs) tail in
+      omega (arith, a, b)
+
   pub judged_within : (g : Bool) (at : ℕ) → (place : ℕ) × (length (judged_code w place) ≤ length (recalled_code g w at))
-  judged_within true at = by_restat w.restat where
-    by_restat : (r : Bool) → (place : ℕ) × (length (judged_code w place) ≤ length (pass_code r w at))
-    by_restat true =
+  judged_within true at = by_basis (compares_basis w.baseline) where
+    by_basis : (r : Bool) → (place : ℕ) × (length (judged_code w place) ≤ length (pass_code r w at))
+    by_basis true =
         let tail : List Instr = op.Jump (known_place w at + 1) ∷ op.Drop ∷ judged_code w (known_place w at + 1) in
         let l : length tail ≤ length (oldest_code w.outputs ++ tail) = longer_back (oldest_code w.outputs) tail in (known_place w at + 1, omega (arith, l))
-    by_restat false = (at + 2, omega arith)
+    by_basis false = (at + 2, omega arith)
   judged_within false at =
       let place : ℕ = same_place w at in
       let other : List Instr = other_code w (dirty_place w place) (judged_code w place) in
       let l : length (op.JumpIf place ∷ other) ≤ length (same_code w.blank w.command ++ (op.JumpIf place ∷ other)) = longer_back (same_code w.blank w.command) (op.JumpIf place ∷ other) in
-      let s : suc (suc (suc (suc (length (judged_code w place))))) < length other = skip_long w.restat (op.Sweep ∷ op.Drop ∷ op.Drop ∷ op.Jump (dirty_place w place) ∷ judged_code w place) in
+      let s : suc (suc (suc (suc (length (judged_code w place))))) < length other = skip_long (compares_basis w.baseline) (op.Sweep ∷ op.Drop ∷ op.Drop ∷ op.Jump (dirty_place w place) ∷ judged_code w place) in
       (place, omega (arith, l, s))
 
   pub flags_within : length w.flags ≤ length (command_code w)
-  flags_within = by_restat w.restat refl where
-    by_restat : (r : Bool) → w.restat ≡ r → length w.flags ≤ length (command_code w)
-    by_restat true is =
+  flags_within = by_basis (compares_basis w.baseline) refl where
+    by_basis : (r : Bool) → compares_basis w.baseline ≡ r → length w.flags ≤ length (command_code w)
+    by_basis true is =
         let j = judged_within w.generator (length (front w [])) in
-        let a : length w.flags ≤ length (judged_code w j.0) = subst (λ (r : Bool). length w.flags ≤ length (ready_code r w (judge_code w (j.0 + ready_len w)))) (sym is) (ready_flags (judge_code w (j.0 + ready_len w))) in
+        let a : length w.flags ≤ length (judged_code w j.0) = ready_flags w.baseline is (judge_code w (j.0 + ready_len w)) in
         let b : length (judged_code w j.0) ≤ length behind_front = j.1 in
         let c : length behind_front ≤ length (command_code w) = recalled_within in
         omega (arith, a, b, c)
-    by_restat false is =
+    by_basis false is =
         let rest : List Instr = op.Recall ∷ behind_front in
-        let a : length w.flags ≤ length (weighed_code w.restat w rest) = subst (λ (r : Bool). length w.flags ≤ length (weighed_code r w rest)) (sym is) (weighed_flags rest) in
-        let b : length (weighed_code w.restat w rest) ≤ length (stat_code w.outputs ++ weighed_code w.restat w rest) = longer_back (stat_code w.outputs) (weighed_code w.restat w rest) in
-        let c : length (stat_code w.outputs ++ weighed_code w.restat w rest) ≤ length (command_code w) = asked_within behind_front in
+        let a : length w.flags ≤ length (weighed_code (compares_basis w.baseline) w rest) = subst (λ (r : Bool). length w.flags ≤ length (weighed_code r w rest)) (sym is) (weighed_flags rest) in
+        let b : length (weighed_code (compares_basis w.baseline) w rest) ≤ length (stat_code w.outputs ++ weighed_code (compares_basis w.baseline) w rest) = longer_back (stat_code w.outputs) (weighed_code (compares_basis w.baseline) w rest) in
+        let c : length (stat_code w.outputs ++ weighed_code (compares_basis w.baseline) w rest) ≤ length (command_code w) = asked_within behind_front in
         omega (arith, a, b, c)
 
 -- code that is longer than a body may be

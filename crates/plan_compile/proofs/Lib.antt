@@ -5,6 +5,7 @@ mod Running
 mod Folds
 mod SlotFacts
 mod Judging
+mod StricterLemmas
 mod Placed
 mod Placing
 mod Whole

@@ -3,8 +3,10 @@ use Rattle.std.proofs.Common.{◌≡◌, ℕ, zero, suc, ◌+◌, Bool, true, fa
 use Rattle.std.specs.Prelude.{not}
 use Rattle.plan_image.specs.declared.instr.Instr.{Instr}
 use Rattle.plan_image.specs.declared.instr.Instr.TheVariants as op
+use Rattle.plan_compile.specs.declared.baseline.Baseline.{Baseline}
+use Rattle.plan_compile.specs.declared.baseline.Baseline.TheVariants.{Outputs, Basis, OutputsAndBasis}
 use Rattle.plan_compile.specs.declared.wiring.CommandWiring.{CommandWiring}
-use Rattle.plan_compile.specs.Emit.{has_source_file, order_code, newest_code, stat_code, oldest_code, alarm_code, weighed_code, front, same_code, ready_code, ready_len, skip_code, clean_code, clean_len, run_code, dirty_code, judge_code, judged_code, dirty_place, other_code, same_place, compare_code, known_place, pass_code, recalled_code, command_code}
+use Rattle.plan_compile.specs.Emit.{compares_basis, has_source_file, order_code, newest_code, stat_code, oldest_code, alarm_code, weighed_code, front, same_code, under_code, ready_code, ready_len, skip_code, clean_code, clean_len, run_code, dirty_code, judge_code, judged_code, dirty_place, other_code, same_place, compare_code, known_place, pass_code, recalled_code, command_code}
 
 pub drop_twice : {I : Type 0} (code : List I) (a b : ℕ) → drop a (drop b code) ≡ drop (b + a) code
 drop_twice code a zero = let e : 0 + a ≡ a = omega arith in ap (λ n. drop n code) (sym e)
@@ -22,7 +24,7 @@ behind code at xs ys h = sym (drop_twice code (length xs) at) ∙ (ap (λ (zs : 
 
 -- ---- fragments that take what follows as an argument
 
-pub weighed_app : (restat : Bool) (w : CommandWiring) (xs rest : List Instr) → weighed_code restat w (xs ++ rest) ≡ weighed_code restat w xs ++ rest
+pub weighed_app : (basis : Bool) (w : CommandWiring) (xs rest : List Instr) → weighed_code basis w (xs ++ rest) ≡ weighed_code basis w xs ++ rest
 weighed_app true w xs rest = refl
 weighed_app false w xs rest =
     let alarm : List Instr = alarm_code (not (has_source_file w.named)) w.outputs w.flags in
@@ -31,8 +33,8 @@ weighed_app false w xs rest =
 
 pub front_app : (w : CommandWiring) (rest : List Instr) → front w rest ≡ front w [] ++ rest
 front_app w rest =
-    let inner : List Instr → List Instr = λ xs. weighed_code w.restat w (op.Recall ∷ xs) in
-    let e1 : inner rest ≡ inner [] ++ rest = weighed_app w.restat w (op.Recall ∷ []) rest in
+    let inner : List Instr → List Instr = λ xs. weighed_code (compares_basis w.baseline) w (op.Recall ∷ xs) in
+    let e1 : inner rest ≡ inner [] ++ rest = weighed_app (compares_basis w.baseline) w (op.Recall ∷ []) rest in
     let e2 : stat_code w.outputs ++ inner rest ≡ (stat_code w.outputs ++ inner []) ++ rest =
     ap (λ (xs : List Instr). stat_code w.outputs ++ xs) e1 ∙ sym (append_assoc (stat_code w.outputs) (inner []) rest) in
     let e3 : newest_code w.named ++ (op.Store w.newest ∷ (stat_code w.outputs ++ inner rest)) ≡ (newest_code w.named ++ (op.Store w.newest ∷ (stat_code w.outputs ++ inner []))) ++ rest =
@@ -41,17 +43,24 @@ front_app w rest =
     ap (λ (xs : List Instr). order_code w.order_only ++ xs) e3
     ∙ sym (append_assoc (order_code w.order_only) (newest_code w.named ++ (op.Store w.newest ∷ (stat_code w.outputs ++ inner []))) rest)
 
-pub ready_app : (restat : Bool) (w : CommandWiring) (rest : List Instr) → ready_code restat w rest ≡ ready_code restat w [] ++ rest
-ready_app true w rest =
-    ap (λ (xs : List Instr). op.Swap ∷ op.Load w.newest ∷ op.Swap ∷ xs) (sym (append_assoc (alarm_code true w.outputs w.flags) (op.Swap ∷ []) rest))
-ready_app false w rest = refl
+pub under_app : (looks : Bool) (w : CommandWiring) (rest : List Instr) → under_code looks w rest ≡ under_code looks w [] ++ rest
+under_app looks w rest =
+    ap (λ (xs : List Instr). op.Swap ∷ op.Load w.newest ∷ op.Swap ∷ xs) (sym (append_assoc (alarm_code looks w.outputs w.flags) (op.Swap ∷ []) rest))
 
-pub skip_app : (restat : Bool) (xs rest : List Instr) → skip_code restat (xs ++ rest) ≡ skip_code restat xs ++ rest
+pub ready_app : (b : Baseline) (w : CommandWiring) (rest : List Instr) → ready_code b w rest ≡ ready_code b w [] ++ rest
+ready_app Outputs w rest = refl
+ready_app Basis w rest = under_app true w rest
+ready_app OutputsAndBasis w rest =
+    let looks : Bool = not (has_source_file w.named) in
+    ap (λ (xs : List Instr). oldest_code w.outputs ++ (op.Older ∷ xs)) (under_app looks w rest)
+    ∙ sym (append_assoc (oldest_code w.outputs) (op.Older ∷ under_code looks w []) rest)
+
+pub skip_app : (basis : Bool) (xs rest : List Instr) → skip_code basis (xs ++ rest) ≡ skip_code basis xs ++ rest
 skip_app true xs rest = refl
 skip_app false xs rest = refl
 
 -- how long a skip is doesn't hang on where it leads
-pub skip_length : (restat : Bool) (a b : ℕ) → length (skip_code restat (op.Sweep ∷ op.Drop ∷ op.Drop ∷ op.Jump a ∷ [])) ≡ length (skip_code restat (op.Sweep ∷ op.Drop ∷ op.Drop ∷ op.Jump b ∷ []))
+pub skip_length : (basis : Bool) (a b : ℕ) → length (skip_code basis (op.Sweep ∷ op.Drop ∷ op.Drop ∷ op.Jump a ∷ [])) ≡ length (skip_code basis (op.Sweep ∷ op.Drop ∷ op.Drop ∷ op.Jump b ∷ []))
 skip_length true a b = refl
 skip_length false a b = refl
 
@@ -75,7 +84,7 @@ module _ (code : List Instr) (w : CommandWiring) where
       ap (λ (n : ℕ). drop n code) e ∙ behind code (at + 5 + clean_len w) (op.End ∷ op.Drop ∷ op.Drop ∷ []) (run_code w) (past_clean at h)
 
   pub judge_stands : (at : ℕ) → drop at code ≡ judged_code w at → drop (at + ready_len w) code ≡ judge_code w (at + ready_len w)
-  judge_stands at h = behind code at (ready_code w.restat w []) (judge_code w (at + ready_len w)) (h ∙ ready_app w.restat w (judge_code w (at + ready_len w)))
+  judge_stands at h = behind code at (ready_code w.baseline w []) (judge_code w (at + ready_len w)) (h ∙ ready_app w.baseline w (judge_code w (at + ready_len w)))
 
   -- behind the comparison
   pub same_stands : (at : ℕ) → drop at code ≡ compare_code w at → drop (same_place w at) code ≡ judged_code w (same_place w at)
@@ -87,11 +96,11 @@ module _ (code : List Instr) (w : CommandWiring) where
       behind code at same (op.JumpIf place ∷ other_code w dirty (judged_code w place)) h in
       let other : drop (at + length same + 1) code ≡ other_code w dirty (judged_code w place) =
       behind code (at + length same) (op.JumpIf place ∷ []) (other_code w dirty (judged_code w place)) jump in
-      ap (λ (n : ℕ). drop (at + length same + 1 + n) code) (skip_length w.restat 0 dirty)
+      ap (λ (n : ℕ). drop (at + length same + 1 + n) code) (skip_length (compares_basis w.baseline) 0 dirty)
       ∙ behind code (at + length same + 1) (other_code w dirty []) (judged_code w place)
-      (other ∙ skip_app w.restat (op.Sweep ∷ op.Drop ∷ op.Drop ∷ op.Jump dirty ∷ []) (judged_code w place))
+      (other ∙ skip_app (compares_basis w.baseline) (op.Sweep ∷ op.Drop ∷ op.Drop ∷ op.Jump dirty ∷ []) (judged_code w place))
 
-  -- where the baseline of a restat generator is known
+  -- where the baseline of a generator that compares the basis is known
   pub known_stands : (at : ℕ) → drop at code ≡ pass_code true w at → drop (known_place w at) code ≡ op.Drop ∷ judged_code w (known_place w at + 1)
   known_stands at h =
       let oldest : List Instr = oldest_code w.outputs in

@@ -12,6 +12,7 @@ use Rattle.plan_image.specs.declared.image.Parts.{Parts}
 use Rattle.plan_image.specs.Bodies.{body_of}
 use Rattle.plan_image.specs.Refusal.{IsPartsFault, over_limit, out_of_order, unfilled}
 use Rattle.plan_image.specs.Spelling.{BodyFits, HasSpelling, IsWithinLimits}
+use Rattle.plan_compile.specs.declared.baseline.OutOfDateRule.{OutOfDateRule}
 use Rattle.plan_compile.specs.declared.fault.CompileFault.{CompileFault}
 use Rattle.plan_compile.specs.declared.fault.CompileFault.TheVariants.{Limit, Memory}
 use Rattle.plan_compile.specs.BodyKeys.{Body, same_body}
@@ -35,8 +36,8 @@ passes_limit p fault spelled (over_limit h) within = h within
 passes_limit p fault spelled (out_of_order w h) within = h (spelled within).order
 passes_limit p fault spelled (unfilled w o h) within = h (spelled within).filled
 
-pub many_files : (m : Manifest) (g : Graph) → 4194304 < length g.files → IsWithinLimits (compiled m g) → ⊥
-many_files m g many within =
+pub many_files : (rule : OutOfDateRule) (m : Manifest) (g : Graph) → 4194304 < length g.files → IsWithinLimits (compiled rule m g) → ⊥
+many_files rule m g many within =
     let same : length (paths_in g.files) ≡ length g.files = map_long (λ x. x.0) g.files in
     let few : length (paths_in g.files) ≤ 4194304 = within.counts.files in
     omega (arith, same, few, many)
@@ -85,11 +86,11 @@ long_bodies t h within =
     let long : 65536 < length c.1 = ltb-true 65536 (length c.1) c.3 in
     omega (arith, short, same, long)
 
-pub edges_refused : (m : Manifest) (g : Graph) (fault : CompileFault) (cs : List (List Instr)) → length g.files ≤ 4194304 → cs ≡ codes (builds m g).edges
-    → RefusesEdges fault (builds m g).edges cs → IsRefused m g fault
-edges_refused m g Memory cs few same h = few
-edges_refused m g Limit cs few same h =
-    elim h [ inl many ↦ many_slots (builds m g) many | inr long ↦ long_bodies (builds m g) (ap (λ (xs : List (List Instr)). list_any is_too_long xs) (sym same) ∙ long) ]
+pub edges_refused : (rule : OutOfDateRule) (m : Manifest) (g : Graph) (fault : CompileFault) (cs : List (List Instr)) → length g.files ≤ 4194304 → cs ≡ codes (builds rule m g).edges
+    → RefusesEdges fault (builds rule m g).edges cs → IsRefused rule m g fault
+edges_refused rule m g Memory cs few same h = few
+edges_refused rule m g Limit cs few same h =
+    elim h [ inl many ↦ many_slots (builds rule m g) many | inr long ↦ long_bodies (builds rule m g) (ap (λ (xs : List (List Instr)). list_any is_too_long xs) (sym same) ∙ long) ]
 
 pub codes_refused : (fault : CompileFault) (xs : List Build) (cs : List (List Instr)) → slot_count xs ≤ 16777216 → RefusesCodes fault cs → RefusesEdges fault xs cs
 codes_refused Limit xs cs few h = inr h

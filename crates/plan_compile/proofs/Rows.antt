@@ -24,12 +24,15 @@ use Rattle.plan_verify.specs.Tables.{lent_by}
 use Rattle.plan_verify.specs.Alone.{at_begin}
 use Rattle.plan_verify.specs.Sound.{AreTyped, AreLentSet}
 use Rattle.plan_verify.specs.Turn.{Slots, Stat, Recall, Run, Deps, Keep, StampIs, Entry, Nothing, Exit, Bytes, Kept, Meaning}
+use Rattle.plan_compile.specs.declared.baseline.Baseline.TheVariants as baseline
+use Rattle.plan_compile.specs.declared.baseline.OutOfDateRule.{OutOfDateRule}
+use Rattle.plan_compile.specs.declared.baseline.OutOfDateRule.TheVariants.{Specified, Stricter}
 use Rattle.plan_compile.specs.declared.wiring.Input.TheVariants.{File, Made}
 use Rattle.plan_compile.specs.declared.wiring.Output.{Output}
 use Rattle.plan_compile.specs.declared.wiring.CommandWiring.{CommandWiring}
 use Rattle.plan_compile.specs.declared.wiring.GatherWiring.{GatherWiring}
 use Rattle.plan_compile.specs.Talk.{Over, Fail, Follows, Obeys}
-use Rattle.plan_compile.specs.Rule.{Path, Command, SourceFile, runs, does, does_phony}
+use Rattle.plan_compile.specs.Rule.{Path, Command, SourceFile, baseline, baseline_by, runs, does, does_phony}
 use Rattle.plan_compile.specs.Rule.{Made as MadeBy}
 use Rattle.plan_compile.specs.Emit.{command_code, alone_code, gather_code}
 use Rattle.plan_compile.specs.declared.wiring.Wiring.TheVariants as wiring
@@ -50,7 +53,7 @@ mid : Path
 mid = codes "mid"
 
 gen : Command
-gen = record { named = SourceFile 0 src ∷ []; order_only = []; outputs = mid ∷ []; command = codes "sh gen.sh"; depfile = []; restat = true; generator = false }
+gen = record { named = SourceFile 0 src ∷ []; order_only = []; outputs = mid ∷ []; command = codes "sh gen.sh"; depfile = []; restat = true; generator = false; baseline = baseline.Basis }
 
 -- it runs and leaves the old stamp: the output is unchanged, and the basis is the source file's stamp
 gen_runs : Follows (does none_read gen)
@@ -67,7 +70,7 @@ gen_clean = (refl, (refl, (refl, refl)))
 
 -- its user, with what it made unchanged, is clean
 chained : Command
-chained = record { named = MadeBy 30 false ∷ []; order_only = []; outputs = codes "out" ∷ []; command = codes "cp"; depfile = []; restat = false; generator = false }
+chained = record { named = MadeBy 30 false ∷ []; order_only = []; outputs = codes "out" ∷ []; command = codes "cp"; depfile = []; restat = false; generator = false; baseline = baseline.Outputs }
 
 chained_clean : Follows (does none_read chained) ((Stat (codes "out"), StampIs 40) ∷ (Recall (codes "out"), Entry (codes "cp") 30 []) ∷ []) (Over false ((40, false) ∷ []))
 unfolding chained none_read
@@ -93,7 +96,7 @@ cc_command : List ℕ
 cc_command = codes "cc"
 
 compiles : Command
-compiles = record { named = SourceFile 1 c_file ∷ []; order_only = []; outputs = object ∷ []; command = cc_command; depfile = codes "a.d"; restat = false; generator = false }
+compiles = record { named = SourceFile 1 c_file ∷ []; order_only = []; outputs = object ∷ []; command = cc_command; depfile = codes "a.d"; restat = false; generator = false; baseline = baseline.Outputs }
 
 clean : Follows (does none_read compiles) ((Stat c_file, StampIs 5) ∷ (Stat object, StampIs 9) ∷ (Recall object, Entry cc_command 5 (header ∷ [])) ∷ (Stat header, StampIs 9) ∷ []) (Over false ((9, false) ∷ []))
 unfolding compiles cc_command none_read
@@ -129,9 +132,39 @@ source_later : Follows (does none_read compiles) ((Stat c_file, StampIs 10) ∷ 
 unfolding compiles cc_command none_read
 source_later = (refl, (refl, (refl, refl)))
 
+-- ---- the stricter rule, by the same edge
+
+strictly : OutOfDateRule → Command
+strictly rule = record { named = SourceFile 1 c_file ∷ []; order_only = []; outputs = object ∷ []; command = cc_command; depfile = []; restat = false; generator = false; baseline = baseline_by false false rule }
+
+-- The source file is later than the basis, and the output was touched after that: the edge is dirty by the stricter rule
+-- only.
+touched_dirty : Follows (does none_read (strictly Stricter)) ((Stat c_file, StampIs 7) ∷ (Stat object, StampIs 9) ∷ (Recall object, Entry cc_command 5 []) ∷ []) (runs none_read (strictly Stricter) (7 ∷ []) (9 ∷ []))
+unfolding strictly cc_command none_read
+touched_dirty = (refl, (refl, (refl, refl)))
+
+touched_clean : Follows (does none_read (strictly Specified)) ((Stat c_file, StampIs 7) ∷ (Stat object, StampIs 9) ∷ (Recall object, Entry cc_command 5 []) ∷ []) (Over false ((9, false) ∷ []))
+unfolding strictly cc_command none_read
+touched_clean = (refl, (refl, (refl, refl)))
+
+-- a source file that is no later than the basis leaves it clean
+unchanged_clean : Follows (does none_read (strictly Stricter)) ((Stat c_file, StampIs 7) ∷ (Stat object, StampIs 9) ∷ (Recall object, Entry cc_command 7 []) ∷ []) (Over false ((9, false) ∷ []))
+unfolding strictly cc_command none_read
+unchanged_clean = (refl, (refl, (refl, refl)))
+
+-- one that is later than the output makes it dirty by both rules, also if it is no later than the basis
+older_dirty : (rule : OutOfDateRule) → baseline (baseline_by false false rule) (6 ∷ []) (Some (record { command = cc_command; basis = 7; paths = [] })) ≡ 6
+unfolding cc_command
+older_dirty Specified = refl
+older_dirty Stricter = refl
+
+-- A restat edge has the basis, and a generator the oldest output, by both rules.
+by_both_rules : (rule : OutOfDateRule) → (baseline_by true false rule ≡ baseline.Basis) × (baseline_by true true rule ≡ baseline.Basis) × (baseline_by false true rule ≡ baseline.Outputs)
+by_both_rules rule = (refl, refl, refl)
+
 -- an input is changed
 changes : Command
-changes = record { named = MadeBy 5 true ∷ []; order_only = []; outputs = object ∷ []; command = cc_command; depfile = []; restat = false; generator = false }
+changes = record { named = MadeBy 5 true ∷ []; order_only = []; outputs = object ∷ []; command = cc_command; depfile = []; restat = false; generator = false; baseline = baseline.Outputs }
 
 input_changed : Follows (does none_read changes) ((Stat object, StampIs 9) ∷ (Recall object, Entry cc_command 5 []) ∷ []) (runs none_read changes (5 ∷ []) (9 ∷ []))
 unfolding changes cc_command none_read
@@ -139,7 +172,7 @@ input_changed = (refl, (refl, refl))
 
 -- a generator looks at no command, and needs no entry
 generates : Command
-generates = record { named = SourceFile 1 c_file ∷ []; order_only = []; outputs = object ∷ []; command = cc_command; depfile = []; restat = false; generator = true }
+generates = record { named = SourceFile 1 c_file ∷ []; order_only = []; outputs = object ∷ []; command = cc_command; depfile = []; restat = false; generator = true; baseline = baseline.Outputs }
 
 generator_clean : Follows (does none_read generates) ((Stat c_file, StampIs 5) ∷ (Stat object, StampIs 9) ∷ (Recall object, Nothing) ∷ []) (Over false ((9, false) ∷ []))
 unfolding generates none_read
@@ -171,6 +204,7 @@ ordered = record {
   depfile = [];
   restat = false;
   generator = false;
+  baseline = baseline.Outputs;
 }
 
 order_asks : Follows (does none_read ordered) ((Stat header, StampIs 99) ∷ (Stat c_file, StampIs 5) ∷ (Stat object, StampIs 9) ∷ (Recall object, Entry cc_command 5 []) ∷ []) (Over false ((9, false) ∷ []))
@@ -180,7 +214,7 @@ order_asks = (refl, (refl, (refl, (refl, refl))))
 -- ---- phonies
 
 always : Command
-always = record { named = []; order_only = []; outputs = codes "always" ∷ []; command = []; depfile = []; restat = false; generator = false }
+always = record { named = []; order_only = []; outputs = codes "always" ∷ []; command = []; depfile = []; restat = false; generator = false; baseline = baseline.Outputs }
 
 -- one without inputs whose file is missing is changed
 always_changed : Follows (does_phony always) ((Stat (codes "always"), StampIs 0) ∷ []) (Over false ((0, true) ∷ []))
@@ -188,7 +222,7 @@ unfolding always
 always_changed = (refl, refl)
 
 user : Command
-user = record { named = MadeBy 0 true ∷ []; order_only = []; outputs = codes "x" ∷ []; command = codes "true"; depfile = []; restat = false; generator = false }
+user = record { named = MadeBy 0 true ∷ []; order_only = []; outputs = codes "x" ∷ []; command = codes "true"; depfile = []; restat = false; generator = false; baseline = baseline.Outputs }
 
 -- and so its user runs each time
 user_runs : Follows (does none_read user)
@@ -199,7 +233,7 @@ user_runs = (refl, (refl, (refl, (refl, (refl, refl)))))
 
 -- one with inputs is as they are, and asks for none of its outputs
 gathers_both : Command
-gathers_both = record { named = MadeBy 8 true ∷ SourceFile 1 c_file ∷ []; order_only = []; outputs = codes "all" ∷ []; command = []; depfile = []; restat = false; generator = false }
+gathers_both = record { named = MadeBy 8 true ∷ SourceFile 1 c_file ∷ []; order_only = []; outputs = codes "all" ∷ []; command = []; depfile = []; restat = false; generator = false; baseline = baseline.Outputs }
 
 gathered : Follows (does_phony gathers_both) ((Stat c_file, StampIs 5) ∷ []) (Over false ((8, true) ∷ []))
 unfolding gathers_both
@@ -207,7 +241,7 @@ gathered = (refl, refl)
 
 -- one whose only input is an order-only one that an edge makes has an input
 only_ordered : Command
-only_ordered = record { named = []; order_only = MadeBy 8 true ∷ []; outputs = codes "all" ∷ []; command = []; depfile = []; restat = false; generator = false }
+only_ordered = record { named = []; order_only = MadeBy 8 true ∷ []; outputs = codes "all" ∷ []; command = []; depfile = []; restat = false; generator = false; baseline = baseline.Outputs }
 
 ordered_gathers : Follows (does_phony only_ordered) [] (Over false ((0, false) ∷ []))
 unfolding only_ordered
@@ -228,6 +262,7 @@ compiled = record {
   depfile = Some 1;
   restat = false;
   generator = false;
+  baseline = baseline.Outputs;
 }
 
 compiled_code : command_code compiled ≡
@@ -253,6 +288,7 @@ linked = record {
   depfile = None;
   restat = false;
   generator = false;
+  baseline = baseline.Outputs;
 }
 
 linked_code : command_code linked ≡
@@ -279,6 +315,7 @@ restated = record {
   depfile = None;
   restat = true;
   generator = false;
+  baseline = baseline.Basis;
 }
 
 restated_code : command_code restated ≡
@@ -290,6 +327,33 @@ restated_code : command_code restated ≡
     ∷ op.Load 0 ∷ op.Stat 0 ∷ op.Store 0 ∷ op.Load 0 ∷ op.Same ∷ op.Not ∷ op.Store 1 ∷ op.End ∷ []
 unfolding restated
 restated_code = refl
+
+-- one that compares both, with two outputs, with no source file
+joined : CommandWiring
+joined = record {
+  named = Made 0 1 ∷ [];
+  order_only = [];
+  outputs = record { file = 0; stamp = 2; changed = 3 } ∷ record { file = 1; stamp = 4; changed = 3 } ∷ [];
+  flags = 1 ∷ [];
+  newest = 5;
+  command = 0;
+  blank = false;
+  depfile = None;
+  restat = false;
+  generator = false;
+  baseline = baseline.OutputsAndBasis;
+}
+
+joined_code : command_code joined ≡
+    op.Load 0 ∷ op.Store 5 ∷ op.Stat 0 ∷ op.Store 2 ∷ op.Stat 1 ∷ op.Store 4 ∷ op.Recall ∷ op.Drop ∷ op.Text 0 ∷ op.Equal ∷ op.JumpIf 20
+    ∷ op.Swap ∷ op.Zero ∷ op.Swap ∷ op.Flag false ∷ op.Swap ∷ op.Sweep ∷ op.Drop ∷ op.Drop ∷ op.Jump 42
+    ∷ op.Load 2 ∷ op.Load 4 ∷ op.Older ∷ op.Older
+    ∷ op.Swap ∷ op.Load 5 ∷ op.Swap ∷ op.Load 2 ∷ op.Load 4 ∷ op.Older ∷ op.IsMissing ∷ op.Load 1 ∷ op.Or ∷ op.Swap
+    ∷ op.Sweep ∷ op.Drop ∷ op.JumpIf 42 ∷ op.Before ∷ op.JumpIf 44 ∷ op.Flag false ∷ op.Store 3 ∷ op.End
+    ∷ op.Drop ∷ op.Drop ∷ op.Take ∷ op.Text 0 ∷ op.Run ∷ op.Release ∷ op.Text 0 ∷ op.Load 5 ∷ op.NoPaths ∷ op.Keep
+    ∷ op.Stat 0 ∷ op.Store 2 ∷ op.Stat 1 ∷ op.Store 4 ∷ op.Flag true ∷ op.Store 3 ∷ op.End ∷ []
+unfolding joined
+joined_code = refl
 
 -- the same as a generator
 regenerated : CommandWiring
@@ -304,6 +368,7 @@ regenerated = record {
   depfile = None;
   restat = true;
   generator = true;
+  baseline = baseline.Basis;
 }
 
 regenerated_code : command_code regenerated ≡
@@ -483,9 +548,9 @@ two_of_a_rule : Builds
 two_of_a_rule = record {
   files = codes "a.o" ∷ codes "a.c" ∷ codes "b.o" ∷ codes "b.c" ∷ codes "all" ∷ [];
   edges =
-      record { edge = manifest_edge (codes "cc a.c") (codes "CC a.o") [] false (codes "link"); outputs = 0 ∷ []; named = 1 ∷ []; order_only = []; waits = []; rank = 0 }
-      ∷ record { edge = manifest_edge (codes "cc b.c") [] [] false (codes "link"); outputs = 2 ∷ []; named = 3 ∷ []; order_only = []; waits = []; rank = 0 }
-      ∷ record { edge = manifest_edge [] [] [] true []; outputs = 4 ∷ []; named = 0 ∷ 2 ∷ []; order_only = []; waits = 0 ∷ 1 ∷ []; rank = 1 } ∷ [];
+      record { edge = manifest_edge (codes "cc a.c") (codes "CC a.o") [] false (codes "link"); outputs = 0 ∷ []; named = 1 ∷ []; order_only = []; waits = []; rank = 0; baseline = baseline.Outputs }
+      ∷ record { edge = manifest_edge (codes "cc b.c") [] [] false (codes "link"); outputs = 2 ∷ []; named = 3 ∷ []; order_only = []; waits = []; rank = 0; baseline = baseline.Outputs }
+      ∷ record { edge = manifest_edge [] [] [] true []; outputs = 4 ∷ []; named = 0 ∷ 2 ∷ []; order_only = []; waits = 0 ∷ 1 ∷ []; rank = 1; baseline = baseline.Outputs } ∷ [];
   pools = record { name = codes "console"; depth = 1 } ∷ record { name = codes "link"; depth = 2 } ∷ [];
   defaults = 2 ∷ [];
 }
@@ -516,8 +581,8 @@ waits_for_it : Builds
 waits_for_it = record {
   files = codes "gen.h" ∷ codes "a.o" ∷ codes "a.c" ∷ [];
   edges =
-      record { edge = manifest_edge (codes "gen") [] [] false []; outputs = 0 ∷ []; named = []; order_only = []; waits = []; rank = 0 }
-      ∷ record { edge = manifest_edge (codes "cc") [] [] false []; outputs = 1 ∷ []; named = 2 ∷ []; order_only = 0 ∷ []; waits = 0 ∷ []; rank = 1 } ∷ [];
+      record { edge = manifest_edge (codes "gen") [] [] false []; outputs = 0 ∷ []; named = []; order_only = []; waits = []; rank = 0; baseline = baseline.Outputs }
+      ∷ record { edge = manifest_edge (codes "cc") [] [] false []; outputs = 1 ∷ []; named = 2 ∷ []; order_only = 0 ∷ []; waits = 0 ∷ []; rank = 1; baseline = baseline.Outputs } ∷ [];
   pools = [];
   defaults = 1 ∷ [];
 }

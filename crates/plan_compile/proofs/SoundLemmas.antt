@@ -19,6 +19,7 @@ use Rattle.plan_graph.specs.Graph.{IsGraph, outputs_of, inputs_named, named_inpu
 use Rattle.plan_graph.specs.Graph.{without_own as without_own_paths}
 use Rattle.plan_graph.specs.Laws.{FilesComplete, ProducersNumbered, ProducersWaited, RanksRise, WaitsAscend, DefaultsAscend}
 use Rattle.plan_verify.specs.Members.{is_member}
+use Rattle.plan_compile.specs.declared.baseline.OutOfDateRule.{OutOfDateRule}
 use Rattle.plan_compile.specs.Builds.{Build, without_own, without_made, is_maker, named_count, build_at, builds_from, builds}
 use Rattle.plan_compile.specs.Faithful.{IsEdge, IsSound}
 use Rattle.plan_compile.proofs.ListLemmas.{some_is, bool_cases}
@@ -26,24 +27,24 @@ use Rattle.plan_compile.proofs.MemberLemmas.{In, in_list, contained, in_get, get
 
 -- ---- the edges
 
-pub build_here : (g : Graph) (n : ℕ) (es : List ManifestEdge) (e : ℕ) (x : Build) → slice_get (builds_from g n es) e ≡ Some x
-    → (edge : ManifestEdge) × (slice_get es e ≡ Some edge) × (build_at g (n + e) edge ≡ x)
-build_here g n [] e x h = absurd cc
-build_here g n (y ∷ es) zero x h = (y, refl, ap (λ (k : ℕ). build_at g k y) (let eq : n + zero ≡ n = omega arith in eq) ∙ some_is (build_at g n y) x h)
-build_here g n (y ∷ es) (suc e) x h =
-    let r = build_here g (suc n) es e x h in
-    (r.0, r.1, ap (λ (k : ℕ). build_at g k r.0) (let eq : n + suc e ≡ suc n + e = omega arith in eq) ∙ r.2)
+pub build_here : (rule : OutOfDateRule) (g : Graph) (n : ℕ) (es : List ManifestEdge) (e : ℕ) (x : Build) → slice_get (builds_from rule g n es) e ≡ Some x
+    → (edge : ManifestEdge) × (slice_get es e ≡ Some edge) × (build_at rule g (n + e) edge ≡ x)
+build_here rule g n [] e x h = absurd cc
+build_here rule g n (y ∷ es) zero x h = (y, refl, ap (λ (k : ℕ). build_at rule g k y) (let eq : n + zero ≡ n = omega arith in eq) ∙ some_is (build_at rule g n y) x h)
+build_here rule g n (y ∷ es) (suc e) x h =
+    let r = build_here rule g (suc n) es e x h in
+    (r.0, r.1, ap (λ (k : ℕ). build_at rule g k r.0) (let eq : n + suc e ≡ suc n + e = omega arith in eq) ∙ r.2)
 
-pub here_build : (g : Graph) (n : ℕ) (es : List ManifestEdge) (e : ℕ) (edge : ManifestEdge) → slice_get es e ≡ Some edge → slice_get (builds_from g n es) e ≡ Some (build_at g (n + e) edge)
-here_build g n [] e edge h = absurd cc
-here_build g n (y ∷ es) zero edge h =
-    ap (λ (z : ManifestEdge). Some (build_at g n z)) (some_is y edge h) ∙ ap (λ (k : ℕ). Some (build_at g k edge)) (let eq : n ≡ n + zero = omega arith in eq)
-here_build g n (y ∷ es) (suc e) edge h =
-    here_build g (suc n) es e edge h ∙ ap (λ (k : ℕ). Some (build_at g k edge)) (let eq : suc n + e ≡ n + suc e = omega arith in eq)
+pub here_build : (rule : OutOfDateRule) (g : Graph) (n : ℕ) (es : List ManifestEdge) (e : ℕ) (edge : ManifestEdge) → slice_get es e ≡ Some edge → slice_get (builds_from rule g n es) e ≡ Some (build_at rule g (n + e) edge)
+here_build rule g n [] e edge h = absurd cc
+here_build rule g n (y ∷ es) zero edge h =
+    ap (λ (z : ManifestEdge). Some (build_at rule g n z)) (some_is y edge h) ∙ ap (λ (k : ℕ). Some (build_at rule g k edge)) (let eq : n ≡ n + zero = omega arith in eq)
+here_build rule g n (y ∷ es) (suc e) edge h =
+    here_build rule g (suc n) es e edge h ∙ ap (λ (k : ℕ). Some (build_at rule g k edge)) (let eq : suc n + e ≡ n + suc e = omega arith in eq)
 
-pub builds_length : (g : Graph) (n : ℕ) (es : List ManifestEdge) → length (builds_from g n es) ≡ length es
-builds_length g n [] = refl
-builds_length g n (y ∷ es) = ap suc (builds_length g (suc n) es)
+pub builds_length : (rule : OutOfDateRule) (g : Graph) (n : ℕ) (es : List ManifestEdge) → length (builds_from rule g n es) ≡ length es
+builds_length rule g n [] = refl
+builds_length rule g n (y ∷ es) = ap suc (builds_length rule g (suc n) es)
 
 -- ---- no path is made twice in one edge
 
@@ -118,7 +119,7 @@ one_place above (o ∷ os) (suc i) (suc j) path h a b = ap suc (one_place (above
 
 -- ---- what a graph says of each edge
 
-module _ (m : Manifest) (g : Graph) (graph : IsGraph m g) (complete : FilesComplete) where
+module _ (rule : OutOfDateRule) (m : Manifest) (g : Graph) (graph : IsGraph m g) (complete : FilesComplete) where
   abbrev table : List Path
   table = files_of m.edges
 
@@ -148,7 +149,7 @@ module _ (m : Manifest) (g : Graph) (graph : IsGraph m g) (complete : FilesCompl
 
   -- ---- an edge's numbers are those of its paths
 
-  output_path : (n : ℕ) (e : ManifestEdge) (f : ℕ) → slice_get m.edges n ≡ Some e → In f (build_at g n e).outputs → (path : Path) × In path (outputs_of e) × (number_of table path ≡ f)
+  output_path : (n : ℕ) (e : ManifestEdge) (f : ℕ) → slice_get m.edges n ≡ Some e → In f (build_at rule g n e).outputs → (path : Path) × In path (outputs_of e) × (number_of table path ≡ f)
   output_path n e f at there = in_map (number_of table) (outputs_of e) f (subst (λ (fs : List ℕ). In f fs) (outputs_are n e at) there)
 
   -- an input that is kept is one of the paths named, and for a phony no own output
@@ -171,11 +172,11 @@ module _ (m : Manifest) (g : Graph) (graph : IsGraph m g) (complete : FilesCompl
           let p = in_map (number_of table) (inputs_named e) f (subst (λ (fs : List ℕ). In f fs) (inputs_are n e at) (part f h)) in
           (p.0, p.1, p.2, λ phony. absurd (let clash : true ≡ false = sym phony ∙ is in cc))
 
-  named_input : (n : ℕ) (e : ManifestEdge) (f : ℕ) → slice_get m.edges n ≡ Some e → In f (build_at g n e).named
+  named_input : (n : ℕ) (e : ManifestEdge) (f : ℕ) → slice_get m.edges n ≡ Some e → In f (build_at rule g n e).named
       → (path : Path) × In path (inputs_named e) × (number_of table path ≡ f) × (e.phony ≡ true → is_member f (get_or g.outputs n []) ≡ false)
   named_input n e f at there = kept_input n e f (take (named_count e (get_or g.inputs n [])) (get_or g.inputs n [])) at (λ k i. in_take (named_count e (get_or g.inputs n [])) (get_or g.inputs n []) k i) there
 
-  ordered_input : (n : ℕ) (e : ManifestEdge) (f : ℕ) → slice_get m.edges n ≡ Some e → In f (build_at g n e).order_only
+  ordered_input : (n : ℕ) (e : ManifestEdge) (f : ℕ) → slice_get m.edges n ≡ Some e → In f (build_at rule g n e).order_only
       → (path : Path) × In path (inputs_named e) × (number_of table path ≡ f) × (e.phony ≡ true → is_member f (get_or g.outputs n []) ≡ false)
   ordered_input n e f at there = kept_input n e f (drop (named_count e (get_or g.inputs n [])) (get_or g.inputs n [])) at (λ k i. in_drop (named_count e (get_or g.inputs n [])) (get_or g.inputs n []) k i) there
 
@@ -311,16 +312,16 @@ module _ (m : Manifest) (g : Graph) (graph : IsGraph m g) (complete : FilesCompl
         get_edge (x ∷ es) (suc j) h = get_edge es j (omega (arith, h))
 
     -- an edge of the manifest with its numbers, in place of an edge of the builds
-    at_edge : (P : ℕ → Build → Type 0) → ((n : ℕ) (e : ManifestEdge) → slice_get m.edges n ≡ Some e → P n (build_at g n e)) → (n : ℕ) (x : Build) → IsEdge (builds m g) n x → P n x
+    at_edge : (P : ℕ → Build → Type 0) → ((n : ℕ) (e : ManifestEdge) → slice_get m.edges n ≡ Some e → P n (build_at rule g n e)) → (n : ℕ) (x : Build) → IsEdge (builds rule m g) n x → P n x
     at_edge P h n x at =
-        let r = build_here g 0 m.edges n x at in
+        let r = build_here rule g 0 m.edges n x at in
         let same : 0 + n ≡ n = omega arith in
-        subst (λ (y : Build). P n y) (ap (λ (k : ℕ). build_at g k r.0) (sym same) ∙ r.2) (h n r.0 r.1)
+        subst (λ (y : Build). P n y) (ap (λ (k : ℕ). build_at rule g k r.0) (sym same) ∙ r.2) (h n r.0 r.1)
 
-    build_is : (n : ℕ) (e : ManifestEdge) → slice_get m.edges n ≡ Some e → IsEdge (builds m g) n (build_at g n e)
-    build_is n e at = here_build g 0 m.edges n e at ∙ ap (λ (k : ℕ). Some (build_at g k e)) (let eq : 0 + n ≡ n = omega arith in eq)
+    build_is : (n : ℕ) (e : ManifestEdge) → slice_get m.edges n ≡ Some e → IsEdge (builds rule m g) n (build_at rule g n e)
+    build_is n e at = here_build rule g 0 m.edges n e at ∙ ap (λ (k : ℕ). Some (build_at rule g k e)) (let eq : 0 + n ≡ n = omega arith in eq)
 
-    makes : (n : ℕ) (e : ManifestEdge) → slice_get m.edges n ≡ Some e → (build_at g n e).outputs ≡ [] → ⊥
+    makes : (n : ℕ) (e : ManifestEdge) → slice_get m.edges n ≡ Some e → (build_at rule g n e).outputs ≡ [] → ⊥
     makes n e at none =
         let sound : IsSoundEdge (names_of m.pools) e = of_all (IsSoundEdge (names_of m.pools)) m.edges n e whole.edges at in
         let some = sound.made in
@@ -331,29 +332,29 @@ module _ (m : Manifest) (g : Graph) (graph : IsGraph m g) (complete : FilesCompl
         no_outputs [] (q ∷ qs) lt h = absurd cc
         no_outputs (p ∷ ps) qs lt h = absurd cc
 
-    outputs_inside : (n : ℕ) (e : ManifestEdge) → slice_get m.edges n ≡ Some e → list_any (λ f. nat_le (length (paths_in g.files)) f) (build_at g n e).outputs ≡ false
+    outputs_inside : (n : ℕ) (e : ManifestEdge) → slice_get m.edges n ≡ Some e → list_any (λ f. nat_le (length (paths_in g.files)) f) (build_at rule g n e).outputs ≡ false
     outputs_inside n e at =
-        none_above (length (paths_in g.files)) (build_at g n e).outputs λ f there.
+        none_above (length (paths_in g.files)) (build_at rule g n e).outputs λ f there.
         let p = output_path n e f at there in
         subst (λ (k : ℕ). k < length (paths_in g.files)) p.2 (inside n e p.0 at (append_left (outputs_of e) (inputs_named e) p.0 p.1))
 
-    named_inside : (n : ℕ) (e : ManifestEdge) → slice_get m.edges n ≡ Some e → list_any (λ f. nat_le (length (paths_in g.files)) f) (build_at g n e).named ≡ false
+    named_inside : (n : ℕ) (e : ManifestEdge) → slice_get m.edges n ≡ Some e → list_any (λ f. nat_le (length (paths_in g.files)) f) (build_at rule g n e).named ≡ false
     named_inside n e at =
-        none_above (length (paths_in g.files)) (build_at g n e).named λ f there.
+        none_above (length (paths_in g.files)) (build_at rule g n e).named λ f there.
         let p = named_input n e f at there in
         subst (λ (k : ℕ). k < length (paths_in g.files)) p.2 (inside n e p.0 at (append_right (outputs_of e) (inputs_named e) p.0 p.1))
 
-    ordered_inside : (n : ℕ) (e : ManifestEdge) → slice_get m.edges n ≡ Some e → list_any (λ f. nat_le (length (paths_in g.files)) f) (build_at g n e).order_only ≡ false
+    ordered_inside : (n : ℕ) (e : ManifestEdge) → slice_get m.edges n ≡ Some e → list_any (λ f. nat_le (length (paths_in g.files)) f) (build_at rule g n e).order_only ≡ false
     ordered_inside n e at =
-        none_above (length (paths_in g.files)) (build_at g n e).order_only λ f there.
+        none_above (length (paths_in g.files)) (build_at rule g n e).order_only λ f there.
         let p = ordered_input n e f at there in
         subst (λ (k : ℕ). k < length (paths_in g.files)) p.2 (inside n e p.0 at (append_right (outputs_of e) (inputs_named e) p.0 p.1))
 
     waits_are : (n : ℕ) (e : ManifestEdge) (w : ℕ) (d : ManifestEdge) (f : ℕ) → slice_get m.edges n ≡ Some e → slice_get m.edges w ≡ Some d
-        → is_member f (build_at g n e).named ≡ true → is_member f (build_at g w d).outputs ≡ true → is_member w (row n) ≡ true
+        → is_member f (build_at rule g n e).named ≡ true → is_member f (build_at rule g w d).outputs ≡ true → is_member w (row n) ≡ true
     waits_are n e w d f at there named made =
-        let p = named_input n e f at (member_in f (build_at g n e).named named) in
-        let q = output_path w d f there (member_in f (build_at g w d).outputs made) in
+        let p = named_input n e f at (member_in f (build_at rule g n e).named named) in
+        let q = output_path w d f there (member_in f (build_at rule g w d).outputs made) in
         let same : p.0 ≡ q.0 =
         one_path n w e d p.0 q.0 f at there (append_right (outputs_of e) (inputs_named e) p.0 p.1) (append_left (outputs_of d) (inputs_named d) q.0 q.1) p.2 q.2 in
         let producer : producer_of m.edges p.0 ≡ Some w = ap (λ (path : Path). producer_of m.edges path) same ∙ graph.own w d q.0 there (contained (outputs_of d) q.0 q.1) in
@@ -362,13 +363,13 @@ module _ (m : Manifest) (g : Graph) (graph : IsGraph m g) (complete : FilesCompl
         waits_for n w (waited m.edges n w e p.0 at (contained (inputs_of e) p.0 real) producer)
 
     ranks_are : (n : ℕ) (e : ManifestEdge) (w : ℕ) → slice_get m.edges n ≡ Some e → is_member w (row n) ≡ true
-        → (y : Build) × IsEdge (builds m g) w y × (nat_lt y.rank (build_at g n e).rank ≡ true)
+        → (y : Build) × IsEdge (builds rule m g) w y × (nat_lt y.rank (build_at rule g n e).rank ≡ true)
     ranks_are n e w at h =
         let d = some_edge w (wait_inside n w h) in
-        (build_at g w d.0, build_is w d.0 d.1, lt-ltb (slice_index g.ranks w) (slice_index g.ranks n) (rise g.waits g.ranks n w graph.ranks (for_waits n w h)))
+        (build_at rule g w d.0, build_is w d.0 d.1, lt-ltb (slice_index g.ranks w) (slice_index g.ranks n) (rise g.waits g.ranks n w graph.ranks (for_waits n w h)))
 
     made_once : (n : ℕ) (e : ManifestEdge) (i : ℕ) (k : ℕ) (d : ManifestEdge) (j : ℕ) (f : ℕ) → slice_get m.edges n ≡ Some e → slice_get m.edges k ≡ Some d
-        → slice_get (build_at g n e).outputs i ≡ Some f → slice_get (build_at g k d).outputs j ≡ Some f → (n ≡ k) × (i ≡ j)
+        → slice_get (build_at rule g n e).outputs i ≡ Some f → slice_get (build_at rule g k d).outputs j ≡ Some f → (n ≡ k) × (i ≡ j)
     made_once n e i k d j f at there a b =
         let p = place (outputs_of e) i f (ap (λ (fs : List ℕ). slice_get fs i) (sym (outputs_are n e at)) ∙ a) in
         let q = place (outputs_of d) j f (ap (λ (fs : List ℕ). slice_get fs j) (sym (outputs_are k d there)) ∙ b) in
@@ -389,16 +390,16 @@ module _ (m : Manifest) (g : Graph) (graph : IsGraph m g) (complete : FilesCompl
         place (p ∷ ps) zero f h = (p, refl, some_is (number_of table p) f h)
         place (p ∷ ps) (suc x) f h = place ps x f h
 
-    defaults_inside : list_any (λ e. nat_le (length (builds_from g 0 m.edges)) e) g.defaults ≡ false
+    defaults_inside : list_any (λ e. nat_le (length (builds_from rule g 0 m.edges)) e) g.defaults ≡ false
     defaults_inside =
         let all : All (λ n. n < length m.edges) g.defaults = subst (λ (ds : List ℕ). All (λ n. n < length m.edges) ds) (sym graph.defaults) (within m.edges m.defaults).1 in
-        let long : length (builds_from g 0 m.edges) ≡ length m.edges = builds_length g 0 m.edges in
-        none_above (length (builds_from g 0 m.edges)) g.defaults λ f there.
+        let long : length (builds_from rule g 0 m.edges) ≡ length m.edges = builds_length rule g 0 m.edges in
+        none_above (length (builds_from rule g 0 m.edges)) g.defaults λ f there.
         let at = get_in g.defaults f there in
         let lt : f < length m.edges = of_all (λ n. n < length m.edges) g.defaults at.0 f all at.1 in
         omega (arith, lt, long)
 
-    pub sound : IsSound (builds m g)
+    pub sound : IsSound (builds rule m g)
     sound = record {
       makes = λ n x at. at_edge (λ k y. y.outputs ≡ [] → ⊥) makes n x at;
       outputs = λ n x at. at_edge (λ k y. list_any (λ f. nat_le (length (paths_in g.files)) f) y.outputs ≡ false) outputs_inside n x at;
@@ -406,13 +407,13 @@ module _ (m : Manifest) (g : Graph) (graph : IsGraph m g) (complete : FilesCompl
       order_only = λ n x at. at_edge (λ k y. list_any (λ f. nat_le (length (paths_in g.files)) f) y.order_only ≡ false) ordered_inside n x at;
       waits = λ n x w y f at there.
           at_edge (λ k z. is_member f z.named ≡ true → is_member f y.outputs ≡ true → is_member w z.waits ≡ true)
-          (λ k e here. at_edge (λ v z. is_member f (build_at g k e).named ≡ true → is_member f z.outputs ≡ true → is_member v (row k) ≡ true) (λ v d other. waits_are k e v d f here other) w y there)
+          (λ k e here. at_edge (λ v z. is_member f (build_at rule g k e).named ≡ true → is_member f z.outputs ≡ true → is_member v (row k) ≡ true) (λ v d other. waits_are k e v d f here other) w y there)
           n x at;
       ranks = λ n x w at.
-          at_edge (λ k z. is_member w z.waits ≡ true → (y : Build) × IsEdge (builds m g) w y × (nat_lt y.rank z.rank ≡ true)) (λ k e here. ranks_are k e w here) n x at;
+          at_edge (λ k z. is_member w z.waits ≡ true → (y : Build) × IsEdge (builds rule m g) w y × (nat_lt y.rank z.rank ≡ true)) (λ k e here. ranks_are k e w here) n x at;
       once = λ n x i k y j f at there.
           at_edge (λ v z. slice_get z.outputs i ≡ Some f → slice_get y.outputs j ≡ Some f → (v ≡ k) × (i ≡ j))
-          (λ v e here. at_edge (λ u z. slice_get (build_at g v e).outputs i ≡ Some f → slice_get z.outputs j ≡ Some f → (v ≡ u) × (i ≡ j)) (λ u d other. made_once v e i u d j f here other) k y there)
+          (λ v e here. at_edge (λ u z. slice_get (build_at rule g v e).outputs i ≡ Some f → slice_get z.outputs j ≡ Some f → (v ≡ u) × (i ≡ j)) (λ u d other. made_once v e i u d j f here other) k y there)
           n x at;
       defaults = defaults_inside;
     }

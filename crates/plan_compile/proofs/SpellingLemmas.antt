@@ -14,6 +14,7 @@ use Rattle.plan_image.specs.declared.image.Edge.{Edge}
 use Rattle.plan_image.specs.Bodies.{body_of, IsSplit, opens}
 use Rattle.plan_image.specs.Code.{HasBody}
 use Rattle.plan_image.specs.Spelling.{AscendsFrom, IsFilled, IsInOrder}
+use Rattle.plan_compile.specs.declared.baseline.OutOfDateRule.{OutOfDateRule}
 use Rattle.plan_compile.specs.BodyKeys.{Body, same_body}
 use Rattle.plan_compile.specs.Builds.{Build, Builds, builds, builds_from}
 use Rattle.plan_compile.specs.Images.{codes, compiled, edges_of, image_of, shared, used_bodies}
@@ -30,9 +31,9 @@ use Rattle.plan_compile.proofs.NumberingLemmas.{found}
 ascending : (xs : List ℕ) → IsStrictlyIncreasing xs → AscendsFrom 0 xs
 ascending xs h = rises_from 0 xs (λ some. omega arith) h
 
-builds_in_order : (g : Graph) (n : ℕ) (es : List ManifestEdge) → ((k : ℕ) → AscendsFrom 0 (get_or g.waits k [])) → AllByRecursion (λ (x : Build). AscendsFrom 0 x.waits) (builds_from g n es)
-builds_in_order g n [] h = tt
-builds_in_order g n (e ∷ es) h = (h n, builds_in_order g (suc n) es h)
+builds_in_order : (rule : OutOfDateRule) (g : Graph) (n : ℕ) (es : List ManifestEdge) → ((k : ℕ) → AscendsFrom 0 (get_or g.waits k [])) → AllByRecursion (λ (x : Build). AscendsFrom 0 x.waits) (builds_from rule g n es)
+builds_in_order rule g n [] h = tt
+builds_in_order rule g n (e ∷ es) h = (h n, builds_in_order rule g (suc n) es h)
 
 edges_in_order : (texts pools : List Text) (bodies : List Body) (all : List (List Instr)) (xs : List Build) → AllByRecursion (λ (x : Build). AscendsFrom 0 x.waits) xs
     → AllByRecursion (λ (y : Edge). AscendsFrom 0 y.waits) (edges_of texts pools bodies all xs)
@@ -40,18 +41,18 @@ edges_in_order texts pools bodies [] xs h = tt
 edges_in_order texts pools bodies (is ∷ all) [] h = tt
 edges_in_order texts pools bodies (is ∷ all) (x ∷ xs) h = (h.0, edges_in_order texts pools bodies all xs h.1)
 
-module _ (m : Manifest) (g : Graph) (graph : IsGraph m g) where
+module _ (rule : OutOfDateRule) (m : Manifest) (g : Graph) (graph : IsGraph m g) where
   waits_ascend : WaitsAscend → (k : ℕ) → AscendsFrom 0 (get_or g.waits k [])
   waits_ascend ascend k = subst (λ (rows : List (List ℕ)). AscendsFrom 0 (get_or rows k [])) (sym graph.waits) (ascending _ (ascend m.edges k).0)
 
   defaults_ascend : DefaultsAscend → AscendsFrom 0 g.defaults
   defaults_ascend ascend = subst (λ (ds : List ℕ). AscendsFrom 0 ds) (sym graph.defaults) (ascending _ (ascend m.edges m.defaults).0)
 
-  in_order : WaitsAscend → DefaultsAscend → IsInOrder (compiled m g)
+  in_order : WaitsAscend → DefaultsAscend → IsInOrder (compiled rule m g)
   in_order waits defaults =
-      let xs : List Build = (builds m g).edges in
+      let xs : List Build = (builds rule m g).edges in
       record {
-        waits = edges_in_order (all_texts xs) (used_pools xs) (used_bodies (codes xs)) (codes xs) xs (builds_in_order g 0 m.edges (waits_ascend waits));
+        waits = edges_in_order (all_texts xs) (used_pools xs) (used_bodies (codes xs)) (codes xs) xs (builds_in_order rule g 0 m.edges (waits_ascend waits));
         defaults = defaults_ascend defaults;
       }
 
@@ -77,4 +78,4 @@ filled : IsSplit → (t : Builds) → IsFilled (image_of t)
 filled split t = edges_filled (all_texts t.edges) (used_pools t.edges) (used_bodies (codes t.edges)) (codes t.edges) t.edges (has_body split (codes t.edges))
 
 pub image_is_spelled : IsSplit → WaitsAscend → DefaultsAscend → ImageIsSpelled
-image_is_spelled split waits defaults m g graph within = record { limits = within; order = in_order m g graph waits defaults; filled = filled split (builds m g) }
+image_is_spelled split waits defaults rule m g graph within = record { limits = within; order = in_order rule m g graph waits defaults; filled = filled split (builds rule m g) }

@@ -5,6 +5,7 @@ use Rattle.std.proofs.lemmas.Bool.{eqb-true, eq-eqb}
 use Rattle.plan_image.specs.declared.image.Parts.{Parts}
 use Rattle.plan_verify.specs.Members.{is_member}
 use Rattle.plan_verify.specs.Turn.{Slots, Meaning}
+use Rattle.plan_compile.specs.declared.baseline.Baseline.TheVariants as baseline
 use Rattle.plan_compile.specs.declared.wiring.Output.{Output}
 use Rattle.plan_compile.specs.declared.form.Form.{Form}
 use Rattle.plan_compile.specs.declared.form.Form.TheVariants.{OneFlag, OwnFlags, Gathers, Alone}
@@ -102,7 +103,7 @@ module _ (t : Builds) (slots : Slots) where
 
     -- a phony, by what is given
     abbrev phony_like : List Given → List Path → Command
-    phony_like named outputs = record { named = named; order_only = order_only; outputs = outputs; command = []; depfile = []; restat = false; generator = false }
+    phony_like named outputs = record { named = named; order_only = order_only; outputs = outputs; command = []; depfile = []; restat = false; generator = false; baseline = baseline.Outputs }
 
     command_told : (form : Form) → x.edge.phony ≡ false
         → command_of (image_of t) slots (command_wiring (all_texts t.edges) (all_made zero t.edges) form (base t.edges e) x) order_only ≡ facts t slots x

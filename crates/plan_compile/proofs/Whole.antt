@@ -11,16 +11,18 @@ use Rattle.plan_verify.specs.declared.value.Value.{Value}
 use Rattle.plan_verify.specs.declared.value.Value.TheVariants.{Stamp, Flag, Text, Paths, Swept}
 use Rattle.plan_verify.specs.Members.{is_member}
 use Rattle.plan_verify.specs.Tables.{own_slots, owned_by}
-use Rattle.plan_verify.specs.Turn.{Slots, is_set, Meaning, same_text}
+use Rattle.plan_verify.specs.Turn.{Slots, is_set, Meaning, same_text, earlier}
+use Rattle.plan_compile.specs.declared.baseline.Baseline.{Baseline}
+use Rattle.plan_compile.specs.declared.baseline.Baseline.TheVariants.{Outputs, Basis, OutputsAndBasis}
 use Rattle.plan_compile.specs.declared.wiring.Output.{Output}
 use Rattle.plan_compile.specs.declared.wiring.CommandWiring.{CommandWiring}
 use Rattle.plan_compile.specs.Talk.{Left, Talk, Over}
 use Rattle.plan_compile.specs.Rule.{Path, Given, Command, Recorded, greatest_from, greatest, least, some_missing, some_changed, is_new, baseline, paths_in, is_dirty, name, unchanged, changed, depfile, stamps, runs}
-use Rattle.plan_compile.specs.Emit.{has_source_file, holders, alarm_code, deps_code, after_code, ready_code, skip_code, clean_code, clean_len, run_code, dirty_code, judge_code, other_code, same_code}
+use Rattle.plan_compile.specs.Emit.{compares_basis, has_source_file, holders, oldest_code, alarm_code, deps_code, after_code, under_code, ready_code, skip_code, clean_code, clean_len, run_code, dirty_code, judge_code, other_code, same_code}
 use Rattle.plan_compile.specs.Means.{text_at, output_path, depfile_text, command_of, Leaves, slots_of, HaveFlagSlots}
 use Rattle.plan_compile.proofs.Wired.{HasText, Wired, some_flag, or_cases}
 use Rattle.plan_compile.proofs.Machine.{From, plain, load, text, run, deps, keep, sweep_all, take_place, release_place, jump, jump_if, finish, missing_from, entry_values}
-use Rattle.plan_compile.proofs.Folds.{Hold, AreMatched, IsPositive, stored, flagged, stat_all, flag_all, alarm_of, alarm_all}
+use Rattle.plan_compile.proofs.Folds.{Hold, AreMatched, IsPositive, stored, flagged, stat_all, flag_all, oldest_all, alarm_of, alarm_all}
 use Rattle.plan_compile.proofs.SlotFacts.{stored_length, stored_other, stored_hold, flagged_other, holders_leave, holders_writable, holders_no_flag, filled, left_set, all_set}
 use Rattle.plan_compile.proofs.Judging.{greatest_app, changed_plain, depfile_asks, basis_in, missing_least, dirty_is, dirty_new, dirty_unlooked}
 use Rattle.plan_compile.proofs.Placed.{placed, placed_other, placed_leaves, restat_all}
@@ -36,9 +38,19 @@ pub app_long : (xs ys : List Instr) → length ys ≤ length (xs ++ ys)
 app_long [] ys = omega arith
 app_long (x ∷ xs) ys = let h : length ys ≤ length (xs ++ ys) = app_long xs ys in omega (arith, h)
 
-pub ready_long : (restat : Bool) (w : CommandWiring) (rest : List Instr) → length rest ≤ length (ready_code restat w rest)
-ready_long true w rest = let h : suc (length rest) ≤ length (alarm_code true w.outputs w.flags ++ (op.Swap ∷ rest)) = app_long (alarm_code true w.outputs w.flags) (op.Swap ∷ rest) in omega (arith, h)
-ready_long false w rest = omega arith
+pub under_long : (looks : Bool) (w : CommandWiring) (rest : List Instr) → length rest ≤ length (under_code looks w rest)
+under_long looks w rest =
+    let h : suc (length rest) ≤ length (alarm_code looks w.outputs w.flags ++ (op.Swap ∷ rest)) = app_long (alarm_code looks w.outputs w.flags) (op.Swap ∷ rest) in
+    omega (arith, h)
+
+pub ready_long : (b : Baseline) (w : CommandWiring) (rest : List Instr) → length rest ≤ length (ready_code b w rest)
+ready_long Outputs w rest = omega arith
+ready_long Basis w rest = under_long true w rest
+ready_long OutputsAndBasis w rest =
+    let looks : Bool = not (has_source_file w.named) in
+    let h : length (op.Older ∷ under_code looks w rest) ≤ length (oldest_code w.outputs ++ (op.Older ∷ under_code looks w rest)) = app_long (oldest_code w.outputs) (op.Older ∷ under_code looks w rest) in
+    let l : length rest ≤ length (under_code looks w rest) = under_long looks w rest in
+    omega (arith, h, l)
 
 pub hold_some : (slots : Slots) (os : List Output) (ts : List ℕ) → Hold slots os ts → (os ≡ [] → ⊥) → ts ≡ [] → ⊥
 hold_some slots [] ts hold some none = some refl
@@ -180,62 +192,88 @@ module _ (meaning : Meaning) (p : Parts) (e : ℕ) (w : CommandWiring) (start : 
       (λ late. subst (λ (d : Bool). From meaning p e L (run_code w) [] slots false false (ends_as named old d)) (sym (is ∙ (ap (λ (y : Bool). y || x) off ∙ late))) (runs_all slots named old ready hold))
       (λ early. clean_all slots named old (is_dirty c named old entry ts) (dirty_code w) ready hold (is ∙ (ap (λ (y : Bool). y || x) off ∙ early))))))
 
-  -- the alarm of the edge
-  abbrev pub looks : Bool → Bool
-  looks r = r || not (has_source_file w.named)
+  -- the alarm of the edge: the outputs are looked at if the baseline may be later than the oldest one, or if no source
+  -- file is named
+  abbrev pub looks : Baseline → (has : Bool) → Bool
+  looks Outputs has = not has
+  looks Basis has = true
+  looks OutputsAndBasis has = not has
 
-  abbrev pub alarm : Bool → List ℕ → Bool
-  alarm r old = alarm_of meaning p e L (looks r) old (some_flag start w.flags)
+  abbrev pub alarm_by : Bool → List ℕ → Bool
+  alarm_by l old = alarm_of meaning p e L l old (some_flag start w.flags)
+
+  abbrev pub alarm : Baseline → List ℕ → Bool
+  alarm b old = alarm_by (looks b (has_source_file w.named)) old
 
   -- with a look at the outputs
   pub weighs_looked : (named old : List ℕ) (entry : Option Recorded) (a : Bool) (m : ℕ) → (old ≡ [] → ⊥) → (not c.generator && is_new c.command entry) ≡ false
-      → a ≡ ((least old == 0) || some_flag start w.flags) → m ≡ baseline c.restat old entry → Weighs named old entry a m
+      → a ≡ ((least old == 0) || some_flag start w.flags) → m ≡ baseline c.baseline old entry → Weighs named old entry a m
   weighs_looked named old entry a m some same alarm_is baseline_is ts =
       let g : ℕ = greatest_from (greatest named) ts in
       let full : a ≡ (some_missing old || some_changed c.named) = alarm_is ∙ (ap (λ (b : Bool). b || some_flag start w.flags) (missing_least old some) ∙ ap (λ (b : Bool). some_missing old || b) wired.flags_are) in
       dirty_is c named old entry ts same
-      ∙ (ap (λ (b : Bool). missing_from b ts || nat_lt (baseline c.restat old entry) g) (sym full) ∙ ap (λ (n : ℕ). missing_from a ts || nat_lt n g) (sym baseline_is))
+      ∙ (ap (λ (b : Bool). missing_from b ts || nat_lt (baseline c.baseline old entry) g) (sym full) ∙ ap (λ (n : ℕ). missing_from a ts || nat_lt n g) (sym baseline_is))
 
   -- without one
   pub weighs_unlooked : (named old : List ℕ) (entry : Option Recorded) (a : Bool) (m : ℕ) → (old ≡ [] → ⊥) → (not c.generator && is_new c.command entry) ≡ false
-      → w.restat ≡ false → 0 < greatest named → a ≡ some_flag start w.flags → m ≡ baseline c.restat old entry → Weighs named old entry a m
+      → (w.baseline ≡ Basis → ⊥) → 0 < greatest named → a ≡ some_flag start w.flags → m ≡ baseline c.baseline old entry → Weighs named old entry a m
   weighs_unlooked named old entry a m some same plain positive alarm_is baseline_is ts =
       let g : ℕ = greatest_from (greatest named) ts in
       dirty_unlooked c named old entry ts same plain some positive
-      ∙ (ap (λ (b : Bool). missing_from b ts || nat_lt (baseline c.restat old entry) g) (sym (alarm_is ∙ wired.flags_are)) ∙ ap (λ (n : ℕ). missing_from a ts || nat_lt n g) (sym baseline_is))
+      ∙ (ap (λ (b : Bool). missing_from b ts || nat_lt (baseline c.baseline old entry) g) (sym (alarm_is ∙ wired.flags_are)) ∙ ap (λ (n : ℕ). missing_from a ts || nat_lt n g) (sym baseline_is))
 
-  pub weighs : (r h : Bool) → w.restat ≡ r → has_source_file w.named ≡ h → (named old : List ℕ) (entry : Option Recorded) (m : ℕ) → (old ≡ [] → ⊥) → (not c.generator && is_new c.command entry) ≡ false
-      → IsPositive w.named (greatest named) → m ≡ baseline c.restat old entry → Weighs named old entry (alarm_of meaning p e L (r || not h) old (some_flag start w.flags)) m
-  weighs true h is has named old entry m some same positive baseline_is = weighs_looked named old entry _ m some same refl baseline_is
-  weighs false true is has named old entry m some same positive baseline_is = weighs_unlooked named old entry _ m some same is (positive has) refl baseline_is
-  weighs false false is has named old entry m some same positive baseline_is = weighs_looked named old entry _ m some same refl baseline_is
+  pub weighs : (b : Baseline) (h : Bool) → w.baseline ≡ b → has_source_file w.named ≡ h → (named old : List ℕ) (entry : Option Recorded) (m : ℕ) → (old ≡ [] → ⊥) → (not c.generator && is_new c.command entry) ≡ false
+      → IsPositive w.named (greatest named) → m ≡ baseline c.baseline old entry → Weighs named old entry (alarm_by (looks b h) old) m
+  weighs Basis h is has named old entry m some same positive baseline_is = weighs_looked named old entry _ m some same refl baseline_is
+  weighs Outputs true is has named old entry m some same positive baseline_is = weighs_unlooked named old entry _ m some same (λ other. absurd cc) (positive has) refl baseline_is
+  weighs Outputs false is has named old entry m some same positive baseline_is = weighs_looked named old entry _ m some same refl baseline_is
+  weighs OutputsAndBasis true is has named old entry m some same positive baseline_is = weighs_unlooked named old entry _ m some same (λ other. absurd cc) (positive has) refl baseline_is
+  weighs OutputsAndBasis false is has named old entry m some same positive baseline_is = weighs_looked named old entry _ m some same refl baseline_is
 
   -- what stands below the recorded paths
   abbrev pub below : Bool → List ℕ → ℕ → List Value
   below true old n = []
-  below false old n = Flag (alarm false old) ∷ Stamp n ∷ Stamp (least old) ∷ []
+  below false old n = Flag (alarm Outputs old) ∷ Stamp n ∷ Stamp (least old) ∷ []
 
   pub below_roomy : (r : Bool) (old : List ℕ) (n : ℕ) → IsRoomy (below r old n)
   below_roomy true old n = refl
   below_roomy false old n = refl
 
-  -- from where the baseline is known and the command isn't another
-  pub judged_by : (r : Bool) → w.restat ≡ r → (rest : List Instr) (talk : Talk) (slots : Slots) (named old : List ℕ) (entry : Option Recorded) (b : ℕ) → Ready slots named → Hold slots w.outputs old
-      → (r ≡ true → b ≡ baseline c.restat old entry)
-      → ((m : ℕ) → m ≡ baseline c.restat old entry → From meaning p e L rest (Paths 0 (paths_in entry) ∷ Flag (alarm r old) ∷ Stamp (greatest named) ∷ Stamp m ∷ []) slots false false talk)
-      → From meaning p e L (ready_code r w rest) (Stamp b ∷ Paths 0 (paths_in entry) ∷ below r old (greatest named)) slots false false talk
-  judged_by true is rest talk slots named old entry b ready hold known h =
-      let ps : List Path = paths_in entry in
+  -- what is asked of the stamp over the paths: the baseline is that stamp, or the earlier of it and the oldest output
+  abbrev pub Gives : Baseline → (over : ℕ) → List ℕ → Option Recorded → Type 0
+  Gives Outputs over old entry = Unit {0}
+  Gives Basis over old entry = over ≡ baseline Basis old entry
+  Gives OutputsAndBasis over old entry = earlier over (least old) ≡ baseline OutputsAndBasis old entry
+
+  -- from a baseline over the paths
+  pub under_all : (l : Bool) (rest : List Instr) (talk : Talk) (slots : Slots) (named old : List ℕ) (ps : List Path) (m : ℕ) → Ready slots named → Hold slots w.outputs old
+      → From meaning p e L rest (Paths 0 ps ∷ Flag (alarm_by l old) ∷ Stamp (greatest named) ∷ Stamp m ∷ []) slots false false talk
+      → From meaning p e L (under_code l w rest) (Stamp m ∷ Paths 0 ps ∷ []) slots false false talk
+  under_all l rest talk slots named old ps m ready hold h =
       let n : ℕ = greatest named in
-      plain meaning p e L op.Swap (Stamp b ∷ Paths 0 ps ∷ []) (Paths 0 ps ∷ Stamp b ∷ []) (λ l. refl) refl refl
+      let a : Bool = alarm_by l old in
+      plain meaning p e L op.Swap (Stamp m ∷ Paths 0 ps ∷ []) (Paths 0 ps ∷ Stamp m ∷ []) (λ l. refl) refl refl
       (load meaning p e L w.newest (Stamp n) ready.newest refl
-      (plain meaning p e L op.Swap (Stamp n ∷ Paths 0 ps ∷ Stamp b ∷ []) (Paths 0 ps ∷ Stamp n ∷ Stamp b ∷ []) (λ l. refl) refl refl
-      (alarm_all meaning p e L true w.outputs old w.flags start (Paths 0 ps ∷ Stamp n ∷ Stamp b ∷ []) refl hold wired.flags ready.foreign
-      (plain meaning p e L op.Swap (Flag (alarm true old) ∷ Paths 0 ps ∷ Stamp n ∷ Stamp b ∷ []) (Paths 0 ps ∷ Flag (alarm true old) ∷ Stamp n ∷ Stamp b ∷ []) (λ l. refl) refl refl
-      (h b (known refl))))))
-  judged_by false is rest talk slots named old entry b ready hold known h =
-      plain meaning p e L op.Drop (Stamp b ∷ Paths 0 (paths_in entry) ∷ below false old (greatest named)) (Paths 0 (paths_in entry) ∷ below false old (greatest named)) (λ l. refl) refl refl
-      (h (least old) (sym (ap (λ (r : Bool). baseline r old entry) is)))
+      (plain meaning p e L op.Swap (Stamp n ∷ Paths 0 ps ∷ Stamp m ∷ []) (Paths 0 ps ∷ Stamp n ∷ Stamp m ∷ []) (λ l. refl) refl refl
+      (alarm_all meaning p e L l w.outputs old w.flags start (Paths 0 ps ∷ Stamp n ∷ Stamp m ∷ []) refl hold wired.flags ready.foreign
+      (plain meaning p e L op.Swap (Flag a ∷ Paths 0 ps ∷ Stamp n ∷ Stamp m ∷ []) (Paths 0 ps ∷ Flag a ∷ Stamp n ∷ Stamp m ∷ []) (λ l. refl) refl refl h))))
+
+  -- from where the stamp over the paths is known and the command isn't another
+  pub judged_by : (b : Baseline) → w.baseline ≡ b → (rest : List Instr) (talk : Talk) (slots : Slots) (named old : List ℕ) (entry : Option Recorded) (over : ℕ) → Ready slots named → Hold slots w.outputs old
+      → Gives b over old entry
+      → ((m : ℕ) → m ≡ baseline c.baseline old entry → From meaning p e L rest (Paths 0 (paths_in entry) ∷ Flag (alarm b old) ∷ Stamp (greatest named) ∷ Stamp m ∷ []) slots false false talk)
+      → From meaning p e L (ready_code b w rest) (Stamp over ∷ Paths 0 (paths_in entry) ∷ below (compares_basis b) old (greatest named)) slots false false talk
+  judged_by Outputs is rest talk slots named old entry over ready hold known h =
+      plain meaning p e L op.Drop (Stamp over ∷ Paths 0 (paths_in entry) ∷ below false old (greatest named)) (Paths 0 (paths_in entry) ∷ below false old (greatest named)) (λ l. refl) refl refl
+      (h (least old) (sym (ap (λ (b : Baseline). baseline b old entry) is)))
+  judged_by Basis is rest talk slots named old entry over ready hold known h =
+      under_all true rest talk slots named old (paths_in entry) over ready hold (h over (known ∙ sym (ap (λ (b : Baseline). baseline b old entry) is)))
+  judged_by OutputsAndBasis is rest talk slots named old entry over ready hold known h =
+      let ps : List Path = paths_in entry in
+      let m : ℕ = earlier over (least old) in
+      oldest_all meaning p e L w.outputs old (Stamp over ∷ Paths 0 ps ∷ []) refl hold
+      (plain meaning p e L op.Older (Stamp (least old) ∷ Stamp over ∷ Paths 0 ps ∷ []) (Stamp m ∷ Paths 0 ps ∷ []) (λ l. refl) refl refl
+      (under_all (not (has_source_file w.named)) rest talk slots named old ps m ready hold (h m (known ∙ sym (ap (λ (b : Baseline). baseline b old entry) is)))))
 
   -- where the recorded command is another, the paths are swept all the same
   pub skip_all : (r : Bool) (rest : List Instr) (talk : Talk) (slots : Slots) (old : List ℕ) (ps : List Path) (b n : ℕ)
@@ -248,14 +286,14 @@ module _ (meaning : Meaning) (p : Parts) (e : ℕ) (w : CommandWiring) (start : 
       (plain meaning p e L (op.Flag false) (Paths 0 ps ∷ Stamp 0 ∷ Stamp b ∷ []) (Flag false ∷ Paths 0 ps ∷ Stamp 0 ∷ Stamp b ∷ []) (λ l. refl) refl refl
       (plain meaning p e L op.Swap (Flag false ∷ Paths 0 ps ∷ Stamp 0 ∷ Stamp b ∷ []) (Paths 0 ps ∷ Flag false ∷ Stamp 0 ∷ Stamp b ∷ []) (λ l. refl) refl refl (h false 0 b)))))
   skip_all false rest talk slots old ps b n h =
-      plain meaning p e L op.Drop (Stamp b ∷ Paths 0 ps ∷ below false old n) (Paths 0 ps ∷ below false old n) (λ l. refl) refl refl (h (alarm false old) n (least old))
+      plain meaning p e L op.Drop (Stamp b ∷ Paths 0 ps ∷ below false old n) (Paths 0 ps ∷ below false old n) (λ l. refl) refl refl (h (alarm Outputs old) n (least old))
 
   pub other_all : (rest : List Instr) (d : ℕ) (slots : Slots) (named old : List ℕ) (entry : Option Recorded) (b n : ℕ) → Ready slots named → Hold slots w.outputs old
       → (not c.generator && is_new c.command entry) ≡ true → drop d (code p e) ≡ dirty_code w → length (dirty_code w) ≤ length rest
-      → From meaning p e L (other_code w d rest) (Stamp b ∷ Paths 0 (paths_in entry) ∷ below w.restat old n) slots false false
+      → From meaning p e L (other_code w d rest) (Stamp b ∷ Paths 0 (paths_in entry) ∷ below (compares_basis w.baseline) old n) slots false false
       (stamps (paths_in entry) (λ swept. ends_as named old (is_dirty c named old entry swept)))
   other_all rest d slots named old entry b n ready hold fresh dirty_at le =
-      skip_all w.restat (op.Sweep ∷ op.Drop ∷ op.Drop ∷ op.Jump d ∷ rest) _ slots old (paths_in entry) b n λ a x y.
+      skip_all (compares_basis w.baseline) (op.Sweep ∷ op.Drop ∷ op.Drop ∷ op.Jump d ∷ rest) _ slots old (paths_in entry) b n λ a x y.
       sweep_all meaning p e L (paths_in entry) _ (paths_in entry) 0 a x refl refl λ ts.
       plain meaning p e L op.Drop (Swept (paths_in entry) ∷ Flag (missing_from a ts) ∷ Stamp (greatest_from x ts) ∷ Stamp y ∷ []) (Flag (missing_from a ts) ∷ Stamp (greatest_from x ts) ∷ Stamp y ∷ []) (λ l. refl) refl refl
       (plain meaning p e L op.Drop (Flag (missing_from a ts) ∷ Stamp (greatest_from x ts) ∷ Stamp y ∷ []) (Stamp (greatest_from x ts) ∷ Stamp y ∷ []) (λ l. refl) refl refl

@@ -30,6 +30,7 @@ command_in numbers table newest x = record {
   depfile = numbers.depfile;
   restat = x.edge.restat;
   generator = x.edge.generator;
+  baseline = x.baseline;
 }
 
 abbrev pub first_changed : List Output → ℕ

@@ -6,8 +6,12 @@ use Rattle.plan_scope.specs.declared.manifest.Manifest.{Manifest}
 use Rattle.plan_graph.specs.declared.graph_data.Graph.{Graph}
 use Rattle.plan_graph.specs.Files.{Table, paths_in, producer_at}
 use Rattle.plan_verify.specs.Members.{is_member}
+use Rattle.plan_compile.specs.declared.baseline.Baseline.{Baseline}
+use Rattle.plan_compile.specs.declared.baseline.OutOfDateRule.{OutOfDateRule}
+use Rattle.plan_compile.specs.Rule.{baseline_by}
 
--- an edge: what its manifest says of it, the numbers of its files, the edges that it waits for, and its rank
+-- an edge: what its manifest says of it, the numbers of its files, the edges that it waits for, its rank, and its
+-- baseline
 pub record Build : Type 0 where
   pub edge : ManifestEdge
   pub outputs : List ℕ
@@ -16,6 +20,7 @@ pub record Build : Type 0 where
   pub order_only : List ℕ
   pub waits : List ℕ
   pub rank : ℕ
+  pub baseline : Baseline
 
 -- no edge of a manifest
 abbrev pub no_edge : ManifestEdge
@@ -39,35 +44,36 @@ without_own false outputs inputs = inputs
 abbrev pub named_count : ManifestEdge → List ℕ → ℕ
 named_count e inputs = length inputs - length e.paths.order_only_inputs
 
--- an edge with these rows of a graph
-abbrev pub build_of : ManifestEdge → (outputs inputs waits : List ℕ) → (rank : ℕ) → Build
-build_of e outputs inputs waits rank = record {
+-- an edge with these rows of a graph, by that rule
+abbrev pub build_of : OutOfDateRule → ManifestEdge → (outputs inputs waits : List ℕ) → (rank : ℕ) → Build
+build_of rule e outputs inputs waits rank = record {
   edge = e;
   outputs = outputs;
   named = without_own e.phony outputs (take (named_count e inputs) inputs);
   order_only = without_own e.phony outputs (drop (named_count e inputs) inputs);
   waits = waits;
   rank = rank;
+  baseline = baseline_by e.restat e.generator rule;
 }
 
 -- the edge of that number
-abbrev pub build_at : Graph → ℕ → ManifestEdge → Build
-build_at g n e = build_of e (get_or g.outputs n []) (get_or g.inputs n []) (get_or g.waits n []) (slice_index g.ranks n)
+abbrev pub build_at : OutOfDateRule → Graph → ℕ → ManifestEdge → Build
+build_at rule g n e = build_of rule e (get_or g.outputs n []) (get_or g.inputs n []) (get_or g.waits n []) (slice_index g.ranks n)
 
 -- edges, the first of which has the number n
-abbrev pub builds_from : Graph → ℕ → List ManifestEdge → List Build
-builds_from g n [] = []
-builds_from g n (e ∷ es) = build_at g n e ∷ builds_from g (suc n) es
+abbrev pub builds_from : OutOfDateRule → Graph → ℕ → List ManifestEdge → List Build
+builds_from rule g n [] = []
+builds_from rule g n (e ∷ es) = build_at rule g n e ∷ builds_from rule g (suc n) es
 
--- what an image is made from
+-- what an image is made from: the edges have their baselines by the rule that it is compiled for
 pub record Builds : Type 0 where
   pub files : List (List ℕ)
   pub edges : List Build
   pub pools : List ManifestPool
   pub defaults : List ℕ
 
-abbrev pub builds : Manifest → Graph → Builds
-builds m g = record { files = paths_in g.files; edges = builds_from g 0 m.edges; pools = m.pools; defaults = g.defaults }
+abbrev pub builds : OutOfDateRule → Manifest → Graph → Builds
+builds rule m g = record { files = paths_in g.files; edges = builds_from rule g 0 m.edges; pools = m.pools; defaults = g.defaults }
 
 -- the edge is the one that makes a file
 abbrev pub is_maker : Option ℕ → ℕ → Bool

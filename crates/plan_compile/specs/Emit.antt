@@ -5,6 +5,8 @@ use Rattle.plan_image.specs.declared.instr.Instr.{Instr}
 use Rattle.plan_image.specs.declared.instr.Instr.TheVariants as op
 use Rattle.plan_compile.specs.declared.fault.CompileFault.{CompileFault}
 use Rattle.plan_compile.specs.declared.fault.CompileFault.TheVariants.{Limit}
+use Rattle.plan_compile.specs.declared.baseline.Baseline.{Baseline}
+use Rattle.plan_compile.specs.declared.baseline.Baseline.TheVariants.{Outputs, Basis, OutputsAndBasis}
 use Rattle.plan_compile.specs.declared.wiring.Input.{Input}
 use Rattle.plan_compile.specs.declared.wiring.Input.TheVariants.{File, Made}
 use Rattle.plan_compile.specs.declared.wiring.Output.{Output}
@@ -94,15 +96,22 @@ after_code false os rest = stat_code os ++ (flag_code true (holders false os) ++
 
 -- ---- a command edge up to its recorded entry
 
+-- whether the recorded basis is compared
+abbrev pub compares_basis : Baseline → Bool
+compares_basis Outputs = false
+compares_basis Basis = true
+compares_basis OutputsAndBasis = true
+
 -- Whether an output is missing or an input changed. The least stamp tells whether one is missing. It isn't looked at
--- where the baseline is the oldest output and a source file is named: that source file is newer than a missing output.
+-- if the baseline is no later than the oldest output and a source file is named: that source file is newer than a
+-- missing output.
 abbrev pub alarm_code : (looks : Bool) → List Output → (flags : List ℕ) → List Instr
 alarm_code true os flags = oldest_code os ++ (op.IsMissing ∷ or_code flags)
 alarm_code false os flags = any_code flags
 
--- What the sweep goes on from, where the edge isn't restat: the oldest output's stamp as the baseline, the newest input's
+-- What the sweep goes on from, if no basis is compared: the oldest output's stamp as the baseline, the newest input's
 -- stamp, and the alarm.
-abbrev pub weighed_code : (restat : Bool) → CommandWiring → List Instr → List Instr
+abbrev pub weighed_code : (basis : Bool) → CommandWiring → List Instr → List Instr
 weighed_code true w rest = rest
 weighed_code false w rest =
     oldest_code w.outputs ++ (op.Load w.newest ∷ (alarm_code (not (has_source_file w.named)) w.outputs w.flags ++ rest))
@@ -110,7 +119,7 @@ weighed_code false w rest =
 -- the questions up to the entry
 abbrev pub front : CommandWiring → List Instr → List Instr
 front w rest =
-    order_code w.order_only ++ (newest_code w.named ++ (op.Store w.newest ∷ (stat_code w.outputs ++ weighed_code w.restat w (op.Recall ∷ rest))))
+    order_code w.order_only ++ (newest_code w.named ++ (op.Store w.newest ∷ (stat_code w.outputs ++ weighed_code (compares_basis w.baseline) w (op.Recall ∷ rest))))
 
 -- ---- a command edge from its recorded entry on
 
@@ -120,17 +129,22 @@ abbrev pub same_code : (blank : Bool) → ℕ → List Instr
 same_code true t = op.Not ∷ op.Swap ∷ op.Text t ∷ op.Equal ∷ op.Not ∷ op.Or ∷ op.Not ∷ []
 same_code false t = op.Drop ∷ op.Text t ∷ op.Equal ∷ []
 
--- Makes ready for the sweep: the baseline, the newest input's stamp, the alarm and the paths. The baseline of a restat edge
--- stands over the paths; the basis that another edge has there is dropped.
-abbrev pub ready_code : (restat : Bool) → CommandWiring → List Instr → List Instr
-ready_code true w rest = op.Swap ∷ op.Load w.newest ∷ op.Swap ∷ (alarm_code true w.outputs w.flags ++ (op.Swap ∷ rest))
-ready_code false w rest = op.Drop ∷ rest
+-- from a baseline over the paths: the baseline, the newest input's stamp, the alarm and the paths
+abbrev pub under_code : (looks : Bool) → CommandWiring → List Instr → List Instr
+under_code looks w rest = op.Swap ∷ op.Load w.newest ∷ op.Swap ∷ (alarm_code looks w.outputs w.flags ++ (op.Swap ∷ rest))
+
+-- Makes ready for the sweep. The recorded basis is over the paths. It is dropped if it isn't compared; it is the
+-- baseline, or the earlier of it and the oldest output is.
+abbrev pub ready_code : Baseline → CommandWiring → List Instr → List Instr
+ready_code Outputs w rest = op.Drop ∷ rest
+ready_code Basis w rest = under_code true w rest
+ready_code OutputsAndBasis w rest = oldest_code w.outputs ++ (op.Older ∷ under_code (not (has_source_file w.named)) w rest)
 
 abbrev pub ready_len : CommandWiring → ℕ
-ready_len w = length (ready_code w.restat w [])
+ready_len w = length (ready_code w.baseline w [])
 
 -- the same where the edge is known to be dirty, with any stamp and any flag
-abbrev pub skip_code : (restat : Bool) → List Instr → List Instr
+abbrev pub skip_code : (basis : Bool) → List Instr → List Instr
 skip_code true rest = op.Swap ∷ op.Zero ∷ op.Swap ∷ op.Flag false ∷ op.Swap ∷ rest
 skip_code false rest = op.Drop ∷ rest
 
@@ -164,7 +178,7 @@ judge_code w at =
 
 -- the same once it is known that the command is the recorded one
 abbrev pub judged_code : CommandWiring → (at : ℕ) → List Instr
-judged_code w at = ready_code w.restat w (judge_code w (at + ready_len w))
+judged_code w at = ready_code w.baseline w (judge_code w (at + ready_len w))
 
 -- where the dirty code stands then
 abbrev pub dirty_place : CommandWiring → (at : ℕ) → ℕ
@@ -172,7 +186,7 @@ dirty_place w at = at + ready_len w + 6 + clean_len w
 
 -- where the recorded command is another, the paths are swept all the same
 abbrev pub other_code : CommandWiring → (dirty : ℕ) → List Instr → List Instr
-other_code w dirty rest = skip_code w.restat (op.Sweep ∷ op.Drop ∷ op.Drop ∷ op.Jump dirty ∷ rest)
+other_code w dirty rest = skip_code (compares_basis w.baseline) (op.Sweep ∷ op.Drop ∷ op.Drop ∷ op.Jump dirty ∷ rest)
 
 -- where the judging stands behind the comparison
 abbrev pub same_place : CommandWiring → (at : ℕ) → ℕ
@@ -183,19 +197,19 @@ compare_code w at =
     same_code w.blank w.command
     ++ (op.JumpIf (same_place w at) ∷ other_code w (dirty_place w (same_place w at)) (judged_code w (same_place w at)))
 
--- where the baseline of a restat generator with an entry is known
+-- where the baseline of a generator that compares the basis of its entry is known
 abbrev pub known_place : CommandWiring → (at : ℕ) → ℕ
 known_place w at = at + 4 + length (oldest_code w.outputs)
 
 -- a generator looks at no command; without an entry the baseline is the oldest output
-abbrev pub pass_code : (restat : Bool) → CommandWiring → (at : ℕ) → List Instr
+abbrev pub pass_code : (basis : Bool) → CommandWiring → (at : ℕ) → List Instr
 pass_code true w at =
     op.JumpIf (known_place w at) ∷ op.Drop ∷ op.Drop
     ∷ (oldest_code w.outputs ++ (op.Jump (known_place w at + 1) ∷ op.Drop ∷ judged_code w (known_place w at + 1)))
 pass_code false w at = op.Drop ∷ op.Drop ∷ judged_code w (at + 2)
 
 abbrev pub recalled_code : (generator : Bool) → CommandWiring → (at : ℕ) → List Instr
-recalled_code true w at = pass_code w.restat w at
+recalled_code true w at = pass_code (compares_basis w.baseline) w at
 recalled_code false w at = compare_code w at
 
 abbrev pub command_code : CommandWiring → List Instr

@@ -11,6 +11,7 @@ use Rattle.plan_image.specs.declared.image.Edge.{Edge}
 use Rattle.plan_image.specs.declared.image.Pool.{Pool}
 use Rattle.plan_image.specs.declared.image.Parts.{Parts}
 use Rattle.plan_verify.specs.Members.{is_member}
+use Rattle.plan_compile.specs.declared.baseline.OutOfDateRule.{OutOfDateRule}
 use Rattle.plan_compile.specs.declared.wiring.Output.{Output}
 use Rattle.plan_compile.specs.BodyKeys.{Body}
 use Rattle.plan_compile.specs.Builds.{Build, Builds, builds}
@@ -94,4 +95,4 @@ OneAssignment =
 
 -- a manifest that has a graph is sound
 abbrev pub ManifestsAreSound : Type 0
-ManifestsAreSound = (m : Manifest) (g : Graph) → IsSoundManifest m → IsGraph m g → IsSound (builds m g)
+ManifestsAreSound = (rule : OutOfDateRule) (m : Manifest) (g : Graph) → IsSoundManifest m → IsGraph m g → IsSound (builds rule m g)

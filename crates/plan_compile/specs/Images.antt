@@ -10,6 +10,7 @@ use Rattle.plan_image.specs.declared.image.EdgeCode.TheVariants.{Shared}
 use Rattle.plan_image.specs.declared.image.Edge.{Edge}
 use Rattle.plan_image.specs.declared.image.Parts.{Parts}
 use Rattle.plan_image.specs.Bodies.{body_of, operands_of}
+use Rattle.plan_compile.specs.declared.baseline.OutOfDateRule.{OutOfDateRule}
 use Rattle.plan_compile.specs.declared.wiring.Output.{Output}
 use Rattle.plan_compile.specs.declared.wiring.CommandWiring.{CommandWiring}
 use Rattle.plan_compile.specs.declared.wiring.GatherWiring.{GatherWiring}
@@ -42,6 +43,7 @@ command_wiring texts outputs form b x = record {
   depfile = depfile_number texts x.edge.depfile;
   restat = x.edge.restat;
   generator = x.edge.generator;
+  baseline = x.baseline;
 }
 
 abbrev pub gather_wiring : List Output → ℕ → Build → GatherWiring
@@ -116,6 +118,6 @@ image_of t = record {
   defaults = t.defaults;
 }
 
--- the image of a manifest with its graph
-abbrev pub compiled : Manifest → Graph → Parts
-compiled m g = image_of (builds m g)
+-- the image of a manifest with its graph, by that rule
+abbrev pub compiled : OutOfDateRule → Manifest → Graph → Parts
+compiled rule m g = image_of (builds rule m g)

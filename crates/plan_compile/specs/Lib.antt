@@ -3,6 +3,7 @@ pub mod Rule
 pub mod Emit
 pub mod Means
 pub mod Laws
+pub mod Stricter
 pub mod Builds
 pub mod Slots
 pub mod Numbering

@@ -11,6 +11,7 @@ use Rattle.plan_verify.specs.Tables.{path_of, own_slots, owns, is_lent, slot_kin
 use Rattle.plan_verify.specs.Turn.{Slots, Meaning}
 use Rattle.plan_verify.specs.Alone.{at_begin}
 use Rattle.plan_verify.specs.Sound.{AreTyped, AreLentSet}
+use Rattle.plan_compile.specs.declared.baseline.Baseline.TheVariants as baseline
 use Rattle.plan_compile.specs.declared.wiring.Input.{Input}
 use Rattle.plan_compile.specs.declared.wiring.Input.TheVariants.{File, Made}
 use Rattle.plan_compile.specs.declared.wiring.Output.{Output}
@@ -74,6 +75,7 @@ command_of p slots w order_only = record {
   depfile = depfile_text p w.depfile;
   restat = w.restat;
   generator = w.generator;
+  baseline = w.baseline;
 }
 
 -- a phony: these inputs and outputs, and nothing else
@@ -86,6 +88,7 @@ phony_of p slots named outputs order_only = record {
   depfile = [];
   restat = false;
   generator = false;
+  baseline = baseline.Outputs;
 }
 
 -- the rule of an edge

@@ -6,6 +6,7 @@ use Rattle.plan_graph.specs.declared.graph_data.Graph.{Graph}
 use Rattle.plan_graph.specs.Graph.{IsGraph}
 use Rattle.plan_image.specs.declared.instr.Instr.{Instr}
 use Rattle.plan_image.specs.Spelling.{HasSpelling, IsWithinLimits}
+use Rattle.plan_compile.specs.declared.baseline.OutOfDateRule.{OutOfDateRule}
 use Rattle.plan_compile.specs.declared.fault.CompileFault.{CompileFault}
 use Rattle.plan_compile.specs.declared.fault.CompileFault.TheVariants.{Limit, Memory}
 use Rattle.plan_compile.specs.Builds.{Build}
@@ -14,13 +15,13 @@ use Rattle.plan_compile.specs.Slots.{slot_count}
 
 -- An image is refused for a limit only where it passes one. Memory is asked for only where there are no more files than an
 -- image may have.
-abbrev pub IsRefused : Manifest → Graph → CompileFault → Type 0
-IsRefused m g Limit = IsWithinLimits (compiled m g) → ⊥
-IsRefused m g Memory = length g.files ≤ 4194304
+abbrev pub IsRefused : OutOfDateRule → Manifest → Graph → CompileFault → Type 0
+IsRefused rule m g Limit = IsWithinLimits (compiled rule m g) → ⊥
+IsRefused rule m g Memory = length g.files ≤ 4194304
 
 -- the image of a manifest that has a graph has a spelling, unless it passes a limit
 abbrev pub ImageIsSpelled : Type 0
-ImageIsSpelled = (m : Manifest) (g : Graph) → IsGraph m g → IsWithinLimits (compiled m g) → HasSpelling (compiled m g)
+ImageIsSpelled = (rule : OutOfDateRule) (m : Manifest) (g : Graph) → IsGraph m g → IsWithinLimits (compiled rule m g) → HasSpelling (compiled rule m g)
 
 -- more places than a body may have
 abbrev pub is_too_long : List Instr → Bool

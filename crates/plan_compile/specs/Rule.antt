@@ -3,6 +3,10 @@ use Rattle.std.specs.Prelude.{ℕ, zero, suc, Bool, true, false, not, ◌||◌, 
 use Rattle.plan_verify.specs.declared.value.Cause.TheVariants.{MissingInput, StatFault, DepfileFault, DepfileMalformed, RecordFault}
 use Rattle.plan_verify.specs.declared.value.Cause.TheVariants as cause
 use Rattle.plan_verify.specs.Turn.{Stat, Recall, Run, Deps, Keep, Reply, StampIs, Entry, Nothing, Exit, Signal, Bytes, Kept, Meaning, earlier, later, same_text}
+use Rattle.plan_compile.specs.declared.baseline.Baseline.{Baseline}
+use Rattle.plan_compile.specs.declared.baseline.Baseline.TheVariants.{Outputs, Basis, OutputsAndBasis}
+use Rattle.plan_compile.specs.declared.baseline.OutOfDateRule.{OutOfDateRule}
+use Rattle.plan_compile.specs.declared.baseline.OutOfDateRule.TheVariants.{Stricter}
 use Rattle.plan_compile.specs.Talk.{Left, Talk, Ask, Over, Fail}
 
 abbrev pub Path : Type 0
@@ -21,6 +25,7 @@ pub record Command : Type 0 where
   pub depfile : List ℕ
   pub restat : Bool
   pub generator : Bool
+  pub baseline : Baseline
 
 -- what the record has of an edge
 pub record Recorded : Type 0 where
@@ -126,11 +131,18 @@ abbrev pub is_new : List ℕ → Option Recorded → Bool
 is_new command None = true
 is_new command (Some entry) = not (same_text entry.command command)
 
--- The stamp that the newest input must not pass: of a restat edge with an entry the recorded basis, else the oldest
--- output's stamp.
-abbrev pub baseline : (restat : Bool) → List ℕ → Option Recorded → ℕ
-baseline true stamps (Some entry) = entry.basis
-baseline _ stamps _ = least stamps
+-- The baseline of an edge by a rule: a restat edge has the recorded basis. By the stricter rule an edge that is neither
+-- restat nor a generator has the earlier of the basis and the oldest output, by the specified rule the oldest output.
+abbrev pub baseline_by : (restat generator : Bool) → OutOfDateRule → Baseline
+baseline_by true generator rule = Basis
+baseline_by false false Stricter = OutputsAndBasis
+baseline_by false generator rule = Outputs
+
+-- The stamp that the newest input must not pass. Without an entry it is the oldest output's.
+abbrev pub baseline : Baseline → (outputs : List ℕ) → Option Recorded → ℕ
+baseline Basis outputs (Some entry) = entry.basis
+baseline OutputsAndBasis outputs (Some entry) = earlier entry.basis (least outputs)
+baseline _ outputs _ = least outputs
 
 -- the recorded paths
 abbrev pub paths_in : Option Recorded → List Path
@@ -145,7 +157,7 @@ is_dirty c named old entry swept =
     || some_changed c.named
     || (not c.generator && is_new c.command entry)
     || some_missing swept
-    || nat_lt (baseline c.restat old entry) (greatest (named ++ swept))
+    || nat_lt (baseline c.baseline old entry) (greatest (named ++ swept))
 
 -- ---- a command edge
 

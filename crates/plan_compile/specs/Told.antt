@@ -37,6 +37,7 @@ facts t slots x = record {
   depfile = x.edge.depfile;
   restat = x.edge.restat;
   generator = x.edge.generator;
+  baseline = x.baseline;
 }
 
 abbrev pub edge_does : (phony : Bool) → Meaning → Command → Talk

@@ -6,7 +6,9 @@ ghost use Rattle.plan_graph.specs.Graph.{IsGraph};
 ghost use Rattle.plan_graph.specs.Files.{producer_at};
 ghost use Rattle.plan_image.specs.Spelling.{IsWord};
 ghost use Rattle.plan_compile.specs.Builds.{build_at, builds_from, is_maker, without_made};
+ghost use Rattle.plan_compile.specs.Rule.{baseline_by};
 
+use crate::baseline::{Baseline, OutOfDateRule};
 use plan_graph::{Files, Graph, files_complete, producers_numbered};
 use plan_scope::{EdgeList, EdgeRef, Manifest};
 use plan_text::Items;
@@ -25,6 +27,7 @@ pub(crate) struct Build<'a> {
     order_only_at: usize,
     waits_at: usize,
     rank: u32,
+    baseline: Baseline,
 }
 
 impl<'a> Model for Build<'a> {
@@ -33,7 +36,7 @@ impl<'a> Model for Build<'a> {
 
     ghost Value = { Build };
 
-    ghost view = { λ b. record { edge = get_or b.edges.now b.number no_edge; outputs = slice_range b.numbers.items 0 b.named_at; named = slice_range b.numbers.items b.named_at b.order_only_at; order_only = slice_range b.numbers.items b.order_only_at b.waits_at; waits = drop b.waits_at b.numbers.items; rank = b.rank } };
+    ghost view = { λ b. record { edge = get_or b.edges.now b.number no_edge; outputs = slice_range b.numbers.items 0 b.named_at; named = slice_range b.numbers.items b.named_at b.order_only_at; order_only = slice_range b.numbers.items b.order_only_at b.waits_at; waits = drop b.waits_at b.numbers.items; rank = b.rank; baseline = b.baseline } };
 
     ghost invariant = { λ b. (b.number < length b.edges.now) × (b.named_at ≤ b.order_only_at) × (b.order_only_at ≤ b.waits_at) × (b.waits_at ≤ length b.numbers.items) };
 }
@@ -89,6 +92,13 @@ impl<'a> Build<'a> {
         ensures { result ≡ self.now.rank }
     {
         self.rank
+    }
+
+    /// Its baseline.
+    pub(crate) fn baseline(&self) -> Baseline
+        ensures { result ≡ self.now.baseline }
+    {
+        self.baseline
     }
 }
 
@@ -194,16 +204,33 @@ fn push_kept<'a>(
     }
 }
 
+/// Returns the baseline of an edge by a rule.
+fn baseline_by(restat: bool, generator: bool, rule: OutOfDateRule) -> Baseline
+    ensures { result ≡ baseline_by restat generator rule }
+{
+    if restat {
+        return Baseline::Basis;
+    }
+    if generator {
+        return Baseline::Outputs;
+    }
+    match rule {
+        OutOfDateRule::Specified => Baseline::Outputs,
+        OutOfDateRule::Stricter => Baseline::OutputsAndBasis,
+    }
+}
+
 /// The edge of this number.
 fn numbered<'a, 'b>(
     alloc: Global,
     manifest: &'a Manifest,
     graph: &Graph<'b>,
+    rule: OutOfDateRule,
     number: usize,
 ) -> Result<Build<'a>, AllocError>
     requires graph { IsGraph manifest.now graph.now }
     requires inside { number < length manifest.now.edges }
-    ensures { (edge : EdgeMeant) → slice_get manifest.now.edges number ≡ Some edge → IfOk result (λ b. b ≡ build_at graph.now number edge) }
+    ensures { (edge : EdgeMeant) → slice_get manifest.now.edges number ≡ Some edge → IfOk result (λ b. b ≡ build_at rule graph.now number edge) }
 {
     files_complete();
     producers_numbered();
@@ -229,6 +256,7 @@ fn numbered<'a, 'b>(
         order_only_at,
         waits_at,
         rank: number_at(graph.ranks.as_slice(), number),
+        baseline: baseline_by(edge.has_restat(), edge.is_generator(), rule),
     })
 }
 
@@ -237,14 +265,15 @@ pub(crate) fn builds<'a, 'b>(
     alloc: Global,
     manifest: &'a Manifest,
     graph: &Graph<'b>,
+    rule: OutOfDateRule,
 ) -> Result<Vec<Build<'a>>, AllocError>
     requires { IsGraph manifest.now graph.now }
-    ensures { IfOk result (λ bs. bs.items ≡ builds_from graph.now 0 manifest.now.edges) }
+    ensures { IfOk result (λ bs. bs.items ≡ builds_from rule graph.now 0 manifest.now.edges) }
 {
     let count = manifest.edges.len();
     let mut builds = Vec::with_capacity(alloc, count)?;
     for number in 0..count {
-        builds.push(numbered(alloc, manifest, graph, number)?)?;
+        builds.push(numbered(alloc, manifest, graph, rule, number)?)?;
     }
     Ok(builds)
 }

@@ -1,15 +1,35 @@
 //! The code of a command edge, appended to what is there.
 
-ghost use Rattle.std.specs.Prelude.{◌≡◌, ◌≤◌, ◌^◌, true, false, ◌++◌, ◌+◌, ◌∷◌, [], length, nat_lt, OnOk};
-ghost use Rattle.plan_compile.specs.Emit.{after_code, alarm_code, clean_code, clean_len, command_code, compare_code, deps_code, dirty_code, dirty_place, front, holders, judge_code, judged_code, known_place, oldest_code, other_code, pass_code, ready_len, recalled_code, run_code, same_code, same_place, stat_code, weighed_code};
+ghost use Rattle.std.specs.Prelude.{◌≡◌, ◌≤◌, ◌^◌, true, false, ◌++◌, ◌+◌, ◌∷◌, [], length, nat_lt, not, OnOk};
+ghost use Rattle.plan_compile.specs.Emit.{after_code, alarm_code, clean_code, clean_len, command_code, compare_code, compares_basis, deps_code, dirty_code, dirty_place, front, holders, judge_code, judged_code, known_place, oldest_code, other_code, pass_code, ready_code, ready_len, recalled_code, run_code, same_code, same_place, stat_code, under_code, weighed_code};
 ghost use Rattle.plan_image.specs.declared.instr.Instr.TheVariants as op;
 
+use crate::baseline::Baseline;
 use crate::code::Code;
 use crate::inputs::{has_source_file, push_any, push_newest, push_or, push_order};
 use crate::outputs::{push_held, push_oldest, push_restat, push_stats};
 use crate::wiring::{CommandWiring, Output};
 use plan_image::Instr;
 use std::alloc::AllocError;
+
+/// Returns whether the recorded basis is compared.
+fn compares_basis(baseline: Baseline) -> bool
+    ensures { result ≡ compares_basis baseline }
+{
+    match baseline {
+        Baseline::Outputs => false,
+        Baseline::Basis => true,
+        Baseline::OutputsAndBasis => true,
+    }
+}
+
+/// Returns whether the alarm looks at the outputs, if the baseline is no later than the oldest one: if a source file is
+/// named, it is newer than a missing output.
+fn looks_at_outputs(wiring: &CommandWiring) -> bool
+    ensures { result ≡ not (Rattle.plan_compile.specs.Emit.has_source_file wiring.now.named) }
+{
+    !has_source_file(wiring.named.as_slice())
+}
 
 // ---- up to the recorded entry
 
@@ -33,14 +53,14 @@ fn push_alarm(
 
 /// What the sweep goes on from, and the recorded entry.
 fn push_weighed(code: &mut Code, wiring: &CommandWiring) -> Result<(), AllocError>
-    ensures { OnOk result (code.new ≡ code.old ++ weighed_code wiring.now.restat wiring.now (op.Recall ∷ [])) }
+    ensures { OnOk result (code.new ≡ code.old ++ weighed_code (compares_basis wiring.now.baseline) wiring.now (op.Recall ∷ [])) }
 {
     let outputs = wiring.outputs.as_slice();
-    if wiring.restat {
+    if compares_basis(wiring.baseline) {
         code.push(Instr::Recall)?;
         Ok(())
     } else {
-        let looks = !has_source_file(wiring.named.as_slice());
+        let looks = looks_at_outputs(wiring);
         push_oldest(code, outputs)?;
         code.push(Instr::Load(wiring.newest))?;
         push_alarm(code, looks, outputs, wiring.flags.as_slice())?;
@@ -51,7 +71,7 @@ fn push_weighed(code: &mut Code, wiring: &CommandWiring) -> Result<(), AllocErro
 
 /// The outputs' stamps, and what the sweep goes on from.
 fn push_asked(code: &mut Code, wiring: &CommandWiring) -> Result<(), AllocError>
-    ensures { OnOk result (code.new ≡ code.old ++ (stat_code wiring.now.outputs ++ weighed_code wiring.now.restat wiring.now (op.Recall ∷ []))) }
+    ensures { OnOk result (code.new ≡ code.old ++ (stat_code wiring.now.outputs ++ weighed_code (compares_basis wiring.now.baseline) wiring.now (op.Recall ∷ []))) }
 {
     push_stats(code, wiring.outputs.as_slice())?;
     push_weighed(code, wiring)
@@ -158,6 +178,33 @@ fn clean_len(wiring: &CommandWiring) -> u32
     }
 }
 
+/// How many look for the alarm.
+fn alarm_len(wiring: &CommandWiring, looks: bool) -> u32
+    requires few { length wiring.now.outputs ≤ 2 ^ 16 }
+    requires few_flags { length wiring.now.flags ≤ 2 ^ 16 }
+    ensures len { result ≡ length (alarm_code looks wiring.now.outputs wiring.now.flags) }
+    ensures short { result ≤ 2 ^ 19 }
+{
+    let flags = 2 * wiring.flags.len() as u32;
+    if looks {
+        oldest_len(wiring.outputs.as_slice()) + 1 + flags
+    } else if flags == 0 {
+        1
+    } else {
+        flags - 1
+    }
+}
+
+/// How many make ready for the sweep from a baseline over the paths.
+fn under_len(wiring: &CommandWiring, looks: bool) -> u32
+    requires few { length wiring.now.outputs ≤ 2 ^ 16 }
+    requires few_flags { length wiring.now.flags ≤ 2 ^ 16 }
+    ensures len { result ≡ length (under_code looks wiring.now []) }
+    ensures short { result ≤ 2 ^ 19 + 4 }
+{
+    alarm_len(wiring, looks) + 4
+}
+
 /// How many make ready for the sweep.
 fn ready_len(wiring: &CommandWiring) -> u32
     requires few { length wiring.now.outputs ≤ 2 ^ 16 }
@@ -166,8 +213,14 @@ fn ready_len(wiring: &CommandWiring) -> u32
     ensures short { result ≤ 2 ^ 20 }
 {
     let oldest = oldest_len(wiring.outputs.as_slice());
-    let flags = 2 * wiring.flags.len() as u32;
-    if wiring.restat { 5 + oldest + flags } else { 1 }
+    match wiring.baseline {
+        Baseline::Outputs => 1,
+        Baseline::Basis => under_len(wiring, true),
+        Baseline::OutputsAndBasis => {
+            let looks = looks_at_outputs(wiring);
+            oldest + 1 + under_len(wiring, looks)
+        }
+    }
 }
 
 /// How many compare the command.
@@ -183,7 +236,11 @@ fn other_len(wiring: &CommandWiring) -> u32
     ensures len { result ≡ length (other_code wiring.now 0 []) }
     ensures short { result ≤ 9 }
 {
-    if wiring.restat { 9 } else { 5 }
+    if compares_basis(wiring.baseline) {
+        9
+    } else {
+        5
+    }
 }
 
 // ---- from the recorded entry on
@@ -212,6 +269,38 @@ fn push_judge(code: &mut Code, wiring: &CommandWiring, at: u32) -> Result<(), Al
     push_settled(code, wiring)
 }
 
+/// Makes ready for the sweep from a baseline over the paths.
+fn push_under(code: &mut Code, wiring: &CommandWiring, looks: bool) -> Result<(), AllocError>
+    ensures { OnOk result (code.new ≡ code.old ++ under_code looks wiring.now []) }
+{
+    let outputs = wiring.outputs.as_slice();
+    code.push(Instr::Swap)?;
+    code.push(Instr::Load(wiring.newest))?;
+    code.push(Instr::Swap)?;
+    push_alarm(code, looks, outputs, wiring.flags.as_slice())?;
+    code.push(Instr::Swap)?;
+    Ok(())
+}
+
+/// Makes ready for the sweep from the recorded basis over the paths.
+fn push_ready(code: &mut Code, wiring: &CommandWiring) -> Result<(), AllocError>
+    ensures { OnOk result (code.new ≡ code.old ++ ready_code wiring.now.baseline wiring.now []) }
+{
+    match wiring.baseline {
+        Baseline::Outputs => {
+            code.push(Instr::Drop)?;
+            Ok(())
+        }
+        Baseline::Basis => push_under(code, wiring, true),
+        Baseline::OutputsAndBasis => {
+            let looks = looks_at_outputs(wiring);
+            push_oldest(code, wiring.outputs.as_slice())?;
+            code.push(Instr::Older)?;
+            push_under(code, wiring, looks)
+        }
+    }
+}
+
 /// Makes ready for the sweep, and judges; the code begins at that place.
 fn push_judged(code: &mut Code, wiring: &CommandWiring, at: u32) -> Result<(), AllocError>
     requires place { at ≤ 2 ^ 24 }
@@ -220,22 +309,8 @@ fn push_judged(code: &mut Code, wiring: &CommandWiring, at: u32) -> Result<(), A
     ensures { OnOk result (code.new ≡ code.old ++ judged_code wiring.now at) }
 {
     let judge = at + ready_len(wiring);
-    if wiring.restat {
-        code.push(Instr::Swap)?;
-        code.push(Instr::Load(wiring.newest))?;
-        code.push(Instr::Swap)?;
-        push_alarm(
-            code,
-            true,
-            wiring.outputs.as_slice(),
-            wiring.flags.as_slice(),
-        )?;
-        code.push(Instr::Swap)?;
-        push_judge(code, wiring, judge)
-    } else {
-        code.push(Instr::Drop)?;
-        push_judge(code, wiring, judge)
-    }
+    push_ready(code, wiring)?;
+    push_judge(code, wiring, judge)
 }
 
 /// Where the dirty code stands, the judging being at that place.
@@ -270,7 +345,7 @@ fn push_other(code: &mut Code, wiring: &CommandWiring, judged: u32) -> Result<()
     requires few_flags { length wiring.now.flags ≤ 2 ^ 16 }
     ensures { OnOk result (code.new ≡ code.old ++ other_code wiring.now (dirty_place wiring.now judged) (judged_code wiring.now judged)) }
 {
-    if wiring.restat {
+    if compares_basis(wiring.baseline) {
         code.push(Instr::Swap)?;
         code.push(Instr::Zero)?;
         code.push(Instr::Swap)?;
@@ -317,7 +392,7 @@ fn push_compare(code: &mut Code, wiring: &CommandWiring, at: u32) -> Result<(), 
     push_other(code, wiring, judged)
 }
 
-/// Looks for the baseline of a restat generator; the code begins at that place.
+/// Looks for the baseline of a generator that compares the basis of its entry; the code begins at that place.
 fn push_baseline(code: &mut Code, wiring: &CommandWiring, at: u32) -> Result<(), AllocError>
     requires place { at ≤ 2 ^ 20 }
     requires few { length wiring.now.outputs ≤ 2 ^ 16 }
@@ -340,9 +415,9 @@ fn push_passed(code: &mut Code, wiring: &CommandWiring, at: u32) -> Result<(), A
     requires place { at ≤ 2 ^ 20 }
     requires few { length wiring.now.outputs ≤ 2 ^ 16 }
     requires few_flags { length wiring.now.flags ≤ 2 ^ 16 }
-    ensures { OnOk result (code.new ≡ code.old ++ pass_code wiring.now.restat wiring.now at) }
+    ensures { OnOk result (code.new ≡ code.old ++ pass_code (compares_basis wiring.now.baseline) wiring.now at) }
 {
-    if wiring.restat {
+    if compares_basis(wiring.baseline) {
         push_baseline(code, wiring, at)
     } else {
         code.push(Instr::Drop)?;

@@ -14,6 +14,7 @@ ghost use Rattle.plan_compile.specs.OutputTable.{filled};
 ghost use Rattle.plan_compile.specs.Refusals.{IsRefused, RefusesEdges};
 ghost use Rattle.plan_compile.specs.Slots.{all_made, newest_from, slots_from};
 
+use crate::baseline::OutOfDateRule;
 use crate::bodies::Bodies;
 use crate::build::{Build, builds, words};
 use crate::edges::edges_of;
@@ -70,14 +71,15 @@ fn name_all<'a, 'b>(
     alloc: Global,
     manifest: &'a Manifest,
     graph: &Graph<'b>,
+    rule: OutOfDateRule,
 ) -> Result<Named<'a>, AllocError>
     requires { IsGraph manifest.now graph.now }
-    ensures builds { IfOk result (λ n. n.builds.items ≡ builds_from graph.now 0 manifest.now.edges) }
+    ensures builds { IfOk result (λ n. n.builds.items ≡ builds_from rule graph.now 0 manifest.now.edges) }
     ensures texts { IfOk result (λ n. n.names.texts ≡ all_texts n.builds.items) }
     ensures pools { IfOk result (λ n. n.names.pools ≡ used_pools n.builds.items) }
     ensures numbers { IfOk result (λ n. n.names.numbers.items ≡ map (numbers_in (all_texts n.builds.items) (used_pools n.builds.items)) n.builds.items) }
 {
-    let builds = builds(alloc, manifest, graph)?;
+    let builds = builds(alloc, manifest, graph, rule)?;
     let names = names_of(alloc, &builds)?;
     Ok(Named { builds, names })
 }
@@ -165,17 +167,22 @@ fn assembled(tables: Tables, coded: Coded) -> Parts
 }
 
 /// The tables of the image.
-fn parts<'a>(alloc: Global, manifest: &Manifest, graph: &Graph<'a>) -> Result<Parts, CompileFault>
+fn parts<'a>(
+    alloc: Global,
+    manifest: &Manifest,
+    graph: &Graph<'a>,
+    rule: OutOfDateRule,
+) -> Result<Parts, CompileFault>
     requires sound { IsSound manifest.now }
     requires graph { IsGraph manifest.now graph.now }
-    ensures parts { IfOk result (λ parts. parts ≡ compiled manifest.now graph.now) }
-    ensures refused { IfErr result (λ fault. IsRefused manifest.now graph.now fault) }
+    ensures parts { IfOk result (λ parts. parts ≡ compiled rule manifest.now graph.now) }
+    ensures refused { IfErr result (λ fault. IsRefused rule manifest.now graph.now fault) }
 {
     manifests_are_sound();
     if graph.files.len() > MOST_FILES {
         return Err(CompileFault::Limit);
     }
-    let named = name_all(alloc, manifest, graph)?;
+    let named = name_all(alloc, manifest, graph, rule)?;
     if named.names.pools.len() > MOST_POOLS {
         return Err(CompileFault::Limit);
     }
@@ -184,7 +191,7 @@ fn parts<'a>(alloc: Global, manifest: &Manifest, graph: &Graph<'a>) -> Result<Pa
     Ok(assembled(tables, coded))
 }
 
-/// The image of a manifest with its graph: its edges in their order, of version 2. No two bodies are equal, and each is
+/// The image of a manifest with its graph, by an out-of-date rule: its edges in their order, of version 2. No two bodies are equal, and each is
 /// used, in the order of first use; so are pools and texts. Linear in the manifest.
 ///
 /// # Errors
@@ -195,14 +202,15 @@ pub fn compile<'a>(
     alloc: Global,
     manifest: &Manifest,
     graph: &Graph<'a>,
+    rule: OutOfDateRule,
 ) -> Result<Image, CompileFault>
     requires sound { IsSound manifest.now }
     requires graph { IsGraph manifest.now graph.now }
-    ensures image { IfOk result (λ image. image ≡ compiled manifest.now graph.now) }
-    ensures refused { IfErr result (λ fault. IsRefused manifest.now graph.now fault) }
+    ensures image { IfOk result (λ image. image ≡ compiled rule manifest.now graph.now) }
+    ensures refused { IfErr result (λ fault. IsRefused rule manifest.now graph.now fault) }
 {
     image_is_spelled();
-    let parts = parts(alloc, manifest, graph)?;
+    let parts = parts(alloc, manifest, graph, rule)?;
     match Image::new(parts) {
         Ok(image) => Ok(image),
         Err(_refused) => Err(CompileFault::Limit),

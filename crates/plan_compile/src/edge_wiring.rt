@@ -72,6 +72,7 @@ fn command_wiring<'a>(
         depfile: numbers.depfile,
         restat: edge.has_restat(),
         generator: edge.is_generator(),
+        baseline: build.baseline(),
     })
 }
 

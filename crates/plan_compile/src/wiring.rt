@@ -1,5 +1,6 @@
 //! An edge by its numbers in the tables of an image.
 
+use crate::baseline::Baseline;
 use plan_text::Items;
 
 /// Where an input's stamp comes from.
@@ -40,6 +41,7 @@ pub struct CommandWiring {
     pub depfile: Option<u32>,
     pub restat: bool,
     pub generator: bool,
+    pub baseline: Baseline,
 }
 
 /// A phony with inputs of any sort: its outputs are as the named inputs are, and share two slots.

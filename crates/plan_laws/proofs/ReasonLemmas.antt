@@ -79,7 +79,7 @@ regroup false false false false e = refl
 
 pub reasons_are_causes : (c : Command) (named old : List ℕ) (entry : Option Recorded) (swept : List ℕ) → is_some (first_reason c named old entry swept) ≡ is_dirty c named old entry swept
 reasons_are_causes c named old entry swept =
-    let b = baseline c.restat old entry in
+    let b = baseline c.baseline old entry in
     let newer = either (option_map PathMissing (first_at is_missing 0 swept)) (option_map (λ n. Newer n b) (first_at (nat_lt b) 0 (named ++ swept)))
     ∙ or_same _ _ _ _ (mapped PathMissing (first_at is_missing 0 swept) ∙ found_missing 0 swept) (mapped (λ n. Newer n b) (first_at (nat_lt b) 0 (named ++ swept)) ∙ found_newer b 0 (named ++ swept)) in
     let new = either (if not c.generator && is_new c.command entry then Some (entry_reason entry) else None) _ ∙ or_same _ _ _ _ (chosen (not c.generator && is_new c.command entry) (entry_reason entry)) newer in

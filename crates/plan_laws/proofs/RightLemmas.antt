@@ -48,24 +48,24 @@ ended_stage true = refl
 ended_stage false = refl
 
 pub finished_edges_are_right : (allows : Rule) → RunsKeepToManifest allows → EndsArePlain → EachRanByItself → SlotsStay → ImageKeepsToRule → ImageIsShaped → ManifestsAreSound → ImageIsWired → FinishedEdgesAreRight allows
-finished_edges_are_right allows keeps plain own stay by_rule shaped whole wires m g sound graph limits targets r run e x ran there at =
-    let t = builds m g in
+finished_edges_are_right allows keeps plain own stay by_rule shaped whole wires rule m g sound graph limits targets r run e x ran there at =
+    let t = builds rule m g in
     let s = r.state.going.now in
     let n = base t.edges e in
-    let k = keeps m g sound graph limits targets r run e x (Over (ended ran)) (Ended ran) there at (ended_stage ran) in
-    let o = over_at_end depfile (compiled m g) e (Leaves (made n x)) (record { stage = Ended ran; slots = k.end }) k.rest k.keeps ran k.end refl refl in
-    let wired = wires t (whole m g sound graph) e x there in
-    let same = rule_same t (compiled m g) e k.slots s.slots k.lent x depfile (form_of x) (all_texts t.edges) n refl wired in
+    let k = keeps rule m g sound graph limits targets r run e x (Over (ended ran)) (Ended ran) there at (ended_stage ran) in
+    let o = over_at_end depfile (compiled rule m g) e (Leaves (made n x)) (record { stage = Ended ran; slots = k.end }) k.rest k.keeps ran k.end refl refl in
+    let wired = wires t (whole rule m g sound graph) e x there in
+    let same = rule_same t (compiled rule m g) e k.slots s.slots k.lent x depfile (form_of x) (all_texts t.edges) n refl wired in
     let came : Follows (edge_does x.edge.phony depfile (facts t k.slots x)) k.conversation (Done ran o.0) =
     subst (λ (talk : Talk). Follows (edge_does x.edge.phony depfile (facts t k.slots x)) k.conversation talk) o.1 k.follows in
     let follows : Follows (edge_does x.edge.phony depfile (facts t s.slots x)) k.conversation (Done ran o.0) = subst (λ (talk : Talk). Follows talk k.conversation (Done ran o.0)) same came in
     record {
       conversation = k.conversation;
-      answered = replies_allowed own by_rule wires stay allows t (whole m g sound graph) (shaped t (whole m g sound graph)) limits targets r.journal s run.allowed e x there (Done ran o.0) run.left run.reached k.conversation k.answered follows;
+      answered = replies_allowed own by_rule wires stay allows t (whole rule m g sound graph) (shaped t (whole rule m g sound graph)) limits targets r.journal s run.allowed e x there (Done ran o.0) run.left run.reached k.conversation k.answered follows;
       left = o.0;
       follows = follows;
       succeeds = plain x.edge.phony depfile (facts t s.slots x) k.conversation ran o.0 follows;
-      leaves = leaves_by (compiled m g) e k.end s.slots k.own (form_of x) (all_texts t.edges) (all_made zero t.edges) n x o.0 wired o.2;
+      leaves = leaves_by (compiled rule m g) e k.end s.slots k.own (form_of x) (all_texts t.edges) (all_made zero t.edges) n x o.0 wired o.2;
     }
 
 -- ---- all edges
@@ -105,8 +105,8 @@ succeeded_edge e marks (Some Unbegun) done fits = absurd cc
 succeeded_edge e marks None done fits = absurd cc
 
 pub finished_runs_are_right : (allows : Rule) → FinishedEdgesAreRight allows → ImageIsFaithful → FinishedRunsAreRight allows
-finished_runs_are_right allows right faithful m g sound graph limits targets r run all e wanted =
-    let p = compiled m g in
+finished_runs_are_right allows right faithful rule m g sound graph limits targets r run all e wanted =
+    let p = compiled rule m g in
     let s = r.state.going.now in
     let opens = run.reached.opens in
     let chosen : slice_get opens.wanted e ≡ Some true = (opens.are.each e).1 wanted in
@@ -114,12 +114,12 @@ finished_runs_are_right allows right faithful m g sound graph limits targets r r
     let done = done_at s (length p.edges) e all inside in
     let fits : FitsIn e s run.left = runs_fit e depfile p limits run.reached.start [] r.journal run.left s (opens_fit e p targets run.reached.start opens chosen) run.reached.run in
     let w = succeeded_edge e run.left (slice_get s.edges e) done fits in
-    let here = get_inside (builds m g).edges e (let count = (faithful (builds m g)).count in omega (arith, inside, count)) in
+    let here = get_inside (builds rule m g).edges e (let count = (faithful (builds rule m g)).count in omega (arith, inside, count)) in
     record {
       edge = here.0;
       there = here.1;
       ran = w.0;
       succeeded = w.1;
       order = record { position = w.2.0; began = w.2.1; after = λ v waits. run.orderly.after_waits w.2.0 e v w.2.1 waits };
-      right = right m g sound graph limits targets r run e here.0 w.0 here.1 w.1;
+      right = right rule m g sound graph limits targets r run e here.0 w.0 here.1 w.1;
     }

@@ -6,8 +6,10 @@ use Rattle.plan_image.specs.declared.image.Parts.{Parts}
 use Rattle.plan_verify.specs.Members.{is_member}
 use Rattle.plan_verify.specs.Tables.{waits_of}
 use Rattle.plan_verify.specs.Turn.{Meaning, Stat, Recall, Run, Keep, StampIs, Entry, Nothing, Exit, Kept}
+use Rattle.plan_compile.specs.declared.baseline.OutOfDateRule.TheVariants.{Specified, Stricter}
 use Rattle.plan_compile.specs.Talk.{Left, Over, Follows}
-use Rattle.plan_compile.specs.Rule.{Path, SourceFile, Command, Recorded, paths_in, is_dirty}
+use Rattle.plan_compile.specs.Rule.{Path, SourceFile, Command, Recorded, baseline_by, paths_in, is_dirty}
+use Rattle.plan_compile.specs.Stricter.{by_rule}
 use Rattle.plan_compile.specs.Told.{edge_does}
 use Rattle.plan_machine.specs.declared.mark.Mark.{Mark}
 use Rattle.plan_machine.specs.declared.mark.Mark.TheVariants.{Started, Ended}
@@ -29,7 +31,7 @@ abbrev c : List ℕ
 c = 99 ∷ []
 
 abbrev edge : Command
-edge = record { named = SourceFile 0 a ∷ []; order_only = []; outputs = b ∷ []; command = c; depfile = []; restat = false; generator = false }
+edge = record { named = SourceFile 0 a ∷ []; order_only = []; outputs = b ∷ []; command = c; depfile = []; restat = false; generator = false; baseline = baseline_by false false Specified }
 
 abbrev no_paths : Meaning
 no_paths bytes = Ok []
@@ -170,6 +172,10 @@ missing_row = refl
 
 pub newer_row : first_reason edge (9 ∷ []) (7 ∷ []) (Some entry) [] ≡ Some (Newer 0 7)
 newer_row = refl
+
+-- an input that is later than the basis is a reason by the stricter rule only, if the output is later still
+pub touched_row : (first_reason (by_rule Stricter edge) (8 ∷ []) (9 ∷ []) (Some entry) [] ≡ Some (Newer 0 5)) × (first_reason (by_rule Specified edge) (8 ∷ []) (9 ∷ []) (Some entry) [] ≡ None)
+touched_row = (refl, refl)
 
 pub other_command_row : first_reason edge (5 ∷ []) (7 ∷ []) (Some (record { command = a; basis = 5; paths = [] })) [] ≡ Some (OtherCommand a)
 other_command_row = refl

@@ -100,6 +100,7 @@ module _ (t : Builds) (p : Parts) (e : ℕ) (a b : Slots) (lent : (k : ℕ) → 
       depfile = x.edge.depfile;
       restat = x.edge.restat;
       generator = x.edge.generator;
+      baseline = x.baseline;
     }
 
     abbrev named : List Given

@@ -7,6 +7,7 @@ use Rattle.plan_graph.specs.declared.graph_data.Graph.{Graph}
 use Rattle.plan_verify.specs.Tables.{is_lent, owns}
 use Rattle.plan_verify.specs.Turn.{Slots, Meaning, Request, Run, Reply as Answer}
 use Rattle.plan_verify.specs.Alone.{Stage}
+use Rattle.plan_compile.specs.declared.baseline.OutOfDateRule.{OutOfDateRule}
 use Rattle.plan_compile.specs.Builds.{Build, builds}
 use Rattle.plan_compile.specs.Faithful.{IsEdge}
 use Rattle.plan_compile.specs.Images.{compiled}
@@ -26,26 +27,27 @@ use Rattle.plan_lanes.specs.Journals.{Rule}
 use Rattle.plan_lanes.specs.Reports.{IsRunOf}
 use Rattle.plan_lanes.specs.declared.board.Report.{Report}
 
--- The conversation of an edge, with the replies that it got in a run, follows the rule of that edge of the manifest, from
--- what its waits left. The edge then keeps to the rest of the rule.
-pub record KeepsToRule (m : Manifest) (g : Graph) (s : State) (e : ℕ) (x : Build) (replies : List Reply) (stage : Stage) : Type 0 where
+-- The conversation of an edge, with the replies that it got in a run, follows the out-of-date rule of that edge of the
+-- manifest, from what its waits left. The edge then keeps to the rest of the rule.
+pub record KeepsToRule (rule : OutOfDateRule) (m : Manifest) (g : Graph) (s : State) (e : ℕ) (x : Build) (replies : List Reply) (stage : Stage) : Type 0 where
   pub slots : Slots
-  pub lent : (k : ℕ) → is_lent (compiled m g) e k ≡ true → slice_get slots k ≡ slice_get s.slots k
+  pub lent : (k : ℕ) → is_lent (compiled rule m g) e k ≡ true → slice_get slots k ≡ slice_get s.slots k
   pub conversation : List (Request × Answer)
   pub answered : map {B = Answer} (λ x. x.1) conversation ≡ map answer_of replies
   pub rest : Talk
-  pub follows : Follows (edge_does x.edge.phony depfile (facts (builds m g) slots x)) conversation rest
+  pub follows : Follows (edge_does x.edge.phony depfile (facts (builds rule m g) slots x)) conversation rest
   pub end : Slots
-  pub own : (k : ℕ) → owns (compiled m g) e k ≡ true → slice_get end k ≡ slice_get s.slots k
-  pub keeps : Obeys depfile (compiled m g) e (Leaves (made (base (builds m g).edges e) x)) (record { stage = stage; slots = end }) rest
+  pub own : (k : ℕ) → owns (compiled rule m g) e k ≡ true → slice_get end k ≡ slice_get s.slots k
+  pub keeps : Obeys depfile (compiled rule m g) e (Leaves (made (base (builds rule m g).edges e) x)) (record { stage = stage; slots = end }) rest
 
--- Each edge that began does so, in each run of a manifest's image, with any replies that the world's rule allows.
+-- Each edge that began does so, in each run of an image that was compiled for that rule, with any replies that the world's
+-- rule allows.
 abbrev pub RunsKeepToManifest : Rule → Type 0
 RunsKeepToManifest allows =
-    (m : Manifest) (g : Graph) → IsSound m → IsGraph m g → (limits : Limits) (targets : List ℕ) (r : Report)
-    → IsRunOf allows (record { parts = compiled m g; limits = limits; targets = targets }) r
-    → (e : ℕ) (x : Build) (status : Status) (stage : Stage) → IsEdge (builds m g) e x → slice_get r.state.going.now.edges e ≡ Some status → stage_of status ≡ Some stage
-    → KeepsToRule m g r.state.going.now e x (replies_to e r.journal) stage
+    (rule : OutOfDateRule) (m : Manifest) (g : Graph) → IsSound m → IsGraph m g → (limits : Limits) (targets : List ℕ) (r : Report)
+    → IsRunOf allows (record { parts = compiled rule m g; limits = limits; targets = targets }) r
+    → (e : ℕ) (x : Build) (status : Status) (stage : Stage) → IsEdge (builds rule m g) e x → slice_get r.state.going.now.edges e ≡ Some status → stage_of status ≡ Some stage
+    → KeepsToRule rule m g r.state.going.now e x (replies_to e r.journal) stage
 
 -- ---- which commands run
 

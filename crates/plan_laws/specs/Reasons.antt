@@ -45,7 +45,7 @@ first_reason c named outputs entry recorded =
     (or_else (option_map InputChanged (first_changed 0 c.named))
     (or_else (if not c.generator && is_new c.command entry then Some (entry_reason entry) else None)
     (or_else (option_map PathMissing (first_at is_missing 0 recorded))
-    (option_map (λ n. Newer n (baseline c.restat outputs entry)) (first_at (nat_lt (baseline c.restat outputs entry)) 0 (named ++ recorded))))))
+    (option_map (λ n. Newer n (baseline c.baseline outputs entry)) (first_at (nat_lt (baseline c.baseline outputs entry)) 0 (named ++ recorded))))))
 
 -- There is a reason exactly if the edge is dirty by the rule.
 abbrev pub ReasonsAreCauses : Type 0

@@ -7,6 +7,7 @@ use Rattle.plan_graph.specs.Graph.{IsGraph}
 use Rattle.plan_graph.specs.declared.graph_data.Graph.{Graph}
 use Rattle.plan_verify.specs.Members.{is_member}
 use Rattle.plan_verify.specs.Tables.{waits_of}
+use Rattle.plan_compile.specs.declared.baseline.OutOfDateRule.{OutOfDateRule}
 use Rattle.plan_compile.specs.Builds.{Build, builds}
 use Rattle.plan_compile.specs.Faithful.{IsEdge}
 use Rattle.plan_compile.specs.Images.{compiled}
@@ -40,21 +41,21 @@ AreReplies allows _ _ = ⊥
 -- The conversation of an edge, with the replies that the edge got in this run, follows its rule to the end. The rule is
 -- that of the manifest, with the stamps and flags that the edge's waits left. The world's rule allows each reply for its
 -- question. So the edge was clean, or its own command ran to exit status 0. The edge left what the rule says.
-pub record IsRight (allows : Rule) (m : Manifest) (g : Graph) (s : State) (e : ℕ) (x : Build) (replies : List Reply) (ran : Bool) : Type 0 where
+pub record IsRight (allows : Rule) (rule : OutOfDateRule) (m : Manifest) (g : Graph) (s : State) (e : ℕ) (x : Build) (replies : List Reply) (ran : Bool) : Type 0 where
   pub conversation : List Exchange
   pub answered : AreReplies allows replies conversation
   pub left : Left
-  pub follows : Follows (edge_does x.edge.phony depfile (facts (builds m g) s.slots x)) conversation (Done ran left)
-  pub succeeds : Succeeds x.edge.phony depfile (facts (builds m g) s.slots x) ran conversation left
-  pub leaves : Leaves (made (base (builds m g).edges e) x) s.slots left
+  pub follows : Follows (edge_does x.edge.phony depfile (facts (builds rule m g) s.slots x)) conversation (Done ran left)
+  pub succeeds : Succeeds x.edge.phony depfile (facts (builds rule m g) s.slots x) ran conversation left
+  pub leaves : Leaves (made (base (builds rule m g).edges e) x) s.slots left
 
 -- Each edge that succeeded in a run of a manifest's image is right.
 abbrev pub FinishedEdgesAreRight : Rule → Type 0
 FinishedEdgesAreRight allows =
-    (m : Manifest) (g : Graph) → IsSound m → IsGraph m g → (limits : Limits) (targets : List ℕ) (r : Report)
-    → IsRunOf allows (record { parts = compiled m g; limits = limits; targets = targets }) r
-    → (e : ℕ) (x : Build) (ran : Bool) → IsEdge (builds m g) e x → slice_get r.state.going.now.edges e ≡ Some (Over (ended ran))
-    → IsRight allows m g r.state.going.now e x (replies_to e r.journal) ran
+    (rule : OutOfDateRule) (m : Manifest) (g : Graph) → IsSound m → IsGraph m g → (limits : Limits) (targets : List ℕ) (r : Report)
+    → IsRunOf allows (record { parts = compiled rule m g; limits = limits; targets = targets }) r
+    → (e : ℕ) (x : Build) (ran : Bool) → IsEdge (builds rule m g) e x → slice_get r.state.going.now.edges e ≡ Some (Over (ended ran))
+    → IsRight allows rule m g r.state.going.now e x (replies_to e r.journal) ran
 
 -- ---- a run
 
@@ -65,22 +66,22 @@ pub record BeganInOrder (p : Parts) (marks : List Mark) (e : ℕ) : Type 0 where
   pub after : (w : ℕ) → is_member w (waits_of p e) ≡ true → (k : ℕ) × (ran : Bool) × (k < position) × (slice_get marks k ≡ Some (Ended w ran))
 
 -- The edge of the manifest with this number began in order, succeeded, and is right.
-pub record IsBuilt (allows : Rule) (m : Manifest) (g : Graph) (r : Report) (marks : List Mark) (e : ℕ) : Type 0 where
+pub record IsBuilt (allows : Rule) (rule : OutOfDateRule) (m : Manifest) (g : Graph) (r : Report) (marks : List Mark) (e : ℕ) : Type 0 where
   pub edge : Build
-  pub there : IsEdge (builds m g) e edge
+  pub there : IsEdge (builds rule m g) e edge
   pub ran : Bool
   pub succeeded : slice_get r.state.going.now.edges e ≡ Some (Over (ended ran))
-  pub order : BeganInOrder (compiled m g) marks e
-  pub right : IsRight allows m g r.state.going.now e edge (replies_to e r.journal) ran
+  pub order : BeganInOrder (compiled rule m g) marks e
+  pub right : IsRight allows rule m g r.state.going.now e edge (replies_to e r.journal) ran
 
 -- Each wanted edge is built: the targets, or the defaults if there are no targets, and everything that these wait for.
-abbrev pub AllIsBuilt : Rule → Manifest → Graph → List ℕ → Report → List Mark → Type 0
-AllIsBuilt allows m g targets r marks = (e : ℕ) → IsWanted (compiled m g) targets e → IsBuilt allows m g r marks e
+abbrev pub AllIsBuilt : Rule → OutOfDateRule → Manifest → Graph → List ℕ → Report → List Mark → Type 0
+AllIsBuilt allows rule m g targets r marks = (e : ℕ) → IsWanted (compiled rule m g) targets e → IsBuilt allows rule m g r marks e
 
 -- If all that was wanted succeeded in a run of a manifest's image, all of it is built.
 abbrev pub FinishedRunsAreRight : Rule → Type 0
 FinishedRunsAreRight allows =
-    (m : Manifest) (g : Graph) → IsSound m → IsGraph m g → (limits : Limits) (targets : List ℕ) (r : Report)
-    → (run : IsRunOf allows (record { parts = compiled m g; limits = limits; targets = targets }) r)
-    → all_done (compiled m g) r.state.going.now ≡ true
-    → AllIsBuilt allows m g targets r run.left
+    (rule : OutOfDateRule) (m : Manifest) (g : Graph) → IsSound m → IsGraph m g → (limits : Limits) (targets : List ℕ) (r : Report)
+    → (run : IsRunOf allows (record { parts = compiled rule m g; limits = limits; targets = targets }) r)
+    → all_done (compiled rule m g) r.state.going.now ≡ true
+    → AllIsBuilt allows rule m g targets r run.left

@@ -1,10 +1,10 @@
 //! Sources, sinks and worlds made for tests.
 
 use plan_lanes::{Permit, World};
-use plan_machine::Reply;
+use plan_machine::{Recorded, Reply};
 use plan_scope::{Source, SourceFault};
 use plan_text::{RowList, Sink, SinkFault, Tally};
-use plan_verify::PathList;
+use plan_verify::{PathList, Words};
 use std::alloc::{AllocError, Global};
 use std::sync::atomic::{AtomicU64, Ordering};
 
@@ -232,6 +232,56 @@ impl World for Generator {
         permit.spend();
         self.commands.fetch_add(1, Ordering::SeqCst);
         Ok(Reply::Exit(self.status))
+    }
+
+    fn read_depfile(&self, _number: u64, _path: &[u8]) -> Result<Reply, AllocError> {
+        Ok(Reply::Nothing)
+    }
+
+    fn keep(
+        &self,
+        _number: u64,
+        _output: &[u8],
+        _command: &[u8],
+        _basis: u64,
+        _paths: &PathList,
+    ) -> Result<Reply, AllocError> {
+        Ok(Reply::Kept)
+    }
+}
+
+/// A world in which the file `in` was changed at 7 and each other file at 9. Each output has an entry with the command `cc
+/// in -o out` and one basis. Commands succeed.
+#[derive(Drop)]
+pub struct Touched {
+    pub alloc: Global,
+    pub basis: u64,
+}
+
+impl World for Touched {
+    ghost use Rattle.std.specs.Prelude.{⊤};
+
+    ghost allows = { λ number request reply. ⊤ };
+
+    fn stat(&self, _number: u64, path: &[u8]) -> Result<Reply, AllocError> {
+        Ok(Reply::Stamp(if path == b"in".as_slice() { 7 } else { 9 }))
+    }
+
+    fn recall(&self, _number: u64, _output: &[u8]) -> Result<Reply, AllocError> {
+        let command = Words::of(self.alloc, b"cc in -o out".as_slice())?;
+        let paths = PathList::empty(self.alloc)?;
+        Ok(Reply::Entry(Recorded::new(self.alloc, command, self.basis, paths)?))
+    }
+
+    fn run(
+        &self,
+        _number: u64,
+        _command: &[u8],
+        _outputs: &RowList<u8>,
+        permit: Permit,
+    ) -> Result<Reply, AllocError> {
+        permit.spend();
+        Ok(Reply::Exit(0))
     }
 
     fn read_depfile(&self, _number: u64, _path: &[u8]) -> Result<Reply, AllocError> {

@@ -31,7 +31,17 @@ fn command(alloc: Global, restat: bool, generator: bool) -> Result<CommandWiring
         depfile: None,
         restat,
         generator,
+        baseline: baseline(restat),
     })
+}
+
+/// The baseline of an edge by the specified rule.
+fn baseline(restat: bool) -> Baseline {
+    if restat {
+        Baseline::Basis
+    } else {
+        Baseline::Outputs
+    }
 }
 
 /// Whether the edge has this code.
@@ -247,6 +257,88 @@ fn restat_edge(rt: HostRuntime) -> Result<(), AllocError> {
         Instr::End,
     ];
     let wiring = command(rt.alloc(), true, false)?;
+    assert_eq!(rt;
+        is_command_code(rt.alloc(), wiring, expected.as_slice()),
+        Ok(true)
+    );
+    Ok(())
+}
+
+/// One input that an edge makes, two outputs; the baseline is the earlier of the oldest output and the basis.
+fn joined(alloc: Global) -> Result<CommandWiring, AllocError> {
+    let mut wiring = command(alloc, false, false)?;
+    wiring.named = items(alloc, [Input::Made(0, 1)].as_slice())?;
+    wiring.outputs = items(alloc, [output(0, 2, 3), output(1, 4, 3)].as_slice())?;
+    wiring.flags = items(alloc, [1].as_slice())?;
+    wiring.newest = 5;
+    wiring.baseline = Baseline::OutputsAndBasis;
+    Ok(wiring)
+}
+
+#[test]
+fn earlier_of_two_baselines(rt: HostRuntime) -> Result<(), AllocError> {
+    let expected = [
+        Instr::Load(0),
+        Instr::Store(5),
+        Instr::Stat(0),
+        Instr::Store(2),
+        Instr::Stat(1),
+        Instr::Store(4),
+        Instr::Recall,
+        Instr::Drop,
+        Instr::Text(0),
+        Instr::Equal,
+        Instr::JumpIf(20),
+        Instr::Swap,
+        Instr::Zero,
+        Instr::Swap,
+        Instr::Flag(false),
+        Instr::Swap,
+        Instr::Sweep,
+        Instr::Drop,
+        Instr::Drop,
+        Instr::Jump(42),
+        Instr::Load(2),
+        Instr::Load(4),
+        Instr::Older,
+        Instr::Older,
+        Instr::Swap,
+        Instr::Load(5),
+        Instr::Swap,
+        Instr::Load(2),
+        Instr::Load(4),
+        Instr::Older,
+        Instr::IsMissing,
+        Instr::Load(1),
+        Instr::Or,
+        Instr::Swap,
+        Instr::Sweep,
+        Instr::Drop,
+        Instr::JumpIf(42),
+        Instr::Before,
+        Instr::JumpIf(44),
+        Instr::Flag(false),
+        Instr::Store(3),
+        Instr::End,
+        Instr::Drop,
+        Instr::Drop,
+        Instr::Take,
+        Instr::Text(0),
+        Instr::Run,
+        Instr::Release,
+        Instr::Text(0),
+        Instr::Load(5),
+        Instr::NoPaths,
+        Instr::Keep,
+        Instr::Stat(0),
+        Instr::Store(2),
+        Instr::Stat(1),
+        Instr::Store(4),
+        Instr::Flag(true),
+        Instr::Store(3),
+        Instr::End,
+    ];
+    let wiring = joined(rt.alloc())?;
     assert_eq!(rt;
         is_command_code(rt.alloc(), wiring, expected.as_slice()),
         Ok(true)

@@ -1,4 +1,5 @@
 use Rattle.std.proofs.Common.{inl, refl}
+use Rattle.plan_compile.specs.declared.baseline.OutOfDateRule.TheVariants.{Specified}
 use Rattle.plan_commands.proofs.CompilingLemmas.{not_compiled}
 use Rattle.plan_commands.proofs.compiling.do_compile.Goals as goal
 
@@ -8,4 +9,4 @@ image_of-image-requires g c =
     c.loaded_manifests_are_sound.ensures c.args.source.now (g.S.Source.failures c.args.source.now) (g.S.Source.failures c.manifest_at.new.source) c.args.path.now meant.0 c.in_ok-manifest.manifest meant.1 meant.2
 
 pub returns-in-Err-clause-refused : goal.returns-in-Err-clause-refused
-returns-in-Err-clause-refused g c = inl (refl, not_compiled _ c.args.path.now c.in_ok-manifest.manifest c.in-Err.fault c.in_ok-manifest.ensures.meant c.in-Err.ensures.refused)
+returns-in-Err-clause-refused g c = inl (refl, not_compiled Specified _ c.args.path.now c.in_ok-manifest.manifest c.in-Err.fault c.in_ok-manifest.ensures.meant c.in-Err.ensures.refused)

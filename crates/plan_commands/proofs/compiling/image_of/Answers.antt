@@ -8,12 +8,12 @@ pub returns-in-Ok-clause-spelled : goal.returns-in-Ok-clause-spelled
 returns-in-Ok-clause-spelled c =
     let manifest = c.args.manifest.now in
     let graph = c.in_ok-graph.graph in
-    let shaped : IsWellShaped (compiled manifest graph) = c.image_is_shaped.ensures (builds manifest graph) (c.manifests_are_sound.ensures manifest graph c.requires c.in_ok-graph.ensures.graph) in
+    let shaped : IsWellShaped (compiled c.args.rule manifest graph) = c.image_is_shaped.ensures (builds c.args.rule manifest graph) (c.manifests_are_sound.ensures c.args.rule manifest graph c.requires c.in_ok-graph.ensures.graph) in
     record { graph = graph; is_graph = c.in_ok-graph.ensures.graph; spelled = search rules; shaped = shaped; same = search rules }
 
 pub returns-in-Ok-clause-image : goal.returns-in-Ok-clause-image
 returns-in-Ok-clause-image c =
     let manifest = c.args.manifest.now in
     let graph = c.in_ok-graph.graph in
-    let shaped : IsWellShaped (compiled manifest graph) = c.image_is_shaped.ensures (builds manifest graph) (c.manifests_are_sound.ensures manifest graph c.requires c.in_ok-graph.ensures.graph) in
+    let shaped : IsWellShaped (compiled c.args.rule manifest graph) = c.image_is_shaped.ensures (builds c.args.rule manifest graph) (c.manifests_are_sound.ensures c.args.rule manifest graph c.requires c.in_ok-graph.ensures.graph) in
     record { sound = c.requires; graph = graph; is_graph = c.in_ok-graph.ensures.graph; same = search rules; shaped = search rules }

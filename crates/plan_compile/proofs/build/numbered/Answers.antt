@@ -1,6 +1,7 @@
 use Rattle.std.proofs.Common.{◌≡◌, ◌≤◌, ◌<◌, ◌∙◌, Bool, List, [], ℕ, ap, arith, sym, take, drop, get_or, length, ◌-◌}
 use Rattle.std.specs.Prelude.{slice_index}
 use Rattle.plan_scope.specs.Edge.{Edge as EdgeMeant}
+use Rattle.plan_compile.specs.Rule.{baseline_by}
 use Rattle.plan_compile.specs.Builds.{named_count, no_edge, without_made, without_own}
 use Rattle.plan_compile.proofs.BuildLemmas.{AreCut, cuts, same_build}
 use Rattle.plan_compile.proofs.ListLemmas.{some_is}
@@ -27,16 +28,17 @@ returns c = λ edge at.
     let back : c.back-order_only.result.now ≡ drop few row = c.back-order_only.ensures ∙ ap (λ (k : ℕ). drop k c.row-inputs.result.now) count ∙ ap (λ (fs : List ℕ). drop few fs) c.row-inputs.ensures in
     let named : without_made g.files own phony c.front-named.result.now ≡ without_own edge.phony (get_or g.outputs n []) (take few row) =
     ap (λ (k : ℕ). without_made g.files k phony c.front-named.result.now) c.word-own.ensures ∙ ap (λ (fs : List ℕ). without_made g.files n phony fs) front ∙ ap (λ (b : Bool). without_made g.files n b (take few row)) is_phony
-    ∙ without_same m g c.requires.graph c.files_complete.ensures c.producers_numbered.ensures n edge (take few row) at (λ f i. in_take few row f i) edge.phony in
+    ∙ without_same c.args.rule m g c.requires.graph c.files_complete.ensures c.producers_numbered.ensures n edge (take few row) at (λ f i. in_take few row f i) edge.phony in
     let order_only : without_made g.files own phony c.back-order_only.result.now ≡ without_own edge.phony (get_or g.outputs n []) (drop few row) =
     ap (λ (k : ℕ). without_made g.files k phony c.back-order_only.result.now) c.word-own.ensures ∙ ap (λ (fs : List ℕ). without_made g.files n phony fs) back ∙ ap (λ (b : Bool). without_made g.files n b (drop few row)) is_phony
-    ∙ without_same m g c.requires.graph c.files_complete.ensures c.producers_numbered.ensures n edge (drop few row) at (λ f i. in_drop few row f i) edge.phony in
+    ∙ without_same c.args.rule m g c.requires.graph c.files_complete.ensures c.producers_numbered.ensures n edge (drop few row) at (λ f i. in_drop few row f i) edge.phony in
     let cut : AreCut c.push_words-2.new.words.items c.row-outputs.result.now (without_made g.files own phony c.front-named.result.now) (without_made g.files own phony c.back-order_only.result.now) c.row-waits.result.now
     c.in_ok-named_at.named_at c.in_ok-order_only_at.order_only_at c.in_ok-waits_at.waits_at =
     cuts _ _ _ _ _ _ _ _ _ _ _ _ c.in_ok-numbers.ensures.items c.in_ok-named_at.ensures.more c.in_ok-named_at.ensures.len c.in_ok-order_only_at.ensures.more c.in_ok-order_only_at.ensures.len
     c.in_ok-waits_at.ensures.more c.in_ok-waits_at.ensures.len c.in_ok-push_words.ensures.more in
-    same_build (get_or m.edges c.word-own.result no_edge) edge _ _ _ _ _ _ _ _ _ _ built (cut.outputs ∙ c.row-outputs.ensures) (cut.named ∙ named) (cut.order_only ∙ order_only) (cut.waits ∙ c.row-waits.ensures)
+    same_build (get_or m.edges c.word-own.result no_edge) edge _ _ _ _ _ _ _ _ _ _ _ _ built (cut.outputs ∙ c.row-outputs.ensures) (cut.named ∙ named) (cut.order_only ∙ order_only) (cut.waits ∙ c.row-waits.ensures)
     (c.number_at.ensures ∙ ap (λ (rs : List ℕ). slice_index rs n) c.as_slice.ensures)
+    (c.baseline_by.ensures ∙ ap (λ (b : Bool). baseline_by b c.is_generator.result c.args.rule) (c.has_restat.ensures ∙ ap (λ (e : EdgeMeant). e.restat) found) ∙ ap (λ (b : Bool). baseline_by edge.restat b c.args.rule) (c.is_generator.ensures ∙ ap (λ (e : EdgeMeant). e.generator) found))
 
 pub word-own-requires : goal.word-own-requires
 word-own-requires c =

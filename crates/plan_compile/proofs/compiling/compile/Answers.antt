@@ -10,4 +10,4 @@ returns-in-Err-clause-refused c =
     let m = c.args.manifest.now in
     let g = c.args.graph.now in
     let why = c.in-Err._refused.1 in
-    passes_limit (compiled m g) why (c.image_is_spelled.ensures m g c.requires.graph) (subst (λ (p : Parts). IsPartsFault p why) c.in_ok-parts.ensures.parts c.in-Err.ensures.fault)
+    passes_limit (compiled c.args.rule m g) why (c.image_is_spelled.ensures c.args.rule m g c.requires.graph) (subst (λ (p : Parts). IsPartsFault p why) c.in_ok-parts.ensures.parts c.in-Err.ensures.fault)

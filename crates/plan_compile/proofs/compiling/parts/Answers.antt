@@ -23,8 +23,8 @@ pub returns-clause-parts : goal.returns-clause-parts
 returns-clause-parts c =
     let m = c.args.manifest.now in
     let g = c.args.graph.now in
-    let t : Builds = builds m g in
-    let sound : IsSound t = c.manifests_are_sound.ensures m g c.requires.sound c.requires.graph in
+    let t : Builds = builds c.args.rule m g in
+    let sound : IsSound t = c.manifests_are_sound.ensures c.args.rule m g c.requires.sound c.requires.graph in
     let named = c.in_ok-named.named in
     let coded = c.in_ok-coded.coded in
     let tables = c.in_ok-tables.tables in
@@ -52,7 +52,7 @@ code_all-requires c =
     let few : length m.edges ≤ 1048576 = c.requires.graph.few in
     record {
       named = ap (λ (ks : List Numbers). length ks) c.in_ok-named.ensures.numbers ∙ map_long (numbers_in (all_texts xs) (used_pools xs)) xs;
-      few = omega (arith, few, builds_length c.args.graph.now 0 m.edges, ap (λ (ys : List Build). length ys) c.in_ok-named.ensures.builds);
+      few = omega (arith, few, builds_length c.args.rule c.args.graph.now 0 m.edges, ap (λ (ys : List Build). length ys) c.in_ok-named.ensures.builds);
     }
 
 pub tables_of-requires : goal.tables_of-requires
@@ -62,8 +62,8 @@ pub returns-in_err-coded-clause-refused : goal.returns-in_err-coded-clause-refus
 returns-in_err-coded-clause-refused c =
     let m = c.args.manifest.now in
     let g = c.args.graph.now in
-    let t : Builds = builds m g in
-    let sound : IsSound t = c.manifests_are_sound.ensures m g c.requires.sound c.requires.graph in
+    let t : Builds = builds c.args.rule m g in
+    let sound : IsSound t = c.manifests_are_sound.ensures c.args.rule m g c.requires.sound c.requires.graph in
     let named = c.in_ok-named.named in
     let all : named.builds.items ≡ t.edges = c.in_ok-named.ensures.builds in
     let count : c.len-3.result ≡ length t.files = c.len-3.ensures ∙ sym (map_long (λ f. f.0) g.files) in
@@ -75,8 +75,8 @@ returns-in_err-coded-clause-refused c =
     let refused : RefusesEdges fault t.edges (codes t.edges) = subst (λ (xs : List Build). RefusesEdges fault xs (codes xs)) all c.in_err-coded.ensures.refused in
     let few : length g.files ≤ 4194304 = omega (arith, c.if-len-gt-MOST_FILES.false, c.len.ensures) in
     let p = err_from_is_err_and c.from_residual-in_err-coded.result c.from_residual-in_err-coded.ensures.1 in
-    subst (λ r. IfErr r (λ (f : CompileFault). IsRefused m g f)) (sym (p.1 ∙ ap (λ e. Err e) p.2))
-    (edges_refused m g fault (codes t.edges) few (all_codes t sound c.len-3.result (table t.edges) ks (newest_from zero t.edges) count refl numbers refl) refused)
+    subst (λ r. IfErr r (λ (f : CompileFault). IsRefused c.args.rule m g f)) (sym (p.1 ∙ ap (λ e. Err e) p.2))
+    (edges_refused c.args.rule m g fault (codes t.edges) few (all_codes t sound c.len-3.result (table t.edges) ks (newest_from zero t.edges) count refl numbers refl) refused)
 
 pub returns-in_err-tables-clause-refused : goal.returns-in_err-tables-clause-refused
 returns-in_err-tables-clause-refused c =
@@ -84,4 +84,4 @@ returns-in_err-tables-clause-refused c =
     let g = c.args.graph.now in
     let few : length g.files ≤ 4194304 = omega (arith, c.if-len-gt-MOST_FILES.false, c.len.ensures) in
     let p = err_from_is_err_and c.from_residual-in_err-tables.result c.from_residual-in_err-tables.ensures.1 in
-    subst (λ r. IfErr r (λ (f : CompileFault). IsRefused m g f)) (sym (p.1 ∙ ap (λ e. Err e) p.2)) few
+    subst (λ r. IfErr r (λ (f : CompileFault). IsRefused c.args.rule m g f)) (sym (p.1 ∙ ap (λ e. Err e) p.2)) few
