@@ -1,6 +1,6 @@
 -- Worked examples of command lines.
-use Rattle.std.proofs.Common.{◌≡◌, List, [], ◌∷◌, refl, ℕ}
-use Rattle.std.specs.Prelude.{codes, Option, Some, None}
+use Rattle.std.proofs.Common.{◌≡◌, List, [], ◌∷◌, refl}
+use Rattle.std.specs.Prelude.{codes, Some, None, true, false}
 use Rattle.plan_options.specs.declared.argument.Flag.TheVariants as flag
 use Rattle.plan_options.specs.declared.argument.Setting.TheVariants as setting
 use Rattle.plan_options.specs.declared.argument.Misuse.TheVariants as misuse
@@ -9,9 +9,10 @@ use Rattle.plan_options.specs.declared.argument.Argument.TheVariants as argument
 use Rattle.plan_options.specs.declared.stop.Stop.TheVariants as stop
 use Rattle.plan_options.specs.declared.integer.Integer.TheVariants.{Negative, AtLeastZero}
 use Rattle.plan_options.specs.Integers.{integer_in}
-use Rattle.plan_options.specs.Reading.{Text, reading}
+use Rattle.plan_options.specs.Reading.{reading}
 use Rattle.plan_options.specs.Stops.{stop_of_load, stop_of_mode}
-use Rattle.plan_options.specs.Saying.{failures, first_stop, jobs, last_value, targets, tool_words, verbosity}
+use Rattle.plan_options.specs.Saying.{failures, first_stop, is_dry_run, jobs, targets, verbosity}
+use Rattle.plan_options.specs.ToolWords.{operands, option_letters}
 
 -- `-vj3 a -f x b`
 letters_share_a_word : reading (codes "-vj3" ∷ codes "a" ∷ codes "-f" ∷ codes "x" ∷ codes "b" ∷ [])
@@ -116,3 +117,17 @@ first_stop_counts = refl
 -- `-j 0`
 as_many_as_can_be : jobs (reading (codes "-j" ∷ codes "0" ∷ [])) ≡ Some 64
 as_many_as_can_be = refl
+
+dry_run_among_letters : is_dry_run (reading (codes "a" ∷ codes "-vn" ∷ [])) ≡ true
+dry_run_among_letters = refl
+
+-- `-t clean -n`: it is a word of the tool
+no_dry_run_of_a_tool : is_dry_run (reading (codes "-t" ∷ codes "clean" ∷ codes "-n" ∷ [])) ≡ false
+no_dry_run_of_a_tool = refl
+
+-- `-gr a -x -- -g`
+letters_of_a_tool : option_letters (codes "-gr" ∷ codes "a" ∷ codes "-x" ∷ codes "--" ∷ codes "-g" ∷ []) ≡ codes "grx"
+letters_of_a_tool = refl
+
+operands_of_a_tool : operands (codes "-gr" ∷ codes "a" ∷ codes "-x" ∷ codes "--" ∷ codes "-g" ∷ []) ≡ codes "a" ∷ codes "-g" ∷ []
+operands_of_a_tool = refl

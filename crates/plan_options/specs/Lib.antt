@@ -4,3 +4,4 @@ pub mod LongOptions
 pub mod Reading
 pub mod Saying
 pub mod Stops
+pub mod ToolWords

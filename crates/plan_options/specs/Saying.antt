@@ -1,5 +1,6 @@
 -- What the arguments of a command line say together: of an option that comes more than once the last one counts.
-use Rattle.std.specs.Prelude.{ℕ, zero, suc, ◌==◌, List, [], ◌∷◌, Option, Some, None, filter_map, find, is_some, option_and_then, if◌then◌else◌}
+use Rattle.std.specs.Prelude.{ℕ, zero, suc, ◌==◌, Bool, true, false, List, [], ◌∷◌, Option, Some, None, filter_map, find, is_some, option_and_then, if◌then◌else◌}
+use Rattle.std.specs.List.{list_any}
 use Rattle.plan_options.specs.declared.argument.Flag.{Flag}
 use Rattle.plan_options.specs.declared.argument.Flag.TheVariants as flag
 use Rattle.plan_options.specs.declared.argument.Setting.{Setting}
@@ -46,6 +47,15 @@ verbosity_of other = None
 -- the last of `-v` and `--quiet`
 abbrev pub verbosity : List Argument → Option Flag
 verbosity arguments = last_found verbosity_of arguments
+
+-- `-n`
+abbrev pub is_dry : Argument → Bool
+is_dry (argument.Flag flag.DryRun) = true
+is_dry other = false
+
+-- whether one of them is `-n`
+abbrev pub is_dry_run : List Argument → Bool
+is_dry_run arguments = list_any is_dry arguments
 
 abbrev pub target_of : Argument → Option Text
 target_of (argument.Target name) = Some name

@@ -1,7 +1,6 @@
 -- The arguments at which ninja ends before it does anything else.
-use Rattle.std.specs.Prelude.{ℕ, ◌==◌, Bool, true, false, ◌||◌, List, [], ◌∷◌, Option, Some, None, bytes_eq, codes, if◌then◌else◌}
-use Rattle.std.specs.List.{list_any, starts_with}
-use Rattle.std.specs.Char.{to_ascii_lowercase}
+use Rattle.std.specs.Prelude.{ℕ, ◌==◌, Bool, false, ◌||◌, List, [], ◌∷◌, Option, Some, None, bytes_eq, codes, if◌then◌else◌}
+use Rattle.std.specs.List.{list_any}
 use Rattle.plan_text.specs.Bytes.{dot, hyphen}
 use Rattle.plan_text.specs.Numerals.{is_digit}
 use Rattle.plan_options.specs.declared.argument.Flag.{Flag}
@@ -13,15 +12,15 @@ use Rattle.plan_options.specs.declared.argument.Argument.TheVariants as argument
 use Rattle.plan_options.specs.declared.stop.Stop.{Stop}
 use Rattle.plan_options.specs.declared.stop.Stop.TheVariants as stop
 use Rattle.plan_options.specs.declared.integer.Integer.{Integer}
-use Rattle.plan_options.specs.declared.integer.Integer.TheVariants.{Negative, AtLeastZero}
+use Rattle.plan_options.specs.declared.integer.Integer.TheVariants.{AtLeastZero}
 use Rattle.plan_options.specs.Integers.{integer_in, past_white, plus}
 
--- `-h`, `--version`, `--about`; and `-n`, which isn't supported
+-- `-h`, `--version`, `--about`
 abbrev pub stop_of_flag : Flag → Option Stop
 stop_of_flag flag.Help = Some stop.Help
 stop_of_flag flag.Version = Some stop.Version
 stop_of_flag flag.About = Some stop.About
-stop_of_flag flag.DryRun = Some stop.DryRun
+stop_of_flag flag.DryRun = None
 stop_of_flag flag.Verbose = None
 stop_of_flag flag.Quiet = None
 

@@ -120,6 +120,25 @@ fn last_verbosity(arguments: &[Argument]) -> Option<Flag>
     last
 }
 
+/// Whether an argument is `-n`.
+fn is_dry(argument: &Argument) -> bool
+    ensures { result ≡ defined.is_dry argument.now }
+{
+    matches!(argument, Argument::Flag(Flag::DryRun))
+}
+
+/// Whether one of these arguments is `-n`.
+fn has_dry(arguments: &[Argument]) -> bool
+    ensures { result ≡ defined.is_dry_run arguments.now }
+{
+    for at in 0..arguments.len() {
+        if is_dry(&arguments[at]) {
+            return true;
+        }
+    }
+    false
+}
+
 /// Returns the targets among arguments.
 fn targets_in(alloc: Global, arguments: &[Argument]) -> Result<Vec<&[u8]>, Memory>
     ensures { IfOk result (λ names. map (λ n. n.now) names.items ≡ defined.targets arguments.now) }
@@ -185,6 +204,13 @@ impl CommandLine {
         ensures { result ≡ defined.verbosity self.now }
     {
         last_verbosity(self.arguments())
+    }
+
+    /// Whether `-n` is there: no command is to run, and nothing is to be changed.
+    pub fn is_dry_run(&self) -> bool
+        ensures { result ≡ defined.is_dry_run self.now }
+    {
+        has_dry(self.arguments())
     }
 
     /// Returns how many commands may run at once, 1 to 64. None if no `-j` says it.

@@ -6,6 +6,7 @@
 //!   word isn't understood.
 //! - `Stop`: why ninja ends at an argument, before it does anything else.
 //! - `integer_in`: the number that a value says.
+//! - `option_letters`, `operands`: the options and the other words among a tool's.
 //!
 //! The options are those of ninja 1.11 (`ninja -h`); the Ninja manual's section "Running Ninja" names some of them.
 #![tactic(auto)]
@@ -19,9 +20,11 @@ mod letters;
 mod long_option;
 mod reader;
 mod stop;
+mod tool_words;
 
 pub use argument::{Argument, Flag, Misuse, Setting};
 pub use command_line::CommandLine;
 pub use integer::{Integer, integer_in};
 pub use long_option::{flags_named, long_name_in, name_of};
 pub use stop::{Stop, stop_of};
+pub use tool_words::{operands, option_letters};

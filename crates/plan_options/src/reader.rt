@@ -22,7 +22,7 @@ fn read_long(alloc: Global, word: &[u8], read: &mut Vec<Argument>) -> Result<Exp
 }
 
 /// Returns a word without its first byte.
-fn past_hyphen(word: &[u8]) -> &[u8]
+pub(crate) fn past_hyphen(word: &[u8]) -> &[u8]
     ensures { result.now ≡ drop 1 word.now }
 {
     match word {

@@ -17,8 +17,6 @@ pub enum Stop {
     Help,
     /// What this program is is asked for.
     About,
-    /// A run without commands is asked for, which isn't supported.
-    DryRun,
     /// A word isn't understood.
     Misuse,
     /// `-j` has no number, or one below 0.
@@ -113,7 +111,7 @@ fn stop_of_flag(flag: Flag) -> Option<Stop>
         Flag::Help => Some(Stop::Help),
         Flag::Version => Some(Stop::Version),
         Flag::About => Some(Stop::About),
-        Flag::DryRun => Some(Stop::DryRun),
+        Flag::DryRun => None,
         Flag::Verbose => None,
         Flag::Quiet => None,
     }

@@ -93,3 +93,16 @@ fn numbers(rt: HostRuntime) {
         assert_eq!(rt; integer_in(text, 64), wanted);
     }
 }
+
+#[test]
+fn words_of_tools(rt: HostRuntime) -> Result<(), Fail> {
+    let words: [&[u8]; 6] = [b"-gr", b"a", b"-", b"-x", b"--", b"-g"];
+    assert_eq!(rt;
+        option_letters(rt.alloc(), &words)?.as_slice(),
+        b"grx".as_slice()
+    );
+    assert!(rt; are_texts(&operands(rt.alloc(), &words)?, &[b"a", b"-", b"-g"]));
+    assert!(rt; CommandLine::read(rt.alloc(), &[b"-vn"])?.is_dry_run());
+    assert!(rt; !CommandLine::read(rt.alloc(), &[b"-t", b"clean", b"-n"])?.is_dry_run());
+    Ok(())
+}
