@@ -1,0 +1,15 @@
+-- What a world over another one may reply, and the stamps that it keeps.
+use Rattle.std.specs.Prelude.{ℕ, List}
+use Rattle.plan_verify.specs.Turn.{Request}
+use Rattle.plan_machine.specs.declared.reply.Reply.{Reply}
+use Rattle.plan_lanes.specs.Journals.{Rule}
+
+-- a reply that a rule allows for a question under some number
+abbrev pub AllowsOnce : Rule → Request → Reply → Type 0
+AllowsOnce rule question reply = (n : ℕ) × rule n question reply
+
+-- a stamp that is kept: the path that it is of, the stamp, and how many commands had begun when it was asked for
+pub record Kept : Type 0 where
+  pub path : List ℕ
+  pub stamp : ℕ
+  pub begun : ℕ

@@ -1,0 +1,189 @@
+//! The world over another one.
+
+ghost use Rattle.std.specs.Prelude.{◌≡◌, IfOk, IfSome};
+ghost use Rattle.plan_machine.specs.declared.reply.Reply.TheVariants.{Stamp};
+ghost use Rattle.plan_stamps.specs.Stamps.{AllowsOnce};
+ghost use Rattle.plan_verify.specs.Turn.{Keep, Run, Stat};
+
+use crate::commands::{Commands, Moment, Running};
+use crate::kept::{KeptStamp, StampTable};
+use plan_lanes::{Permit, World};
+use plan_machine::Reply;
+use plan_text::RowList;
+use plan_verify::PathList;
+use std::alloc::{AllocError, Global};
+use std::sync::Wait;
+
+/// The inner world. It changes files only for a command that was counted.
+#[derive(Drop)]
+struct Inner<W> {
+    world: W,
+}
+
+impl<W: World> Inner<W> {
+    /// Asks for the stamp of a path.
+    fn stat(&self, number: u64, path: &[u8]) -> Result<Reply, AllocError>
+        ensures { IfOk result (λ r. AllowsOnce W.allows (Stat path.now) r) }
+    {
+        self.world.stat(number, path)
+    }
+
+    /// Runs a command that was counted.
+    fn run(
+        &self,
+        running: &Running,
+        number: u64,
+        command: &[u8],
+        outputs: &RowList<u8>,
+        permit: Permit,
+    ) -> Result<Reply, AllocError>
+        ensures { IfOk result (λ r. AllowsOnce W.allows (Run command.now outputs.now) r) }
+    {
+        let _ = running;
+        self.world.run(number, command, outputs, permit)
+    }
+
+    /// Keeps in the record what an output was made from. This was counted like a command.
+    fn keep(
+        &self,
+        running: &Running,
+        number: u64,
+        output: &[u8],
+        command: &[u8],
+        basis: u64,
+        paths: &PathList,
+    ) -> Result<Reply, AllocError>
+        ensures { IfOk result (λ r. AllowsOnce W.allows (Keep output.now command.now basis paths.now) r) }
+    {
+        let _ = running;
+        self.world.keep(number, output, command, basis, paths)
+    }
+}
+
+/// A world over another one, which asks for the stamp of a path once while no command runs. It answers from a stamp that it
+/// kept, if no command is running and none has begun since the inner world was asked.
+#[derive(Drop)]
+pub struct StampCache<'a, R, W: World> {
+    rt: &'a R,
+    alloc: Global,
+    inner: Inner<W>,
+    commands: Commands,
+    table: StampTable<W>,
+}
+
+impl<'a, R, W: World> StampCache<'a, R, W> {
+    /// Creates a world over another one, with room for this many stamps.
+    ///
+    /// # Errors
+    /// `AllocError` if memory runs out.
+    pub fn new(
+        rt: &'a R,
+        alloc: Global,
+        world: W,
+        room: usize,
+    ) -> Result<StampCache<'a, R, W>, AllocError>
+    where
+        W: Drop,
+        ensures { IfOk result (λ c. c.inner.world ≡ world) }
+    {
+        Ok(StampCache {
+            rt,
+            alloc,
+            inner: Inner { world },
+            commands: Commands::new(),
+            table: StampTable::new(alloc, room)?,
+        })
+    }
+
+    /// Returns the inner world.
+    pub fn inner(&self) -> &W
+        ensures { result.now ≡ self.now.inner.world }
+    {
+        &self.inner.world
+    }
+}
+
+impl<R: Wait, W: World> StampCache<'_, R, W> {
+    /// Keeps a stamp for others who ask in the same moment. Without memory it isn't kept.
+    fn keep_stamp(&self, path: &[u8], stamp: u64, moment: &Moment)
+        requires { AllowsOnce W.allows (Stat path.now) (Stamp stamp) }
+    {
+        if !self.table.is_wanted(moment) {
+            return;
+        }
+        if let Ok(kept) = KeptStamp::new(self.alloc, path, stamp, moment) {
+            self.table.add(self.rt, kept);
+        }
+    }
+
+    /// Asks the inner world, and keeps the stamp that it replies. A fault isn't kept.
+    fn ask(&self, number: u64, path: &[u8], moment: &Moment) -> Result<Reply, AllocError>
+        ensures { IfOk result (λ r. AllowsOnce W.allows (Stat path.now) r) }
+    {
+        let reply = self.inner.stat(number, path)?;
+        if let Reply::Stamp(stamp) = &reply {
+            self.keep_stamp(path, *stamp, moment);
+        }
+        Ok(reply)
+    }
+
+    /// Returns the reply for a path: the stamp that was kept, or what the inner world replies.
+    fn look(&self, number: u64, path: &[u8]) -> Result<Reply, AllocError>
+        ensures { IfOk result (λ r. AllowsOnce W.allows (Stat path.now) r) }
+    {
+        let Some(moment) = self.commands.quiet() else {
+            return self.inner.stat(number, path);
+        };
+        match self.table.find(path, &moment) {
+            Some(kept) => Ok(Reply::Stamp(kept.stamp())),
+            None => self.ask(number, path, &moment),
+        }
+    }
+}
+
+impl<R: Wait, W: World> World for StampCache<'_, R, W> {
+    ghost use Rattle.plan_stamps.specs.Stamps.{AllowsOnce};
+
+    ghost allows = { λ _ question reply. AllowsOnce W.allows question reply };
+
+    fn stat(&self, number: u64, path: &[u8]) -> Result<Reply, AllocError> {
+        self.look(number, path)
+    }
+
+    fn recall(&self, number: u64, output: &[u8]) -> Result<Reply, AllocError> {
+        self.inner.world.recall(number, output)
+    }
+
+    fn run(
+        &self,
+        number: u64,
+        command: &[u8],
+        outputs: &RowList<u8>,
+        permit: Permit,
+    ) -> Result<Reply, AllocError> {
+        let running = self.commands.begin();
+        let reply = self.inner.run(&running, number, command, outputs, permit);
+        self.commands.end(running);
+        reply
+    }
+
+    fn read_depfile(&self, number: u64, path: &[u8]) -> Result<Reply, AllocError> {
+        self.inner.world.read_depfile(number, path)
+    }
+
+    fn keep(
+        &self,
+        number: u64,
+        output: &[u8],
+        command: &[u8],
+        basis: u64,
+        paths: &PathList,
+    ) -> Result<Reply, AllocError> {
+        let running = self.commands.begin();
+        let reply = self
+            .inner
+            .keep(&running, number, output, command, basis, paths);
+        self.commands.end(running);
+        reply
+    }
+}

@@ -1,0 +1,108 @@
+//! A world that counts the questions that it is asked.
+
+use plan_lanes::{Permit, World};
+use plan_machine::Reply;
+use plan_text::RowList;
+use plan_verify::PathList;
+use std::alloc::AllocError;
+use std::rt::Clock;
+use std::sync::atomic::{AtomicU64, Ordering};
+use std::thread;
+use std::time::Duration;
+
+/// The stamp of each file whose path isn't empty.
+pub const STAMP: u64 = 7;
+
+/// A world that counts questions for stamps. An empty path is a fault. Each command ends with status 0, and one that waits
+/// too long with status 99:
+///
+/// - A command with two outputs waits until enough questions were asked.
+/// - A command with three outputs waits until one with two outputs has begun.
+#[derive(Drop)]
+pub struct CountingWorld<C> {
+    clock: C,
+    enough: u64,
+    asked: AtomicU64,
+    /// How many commands with two outputs have begun.
+    begun: AtomicU64,
+}
+
+impl<C> CountingWorld<C> {
+    /// Creates a world in which this many questions are enough.
+    pub fn new(clock: C, enough: u64) -> CountingWorld<C> {
+        CountingWorld {
+            clock,
+            enough,
+            asked: AtomicU64::new(0),
+            begun: AtomicU64::new(0),
+        }
+    }
+
+    /// Returns how many questions for stamps were asked.
+    pub fn asked(&self) -> u64 {
+        self.asked.load(Ordering::SeqCst)
+    }
+
+    /// Checks whether a command with this many outputs may end.
+    fn may_end(&self, outputs: usize) -> bool {
+        match outputs {
+            2 => self.asked() >= self.enough,
+            3 => self.begun.load(Ordering::SeqCst) > 0,
+            _ => true,
+        }
+    }
+}
+
+impl<C: Clock> World for CountingWorld<C> {
+    ghost use Rattle.std.specs.Prelude.{⊤};
+
+    ghost allows = { λ number request reply. ⊤ };
+
+    fn stat(&self, _number: u64, path: &[u8]) -> Result<Reply, AllocError> {
+        self.asked.fetch_add(1, Ordering::SeqCst);
+        if path.is_empty() {
+            Ok(Reply::Fault)
+        } else {
+            Ok(Reply::Stamp(STAMP))
+        }
+    }
+
+    fn recall(&self, _number: u64, _output: &[u8]) -> Result<Reply, AllocError> {
+        Ok(Reply::Nothing)
+    }
+
+    fn run(
+        &self,
+        _number: u64,
+        _command: &[u8],
+        outputs: &RowList<u8>,
+        permit: Permit,
+    ) -> Result<Reply, AllocError> {
+        permit.spend();
+        if outputs.len() == 2 {
+            self.begun.fetch_add(1, Ordering::SeqCst);
+        }
+        for _ in 0..5_000 {
+            if self.may_end(outputs.len()) {
+                return Ok(Reply::Exit(0));
+            }
+            thread::sleep(&self.clock, Duration::from_millis(1));
+        }
+        Ok(Reply::Exit(99))
+    }
+
+    fn read_depfile(&self, _number: u64, _path: &[u8]) -> Result<Reply, AllocError> {
+        Ok(Reply::Nothing)
+    }
+
+    fn keep(
+        &self,
+        _number: u64,
+        _output: &[u8],
+        _command: &[u8],
+        _basis: u64,
+        _paths: &PathList,
+    ) -> Result<Reply, AllocError> {
+        Ok(Reply::Kept)
+    }
+}
