@@ -7,3 +7,4 @@ mod BuildingLemmas
 mod BuildRightLemmas
 mod ComparingLemmas
 mod CompilingLemmas
+mod DryLemmas

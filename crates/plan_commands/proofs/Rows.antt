@@ -1,4 +1,5 @@
--- Worked examples: how faults of graphs are printed, the edge that makes a manifest, and how builds end.
+-- Worked examples: how faults of graphs are printed, the edge that makes a manifest, how builds end, and what a dry build
+-- takes for a reply.
 use Rattle.std.proofs.Common.{◌≡◌, ℕ, List, [], ◌∷◌, None, Some, refl}
 use Rattle.std.specs.Prelude.{codes, false, map}
 use Rattle.plan_scope.specs.Edge.{Edge}
@@ -9,9 +10,13 @@ use Rattle.plan_image.specs.declared.image.Edge.{Edge as ImageEdge}
 use Rattle.plan_image.specs.declared.image.EdgeCode.TheVariants.{Own}
 use Rattle.plan_image.specs.declared.image.Parts.{Parts}
 use Rattle.plan_image.specs.declared.image.Sort.TheVariants as sort
+use Rattle.plan_machine.specs.declared.reply.Reply.TheVariants as reply
+use Rattle.plan_verify.specs.Turn.{Keep, Run, Stat}
+use Rattle.plan_lanes.specs.Journals.{Rule}
 use Rattle.plan_commands.specs.declared.building.Done.TheVariants as done
 use Rattle.plan_commands.specs.declared.fault.PlanFault.{PlanFault}
 use Rattle.plan_commands.specs.Building.{exit_status, maker_of, most_rounds}
+use Rattle.plan_commands.specs.Dry.{dry_rule}
 use Rattle.plan_commands.specs.Faults.{graph_memory, name_of, printed_graph_fault}
 
 abbrev edge : List (List ℕ) → List (List ℕ) → Edge
@@ -103,3 +108,19 @@ statuses = refl
 -- so many rounds as ninja's
 hundred_rounds : most_rounds ≡ 100
 hundred_rounds = refl
+
+-- ---- dry builds
+
+dry_command_ends_well : (rule : Rule) (command : List ℕ) (outputs : List (List ℕ)) → dry_rule rule 7 (Run command outputs) (reply.Exit 0)
+dry_command_ends_well rule command outputs = refl
+
+-- a reply of the world is none to a command of a dry build
+dry_command_is_not_run : (rule : Rule) (command : List ℕ) (outputs : List (List ℕ)) → dry_rule rule 7 (Run command outputs) (reply.Exit 1) → ⊥
+dry_command_is_not_run rule command outputs is = cc
+
+dry_entry_is_kept : (rule : Rule) (output command : List ℕ) → dry_rule rule 9 (Keep output command 5 []) reply.Kept
+dry_entry_is_kept rule output command = refl
+
+-- files are asked by the rule of the world
+dry_stamp : (rule : Rule) (path : List ℕ) → dry_rule rule 1 (Stat path) reply.Fault ≡ rule 1 (Stat path) reply.Fault
+dry_stamp rule path = refl

@@ -4,6 +4,7 @@ pub mod Building
 pub mod Commands
 pub mod Comparing
 pub mod Compiling
+pub mod Dry
 pub mod Faults
 pub mod Images
 pub mod Replaying

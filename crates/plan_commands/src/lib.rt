@@ -3,10 +3,13 @@
 //! - `do_commands`, `do_compile`, `do_verify`, `do_dump`, `do_replay`, `do_compare`: what a command writes to a sink, by
 //!   what its sources give, and the status that it ends with.
 //! - `do_run`: runs an image in a world.
-//! - `do_build`: brings a manifest up to date, and builds its targets in a world.
+//! - `do_build`: brings a manifest up to date, and builds its targets in a world. `do_dry_build`: without running anything.
 //! - `build_is_right`, `idle_builds_run_nothing`: what the end of a build means for the edges of the manifest.
-//! - `PlanFault`: why a command is refused, with the line that is printed.
+//! - `PlanFault`: why a command is refused, with the line that is printed; `printed_fault` and `printed_graph_fault` make
+//!   one of the fault of a manifest.
 //! - `FileSource`, `NewFile`: the files of the system. `Buffer`: bytes held back before a sink.
+//! - `Standard`, `Screen`: standard output, as one thread writes to it and as several do. `open_streams`: the streams that
+//!   a program was started without.
 //!
 //! docs/using/running.md, docs/rules/replay.md and docs/rules/manifest.md have the rules one by one.
 #![tactic(auto)]
@@ -17,6 +20,7 @@ mod commands;
 mod comparing;
 mod compile_fault;
 mod compiling;
+mod dry;
 mod fault;
 mod files;
 mod graph_fault;
@@ -27,6 +31,8 @@ mod playing;
 mod replay_fault;
 mod replaying;
 mod running;
+mod screen;
+mod streams;
 mod targets;
 mod verdicts;
 
@@ -35,10 +41,14 @@ pub use building::{Done, Order, do_build};
 pub use commands::do_commands;
 pub use comparing::{Compared, do_compare};
 pub use compiling::do_compile;
-pub use fault::{PlanFault, file_fault, lost_output, no_memory};
+pub use dry::do_dry_build;
+pub use fault::{PlanFault, file_fault, lost_output, no_memory, printed_fault};
 pub use files::{FileSource, IMAGE_BYTES, MANIFEST_BYTES, NewFile, TRACE_BYTES};
+pub use graph_fault::printed_graph_fault;
 pub use images::do_dump;
 pub use laws::{build_is_right, idle_builds_run_nothing};
 pub use replaying::do_replay;
 pub use running::{Build, do_run};
+pub use screen::{Screen, Standard};
+pub use streams::open_streams;
 pub use verdicts::do_verify;

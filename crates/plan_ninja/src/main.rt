@@ -3,15 +3,10 @@
 
 ghost use Rattle.std.specs.Prelude.{◌≡◌};
 
-mod screen;
-mod streams;
-
-use crate::screen::{Screen, Standard};
-use crate::streams::open_streams;
 use plan_commands::{
-    Buffer, Build, Compared, FileSource, IMAGE_BYTES, MANIFEST_BYTES, NewFile, PlanFault,
-    TRACE_BYTES, do_commands, do_compare, do_compile, do_dump, do_replay, do_run, do_verify, ended,
-    file_fault, lost_output, no_memory,
+    Buffer, Build, Compared, FileSource, IMAGE_BYTES, MANIFEST_BYTES, NewFile, PlanFault, Screen,
+    Standard, TRACE_BYTES, do_commands, do_compare, do_compile, do_dump, do_replay, do_run,
+    do_verify, ended, file_fault, lost_output, no_memory, open_streams,
 };
 use plan_lanes::World;
 use plan_machine::Options;
@@ -207,8 +202,11 @@ fn status_of<E: Print>(alloc: Global, errors: &E, done: Result<u8, PlanFault>) -
 }
 
 fn main(rt: HostRuntime) -> ExitCode {
-    let _streams = open_streams(&rt);
     let errors = rt.stderr();
+    let Ok(_streams) = open_streams(&rt) else {
+        let _ = errors.write_all(b"plan_ninja: /dev/null can't be opened\n");
+        return ExitCode::from(REFUSED);
+    };
     let words = match words_in(&rt) {
         Ok(words) => words,
         Err(told) => return ExitCode::from(show(&rt, &errors, &told)),

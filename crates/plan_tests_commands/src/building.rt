@@ -1,7 +1,8 @@
 //! Builds of manifests in memory, in a world in which the manifest's maker is out of date a number of times.
 
-use crate::fakes::{Failing, Generator, Versions};
-use plan_commands::{Done, Order, PlanFault, do_build};
+use crate::fakes::{Failing, Generator, Touched, Versions};
+use plan_commands::{Done, Order, PlanFault, do_build, do_dry_build};
+use plan_lanes::World;
 use plan_machine::Options;
 use plan_text::{Counted, Sink};
 use std::alloc::{AllocError, Global};
@@ -29,11 +30,16 @@ const IDLE: &[u8] =
     b"rule make\n  command = make $out\n  generator = 1\nbuild build.ninja: make in\nbuild done: make in\ndefault done\n";
 
 /// Builds targets of a manifest that changes between its reads, and prints the lines to a sink.
-fn build_to<'x, R: Threads + Wait + Sync + AllocGlobal, O: Sink + Send + Drop>(
+fn build_to<
+    'x,
+    R: Threads + Wait + Sync + AllocGlobal,
+    W: World + Send + Sync,
+    O: Sink + Send + Drop,
+>(
     rt: &R,
     texts: &'x [&'x [u8]],
     targets: &'x [&'x [u8]],
-    world: &Generator,
+    world: &W,
     out: O,
 ) -> Result<(Result<Done, PlanFault>, O), Fail> {
     let mut source = Versions::new(texts);
@@ -58,15 +64,59 @@ fn line_of(alloc: Global, done: Result<Done, PlanFault>) -> Result<Result<Done, 
 }
 
 /// Builds targets of a manifest that changes between its reads.
-fn built<'x, R: Threads + Wait + Sync + AllocGlobal>(
+fn built<'x, R: Threads + Wait + Sync + AllocGlobal, W: World + Send + Sync>(
     rt: &R,
     texts: &'x [&'x [u8]],
     targets: &'x [&'x [u8]],
-    world: &Generator,
+    world: &W,
 ) -> Result<Told, Fail> {
     let out = Counted::new(Vec::new(rt.alloc()));
     let (done, out) = build_to(rt, texts, targets, world, out)?;
     Ok((out.into_writer(), line_of(rt.alloc(), done)?))
+}
+
+/// Builds all of a manifest without running anything.
+fn previewed<'x, R: Threads + Wait + Sync + AllocGlobal>(
+    rt: &R,
+    texts: &'x [&'x [u8]],
+    world: &Generator,
+) -> Result<Told, Fail> {
+    let mut source = Versions::new(texts);
+    let Some(options) = Options::new(1, 1) else {
+        return Err(Fail::from(AllocError));
+    };
+    let order = Order {
+        manifest: b"build.ninja",
+        options,
+        targets: &[],
+    };
+    let bell = Parker::new();
+    let out = Counted::new(Vec::new(rt.alloc()));
+    let (done, out) = do_dry_build(rt, rt.alloc(), &mut source, &order, world, &bell, out);
+    Ok((out.into_writer(), line_of(rt.alloc(), done)?))
+}
+
+#[test]
+fn dry_build_runs_nothing(rt: HostRuntime) -> Result<(), Fail> {
+    let world = Generator::new(0, 0);
+    let (text, done) = previewed(&rt, &[PLAIN], &world)?;
+    assert_eq!(rt; text.as_slice(), b"[1/1] cc in -o out\n".as_slice());
+    assert!(rt; matches!(&done, Ok(Done::Built)));
+    assert!(rt; world.commands() == 0);
+    let (text, done) = previewed(&rt, &[IDLE], &world)?;
+    assert!(rt; text.is_empty());
+    assert!(rt; matches!(&done, Ok(Done::UpToDate)));
+    Ok(())
+}
+
+#[test]
+fn dry_build_ends_behind_the_maker(rt: HostRuntime) -> Result<(), Fail> {
+    let world = Generator::new(1, 0);
+    let (text, done) = previewed(&rt, &[MADE, REMADE], &world)?;
+    assert_eq!(rt; text.as_slice(), b"[1/1] make build.ninja\n".as_slice());
+    assert!(rt; matches!(&done, Ok(Done::Built)));
+    assert!(rt; world.commands() == 0);
+    Ok(())
 }
 
 #[test]
@@ -122,6 +172,32 @@ fn nothing_to_do_is_up_to_date(rt: HostRuntime) -> Result<(), Fail> {
     assert!(rt; text.is_empty());
     assert!(rt; matches!(&done, Ok(Done::UpToDate)));
     assert!(rt; world.commands() == 0);
+    Ok(())
+}
+
+/// The output is later than its input, but the input is later than what the command read. The command runs.
+#[test]
+fn touched_output_hides_no_edit(rt: HostRuntime) -> Result<(), Fail> {
+    let world = Touched {
+        alloc: rt.alloc(),
+        basis: 5,
+    };
+    let (text, done) = built(&rt, &[PLAIN], &[], &world)?;
+    assert_eq!(rt; text.as_slice(), b"[1/1] cc in -o out\n".as_slice());
+    assert!(rt; matches!(&done, Ok(Done::Built)));
+    Ok(())
+}
+
+/// The input is what the command read.
+#[test]
+fn unchanged_input_is_up_to_date(rt: HostRuntime) -> Result<(), Fail> {
+    let world = Touched {
+        alloc: rt.alloc(),
+        basis: 7,
+    };
+    let (text, done) = built(&rt, &[PLAIN], &[], &world)?;
+    assert!(rt; text.is_empty());
+    assert!(rt; matches!(&done, Ok(Done::UpToDate)));
     Ok(())
 }
 
