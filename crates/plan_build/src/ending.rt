@@ -50,6 +50,11 @@ fn refuse_manifest<E: Print>(
     }
 }
 
+/// Says that there is nothing to do, and returns the exit status: 0, or 1 if it can't be written.
+pub fn no_work<R: Print + AllocGlobal, E: Print>(rt: &R, errors: &E) -> u8 {
+    status_after(say(rt, errors, &[b"ninja: no work to do.\n"]), 0)
+}
+
 /// Says how the build of a manifest ended, in ninja's words, and returns the exit status: that of the build, or 1 if
 /// `no work to do` can't be written. Standard error says so then.
 pub fn end_build<R: Print + AllocGlobal, E: Print>(

@@ -2,42 +2,35 @@
 //! crates below it.
 #![tactic(auto)]
 
+mod building;
 mod ending;
 mod pointing;
 mod refusal;
 mod said;
-mod screen;
 mod stopping;
-mod streams;
 mod tool;
 mod words;
 
-use crate::ending::end_build;
+use crate::building::Builder;
 use crate::refusal::{refuse, refuse_loading};
 use crate::said::{REFUSED, complain, complain_of, say};
-use crate::screen::Screen;
 use crate::stopping::{stop_at, warn};
-use crate::streams::open_streams;
-use crate::tool::{is_tool, run_tool, unknown_tool};
-use crate::words::{after_name, name_in, words_in};
-use plan_commands::{FileSource, MANIFEST_BYTES, Order, do_build, file_fault, no_memory};
+use crate::tool::{request_in, run_tool, tool_named, unknown_tool};
+use crate::words::{MANIFEST, after_name, manifest_in, name_in, words_in};
+use plan_commands::{file_fault, no_memory, open_streams};
 use plan_lanes::World;
-use plan_machine::Options;
 use plan_options::{CommandLine, Flag, Setting};
+use plan_stamps::StampCache;
 use plan_world::{OpenFault, RealWorld};
-use std::alloc::AllocError;
+use std::alloc::{AllocError, Global};
 use std::io::ErrorKind;
 use std::process::ExitCode;
 use std::rt::{Env, Files};
-use std::sync::{Mutex, Wait};
-use std::thread::{Parker, Threads};
+use std::thread::Threads;
 use std::{env, fs, str, thread};
 
 /// The path of the build record, in the folder of the build.
 const RECORD: &str = ".plan_record";
-
-/// The manifest that is read if none is named.
-const MANIFEST: &[u8] = b"build.ninja";
 
 /// Returns how many commands run at once if no `-j` says it, as ninja has it: two for one processor, three for two, and
 /// otherwise two more than there are, at most 64.
@@ -80,42 +73,6 @@ fn enter<R: Env + Print + Eprint + AllocGlobal, E: Print>(
     }
 }
 
-/// Builds what the words ask for in a world, and returns the exit status.
-fn build_in<
-    R: Threads + Wait + Sync + Files + Print + Eprint + AllocGlobal,
-    E: Print,
-    W: World + Send + Sync,
->(
-    rt: &R,
-    errors: &E,
-    line: &CommandLine,
-    jobs: u8,
-    world: &W,
-    screen: &Mutex<()>,
-    bell: &Parker,
-) -> u8 {
-    let alloc = rt.alloc();
-    let manifest = line.value(Setting::Manifest).unwrap_or(MANIFEST);
-    let (Some(options), Ok(targets)) = (
-        Options::new(line.jobs().unwrap_or(jobs), line.failures()),
-        line.targets(alloc),
-    ) else {
-        return refuse(rt, errors, manifest, &no_memory(alloc));
-    };
-    let order = Order {
-        manifest,
-        options,
-        targets: &targets,
-    };
-    let mut manifests = FileSource::new(rt, MANIFEST_BYTES);
-    let out = Screen::new(rt, screen);
-    let (done, _out) = do_build(rt, alloc, &mut manifests, &order, world, bell, out);
-    match done {
-        Ok(done) => end_build(rt, errors, manifest, line.failures(), done),
-        Err(fault) => refuse(rt, errors, manifest, &fault),
-    }
-}
-
 /// Returns why a manifest can't be read, before it is opened. None if nothing is known against it.
 fn missing<R: Files>(rt: &R, manifest: &[u8]) -> Option<ErrorKind> {
     match fs::metadata(rt, str::from_utf8(manifest).unwrap_or("")) {
@@ -141,7 +98,7 @@ fn open_world<E: Print>(
     line: &CommandLine,
 ) -> Result<RealWorld<HostRuntime>, u8> {
     let alloc = rt.alloc();
-    let manifest = line.value(Setting::Manifest).unwrap_or(MANIFEST);
+    let manifest = manifest_in(line);
     if let Some(kind) = missing(rt, manifest) {
         return Err(refuse_loading(alloc, errors, manifest, kind));
     }
@@ -159,21 +116,42 @@ fn open_world<E: Print>(
     }
 }
 
-/// Runs a tool in the folder that `-C` names, and returns the exit status.
-fn use_tool<R: Files + Env + Print + Eprint + AllocGlobal, E: Print>(
-    rt: &R,
+/// The least and the greatest room for stamps.
+const LEAST_ROOM: usize = 16_384;
+
+const GREATEST_ROOM: usize = 4_194_304;
+
+/// Returns for how many stamps there is room if the manifest has this many bytes. A path takes 16 bytes of most manifests,
+/// or more: this is room for twice as many stamps as there are paths.
+fn room_for(bytes: u64) -> usize {
+    usize::try_from(bytes / 8)
+        .unwrap_or(GREATEST_ROOM)
+        .clamp(LEAST_ROOM, GREATEST_ROOM)
+}
+
+/// Returns a world over another one, which asks for the stamp of a path once while no command runs.
+///
+/// # Errors
+/// The exit status if memory runs out; standard error says so.
+fn cache_over<'a, R: Files + Eprint + AllocGlobal, E: Print, W: World + Drop>(
+    rt: &'a R,
     errors: &E,
-    line: &CommandLine,
-    name: &[u8],
-) -> u8 {
-    let alloc = rt.alloc();
-    if !is_tool(name) {
-        return unknown_tool(alloc, errors, name);
-    }
-    let (Ok(targets), Ok(words)) = (line.targets(alloc), line.tool_words(alloc)) else {
-        return refuse(rt, errors, MANIFEST, &no_memory(alloc));
+    manifest: &[u8],
+    world: W,
+) -> Result<StampCache<'a, R, W>, u8> {
+    let bytes = match fs::metadata(rt, str::from_utf8(manifest).unwrap_or("")) {
+        Ok(found) => found.len(),
+        Err(_) => 0,
     };
-    if let [target, ..] = targets.as_slice() {
+    match StampCache::new(rt, rt.alloc(), world, room_for(bytes)) {
+        Ok(cache) => Ok(cache),
+        Err(_) => Err(refuse(rt, errors, manifest, &no_memory(rt.alloc()))),
+    }
+}
+
+/// Refuses targets before `-t`, which are no words of the tool.
+fn check_no_targets<E: Print>(alloc: Global, errors: &E, targets: &[&[u8]]) -> Result<(), u8> {
+    if let [target, ..] = targets {
         complain(
             alloc,
             errors,
@@ -183,12 +161,32 @@ fn use_tool<R: Files + Env + Print + Eprint + AllocGlobal, E: Print>(
                 b"' comes before -t; it is no word of the tool\n",
             ],
         );
-        return REFUSED;
+        return Err(REFUSED);
     }
-    match enter(rt, errors, line) {
-        Ok(()) => run_tool(rt, errors, name, &words),
-        Err(status) => status,
-    }
+    Ok(())
+}
+
+/// Runs a tool in the folder that `-C` names.
+///
+/// # Errors
+/// The exit status of a tool that does nothing.
+fn use_tool<E: Print>(
+    rt: &HostRuntime,
+    errors: &E,
+    line: &CommandLine,
+    name: &[u8],
+) -> Result<u8, u8> {
+    let alloc = rt.alloc();
+    let Some(tool) = tool_named(name) else {
+        return Err(unknown_tool(alloc, errors, name));
+    };
+    let (Ok(targets), Ok(words)) = (line.targets(alloc), line.tool_words(alloc)) else {
+        return Err(refuse(rt, errors, MANIFEST, &no_memory(alloc)));
+    };
+    check_no_targets(alloc, errors, &targets)?;
+    let request = request_in(rt, errors, tool, &words)?;
+    enter(rt, errors, line)?;
+    Ok(run_tool(rt, line, &request))
 }
 
 /// Reads the words after the program's name.
@@ -220,11 +218,7 @@ fn read_line<R: Files + Print + Eprint + AllocGlobal, E: Print>(
 ///
 /// # Errors
 /// The exit status, if there is nothing to build.
-fn order_in<R: Files + Env + Print + Eprint + AllocGlobal, E: Print>(
-    rt: &R,
-    errors: &E,
-    jobs: u8,
-) -> Result<CommandLine, u8> {
+fn order_in<E: Print>(rt: &HostRuntime, errors: &E, jobs: u8) -> Result<CommandLine, u8> {
     let words = match words_in(rt) {
         Ok(words) => words,
         Err(reason) => {
@@ -234,7 +228,9 @@ fn order_in<R: Files + Env + Print + Eprint + AllocGlobal, E: Print>(
     };
     let line = read_line(rt, errors, &words, jobs)?;
     if let Some(name) = line.value(Setting::Tool) {
-        return Err(use_tool(rt, errors, &line, name));
+        return Err(match use_tool(rt, errors, &line, name) {
+            Ok(status) | Err(status) => status,
+        });
     }
     warn(rt.alloc(), errors, &line);
     enter(rt, errors, &line)?;
@@ -260,6 +256,16 @@ fn main(rt: HostRuntime) -> ExitCode {
         Ok(world) => world,
         Err(status) => return ExitCode::from(status),
     };
-    let (screen, bell) = (world.screen(), world.bell());
-    ExitCode::from(build_in(&rt, &errors, &line, jobs, &world, screen, bell))
+    let world = match cache_over(&rt, &errors, manifest_in(&line), world) {
+        Ok(world) => world,
+        Err(status) => return ExitCode::from(status),
+    };
+    let builder = Builder {
+        rt: &rt,
+        errors: &errors,
+        world: &world,
+        screen: world.inner().screen(),
+        bell: world.inner().bell(),
+    };
+    ExitCode::from(builder.build_line(&line, jobs))
 }

@@ -16,7 +16,8 @@ const NO_MEMORY: u8 = 131;
 
 const FILE_FAULT: u8 = 133;
 
-const UNKNOWN_TARGET: u8 = 132;
+/// No edge makes a target.
+pub const UNKNOWN_TARGET: u8 = 132;
 
 /// Says that a manifest can't be loaded, in ninja's words, and returns the exit status.
 pub fn refuse_loading<E: Print>(alloc: Global, errors: &E, path: &[u8], kind: ErrorKind) -> u8 {

@@ -13,8 +13,11 @@ pub const REFUSED: u8 = 1;
 /// What is said if a write to standard output fails.
 pub const LOST_OUTPUT: &[u8] = b"ninja: error: standard output can't be written\n";
 
-/// Texts one after another.
-fn joined(alloc: Global, parts: &[&[u8]]) -> Result<Vec<u8>, AllocError> {
+/// Returns texts one after another.
+///
+/// # Errors
+/// If memory runs out.
+pub fn joined(alloc: Global, parts: &[&[u8]]) -> Result<Vec<u8>, AllocError> {
     let mut text = Vec::new(alloc);
     for part in parts {
         text.extend_from_slice(*part)?;
@@ -81,7 +84,10 @@ pub fn reason_of(kind: ErrorKind) -> &'static [u8] {
         ErrorKind::NotFound => b"No such file or directory",
         ErrorKind::NotADirectory => b"Not a directory",
         ErrorKind::IsADirectory => b"Is a directory",
+        ErrorKind::DirectoryNotEmpty => b"Directory not empty",
         ErrorKind::PermissionDenied => b"Permission denied",
+        ErrorKind::ReadOnlyFilesystem => b"Read-only file system",
+        ErrorKind::ResourceBusy => b"Device or resource busy",
         ErrorKind::InvalidFilename => b"File name too long",
         ErrorKind::OutOfMemory => b"Cannot allocate memory",
         _ => b"Input/output error",

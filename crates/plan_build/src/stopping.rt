@@ -32,6 +32,7 @@ options:
 
 const USAGE_AFTER_JOBS: &[u8] = b" on this system]
   -k N     keep going until N jobs fail (0 means infinity) [default=1]
+  -n       dry run (don't run commands but act like they succeeded)
 
   -t TOOL  run a subtool (use '-t list' to list subtools)
     terminates toplevel options; further flags are passed to the tool
@@ -177,11 +178,7 @@ fn refuse_value<E: Print>(alloc: Global, errors: &E, stop: Stop, value: &[u8]) {
                 &[b"ninja: error: unknown warning flag '", &*value, b"'\n"],
             )
         }
-        _ => complain(
-            alloc,
-            errors,
-            &[b"ninja: error: -n (a dry run) is not supported\n"],
-        ),
+        _ => {}
     }
 }
 

@@ -1,66 +1,174 @@
 //! Tools, as `-t` names them.
 
+mod clean;
+mod fault;
+mod listing;
+mod loaded;
+mod paths;
+mod record;
+mod words;
+
 ghost use Rattle.std.specs.Prelude.{◌≡◌};
 
 use crate::said::{REFUSED, complain, say, status_after};
+use crate::tool::clean::clean;
+pub use crate::tool::fault::refuse_tool;
+use crate::tool::listing::list;
+pub use crate::tool::paths::{Named, named_in};
+use crate::tool::record::{clean_recorded, recompact_record, restat_record};
+pub use crate::tool::words::{Request, request_in};
+use crate::words::manifest_in;
+use plan_options::CommandLine;
+use plan_tools::closest;
 use std::alloc::Global;
 
-/// Tools of ninja that this program lacks.
-const LACKING: [&str; 7] = [
-    "clean",
-    "cleandead",
-    "commands",
-    "compdb",
-    "recompact",
-    "restat",
-    "targets",
+/// A tool of ninja that this program has.
+#[derive(Clone, Copy, Debug, PartialEq, Eq)]
+pub enum Tool {
+    /// Removes what commands made.
+    Clean,
+    /// Lists the commands that targets need.
+    Commands,
+    /// Lists targets.
+    Targets,
+    /// Lists commands for tools that read sources.
+    CompilationDatabase,
+    /// Drops old entries of the record.
+    Recompact,
+    /// Takes the files as they are for what the commands left.
+    Restat,
+    /// Removes outputs that the manifest has no more.
+    CleanDead,
+    /// Lists the tools.
+    List,
+}
+
+/// The tools that `-t list` lists, in ninja's order.
+const TOOLS: [Tool; 7] = [
+    Tool::Clean,
+    Tool::Commands,
+    Tool::Targets,
+    Tool::CompilationDatabase,
+    Tool::Recompact,
+    Tool::Restat,
+    Tool::CleanDead,
 ];
 
-/// Whether ninja has a tool of this name that this program lacks.
-fn is_lacking(name: &[u8]) -> bool {
-    for tool in &LACKING {
-        if tool.as_bytes() == name {
-            return true;
+impl Tool {
+    /// Returns the name of the tool.
+    pub fn name(self) -> &'static [u8] {
+        match self {
+            Tool::Clean => b"clean",
+            Tool::Commands => b"commands",
+            Tool::Targets => b"targets",
+            Tool::CompilationDatabase => b"compdb",
+            Tool::Recompact => b"recompact",
+            Tool::Restat => b"restat",
+            Tool::CleanDead => b"cleandead",
+            Tool::List => b"list",
         }
     }
-    false
+
+    /// Returns the line of the tool in the list.
+    fn line(self) -> &'static [u8] {
+        match self {
+            Tool::Clean => b"      clean  clean built files\n",
+            Tool::Commands => {
+                b"   commands  list all commands required to rebuild given targets\n"
+            }
+            Tool::Targets => { b"    targets  list targets by their rule or depth in the DAG\n" }
+            Tool::CompilationDatabase => {
+                b"     compdb  dump JSON compilation database to stdout\n"
+            }
+            Tool::Recompact => b"  recompact  recompacts ninja-internal data structures\n",
+            Tool::Restat => b"     restat  restats all outputs in the build log\n",
+            Tool::CleanDead => {
+                b"  cleandead  clean built files that are no longer produced by the manifest\n"
+            }
+            Tool::List => b"       list  list the tools\n",
+        }
+    }
 }
 
-/// Whether there is a tool of this name.
-pub fn is_tool(name: &[u8]) -> bool {
-    name == b"list".as_slice()
+/// Returns the tool of a name. None if there is no such tool.
+pub fn tool_named(name: &[u8]) -> Option<Tool> {
+    for tool in TOOLS {
+        if tool.name() == name {
+            return Some(tool);
+        }
+    }
+    if name == Tool::List.name() {
+        return Some(Tool::List);
+    }
+    None
 }
 
-/// Says that there is no tool of this name, and returns the exit status. If ninja has it, it says what has it here.
-pub fn unknown_tool<E: Print>(alloc: Global, errors: &E, name: &[u8]) -> u8
-    ensures { result ≡ 1 }
-{
-    complain(
-        alloc,
-        errors,
-        &[b"ninja: fatal: unknown tool '", &*name, b"'\n"],
-    );
-    if is_lacking(name) {
+/// Returns the name of the tool that may be meant by one that there isn't. Empty if there is none.
+fn near_name(alloc: Global, name: &[u8]) -> &'static [u8] {
+    let mut names: [&[u8]; 7] = [b""; 7];
+    for at in 0..TOOLS.len() {
+        names[at] = TOOLS[at].name();
+    }
+    match closest(alloc, &names, name) {
+        Ok(Some(near)) => near,
+        _ => b"",
+    }
+}
+
+/// Says that there is no tool of this name, but maybe one of another name.
+fn say_unknown<'a, E: Print>(alloc: Global, errors: &E, name: &'a [u8], near: &'a [u8]) {
+    if near.is_empty() {
+        complain(
+            alloc,
+            errors,
+            &[b"ninja: fatal: unknown tool '", &*name, b"'\n"],
+        );
+    } else {
         complain(
             alloc,
             errors,
             &[
-                b"plan_build has no tools yet; the stand-in that is installed as libexec/plan_ninja/ninja has this one\n",
+                b"ninja: fatal: unknown tool '",
+                &*name,
+                b"', did you mean '",
+                &*near,
+                b"'?\n",
             ],
         );
     }
+}
+
+/// Says that there is no tool of this name, and returns the exit status.
+pub fn unknown_tool<E: Print>(alloc: Global, errors: &E, name: &[u8]) -> u8
+    ensures { result ≡ 1 }
+{
+    say_unknown(alloc, errors, name, near_name(alloc, name));
     REFUSED
 }
 
-/// Runs the tool of this name with its words, and returns the exit status.
-pub fn run_tool<R: Print + AllocGlobal, E: Print>(
-    rt: &R,
-    errors: &E,
-    name: &[u8],
-    _words: &[&[u8]],
-) -> u8 {
-    if name == b"list".as_slice() {
-        return status_after(say(rt, errors, &[b"ninja subtools:\n"]), 0);
+/// Lists the tools, and returns the exit status.
+fn list_tools<R: Print + AllocGlobal, E: Print>(rt: &R, errors: &E) -> u8 {
+    let mut lines: [&[u8]; 8] = [b"ninja subtools:\n"; 8];
+    for at in 0..TOOLS.len() {
+        lines[at + 1] = TOOLS[at].line();
     }
-    unknown_tool(rt.alloc(), errors, name)
+    status_after(say(rt, errors, &lines), 0)
+}
+
+/// Runs a tool as the words ask for it, and returns the exit status.
+pub fn run_tool(rt: &HostRuntime, line: &CommandLine, request: &Request<'_>) -> u8 {
+    let errors = rt.stderr();
+    let manifest = manifest_in(line);
+    let done = match request.tool {
+        Tool::List => return list_tools(rt, &errors),
+        Tool::Clean => clean(rt, &errors, line, request),
+        Tool::CleanDead => clean_recorded(rt, &errors, line),
+        Tool::Recompact => recompact_record(rt, manifest),
+        Tool::Restat => restat_record(rt, &request.names),
+        Tool::Commands | Tool::CompilationDatabase | Tool::Targets => list(rt, manifest, request),
+    };
+    match done {
+        Ok(status) => status,
+        Err(fault) => refuse_tool(rt, &errors, manifest, &fault),
+    }
 }

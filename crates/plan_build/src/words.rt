@@ -1,9 +1,23 @@
 //! The words that the program was started with.
 
+use plan_options::{CommandLine, Flag, Setting};
 use plan_text::Memory;
 use std::alloc::Global;
 use std::rt::Env;
 use std::{env, io};
+
+/// The manifest that is read if none is named.
+pub const MANIFEST: &[u8] = b"build.ninja";
+
+/// Returns the path of the manifest.
+pub fn manifest_in(line: &CommandLine) -> &[u8] {
+    line.value(Setting::Manifest).unwrap_or(MANIFEST)
+}
+
+/// Whether `-v` is asked for.
+pub fn is_verbose(line: &CommandLine) -> bool {
+    line.verbosity() == Some(Flag::Verbose)
+}
 
 /// Returns the words of the command line, the program's own name first.
 ///

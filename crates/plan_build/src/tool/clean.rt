@@ -1,0 +1,315 @@
+//! The tools that remove files.
+
+use crate::said::{REFUSED, complain_of, joined, reason_of};
+use crate::tool::fault::{ToolFault, fault_of};
+use crate::tool::loaded::{Loaded, load_manifest};
+use crate::tool::paths::paths_named;
+use crate::tool::words::Request;
+use crate::words::{is_verbose, manifest_in};
+use indexmap::IndexMap;
+use plan_commands::{Buffer, Standard};
+use plan_graph::Graph;
+use plan_options::CommandLine;
+use plan_text::{RowList, Sink, write_all};
+use plan_tools::{
+    command_edges, dead_outputs, edges_of_paths, edges_of_rules, files_of_edges, needed_paths,
+};
+use std::alloc::Global;
+use std::io::{self, ErrorKind};
+use std::rt::Files;
+use std::{fs, str};
+
+/// How many bytes of output are written at once.
+const OUTPUT_BUFFER: usize = 4096;
+
+/// Files that are removed together.
+#[derive(Drop)]
+struct Batch {
+    /// What is printed before them, if the tool is verbose.
+    heading: Vec<u8>,
+    files: RowList<u8>,
+}
+
+/// Returns the files of all commands, with `-g` also those of generators.
+fn all_files(
+    alloc: Global,
+    loaded: &Loaded,
+    graph: &Graph<'_>,
+    generators: bool,
+) -> Result<Batch, ToolFault> {
+    let edges = command_edges(alloc, &loaded.manifest, generators)?;
+    Ok(Batch {
+        heading: Vec::new(alloc),
+        files: files_of_edges(alloc, &loaded.manifest, graph, None, &edges)?,
+    })
+}
+
+/// Returns the files that targets need.
+fn files_of_targets(
+    alloc: Global,
+    loaded: &Loaded,
+    graph: &Graph<'_>,
+    names: &[&[u8]],
+) -> Result<Batch, ToolFault> {
+    let targets = paths_named(alloc, graph, names)?;
+    let needed = needed_paths(alloc, graph, &targets)?;
+    let edges = edges_of_paths(alloc, &loaded.manifest, graph, &needed)?;
+    let mut heading = Vec::new(alloc);
+    for name in names {
+        heading.extend_from_slice(b"Target ")?;
+        heading.extend_from_slice(*name)?;
+        heading.push(b'\n')?;
+    }
+    Ok(Batch {
+        heading,
+        files: files_of_edges(alloc, &loaded.manifest, graph, Some(&needed), &edges)?,
+    })
+}
+
+/// Returns the files of the commands of a rule.
+fn files_of_rule(
+    alloc: Global,
+    loaded: &Loaded,
+    graph: &Graph<'_>,
+    name: &[u8],
+) -> Result<Batch, ToolFault> {
+    let edges = edges_of_rules(alloc, &loaded.manifest, &loaded.rules, &[name])?;
+    Ok(Batch {
+        heading: joined(alloc, &[b"Rule ", name, b"\n"])?,
+        files: files_of_edges(alloc, &loaded.manifest, graph, None, &edges)?,
+    })
+}
+
+/// Refuses a name that no rule has.
+fn check_rules(alloc: Global, loaded: &Loaded, names: &[&[u8]]) -> Result<(), ToolFault> {
+    for name in names {
+        if !loaded.has_rule(name) {
+            return Err(fault_of(alloc, &[b"unknown rule '", *name, b"'"]));
+        }
+    }
+    Ok(())
+}
+
+/// Returns the files that a tool is asked to remove.
+fn batches(
+    alloc: Global,
+    loaded: &Loaded,
+    graph: &Graph<'_>,
+    request: &Request<'_>,
+) -> Result<Vec<Batch>, ToolFault> {
+    let mut batches = Vec::new(alloc);
+    let names = request.names.as_slice();
+    if request.has(b'r') {
+        check_rules(alloc, loaded, names)?;
+        for name in names {
+            batches.push(files_of_rule(alloc, loaded, graph, name)?)?;
+        }
+    } else if names.is_empty() {
+        batches.push(all_files(alloc, loaded, graph, request.has(b'g'))?)?;
+    } else {
+        batches.push(files_of_targets(alloc, loaded, graph, names)?)?;
+    }
+    Ok(batches)
+}
+
+/// How files are removed.
+#[derive(Clone, Copy)]
+struct Manner {
+    /// Nothing is removed.
+    is_dry: bool,
+    /// Each file that is removed is named.
+    is_verbose: bool,
+}
+
+/// Returns how a command line asks for files to be removed. A dry run names them.
+fn manner_of(line: &CommandLine) -> Manner {
+    let is_dry = line.is_dry_run();
+    Manner {
+        is_dry,
+        is_verbose: is_dry || is_verbose(line),
+    }
+}
+
+/// Removes a file or an empty folder, and returns whether there was one.
+fn remove<R: Files>(rt: &R, path: &str) -> io::Result<bool> {
+    let removed = match fs::remove_file(rt, path) {
+        Err(error) if error.kind() == ErrorKind::IsADirectory => fs::remove_dir(rt, path),
+        removed => removed,
+    };
+    match removed {
+        Ok(()) => Ok(true),
+        Err(error) if error.kind() == ErrorKind::NotFound => Ok(false),
+        Err(error) => Err(error),
+    }
+}
+
+/// What was removed.
+#[derive(Drop)]
+struct Removal {
+    manner: Manner,
+    /// The paths that were met.
+    met: IndexMap<Vec<u8>, ()>,
+    /// How many files were removed.
+    count: u64,
+    /// Whether a file could not be removed.
+    has_failed: bool,
+}
+
+impl Removal {
+    /// Removes a file, and returns whether there was one. Standard error says why one can't be removed.
+    fn remove<R: Files + AllocGlobal, E: Print>(
+        &mut self,
+        rt: &R,
+        errors: &E,
+        path: &[u8],
+    ) -> bool {
+        let Ok(text) = str::from_utf8(path) else {
+            self.has_failed = true;
+            return false;
+        };
+        if self.manner.is_dry {
+            return fs::exists(rt, text).unwrap_or(false);
+        }
+        match remove(rt, text) {
+            Ok(is_removed) => is_removed,
+            Err(error) => {
+                let reason = reason_of(error.kind());
+                complain_of(
+                    rt.alloc(),
+                    errors,
+                    b"ninja: error: remove(",
+                    path,
+                    b"): ",
+                    reason,
+                );
+                self.has_failed = true;
+                false
+            }
+        }
+    }
+
+    /// Removes a file once, and prints its path if the tool is verbose.
+    fn remove_once<R: Files + AllocGlobal, E: Print, W: Sink>(
+        &mut self,
+        rt: &R,
+        errors: &E,
+        path: &[u8],
+        out: &mut W,
+    ) -> Result<(), ToolFault> {
+        let alloc = rt.alloc();
+        if self
+            .met
+            .insert(Vec::from_slice(alloc, path)?, ())?
+            .is_some()
+        {
+            return Ok(());
+        }
+        if !self.remove(rt, errors, path) {
+            return Ok(());
+        }
+        self.count = self.count.saturating_add(1);
+        if self.manner.is_verbose {
+            write_all(out, &joined(alloc, &[b"Remove ", path, b"\n"])?)?;
+        }
+        Ok(())
+    }
+
+    /// Removes the files of a batch.
+    fn remove_batch<R: Files + AllocGlobal, E: Print, W: Sink>(
+        &mut self,
+        rt: &R,
+        errors: &E,
+        batch: &Batch,
+        out: &mut W,
+    ) -> Result<(), ToolFault> {
+        if self.manner.is_verbose {
+            write_all(out, &batch.heading)?;
+        }
+        for number in 0..batch.files.len() {
+            self.remove_once(rt, errors, batch.files.row(number), out)?;
+        }
+        Ok(())
+    }
+}
+
+/// Removes files, and writes what was removed. Returns the exit status.
+fn remove_batches<R: Files + AllocGlobal, E: Print, W: Sink>(
+    rt: &R,
+    errors: &E,
+    manner: Manner,
+    batches: &[Batch],
+    out: &mut W,
+) -> Result<u8, ToolFault> {
+    let alloc = rt.alloc();
+    let mut removal = Removal {
+        manner,
+        met: IndexMap::new(alloc),
+        count: 0,
+        has_failed: false,
+    };
+    let end: &[u8] = if manner.is_verbose { b"\n" } else { b" " };
+    write_all(out, b"Cleaning...")?;
+    write_all(out, end)?;
+    for batch in batches {
+        removal.remove_batch(rt, errors, batch, out)?;
+    }
+    write_all(out, removal.count.to_string(alloc)?.as_bytes())?;
+    write_all(out, b" files.\n")?;
+    Ok(if removal.has_failed { REFUSED } else { 0 })
+}
+
+/// Removes files, and prints what was removed. Returns the exit status.
+fn remove_printing<R: Files + Print + AllocGlobal, E: Print>(
+    rt: &R,
+    errors: &E,
+    manner: Manner,
+    batches: &[Batch],
+) -> Result<u8, ToolFault> {
+    let room = Vec::with_capacity(rt.alloc(), OUTPUT_BUFFER)?;
+    let mut out = Buffer::new(Standard::new(rt), room);
+    let status = remove_batches(rt, errors, manner, batches, &mut out);
+    let (written, _out) = out.finish();
+    written?;
+    status
+}
+
+/// Removes what commands made: all of it, what some targets need, or what is made by some rules. Returns the exit status.
+///
+/// # Errors
+/// If the manifest or a word is refused, or memory runs out; then nothing is removed. If standard output can't be written.
+pub fn clean<R: Files + Print + Eprint + AllocGlobal, E: Print>(
+    rt: &R,
+    errors: &E,
+    line: &CommandLine,
+    request: &Request<'_>,
+) -> Result<u8, ToolFault> {
+    let alloc = rt.alloc();
+    if request.has(b'r') && request.names.is_empty() {
+        return Err(fault_of(alloc, &[b"expected a rule to clean"]));
+    }
+    let loaded = load_manifest(rt, manifest_in(line))?;
+    let graph = loaded.graph(alloc)?;
+    let batches = batches(alloc, &loaded, &graph, request)?;
+    remove_printing(rt, errors, manner_of(line), &batches)
+}
+
+/// Removes those of some outputs that no build line names any more. Returns the exit status.
+///
+/// # Errors
+/// As `clean`.
+pub fn clean_dead<R: Files + Print + Eprint + AllocGlobal, E: Print>(
+    rt: &R,
+    errors: &E,
+    line: &CommandLine,
+    outputs: &RowList<u8>,
+) -> Result<u8, ToolFault> {
+    let alloc = rt.alloc();
+    let loaded = load_manifest(rt, manifest_in(line))?;
+    let graph = loaded.graph(alloc)?;
+    let mut batches = Vec::new(alloc);
+    batches.push(Batch {
+        heading: Vec::new(alloc),
+        files: dead_outputs(alloc, &graph, outputs)?,
+    })?;
+    remove_printing(rt, errors, manner_of(line), &batches)
+}

@@ -1,0 +1,72 @@
+//! A manifest, as tools read it.
+
+use crate::tool::fault::ToolFault;
+use plan_commands::{FileSource, MANIFEST_BYTES, printed_fault, printed_graph_fault};
+use plan_graph::{Graph, graph};
+use plan_parse::DirectiveKind;
+use plan_scope::{Manifest, Said, Tree, evaluate, load};
+use plan_text::RowList;
+use plan_tools::rules_of;
+use std::alloc::Global;
+use std::rt::Files;
+
+/// A manifest that was read.
+#[derive(Drop)]
+pub struct Loaded {
+    tree: Tree,
+    /// What it means.
+    pub manifest: Manifest,
+    /// The rule of each edge.
+    pub rules: RowList<u8>,
+}
+
+/// Reads the manifest at a path.
+///
+/// # Errors
+/// If it can't be read or is refused, or memory runs out.
+pub fn load_manifest<R: Files + Eprint + AllocGlobal>(
+    rt: &R,
+    path: &[u8],
+) -> Result<Loaded, ToolFault> {
+    let alloc = rt.alloc();
+    let mut files = FileSource::new(rt, MANIFEST_BYTES);
+    let tree = match load(alloc, &mut files, path) {
+        Ok(tree) => tree,
+        Err(fault) => return Err(ToolFault::Plan(printed_fault(alloc, &fault))),
+    };
+    let manifest = match evaluate(alloc, &tree) {
+        Ok(manifest) => manifest,
+        Err(fault) => return Err(ToolFault::Plan(printed_fault(alloc, &fault))),
+    };
+    let rules = rules_of(alloc, &tree)?;
+    Ok(Loaded {
+        tree,
+        manifest,
+        rules,
+    })
+}
+
+impl Loaded {
+    /// Returns the graph of the manifest.
+    ///
+    /// # Errors
+    /// If it has none, or memory runs out.
+    pub fn graph(&self, alloc: Global) -> Result<Graph<'_>, ToolFault> {
+        match graph(alloc, &self.manifest) {
+            Ok(graph) => Ok(graph),
+            Err(fault) => Err(ToolFault::Plan(printed_graph_fault(alloc, &self.manifest, &fault))),
+        }
+    }
+
+    /// Checks whether the manifest, or a file that it includes, has a rule of this name.
+    pub fn has_rule(&self, name: &[u8]) -> bool {
+        for statement in self.tree.statements() {
+            if let Said::Directive(DirectiveKind::Rule(rule)) = statement.said() {
+                if rule.name.as_slice() == name {
+                    return true;
+                }
+            }
+        }
+        name == b"phony".as_slice()
+    }
+}

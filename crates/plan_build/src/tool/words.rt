@@ -1,0 +1,162 @@
+//! The words of a tool.
+
+use crate::said::{REFUSED, complain, say, status_after};
+use crate::tool::Tool;
+use plan_options::{operands, option_letters};
+use plan_text::Memory;
+use std::alloc::Global;
+
+const CLEAN_USAGE: &[u8] = b"usage: ninja -t clean [options] [targets]
+
+options:
+  -g     also clean files marked as ninja generator output
+  -r     interpret targets as a list of rules to clean instead
+";
+
+const COMMANDS_USAGE: &[u8] = b"usage: ninja -t commands [options] [targets]
+
+options:
+  -s     only print the final command to build [target], not the whole chain
+";
+
+const COMPILATION_DATABASE_USAGE: &[u8] = b"usage: ninja -t compdb [options] [rules]
+
+options:
+  -x     expand @rspfile style response file invocations
+";
+
+const TARGETS_USAGE: &[u8] = b"usage: ninja -t targets [all | rule [NAME] | depth [N]]
+";
+
+impl Tool {
+    /// Returns the letters of the tool's options, beside `h`.
+    fn letters(self) -> &'static [u8] {
+        match self {
+            Tool::Clean => b"gr",
+            Tool::Commands => b"s",
+            Tool::CompilationDatabase => b"x",
+            Tool::Targets | Tool::Recompact | Tool::Restat | Tool::CleanDead | Tool::List => b"",
+        }
+    }
+
+    /// Returns how the tool is used.
+    fn usage(self) -> &'static [u8] {
+        match self {
+            Tool::Clean => CLEAN_USAGE,
+            Tool::Commands => COMMANDS_USAGE,
+            Tool::CompilationDatabase => COMPILATION_DATABASE_USAGE,
+            Tool::Targets => TARGETS_USAGE,
+            Tool::Recompact => b"usage: ninja -t recompact\n",
+            Tool::Restat => b"usage: ninja -t restat [outputs]\n",
+            Tool::CleanDead => b"usage: ninja -t cleandead\n",
+            Tool::List => b"usage: ninja -t list\n",
+        }
+    }
+
+    /// Whether the tool takes words that are no options.
+    fn takes_names(self) -> bool {
+        !matches!(self, Tool::Recompact | Tool::CleanDead | Tool::List)
+    }
+}
+
+/// What the words after `-t TOOL` ask for.
+#[derive(Drop)]
+pub struct Request<'a> {
+    /// The tool.
+    pub tool: Tool,
+    /// The letters of the options, each of which the tool has.
+    letters: Vec<u8>,
+    /// The words that are no options.
+    pub names: Vec<&'a [u8]>,
+}
+
+impl Request<'_> {
+    /// Whether the option of a letter is there.
+    pub fn has(&self, letter: u8) -> bool {
+        self.letters.contains(&letter)
+    }
+}
+
+/// Reads the words after `-t TOOL`. The words of `targets` are no options, so that it takes numbers below 0.
+fn read_request<'a>(alloc: Global, tool: Tool, words: &[&'a [u8]]) -> Result<Request<'a>, Memory> {
+    let mut names = Vec::new(alloc);
+    if tool != Tool::Targets {
+        return Ok(Request {
+            tool,
+            letters: option_letters(alloc, words)?,
+            names: operands(alloc, words)?,
+        });
+    }
+    names.extend_from_slice(words)?;
+    let asks_for_help = words.first() == Some(&b"-h".as_slice());
+    let letters: &[u8] = if asks_for_help { b"h" } else { b"" };
+    Ok(Request {
+        tool,
+        letters: Vec::from_slice(alloc, letters)?,
+        names,
+    })
+}
+
+/// Returns the first letter at which the tool does nothing: `h`, or an option that it lacks.
+fn stop_in(request: &Request<'_>) -> Option<u8> {
+    for letter in &request.letters {
+        if !request.tool.letters().contains(letter) {
+            return Some(*letter);
+        }
+    }
+    None
+}
+
+/// Prints how a tool is used, after what is wrong with a letter if it isn't `h`, and returns the exit status.
+fn show_usage<R: Print + AllocGlobal, E: Print>(rt: &R, errors: &E, tool: Tool, letter: u8) -> u8 {
+    if letter != b'h' {
+        let alloc = rt.alloc();
+        let name = tool.name();
+        complain(
+            alloc,
+            errors,
+            &[name, b": invalid option -- '", &[letter], b"'\n"],
+        );
+    }
+    status_after(say(rt, errors, &[tool.usage()]), REFUSED)
+}
+
+/// Says that a tool takes no such word.
+fn refuse_name<'a, E: Print>(alloc: Global, errors: &E, tool: &'a [u8], name: &'a [u8]) {
+    complain(
+        alloc,
+        errors,
+        &[
+            b"ninja: error: -t ",
+            &*tool,
+            b" takes no word '",
+            &*name,
+            b"'\n",
+        ],
+    );
+}
+
+/// Reads the words after `-t TOOL`, and refuses those that the tool doesn't take.
+///
+/// # Errors
+/// The exit status, if the tool does nothing; it was said why.
+pub fn request_in<'a, R: Print + AllocGlobal, E: Print>(
+    rt: &R,
+    errors: &E,
+    tool: Tool,
+    words: &[&'a [u8]],
+) -> Result<Request<'a>, u8> {
+    let alloc = rt.alloc();
+    let Ok(request) = read_request(alloc, tool, words) else {
+        complain(alloc, errors, &[b"ninja: fatal: out of memory\n"]);
+        return Err(REFUSED);
+    };
+    if let Some(letter) = stop_in(&request) {
+        return Err(show_usage(rt, errors, tool, letter));
+    }
+    if let ([name, ..], false) = (request.names.as_slice(), tool.takes_names()) {
+        refuse_name(alloc, errors, tool.name(), name);
+        return Err(REFUSED);
+    }
+    Ok(request)
+}
