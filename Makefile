@@ -118,14 +118,15 @@ calls: kit
 real: built
 	python3 tests/run.py --long real building using $(PROGRAM)
 
-# Installs what was built: the programs, and the stand-in that CMake and Meson call as ninja.
+# Installs what was built: the programs, and a link by which CMake and Meson call plan_build as ninja.
 .PHONY: install
 install:
 	@for program in $(PROGRAM) $(FRONT); do test -x $$program \
 	  || { echo "$$program is missing: run make first (as yourself, not as root)" >&2; exit 1; }; done
 	install -D -m 755 $(PROGRAM) "$(DESTDIR)$(PREFIX)/bin/plan_ninja"
 	install -D -m 755 $(FRONT) "$(DESTDIR)$(PREFIX)/bin/plan_build"
-	install -D -m 755 examples/ninja/ninja "$(DESTDIR)$(PREFIX)/libexec/plan_ninja/ninja"
+	install -d "$(DESTDIR)$(PREFIX)/libexec/plan_ninja"
+	ln -sfn ../../bin/plan_build "$(DESTDIR)$(PREFIX)/libexec/plan_ninja/ninja"
 	install -D -m 644 LICENSE "$(DESTDIR)$(PREFIX)/share/doc/plan_ninja/LICENSE"
 	install -D -m 644 docs/GUARANTEE.md "$(DESTDIR)$(PREFIX)/share/doc/plan_ninja/GUARANTEE.md"
 	@echo "installed; for CMake and Meson put $(PREFIX)/libexec/plan_ninja on the PATH"
@@ -144,6 +145,7 @@ bench: built
 	python3 bench/upstream_trees.py $(PROGRAM)
 	python3 bench/images.py $(PROGRAM)
 	python3 bench/builds.py $(PROGRAM)
+	python3 bench/idle.py $(PROGRAM)
 	python3 bench/events.py $(PROGRAM)
 
 .PHONY: clean

@@ -3,9 +3,9 @@
 
     tools/dist.py PROGRAM [--log GATE_LOG] [--out FOLDER]
 
-PROGRAM is plan_ninja; plan_build is next to it, or in its own crate. Both packages hold the programs, the stand-in that
-CMake and Meson call as `ninja`, LICENSE, the guarantee and the guides, the log of the gate, and SHA-256 sums. The
-tarball has a Makefile of its own for `make install`. Neither needs the kit.
+PROGRAM is plan_ninja; plan_build is next to it, or in its own crate. Both packages hold the programs, a link by which
+CMake and Meson call plan_build as `ninja`, LICENSE, the guarantee and the guides, the log of the gate, and SHA-256
+sums. The tarball has a Makefile of its own for `make install`. Neither needs the kit.
 A program without proofs is refused, and so are one that is older than the sources, and the log of a gate that failed.
 """
 from __future__ import annotations
@@ -35,7 +35,6 @@ Section: devel
 Priority: optional
 Architecture: amd64
 Depends: libc6
-Recommends: python3 (>= 3.8)
 Maintainer: The plan_ninja developers <plan_ninja@localhost>
 Description: formally verified builder for Ninja manifests
  plan_ninja compiles build.ninja files into plan images, and runs such images
@@ -43,7 +42,7 @@ Description: formally verified builder for Ninja manifests
  that no run of it goes wrong.
  .
  plan_build builds what a manifest says, with the command line of ninja.
- /usr/libexec/plan_ninja/ninja is a stand-in that CMake and Meson can call.
+ /usr/libexec/plan_ninja has it by the name ninja, for CMake and Meson.
 """
 
 
@@ -97,7 +96,8 @@ def lay_out(program: pathlib.Path, log: pathlib.Path, prefix: pathlib.Path) -> N
     """Copies all that is packed to the folders below a prefix."""
     copy(program, prefix / "bin" / NAME, 0o755)
     copy(front(program), prefix / "bin" / FRONT, 0o755)
-    copy(ROOT / "examples" / "ninja" / "ninja", prefix / "libexec" / NAME / "ninja", 0o755)
+    (prefix / "libexec" / NAME).mkdir(parents=True)
+    (prefix / "libexec" / NAME / "ninja").symlink_to(pathlib.Path("..", "..", "bin", FRONT))
     documents = prefix / "share" / "doc" / NAME
     for name in DOCUMENTS:
         copy(ROOT / name, documents / pathlib.Path(name).name)

@@ -1,8 +1,8 @@
 /* A library to preload: it counts the calls of one sort that a program makes, and lets the one whose number FAILED_CALL
    gives fail, none where that is 0, each where it is -1. FAILED_SORT is `stat` (a file's metadata), `spawn` (a command
-   is started), `write` (to a file whose name ends with `record`), `thread` (one is started), or `memory` (some is asked
-   for). How many calls there were goes to CALLS_FILE as they come, a byte each. Commands that the program starts are
-   left alone. */
+   is started), `write` (to a file whose name ends with `record` or `record.new`), `thread` (one is started), or
+   `memory` (some is asked for). How many calls there were goes to CALLS_FILE as they come, a byte each. Commands that
+   the program starts are left alone. */
 #define _GNU_SOURCE
 #include <dlfcn.h>
 #include <errno.h>
@@ -47,6 +47,7 @@ static int is_record(int fd) {
     ssize_t count = readlink(link, path, sizeof path - 1);
     if (count < 6) return 0;
     path[count] = 0;
+    if (count > 4 + 6 && strcmp(path + count - 4, ".new") == 0) path[count -= 4] = 0;
     return strcmp(path + count - 6, "record") == 0;
 }
 

@@ -31,7 +31,6 @@ from real.changing import CHANGES, Place
 from real.trees import Tree
 
 ALONE = True
-STANDIN = pathlib.Path(__file__).resolve().parents[2] / "examples" / "ninja" / "ninja"
 TICK = 0.02
 KILLS = 5
 LONGEST = 20.0  # seconds after which a run is killed at the latest

@@ -6,7 +6,8 @@ edge failed and why. A thread that can't be started is done without; if none can
 memory succeeds, or says of an edge that it failed, or is refused by a fault of memory after some of its lines. Each run
 that began must leave its whole trace, even if it is refused later: `replay` prints exactly the lines that were printed.
 Only if memory is refused to the lines themselves, they may be a prefix of these. The next run must always make both
-files right, and the run after it has nothing to do.
+files right, and the run after it has nothing to do. Some runs begin with a record that has grown: if it can't be
+compacted, the run goes on with it as it is.
 """
 from __future__ import annotations
 
@@ -17,7 +18,7 @@ import subprocess
 from collections.abc import Iterator
 from typing import NamedTuple
 
-from lib import programs
+from lib import programs, records
 from lib.suite import Case, LeftOut, Setting, check
 
 SECONDS = 60
@@ -31,9 +32,11 @@ TREE = {
 LINES = ("[1/2] sh gen.sh\n", "[2/2] cat mid > out\n")
 WHOLE = "".join(LINES)
 FRONTS = ("", LINES[0], WHOLE)
-# The sorts of calls, each with the jobs of a run in which one fails; and what a run may say of an edge.
-SORTS = (("stat", "1"), ("spawn", "1"), ("write", "1"), ("thread", "2"), ("memory", "1"), ("memory", "2"))
-# What it writes to standard error then.
+# The sorts of calls, each with the jobs of a run in which one fails, and whether its record has grown before.
+SORTS = (("stat", "1", False), ("spawn", "1", False), ("write", "1", False), ("thread", "2", False),
+         ("memory", "1", False), ("memory", "2", False), ("write", "1", True), ("memory", "1", True))
+OLD = 150  # entries of an output that no edge has any more
+# What it writes to standard error then, and what it may say of an edge.
 REASONS = {"stat": "", "spawn": r"plan_ninja: can't start the command of (mid|out): operation would block\n",
            "write": r"plan_ninja: can't (start the command|keep the entry) of (mid|out): no storage space\n",
            "memory": ""}
@@ -69,14 +72,18 @@ def run(program: str, folder: pathlib.Path, library: pathlib.Path, sort: str, jo
     return Ended(done.returncode, done.stdout, done.stderr, len(calls.read_bytes()) if calls.exists() else 0)
 
 
-def begin(program: str, folder: pathlib.Path) -> None:
-    """Writes a tree in which nothing was built."""
+def begin(program: str, folder: pathlib.Path, grown: bool) -> None:
+    """Writes a tree in which nothing was built, maybe with a record that has grown."""
     programs.write(TREE, folder)
+    if grown:
+        (folder / ".plan_record").write_bytes(records.spelled(b"old") * OLD)
     programs.printed_lines([program, "compile", "build.ninja", "-o", "plan.img"], folder)
 
 
-def is_told(sort: str, failing: int, done: Ended) -> bool:
+def is_told(sort: str, grown: bool, failing: int, done: Ended) -> bool:
     """Checks whether a run says what it must if this call fails."""
+    if grown and done[:3] == (0, WHOLE, ""):
+        return True
     if sort == "thread":
         said = (2, "", "plan: 121 NoLane\n") if failing < 0 else (0, WHOLE, "")
         return done[:3] == said
@@ -103,11 +110,12 @@ def trace_fault(program: str, folder: pathlib.Path, done: Ended) -> str:
     return f"replay printed {lines!r}, and the run ended so: {done}"
 
 
-def fault(program: str, library: pathlib.Path, sort: str, jobs: str, failing: int, folder: pathlib.Path) -> str:
+def fault(program: str, library: pathlib.Path, sort: str, jobs: str, grown: bool, failing: int,
+          folder: pathlib.Path) -> str:
     """Returns what is wrong if this call fails, or an empty text."""
-    begin(program, folder)
+    begin(program, folder, grown)
     done = run(program, folder, library, sort, jobs, failing)
-    if not is_told(sort, failing, done):
+    if not is_told(sort, grown, failing, done):
         return f"it ended so: {done}"
     if said := trace_fault(program, folder, done):
         return said
@@ -118,13 +126,18 @@ def fault(program: str, library: pathlib.Path, sort: str, jobs: str, failing: in
     return f"it ran once more: {last.stdout!r}" if last.stdout or last.returncode else ""
 
 
-def calls(setting: Setting, library: pathlib.Path, sort: str, jobs: str) -> list[int]:
+def calls(setting: Setting, library: pathlib.Path, sort: str, jobs: str, grown: bool) -> list[int]:
     """Returns the numbers of the calls of a sort, as a run without a failure makes them; -1 stands for all of them."""
-    folder = setting.home / f"{sort} -j {jobs}"
-    begin(setting.program, folder)
+    folder = setting.home / named(sort, jobs, grown)
+    begin(setting.program, folder, grown)
     whole = run(setting.program, folder, library, sort, jobs, 0)
     check(whole[:3] == (0, WHOLE, "") and whole.calls >= 2, f"{sort} -j {jobs} without a failure: {whole}")
     return list(range(1, whole.calls + 1)) + ([-1] if sort == "thread" else [])
+
+
+def named(sort: str, jobs: str, grown: bool) -> str:
+    """Returns the name of a run."""
+    return f"{sort} -j {jobs}{', grown record' if grown else ''}"
 
 
 def cases(setting: Setting) -> Iterator[Case]:
@@ -132,7 +145,7 @@ def cases(setting: Setting) -> Iterator[Case]:
     library = programs.library("failing.c", setting.home)
     if library is None:
         raise LeftOut("no C compiler")
-    for sort, jobs in SORTS:
-        for number in calls(setting, library, sort, jobs):
-            yield Case(f"{sort} -j {jobs}, call {number}",
-                       functools.partial(fault, setting.program, library, sort, jobs, number))
+    for sort, jobs, grown in SORTS:
+        for number in calls(setting, library, sort, jobs, grown):
+            yield Case(f"{named(sort, jobs, grown)}, call {number}",
+                       functools.partial(fault, setting.program, library, sort, jobs, grown, number))

@@ -89,6 +89,16 @@ SAME = {
     "a -j3 b": DONE,
     "-vj3 -k2": DONE,
     "-vj 3": DONE,
+    "-n": DONE,
+    "-nv a": DONE,
+    "src": DONE,
+    "a src ./src": DONE,
+    "src^": DONE,
+    "src^ b": DONE,
+    "a^": refused("error: 'a' has no out edge"),
+    "srx": refused("error: unknown target 'srx', did you mean 'src'?"),
+    "src nosuch": refused("error: unknown target 'nosuch'"),
+    "clean": refused("error: unknown target 'clean', did you mean 'ninja -t clean'?"),
     "-j ' +3' -j0": DONE,
     "-j -0": DONE,
     "-k -5": DONE,
@@ -154,7 +164,6 @@ OWN = {
     "-l .5": Said(0, NO_WORK, "ninja: warning: -l .5 has no effect\n"),
     "-d stats": Said(0, NO_WORK, "ninja: warning: -d stats has no effect\n"),
     "-w dupbuild=err": Said(0, NO_WORK, "ninja: warning: -w dupbuild=err has no effect\n"),
-    "-n": refused("error: -n (a dry run) is not supported"),
     "a -t list": refused("fatal: 'a' comes before -t; it is no word of the tool"),
     "bad": Said(1, "FAILED bad: exit 1\n" + STOPPED),
 }
@@ -176,14 +185,19 @@ def words_say(builder: str, words: str, wanted: Said, folder: pathlib.Path) -> s
     return "" if found == wanted else f"{found}, wanted {wanted}"
 
 
-def ninja_says(words: str, wanted: Said, folder: pathlib.Path) -> str:
-    """Returns how ninja's answer to a command line differs from the table, or an empty text."""
+def ninja_1_11(folder: pathlib.Path) -> str:
+    """Returns the path of ninja 1.11; raises LeftOut if it isn't there."""
     ninja = shutil.which("ninja")
     if not ninja:
         raise LeftOut("ninja is missing")
     if programs.run([ninja, "--version"], folder).stdout[:5] != b"1.11.":
         raise LeftOut("ninja isn't version 1.11")
-    return words_say(ninja, words, wanted, folder)
+    return ninja
+
+
+def ninja_says(words: str, wanted: Said, folder: pathlib.Path) -> str:
+    """Returns how ninja's answer to a command line differs from the table, or an empty text."""
+    return words_say(ninja_1_11(folder), words, wanted, folder)
 
 
 # ---- builds
@@ -216,6 +230,35 @@ def nothing_to_do(place: Place) -> None:
     expect("then", (NO_WORK, "", 0), says(place))
     (place.folder / "b").unlink()
     expect("again", ("[2/2] b\n", "", 0), says(place))
+
+
+def labels(place: Place, *words: str) -> list[str]:
+    """Runs the builder, which must end well, and returns the labels of its lines, sorted."""
+    printed, error, status = says(place, *words)
+    expect("status and errors", (0, ""), (status, error))
+    return sorted(line.partition("] ")[2] for line in printed.splitlines())
+
+
+def dry_runs(place: Place) -> None:
+    """-n prints the lines of what would run, and runs nothing."""
+    place.write("a touch $out", ">b touch $out", "c touch $out; exit 1")
+    expect("first", ["a", "b", "c"], labels(place, "-n"))
+    expect("made", False, place.has("a") or place.has("b") or place.has("c"))
+    expect("built", 0, place.done("b").returncode)
+    expect("then", ["c"], labels(place, "-n"))
+    expect("of targets", (NO_WORK, "", 0), says(place, "-n", "b"))
+
+
+def dry_run_of_the_manifest(place: Place) -> None:
+    """`meson test` asks for this, and looks for `no work to do`."""
+    text = MAKER.format(command="touch build.ninja", inputs="in", target="late")
+    programs.write({"build.ninja": text}, place.folder)
+    os.utime(place.folder / "build.ninja", (1, 1))
+    programs.write({"in": ""}, place.folder)
+    expect("to be made", ("[1/1] touch build.ninja\n", "", 0), says(place, "-n"))
+    expect("made", 0, place.done("build.ninja").returncode)
+    expect("is made", (NO_WORK, "", 0), says(place, "-n", "build.ninja"))
+    expect("built", False, place.has("late"))
 
 
 def failures(place: Place) -> None:
@@ -281,6 +324,122 @@ def long_line(place: Place) -> None:
     expect("length", True, len(lines[1]) < 130 and lines[1].startswith("...") and lines[2].endswith("^ near here"))
     at = lines[2].index("^")
     expect("what the caret shows", "|@", lines[1][at:at + 2])
+
+
+# ---- changes that are older than the outputs
+
+COMPILES = """rule cc
+  command = cat src header > out && cp out copy && echo 'out: header' > out.d
+  depfile = out.d
+build out copy: cc src
+"""
+# What is done after a build, so that no input is later than the oldest output. The next build runs the command.
+SEEN = {
+    "one_output_touched": "echo 2 > src; sleep .05; touch out",
+    "all_outputs_touched": "echo 2 > src; sleep .05; touch out copy",
+    "header_edited": "echo 2 > header; sleep .05; touch out copy",
+    "link_to_a_newer_file": "echo 2 > src; sleep .05; echo 1 > new; ln -sf new out; touch copy",
+    "newer_outputs_by_cp_p": "echo 2 > src; sleep .05; echo 1 > new; cp -p new out; cp -p new copy",
+    "outputs_from_the_future": "touch -d '+1 hour' out copy; echo 2 > src",
+}
+# What only plan_build sees: the new source file is later than the old one, and older than the outputs.
+SEEN_HERE = {"older_source_by_cp_p": "echo 2 > new; touch -d '-1 minute' new; cp -p new src"}
+
+
+def change_is_seen(steps: str, ninja: bool, builder: str, folder: pathlib.Path) -> str:
+    """Builds, changes files, builds twice again. Returns how that differs from one more run, or an empty text."""
+    builder = ninja_1_11(folder) if ninja else builder
+    programs.write({"build.ninja": COMPILES, "src": "1\n", "header": "1\n"}, folder)
+    for name in ("src", "header"):
+        os.utime(folder / name, (time.time() - 3600, time.time() - 3600))
+    programs.run([builder], folder)
+    programs.run(["sh", "-c", steps], folder)
+    changed = (folder / "src").read_text() + (folder / "header").read_text()
+    found = [programs.run([builder], folder).stdout.decode() for _ in range(2)]
+    texts = [(folder / name).read_text() for name in ("out", "copy")]
+    if texts != [changed, changed]:
+        return f"the outputs have {texts}, not {changed!r}; the build says {found[0]!r}"
+    return "" if found[1] == NO_WORK else f"the next build says {found[1]!r}"
+
+
+def edited_during_its_command(place: Place) -> None:
+    """A source file that is edited while its command runs makes the next build run the command, and only the next."""
+    command = f"cp src read; {GATED.replace('touch $out', 'cp read $out')}"
+    text = f"rule r\n  command = {command}\n  description = $out\nbuild out: r src\n"
+    programs.write({"build.ninja": text, "src": "1\n"}, place.folder)
+    child = place.started()
+    place.begun("out")
+    time.sleep(0.05)
+    programs.write({"src": "2\n"}, place.folder)
+    (place.folder / "go").touch()
+    expect("first", b"[1/1] out\n", child.communicate(timeout=PATIENCE)[0])
+    expect("output", "1\n", (place.folder / "out").read_text())
+    expect("second", ("[1/1] out\n", "", 0), says(place))
+    expect("output", "2\n", (place.folder / "out").read_text())
+    expect("third", (NO_WORK, "", 0), says(place))
+
+
+def generator_compares_its_outputs(place: Place) -> None:
+    """A generator that rewrites its own input has nothing to do; it runs if the input is later than its output."""
+    text = "rule make\n  command = echo 1 > in; sleep .05; touch $out\n  generator = 1\nbuild out: make in\n"
+    programs.write({"build.ninja": text, "in": ""}, place.folder)
+    expect("first", 0, place.done().returncode)
+    expect("second", (NO_WORK, "", 0), says(place))
+    time.sleep(0.05)
+    (place.folder / "in").touch()
+    expect("third", 0, place.done().returncode)
+    expect("fourth", (NO_WORK, "", 0), says(place))
+
+
+def image_compares_its_outputs(program: str, folder: pathlib.Path) -> None:
+    """An image of plan_ninja keeps the specified rule: a touched output hides an edit."""
+    programs.write({"build.ninja": COMPILES, "src": "1\n", "header": "1\n"}, folder)
+    programs.run([program, "compile", "build.ninja", "-o", "plan.img"], folder)
+    ran = [programs.run([program, "run", "plan.img"], folder).stdout.decode() for _ in range(2)]
+    expect("then", ["[1/1]", ""], [text[:5] for text in ran])
+    programs.run(["sh", "-c", SEEN["all_outputs_touched"]], folder)
+    expect("after the edit", "", programs.run([program, "run", "plan.img"], folder).stdout.decode())
+
+
+# ---- a header that a command changes without saying so
+
+TOUCHES = """rule cc
+  command = echo '$out: header' > $out.d && touch $out
+  depfile = $out.d
+  deps = gcc
+  description = $out
+rule touch
+  command = touch header $out
+  description = $out
+build early.o: cc early.c
+build touched: touch in
+build late.o: cc late.c || touched
+"""
+
+
+def lines_after_a_touch(words: list[str], folder: pathlib.Path) -> list[str]:
+    """Builds until there is nothing to do, and returns the outputs that are built after a change, in their order."""
+    for _ in range(5):
+        if "[" not in programs.run(words, folder).stdout.decode():
+            break
+    time.sleep(0.05)
+    (folder / "in").touch()
+    return [line.split()[1] for line in programs.run(words, folder).stdout.decode().splitlines()]
+
+
+def header_touched_between_readers(program: str, jobs: str, folder: pathlib.Path) -> None:
+    """A command touches a header that it doesn't declare. An edge that asked before it is clean, one after it runs."""
+    builder, found = programs.front(program), []
+    for name, words in (("build", [builder, "-j", jobs]), ("run", [program, "run", "plan.img", "-j", jobs])):
+        (folder / name).mkdir()
+        files = dict.fromkeys(("in", "early.c", "late.c", "header"), "")
+        programs.write({"build.ninja": TOUCHES, **files}, folder / name)
+        programs.run([program, "compile", "build.ninja", "-o", "plan.img"], folder / name)
+        found.append(lines_after_a_touch(words, folder / name))
+    for lines in found:
+        expect("outputs", ["touched", "late.o"], [line for line in lines if line != "early.o"])
+    if jobs == "1":
+        expect("outputs of plan_build, as of plan_ninja", found[1], found[0])
 
 
 # ---- manifests that are built
@@ -379,16 +538,18 @@ def as_stranger() -> None:
 
 
 def read_only_folder(place: Place) -> None:
-    """A record that may not be written is refused, also if there is nothing to do; nothing runs then."""
-    place.write("a touch $out", ">b touch $out")
-    expect("built", 0, place.done().returncode)
+    """Nothing to do is no failure; a command that would run fails, and does not start."""
+    place.write("a touch $out", ">b touch $out", "c touch $out")
+    expect("built", 0, place.done("b").returncode)
     for path in [place.folder, *place.folder.iterdir()]:
         path.chmod(path.stat().st_mode & ~(stat.S_IWUSR | stat.S_IWGRP | stat.S_IWOTH))
     try:
-        done = place.done(preexec_fn=as_stranger)
+        done = place.done("b", preexec_fn=as_stranger)
+        expect("said", (NO_WORK.encode(), b"", 0), (done.stdout, done.stderr, done.returncode))
+        done = place.done("c", preexec_fn=as_stranger)
         expect("status", 1, done.returncode)
-        expect("output", b"", done.stdout)
-        expect("the fault", b"plan: 133 FileFault .plan_record\n", done.stderr[-33:])
+        expect("output", True, done.stdout.startswith(b"FAILED c: "))
+        expect("made", False, place.has("c"))
     finally:
         place.folder.chmod(0o755)
 
@@ -503,11 +664,12 @@ def nested_build(place: Place) -> None:
 
 
 TRIALS: tuple[Callable[[Place], None], ...] = (
-    called_ninja, about, nothing_to_do, failures, limited_jobs, another_folder, missing_manifest, refused_manifest,
-    long_line, manifest_makes_itself, manifest_never_settles, manifest_fails, manifest_as_target, closed_streams,
-    reader_goes_away, read_only_folder, console_reads_the_terminal, key_ends_all(b"\x03", signal.SIGINT),
-    key_ends_all(b"\x1c", signal.SIGQUIT), ctrl_z, killed, half_outputs_run_again, hangup_is_ignored_under_nohup,
-    second_build_waits, nested_build)
+    called_ninja, about, nothing_to_do, dry_runs, dry_run_of_the_manifest, failures, limited_jobs, another_folder,
+    missing_manifest, refused_manifest, long_line, manifest_makes_itself, manifest_never_settles, manifest_fails,
+    manifest_as_target, closed_streams, reader_goes_away, read_only_folder, console_reads_the_terminal,
+    key_ends_all(b"\x03", signal.SIGINT), key_ends_all(b"\x1c", signal.SIGQUIT), ctrl_z, killed, half_outputs_run_again,
+    hangup_is_ignored_under_nohup, second_build_waits, nested_build, edited_during_its_command,
+    generator_compares_its_outputs)
 
 
 def check(builder: str, trial: Callable[[Place], None], folder: pathlib.Path) -> None:
@@ -526,5 +688,13 @@ def cases(setting: Setting) -> Iterator[Case]:
         yield Case(f"words {words}".strip(), functools.partial(words_say, builder, words, wanted))
     for words, wanted in SAME.items():
         yield Case(f"ninja {words}".strip(), functools.partial(ninja_says, words, wanted))
+    for name, steps in {**SEEN, **SEEN_HERE}.items():
+        yield Case(f"change {name}", functools.partial(change_is_seen, steps, False, builder))
+    for name, steps in SEEN.items():
+        yield Case(f"ninja change {name}", functools.partial(change_is_seen, steps, True, builder))
+    for jobs in ("1", "2", "4"):
+        yield Case(f"header_touched_between_readers -j {jobs}",
+                   functools.partial(header_touched_between_readers, setting.program, jobs))
+    yield Case("image_compares_its_outputs", functools.partial(image_compares_its_outputs, setting.program))
     for trial in TRIALS:
         yield Case(trial.__name__, functools.partial(check, builder, trial))
