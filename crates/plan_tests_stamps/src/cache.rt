@@ -1,16 +1,14 @@
 //! How often the inner world is asked.
 
-use crate::images::{Plan, image_of};
 use crate::worlds::{CountingWorld, STAMP};
-use plan_lanes::{World, run_lanes};
-use plan_machine::{Options, Outcome, Reply};
+use plan_lanes::World;
+use plan_machine::Reply;
 use plan_stamps::StampCache;
 use plan_verify::PathList;
 use std::alloc::{AllocError, Global};
 use std::rt::Clock;
 use std::sync::Wait;
 use std::test::*;
-use std::thread::Threads;
 
 /// How many stamps of a moment are not kept after the first command.
 const SHORT: u64 = 1_024;
@@ -113,63 +111,5 @@ fn full_table(rt: HostRuntime) -> Result<(), Fail> {
         }
     }
     assert_eq!(rt; cache.inner().asked(), 2 * 99 - 8);
-    Ok(())
-}
-
-/// Runs edges over a cache, and returns how many of them ran a command with status 0.
-fn ran_in<W: World + Send + Sync, R: Threads + Wait + Sync>(
-    rt: &R,
-    alloc: Global,
-    plans: &[Plan],
-    jobs: u8,
-    world: &W,
-) -> Option<usize> {
-    let image = image_of(alloc, plans).ok()?;
-    let report = run_lanes(rt, alloc, &image, Options::new(jobs, 0)?, &[], world).ok()?;
-    let mut ran = 0usize;
-    for edge in 0..plans.len() {
-        if report.state.outcome(edge as u32) == Some(Outcome::Ran) {
-            ran = ran.saturating_add(1);
-        }
-    }
-    Some(ran)
-}
-
-/// Edges that run nothing before them ask once; each command of an edge makes the next edge ask again.
-#[test]
-fn edges_one_after_another(rt: HostRuntime) -> Result<(), Fail> {
-    let mut plans = [Plan {
-        after: None,
-        outputs: 1,
-        looks: 1,
-    }; 3];
-    plans[0].looks = 5;
-    for edge in 1..3usize {
-        plans[edge].after = Some(edge as u32 - 1);
-    }
-    for jobs in [1u8, 2, 4] {
-        let cache = cache_of(&rt, 64, 0)?;
-        assert_eq!(rt; ran_in(&rt, rt.alloc(), &plans, jobs, &cache), Some(3));
-        assert_eq!(rt; cache.inner().asked(), 3);
-    }
-    Ok(())
-}
-
-/// While a command runs, each question is asked, also if there are many. The command of the first edge ends only then. The
-/// last edge asks: it begins after the first edge's command.
-#[test]
-fn asked_while_a_command_runs(rt: HostRuntime) -> Result<(), Fail> {
-    let mut plans = [Plan {
-        after: None,
-        outputs: 2,
-        looks: 0,
-    }; 3];
-    plans[1].outputs = 3;
-    plans[2].after = Some(1);
-    plans[2].outputs = 1;
-    plans[2].looks = 1_200;
-    let cache = cache_of(&rt, 64, 1_200)?;
-    assert_eq!(rt; ran_in(&rt, rt.alloc(), &plans, 2, &cache), Some(3));
-    assert_eq!(rt; cache.inner().asked(), 1_200);
     Ok(())
 }

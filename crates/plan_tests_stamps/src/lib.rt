@@ -4,6 +4,4 @@
 #[cfg(test)]
 mod cache;
 #[cfg(test)]
-mod images;
-#[cfg(test)]
 mod worlds;
