@@ -1,4 +1,4 @@
--- What is canonical stays. Serves the law canonical_stays.
+-- The canonical form of a path is canonical. Proofs for the law canonical_stays.
 use Rattle.std.proofs.Common.{◌≡◌, ℕ, suc, ◌+◌, ◌<◌, ◌≤◌, Bool, true, false, cond, List, [], ◌∷◌, ◌++◌, length, Ok, refl, sym, ap, subst, ◌∙◌, arith, eqb, length-append}
 use Rattle.std.specs.List.{join_with_byte, onto_first}
 use Rattle.std.proofs.lemmas.List.Splits.{join_with_byte-slice_split, length-slice_split, slice_split-cons_no}
@@ -14,12 +14,12 @@ abbrev AllSlashless : List (List ℕ) → Type 0
 AllSlashless [] = Unit {0}
 AllSlashless (p ∷ ps) = Slashless p × AllSlashless ps
 
--- with a byte, not `.`, and without a slash
+-- each part is not empty, is not `.`, and has no slash
 abbrev AllWhole : List (List ℕ) → Type 0
 AllWhole [] = Unit {0}
 AllWhole (p ∷ ps) = (is_current_dir p ≡ false) × Slashless p × AllWhole ps
 
--- the parts between slashes have none
+-- parts that are split at slashes have none
 parts_by : (b : ℕ) (parts : List (List ℕ)) (t : Bool) → eqb b 47 ≡ t → AllSlashless parts → AllSlashless (cond t ([] ∷ parts) (onto_first b parts))
 parts_by b parts true e h = (tt, h)
 parts_by b [] false e h = ((e, tt), tt)
@@ -29,7 +29,7 @@ components_slashless : (path : List ℕ) → AllSlashless (components_of path)
 components_slashless [] = (tt, tt)
 components_slashless (b ∷ rest) = parts_by b (components_of rest) (eqb b 47) refl (components_slashless rest)
 
--- parts without slashes, joined by these, are parted as they were
+-- if parts without slashes are joined by slashes, splitting returns them
 split_alone : (p : List ℕ) → Slashless p → components_of p ≡ p ∷ []
 split_alone [] h = refl
 split_alone (b ∷ p) h = slice_split-cons_no (λ x. eqb x 47) b p h.0 ∙ ap (onto_first b) (split_alone p h.1)
@@ -42,7 +42,7 @@ split_joined : (p : List ℕ) (ps : List (List ℕ)) → AllWhole (p ∷ ps) →
 split_joined p [] h = split_alone p h.1
 split_joined p (q ∷ ps) h = split_front p (join_with_byte 47 (q ∷ ps)) h.1 ∙ ap (λ (v : List (List ℕ)). p ∷ v) (split_joined q ps h.2)
 
--- the parts that stay are whole
+-- the parts that remain are whole
 whole_under : (p : List ℕ) (r : List (List ℕ)) (u : Bool) → is_current_dir p ≡ false → Slashless p → AllWhole r → AllWhole (normal_onto p r)
 whole_under p [] u n s h = (n, s, tt)
 whole_under p (q ∷ r) u n s h = by (is_parent_dir q) where
@@ -66,7 +66,7 @@ without_whole (p ∷ ps) h = by (is_parent_dir p) (without_whole ps h.2) where
   by true more = more
   by false more = h
 
--- each `..` in front, and then normal parts
+-- leading `..` parts, and then normal parts
 record Shaped (r : List (List ℕ)) : Type 0 where
   parent_dirs : List (List ℕ)
   names : List (List ℕ)
@@ -91,7 +91,7 @@ shaped (p ∷ ps) = shaped_before p (reduced ps) (is_current_dir p) (is_parent_d
 reduced_shaped : (r : List (List ℕ)) → Shaped r → reduced r ≡ r
 reduced_shaped r s = ap reduced s.same ∙ reduced-kept s.parent_dirs s.names s.are_ups s.are_names ∙ sym s.same
 
--- the bytes of all parts, each with a slash
+-- the number of bytes of all parts, each with a slash
 abbrev weight : List (List ℕ) → ℕ
 weight [] = 0
 weight (p ∷ ps) = suc (length p + weight ps)
@@ -137,14 +137,14 @@ without_lighter (p ∷ ps) = by (is_parent_dir p) (without_lighter ps) where
   by true more = omega (arith, more)
   by false more = omega arith
 
--- canonical itself, with a byte, and of at most so many bytes
+-- a form that is canonical, is not empty, and has at most this many bytes
 abbrev Stays : ℕ → List ℕ → Type 0
 Stays most form = (canonical_of form ≡ Ok form) × (0 < length form) × (length form ≤ most)
 
 canonical_here : (b : ℕ) (rest : List ℕ) → eqb b 47 ≡ false → canonical_of (b ∷ rest) ≡ Ok (relative_path (reduced (components_of (b ∷ rest))))
 canonical_here b rest e = rw e refl
 
--- a path whose first part has a byte and no slash
+-- a path whose first part is not empty and has no slash
 first_here : (p : List ℕ) (ps : List (List ℕ)) → is_current_dir p ≡ false → Slashless p
     → canonical_of (join_with_byte 47 (p ∷ ps)) ≡ Ok (relative_path (reduced (components_of (join_with_byte 47 (p ∷ ps)))))
 first_here [] ps n s = absurd cc
@@ -189,7 +189,7 @@ stays_by b rest false =
     let light = reduced_lighter (components_of (b ∷ rest)) in
     relative_stays (reduced (components_of (b ∷ rest))) (suc (length rest)) (omega arith) (shaped (components_of (b ∷ rest))) (reduced_whole (components_of (b ∷ rest)) (components_slashless (b ∷ rest))) (omega (arith, weighs, light))
 
--- a canonical form is canonical itself, has a byte, and is no longer than its path
+-- a canonical form is canonical, is not empty, and is no longer than its path
 pub stays : (path form : List ℕ) → canonical_of path ≡ Ok form → Stays (length path) form
 stays [] form e = cc
 stays (b ∷ rest) form e =

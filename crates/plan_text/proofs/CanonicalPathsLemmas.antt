@@ -1,4 +1,4 @@
--- Paths each part of which is normal. Serves src/canonical_paths.rt.
+-- Paths whose parts are all normal. Lemmas for src/canonical_paths.rt.
 use Rattle.std.proofs.Common.{◌≡◌, ℕ, Bool, true, false, not, ◌&&◌, ◌<◌, List, [], ◌∷◌, length, Ok, refl, ap, sym, ◌∙◌, cond, eqb, arith, ◌≤◌, ◌-◌, get_or, take, drop}
 use Rattle.std.specs.List.{list_all, join_with_byte}
 use Rattle.std.proofs.lemmas.List.{take_rest}
@@ -47,7 +47,7 @@ some_components path = let n = length-slice_split (λ b. eqb b 47) path in omega
 relative_stays : (path : List ℕ) → list_all is_normal (components_of path) ≡ true → relative_path (reduced (components_of path)) ≡ path
 relative_stays path e = ap relative_path (all_stay (components_of path) e) ∙ (relative_joined (components_of path) (some_components path) ∙ join_with_byte-slice_split 47 path)
 
--- a path from the root
+-- an absolute path whose components are all normal is its canonical form
 pub rooted_stays : (path rest : List ℕ) → path ≡ 47 ∷ rest → list_all is_normal (components_of rest) ≡ true → canonical_of path ≡ Ok path
 rooted_stays path rest p e =
     let forms : absolute_path (reduced (components_of rest)) ≡ 47 ∷ rest = ap absolute_path (all_stay (components_of rest) e) ∙ ap (λ (t : List ℕ). 47 ∷ t) (ap (join_with_byte 47) (no_parent_dirs (components_of rest) e) ∙ join_with_byte-slice_split 47 rest) in
@@ -57,7 +57,7 @@ behind_first : (path : List ℕ) → 1 ≤ length path → get_or path 0 0 ≡ 4
 behind_first [] h e = absurd (omega arith)
 behind_first (b ∷ rest) h e = ap (λ x. x ∷ rest) e
 
--- a path, its first byte cut off
+-- a path that begins with a slash is a slash and the rest
 pub cut_first : (path : List ℕ) → 1 ≤ length path → get_or path 0 0 ≡ 47 → path ≡ 47 ∷ take (length path - 1) (drop 1 path)
 cut_first path h e = behind_first path h e ∙ ap (λ (t : List ℕ). 47 ∷ t) (sym (take_rest path 1))
 
@@ -69,7 +69,7 @@ first_by b rest true f e =
     cc
 first_by b rest false f e = relative_stays (b ∷ rest) e
 
--- another path
+-- a relative path whose components are all normal is its canonical form
 pub path_stays : (path : List ℕ) → list_all is_normal (components_of path) ≡ true → canonical_of path ≡ Ok path
 path_stays [] e = cc
 path_stays (b ∷ rest) e = ap (λ (t : List ℕ). Ok t) (first_by b rest (eqb b 47) refl e)

@@ -1,4 +1,4 @@
--- Logical lines and their newlines, joined. Serves the law lines_cover.
+-- Logical lines joined with their newlines. Proofs for the law lines_cover.
 use Rattle.std.proofs.Common.{◌≡◌, inl, inr, ℕ, zero, suc, ◌+◌, ◌-◌, ◌<◌, ◌≤◌, Bool, ◌&&◌, true, false, cond, List, [], ◌∷◌, ◌++◌, length, take, drop, refl, sym, ap, subst, ◌∙◌, arith, eqb, length-drop}
 use Rattle.std.proofs.lemmas.Bool.{eqb-true, ltb-true}
 use Rattle.std.proofs.lemmas.List.{drop-drop, take-append-drop, length-take}
@@ -8,7 +8,7 @@ use Rattle.plan_text.specs.Lines.{newline_len, begins_newline, escaped_len, line
 use Rattle.plan_text.specs.Runs.{and_more, run_past, run}
 use Rattle.plan_text.proofs.LineReaderLemmas.{progress}
 
--- no unit stands where a run ends
+-- no unit begins at the end of a run
 run_stops : (size : List ℕ → ℕ) → size [] ≡ 0 → (text : List ℕ) (n : ℕ) → size (drop (run_past size text n) text) ≡ 0
 run_stops size none [] n = none
 run_stops size none (b ∷ rest) (suc n) = run_stops size none rest n
@@ -25,7 +25,7 @@ run_within size (b ∷ rest) zero = by (size (b ∷ rest)) (λ n. run_within siz
   by zero more = omega arith
   by (suc n) more = let h = more n in omega (arith, h)
 
--- what a text begins with where no line goes on
+-- a text that is no unit of a line begins with a newline
 ends_by_cr : (b c : ℕ) (rest : List ℕ) (t u : Bool) → eqb b 13 ≡ t → eqb c 10 ≡ u → 0 < cond (t && u) 2 0
     → EndsLine (take (cond (t && u) 2 0) (b ∷ c ∷ rest)) (drop (cond (t && u) 2 0) (b ∷ c ∷ rest))
 ends_by_cr b c rest true true e f h = inr (inl (rw (eqb-true b 13 e, eqb-true c 10 f) refl))
@@ -58,7 +58,7 @@ newline_within (b ∷ rest) = by (eqb b 10) (eqb b 13) rest where
     two true = omega arith
     two false = omega arith
 
--- where no unit stands there is a newline, or nothing
+-- a text that begins with no unit begins with a newline, or is empty
 line_stops : (text : List ℕ) → line_unit text ≡ 0 → 0 < length text → 0 < newline_len text
 line_stops [] e h = absurd (omega arith)
 line_stops (b ∷ rest) e h = by (begins_newline (b ∷ rest)) (eqb b dollar) refl e where
@@ -81,7 +81,7 @@ logical_by text true =
     (comment_stops _ (run_stops comment_unit refl (drop (indent_len text) text) 0))
 logical_by text false = line_stops _ (run_stops line_unit refl text 0)
 
--- behind a logical line there is a newline, or nothing
+-- a newline follows a logical line, unless the text ends
 logical_stops : (text : List ℕ) → 0 < length (drop (logical_len text) text) → 0 < newline_len (drop (logical_len text) text)
 logical_stops text = logical_by text (begins_with hash (drop (indent_len text) text))
 
@@ -99,7 +99,7 @@ within_by text false = run_within line_unit text 0
 pub logical_within : (text : List ℕ) → logical_len text ≤ length text
 logical_within text = within_by text (begins_with hash (drop (indent_len text) text))
 
--- the first line, its newline and what follows
+-- the first line, its newline and the lines that follow
 one_line : (at size : ℕ) (text : List ℕ) (more : List Raw) → size ≡ logical_len text + newline_len (drop (logical_len text) text) → AreLinesOf (at + size) more (drop size text)
     → AreLinesOf at (record { at = at; bytes = take (logical_len text) text } ∷ more) text
 one_line at size text more e h =
@@ -145,6 +145,6 @@ covers_past at (b ∷ rest) zero h =
         subst (λ (m : ℕ). AreLinesOf m (record { at = at; bytes = take (logical_len (b ∷ rest)) (b ∷ rest) } ∷ raw_past (at + 1) rest (suc n - 1)) (b ∷ rest)) z
         (rw k (one_line at (suc n) (b ∷ rest) (raw_past (at + 1) rest n) e (subst (λ (m : ℕ). AreLinesOf m (raw_past (at + 1) rest n) (drop n rest)) o (more n (omega arith)))))
 
--- the lines of a text and their newlines, joined, are the text
+-- the lines of a text joined with their newlines are the text
 pub covers : (at : ℕ) (text : List ℕ) → AreLinesOf at (raw_past at text 0) text
 covers at text = let z : at + 0 ≡ at = omega arith in subst (λ (k : ℕ). AreLinesOf k (raw_past at text 0) text) z (covers_past at text 0 (omega arith))

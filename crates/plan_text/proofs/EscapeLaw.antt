@@ -1,4 +1,4 @@
--- Escaped bytes, read. Serves the law escaped_is_read.
+-- How escaped bytes are read. Proofs for the law escaped_is_read.
 use Rattle.std.proofs.Common.{◌≡◌, ℕ, ◌+◌, ◌==◌, Bool, true, false, not, ◌||◌, ◌&&◌, cond, List, [], ◌∷◌, Result, Ok, refl, ap, ◌∙◌}
 use Rattle.std.specs.List.{list_all}
 use Rattle.plan_text.specs.Bytes.{nul, tab, space, dollar, colon}
@@ -19,7 +19,7 @@ onto_whole : (b : ℕ) (bytes : List ℕ) → onto (Byte b) (literal_of bytes) �
 onto_whole b [] = refl
 onto_whole b (c ∷ bytes) = refl
 
--- a byte that is escaped
+-- an escaped byte is read as itself
 behind_dollar : (mode : Mode) (at b : ℕ) (rest : List ℕ) (more : Result (List Piece) TextFault) → (b == dollar || b == space || b == colon) ≡ true → pieces_past mode (at + 1 + 1) rest 0 ≡ more
     → pieces_past mode at (dollar ∷ b ∷ rest) 0 ≡ all_onto (Byte b) more
 behind_dollar mode at b rest more e h = rw e (ap (all_onto (Byte b)) h)
@@ -28,7 +28,7 @@ either_false : (x y : Bool) → (x || y) ≡ false → (x ≡ false) × (y ≡ f
 either_false true y e = absurd cc
 either_false false y e = (refl, e)
 
--- a byte that stands for itself
+-- a byte that is not escaped is read as itself
 alone : (mode : Mode) (at b : ℕ) (rest : List ℕ) (more : Result (List Piece) TextFault) → (b == dollar || b == space || b == colon) ≡ false → (b == nul || b == tab && is_path mode) ≡ false
     → pieces_past mode (at + 1) rest 0 ≡ more → pieces_past mode at (b ∷ rest) 0 ≡ all_onto (Byte b) more
 alone mode at b rest more e f h =

@@ -1,4 +1,4 @@
--- Lines of a text behind another one. Serves the law lines_join.
+-- Lines of a text that is appended to another text. Proofs for the law lines_join.
 use Rattle.std.proofs.Common.{◌≡◌, ℕ, zero, suc, ◌+◌, ◌-◌, ◌<◌, ◌≤◌, ◌==◌, Bool, ◌&&◌, true, false, cond, List, [], ◌∷◌, ◌++◌, length, take, drop, refl, sym, ap, subst, ◌∙◌, arith, eqb, length-drop}
 use Rattle.std.proofs.lemmas.Bool.{eqb-true, ltb-true}
 use Rattle.std.proofs.lemmas.List.{take-append-le, drop-append-le, drop-drop}
@@ -7,7 +7,7 @@ use Rattle.plan_text.specs.Lines.{newline_len, begins_newline, escaped_len, line
 use Rattle.plan_text.specs.Runs.{and_more, run_past, run}
 use Rattle.plan_text.proofs.CoverLaw.{logical_within, newline_within}
 
--- a newline stays one, whatever follows
+-- a newline stays the same, whatever follows
 newline_alone : (b : ℕ) (t : List ℕ) (f g : Bool) → 0 < cond f 1 (cond (g && false) 2 0) → cond {A = ℕ} f 1 (cond (g && begins_with 10 t) 2 0) ≡ cond f 1 (cond (g && false) 2 0)
 newline_alone b t true g h = refl
 newline_alone b t false true h = absurd (omega arith)
@@ -18,11 +18,11 @@ newline_stays [] t h = absurd (omega arith)
 newline_stays (b ∷ []) t h = newline_alone b t (eqb b 10) (eqb b 13) h
 newline_stays (b ∷ c ∷ s) t h = refl
 
--- the text goes on with a newline behind so many bytes
+-- a newline follows the first n bytes of the text
 abbrev EndsAt : List ℕ → ℕ → Type 0
 EndsAt s n = 0 < newline_len (drop n s)
 
--- a unit in front of a newline stays what it is, whatever follows
+-- a unit before a newline stays the same, whatever follows
 comment_last : (b : ℕ) (t : List ℕ) (f : Bool) → begins_newline (b ∷ []) ≡ f → EndsAt (b ∷ []) (and_more (cond f 0 1) (λ n. 0)) → comment_unit (b ∷ t) ≡ cond {A = ℕ} f 0 1
 comment_last b t true e h = rw (newline_stays (b ∷ []) t (ltb-true 0 (newline_len (b ∷ [])) e), e) refl
 comment_last b t false e h = absurd (omega arith)
@@ -62,7 +62,7 @@ run_stays size same (b ∷ rest) t zero h =
     by zero h more = refl
     by (suc n) h more = ap suc (more n h)
 
--- an indent in front of a newline stays what it is
+-- an indent before a newline ends within the text
 indent_less : (s : List ℕ) (n : ℕ) → EndsAt s n → indent_len s < length s
 indent_less [] zero h = absurd (omega arith)
 indent_less [] (suc n) h = absurd (omega arith)
@@ -94,7 +94,7 @@ logical_by s t true i l h =
     let r : run comment_unit (drop (indent_len (s ++ t)) (s ++ t)) ≡ run comment_unit (drop n s) = ap (run comment_unit) d ∙ run_stays comment_unit comment_stays (drop n s) t 0 e in
     omega (arith, i, r)
 
--- a logical line that a newline ends stays what it is
+-- a logical line that a newline ends stays the same, whatever follows
 logical_stays : (s t : List ℕ) → EndsAt s (logical_len s) → logical_len (s ++ t) ≡ logical_len s
 logical_stays s t h =
     let l = indent_less s (logical_len s) h in
@@ -110,7 +110,7 @@ and_parts : (x y : Bool) → (x && y) ≡ true → (x ≡ true) × (y ≡ true)
 and_parts true y e = (refl, e)
 and_parts false y e = cc
 
--- the lines of a text past its first n bytes, and those of another text behind it
+-- the lines of a text after its first n bytes, followed by those of an appended text
 joined_past : (at : ℕ) (s t : List ℕ) (n : ℕ) → n ≤ length s → ended_past s n ≡ true → raw_past at (s ++ t) n ≡ raw_past at s n ++ raw_past (at + length s) t 0
 joined_past at [] t zero w h = let e : at ≡ at + 0 = omega arith in ap (λ (k : ℕ). raw_past k t 0) e
 joined_past at [] t (suc n) w h = absurd (omega arith)
@@ -136,6 +136,6 @@ joined_past at (b ∷ rest) t zero w h =
     ∙ ap (λ (v : List Raw). record { at = at; bytes = take len s } ∷ v) (joined_past (at + 1) rest t (len + newline_len (drop len s) - 1) (omega (arith, within, l, second)) parts.1)
     ∙ ap (λ (k : ℕ). record { at = at; bytes = take len s } ∷ (raw_past (at + 1) rest (len + newline_len (drop len s) - 1) ++ raw_past k t 0)) e
 
--- behind a text whose lines are ended, the lines of another stay what they are
+-- if all lines of a text are ended, an appended text keeps its lines
 pub joined : (at : ℕ) (s t : List ℕ) (n : ℕ) → ended_past s 0 ≡ true → raw_past at (s ++ t) 0 ≡ raw_past at s 0 ++ raw_past (at + length s) t 0
 joined at s t n h = joined_past at s t 0 (omega arith) h

@@ -13,3 +13,5 @@ pub mod NumeralsLemmas
 pub mod EscapeLaw
 pub mod CoverLaw
 pub mod JoinLaw
+mod HashWordsLemmas
+pub mod SharedRowsLemmas

@@ -1,4 +1,4 @@
--- Numbers that grow with their digits. Serves src/numerals.rt.
+-- Numbers that grow with their digits. Lemmas for src/numerals.rt.
 use Rattle.std.proofs.Common.{◌≡◌, ◌≤◌, ◌<◌, ℕ, ◌+◌, ◌-◌, ◌*◌, Bool, true, false, List, [], ◌∷◌, length, drop, get_or, Option, Some, None, cond, refl, ap, sym, arith}
 use Rattle.std.specs.Prelude.{nat_le}
 use Rattle.std.proofs.lemmas.Bool.{lt-leb}
@@ -14,7 +14,7 @@ too_great_by : (n most : ℕ) (t : Bool) → nat_le n most ≡ t → None ≡ co
 too_great_by n most true e h = absurd cc
 too_great_by n most false e h = grind (arith, nat_tests, e)
 
--- once a number is too great it stays so
+-- a number that is too great stays too great
 pub stays_too_great : (digits : List ℕ) (most n i : ℕ) → i < length digits → number_past n (drop i digits) ≡ number_past 0 digits
     → None ≡ cond {A = Option ℕ} (nat_le (n * 10 + (get_or digits i 0 - 48)) most) (Some (n * 10 + (get_or digits i 0 - 48))) None → None ≡ at_most most digits
 stays_too_great digits most n i l so_far h =

@@ -1,4 +1,4 @@
--- How the components that stay grow by one component. Serves src/path.rt.
+-- How adding a component changes the components that remain. Lemmas for src/path.rt.
 use Rattle.std.proofs.Common.{◌≡◌, ℕ, true, false, List, [], ◌∷◌, ◌++◌, refl, sym, ap, subst, ◌∙◌, append_assoc, Option, Some, None, is_some, take, get_or, ◌<◌, ◌+◌, suc, length, arith}
 use Rattle.std.proofs.lemmas.List.{take_more, length-take}
 use Rattle.std.specs.Prelude.{option_to_list}
@@ -7,7 +7,7 @@ use Rattle.std.specs.List.{join_with_byte}
 use Rattle.plan_text.specs.Path.{is_current_dir, is_parent_dir, normal_onto, component_onto, reduced, without_parent_dirs, absolute_path}
 use Rattle.plan_text.specs.Reducing.{AllNormal, AllParentDirs, texts}
 
--- components in front of those that stay of what follows them
+-- adds components before those that remain of the components after them
 abbrev over : List (List ℕ) → List (List ℕ) → List (List ℕ)
 over [] rest = rest
 over (component ∷ components) rest = component_onto component (over components rest)
@@ -16,7 +16,7 @@ reduced-append : (k x : List (List ℕ)) → reduced (k ++ x) ≡ over k (reduce
 reduced-append [] x = refl
 reduced-append (p ∷ k) x = ap (component_onto p) (reduced-append k x)
 
--- what stays depends on what follows only by what stays of that
+-- if two lists of components reduce to the same list, so do they with the same components before them
 reduced-same : (k x y : List (List ℕ)) → reduced x ≡ reduced y → reduced (k ++ x) ≡ reduced (k ++ y)
 reduced-same k x y e = reduced-append k x ∙ ap (over k) e ∙ sym (reduced-append k y)
 
@@ -29,19 +29,19 @@ component_onto-up p rest e f = rw (e, f) refl
 component_onto-normal : (p : List ℕ) (rest : List (List ℕ)) → is_current_dir p ≡ false → is_parent_dir p ≡ false → component_onto p rest ≡ normal_onto p rest
 component_onto-normal p rest e f = rw (e, f) refl
 
--- `..` takes away the component before it
+-- `..` removes the component before it
 pub normal_onto-up : (p q : List ℕ) (rest : List (List ℕ)) → is_parent_dir q ≡ true → normal_onto p (q ∷ rest) ≡ rest
 normal_onto-up p q rest e = rw e refl
 
--- a normal component stays in front of one that is no `..`
+-- a normal component stays before one that is no `..`
 pub normal_onto-normal : (p q : List ℕ) (rest : List (List ℕ)) → is_parent_dir q ≡ false → normal_onto p (q ∷ rest) ≡ p ∷ q ∷ rest
 normal_onto-normal p q rest e = rw e refl
 
--- a component that is nothing changes nothing
+-- an empty component or `.` changes nothing
 pub adds_current_dir : (k : List (List ℕ)) (p : List ℕ) (rest : List (List ℕ)) → is_current_dir p ≡ true → reduced (k ++ rest) ≡ reduced (k ++ p ∷ rest)
 adds_current_dir k p rest e = reduced-same k rest (p ∷ rest) (sym (component_onto-nothing p (reduced rest) e))
 
--- `..` takes away the normal component before it
+-- `..` removes the normal component before it
 adds_parent_dir : (k : List (List ℕ)) (n up : List ℕ) (rest : List (List ℕ)) → is_current_dir n ≡ false → is_parent_dir n ≡ false → is_current_dir up ≡ false → is_parent_dir up ≡ true
     → reduced (k ++ rest) ≡ reduced ((k ++ n ∷ []) ++ up ∷ rest)
 adds_parent_dir k n up rest n1 n2 u1 u2 =
@@ -61,19 +61,19 @@ AllParentDirs-append : (a b : List (List ℕ)) → AllParentDirs a → AllParent
 AllParentDirs-append [] b h k = k
 AllParentDirs-append (x ∷ a) b h k = (h.0, h.1, AllParentDirs-append a b h.2 k)
 
--- normal components stay
+-- normal components remain
 pub reduced-normal : (ns : List (List ℕ)) → AllNormal ns → reduced ns ≡ ns
 reduced-normal [] h = refl
 reduced-normal (p ∷ []) h = component_onto-normal p [] h.0 h.1
 reduced-normal (p ∷ q ∷ ns) h =
     ap (component_onto p) (reduced-normal (q ∷ ns) h.2) ∙ component_onto-normal p (q ∷ ns) h.0 h.1 ∙ normal_onto-normal p q ns h.2.1
 
--- so do `..` in front of them
+-- leading `..` components and the normal ones after them remain
 pub reduced-kept : (us ns : List (List ℕ)) → AllParentDirs us → AllNormal ns → reduced (us ++ ns) ≡ us ++ ns
 reduced-kept [] ns h k = reduced-normal ns k
 reduced-kept (u ∷ us) ns h k = ap (component_onto u) (reduced-kept us ns h.2 k) ∙ component_onto-up u (us ++ ns) h.0 h.1
 
--- normal components hold no `..` to take away
+-- normal components have no `..` to remove after the root
 pub without_parent_dirs-normal : (ns : List (List ℕ)) → AllNormal ns → without_parent_dirs ns ≡ ns
 without_parent_dirs-normal [] h = refl
 without_parent_dirs-normal (p ∷ ns) h = rw h.1 refl
@@ -81,12 +81,12 @@ without_parent_dirs-normal (p ∷ ns) h = rw h.1 refl
 without_parent_dirs-up : (u : List ℕ) (x : List (List ℕ)) → is_parent_dir u ≡ true → without_parent_dirs (u ∷ x) ≡ without_parent_dirs x
 without_parent_dirs-up u x e = rw e refl
 
--- each `..` in front goes behind the root
+-- leading `..` components are removed after the root
 pub without_parent_dirs-kept : (us ns : List (List ℕ)) → AllParentDirs us → AllNormal ns → without_parent_dirs (us ++ ns) ≡ ns
 without_parent_dirs-kept [] ns h k = without_parent_dirs-normal ns k
 without_parent_dirs-kept (u ∷ us) ns h k = without_parent_dirs-up u (us ++ ns) h.1 ∙ without_parent_dirs-kept us ns h.2 k
 
--- one more component at the end, behind a slash where it isn't the first
+-- appends a component, after a slash
 joined-more : (c : ℕ) (xs : List (List ℕ)) (y x : List ℕ) → join_with_byte c ((y ∷ xs) ++ x ∷ []) ≡ join_with_byte c (y ∷ xs) ++ c ∷ x
 joined-more c [] y x = refl
 joined-more c (z ∷ xs) y x = ap (λ (v : List ℕ). y ++ c ∷ v) (joined-more c xs z x) ∙ sym (append_assoc y (c ∷ join_with_byte c (z ∷ xs)) (c ∷ x))
@@ -95,17 +95,17 @@ texts-append : (a b : List (Bor (List ℕ))) → texts (a ++ b) ≡ texts a ++ t
 texts-append [] b = refl
 texts-append (x ∷ a) b = ap (λ (v : List (List ℕ)). x.now ∷ v) (texts-append a b)
 
--- what is left after a component was taken off the end is normal
+-- normal components stay normal if the last one is removed
 pub shape_popped : (ns left : List (Bor (List ℕ))) (o : Option (Bor (List ℕ))) → ns ≡ left ++ option_to_list o → AllNormal (texts ns) → AllNormal (texts left)
 shape_popped ns left o e h =
     (AllNormal-components (texts left) (texts (option_to_list o)) (subst AllNormal (ap texts e ∙ texts-append left (option_to_list o)) h)).0
 
--- normal components with one more are normal
+-- normal components stay normal if a normal one is added
 pub shape_pushed : (ns more : List (Bor (List ℕ))) (p : Bor (List ℕ)) → more ≡ ns ++ p ∷ [] → AllNormal (texts ns) → is_current_dir p.now ≡ false → is_parent_dir p.now ≡ false → AllNormal (texts more)
 shape_pushed ns more p e h k l =
     subst AllNormal (sym (ap texts e ∙ texts-append ns (p ∷ []))) (AllNormal-append (texts ns) (p.now ∷ []) h (k, l, tt))
 
--- a list of `..` with one more is one
+-- a list of `..` stays one if a `..` is added
 pub parent_dirs_pushed : (us more : List (Bor (List ℕ))) (p : Bor (List ℕ)) → more ≡ us ++ p ∷ [] → AllParentDirs (texts us) → is_current_dir p.now ≡ false → is_parent_dir p.now ≡ true → AllParentDirs (texts more)
 parent_dirs_pushed us more p e h k l =
     subst AllParentDirs (sym (ap texts e ∙ texts-append us (p ∷ []))) (AllParentDirs-append (texts us) (p.now ∷ []) h (k, l, tt))
@@ -117,7 +117,7 @@ takes_last us left n up rest h u1 u2 =
     adds_parent_dir (texts us ++ texts left) n.now up rest last.0 last.1 u1 u2
     ∙ ap (λ (v : List (List ℕ)). reduced (v ++ up ∷ rest)) (append_assoc (texts us) (texts left) (n.now ∷ []) ∙ ap (λ (v : List (List ℕ)). texts us ++ v) (sym (texts-append left (n ∷ []))))
 
--- a `..` takes away the last normal component that stays so far
+-- a `..` removes the last normal component that remains so far
 pub takes_popped : (us ns left : List (Bor (List ℕ))) (o : Option (Bor (List ℕ))) (up : List ℕ) (rest : List (List ℕ)) → ns ≡ left ++ option_to_list o → is_some o ≡ true → AllNormal (texts ns)
     → is_current_dir up ≡ false → is_parent_dir up ≡ true → reduced ((texts us ++ texts left) ++ rest) ≡ reduced ((texts us ++ texts ns) ++ up ∷ rest)
 takes_popped us ns left None up rest e s h u1 u2 = absurd cc
@@ -136,7 +136,7 @@ texts-length (x ∷ xs) = ap suc (texts-length xs)
 texts-take_more : (components : List (Bor (List ℕ))) (i : ℕ) (d : Bor (List ℕ)) → i < length components → texts (take (i + 1) components) ≡ texts (take i components) ++ (get_or components i d).now ∷ []
 texts-take_more components i d h = ap texts (take_more components i d h) ∙ texts-append (take i components) (get_or components i d ∷ [])
 
--- one more component, behind a slash where it isn't the first
+-- joins the first component
 joined_first : (components : List (Bor (List ℕ))) (i : ℕ) (d : Bor (List ℕ)) → i < length components → i ≡ 0 → join_with_byte 47 (texts (take (i + 1) components)) ≡ join_with_byte 47 (texts (take i components)) ++ (get_or components i d).now
 joined_first components i d h z =
     ap (join_with_byte 47) (texts-take_more components i d h) ∙ rw z refl
@@ -146,13 +146,13 @@ joined_later components i d h z =
     ap (join_with_byte 47) (texts-take_more components i d h)
     ∙ joined_behind (texts (take i components)) (get_or components i d).now (omega (arith, texts-length (take i components), length-take i components))
 
--- a turn of the loop that writes components: the first one
+-- the step of the loop that writes the first component
 pub writes_first : (old out new : List ℕ) (components : List (Bor (List ℕ))) (i : ℕ) (d : Bor (List ℕ)) → i < length components → i ≡ 0
     → out ≡ old ++ join_with_byte 47 (texts (take i components)) → new ≡ out ++ (get_or components i d).now → new ≡ old ++ join_with_byte 47 (texts (take (i + 1) components))
 writes_first old out new components i d h z so_far e =
     rw (e, so_far, joined_first components i d h z, append_assoc) refl
 
--- and a later one
+-- a later step of the loop that writes components
 pub writes_later : (old out mid new : List ℕ) (components : List (Bor (List ℕ))) (i : ℕ) (d : Bor (List ℕ)) → i < length components → 0 < i
     → out ≡ old ++ join_with_byte 47 (texts (take i components)) → mid ≡ out ++ 47 ∷ [] → new ≡ mid ++ (get_or components i d).now → new ≡ old ++ join_with_byte 47 (texts (take (i + 1) components))
 writes_later old out mid new components i d h z so_far m e =
@@ -161,6 +161,6 @@ writes_later old out mid new components i d h z so_far m e =
     ∙ append_assoc old (join_with_byte 47 (texts (take i components))) (47 ∷ (get_or components i d).now)
     ∙ ap (λ (v : List ℕ). old ++ v) (sym (joined_later components i d h z))
 
--- what is written of a path from the root
+-- the bytes that are written for an absolute path
 pub absolute_path-kept : (us ns all : List (List ℕ)) → us ++ ns ≡ reduced all → AllParentDirs us → AllNormal ns → 47 ∷ join_with_byte 47 ns ≡ absolute_path (reduced all)
 absolute_path-kept us ns all e h k = ap (λ (v : List (List ℕ)). 47 ∷ join_with_byte 47 v) (sym (without_parent_dirs-kept us ns h k)) ∙ ap absolute_path e

@@ -25,7 +25,7 @@ empty_path = refl
 root_is_its_parent : canonical_of (codes "/..") ≡ Ok (codes "/")
 root_is_its_parent = refl
 
--- `a$!`, and the right sides and paths of the worked examples
+-- bad escapes, the escapes of values and paths, and a continuation after CR LF
 no_such_escape : pieces_of Value (codes "a$!") ≡ Err (BadEscape 1)
 no_such_escape = refl
 
@@ -50,12 +50,12 @@ brace_not_closed = refl
 line : ℕ → ℕ → ℕ → Line
 line indent start stop = record { indent = indent; start = start; «end» = stop }
 
--- `x = 1`, newline, blank line, a comment that ends in `$`, `  y`
+-- `x = 1`, a newline, a blank line, a comment that ends in `$`, and `  y`
 blank_line_and_comment : lines_of (codes "x = 1" ++ 10 ∷ 32 ∷ 10 ∷ codes "# c$" ++ 10 ∷ codes "  y") ≡ Ok (line 0 0 5 ∷ line 2 15 16 ∷ [])
 unfolding line
 blank_line_and_comment = refl
 
--- a line that is continued, ended by CR LF
+-- a continued line before a line that is ended by CR LF; faults of tabs and NUL bytes
 hash_behind_a_continuation : lines_of (codes "a$" ++ 10 ∷ codes "# b" ++ 13 ∷ 10 ∷ codes "c$$" ++ 10 ∷ codes "d") ≡ Ok (line 0 0 6 ∷ line 0 8 11 ∷ line 0 12 13 ∷ [])
 unfolding line
 hash_behind_a_continuation = refl
@@ -66,7 +66,7 @@ tab_behind_an_indent = refl
 nul_in_a_comment : lines_of (codes "a" ++ 10 ∷ codes "# x" ++ 0 ∷ codes "b") ≡ Err (NulByte 5)
 nul_in_a_comment = refl
 
--- a line of a continuation alone; an indent is of spaces alone
+-- lines that consist of a continuation; an indent consists of spaces only
 dollar_and_newline_alone : lines_of (36 ∷ 10 ∷ []) ≡ Ok (line 0 0 2 ∷ [])
 unfolding line
 dollar_and_newline_alone = refl
@@ -79,7 +79,7 @@ continued_line : lines_of (codes "x = $" ++ 10 ∷ codes "  1") ≡ Ok (line 0 0
 unfolding line
 continued_line = refl
 
--- behind a continuation `#` begins no comment
+-- after a continuation, `#` begins no comment
 dollar_before_a_comment : lines_of (36 ∷ 10 ∷ codes "# c") ≡ Ok (line 0 0 5 ∷ [])
 unfolding line
 dollar_before_a_comment = refl
@@ -115,14 +115,14 @@ dollar_at_the_end = refl
 no_name_in_braces : pieces_of Value (codes "a${}") ≡ Err (BadEscape 1)
 no_name_in_braces = refl
 
--- a CR alone is a byte like others
+-- a CR without LF is an ordinary byte
 cr_is_a_byte : pieces_of Path (97 ∷ 13 ∷ 98 ∷ []) ≡ Ok (Literal (97 ∷ 13 ∷ 98 ∷ []) ∷ [])
 cr_is_a_byte = refl
 
 dollar_before_a_cr : pieces_of Value (97 ∷ 36 ∷ 13 ∷ 98 ∷ []) ≡ Err (BadEscape 1)
 dollar_before_a_cr = refl
 
--- a newline behind `$`, and the spaces behind that, give no bytes
+-- a newline after `$`, and the spaces after it, give no bytes
 continuation_alone : pieces_of Value (36 ∷ 13 ∷ 10 ∷ 32 ∷ 32 ∷ []) ≡ Ok []
 continuation_alone = refl
 
@@ -138,19 +138,19 @@ tab_in_a_value = refl
 dot_ends_a_bare_name : pieces_of Value (codes "$a.b") ≡ Ok (Reference (codes "a") ∷ Literal (codes ".b") ∷ [])
 dot_ends_a_bare_name = refl
 
--- a CR alone ends no line
+-- a CR without LF ends no line
 cr_in_a_line : lines_of (97 ∷ 13 ∷ 98 ∷ 10 ∷ 99 ∷ []) ≡ Ok (line 0 0 3 ∷ line 0 4 5 ∷ [])
 unfolding line
 cr_in_a_line = refl
 
--- bytes that are escaped, and what they are then
+-- bytes, their escaped form, and how it is read
 bytes_with_escapes : escape_bytes (codes "a b$c:d") ≡ codes "a$ b$$c$:d"
 bytes_with_escapes = refl
 
 escapes_read : pieces_of Path (codes "a$ b$$c$:d") ≡ Ok (literal_of (codes "a b$c:d"))
 escapes_read = refl
 
--- numbers in digits: a bound, zeros in front, and what is none
+-- decimal numbers: the limit, leading zeros, and texts that are no numbers
 greatest_number : number_in 1000000 (codes "1000000") ≡ Some 1000000
 greatest_number = refl
 
@@ -166,13 +166,13 @@ no_digit = refl
 digits_and_a_letter : number_in 9 (codes "1x") ≡ None
 digits_and_a_letter = refl
 
--- ordinary parts
+-- normal components
 name_with_dots : is_normal (codes "..a") ≡ true
 name_with_dots = refl
 
 parent_is_not_normal : is_normal (codes "..") ≡ false
 parent_is_not_normal = refl
 
--- the first line of a text, continued and ended by CR LF
+-- lines that are continued and ended by CR LF
 lines_with_their_newlines : raw_lines (codes "a$" ++ 10 ∷ codes "b" ++ 13 ∷ 10 ∷ codes "c") ≡ record { at = 0; bytes = codes "a$" ++ 10 ∷ codes "b" } ∷ record { at = 6; bytes = codes "c" } ∷ []
 lines_with_their_newlines = refl

@@ -1,4 +1,4 @@
--- A step that the walks of `src/tally.rt` share. Assumes `Logic`.
+-- A proof step that the proofs of `src/tally.rt` share. Assumes `Logic`.
 use Rattle.std.proofs.Common.{List, [], ◌∷◌, refl}
 use seplogic.Ra.Ura.{Ura}
 use mir.Val.{Val, vstruct, vnil}
@@ -15,7 +15,7 @@ none = vstruct vnil
 abbrev fieldless : RattleType
 fieldless = Struct (record { name = []; args = []; types = []; fields = [] })
 
--- it is made of nothing
+-- the value of a ghost field can be created without resources
 pub none_made : {M : Type 1} {𝓤 : Ura M} {𝓛 : Logic 𝓤} {K : Type 0} {Γ : List (Item 𝓤)} {G : Goal 𝓤 𝓛.H} → K → Step K 𝓛 (‵ (fieldless.own_val tt (none ∷ [])) ∷ Γ) G Γ G
 none_made t = step (λ s.
     nothing t $ feq_i t (List Val) (none ∷ []) (none ∷ []) refl $ fjoin t $

@@ -1,4 +1,4 @@
--- The bytes that the syntax knows.
+-- The bytes that the syntax gives a meaning to.
 use Rattle.std.specs.Prelude.{ℕ, ◌==◌, Bool, false, ◌||◌, List, [], ◌∷◌}
 use Rattle.std.specs.Char.{is_ascii_alphanumeric}
 
@@ -59,18 +59,18 @@ bar = 124
 abbrev pub right_brace : ℕ
 right_brace = 125
 
--- a letter, a digit, `_` or `-`: a byte of a name behind `$`
+-- whether a byte may be in a name right after `$`: a letter, a digit, `_` or `-`
 abbrev pub is_bare_name_byte : ℕ → Bool
 is_bare_name_byte b = is_ascii_alphanumeric b || b == underscore || b == hyphen
 
--- the same, or `.`: a byte of any other name
+-- whether a byte may be in any other name: the same bytes, and `.`
 abbrev pub is_name_byte : ℕ → Bool
 is_name_byte b = is_bare_name_byte b || b == dot
 
 abbrev pub is_space : ℕ → Bool
 is_space b = b == space
 
--- a space or a tab
+-- whether a byte is a space or a tab
 abbrev pub is_blank : ℕ → Bool
 is_blank b = b == space || b == tab
 

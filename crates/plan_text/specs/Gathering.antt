@@ -1,4 +1,4 @@
--- Pieces as the program gathers them, and how it sees what stands at one place.
+-- The pieces that the program has read so far, and the specification's view of them.
 use Rattle.std.specs.Prelude.{◌≡◌, ℕ, ◌==◌, Bool, ◌||◌, List, [], ◌∷◌, ◌++◌, Result, Ok, Err, Option, Some, None}
 use Rattle.plan_text.specs.declared.fault.TextFault.{TextFault}
 use Rattle.plan_text.specs.declared.piece_reader.Gather.{Gather}
@@ -28,15 +28,15 @@ abbrev pub is_special : Mode → ℕ → Bool
 is_special mode.Path b = b == dollar || b == nul || b == tab
 is_special mode.Value b = b == dollar || b == nul
 
--- bytes in front of the pieces that follow
+-- adds bytes before the pieces that follow
 abbrev pub bytes_onto : List ℕ → List Piece → List Piece
 bytes_onto [] more = more
 bytes_onto (b ∷ bytes) more = onto (Byte b) (bytes_onto bytes more)
 
--- what was gathered, in front of the pieces that follow
+-- adds the pieces read so far before the pieces that follow
 abbrev pub gathered_pieces : Gather → List Piece → List Piece
 gathered_pieces g more = g.done.items ++ bytes_onto g.literal more
 
--- new stands for old and what stands at one more place, whatever follows
+-- new is old with the meaning of one more byte or escape added, whatever follows
 abbrev pub Gathers : Gather → Sign → Gather → Type 0
 Gathers old sign new = (more : List Piece) → gathered_pieces new more ≡ gathered_pieces old (onto sign more)

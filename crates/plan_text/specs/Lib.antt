@@ -5,6 +5,7 @@ pub mod Pieces
 pub mod SmallTexts
 pub mod PieceLists
 pub mod RowLists
+pub mod SharedRows
 pub mod Gathering
 pub mod Path
 pub mod Reducing
@@ -14,3 +15,4 @@ pub mod Sinks
 pub mod Laws
 pub mod Limits
 pub mod Numerals
+pub mod HashWords

@@ -1,4 +1,4 @@
--- Lists of pieces, wherever these lie.
+-- The pieces of a `PieceList`, in either storage.
 use Rattle.std.specs.Prelude.{List}
 use Rattle.plan_text.specs.declared.piece_list.Held.{Held}
 use Rattle.plan_text.specs.declared.piece_list.Held.TheVariants.{One, Many}

@@ -10,24 +10,24 @@ use Rattle.plan_text.specs.declared.piece_reader.Mode.TheVariants as mode
 use Rattle.plan_text.specs.declared.piece_reader.Piece.{Piece}
 use Rattle.plan_text.specs.declared.piece_reader.Piece.TheVariants.{Literal, Reference}
 
--- What stands at one place: a byte for itself, a reference by its name, or nothing, where a line goes on.
+-- The meaning of one byte or escape: a byte, a reference by its name, or nothing if it continues a line.
 pub data Sign : Type 0 where
   Byte : ℕ → Sign
   Name : List ℕ → Sign
   Nothing : Sign
 
--- a name behind `$`; without a byte it is no reference
+-- a name right after `$`; an empty name is no reference
 abbrev pub bare_name : List ℕ → Option (Sign × ℕ)
 bare_name [] = None
 bare_name (b ∷ name) = Some (Name (b ∷ name), length (b ∷ name))
 
--- a name behind `${`, and what follows it: a closing brace
+-- a name after `${`, and the text after the name, which must begin with the closing brace
 abbrev pub braced_name : List ℕ → List ℕ → Option (Sign × ℕ)
 braced_name [] rest = None
 braced_name (b ∷ name) rest = if begins_with right_brace rest then Some (Name (b ∷ name), length (b ∷ name) + 2) else None
 
--- What `$` and the text behind it stand for, and how many bytes of that text; a newline takes along the spaces behind
--- it.
+-- The meaning of `$` and the text after it, and the number of bytes of that text that belong to it. A newline
+-- includes the spaces after it.
 abbrev pub escape : List ℕ → Option (Sign × ℕ)
 escape [] = None
 escape (b ∷ rest) =
@@ -37,7 +37,7 @@ escape (b ∷ rest) =
     else if b == left_brace then braced_name (take_while is_name_byte rest) (drop (prefix_len is_name_byte rest) rest)
     else bare_name (take_while is_bare_name_byte (b ∷ rest))
 
--- how many bytes behind a `$` belong to its escape
+-- the number of bytes after a `$` that belong to its escape
 abbrev pub size_of : Option (Sign × ℕ) → Option ℕ
 size_of None = None
 size_of (Some x) = Some x.1
@@ -53,8 +53,8 @@ abbrev pub or_bad : ℕ → Option (Sign × ℕ) → Result (Sign × ℕ) TextFa
 or_bad at None = Err (BadEscape at)
 or_bad at (Some x) = Ok x
 
--- What stands at offset `at`, where the text goes on with this byte and the rest, and how many bytes of the rest belong
--- to it; or the fault at that place.
+-- The meaning of the byte at offset `at` and the bytes of the rest that belong to it, with their number, or the
+-- fault at this offset.
 abbrev pub sign_at : Mode → ℕ → ℕ → List ℕ → Result (Sign × ℕ) TextFault
 sign_at mode at b rest =
     if b == dollar then or_bad at (escape rest)
@@ -62,7 +62,7 @@ sign_at mode at b rest =
     else if b == tab && is_path mode then Err (TabBlank at)
     else Ok (Byte b, 0)
 
--- what stands at one place, in front of the pieces that follow: bytes side by side are one literal
+-- adds the meaning of one byte or escape before the pieces that follow; adjacent bytes form one literal
 abbrev pub onto : Sign → List Piece → List Piece
 onto (Byte b) (Literal bytes ∷ more) = Literal (b ∷ bytes) ∷ more
 onto (Byte b) (Reference name ∷ more) = Literal (b ∷ []) ∷ Reference name ∷ more
@@ -78,13 +78,13 @@ abbrev pub in_front : Result (Sign × ℕ) TextFault → (ℕ → Result (List P
 in_front (Ok x) more = all_onto x.0 (more x.1)
 in_front (Err fault) more = Err fault
 
--- the pieces of a text past the bytes to skip (see Runs), or its first fault; the text stands at offset `at`
+-- the pieces of a text after the bytes to skip (see Runs), or its first fault; the text is at offset `at`
 abbrev pub pieces_past : Mode → ℕ → List ℕ → ℕ → Result (List Piece) TextFault
 pieces_past mode at [] skip = Ok []
 pieces_past mode at (b ∷ rest) (suc skip) = pieces_past mode (at + 1) rest skip
 pieces_past mode at (b ∷ rest) zero = in_front (sign_at mode at b rest) (λ skip. pieces_past mode (at + 1) rest skip)
 
--- the pieces of a text that stands at offset `at`
+-- the pieces of a text at offset `at`
 abbrev pub pieces_from : Mode → ℕ → List ℕ → Result (List Piece) TextFault
 pieces_from mode at text = pieces_past mode at text 0
 
@@ -92,16 +92,16 @@ pieces_from mode at text = pieces_past mode at text 0
 abbrev pub pieces_of : Mode → List ℕ → Result (List Piece) TextFault
 pieces_of mode text = pieces_from mode 0 text
 
--- bytes as a text in which they stand for themselves: a `$` before each `$`, space and colon
+-- the text that is read as these bytes: a `$` before each `$`, space and colon
 abbrev pub escape_bytes : List ℕ → List ℕ
 escape_bytes [] = []
 escape_bytes (b ∷ rest) = if b == dollar || b == space || b == colon then dollar ∷ b ∷ escape_bytes rest else b ∷ escape_bytes rest
 
--- whether a byte may stand there, if need be behind a `$`: no NUL, and no tab in a path
+-- whether a byte is allowed, escaped or not: no NUL, and no tab in a path
 abbrev pub is_allowed : Mode → ℕ → Bool
 is_allowed mode b = not (b == nul || b == tab && is_path mode)
 
--- one piece of these bytes, or none where there is no byte
+-- one literal of these bytes, or no piece if there are none
 abbrev pub literal_of : List ℕ → List Piece
 literal_of [] = []
 literal_of (b ∷ bytes) = Literal (b ∷ bytes) ∷ []

@@ -1,4 +1,4 @@
--- Short texts, wherever their bytes lie.
+-- The bytes of a `SmallText`, in either storage.
 use Rattle.std.specs.Prelude.{ℕ, List}
 use Rattle.plan_text.specs.declared.small_text.Held.{Held}
 use Rattle.plan_text.specs.declared.small_text.Held.TheVariants.{Inline, Heap}

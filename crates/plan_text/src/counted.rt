@@ -1,4 +1,4 @@
-//! Writers of std whose failures are counted.
+//! A wrapper for a writer of std that counts failed writes.
 
 ghost use Rattle.std.specs.Prelude.{◌≡◌, ℕ};
 
@@ -7,7 +7,8 @@ use crate::tally::Tally;
 use std::io::Write;
 use std::marker::Model;
 
-/// A writer of std, with a count of its failures that only proofs read. A contract sees it as the writer and the count.
+/// A writer of std, with a count of its failed writes that only proofs read. A contract sees it as the pair of
+/// the writer and the count.
 #[derive(Drop)]
 pub struct Counted<W> {
     writer: W,
@@ -23,7 +24,7 @@ impl<W> Model for Counted<W> {
 }
 
 impl<W> Counted<W> {
-    /// The writer, none of whose writes has failed.
+    /// Wraps a writer, with a count of 0 failures.
     pub fn new(writer: W) -> Counted<W>
         ensures { result ≡ (writer, 0) }
     {
@@ -33,7 +34,7 @@ impl<W> Counted<W> {
         }
     }
 
-    /// The writer, as to flush it at the end of a program.
+    /// Returns the writer, for example to flush it at the end of a program.
     pub fn into_writer(self) -> W
         ensures { result ≡ self.0 }
     {

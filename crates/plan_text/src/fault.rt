@@ -1,4 +1,4 @@
-//! Why a text is refused.
+//! The reasons why a text is refused.
 
 ghost use Rattle.std.specs.Prelude.{◌≡◌};
 ghost use Rattle.plan_text.specs.declared.fault.TextFault.TheVariants.{Memory};
@@ -6,28 +6,32 @@ ghost use Rattle.plan_text.specs.Faults.{number_of, offset_of};
 
 use std::alloc::{AllocError, AllocFailed};
 
-/// Why a text is refused. An offset counts bytes from 0, and is that of the first byte where no rule goes on.
-/// Which bytes are refused, beside escapes that the Ninja manual doesn't list, is this project's own choice.
+/// The reason why a text is refused.
+///
+/// An offset counts bytes from 0. It is the offset of the first byte that no rule accepts. Apart from escapes
+/// that the Ninja manual doesn't list, the choice of refused bytes is this project's own.
 #[derive(Clone, Copy, Debug, PartialEq, Eq)]
 pub enum TextFault {
-    /// A tab where only spaces part words: in front of a line, or in a path. In a comment or a value it is a byte like
-    /// others. Its offset.
+    /// A tab that is in a path, or between the spaces that begin a line and its first word. In a comment or a
+    /// value, a tab is an ordinary byte. Holds the offset of the tab.
     TabBlank(u64),
-    /// A NUL byte, wherever it stands. Its offset.
+    /// A NUL byte, anywhere. Holds its offset.
     NulByte(u64),
-    /// A `$` that begins none of the escapes of the Ninja manual's section "Lexical syntax". Its offset.
+    /// A `$` that begins none of the escapes of the Ninja manual's section "Lexical syntax". Holds the offset
+    /// of the `$`.
     BadEscape(u64),
-    /// A text of more than 16,777,216 bytes (16 MiB). The offset is that number, that of the first byte too many.
+    /// A text of more than 16,777,216 bytes (16 MiB). Holds the offset of the first byte after the limit, which
+    /// is that number.
     SourceTooLong(u64),
-    /// Memory ran out. It says nothing of the text.
+    /// Memory ran out. This fault does not depend on the text.
     Memory,
-    /// A path without a byte.
+    /// An empty path.
     EmptyPath,
 }
 
 impl TextFault {
-    /// The number under which a program prints the fault, 1 to 6 in the order of the variants. This project's own
-    /// choice.
+    /// Returns the number that a program prints for the fault, from 1 to 6 in the order of the variants. The
+    /// numbers are this project's own choice.
     pub fn number(&self) -> u8
         ensures { result ≡ number_of self.now }
     {
@@ -41,7 +45,7 @@ impl TextFault {
         }
     }
 
-    /// The offset of the byte where no rule goes on; none for want of memory and for an empty path.
+    /// Returns the offset of the first byte that no rule accepts. Returns None for `Memory` and `EmptyPath`.
     pub fn offset(&self) -> Option<u64>
         ensures { result ≡ offset_of self.now }
     {

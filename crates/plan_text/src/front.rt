@@ -1,13 +1,13 @@
-//! A few bytes in the value itself.
+//! A short array of bytes that is stored inline.
 
 ghost use Rattle.std.specs.Prelude.{◌≡◌, ◌≤◌, ◌+◌, ◌++◌, [], length, nat_le};
 
 use std::marker::Model;
 
-/// The most bytes: as many as leave a `SmallText` no larger than a `Vec` and a tag.
+/// The most bytes that a `Front` holds. With this limit, a `SmallText` is no larger than a `Vec` and a tag.
 const ROOM: usize = 30;
 
-/// The front of an array of bytes. A contract sees it as the bytes.
+/// Up to `ROOM` bytes, stored at the front of an array. A contract sees it as the list of the bytes.
 #[derive(Debug, Drop)]
 pub struct Front {
     len: u8,
@@ -26,7 +26,7 @@ impl Model for Front {
 }
 
 impl Front {
-    /// No byte.
+    /// Creates an empty `Front`.
     pub fn empty() -> Front
         ensures { result ≡ [] }
     {
@@ -36,21 +36,21 @@ impl Front {
         }
     }
 
-    /// The bytes, lent.
+    /// Borrows the bytes.
     pub fn as_slice(&self) -> &[u8]
         ensures { result.now ≡ self.now }
     {
         &self.array[..self.len as usize]
     }
 
-    /// Whether so many bytes more find room.
+    /// Returns whether `more` further bytes fit.
     pub fn has_room(&self, more: usize) -> bool
         ensures { result ≡ nat_le (length self.now + more) ROOM }
     {
         more <= ROOM - self.len as usize
     }
 
-    /// The same bytes and these behind them.
+    /// Appends bytes, which must fit.
     pub fn with(self, more: &[u8]) -> Front
         requires { length self + length more.now ≤ ROOM }
         ensures { result ≡ self ++ more.now }

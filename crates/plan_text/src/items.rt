@@ -1,11 +1,12 @@
-//! Lists that contracts see as lists.
+//! Vectors that contracts see as lists.
 
 ghost use Rattle.std.specs.Prelude.{◌≡◌, ◌↔◌, IsTrue, [], length};
 
 use std::alloc::Global;
 use std::marker::Model;
 
-/// A list of values. A contract sees it as the list, so that a type which holds it is compared as it stands.
+/// A vector of values. A contract sees it as the list of the values, so types that hold an `Items` are compared
+/// by these values.
 #[derive(Debug, Drop)]
 pub struct Items<T> {
     held: Vec<T>,
@@ -20,14 +21,14 @@ impl<T> Model for Items<T> {
 }
 
 impl<T> Items<T> {
-    /// The list of a `Vec`'s items, in their order.
+    /// Wraps a vector. The items keep their order.
     pub fn new(held: Vec<T>) -> Self
         ensures { result ≡ held.items }
     {
         Self { held }
     }
 
-    /// The list without an item. It takes no memory until it is a `Vec` again and grows.
+    /// Creates an empty list. It takes no memory until its vector grows.
     pub fn empty(alloc: Global) -> Self
         ensures { result ≡ [] }
     {
@@ -36,7 +37,7 @@ impl<T> Items<T> {
         }
     }
 
-    /// The items in their order, as a `Vec`.
+    /// Returns the vector of the items, in their order.
     pub fn into_vec(self) -> Vec<T>
         ensures { result.items ≡ self }
     {
@@ -44,21 +45,21 @@ impl<T> Items<T> {
         held
     }
 
-    /// How many items there are.
+    /// Returns the number of items.
     pub fn len(&self) -> usize
         ensures { result ≡ length self.now }
     {
         self.held.len()
     }
 
-    /// Whether there is no item.
+    /// Returns whether the list is empty.
     pub fn is_empty(&self) -> bool
         ensures { IsTrue result ↔ (self.now ≡ []) }
     {
         self.held.is_empty()
     }
 
-    /// The items in their order, lent.
+    /// Borrows the items, in their order.
     pub fn as_slice(&self) -> &[T]
         ensures { result.now ≡ self.now }
     {

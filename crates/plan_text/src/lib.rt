@@ -1,25 +1,28 @@
-//! The text of a manifest, byte by byte, and what the crates above it share.
+//! Reads the text of a manifest byte by byte, and provides types that the crates above share.
 //!
-//! - `lines`: the logical lines of a text; `split_line` splits off the first. `logical_len`, `newline_len`,
-//!   `indent_len`, `gap_len`, `name_len` and `escape_len` measure what a text begins with, for a reader that goes on
-//!   from there, and `run_len` does so for any sort of unit; `begins` and `nul_at` look for one byte, and `number_in`
-//!   reads digits.
-//! - `pieces`: the bytes and the references to variables of a path or a value.
-//! - `canonical`: a path in its canonical form; `is_canonical` tells of most paths that they are in it already.
-//! - `TextFault`: why these refuse a text, with the offset of the byte; `Memory`: the fault of a call that has no
-//!   other.
-//! - `MAX_SOURCE`, `MAX_TEXT`, `MAX_PATH`: the most bytes of what is read and kept.
-//! - `Items`: a list that contracts see as a list.
-//! - `RowList`: rows of items, held one behind the other; contracts see a list of lists.
-//! - `SmallText`, `PieceList`: a text, and a list of pieces, that take no allocation where they are short. Contracts
-//!   see them as lists too.
-//! - `Sink`, `Counted` and `write_all`: what bytes are written to, with a count of failures that only proofs read, a
-//!   `Tally`.
-//! - `canonical_stays`, `lines_cover`, `lines_join`, `escaped_is_read`, `writes_join`: what holds of all texts and
-//!   writes, for the proofs of the crates above.
+//! - `lines` returns the logical lines of a text, and `split_line` splits off the first line. `logical_len`,
+//!   `newline_len`, `indent_len`, `gap_len`, `name_len` and `escape_len` return the length of an item at the
+//!   front of a text, and `run_len` returns the length of a run of units. `begins` and `nul_at` test and search
+//!   for one byte. `number_in` reads a decimal number.
+//! - `pieces` returns the literals and the references to variables of a path or a value.
+//! - `canonical` returns the canonical form of a path. `is_canonical` recognizes most paths that are already
+//!   canonical.
+//! - `TextFault` is the reason why these functions refuse a text, with the offset of the byte. `Memory` is the
+//!   fault of calls that can only run out of memory.
+//! - `MAX_SOURCE`, `MAX_TEXT` and `MAX_PATH` are the limits on bytes that are read and kept.
+//! - `Items` is a vector that contracts see as a list.
+//! - `RowList` and `SharedRows` are lists of rows, which contracts see as lists of lists. The rows of a
+//!   `RowList` are stored consecutively in one vector. The rows of `SharedRows` are parts of shared bytes.
+//! - `SmallText` and `PieceList` are a text and a list of pieces. They take no allocation if they are short.
+//!   Contracts see them as lists too.
+//! - `feed_words` feeds a text to a hasher.
+//! - `Sink` is a target of writes, `Counted` wraps a writer of std as a sink, and `write_all` writes all bytes
+//!   to a sink. Each counts failures in a `Tally`, which only proofs read.
+//! - `canonical_stays`, `lines_cover`, `lines_join`, `escaped_is_read`, `plain_is_read` and `writes_join` are
+//!   laws about all texts and writes, for the proofs of the crates above.
 //!
-//! The rules are those of the Ninja manual's section "Lexical syntax", and where it says nothing this project's own
-//! choice; each item says which.
+//! The rules are those of the Ninja manual's section "Lexical syntax". If the manual says nothing, a rule is
+//! this project's own choice. Each item says which of the two applies.
 #![tactic(auto)]
 
 mod byte_search;
@@ -27,6 +30,7 @@ mod canonical_paths;
 mod counted;
 mod fault;
 mod front;
+mod hashing;
 mod items;
 mod laws;
 mod limits;
@@ -38,6 +42,7 @@ mod piece_list;
 mod piece_reader;
 mod row_list;
 mod run_reader;
+mod shared_rows;
 mod sink;
 mod small_text;
 mod tally;
@@ -46,6 +51,7 @@ pub use byte_search::{begins, nul_at};
 pub use canonical_paths::is_canonical;
 pub use counted::Counted;
 pub use fault::TextFault;
+pub use hashing::feed_words;
 pub use items::Items;
 pub use laws::{
     canonical_stays, escaped_is_read, lines_cover, lines_join, plain_is_read, writes_join,
@@ -59,6 +65,7 @@ pub use piece_list::PieceList;
 pub use piece_reader::{Mode, Piece, escape_len, name_len, pieces, pieces_at};
 pub use row_list::RowList;
 pub use run_reader::{Unit, run_len};
+pub use shared_rows::{Place, SharedRows};
 pub use sink::{Sink, SinkFault, write_all};
 pub use small_text::SmallText;
 pub use tally::Tally;

@@ -1,4 +1,4 @@
-//! The logical lines of a text.
+//! Splits a text into logical lines.
 
 ghost use Rattle.std.specs.Prelude.{◌≡◌, take, ◌<◌, ◌≤◌, ◌+◌, length};
 ghost use Rattle.plan_text.specs.Lines as syntax;
@@ -12,21 +12,22 @@ use crate::run_reader::{Unit, run_len};
 use memchr::{memchr, memchr3};
 use std::alloc::Global;
 
-/// A logical line that is neither blank nor a comment. Offsets and counts are of bytes, from 0 at the front of the
-/// text.
+/// A logical line that is neither blank nor a comment. Offsets and counts are in bytes. Offsets count from 0 at
+/// the start of the text.
 #[derive(Clone, Copy, Debug, PartialEq, Eq)]
 pub struct Line {
-    /// How many spaces it begins with.
+    /// The number of spaces that it begins with.
     pub indent: u32,
-    /// The offset of its first byte past these spaces: the `$` of a continuation, where one stands there.
+    /// The offset of its first byte after these spaces. If a continuation follows them, this byte is its `$`.
     pub start: u64,
     /// The offset of the newline that ends it, or of the end of the text.
     pub end: u64,
 }
 
-/// How many bytes the newline has that a text begins with: 1 for LF, 2 for CR LF, 0 where there is none.
+/// Returns the length of the newline that a text begins with, in bytes: 1 for LF, 2 for CR LF, and 0 if it
+/// begins with none.
 ///
-/// That CR LF is a newline, and a CR alone a byte like others, is this project's own choice.
+/// Accepting CR LF as a newline, and a single CR as an ordinary byte, is this project's own choice.
 pub fn newline_len(text: &[u8]) -> usize
     ensures len { result ≡ syntax.newline_len text.now }
     ensures within { result ≤ length text.now }
@@ -38,7 +39,8 @@ pub fn newline_len(text: &[u8]) -> usize
     }
 }
 
-/// What a `$` takes along: the newline behind it, else one byte.
+/// Returns the number of bytes that a `$` escapes at the front of the text after it: the length of a newline,
+/// or else 1. Returns 0 if the text is empty.
 fn escaped_len(text: &[u8]) -> usize
     ensures len { result ≡ syntax.escaped_len text.now }
     ensures within { result ≤ length text.now }
@@ -50,7 +52,7 @@ fn escaped_len(text: &[u8]) -> usize
     if newline > 0 { newline } else { 1 }
 }
 
-/// A byte of a logical line, or a `$` with what it takes along.
+/// A unit of a logical line: a byte, or a `$` with the byte or newline that it escapes.
 struct LineUnit;
 
 impl Unit for LineUnit {
@@ -72,7 +74,7 @@ impl Unit for LineUnit {
     }
 }
 
-/// A space, or `$` and a newline.
+/// A unit of a gap between words: a space, or a `$` followed by a newline.
 struct GapUnit;
 
 impl Unit for GapUnit {
@@ -90,8 +92,9 @@ impl Unit for GapUnit {
     }
 }
 
-/// How many bytes of a gap between words a text begins with: spaces, and each `$` with the newline behind it.
-/// (Ninja manual, "Lexical syntax": tokens are parted by spaces, and a `$` continues a line.)
+/// Returns the number of bytes that a text begins with that belong to a gap between words. A gap consists of
+/// spaces and of `$` followed by a newline. (Ninja manual, "Lexical syntax": spaces separate tokens, and a `$`
+/// continues a line.)
 pub fn gap_len(text: &[u8]) -> usize
     ensures len { result ≡ syntax.gap_len text.now }
     ensures within { result ≤ length text.now }
@@ -99,7 +102,8 @@ pub fn gap_len(text: &[u8]) -> usize
     run_len::<GapUnit>(text)
 }
 
-/// Up to the first newline, by a search for its last byte.
+/// Returns the length of a comment that a text begins with, without its newline. Searches for the LF of the
+/// newline.
 fn comment_len(text: &[u8]) -> usize
     ensures len { result ≡ runs.run syntax.comment_unit text.now }
     ensures within { result ≤ length text.now }
@@ -116,8 +120,8 @@ fn comment_len(text: &[u8]) -> usize
     }
 }
 
-/// How many spaces a text begins with. A `$` with a newline is none: an indent is of spaces alone, which is this
-/// project's own choice.
+/// Returns the number of spaces that a text begins with. A `$` with a newline does not count: an indent
+/// consists of spaces only, which is this project's own choice.
 pub fn indent_len(text: &[u8]) -> usize
     ensures len { result ≡ syntax.indent_len text.now }
     ensures within { result ≤ length text.now }
@@ -125,9 +129,9 @@ pub fn indent_len(text: &[u8]) -> usize
     text.iter().take_while(|b| **b == b' ').count()
 }
 
-/// How many bytes the logical line has that a text begins with, without the newline that ends it. A `$` continues it
-/// past a newline, but for a comment, which is a line whose first byte past its spaces is `#`. (Ninja manual, "Lexical
-/// syntax".)
+/// Returns the number of bytes of the first logical line of a text, without the newline that ends it. A `$`
+/// before a newline continues the line, except in a comment. A comment is a line whose first byte after its
+/// spaces is `#`. (Ninja manual, "Lexical syntax".)
 pub fn logical_len(text: &[u8]) -> usize
     ensures len { result ≡ syntax.logical_len text.now }
     ensures within { result ≤ length text.now }
@@ -141,8 +145,8 @@ pub fn logical_len(text: &[u8]) -> usize
     }
 }
 
-/// The logical line that a text begins with, without the newline that ends it, and how many bytes it has with its
-/// newline. A text with a byte has a line.
+/// Returns the first logical line of a text, without the newline that ends it, and the length of the line with
+/// its newline, in bytes. The text must not be empty.
 pub fn split_line(text: &[u8]) -> (&[u8], usize)
     requires { 0 < length text.now }
     ensures line { syntax.IsFirstLine text.now result.0.now result.1 }
@@ -155,7 +159,11 @@ pub fn split_line(text: &[u8]) -> (&[u8], usize)
     (line, line.len() + newline_len(behind))
 }
 
-/// What the logical line at this place is; nothing where it is blank or a comment.
+/// Classifies the logical line at this offset. Returns None if it is blank or a comment.
+///
+/// # Errors
+///
+/// `TabBlank` if a tab follows the indent, and else `NulByte` if the line has a NUL byte.
 fn line_of(at: usize, bytes: &[u8]) -> Result<Option<Line>, TextFault>
     requires { at + length bytes.now ≤ 16777216 }
     ensures { result ≡ syntax.line_of (record { at = at; bytes = bytes.now }) }
@@ -178,13 +186,20 @@ fn line_of(at: usize, bytes: &[u8]) -> Result<Option<Line>, TextFault>
     }
 }
 
-/// The logical lines of a text without blank ones and comments, or the first place where no rule goes on.
+/// Returns the logical lines of a text, without blank lines and comments.
 ///
-/// Newlines part lines, `$` and a newline continue one, and `#` begins a comment (Ninja manual, "Lexical syntax").
+/// A newline ends a line, `$` before a newline continues it, and `#` begins a comment (Ninja manual, "Lexical
+/// syntax").
 ///
-/// Refused are a text of more than 16 MiB (`SourceTooLong`), and then at the first line that has one a tab behind its
-/// indent (`TabBlank`), else a NUL byte (`NulByte`), in a comment too; these are this project's own choice. Other
-/// faults of a line are found by `pieces`. `Memory` may come in place of any answer.
+/// # Errors
+///
+/// - `SourceTooLong` if the text has more than 16 MiB.
+/// - `TabBlank` if a tab follows the indent of a line.
+/// - `NulByte` if a line or a comment has a NUL byte.
+/// - `Memory` if memory runs out, whatever the text is.
+///
+/// The first line that has a fault decides, and in that line `TabBlank` comes before `NulByte`. These rules are
+/// this project's own choice. Other faults of a line are found by `pieces`.
 pub fn lines(alloc: Global, text: &[u8]) -> Result<Vec<Line>, TextFault>
     ensures { Meets TextFault.Memory (λ v. v.items) result (syntax.lines_of text.now) }
 {

@@ -1,10 +1,10 @@
-//! Want of memory as the only refusal.
+//! The fault of calls that can only run out of memory.
 
 ghost use Rattle.std.specs.Prelude.{◌≡◌};
 
 use std::alloc::{AllocError, AllocFailed};
 
-/// Memory ran out: the fault of a call that has no other.
+/// Memory ran out. It is the fault of calls that have no other fault.
 #[derive(Clone, Copy, Debug, PartialEq, Eq)]
 pub struct Memory;
 

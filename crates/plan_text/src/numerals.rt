@@ -1,24 +1,24 @@
-//! Numbers in digits.
+//! Decimal numbers.
 
 ghost use Rattle.std.specs.Prelude.{◌≡◌, ◌+◌, ◌-◌, ◌*◌, nat_le, if◌then◌else◌, Some, None};
 ghost use Rattle.std.specs.List.{list_all};
 ghost use Rattle.plan_text.specs.Numerals as numerals;
 
-/// Whether each byte is a digit.
+/// Returns whether each byte is a digit. An empty text passes.
 fn is_all_digits(text: &[u8]) -> bool
     ensures { result ≡ list_all numerals.is_digit text.now }
 {
     text.iter().all(|b| matches!(*b, b'0'..=b'9'))
 }
 
-/// Whether a text is a digit or more.
+/// Returns whether a text consists of one digit or more.
 fn is_numeral(text: &[u8]) -> bool
     ensures { result ≡ numerals.is_numeral text.now }
 {
     !text.is_empty() && is_all_digits(text)
 }
 
-/// A number with one more digit, where it is at most this.
+/// Appends a decimal digit to a number. Returns None if the new number is greater than `most`.
 fn with_digit(number: u64, digit: u8, most: u64) -> Option<u64>
     ensures { result ≡ (if nat_le (number * 10 + (digit - 48)) most then Some (number * 10 + (digit - 48)) else None) }
 {
@@ -30,7 +30,7 @@ fn with_digit(number: u64, digit: u8, most: u64) -> Option<u64>
     }
 }
 
-/// The number that digits mean, where it is at most this.
+/// Returns the number that digits represent. Returns None if it is greater than `most`.
 fn at_most(digits: &[u8], most: u64) -> Option<u64>
     ensures { result ≡ numerals.at_most most digits.now }
 {
@@ -44,8 +44,8 @@ fn at_most(digits: &[u8], most: u64) -> Option<u64>
     Some(number)
 }
 
-/// The number that a text says in decimal digits, at least one and nothing else, where it is at most `most`. Zeros in
-/// front change nothing.
+/// Returns the number that a text represents in decimal digits. Returns None if the text is empty, if it has
+/// another byte than a digit, or if the number is greater than `most`. Leading zeros are allowed.
 pub fn number_in(text: &[u8], most: u64) -> Option<u64>
     ensures { result ≡ numerals.number_in most text.now }
 {

@@ -1,4 +1,4 @@
-//! Lists of pieces.
+//! Lists of pieces that are small if they have one piece.
 
 ghost use Rattle.std.specs.Prelude.{◌≡◌, ◌∷◌, [], IfOk};
 ghost use Rattle.plan_text.specs.Pieces.{literal_of};
@@ -8,16 +8,17 @@ use crate::small_text::SmallText;
 use std::alloc::{AllocError, Global};
 use std::marker::Model;
 
-/// Where pieces lie.
+/// The storage of pieces.
 #[derive(Debug, Drop)]
 enum Held {
-    /// A single one, in the value itself.
+    /// A single piece, stored inline.
     One([Piece; 1]),
-    /// Others, in an allocation.
+    /// Any number of pieces, in an allocation.
     Many(Vec<Piece>),
 }
 
-/// The pieces of a path or a value, a single one of which takes no allocation. A contract sees it as the list.
+/// The pieces of a path or a value. If it is created from a single piece, it takes no allocation. A contract
+/// sees it as the list of the pieces.
 #[derive(Debug, Drop)]
 pub struct PieceList {
     held: Held,
@@ -34,7 +35,7 @@ impl Model for PieceList {
 }
 
 impl PieceList {
-    /// The list of a `Vec`'s pieces, in their order, without spare room where memory allows it.
+    /// Wraps a vector of pieces, in their order. Releases its spare room if memory allows it.
     pub fn new(mut pieces: Vec<Piece>) -> PieceList
         ensures { result ≡ pieces.items }
     {
@@ -44,7 +45,7 @@ impl PieceList {
         }
     }
 
-    /// The list without a piece.
+    /// Creates an empty list.
     pub fn empty(alloc: Global) -> PieceList
         ensures { result ≡ [] }
     {
@@ -53,7 +54,7 @@ impl PieceList {
         }
     }
 
-    /// The list of one piece.
+    /// Creates a list of one piece.
     pub fn one(piece: Piece) -> PieceList
         ensures { result ≡ piece ∷ [] }
     {
@@ -62,7 +63,7 @@ impl PieceList {
         }
     }
 
-    /// The list of one literal of these bytes, without a piece where there is no byte.
+    /// Creates a list of one literal with these bytes. If there are no bytes, the list is empty.
     pub fn literal(alloc: Global, bytes: &[u8]) -> Result<PieceList, AllocError>
         ensures { IfOk result (λ pieces. pieces ≡ literal_of bytes.now) }
     {
@@ -73,7 +74,7 @@ impl PieceList {
         Ok(PieceList::one(Piece::Literal(literal)))
     }
 
-    /// The pieces in their order, lent.
+    /// Borrows the pieces, in their order.
     pub fn as_slice(&self) -> &[Piece]
         ensures { result.now ≡ self.now }
     {

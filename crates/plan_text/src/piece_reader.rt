@@ -1,4 +1,4 @@
-//! The pieces of a path or a value.
+//! Reads the pieces of a path or a value.
 
 ghost use Rattle.std.specs.Prelude.{◌≡◌, ◌==◌, ◌<◌, ◌≤◌, ◌+◌, ◌^◌, ◌++◌, [], IfOk, IfSome, OnOk, not, length, drop, slice_index};
 ghost use Rattle.std.specs.List.{prefix_len, position_or_len, take_while};
@@ -16,25 +16,25 @@ use memchr::memchr2;
 use std::alloc::{AllocError, Global};
 use std::mem;
 
-/// Where a text stands, which decides what a tab is. This project's own choice.
+/// The kind of text that is read, which decides whether a tab is refused. This is this project's own choice.
 #[derive(Clone, Copy, Debug, PartialEq, Eq)]
 pub enum Mode {
-    /// In a path, where a tab is refused.
+    /// A path, in which a tab is refused.
     Path,
-    /// On the right of `=`, where a tab is a byte like others.
+    /// The value to the right of `=`, in which a tab is an ordinary byte.
     Value,
 }
 
-/// A piece of a path or a value, as its bytes.
+/// A piece of a path or a value.
 #[derive(Debug, Drop)]
 pub enum Piece {
-    /// Bytes that stand for themselves, escapes replaced by what they stand for. Two literals never stand side by side.
+    /// The bytes of the path or value, with escapes replaced by their meaning. Two literals are never adjacent.
     Literal(SmallText),
     /// The name of a variable, without `$` and braces.
     Reference(SmallText),
 }
 
-/// What stands at one place.
+/// The meaning of one byte or one escape: a byte, a variable's name, or nothing if it continues a line.
 #[derive(Clone, Copy)]
 enum Found<'a> {
     Byte(u8),
@@ -42,7 +42,7 @@ enum Found<'a> {
     Nothing,
 }
 
-/// Pieces, the last of which may go on.
+/// The pieces that were read so far. The last literal may still grow.
 #[derive(Drop)]
 struct Gather {
     alloc: Global,
@@ -50,7 +50,7 @@ struct Gather {
     literal: SmallText,
 }
 
-/// The bytes of a name right behind `$`: letters and digits of ASCII, `_` and `-`.
+/// The table of bytes that may be in a name right after `$`: ASCII letters and digits, `_` and `-`.
 const BARE_NAME: [bool; 256] = [
     false, false, false, false, false, false, false, false, false, false, false, false, false,
     false, false, false, false, false, false, false, false, false, false, false, false, false,
@@ -73,14 +73,14 @@ const BARE_NAME: [bool; 256] = [
     false, false, false, false, false, false, false, false, false, false,
 ];
 
-/// Whether a byte belongs to a name right behind `$`.
+/// Returns whether a byte may be in a name right after `$`.
 fn is_bare_name_byte(byte: u8) -> bool
     ensures { result ≡ bytes.is_bare_name_byte byte }
 {
     BARE_NAME[usize::from(byte)]
 }
 
-/// The bytes of any other name: these and `.`.
+/// The table of bytes that may be in any other name: those of `BARE_NAME`, and `.`.
 const NAME: [bool; 256] = [
     false, false, false, false, false, false, false, false, false, false, false, false, false,
     false, false, false, false, false, false, false, false, false, false, false, false, false,
@@ -103,14 +103,14 @@ const NAME: [bool; 256] = [
     false, false, false, false, false, false, false, false, false, false,
 ];
 
-/// Whether a byte belongs to any other name.
+/// Returns whether a byte may be in a name that does not follow `$` directly.
 fn is_name_byte(byte: u8) -> bool
     ensures { result ≡ bytes.is_name_byte byte }
 {
     NAME[usize::from(byte)]
 }
 
-/// How many bytes of a name right behind `$` a text begins with.
+/// Returns the length in bytes of the name at the front of a text, for a name right after `$`.
 fn bare_name_len(text: &[u8]) -> usize
     ensures len { result ≡ prefix_len bytes.is_bare_name_byte text.now }
     ensures within { result ≤ length text.now }
@@ -118,8 +118,8 @@ fn bare_name_len(text: &[u8]) -> usize
     text.iter().take_while(|b| is_bare_name_byte(**b)).count()
 }
 
-/// How many bytes of a name a text begins with: letters and digits of ASCII, `_`, `-` and `.`. (Ninja manual, "Lexical
-/// syntax"; a name right behind `$` has no `.`.)
+/// Returns the length in bytes of the name at the front of a text. A name consists of ASCII letters and digits,
+/// `_`, `-` and `.`. (Ninja manual, "Lexical syntax"; a name right after `$` has no `.`.)
 pub fn name_len(text: &[u8]) -> usize
     ensures len { result ≡ prefix_len bytes.is_name_byte text.now }
     ensures within { result ≤ length text.now }
@@ -146,7 +146,8 @@ fn braced_name(text: &[u8]) -> Option<(Found<'_>, usize)>
     }
 }
 
-/// What stands for `$` and the text behind it, and how many bytes of that text.
+/// Returns the meaning of a `$` that is followed by this text, and the number of bytes of the text that belong
+/// to it. Returns None if they are no escape.
 fn escape(text: &[u8]) -> Option<(Found<'_>, usize)>
     ensures found { sign_and_len result ≡ syntax.escape text.now }
     ensures within { IfSome result (λ x. x.1 ≤ length text.now) }
@@ -168,11 +169,11 @@ fn escape(text: &[u8]) -> Option<(Found<'_>, usize)>
     }
 }
 
-/// How many bytes behind a `$` belong to its escape, where the text that follows the `$` makes it one; None where it is
-/// none.
+/// Returns the number of bytes after a `$` that belong to its escape. The text begins after the `$`. Returns
+/// None if they are no escape.
 ///
-/// Escapes are `$$`, `$ `, `$:`, `$name`, `${name}`, and `$` with a newline and the spaces behind that (Ninja manual,
-/// "Lexical syntax").
+/// Escapes are `$$`, `$ `, `$:`, `$name`, `${name}`, and `$` with a newline and the spaces after it (Ninja
+/// manual, "Lexical syntax").
 pub fn escape_len(text: &[u8]) -> Option<usize>
     ensures len { result ≡ syntax.escape_size text.now }
     ensures within { IfSome result (λ n. n ≤ length text.now) }
@@ -183,7 +184,8 @@ pub fn escape_len(text: &[u8]) -> Option<usize>
     }
 }
 
-/// What stands at this place, and how many bytes behind it belong to it.
+/// Returns the meaning of the byte or escape at index `at`, and the number of bytes after it that belong to it.
+/// The text is at offset `base` of a larger text, from whose start the offset of a fault counts.
 fn sign_at(text: &[u8], base: usize, at: usize, mode: Mode) -> Result<(Found<'_>, usize), TextFault>
     requires inside { at < length text.now }
     requires fits { base + length text.now < 2 ^ 64 }
@@ -199,7 +201,7 @@ fn sign_at(text: &[u8], base: usize, at: usize, mode: Mode) -> Result<(Found<'_>
     }
 }
 
-/// The bytes that stand for themselves in a path: all but `$`, NUL and tab.
+/// The table of bytes that stand for themselves in a path: all except `$`, NUL and tab.
 const PLAIN: [bool; 256] = [
     false, true, true, true, true, true, true, true, true, false, true, true, true, true, true,
     true, true, true, true, true, true, true, true, true, true, true, true, true, true, true, true,
@@ -220,15 +222,15 @@ const PLAIN: [bool; 256] = [
     true, true,
 ];
 
-/// Whether a byte stands for itself in a path.
+/// Returns whether a byte stands for itself in a path.
 fn is_plain(byte: u8) -> bool
     ensures { result ≡ not (is_special mode.Path byte) }
 {
     PLAIN[usize::from(byte)]
 }
 
-/// How many bytes a path begins with that stand for themselves. Paths are short: a look at each byte is sooner done
-/// than a search.
+/// Returns the number of bytes at the front of a path that stand for themselves. Tests each byte, because that
+/// is faster than a search in short texts such as paths.
 fn plain_path_len(text: &[u8]) -> usize
     ensures len { result ≡ position_or_len (is_special mode.Path) text.now }
     ensures within { result ≤ length text.now }
@@ -236,7 +238,7 @@ fn plain_path_len(text: &[u8]) -> usize
     text.iter().take_while(|b| is_plain(**b)).count()
 }
 
-/// How many bytes a text begins with that stand for themselves.
+/// Returns the number of bytes at the front of a text that stand for themselves.
 fn plain_len(text: &[u8], mode: Mode) -> usize
     ensures len { result ≡ position_or_len (is_special mode) text.now }
     ensures within { result ≤ length text.now }
@@ -248,7 +250,7 @@ fn plain_len(text: &[u8], mode: Mode) -> usize
 }
 
 impl Gather {
-    /// Takes bytes that stand for themselves.
+    /// Appends bytes that stand for themselves to the literal.
     fn add_plain(&mut self, bytes: &[u8]) -> Result<(), AllocError>
         ensures literal { OnOk result (self.new.literal ≡ self.old.literal ++ bytes.now) }
         ensures done { OnOk result (self.new.done.items ≡ self.old.done.items) }
@@ -261,8 +263,8 @@ impl Gather {
         Ok(())
     }
 
-    /// Ends the literal, where another piece follows: the first two take no more room than they need, since most texts
-    /// have no others.
+    /// Ends the literal, because a piece follows. Reserves exact room for two pieces first, since most texts
+    /// have no more.
     fn finish_literal(&mut self) -> Result<(), AllocError>
         ensures literal { OnOk result (self.new.literal ≡ []) }
         ensures done { OnOk result (self.new.done.items ≡ self.old.done.items ++ literal_of self.old.literal) }
@@ -277,7 +279,7 @@ impl Gather {
         Ok(())
     }
 
-    /// Takes what stands at one place.
+    /// Appends the meaning of one byte or escape.
     fn add(&mut self, found: Found<'_>) -> Result<(), AllocError>
         ensures { OnOk result (Gathers self.old (sign_of found.entry) self.new) }
     {
@@ -293,7 +295,7 @@ impl Gather {
         Ok(())
     }
 
-    /// The pieces, where no byte follows.
+    /// Returns the pieces at the end of the text.
     fn finish(self) -> Result<PieceList, AllocError>
         ensures { IfOk result (λ pieces. pieces ≡ self.done.items ++ literal_of self.literal) }
     {
@@ -315,7 +317,7 @@ impl Gather {
     }
 }
 
-/// `pieces_at` of any text.
+/// Reads the pieces of a text, for `pieces_at`. It takes any text, also one without special bytes.
 fn gather_pieces(
     alloc: Global,
     text: &[u8],
@@ -345,7 +347,8 @@ fn gather_pieces(
     }
 }
 
-/// `pieces` of a text that stands at offset `base` of a larger one: the offsets of faults count from the front of that.
+/// Returns the pieces of a text that is at offset `base` of a larger text. The offsets of faults count from the
+/// start of the larger text. It is otherwise like `pieces`.
 pub fn pieces_at(
     alloc: Global,
     text: &[u8],
@@ -362,12 +365,20 @@ pub fn pieces_at(
     Ok(PieceList::one(Piece::Literal(literal)))
 }
 
-/// The pieces of a path or a value, in their order, or the first place where no rule goes on.
+/// Returns the pieces of a path or a value, in their order.
 ///
-/// A `$` is read as the Ninja manual's section "Lexical syntax" has it; `$` with a newline, and the spaces behind that,
-/// give no bytes. Every other byte stands for itself, a space, `:` or `|` too, so hand it one path at a time. Refused
-/// are a `$` that begins no escape (`BadEscape`), a NUL (`NulByte`), and in a path a tab (`TabBlank`). `Memory` may
-/// come in place of any answer.
+/// The meaning of `$` is that of the Ninja manual's section "Lexical syntax". A `$` with a newline, and the
+/// spaces after it, give no bytes. Every other byte stands for itself, also a space, `:` and `|`, so pass one
+/// path at a time.
+///
+/// # Errors
+///
+/// The first fault in the text counts:
+///
+/// - `BadEscape` if a `$` begins no escape.
+/// - `NulByte` if there is a NUL byte.
+/// - `TabBlank` if there is a tab in a path.
+/// - `Memory` if memory runs out, whatever the text is.
 pub fn pieces(alloc: Global, text: &[u8], mode: Mode) -> Result<PieceList, TextFault>
     ensures { Meets TextFault.Memory (λ v. v) result (pieces_of mode text.now) }
 {

@@ -1,16 +1,18 @@
-//! Rows of items.
+//! Lists of rows that are stored in one vector.
 
 ghost use Rattle.std.specs.Prelude.{◌≡◌, ◌≤◌, ◌+◌, [], ◌∷◌, ◌++◌, OnOk, OnErr, IfOk, get_or, length, option_map, slice_get, slice_range, take};
 
 use std::alloc::{AllocError, Global};
 use std::marker::Model;
 
-/// Rows of items, which a contract sees as a list of lists. They are held one behind the other: a row takes its items
-/// and four bytes. A row that would bring all items above 4,294,967,295 is refused as where memory runs out.
+/// A list of rows. A contract sees it as a list of lists.
+///
+/// The rows are stored consecutively in one vector, so a row takes its items and four bytes. A push that would
+/// bring the number of all items above 4,294,967,295 fails as if memory had run out.
 #[derive(Debug, Drop)]
 pub struct RowList<T> {
     items: Vec<T>,
-    /// Where each row ends.
+    /// The end of each row, as an index into `items`.
     ends: Vec<u32>,
 }
 
@@ -25,7 +27,7 @@ impl<T> Model for RowList<T> {
     ghost invariant = { λ r. AreEnds 0 r.ends.items (length r.items.items) };
 }
 
-/// Where the row of this number begins.
+/// Returns the index of the first item of row `number`.
 fn start_of(ends: &[u32], number: usize) -> usize
     requires { number ≤ length ends.now }
     ensures { result ≡ get_or (0 ∷ ends.now) number 0 }
@@ -36,7 +38,7 @@ fn start_of(ends: &[u32], number: usize) -> usize
     ends[number - 1] as usize
 }
 
-/// The place behind so many items and so many more, where four bytes can tell it.
+/// Returns `len + more`, or an error if the sum needs more than four bytes.
 fn end_behind(len: usize, more: usize) -> Result<u32, AllocError>
     ensures { IfOk result (λ end. end ≡ len + more) }
 {
@@ -46,7 +48,7 @@ fn end_behind(len: usize, more: usize) -> Result<u32, AllocError>
     Ok((len + more) as u32)
 }
 
-/// The items from a place on, up to another.
+/// Returns the items from `start` up to `end`.
 fn cut<T>(items: &[T], start: usize, end: usize) -> &[T]
     requires { (start ≤ end) × (end ≤ length items.now) }
     ensures { result.now ≡ slice_range items.now start end }
@@ -55,7 +57,7 @@ fn cut<T>(items: &[T], start: usize, end: usize) -> &[T]
 }
 
 impl<T: Copy> RowList<T> {
-    /// No row.
+    /// Creates an empty list of rows.
     pub fn new(alloc: Global) -> Self
         ensures { result ≡ [] }
     {
@@ -65,14 +67,14 @@ impl<T: Copy> RowList<T> {
         }
     }
 
-    /// Makes room for so many rows more. A refusal changes nothing.
+    /// Reserves room for `rows` further rows. An error changes nothing.
     pub fn reserve(&mut self, rows: usize) -> Result<(), AllocError>
         ensures { self.new ≡ self.old }
     {
         self.ends.reserve(rows)
     }
 
-    /// Appends a row. A refusal changes nothing.
+    /// Appends a row. An error changes nothing.
     pub fn push(&mut self, row: &[T]) -> Result<(), AllocError>
         ensures more { OnOk result (self.new ≡ self.old ++ row.now ∷ []) }
         ensures refused { OnErr result (self.new ≡ self.old) }
@@ -84,7 +86,7 @@ impl<T: Copy> RowList<T> {
         Ok(())
     }
 
-    /// Keeps the first rows, so many, and drops the others.
+    /// Keeps the first `rows` rows and drops the others.
     pub fn truncate(&mut self, rows: usize)
         ensures { self.new ≡ take rows self.old }
     {
@@ -96,14 +98,14 @@ impl<T: Copy> RowList<T> {
         self.items.truncate(end);
     }
 
-    /// How many rows there are.
+    /// Returns the number of rows.
     pub fn len(&self) -> usize
         ensures { result ≡ length self.now }
     {
         self.ends.len()
     }
 
-    /// The row of this number, counted from 0; empty where there are not as many.
+    /// Returns row `number`, counted from 0. If there is no such row, returns an empty one.
     pub fn row(&self, number: usize) -> &[T]
         ensures { result.now ≡ get_or self.now number [] }
     {
@@ -114,7 +116,7 @@ impl<T: Copy> RowList<T> {
         cut(&self.items, start, self.ends[number] as usize)
     }
 
-    /// The row of this number, counted from 0, where there are as many.
+    /// Returns row `number`, counted from 0. Returns None if there is no such row.
     pub fn get(&self, number: usize) -> Option<&[T]>
         ensures { option_map (λ row. row.now) result ≡ slice_get self.now number }
     {
@@ -124,7 +126,7 @@ impl<T: Copy> RowList<T> {
         Some(self.row(number))
     }
 
-    /// The same rows once more.
+    /// Creates a copy with the same rows.
     pub fn copy(&self, alloc: Global) -> Result<Self, AllocError>
         ensures { IfOk result (λ rows. rows ≡ self.now) }
     {

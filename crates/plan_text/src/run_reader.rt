@@ -3,15 +3,18 @@
 ghost use Rattle.std.specs.Prelude.{◌≡◌, ◌≤◌, ◌+◌, length, drop};
 ghost use Rattle.plan_text.specs.Runs.{run};
 
-/// A sort of unit that a text may begin with, as a space, or a `$` with the newline behind it. Lengths are in bytes.
+/// A kind of unit that a text may begin with, such as a space, or a `$` with the newline after it. Lengths are
+/// in bytes.
 pub trait Unit {
     ghost use Rattle.std.specs.Prelude.{◌≡◌, ◌≤◌, ◌+◌, List, ℕ, length, drop};
     ghost use Rattle.plan_text.specs.Runs.{run};
 
-    /// How long the unit is that a text begins with; 0 where it begins with none. It is what `unit_len` answers.
+    /// The length of the unit that a text begins with. It is 0 if the text begins with none. `unit_len` returns
+    /// it.
     ghost size: { List ℕ → ℕ };
 
-    /// How many bytes at the front can be passed over at once, since they are units; it may be fewer than there are.
+    /// Returns a number of bytes at the front that are units and can be skipped at once. There may be more such
+    /// bytes.
     fn plain_len(text: &[u8]) -> usize
         ensures run { run size text.now ≡ result + run size (drop result text.now) }
         ensures within { result ≤ length text.now }
@@ -20,13 +23,13 @@ pub trait Unit {
         0
     }
 
-    /// How long the unit is that the text begins with; 0 where it begins with none.
+    /// Returns the length of the unit that the text begins with. Returns 0 if it begins with none.
     fn unit_len(text: &[u8]) -> usize
         ensures len { result ≡ size text.now }
         ensures within { result ≤ length text.now };
 }
 
-/// How many bytes at the front of a text are units, one behind the other.
+/// Returns the number of bytes at the front of a text that are consecutive units.
 pub fn run_len<U: Unit>(text: &[u8]) -> usize
     ensures len { result ≡ run U.size text.now }
     ensures within { result ≤ length text.now }

@@ -1,4 +1,4 @@
-//! What bytes are written to.
+//! Targets of writes.
 
 ghost use Rattle.std.specs.Prelude.{◌≡◌, ◌+◌, ◌<◌, ◌≤◌, ℕ, List, Option, length, IfOk, is_ok, if◌then◌else◌};
 ghost use Rattle.std.specs.Io.KnownBytes.{WriteAppends};
@@ -6,21 +6,27 @@ ghost use Rattle.plan_text.specs.Sinks.{Writes};
 
 use thiserror::Error;
 
-/// A write failed, or took no byte where there was one.
+/// A write failed, or a write of some bytes took none of them.
 #[derive(Debug, Drop, Error)]
 #[error("a write failed")]
 pub struct SinkFault;
 
-/// What bytes are written to. It counts its failures for proofs, so that a program can be shown to have answered each.
+/// A target of writes. Its count of failures is for proofs, so that a program can be shown to handle each
+/// failure.
 pub trait Sink {
-    /// How many of its writes failed.
+    /// The number of its writes that failed.
     ghost failures: { Self → ℕ };
 
-    /// The bytes that it took, where these are known, as in memory; of a file or a terminal nothing is known.
+    /// The bytes that it took, if they are known. They are known of a sink in memory, and unknown of a file or
+    /// a terminal.
     ghost taken: { Self → Option (List ℕ) };
 
-    /// Takes some of the bytes from the front, at least one where there is one, and answers how many; or it takes none,
-    /// and counts a failure.
+    /// Takes some bytes from the front and returns their number. Takes at least one byte unless `bytes` is
+    /// empty.
+    ///
+    /// # Errors
+    ///
+    /// A failed write takes no byte and is counted.
     fn write(&mut self, bytes: &[u8]) -> Result<usize, SinkFault>
         ensures bound { IfOk result (λ n. n ≤ length bytes.now) }
         ensures some { IfOk result (λ n. 0 < length bytes.now → 0 < n) }
@@ -28,7 +34,11 @@ pub trait Sink {
         ensures failures { failures self.new ≡ (if is_ok result then failures self.old else failures self.old + 1) };
 }
 
-/// Writes all of the bytes. At the first failure it stops, and the sink took the bytes in front of it.
+/// Writes all of the bytes.
+///
+/// # Errors
+///
+/// Stops at the first failed write. The sink then has taken the bytes before it.
 pub fn write_all<W: Sink>(sink: &mut W, bytes: &[u8]) -> Result<(), SinkFault>
     ensures { Writes (is_ok result) (W.failures sink.old, W.taken sink.old) (W.failures sink.new, W.taken sink.new) bytes.now }
 {

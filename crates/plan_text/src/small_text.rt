@@ -1,4 +1,4 @@
-//! Short texts without an allocation.
+//! Texts that take no allocation if they are short.
 
 ghost use Rattle.std.specs.Prelude.{◌≡◌, ◌++◌, IfOk, []};
 
@@ -6,16 +6,16 @@ use crate::front::Front;
 use std::alloc::{AllocError, Global};
 use std::marker::Model;
 
-/// Where bytes lie.
+/// The storage of the bytes of a text.
 #[derive(Debug, Drop)]
 enum Held {
-    /// In the value itself.
+    /// Inline, in the value itself.
     Inline(Front),
     /// In an allocation.
     Heap(Vec<u8>),
 }
 
-/// The bytes of a text, which take no allocation where they are few. A contract sees it as the bytes.
+/// The bytes of a text. Up to 30 bytes take no allocation. A contract sees it as the list of the bytes.
 #[derive(Debug, Drop)]
 pub struct SmallText {
     held: Held,
@@ -30,7 +30,7 @@ impl Model for SmallText {
     ghost view = { λ s. text_in s.held };
 }
 
-/// The bytes of both texts, in an allocation with the room that they need.
+/// Joins two texts in an allocation with exactly the room that they need.
 fn concatenate(alloc: Global, text: &[u8], more: &[u8]) -> Result<Vec<u8>, AllocError>
     ensures { IfOk result (λ v. v.items ≡ text.now ++ more.now) }
 {
@@ -41,7 +41,7 @@ fn concatenate(alloc: Global, text: &[u8], more: &[u8]) -> Result<Vec<u8>, Alloc
 }
 
 impl SmallText {
-    /// The text without a byte.
+    /// Creates an empty text.
     pub fn empty() -> SmallText
         ensures { result ≡ [] }
     {
@@ -50,14 +50,14 @@ impl SmallText {
         }
     }
 
-    /// The text of these bytes.
+    /// Creates a text of these bytes.
     pub fn new(alloc: Global, bytes: &[u8]) -> Result<SmallText, AllocError>
         ensures { IfOk result (λ text. text ≡ bytes.now) }
     {
         SmallText::empty().with(alloc, bytes)
     }
 
-    /// The same bytes and these behind them.
+    /// Appends bytes.
     pub(crate) fn with(self, alloc: Global, more: &[u8]) -> Result<SmallText, AllocError>
         ensures { IfOk result (λ text. text ≡ self ++ more.now) }
     {
@@ -72,7 +72,7 @@ impl SmallText {
         Ok(SmallText { held })
     }
 
-    /// The bytes, lent.
+    /// Borrows the bytes.
     pub fn as_slice(&self) -> &[u8]
         ensures { result.now ≡ self.now }
     {

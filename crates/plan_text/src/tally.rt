@@ -1,14 +1,15 @@
-//! A count that only proofs read.
+//! Counts that only proofs read.
 
 ghost use Rattle.std.specs.Prelude.{◌≡◌, ◌+◌, ℕ};
 ghost use Rattle.std.specs.Borrow.{ftrue};
 
 use std::marker::Model;
 
-/// A number that only clauses read, as `count`. It takes no memory, has no greatest value, and costs nothing at run
-/// time.
+/// A number that only contracts read, as `count`. It takes no memory, has no greatest value, and costs nothing
+/// at run time.
 ///
-/// It counts what a trait's ghost member says, as the `failures` of a `Sink`; by itself it says nothing of a program.
+/// The `Tally` counts only the events for which its owner calls `next`. A ghost member of a trait, such as
+/// `failures` of `Sink`, gives the count its meaning.
 #[derive(Drop)]
 pub struct Tally {
     /// The number.
@@ -20,14 +21,14 @@ impl Model for Tally {
 }
 
 impl Tally {
-    /// The count 0.
+    /// Creates the count 0.
     pub fn new() -> Tally
         ensures { result.count ≡ 0 }
     {
         Tally {}
     }
 
-    /// The count that comes next.
+    /// Returns the count plus one.
     pub fn next(&self) -> Tally
         ensures { result.count ≡ self.now.count + 1 }
     {

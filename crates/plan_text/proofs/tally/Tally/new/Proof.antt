@@ -1,4 +1,4 @@
--- `new` makes the empty struct, with the count 0. Assumes `Logic`.
+-- `new` creates the empty struct, with the count 0. Assumes `Logic`.
 use Rattle.std.proofs.Common.{[], ◌∷◌, refl}
 use seplogic.Ra.Ura.{Ura}
 use mir.Syntax.{Fn}

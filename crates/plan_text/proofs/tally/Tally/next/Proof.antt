@@ -1,4 +1,4 @@
--- `next` makes the empty struct, with one more than the count behind the reference. Assumes `Logic`.
+-- `next` creates the empty struct, with the count of the borrowed tally plus one. Assumes `Logic`.
 use Rattle.std.proofs.Common.{List, [], ◌∷◌, ◌++◌, ◌+◌, refl}
 use seplogic.Ra.Ura.{Ura}
 use mir.Syntax.{Fn}
