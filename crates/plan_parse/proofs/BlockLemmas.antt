@@ -1,4 +1,4 @@
--- Lines of a block read in order. Serves src/block.rt.
+-- Lines of a block read in order. Lemmas for src/block.rt.
 use Rattle.std.proofs.Common.{◌≡◌, ℕ, All, ◌+◌, ◌<◌, Bool, true, false, List, [], ◌∷◌, ◌++◌, length, get_or, take, drop, Result, Ok, Err, refl, sym, ap, subst, ◌∙◌, append_assoc}
 use Rattle.std.specs.Prelude.{◌||◌}
 use Rattle.std.specs.List.{list_any}
@@ -12,7 +12,7 @@ use Rattle.plan_parse.specs.declared.statement.Binding.{Binding}
 use Rattle.plan_parse.specs.Blocks.{BlockLine}
 use Rattle.plan_parse.specs.Statements.{block_variable_at, block_variables_at}
 
--- what was read, in front of what is read of the rest
+-- the items that were read, before those of the rest
 abbrev pub in_front : {B : Type 0} → List B → Result (List B) ParseFault → Result (List B) ParseFault
 in_front front (Ok more) = Ok (front ++ more)
 in_front front (Err e) = Err e
@@ -41,13 +41,13 @@ lines_from ms i m h e = ap block_lines_of (drop_more ms i m h ∙ ap (λ (x : th
 pub lines_to : (ms : List the_line.BlockLine) (i : ℕ) (m : the_line.BlockLine) → i < length ms → m ≡ get_or ms i m → block_lines_of (take (i + 1) ms) ≡ block_lines_of (take i ms) ++ block_line_of m ∷ []
 lines_to ms i m h e = ap block_lines_of (take_more ms i m h ∙ ap (λ (x : the_line.BlockLine). take i ms ++ x ∷ []) (sym e)) ∙ map_push block_line_of (take i ms) m
 
--- what holds of all lines holds of one
+-- a property of all lines is one of each line
 pub line_among : (P : BlockLine → Type 0) (ms : List the_line.BlockLine) (i : ℕ) (m : the_line.BlockLine) → i < length ms → m ≡ get_or ms i m → All P (block_lines_of ms) → P (block_line_of m)
 line_among P ms i m h e all =
     let within : i < length (block_lines_of ms) = subst (λ (n : ℕ). i < n) (sym (length-map ms block_line_of)) h in
     subst P (get_or-map block_line_of ms i m (block_line_of m) h ∙ ap block_line_of (sym e)) (all i (block_line_of m) within)
 
--- whether any of some passes a test, with one more
+-- whether any item passes a test, with one more item
 pub any_more : {A : Type 0} (test : A → Bool) (xs : List A) (x : A) → list_any test (xs ++ x ∷ []) ≡ list_any test xs || test x
 any_more test [] x = or_false (test x) where
   or_false : (v : Bool) → v || false ≡ v

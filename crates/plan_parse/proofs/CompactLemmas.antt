@@ -1,4 +1,4 @@
--- What is left of a line is read again from its text. Serves src/reading.rt, src/statement_reader.rt.
+-- The rest of a line is read again from its text. Lemmas for src/reading.rt and src/statement_reader.rt.
 use Rattle.std.proofs.Common.{◌≡◌, ℕ, ◌+◌, ◌-◌, ◌≤◌, ◌==◌, Bool, true, false, ◌&&◌, not, ◌||◌, cond, List, [], ◌∷◌, length, take, drop, Result, Ok, Err, refl, sym, ap, subst, ◌∙◌, arith}
 use Rattle.std.specs.List.{prefix_len}
 use Rattle.std.proofs.lemmas.List.{take-take, drop-take, drop-drop, length-drop, length-take-le}
@@ -20,7 +20,7 @@ use Rattle.plan_parse.specs.Statements.{binding_at, is_bar, is_two_bars}
 use Rattle.plan_parse.specs.Compact.{StandsIn, line_in, path_pieces, pieces_or_none, path_in, value_in, variable_in, binding_or_empty, binding_in}
 use Rattle.plan_parse.proofs.ReadingLemmas.{run_within}
 
--- past some of its bytes, what is left of a line is a line of the text still
+-- after some bytes are skipped, the rest of a line is still a line of the text
 pub past_stands : (text : List ℕ) (n : ℕ) (p : Place) → n ≤ length p.bytes → StandsIn text p → StandsIn text (past n p)
 past_stands text n p within stands =
     let m = length p.bytes - n in
@@ -31,7 +31,7 @@ past_stands text n p within stands =
     ∙ ap (take m) (drop-drop n p.at text)
     ∙ ap (λ (k : ℕ). take k (drop (p.at + n) text)) (sym (length-drop n p.bytes))
 
--- past a gap
+-- after a gap
 pub gap_stands : (text : List ℕ) (p : Place) → StandsIn text p → StandsIn text (past_gap p)
 gap_stands text p stands = past_stands text (gap_len p.bytes) p (run_within gap_unit p.bytes 0) stands
 
@@ -56,7 +56,7 @@ both_true : (a b : Bool) → (a && b) ≡ true → (a ≡ true) × (b ≡ true)
 both_true true b h = (refl, h)
 both_true false b h = absurd cc
 
--- past a name
+-- after a name
 pub name_stands : (text : List ℕ) (p : Place) (x : List ℕ × Place) → StandsIn text p → name_at p ≡ Ok x → StandsIn text x.1
 name_stands text p x stands read =
     let n = prefix_len is_name_byte p.bytes in
@@ -64,23 +64,23 @@ name_stands text p x stands read =
     let here : past_gap (past n p) ≡ x.1 = ap (λ (y : List ℕ × Place). y.1) same in
     subst (StandsIn text) here (gap_stands text (past n p) (past_stands text n p (prefix_len-le-length is_name_byte p.bytes) stands))
 
--- past a byte
+-- after a byte
 pub byte_stands : (text : List ℕ) (b : ℕ) (expected : ℕ → ParseFault) (p q : Place) → StandsIn text p → byte_at b expected p ≡ Ok q → StandsIn text q
 byte_stands text b expected p q stands read =
     let found = where_true (begins_with b p.bytes) _ (past_gap (past 1 p)) q read in
     subst (StandsIn text) found.1 (gap_stands text (past 1 p) (past_stands text 1 p (begun b p.bytes found.0) stands))
 
--- past `|`
+-- after `|`
 pub bar_stands : (text : List ℕ) (p : Place) → StandsIn text p → is_bar p ≡ true → StandsIn text (past 1 p)
 bar_stands text p stands is = past_stands text 1 p (begun bar p.bytes (both_true (begins_with bar p.bytes) (not (begins_with bar (drop 1 p.bytes) || begins_with at_sign (drop 1 p.bytes))) is).0) stands
 
--- past `||`
+-- after `||`
 pub bars_stand : (text : List ℕ) (p : Place) → StandsIn text p → is_two_bars p ≡ true → StandsIn text (past 2 p)
 bars_stand text p stands is =
     let both = both_true (begins_with bar p.bytes) (begins_with bar (drop 1 p.bytes)) is in
     past_stands text 2 p (begun_twice bar bar p.bytes both.0 both.1) stands
 
--- the place of a path of so many bytes
+-- the place of a path of this length
 pub path_place : (text : List ℕ) (span : Span) (p : Place) (n : ℕ) → n ≤ length p.bytes → StandsIn text p → span.at ≡ p.at → span.len ≡ n
     → line_in text span ≡ record { at = p.at; bytes = take n p.bytes }
 path_place text span p n within stands at len =
@@ -98,7 +98,7 @@ pub path_again : (text : List ℕ) (span : Span) (p : Place) (n : ℕ) (v : List
 path_again text span p n v within stands at len read =
     whole (path_at p n) v read ∙ ap (λ (q : Place). Ok (pieces_or_none (path_pieces q))) (sym (path_place text span p n within stands at len))
 
--- the place of what is left of a line
+-- the place of the rest of a line
 line_place : (text : List ℕ) (span : Span) (p : Place) → StandsIn text p → span.at ≡ p.at → span.len ≡ length p.bytes → line_in text span ≡ p
 line_place text span p stands at len =
     ap (λ (k : ℕ). record { at = span.at; bytes = take k (drop span.at text) }) len
@@ -124,7 +124,7 @@ name_again text span p q name stands read at len =
     let size : span.len ≡ n = len ∙ ap (λ (v : List ℕ). length v) (sym same) ∙ length-take-le n p.bytes within in
     sym same ∙ ap (λ (l : Place). l.bytes) (sym (path_place text span p n within stands at size))
 
--- and so are a name and its right side
+-- a name and its right side are read again as they were
 pub variable_again : (text : List ℕ) (p start q r : Place) (name : List ℕ) (span : Span) (value : CompactValue) → StandsIn text p → start ≡ past_gap p
     → name_at start ≡ Ok (name, q) → byte_at equals_sign fault.ExpectedEquals q ≡ Ok r → value_at r ≡ Ok (value_in text value) → span.at ≡ start.at → span.len ≡ length name
     → binding_at p ≡ Ok (variable_in text (record { name = span; value = value }))

@@ -1,4 +1,4 @@
--- An escape is the same in a text that is cut behind it. Serves src/path_parts.rt.
+-- An escape stays the same if the text is cut after it. Lemmas for src/path_parts.rt.
 use Rattle.std.proofs.Common.{◌≡◌, ℕ, zero, suc, ◌+◌, ◌<◌, ◌≤◌, ◌==◌, Bool, true, false, ◌||◌, ◌&&◌, ◌⊎◌, inl, inr, cond, List, [], ◌∷◌, length, take, drop, Option, Some, None, refl, sym, ap, subst, ◌∙◌, arith}
 use Rattle.std.specs.List.{prefix_len, take_while}
 use Rattle.std.proofs.lemmas.Bool.{cases_lt}
@@ -7,7 +7,7 @@ use Rattle.std.proofs.lemmas.List.Folds.{length-prefix_len}
 use Rattle.plan_text.specs.Bytes.{dollar, space, colon, line_feed, carriage_return, left_brace, right_brace, is_name_byte, is_bare_name_byte, is_space, begins_with}
 use Rattle.plan_text.specs.Pieces.{Sign, Byte, Name, Nothing, braced_name, bare_name, escape}
 
--- bytes that pass a test, where the cut lies behind them
+-- the number of bytes that pass a test, if the cut is after them
 prefix_cut : (p : ℕ → Bool) (v : List ℕ) (m : ℕ) → prefix_len p v ≤ m → prefix_len p (take m v) ≡ prefix_len p v
 prefix_cut p [] zero h = refl
 prefix_cut p [] (suc m) h = refl
@@ -17,7 +17,7 @@ prefix_cut p (b ∷ rest) (suc m) h = by (p b) h (prefix_cut p rest m) where
   by true l more = ap (λ (k : ℕ). 1 + k) (more (omega (arith, l)))
   by false l more = refl
 
--- and what they are
+-- the bytes that pass a test, if the cut is after them
 while_cut : (p : ℕ → Bool) (v : List ℕ) (m : ℕ) → prefix_len p v ≤ m → take_while p (take m v) ≡ take_while p v
 while_cut p v m h = ap (λ (k : ℕ). take k (take m v)) (prefix_cut p v m h) ∙ take-take (prefix_len p v) m v h
 
@@ -33,19 +33,19 @@ nothing_left p (b ∷ rest) (suc m) h = by (p b) h (nothing_left p rest m) where
       ap (λ (k : ℕ). drop k (b ∷ take m rest)) one ∙ more (omega (arith, l))
   by false l more = absurd (omega (arith, l))
 
--- a byte in front of the cut
+-- a byte before the cut
 begins_cut : (c : ℕ) (v : List ℕ) (n m : ℕ) → n < m → begins_with c (drop n (take m v)) ≡ begins_with c (drop n v)
 begins_cut c v n zero h = absurd (omega (arith, h))
 begins_cut c [] n (suc m) h = refl
 begins_cut c (b ∷ rest) zero (suc m) h = refl
 begins_cut c (b ∷ rest) (suc n) (suc m) h = begins_cut c rest n m (omega (arith, h))
 
--- what stands in a text is the same where that is cut behind it; and nothing stays nothing
+-- an escape stays the same if the text is cut after it, and no escape stays none
 pub record Survives (m : ℕ) (whole cut : Option (Sign × ℕ)) : Type 0 where
   pub some : (x : Sign × ℕ) → whole ≡ Some x → x.1 ≤ m → cut ≡ Some x
   pub none : whole ≡ None → cut ≡ None
 
--- how much it takes
+-- the number of bytes that it takes
 abbrev size_or_none : Option (Sign × ℕ) → ℕ
 size_or_none None = 0
 size_or_none (Some x) = x.1

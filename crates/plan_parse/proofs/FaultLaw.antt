@@ -1,4 +1,4 @@
--- Each fault of a text has an offset. Serves the law faults_have_places.
+-- Each fault of a text has an offset. Proofs for the law faults_have_places.
 use Rattle.std.proofs.Common.{◌≡◌, ℕ, zero, suc, ◌+◌, ◌-◌, ◌==◌, Bool, ◌&&◌, true, false, not, cond, List, [], ◌∷◌, ◌++◌, length, drop, take, Result, Ok, Err, Option, Some, None, is_some, refl, subst}
 use Rattle.std.specs.Prelude.{codes, nat_lt}
 use Rattle.std.specs.List.{list_any, prefix_len, position_or_len}
@@ -279,7 +279,7 @@ statement_placed p ms h =
 
 -- === Lines and blocks ===
 
--- what lines tell
+-- the roles of lines
 abbrev PlacedRole : Option LineRole → Type 0
 PlacedRole None = Unit {0}
 PlacedRole (Some (Head p)) = Unit {0}

@@ -1,4 +1,4 @@
--- The statements of a text behind another one. Serves the law statements_join.
+-- The statements of a text that is appended to another one. Proofs for the law statements_join.
 use Rattle.std.proofs.Common.{◌≡◌, ℕ, zero, suc, ◌+◌, ◌-◌, ◌≤◌, ◌==◌, Bool, true, false, cond, List, [], ◌∷◌, ◌++◌, length, drop, take, Result, Ok, Err, Option, Some, None, refl, sym, ap, ◌∙◌, arith, length-append}
 use Rattle.std.specs.Prelude.{map, nat_lt}
 use Rattle.std.specs.List.{position_or_len}
@@ -21,7 +21,7 @@ use Rattle.plan_parse.proofs.LikeLemmas.{Like, SameText}
 use Rattle.plan_parse.proofs.StatementLemmas.{AtOffsets, SameBlockLine, SameBlockLines, statement_like}
 use Rattle.plan_parse.proofs.WholeLaw.{found}
 
--- what the same lines tell, k bytes further on
+-- the roles of the same lines, k bytes later
 abbrev SameTold : ℕ → LineRole → LineRole → Type 0
 SameTold k (Head p) (Head q) = (q.at ≡ k + p.at) × SameText p q
 SameTold k (Below m) (Below n) = SameBlockLine m n
@@ -91,7 +91,7 @@ leads_same k (Below m ∷ xs) (Head q ∷ ys) h = absurd h.0
 leads_same k [] (y ∷ ys) h = absurd h
 leads_same k (x ∷ xs) [] h = absurd h
 
--- a statement that stands k bytes further on
+-- a statement that is k bytes later
 made : (a b : ℕ) (x y : StatementKind) → a ≡ b → x ≡ y → ◌≡◌ {A = Statement} (record { offset = a; kind = x }) (record { offset = b; kind = y })
 made a b x y e f = rw (e, f) refl
 
@@ -123,7 +123,7 @@ each_moved k (Below m ∷ xs) (Head q ∷ ys) ss h e = absurd h.0
 each_moved k [] (y ∷ ys) ss h e = absurd h
 each_moved k (x ∷ xs) [] ss h e = absurd h
 
--- lines in front of one that begins a block
+-- lines before one that begins a block
 below_front : (xs ys : List LineRole) → leads ys ≡ true → below (xs ++ ys) ≡ below xs
 below_front [] [] e = cc
 below_front [] (Head p ∷ ys) e = refl
@@ -171,7 +171,7 @@ from_lines text roles ss l e f g =
     ∙ ap (λ (r : Result (Unit {0}) ParseFault). r >>= λ _. each statement_in (blocks_of roles)) f
     ∙ g
 
--- behind a text whose lines are ended, the statements of one that begins a block follow, further on by its length
+-- after a text whose lines are ended, the statements of a text that begins a block follow, later by its length
 pub joined : LinesJoin → (front back : List ℕ) (xs ys : List Statement) → has_ended_lines front ≡ true → begins_block back ≡ true → length front + length back ≤ max_source
     → statements_of front ≡ Ok xs → statements_of back ≡ Ok ys → statements_of (front ++ back) ≡ Ok (xs ++ map (moved (length front)) ys)
 joined join front back xs ys is_ended begins short first second =

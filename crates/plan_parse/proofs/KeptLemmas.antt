@@ -1,4 +1,5 @@
--- What is kept in the lists of a file says the same whatever follows it. Serves src/statement_reader.rt, src/parser.rt.
+-- A statement in the lists of a file has the same meaning whatever follows it. Lemmas for
+-- src/statement_reader.rt and src/parser.rt.
 use Rattle.std.proofs.Common.{◌≡◌, ℕ, ◌<◌, ◌≤◌, List, [], ◌∷◌, ◌++◌, length, get_or, map, refl, sym, ap, ◌∙◌, arith}
 use Rattle.std.proofs.lemmas.List.{get_or_append_left, get_or_push, length_push, map_push}
 use Rattle.plan_parse.specs.declared.compact.BuildLists.{BuildLists}
@@ -18,7 +19,7 @@ use Rattle.plan_parse.proofs.JoinedLemmas.{between_same, extends_by, extends_far
 pub follows_itself : (lists : BuildLists) → Follows lists lists
 follows_itself lists = record { builds = extends_itself lists.builds.items; paths = extends_itself lists.paths.items; bindings = extends_itself lists.bindings.items }
 
--- so do others with the same items
+-- lists with the same items follow them
 pub follows_same : (older later : BuildLists) → later.builds.items ≡ older.builds.items → later.paths.items ≡ older.paths.items → later.bindings.items ≡ older.bindings.items → Follows older later
 follows_same older later a b c = record {
   builds = extends_same older.builds.items later.builds.items a;
@@ -26,7 +27,7 @@ follows_same older later a b c = record {
   bindings = extends_same older.bindings.items later.bindings.items c;
 }
 
--- and what follows others that follow them
+-- lists that follow others that follow them
 pub follows_far : (older lists later : BuildLists) → Follows older lists → Follows lists later → Follows older later
 follows_far older lists later near far = record {
   builds = extends_far older.builds.items lists.builds.items later.builds.items near.builds far.builds;
@@ -70,7 +71,7 @@ number_lasts text lists pushed b n lasts last builds paths bindings = λ later f
     ap (λ (v : List CompactBuild). get_or v n no_build) follows.builds ∙ get_or_append_left pushed.builds.items (added_to pushed.builds.items later.builds.items) no_build n within in
     ap (built_in text later) (there ∙ here) ∙ lasts later (follows_far lists pushed later more follows) ∙ sym (ap (built_in text pushed) here ∙ lasts pushed more)
 
--- all statements so far, with one more
+-- all statements so far, and one more
 pub all_last : (text : List ℕ) (older lists : BuildLists) (statements all : List CompactStatement) (s : CompactStatement) → all ≡ statements ++ s ∷ [] → AllLast text older statements → Follows older lists → Lasts text lists s → AllLast text lists all
 all_last text older lists statements all s pushed last more one = λ later follows.
     ap (map (said_in text later)) pushed
@@ -79,7 +80,7 @@ all_last text older lists statements all s pushed last more one = λ later follo
     ∙ ap (λ (x : Statement). map (said_in text lists) statements ++ x ∷ []) (one later follows)
     ∙ sym (ap (map (said_in text lists)) pushed ∙ map_push (said_in text lists) statements s)
 
--- what they say, with one more
+-- the meanings of all statements so far, and one more
 pub said_more : (text : List ℕ) (older lists : BuildLists) (statements all : List CompactStatement) (s : CompactStatement) → all ≡ statements ++ s ∷ [] → AllLast text older statements → Follows older lists
     → map (said_in text older) statements ++ said_in text lists s ∷ [] ≡ map (said_in text lists) all
 said_more text older lists statements all s pushed last more =

@@ -1,4 +1,4 @@
--- What is read doesn't depend on where it stands. Serves the law statements_join.
+-- Results of reading don't depend on the offset. Proofs for the law statements_join.
 use Rattle.std.proofs.Common.{◌≡◌, ℕ, zero, suc, ◌+◌, ◌-◌, ◌==◌, Bool, ◌&&◌, true, false, cond, List, [], ◌∷◌, length, take, Result, Ok, Err, Option, Some, None, refl, ap, subst, ◌∙◌}
 use Rattle.std.specs.Prelude.{nat_lt}
 use Rattle.std.specs.List.{prefix_len}
@@ -14,7 +14,7 @@ use Rattle.plan_text.specs.declared.piece_reader.Piece.{Piece}
 use Rattle.plan_parse.specs.declared.fault.ParseFault.{ParseFault}
 use Rattle.plan_parse.specs.Reading.{Place, name_at, byte_at, line_end_at, value_at, lift_fault, path_len, path_at, path_onto, paths_past, paths_at}
 
--- both go well alike, or neither does
+-- both have related results, or both have faults
 abbrev pub Like : {A B E F : Type 0} → (A → B → Type 0) → Result A E → Result B F → Type 0
 Like R (Ok x) (Ok y) = R x y
 Like R (Err e) (Err f) = Unit {0}
@@ -25,15 +25,15 @@ Like R (Err e) (Ok y) = ⊥
 abbrev pub Same : {A : Type 0} → A → A → Type 0
 Same x y = x ≡ y
 
--- the same text, wherever it stands
+-- the same text, at any offset
 abbrev pub SameText : Place → Place → Type 0
 SameText p q = p.bytes ≡ q.bytes
 
--- the same was found, and the same text is left
+-- the same result, and the same rest of the text
 abbrev pub SameFound : {A : Type 0} → A × Place → A × Place → Type 0
 SameFound x y = (x.0 ≡ y.0) × (x.1.bytes ≡ y.1.bytes)
 
--- two steps go alike where the first ones do, and then the second
+-- two steps are related if the first ones are, and then the second ones
 pub bind_like : {A B C D : Type 0} (R : A → B → Type 0) (S : C → D → Type 0) (r : Result A ParseFault) (s : Result B ParseFault) (f : A → Result C ParseFault) (g : B → Result D ParseFault)
     → Like R r s → ((x : A) (y : B) → R x y → Like S (f x) (g y)) → Like S (r >>= f) (s >>= g)
 bind_like R S (Ok x) (Ok y) f g h k = k x y h
@@ -45,16 +45,16 @@ bind_like R S (Err e) (Ok y) f g h k = absurd h
 abbrev pub here : ℕ → List ℕ → Place
 here at bytes = record { at = at; bytes = bytes }
 
--- what holds of places that only differ in their offsets
+-- a property of places that differ only in their offsets
 pub by_text : (P : Place → Place → Type 0) → ((a b : ℕ) (v : List ℕ) → P (here a v) (here b v)) → (p q : Place) → SameText p q → P p q
 by_text P h p q e = subst (λ (v : List ℕ). P p (here q.at v)) e (h p.at q.at p.bytes)
 
--- a fault where a test says so, else what is alike
+-- a fault if a test passes, and otherwise related results
 pub by_test : {A B : Type 0} (R : A → B → Type 0) (t : Bool) (x : A) (y : B) (e f : ParseFault) → R x y → Like R (cond t (Err e) (Ok x)) (cond t (Err f) (Ok y))
 by_test R true x y e f h = tt
 by_test R false x y e f h = h
 
--- what is alike where a test says so, else a fault
+-- related results if a test passes, and otherwise a fault
 pub unless_test : {A B : Type 0} (R : A → B → Type 0) (t : Bool) (x : A) (y : B) (e f : ParseFault) → R x y → Like R (cond t (Ok x) (Err e)) (cond t (Ok y) (Err f))
 unless_test R true x y e f h = h
 unless_test R false x y e f h = tt

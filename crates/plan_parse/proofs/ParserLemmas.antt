@@ -1,4 +1,4 @@
--- Blocks that end where the next begins. Serves src/parser.rt.
+-- Blocks that end at the beginning of the next. Lemmas for src/parser.rt.
 use Rattle.std.proofs.Common.{◌≡◌, List, [], ◌∷◌, ◌++◌, Result, Ok, Err, Option, Some, None, refl, sym, ap, ◌∙◌, append_assoc}
 use Rattle.std.proofs.lemmas.List.{append-nil}
 use Rattle.plan_text.specs.Outcome.{◌>>=◌, each}
@@ -43,7 +43,7 @@ last_go done (Err e) = refl
 pub ends : (s : State) → statements_with s [] ≡ statements_at_end s
 ends s = ap (λ (r : Result (List Statement) ParseFault). r >>= λ front. Ok (s.done ++ (front ++ []))) (closing_all s.head s.lines) ∙ last_go s.done (block_statement s.head s.lines)
 
--- nothing above all blocks
+-- no line above all blocks
 pub none_above : (done : List Statement) (lines : List BlockLine) → no_block_allowed lines ≡ Ok tt → statements_at_end (record { done = done; head = None; lines = lines }) ≡ Ok done
 none_above done lines none =
     ap (λ (r : Result (Unit {0}) ParseFault). (r >>= λ _. Ok []) >>= λ last. Ok (done ++ last)) none ∙ ap (λ (v : List Statement). Ok v) (append-nil done)

@@ -1,4 +1,4 @@
--- Paths, part by part. Serves src/path_parts.rt.
+-- Paths, part by part. Lemmas for src/path_parts.rt.
 use Rattle.std.proofs.Common.{◌≡◌, ℕ, zero, suc, ◌+◌, ◌-◌, ◌<◌, ◌≤◌, ◌==◌, Bool, true, false, ◌||◌, ◌&&◌, not, cond, List, [], ◌∷◌, length, take, drop, get_or, slice_index_or, Result, Ok, Err, Option, Some, None, refl, sym, ap, ◌∙◌, arith, add-zero}
 use Rattle.std.proofs.lemmas.List.Sums.{prefix_len_passes}
 use Rattle.std.specs.List.{prefix_len, take_while}
@@ -17,7 +17,7 @@ use Rattle.plan_parse.specs.Parts.{sign_of, sign_of_bytes, IsShort, part_onto, m
 use Rattle.plan_parse.specs.PlainPaths.{is_plain}
 use Rattle.plan_parse.specs.Reading.{ends_path}
 
--- past the bytes to skip
+-- skipping bytes
 pub skipped : (at : ℕ) (v : List ℕ) (n : ℕ) → n ≤ length v → pieces_past mode.Path at v n ≡ pieces_past mode.Path (at + n) (drop n v) 0
 skipped at [] zero h = refl
 skipped at [] (suc n) h = absurd (omega arith)
@@ -41,7 +41,7 @@ plain_sign at b rest false true t h = absurd cc
 plain_sign at b rest false false true h = absurd cc
 plain_sign at b rest false false false h = refl
 
--- bytes that stand for themselves, and what follows
+-- bytes that stand for themselves, and the pieces that follow
 pub plain_part : (n at : ℕ) (v : List ℕ) → n ≤ length v → ((k : ℕ) → k < n → is_special mode.Path (get_or v k 0) ≡ false)
     → pieces_from mode.Path at v ≡ map_pieces (bytes_onto (take n v)) (pieces_from mode.Path (at + n) (drop n v))
 plain_part zero at v h plain = nothing_onto (pieces_from mode.Path at v) ∙ ap (λ (k : ℕ). map_pieces (bytes_onto []) (pieces_from mode.Path k v)) (sym (add-zero at))
@@ -58,7 +58,7 @@ not_special true s h = absurd cc
 not_special false true h = absurd cc
 not_special false false h = refl
 
--- the bytes in front of the first that doesn't stand for itself
+-- the bytes before the first one that doesn't stand for itself
 pub plain_bytes : (n : ℕ) (v : List ℕ) → n ≡ prefix_len is_plain v → (k : ℕ) → k < n → is_special mode.Path (get_or v k 0) ≡ false
 plain_bytes n v e k l = not_special (ends_path (get_or v k 0)) (is_special mode.Path (get_or v k 0)) (prefix_len_passes is_plain v k 0 (omega (arith, l, e)))
 
@@ -75,7 +75,7 @@ all_short : (p : PathPart) (r : Result (List Piece) TextFault) → IsShort p →
 all_short p (Ok v) h = ap (λ (x : List Piece). Ok x) (short_onto p v h)
 all_short p (Err e) h = refl
 
--- an escape, and what follows
+-- an escape, and the pieces that follow
 pub escape_part : (at : ℕ) (v : List ℕ) (p : PathPart) (n : ℕ) → n ≤ length v → escape v ≡ Some (sign_of p, n) → IsShort p
     → pieces_from mode.Path at (dollar ∷ v) ≡ map_pieces (part_onto p) (pieces_from mode.Path (at + (1 + n)) (drop (1 + n) (dollar ∷ v)))
 escape_part at v p n within is short =
@@ -110,7 +110,7 @@ braced_by (b ∷ name) tail rest len e h = braced_go b name rest len (begins_wit
 taken : (p : ℕ → Bool) (v : List ℕ) → take_while p v ≡ take (length (take_while p v)) v
 taken p v = ap (λ (n : ℕ). take n v) (sym (length-prefix_len p v))
 
--- what has an escape has a byte
+-- a text that begins with an escape is not empty
 pub sized : (v : List ℕ) (len : ℕ) → escape_size v ≡ Some len → 0 < length v
 sized [] len h = absurd cc
 sized (b ∷ rest) len h = omega arith
@@ -148,7 +148,7 @@ one_byte [] some d n t k l = absurd (omega arith)
 one_byte (b ∷ rest) some d n t zero l = rw (ne_eqb b dollar d, ne_eqb b nul n, ne_eqb b tab t) refl
 one_byte (b ∷ rest) some d n t (suc k) l = absurd (omega arith)
 
--- one byte that stands for itself, and what follows
+-- one byte that stands for itself, and the pieces that follow
 pub byte_part : (at : ℕ) (v : List ℕ) → 0 < length v → (slice_index_or v 0 0 ≡ dollar → ⊥) → (slice_index_or v 0 0 ≡ nul → ⊥) → (slice_index_or v 0 0 ≡ tab → ⊥)
     → pieces_from mode.Path at v ≡ map_pieces (bytes_onto (take 1 v)) (pieces_from mode.Path (at + 1) (drop 1 v))
 byte_part at v some d n t = plain_part 1 at v (omega (arith, some)) (one_byte v some d n t)

@@ -1,4 +1,4 @@
--- The table of the bytes that stand for themselves in a path and belong to it.
+-- The table of the bytes that belong to a path and stand for themselves.
 use Rattle.std.proofs.Common.{◌≡◌, ℕ, zero, suc, ◌+◌, ◌<◌, Bool, true, false, ◌&&◌, not, List, [], ◌∷◌, length, get_or, refl, ap, sym, ◌∙◌, arith}
 use Rattle.plan_parse.specs.declared.reading.TheConstants.{PLAIN}
 use Rattle.plan_parse.specs.PlainPaths.{is_plain}
@@ -16,7 +16,7 @@ both_true : (a b : Bool) → (a && b) ≡ true → (a ≡ true) × (b ≡ true)
 both_true true b h = (refl, h)
 both_true false b h = cc
 
--- a table of the bytes from one on
+-- a table of the bytes from n on
 abbrev tells : ℕ → List Bool → Bool
 tells n [] = true
 tells n (t ∷ ts) = same t (is_plain n) && tells (suc n) ts
@@ -28,6 +28,6 @@ told n (t ∷ ts) h zero k lt e =
     same_is t (is_plain n) (both_true (same t (is_plain n)) (tells (suc n) ts) h).0 ∙ ap is_plain (sym here)
 told n (t ∷ ts) h (suc i) k lt e = told (suc n) ts (both_true (same t (is_plain n)) (tells (suc n) ts) h).1 i k (omega arith) (omega (arith, e))
 
--- the table says of each byte whether it belongs to a path and stands for itself
+-- the table has, for each byte, whether it belongs to a path and stands for itself
 pub plain_told : (b : ℕ) → b < 256 → get_or PLAIN b false ≡ is_plain b
 plain_told b lt = told 0 PLAIN refl b b lt (omega arith)

@@ -1,4 +1,4 @@
--- Reading paths from left to right. Serves src/reading.rt.
+-- Paths read from left to right. Lemmas for src/reading.rt.
 use Rattle.std.proofs.Common.{◌≡◌, ℕ, zero, suc, ◌+◌, ◌-◌, ◌<◌, ◌≤◌, List, [], ◌∷◌, ◌++◌, length, take, get_or, drop, Result, Ok, Err, refl, sym, ap, ◌∙◌, append_assoc, arith, add-zero, eqb, ◌==◌, Bool, true, false, not, ◌||◌, cond, unwrap_or}
 use Rattle.std.specs.Prelude.{nat_lt}
 use Rattle.std.specs.List.{prefix_len}
@@ -19,17 +19,17 @@ use Rattle.plan_text.specs.declared.piece_reader.Piece.{Piece}
 use Rattle.plan_parse.specs.declared.fault.ParseFault.{ParseFault}
 use Rattle.plan_parse.specs.Reading.{Place, past, past_gap, ends_path, path_unit, path_len, path_at, lift_fault, path_onto, paths_past, paths_at}
 
--- paths that were read, in front of those that follow
+-- paths that were read, before those that follow
 abbrev pub with_front : List (List Piece) → Result (List (List Piece) × Place) ParseFault → Result (List (List Piece) × Place) ParseFault
 with_front front (Ok x) = Ok (front ++ x.0, x.1)
 with_front front (Err e) = Err e
 
--- no path in front changes nothing
+-- no path before them changes nothing
 pub front_none : (r : Result (List (List Piece) × Place) ParseFault) → with_front [] r ≡ r
 front_none (Ok x) = refl
 front_none (Err e) = refl
 
--- behind a run there is no unit more
+-- no unit follows a run
 run_front : (size : List ℕ → ℕ) (b : ℕ) (rest : List ℕ) (k : ℕ) → size (b ∷ rest) ≡ k → ((n : ℕ) → run size (drop (run_past size rest n) rest) ≡ 0)
     → run size (drop (and_more k (λ n. run_past size rest n)) (b ∷ rest)) ≡ 0
 run_front size b rest zero e over = ap (λ (k : ℕ). and_more k (λ n. run_past size rest n)) e
@@ -44,7 +44,7 @@ within_front : (more : ℕ → ℕ) (len k : ℕ) → ((n : ℕ) → more n ≤ 
 within_front more len zero h = omega arith
 within_front more len (suc n) h = let e = h n in omega (arith, e)
 
--- a run ends with its text
+-- a run is within its text
 pub run_within : (size : List ℕ → ℕ) (text : List ℕ) (n : ℕ) → run_past size text n ≤ length text
 run_within size [] n = omega arith
 run_within size (b ∷ rest) (suc n) = let e = run_within size rest n in omega (arith, e)
@@ -80,7 +80,7 @@ plain_go b rest n true e more =
     let left : path_len (drop (1 + n) (b ∷ rest)) ≡ path_len (drop n rest) = ap (λ (k : ℕ). path_len (drop k (b ∷ rest))) next in
     omega (arith, one, more, left)
 
--- bytes of a path that stand for themselves
+-- the bytes of a path that stand for themselves
 pub path_plain : (text : List ℕ) → path_len text ≡ prefix_len is_plain text + path_len (drop (prefix_len is_plain text) text)
 path_plain [] = refl
 path_plain (b ∷ rest) = plain_go b rest (prefix_len is_plain rest) (is_plain b) refl (path_plain rest)
@@ -95,7 +95,7 @@ not_special false false h = refl
 not_special false true h = absurd cc
 not_special true s h = absurd cc
 
--- and its pieces
+-- the pieces of these bytes
 pub path_literal : PlainIsRead → (p : Place) (n : ℕ) → n ≤ length p.bytes → n ≤ prefix_len is_plain p.bytes → path_at p n ≡ Ok (literal_of (take n p.bytes))
 path_literal law p n within plain =
     ap lift_fault (law mode.Path p.at (take n p.bytes) (λ k l.
@@ -155,7 +155,7 @@ onto_front : (front : List (List Piece)) (path : List Piece) (r : Result (List (
 onto_front front path (Ok x) = ap (λ (v : List (List Piece)). Ok (v, x.1)) (append_assoc front (path ∷ []) x.0)
 onto_front front path (Err e) = refl
 
--- one more path, and the gap behind it
+-- one more path, and the gap after it
 pub reads_path : (front : List (List Piece)) (p : Place) (n : ℕ) (path : List Piece) (all : Result (List (List Piece) × Place) ParseFault) → gap_len p.bytes ≡ 0 → n ≡ path_len p.bytes → 0 < n → n ≤ length p.bytes
     → path_at p n ≡ Ok path → with_front front (paths_at p) ≡ all → with_front (front ++ path ∷ []) (paths_at (past_gap (past n p))) ≡ all
 reads_path front p n path all g e h fits found so_far =

@@ -1,4 +1,4 @@
--- A line that stands in its text, by its role. Serves src/parser.rt.
+-- A line of a text, by its role. Lemmas for src/parser.rt.
 use Rattle.std.proofs.Common.{ℕ, ◌==◌, nat_lt, Bool, true, false, ◌+◌, if◌then◌else◌, List, length, Option, Some, None}
 use Rattle.std.specs.List.{position_or_len}
 use Rattle.std.proofs.lemmas.List.Sums.{prefix_len-le-length}
@@ -23,7 +23,7 @@ chosen text false true i p other stands known = known
 chosen text false false true p other stands known = stands
 chosen text false false false p other stands known = stands
 
--- its text stands there, past its indentation
+-- the text of the line, after its indentation, is in the text
 pub role_stands : (text : List ℕ) (raw : Raw) → StandsIn text (record { at = raw.at; bytes = raw.bytes }) → RoleStandsIn text (role_of_line raw)
 role_stands text raw stands =
     let indent = indent_len raw.bytes in

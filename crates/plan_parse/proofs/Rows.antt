@@ -70,7 +70,7 @@ block_before_file = refl
 bad_escape : statements_of (codes "x = a$!") ≡ Err (Text (BadEscape 5))
 bad_escape = refl
 
--- the first block with a fault, whatever stands below it
+-- the first block with a fault, whatever is below it
 first_block : statements_of (codes "rule r" ++ lf ++ codes "x = a" ++ lf ++ 9 ∷ codes "y") ≡ Err (NoCommand 0)
 first_block = refl
 
@@ -189,7 +189,7 @@ more_behind_name = refl
 unknown_variable : statements_of (codes "rule r" ++ lf ++ codes "  depfil = a" ++ lf ++ codes "  command = b") ≡ Err (UnknownRuleVariable 9)
 unknown_variable = refl
 
--- a rule without a command counts before all else of its block
+-- a missing command comes before all other faults of its block
 absent_command : statements_of (codes "rule r" ++ lf ++ codes "  depfil = x") ≡ Err (NoCommand 0)
 absent_command = refl
 
@@ -197,14 +197,14 @@ absent_command = refl
 faulty_command : statements_of (codes "rule r" ++ lf ++ codes "  command = $!") ≡ Err (Text (BadEscape 19))
 faulty_command = refl
 
--- a tab in front of a line of the block
+-- a tab before a line of the block
 tab_in_front : statements_of (codes "rule r" ++ lf ++ 9 ∷ codes "command = x") ≡ Err (Text (TabBlank 7))
 tab_in_front = refl
 
 blank_tab_line : statements_of (codes "rule r" ++ lf ++ 9 ∷ 10 ∷ codes "  command = x") ≡ Err (Text (TabBlank 7))
 blank_tab_line = refl
 
--- `$` and a newline in front of a line
+-- `$` and a newline before a line
 continued_nothing : statements_of (36 ∷ 10 ∷ []) ≡ Err (ExpectedName 2)
 continued_nothing = refl
 
@@ -229,14 +229,14 @@ nul_for_indent = refl
 tab_in_value : statements_of (codes "x =  a" ++ 9 ∷ []) ≡ Ok (set 0 (codes "x") (Literal (codes "a" ++ 9 ∷ []) ∷ []) ∷ [])
 tab_in_value = refl
 
--- whether a text begins a block: blank lines and comments stand before it, and it is not indented
+-- whether a text begins a block: blank lines and comments may come first, and the line is not indented
 begins_1 : begins_block (10 ∷ codes "# c" ++ 10 ∷ codes "x = 1") ≡ true
 begins_1 = refl
 
 begins_2 : begins_block (codes "  x = 1") ≡ false
 begins_2 = refl
 
--- whether the lines of a text are ended: a newline behind `$` or a lone CR ends none
+-- whether the lines of a text are ended: a newline after `$` or a single CR ends none
 ended_1 : has_ended_lines (codes "x = 1" ++ 10 ∷ 13 ∷ 10 ∷ []) ≡ true
 ended_1 = refl
 

@@ -1,4 +1,4 @@
--- What a statement says doesn't depend on where it stands. Serves the law statements_join.
+-- The meaning of a statement doesn't depend on its offset. Proofs for the law statements_join.
 use Rattle.std.proofs.Common.{◌≡◌, ℕ, ◌+◌, ◌==◌, Bool, ◌||◌, ◌&&◌, true, false, not, cond, List, [], ◌∷◌, ◌++◌, length, Result, Ok, Err, refl, ap, subst, ◌∙◌}
 use Rattle.std.specs.Prelude.{codes}
 use Rattle.std.specs.List.{list_any}
@@ -39,14 +39,14 @@ binding_like p q e =
     made : (n m : List ℕ) (x y : List Piece) → n ≡ m → x ≡ y → ◌≡◌ {A = Binding} (record { name = n; value = x }) (record { name = m; value = y })
     made n m x y e f = rw (e, f) refl
 
--- lines of a block that say the same
+-- lines of a block with the same text
 abbrev pub SameBlockLine : BlockLine → BlockLine → Type 0
 SameBlockLine (Text p) (Text q) = SameText p q
 SameBlockLine (Refused e) (Refused f) = Unit {0}
 SameBlockLine (Text p) (Refused f) = ⊥
 SameBlockLine (Refused e) (Text q) = ⊥
 
--- lines of two blocks that say the same, one by one
+-- lines of two blocks with the same texts, one by one
 abbrev pub SameBlockLines : List BlockLine → List BlockLine → Type 0
 SameBlockLines [] [] = Unit {0}
 SameBlockLines (m ∷ ms) (n ∷ ns) = SameBlockLine m n × SameBlockLines ms ns
@@ -285,7 +285,7 @@ build_like i j p q a b e h =
     (block_lines_like a b h)
     (λ v w l. made_like i j o u r.0 s.0 x y v w f g.0 k l))))
 
--- a statement that has nothing below it
+-- a statement without a block
 no_block_behind : {A : Type 0} (i j : ℕ) (make : ℕ → A → Statement) → ((x : A) → AtOffsets i j (make i x) (make j x)) → (r q : Result A ParseFault) (a b : List BlockLine) → Like Same r q → SameBlockLines a b
     → Like (AtOffsets i j) (r >>= λ x. no_block_allowed a >>= λ _. Ok (make i x)) (q >>= λ x. no_block_allowed b >>= λ _. Ok (make j x))
 no_block_behind i j make same r q a b h k =
@@ -313,7 +313,7 @@ file_like = by_text (λ p q. Like Same (file_at p) (file_at q))
     (one_path_like (here a v) (here b v) refl)
     (λ x y e. end_like x y e (past_gap (past (path_len v) (here a v))) (past_gap (past (path_len v) (here b v))) refl)))
 
--- the sort of a statement is told by its first word
+-- the sort of a statement depends on its first word
 words_like : {A B : Type 0} (R : A → B → Type 0) (s t u v w x : Bool) (r0 r1 r2 r3 r4 r5 r6 : Result A ParseFault) (q0 q1 q2 q3 q4 q5 q6 : Result B ParseFault)
     → Like R r0 q0 → Like R r1 q1 → Like R r2 q2 → Like R r3 q3 → Like R r4 q4 → Like R r5 q5 → Like R r6 q6
     → Like R (cond s r0 (cond t r1 (cond u r2 (cond v r3 (cond w r4 (cond x r5 r6)))))) (cond s q0 (cond t q1 (cond u q2 (cond v q3 (cond w q4 (cond x q5 q6))))))
@@ -339,6 +339,6 @@ at_here i j v a b h =
     (no_block_behind i j (λ at x. record { offset = at; kind = kind.Subninja x }) (λ x. (refl, refl, refl)) (file_at p) (file_at q) a b (file_like p q refl) h)
     (no_block_behind i j (λ at x. record { offset = at; kind = kind.Binding x }) (λ x. (refl, refl, refl)) (binding_at (here i v)) (binding_at (here j v)) a b (binding_like (here i v) (here j v) refl) h)
 
--- two lines that say the same, with blocks that do, are alike as statements
+-- two lines with the same text, and blocks with the same texts, form the same statement
 pub statement_like : (p q : Place) (a b : List BlockLine) → SameText p q → SameBlockLines a b → Like (AtOffsets p.at q.at) (statement_of p a) (statement_of q b)
 statement_like p q a b e h = subst (λ (v : List ℕ). Like (AtOffsets p.at q.at) (statement_of p a) (statement_of (here q.at v) b)) e (at_here p.at q.at p.bytes a b h)

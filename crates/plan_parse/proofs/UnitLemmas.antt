@@ -1,4 +1,4 @@
--- Paths, unit by unit. Serves src/path_parts.rt, src/reading.rt.
+-- Paths, unit by unit. Lemmas for src/path_parts.rt and src/reading.rt.
 use Rattle.std.proofs.Common.{◌≡◌, ℕ, zero, suc, ◌+◌, ◌<◌, ◌≤◌, ◌==◌, Bool, true, false, cond, List, [], ◌∷◌, length, take, drop, get_or, Result, Ok, Err, Option, Some, None, unwrap_or, refl, sym, ap, subst, ◌∙◌, arith}
 use Rattle.std.specs.List.{prefix_len}
 use Rattle.std.proofs.lemmas.Bool.{eqb-true}
@@ -19,7 +19,7 @@ use Rattle.plan_parse.proofs.CutLemmas.{escape_survives}
 use Rattle.plan_parse.proofs.PartLemmas.{skipped, plain_part, plain_bytes}
 use Rattle.plan_parse.proofs.ReadingLemmas.{run_within, run_end, path_plain}
 
--- === Two results that fail alike ===
+-- === Two results with the same faults ===
 
 fails_same : (r : Result (List Piece) TextFault) → FailsAs r r
 fails_same (Ok v) = (v, refl)
@@ -33,14 +33,14 @@ fails_map : (f : List Piece → List Piece) (r : Result (List Piece) TextFault) 
 fails_map f (Ok v) = (f v, refl)
 fails_map f (Err e) = refl
 
--- one behind the other
+-- transitivity
 fails_then : (r s t : Result (List Piece) TextFault) → FailsAs r s → FailsAs s t → FailsAs r t
 fails_then r (Ok v) (Ok w) h k = h
 fails_then r (Err e) (Ok w) h k = let f : Err e ≡ Ok k.0 = k.1 in absurd cc
 fails_then r (Ok v) (Err d) h k = absurd cc
 fails_then r (Err e) (Err d) h k = h ∙ k
 
--- === How long a path is ===
+-- === The length of a path ===
 
 unit_past : (v : List ℕ) (n : ℕ) → n ≤ length v → run_past path_unit v n ≡ n + path_len (drop n v)
 unit_past [] zero h = refl
@@ -63,15 +63,15 @@ unit_length b rest n e within =
 path_within : (v : List ℕ) → path_len v ≤ length v
 path_within v = run_within path_unit v 0
 
--- === What was walked ===
+-- === The bytes that were walked ===
 
--- the path goes on so far, without a fault
+-- the path continues up to here without a fault
 pub record Walked (at : ℕ) (v : List ℕ) (n : ℕ) : Type 0 where
   pub within : n ≤ length v
   pub len : path_len v ≡ n + path_len (drop n v)
   pub sound : FailsAs (first_path at v) (first_path (at + n) (drop n v))
 
--- two ways, one behind the other
+-- two walks, one after the other
 pub walked_on : (at : ℕ) (v : List ℕ) (n k : ℕ) → Walked at v n → Walked (at + n) (drop n v) k → Walked at v (n + k)
 walked_on at v n k w x =
     let left = length-drop n v in
@@ -109,7 +109,7 @@ walked_bytes at v n within len plain =
           (fails_map (bytes_onto (take n (take (n + l) v))) (first_path (at + n) (drop n v)));
     }
 
--- all at the front
+-- all of these bytes at the front
 pub walked_plain : (at : ℕ) (v : List ℕ) (n : ℕ) → n ≡ prefix_len is_plain v → Walked at v n
 walked_plain at v n e =
     let most = prefix_len-le-length is_plain v in
@@ -143,7 +143,7 @@ walked_escape at b rest x is read unit within =
           (fails_onto x.0 (first_path (at + suc n) (drop n rest)));
     }
 
--- === One unit more ===
+-- === One more unit ===
 
 abbrev units : ℕ → Bool → Bool → Bool → Bool → Option ℕ → Result ℕ TextFault
 units at e d n t o = cond e (Ok 0) (cond d (escape_unit at o) (cond n (Err (text.NulByte at)) (cond t (Err (text.TabBlank at)) (Ok 1))))
@@ -180,7 +180,7 @@ walked_unit at (b ∷ rest) k h some fits = by (ends_path b) (b == dollar) (b ==
   by false false false true p q r s g = absurd cc
   by false false false false p q r s g = byte_walked at b rest k p q r s g
 
--- the path's end
+-- the end of the path
 pub unit_ends : (at : ℕ) (v : List ℕ) → unit_at at v ≡ Ok 0 → path_unit v ≡ 0
 unit_ends at [] h = refl
 unit_ends at (b ∷ rest) h = by (ends_path b) (b == dollar) (b == nul) (b == tab) (escape_size rest) h where
@@ -192,7 +192,7 @@ unit_ends at (b ∷ rest) h = by (ends_path b) (b == dollar) (b == nul) (b == ta
   by false false false true o g = absurd cc
   by false false false false o g = let z : ◌≡◌ {A = ℕ} 1 0 = cc in absurd (omega (arith, z))
 
--- a fault of the first byte is the path's own
+-- a fault of the first byte is the first fault of the path
 sign_fails : (at b : ℕ) (rest : List ℕ) (n : ℕ) (e : TextFault) → path_unit (b ∷ rest) ≡ suc n → sign_at mode.Path at b (take (run_past path_unit rest n) rest) ≡ Err e → first_path at (b ∷ rest) ≡ Err e
 sign_fails at b rest n e unit h =
     let short : List ℕ = take (run_past path_unit rest n) rest in
@@ -231,21 +231,21 @@ unit_fails at (b ∷ rest) f h = by (ends_path b) (b == dollar) (b == nul) (b ==
 
 -- === The walk's end ===
 
--- how long the path is
+-- the length of the path
 pub walked_all : (at : ℕ) (v : List ℕ) (n : ℕ) → Walked at v n → path_unit (drop n v) ≡ 0 → n ≡ path_len v
 walked_all at v n w e =
     let all = w.len in
     let none = run_end path_unit (drop n v) e in
     omega (arith, all, none)
 
--- it has pieces
+-- the path has pieces
 pub walked_well : (at : ℕ) (v : List ℕ) (n : ℕ) → Walked at v n → path_unit (drop n v) ≡ 0 → GoesWell (first_path at v)
 walked_well at v n w e =
     let none : path_len (drop n v) ≡ 0 = run_end path_unit (drop n v) e in
     let last : first_path (at + n) (drop n v) ≡ Ok [] = ap (λ (k : ℕ). pieces_from mode.Path (at + n) (take k (drop n v))) none in
     subst (λ (r : Result (List Piece) TextFault). FailsAs (first_path at v) r) last w.sound
 
--- or a fault
+-- or it has a fault
 pub walked_fails : (at : ℕ) (v : List ℕ) (n : ℕ) (f : TextFault) → Walked at v n → unit_at (at + n) (drop n v) ≡ Err f → first_path at v ≡ Err f
 walked_fails at v n f w h = subst (λ (r : Result (List Piece) TextFault). FailsAs (first_path at v) r) (unit_fails (at + n) (drop n v) f h) w.sound
 

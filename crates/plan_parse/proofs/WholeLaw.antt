@@ -1,4 +1,4 @@
--- Statements are whole. Serves the law statements_are_whole.
+-- Statements are whole. Proofs for the law statements_are_whole.
 use Rattle.std.proofs.Common.{◌≡◌, ℕ, zero, suc, ◌+◌, ◌<◌, ◌==◌, Bool, true, false, not, ◌||◌, ◌&&◌, cond, List, [], ◌∷◌, ◌++◌, length, take, drop, Result, Ok, Err, refl, sym, ap, subst, ◌∙◌, arith}
 use Rattle.std.specs.Prelude.{codes}
 use Rattle.std.specs.List.{AllByRecursion, count_by, list_any, prefix_len}
@@ -25,18 +25,18 @@ use Rattle.plan_parse.specs.Statements as parsing
 use Rattle.plan_parse.specs.Statements.{binding_at, no_block_allowed, first_word, is_named, unknown_variable, missing_or_repeated, may_bind, block_variable_at, block_variables_at, has_required, named_line, rule_of, build_of, pool_of, default_of, include_of, subninja_of, binding_of, implicit_at, some_path, outputs_at, inputs_at, targets_at, statement_in, statements_of, block_line_at}
 use Rattle.plan_parse.specs.Laws.{IsWhole}
 
--- the first of two steps that both went well
+-- the first of two steps without faults
 pub record Found {A B : Type 0} (r : Result A ParseFault) (f : A → Result B ParseFault) (y : B) : Type 0 where
   pub first : A
   pub was : r ≡ Ok first
   pub gives : f first ≡ Ok y
 
--- what goes well in two steps goes well in each
+-- if two steps have no fault, each has none
 pub found : {A B : Type 0} (r : Result A ParseFault) (f : A → Result B ParseFault) (y : B) → (r >>= f) ≡ Ok y → Found r f y
 found (Ok x) f y e = record { first = x; was = refl; gives = e }
 found (Err e) f y h = absurd cc
 
--- the word behind blanks is the name behind a gap, where there is one
+-- the word after blanks is the name after a gap, if there is one
 word_by : (b : ℕ) (rest : List ℕ) (t u : Bool) → (b == space) ≡ t → (b == tab) ≡ u
     → (0 < prefix_len is_name_byte (drop (gap_len rest) rest)
     → drop (gap_len rest) rest ≡ drop (gap_len (drop (prefix_len (λ b. b == space || b == tab) rest) rest)) (drop (prefix_len (λ b. b == space || b == tab) rest) rest))
@@ -61,7 +61,7 @@ word_behind : (bytes : List ℕ) → 0 < prefix_len is_name_byte (drop (gap_len 
 word_behind [] h = refl
 word_behind (b ∷ rest) h = word_by b rest (b == space) (b == tab) refl refl (word_behind rest) h
 
--- a name that stands here
+-- a name at this place
 some_of : (n : ℕ) → (n == 0) ≡ false → 0 < n
 some_of zero e = absurd cc
 some_of (suc n) e = omega arith
@@ -75,7 +75,7 @@ named p n e =
     let here = name_by (past_gap p) n (prefix_len is_name_byte (past_gap p).bytes == 0) e in
     sym (here.1 ∙ ap (λ (v : List ℕ). take (prefix_len is_name_byte v) v) (word_behind p.bytes (some_of _ here.0)))
 
--- a binding has the name that stands in front of it
+-- a binding has the name that is before it
 bound_name : (p : Place) (n : List ℕ × Place) (b : Binding) → name_at (past_gap p) ≡ Ok n → binding_at p ≡ Ok b → b.name ≡ n.0
 bound_name p n b e h = by (name_at (past_gap p)) e h where
   last : (n m : List ℕ × Place) (v : Result Place ParseFault) → n ≡ m
@@ -92,7 +92,7 @@ bound_name p n b e h = by (name_at (past_gap p)) e h where
   by (Ok m) e h = let same : m ≡ n = cc in last m n (byte_at 61 fault.ExpectedEquals m.1) same h
   by (Err x) e h = absurd cc
 
--- what a rule may bind
+-- the variable `command`
 abbrev command : List ℕ
 command = codes "command"
 
@@ -105,7 +105,7 @@ variable_by p n b true u e h = absurd cc
 variable_by p n b false true e h = absurd cc
 variable_by p n b false false e h = (refl, bound_name p n b e h)
 
--- a line of a rule is named as what it binds, and doesn't bind the command again
+-- the first word of a line of a rule is the name that it binds, and the line doesn't bind the command again
 owned : (above : List BlockLine) (m : BlockLine) (b : Binding) → block_variable_at Rule above m ≡ Ok b
     → (is_named command m ≡ bytes_eq b.name command) × ((bytes_eq b.name command && list_any (is_named command) above) ≡ false)
 owned above (Refused x) b e = absurd cc
@@ -117,7 +117,7 @@ owned above (Text p) b e =
       ap (λ (v : List ℕ). bytes_eq v command && list_any (is_named command) above) o.1 ∙ o.0,
     )
 
--- how often the command is bound behind lines that bind it or don't
+-- how often the command is bound after lines that bind it or don't
 abbrev count_by_flags : Bool → Bool → ℕ
 count_by_flags true more = 0
 count_by_flags false more = cond more 1 0
@@ -245,7 +245,7 @@ default_whole at p lines s e =
     let same : made ≡ s = cc in
     subst IsWhole same (targets_some p q.first q.was)
 
--- of the other sorts nothing is asked
+-- no condition on the other sorts of statements
 plain_whole : {A : Type 0} (r : Result A ParseFault) (make : A → Statement) (s : Statement) → ((x : A) → IsWhole (make x)) → (r >>= λ x. Ok (make x)) ≡ Ok s → IsWhole s
 plain_whole (Ok x) make s h e = let same : make x ≡ s = cc in subst IsWhole same (h x)
 plain_whole (Err x) make s h e = absurd cc

@@ -1,4 +1,4 @@
--- A statement by its first word. Serves src/statement_reader.rt.
+-- A statement by its first word. Lemmas for src/statement_reader.rt.
 use Rattle.std.proofs.Common.{◌≡◌, ℕ, Bool, true, false, if◌then◌else◌, List, length, ◌≤◌, Result, refl, sym, ap, subst, ◌∙◌}
 use Rattle.std.specs.Prelude.{codes}
 use Rattle.std.specs.List.{prefix_len}
@@ -16,7 +16,7 @@ use Rattle.plan_parse.specs.Statements.{statement_of, rule_of, build_of, pool_of
 use Rattle.plan_parse.specs.Compact.{StandsIn}
 use Rattle.plan_parse.proofs.CompactLemmas.{gap_stands, past_stands}
 
--- a statement by its first word, and what stands behind that
+-- a statement by its first word, and the text after that
 abbrev pub by_word : Place → List ℕ → Place → List BlockLine → Result Statement ParseFault
 by_word p word behind lines =
     if bytes_eq word (codes "rule") then rule_of p.at behind lines
@@ -27,7 +27,7 @@ by_word p word behind lines =
     else if bytes_eq word (codes "subninja") then subninja_of p.at behind lines
     else binding_of p lines
 
--- what meets that meets what the statement is
+-- a result that meets this also meets the statement
 pub meets_word : {X : Type 0} (view : X → Statement) (r : Result X ParseFault) (p start behind : Place) (word : List ℕ) (lines : List BlockLine) (m : Result Statement ParseFault)
     → start ≡ past_gap p → word ≡ name_of start → behind ≡ past_gap (past (length word) start) → by_word p word behind lines ≡ m → Meets fault.Memory view r m
     → Meets fault.Memory view r (statement_of p lines)
@@ -39,7 +39,7 @@ meets_word view r p start behind word lines m s w b e h =
     ap (λ (v : List ℕ). by_word p v behind lines) first ∙ ap (λ (q : Place). by_word p (name_of (past_gap p)) q lines) rest in
     subst (λ (n : Result Statement ParseFault). Meets fault.Memory view r n) (sym e ∙ same) h
 
--- whether a word is one that was asked for
+-- whether a word is the one that was asked for
 pub told : (word asked name : List ℕ) (is answer : Bool) → asked ≡ name → is ≡ bytes_eq word asked → is ≡ answer → bytes_eq word name ≡ answer
 told word asked name is answer e f g = sym (ap (bytes_eq word) e) ∙ sym f ∙ g
 
@@ -65,7 +65,7 @@ pub is_subninja : (p : Place) (word : List ℕ) (behind : Place) (lines : List B
     → by_word p word behind lines ≡ subninja_of p.at behind lines
 is_subninja p word behind lines r b q d i s = rw (r, b, q, d, i, s) refl
 
--- what stands behind the first word
+-- the text after the first word
 pub behind_stands : (text : List ℕ) (p start behind : Place) (word : List ℕ) → StandsIn text p → start ≡ past_gap p → word ≡ name_of start → behind ≡ past_gap (past (length word) start) → StandsIn text behind
 behind_stands text p start behind word stands s w b =
     let from : StandsIn text start = subst (StandsIn text) (sym s) (gap_stands text p stands) in

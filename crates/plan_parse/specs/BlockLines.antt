@@ -1,4 +1,4 @@
--- The lines of a block, without where they lie in memory.
+-- The lines of a block, without their location in memory.
 use Rattle.std.specs.Prelude.{List, map, Option, Some, None}
 use Rattle.plan_parse.specs.declared.block.BlockLine as the_line
 use Rattle.plan_parse.specs.declared.block.BlockLine.TheVariants as line

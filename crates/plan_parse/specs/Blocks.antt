@@ -7,7 +7,7 @@ use Rattle.plan_text.specs.declared.fault.TextFault.{TextFault}
 use Rattle.plan_text.specs.declared.fault.TextFault.TheVariants.{NulByte}
 use Rattle.plan_parse.specs.Reading.{Place}
 
--- a line of a block: its text, past its indentation, or the fault of a comment
+-- a line of a block: its text after the indentation, or the fault of a comment
 pub data BlockLine : Type 0 where
   Text : Place → BlockLine
   Refused : TextFault → BlockLine
@@ -27,7 +27,7 @@ role_of_comment at bytes =
     let nul_at = position_or_len (λ b. b == nul) bytes in
     if nat_lt nul_at (length bytes) then Some (Below (Refused (NulByte (at + nul_at)))) else None
 
--- The role of a logical line: none where it is blank; a comment has one for its NUL alone.
+-- The role of a logical line. A blank line has none, and a comment has one only if it has a NUL byte.
 abbrev pub role_of_line : Raw → Option LineRole
 role_of_line raw =
     let indent = indent_len raw.bytes in
@@ -39,7 +39,7 @@ role_of_line raw =
 abbrev pub roles_of_lines : List Raw → List LineRole
 roles_of_lines raws = filter_map role_of_line raws
 
--- the lines in front that belong to the block above them
+-- the lines at the front that belong to the block above them
 abbrev pub below : List LineRole → List BlockLine
 below [] = []
 below (Below line ∷ more) = line ∷ below more

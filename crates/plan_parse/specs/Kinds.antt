@@ -6,7 +6,7 @@ use Rattle.plan_parse.specs.declared.statement.Pool as pool
 use Rattle.plan_parse.specs.declared.statement.Rule as rule
 use Rattle.plan_parse.specs.Build as build
 
--- what a statement says
+-- the contents of a statement
 pub data StatementKind : Type 0 where
   Rule : rule.Rule → StatementKind
   Build : build.Build → StatementKind

@@ -1,4 +1,4 @@
--- What holds of all manifests.
+-- Laws about all manifests.
 use Rattle.std.specs.Prelude.{◌≡◌, ◌+◌, ◌<◌, ◌≤◌, ℕ, Bool, true, false, List, [], ◌∷◌, ◌++◌, length, map, is_some, Ok, Err, codes}
 use Rattle.std.specs.List.{AllByRecursion, count_by}
 use Rattle.std.specs.Str.{bytes_eq}
@@ -12,7 +12,7 @@ use Rattle.plan_parse.specs.Blocks.{LineRole, Head, Below, roles_of_lines}
 use Rattle.plan_parse.specs.Faults.{offset_of}
 use Rattle.plan_parse.specs.Statements.{statements_of}
 
--- A rule binds its command once, a build line has an output of either sort, and a default has a target.
+-- A rule binds its command once, a build line has an explicit or implicit output, and a default has a target.
 abbrev pub IsWholeKind : StatementKind → Type 0
 IsWholeKind (kind.Rule r) = count_by (λ b. bytes_eq b.name (codes "command")) r.bindings ≡ 1
 IsWholeKind (kind.Build b) = 0 < length b.paths.outputs + length b.paths.implicit_outputs
@@ -29,7 +29,7 @@ IsWhole s = IsWholeKind s.kind
 abbrev pub StatementsAreWhole : Type 0
 StatementsAreWhole = (text : List ℕ) (statements : List Statement) → statements_of text ≡ Ok statements → AllByRecursion IsWhole statements
 
--- a statement, so many bytes further on
+-- a statement, n bytes later
 abbrev pub moved : ℕ → Statement → Statement
 moved n s = record { offset = n + s.offset; kind = s.kind }
 
@@ -39,17 +39,17 @@ leads [] = false
 leads (Head p ∷ more) = true
 leads (Below line ∷ more) = false
 
--- whether the first line of a text that is neither blank nor a comment begins a block: it is not indented
+-- whether the first line of a text that is neither blank nor a comment begins a block, that is, is not indented
 abbrev pub begins_block : List ℕ → Bool
 begins_block text = leads (roles_of_lines (raw_lines text))
 
--- behind a text whose lines are ended, the statements of one that begins a block follow as they are, further on by the
--- first text's length
+-- after a text whose lines are ended, the statements of a text that begins a block follow unchanged, later by
+-- the first text's length
 abbrev pub StatementsJoin : Type 0
 StatementsJoin =
     (front back : List ℕ) (xs ys : List Statement) → has_ended_lines front ≡ true → begins_block back ≡ true → length front + length back ≤ max_source
     → statements_of front ≡ Ok xs → statements_of back ≡ Ok ys → statements_of (front ++ back) ≡ Ok (xs ++ map (moved (length front)) ys)
 
--- each fault of a text has an offset: none is want of memory, nor that of a path without a byte
+-- each fault of a text has an offset: none is a memory fault, or that of an empty path
 abbrev pub FaultsHavePlaces : Type 0
 FaultsHavePlaces = (text : List ℕ) (fault : ParseFault) → statements_of text ≡ Err fault → is_some (offset_of fault) ≡ true

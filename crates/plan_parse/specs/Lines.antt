@@ -1,4 +1,4 @@
--- What is read again of a text.
+-- Items that are read again from a text.
 use Rattle.std.specs.Prelude.{◌+◌, ◌<◌, ◌^◌, List, length, map}
 use Rattle.plan_text.specs.Pieces.{literal_of}
 use Rattle.plan_text.specs.declared.piece_reader.Piece.{Piece}
@@ -16,7 +16,7 @@ abbrev pub pieces_of : the_path.PathInText → List Piece
 pieces_of (path.Plain bytes) = literal_of bytes.now
 pieces_of (path.Parts at bytes) = pieces_or_none (path_pieces (record { at = at; bytes = bytes.now }))
 
--- no number ends within a path
+-- no offset within the path overflows
 abbrev pub IsPlaced : the_path.PathInText → Type 0
 IsPlaced (path.Plain bytes) = Unit {0}
 IsPlaced (path.Parts at bytes) = at + length bytes.now < 2 ^ 63

@@ -12,7 +12,7 @@ use Rattle.plan_parse.specs.declared.path_parts.PathPart.{PathPart}
 use Rattle.plan_parse.specs.declared.path_parts.PathPart.TheVariants as part
 use Rattle.plan_parse.specs.Reading.{ends_path, path_len}
 
--- what a part of one byte or none, or of a name, stands for
+-- the meaning of a part that has at most one byte, or is a name
 abbrev pub sign_of_bytes : List ℕ → Sign
 sign_of_bytes [] = Nothing
 sign_of_bytes (b ∷ bytes) = Byte b
@@ -21,35 +21,35 @@ abbrev pub sign_of : PathPart → Sign
 sign_of (part.Text bytes) = sign_of_bytes bytes.now
 sign_of (part.Name name) = Name name.now
 
--- a part that has one byte at most, or a name
+-- a part that has at most one byte, or is a name
 abbrev pub IsShort : PathPart → Type 0
 IsShort (part.Text bytes) = length bytes.now ≤ 1
 IsShort (part.Name name) = Unit {0}
 
--- a part in front of the pieces that follow
+-- a part before the pieces that follow
 abbrev pub part_onto : PathPart → List Piece → List Piece
 part_onto (part.Text bytes) more = bytes_onto bytes.now more
 part_onto (part.Name name) more = Reference name.now ∷ more
 
--- what becomes of pieces, where there are any
+-- applies a function to pieces, if there are any
 abbrev pub map_pieces : (List Piece → List Piece) → Result (List Piece) TextFault → Result (List Piece) TextFault
 map_pieces f (Ok pieces) = Ok (f pieces)
 map_pieces f (Err fault) = Err fault
 
--- the pieces of a path are its first part, which takes so many bytes, in front of those of the rest; or the path has
--- this fault
+-- the pieces of a path are its first part, which takes this number of bytes, before those of the rest; or the
+-- path has this fault
 abbrev pub IsFirstPart : ℕ → List ℕ → Result (PathPart × ℕ) TextFault → Type 0
 IsFirstPart at text (Ok x) =
     (0 < x.1) × (x.1 ≤ length text) × (pieces_from mode.Path at text ≡ map_pieces (part_onto x.0) (pieces_from mode.Path (at + x.1) (drop x.1 text)))
 IsFirstPart at text (Err fault) = pieces_from mode.Path at text ≡ Err fault
 
--- how many bytes a `$` at offset `at` takes with its escape, where it has one
+-- the number of bytes of a `$` at offset `at` with its escape, if it has one
 abbrev pub escape_unit : ℕ → Option ℕ → Result ℕ TextFault
 escape_unit at (Some len) = Ok (suc len)
 escape_unit at None = Err (text.BadEscape at)
 
--- how many bytes the unit takes that a path at offset `at` begins with, 0 where it has none; or the fault of its first
--- byte
+-- the number of bytes of the unit that a path at offset `at` begins with, 0 if it has none, or the fault of its
+-- first byte
 abbrev pub unit_at : ℕ → List ℕ → Result ℕ TextFault
 unit_at at [] = Ok 0
 unit_at at (b ∷ rest) =
@@ -63,11 +63,11 @@ unit_at at (b ∷ rest) =
 abbrev pub first_path : ℕ → List ℕ → Result (List Piece) TextFault
 first_path at bytes = pieces_from mode.Path at (take (path_len bytes) bytes)
 
--- it goes well
+-- the result is no fault
 abbrev pub GoesWell : {A E : Type 0} → Result A E → Type 0
 GoesWell {A} r = (x : A) × (r ≡ Ok x)
 
--- it goes well where the other does, else it has the other's fault
+-- the result is no fault if the other isn't; otherwise it is the same fault
 abbrev pub FailsAs : {A B E : Type 0} → Result A E → Result B E → Type 0
 FailsAs r (Ok x) = GoesWell r
 FailsAs r (Err e) = r ≡ Err e

@@ -3,7 +3,7 @@ use Rattle.std.specs.Prelude.{◌≡◌, ℕ, List, ◌++◌, length, take, drop
 use Rattle.plan_parse.specs.declared.path_lists.PathLists.{PathLists}
 use Rattle.plan_parse.specs.declared.path_lists.PathPlaces.{PathPlaces}
 
--- what a function gives for each list
+-- applies a function to each list
 abbrev pub map_lists : {A B : Type 0} → (A → B) → PathLists A → PathLists B
 map_lists f p = record {
   outputs = f p.outputs;
@@ -17,11 +17,11 @@ map_lists f p = record {
 abbrev pub all_in : {A : Type 0} → PathLists (List A) → List A
 all_in p = p.outputs ++ p.implicit_outputs ++ p.inputs ++ p.implicit_inputs ++ p.order_only_inputs
 
--- the items of a list from the one of this number to that in front of another number
+-- the items from `start` up to `end`
 abbrev pub between : {A : Type 0} → ℕ → ℕ → List A → List A
 between start end items = drop start (take end items)
 
--- the lists that stand at these places among the paths of a file
+-- the lists with these ranges among the paths of a file
 abbrev pub lists_at : {A : Type 0} → PathPlaces → List A → PathLists (List A)
 lists_at places items = record {
   outputs = between places.start places.outputs items;
@@ -31,7 +31,7 @@ lists_at places items = record {
   order_only_inputs = between places.implicit_inputs places.order_only_inputs items;
 }
 
--- what a list has behind all items of an older one
+-- the items of a list after all items of an older one
 abbrev pub added_to : {A : Type 0} → List A → List A → List A
 added_to older items = drop (length older) items
 

@@ -4,6 +4,6 @@ use Rattle.plan_text.specs.Gathering.{is_special}
 use Rattle.plan_text.specs.declared.piece_reader.Mode.TheVariants as mode
 use Rattle.plan_parse.specs.Reading.{ends_path}
 
--- it ends no path, and is no `$`, NUL or tab
+-- the byte ends no path, and is no `$`, NUL or tab
 abbrev pub is_plain : ℕ → Bool
 is_plain b = not (ends_path b || is_special mode.Path b)

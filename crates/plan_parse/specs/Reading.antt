@@ -13,7 +13,7 @@ use Rattle.plan_text.specs.declared.piece_reader.Piece.{Piece}
 use Rattle.plan_parse.specs.declared.fault.ParseFault.{ParseFault}
 use Rattle.plan_parse.specs.declared.fault.ParseFault.TheVariants as fault
 
--- what is left of a line, and its offset
+-- the rest of a line, and its offset
 pub record Place : Type 0 where
   pub at : ℕ
   pub bytes : List ℕ
@@ -21,11 +21,11 @@ pub record Place : Type 0 where
 abbrev pub past : ℕ → Place → Place
 past n p = record { at = p.at + n; bytes = drop n p.bytes }
 
--- past spaces, and each `$` with the newline behind it
+-- skips spaces, and each `$` with the newline after it
 abbrev pub past_gap : Place → Place
 past_gap p = past (gap_len p.bytes) p
 
--- The fault of a place where something else was expected: a byte that stands nowhere comes first.
+-- The fault of a place at which another item was expected. A byte that isn't allowed anywhere comes first.
 abbrev pub refusal : ParseFault → Place → ParseFault
 refusal expected p =
     if begins_with tab p.bytes then fault.Text (text.TabBlank p.at)
@@ -36,19 +36,19 @@ refusal expected p =
 abbrev pub refuse : {A : Type 0} → (ℕ → ParseFault) → Place → Result A ParseFault
 refuse expected p = Err (refusal (expected p.at) p)
 
--- the name that stands here, empty where none does
+-- the name at this place, which is empty if there is none
 abbrev pub name_of : Place → List ℕ
 name_of p = take (prefix_len is_name_byte p.bytes) p.bytes
 
--- a name, and the place past it and the gap behind it
+-- a name, and the place after it and the gap
 abbrev pub name_at : Place → Result (List ℕ × Place) ParseFault
 name_at p = if prefix_len is_name_byte p.bytes == 0 then refuse fault.ExpectedName p else Ok (name_of p, past_gap (past (prefix_len is_name_byte p.bytes) p))
 
--- one byte; the place past it and the gap behind it
+-- one byte, and the place after it and the gap
 abbrev pub byte_at : ℕ → (ℕ → ParseFault) → Place → Result Place ParseFault
 byte_at b expected p = if begins_with b p.bytes then Ok (past_gap (past 1 p)) else refuse expected p
 
--- the end of the line, with what was read of it
+-- the end of the line, with the result so far
 abbrev pub line_end_at : {A : Type 0} → A → Place → Result A ParseFault
 line_end_at x p = if length p.bytes == 0 then Ok x else refuse fault.ExpectedLineEnd p
 
@@ -65,7 +65,7 @@ abbrev pub lift_fault : {A : Type 0} → Result A TextFault → Result A ParseFa
 lift_fault (Ok x) = Ok x
 lift_fault (Err e) = Err (of_text e)
 
--- the rest of the line, as a value
+-- the rest of the line as a value
 abbrev pub value_at : Place → Result (List Piece) ParseFault
 value_at p = lift_fault (pieces_from mode.Value p.at p.bytes)
 
@@ -81,15 +81,15 @@ path_unit (b ∷ rest) = if ends_path b then 0 else if b == dollar then suc (unw
 abbrev pub path_len : List ℕ → ℕ
 path_len text = run path_unit text
 
--- the path that takes so many bytes
+-- the path of this length
 abbrev pub path_at : Place → ℕ → Result (List Piece) ParseFault
 path_at p len = lift_fault (pieces_from mode.Path p.at (take len p.bytes))
 
 abbrev pub path_onto : List Piece → Result (List (List Piece) × Place) ParseFault → Result (List (List Piece) × Place) ParseFault
 path_onto path more = more >>= λ x. Ok (path ∷ x.0, x.1)
 
--- The paths of a list and the place of the first byte that belongs to none, past the bytes to skip (plan_text, Runs).
--- Gaps stand between paths.
+-- The paths of a list and the place after them, after the bytes to skip (plan_text, Runs). There may be gaps
+-- between paths.
 abbrev pub paths_past : ℕ → List ℕ → ℕ → Result (List (List Piece) × Place) ParseFault
 paths_past at [] skip = Ok ([], record { at = at; bytes = [] })
 paths_past at (b ∷ rest) (suc skip) = paths_past (at + 1) rest skip
@@ -100,6 +100,6 @@ paths_past at (b ∷ rest) zero =
     else if len == 0 then Ok ([], record { at = at; bytes = b ∷ rest })
     else path_at (record { at = at; bytes = b ∷ rest }) len >>= λ path. path_onto path (paths_past (at + 1) rest (len - 1))
 
--- the paths of a list, and the place of the first byte that belongs to none
+-- the paths of a list, and the place after them
 abbrev pub paths_at : Place → Result (List (List Piece) × Place) ParseFault
 paths_at p = paths_past p.at p.bytes 0

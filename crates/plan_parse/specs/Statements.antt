@@ -29,17 +29,17 @@ abbrev pub block_line_at : BlockLine → Result Binding ParseFault
 block_line_at (Refused e) = Err (fault.Text e)
 block_line_at (Text p) = binding_at p
 
--- nothing may be indented below other statements
+-- no line may be indented below other statements
 abbrev pub no_block_allowed : List BlockLine → Result (Unit {0}) ParseFault
 no_block_allowed [] = Ok tt
 no_block_allowed (Text p ∷ more) = refuse fault.UnexpectedIndent p
 no_block_allowed (Refused e ∷ more) = Err (fault.Text e)
 
--- the first word of a line, whatever spaces and tabs stand before it
+-- the first word of a line, after any spaces and tabs
 abbrev pub first_word : Place → List ℕ
 first_word p = name_of (past_gap (past (prefix_len is_blank p.bytes) p))
 
--- whether a line binds this name, well or not
+-- whether a line binds this name, even if the binding has a fault
 abbrev pub is_named : List ℕ → BlockLine → Bool
 is_named name (Refused e) = false
 is_named name (Text p) = bytes_eq (first_word p) name
@@ -55,22 +55,22 @@ abbrev pub may_bind : BlockKind → List ℕ → Bool
 may_bind Rule name = list_any (bytes_eq name) rule_variables
 may_bind Pool name = bytes_eq name (codes "depth")
 
--- the name that it binds exactly once
+-- the name that the block must bind exactly once
 abbrev pub required_name : BlockKind → List ℕ
 required_name Rule = codes "command"
 required_name Pool = codes "depth"
 
--- the fault of a name that it may not bind
+-- the fault of a name that the block may not bind
 abbrev pub unknown_variable : BlockKind → ℕ → ParseFault
 unknown_variable Rule at = fault.UnknownRuleVariable at
 unknown_variable Pool at = fault.BadPool at
 
--- the fault of the required name, where it is absent or stands there again
+-- the fault of the required name if it is missing or repeated
 abbrev pub missing_or_repeated : BlockKind → ℕ → ParseFault
 missing_or_repeated Rule at = fault.NoCommand at
 missing_or_repeated Pool at = fault.BadPool at
 
--- a rule or a pool binds what it may bind, and the required name once; the lines above this one are given
+-- a rule or a pool binds only allowed names, and the required name once; the lines above this one are given
 abbrev pub block_variable_at : BlockKind → List BlockLine → BlockLine → Result Binding ParseFault
 block_variable_at block above (Refused e) = Err (fault.Text e)
 block_variable_at block above (Text p) =
@@ -84,7 +84,7 @@ abbrev pub block_variables_at : BlockKind → List BlockLine → List BlockLine 
 block_variables_at block above [] = Ok []
 block_variables_at block above (line ∷ more) = block_variable_at block above line >>= λ b. block_variables_at block (above ++ line ∷ []) more >>= λ bs. Ok (b ∷ bs)
 
--- what is absent stands at the block's first byte, before all else of the block
+-- a missing name is reported at the block's first byte, before all other faults of the block
 abbrev pub has_required : BlockKind → ℕ → List BlockLine → Result (Unit {0}) ParseFault
 has_required block at lines = if list_any (is_named (required_name block)) lines then Ok tt else Err (missing_or_repeated block at)
 
@@ -101,7 +101,7 @@ named_block block at p lines =
 abbrev pub rule_of : ℕ → Place → List BlockLine → Result Statement ParseFault
 rule_of at p lines = named_block Rule at p lines >>= λ x. Ok (record { offset = at; kind = kind.Rule (record { name = x.0; bindings = x.1 }) })
 
--- the value of a pool's one line
+-- the value of the single line of a pool
 abbrev pub depth_of : List Binding → List Piece
 depth_of [] = []
 depth_of (b ∷ bs) = b.value
@@ -122,22 +122,22 @@ is_two_bars p = begins_with bar p.bytes && begins_with bar (drop 1 p.bytes)
 abbrev pub is_validation : Place → Bool
 is_validation p = begins_with bar p.bytes && begins_with at_sign (drop 1 p.bytes)
 
--- the list behind `|`, empty where none stands here
+-- the list after `|`, which is empty if there is no `|` here
 abbrev pub implicit_at : Place → Result (List (List Piece) × Place) ParseFault
 implicit_at p = if is_bar p then paths_at (past 1 p) else Ok ([], p)
 
--- the list behind `||`, empty where none stands here
+-- the list after `||`, which is empty if there is no `||` here
 abbrev pub order_only_at : Place → Result (List (List Piece) × Place) ParseFault
 order_only_at p = if is_two_bars p then paths_at (past 2 p) else Ok ([], p)
 
 abbrev pub no_validation : Place → Result (Unit {0}) ParseFault
 no_validation p = if is_validation p then Err (fault.Validation p.at) else Ok tt
 
--- one path or more in both lists
+-- at least one path in both lists
 abbrev pub some_path : Place → List (List Piece) → List (List Piece) → Result (Unit {0}) ParseFault
 some_path p paths more = if length paths + length more == 0 then refuse fault.ExpectedPath p else Ok tt
 
--- `outputs | implicit_outputs:`, and the place behind it
+-- `outputs | implicit_outputs:`, and the place after it
 abbrev pub outputs_at : Place → Result (List (List Piece) × List (List Piece) × Place) ParseFault
 outputs_at p =
     paths_at p >>= λ outputs. implicit_at outputs.1 >>= λ implicit. some_path implicit.1 outputs.0 implicit.0 >>= λ _.

@@ -1,4 +1,4 @@
--- What the program holds, without where it lies in memory.
+-- The values of the program, without their location in memory.
 use Rattle.plan_parse.specs.declared.cursor.Cursor.{Cursor}
 use Rattle.plan_parse.specs.Reading.{Place}
 

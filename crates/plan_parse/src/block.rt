@@ -24,10 +24,10 @@ use crate::statement::Binding;
 use plan_text::{TextFault, begins, indent_len, nul_at};
 use std::alloc::Global;
 
-/// A line of a block: its text, past its indentation, or the fault of a comment.
+/// A line of a block: its text after the indentation, or the fault of a comment.
 #[derive(Clone, Copy)]
 pub enum BlockLine<'a> {
-    /// Its text.
+    /// The text of the line.
     Text(Cursor<'a>),
     /// The fault of a comment.
     Refused(TextFault),
@@ -36,20 +36,20 @@ pub enum BlockLine<'a> {
 /// The role of a line: it begins a block, or belongs to the block above it.
 #[derive(Clone, Copy)]
 pub enum LineRole<'a> {
-    /// It begins a block.
+    /// The line begins a block.
     Head(Cursor<'a>),
-    /// It belongs to the block above it.
+    /// The line belongs to the block above it.
     Below(BlockLine<'a>),
 }
 
-/// Whether a line begins with a space or a tab.
+/// Returns whether a line begins with a space or a tab.
 fn is_indented(bytes: &[u8]) -> bool
     ensures { result ≡ blocks.is_indented bytes.now }
 {
     matches!(bytes, [b' ' | b'\t', ..])
 }
 
-/// The role of a comment: none but for its NUL.
+/// Returns the role of a comment. It has a role only if it has a NUL byte, which is a fault.
 fn role_of_comment(at: usize, bytes: &[u8]) -> Option<LineRole<'_>>
     requires { at + length bytes.now < 2 ^ 63 }
     ensures { line_role_if_any result ≡ blocks.role_of_comment at bytes.now }
@@ -63,7 +63,7 @@ fn role_of_comment(at: usize, bytes: &[u8]) -> Option<LineRole<'_>>
     }
 }
 
-/// The role of a logical line: none where it is blank.
+/// Returns the role of a logical line. Returns None if the line is blank.
 pub fn role_of_line(at: usize, bytes: &[u8]) -> Option<LineRole<'_>>
     requires { at + length bytes.now < 2 ^ 63 }
     ensures { line_role_if_any result ≡ blocks.role_of_line (record { at = at; bytes = bytes.now }) }
@@ -84,7 +84,7 @@ pub fn role_of_line(at: usize, bytes: &[u8]) -> Option<LineRole<'_>>
     }
 }
 
-/// Nothing may be indented below other statements.
+/// Refuses lines that are indented below a statement without a block.
 pub fn no_block_allowed(lines: &[BlockLine<'_>]) -> Result<(), ParseFault>
     ensures { result ≡ statements.no_block_allowed (block_lines_of lines.now) }
 {
@@ -97,7 +97,7 @@ pub fn no_block_allowed(lines: &[BlockLine<'_>]) -> Result<(), ParseFault>
     }
 }
 
-/// How many spaces and tabs a text begins with.
+/// Returns the number of spaces and tabs that a text begins with.
 fn blanks_len(text: &[u8]) -> usize
     ensures len { result ≡ prefix_len is_blank text.now }
     ensures within { result ≤ length text.now }
@@ -107,14 +107,14 @@ fn blanks_len(text: &[u8]) -> usize
         .count()
 }
 
-/// The first word of a line, whatever spaces and tabs stand before it.
+/// Returns the first word of a line, after any spaces and tabs.
 fn first_word(p: Cursor<'_>) -> &[u8]
     ensures { result.now ≡ statements.first_word (place_of p.entry) }
 {
     name_of(past_gap(past(p, blanks_len(p.bytes))))
 }
 
-/// A line of a block as a binding, kept beside its text.
+/// Reads a line of a block as a binding, stored by its places in the text.
 fn block_line_at(
     alloc: Global,
     text: &[u8],
@@ -129,7 +129,8 @@ fn block_line_at(
     }
 }
 
-/// Appends the lines of a block as bindings, kept beside their text; where they stand in the list.
+/// Appends the lines of a block as bindings, stored by their places in the text. Returns their range in the
+/// list.
 pub fn bindings_at(
     alloc: Global,
     text: &[u8],
@@ -149,7 +150,7 @@ pub fn bindings_at(
     Ok(ListPlace { start, end })
 }
 
-/// Whether a line binds this name, well or not.
+/// Returns whether a line binds this name, even if the binding has a fault.
 fn binds(line: BlockLine<'_>, name: &[u8]) -> bool
     ensures { result ≡ statements.is_named name.now (block_line_of line.entry) }
 {
@@ -159,8 +160,8 @@ fn binds(line: BlockLine<'_>, name: &[u8]) -> bool
     }
 }
 
-/// What the text of a line of a rule or a pool binds, where `is_bound` says whether a line above it binds the required
-/// name.
+/// Reads the binding in the text of a line of a rule or a pool. `is_bound` says whether a line above it binds
+/// the required name.
 fn variable_at(
     alloc: Global,
     block: BlockKind,
@@ -181,7 +182,8 @@ fn variable_at(
     binding_at(alloc, p)
 }
 
-/// What a line of a rule or a pool binds, where `is_bound` says whether a line above it binds the required name.
+/// Reads the binding in a line of a rule or a pool. `is_bound` says whether a line above it binds the required
+/// name.
 fn block_variable_at(
     alloc: Global,
     block: BlockKind,
@@ -197,7 +199,7 @@ fn block_variable_at(
     }
 }
 
-/// What the lines of a rule or a pool bind, in order.
+/// Reads the bindings of the lines of a rule or a pool, in order.
 pub fn block_variables_at(
     alloc: Global,
     block: BlockKind,
@@ -214,7 +216,8 @@ pub fn block_variables_at(
     Ok(found)
 }
 
-/// Whether a rule or a pool binds its required name; where it doesn't, that fault counts before all else of its block.
+/// Checks that a rule or a pool binds its required name. If it doesn't, this fault comes before all other
+/// faults of its block.
 pub fn has_required(block: BlockKind, at: usize, lines: &[BlockLine<'_>]) -> Result<(), ParseFault>
     ensures { result ≡ statements.has_required block at (block_lines_of lines.now) }
 {

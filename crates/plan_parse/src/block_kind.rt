@@ -1,4 +1,4 @@
-//! What a rule or a pool binds.
+//! The variables that rules and pools bind.
 
 ghost use Rattle.std.specs.Prelude.{◌≡◌};
 ghost use Rattle.std.specs.List.{list_any};
@@ -7,16 +7,16 @@ ghost use Rattle.plan_parse.specs.Statements as statements;
 
 use crate::fault::ParseFault;
 
-/// A kind of block in which not every name may stand.
+/// A kind of block that only allows certain variables.
 #[derive(Clone, Copy)]
 pub enum BlockKind {
-    /// A rule: it may bind many names, and binds `command` once.
+    /// A rule. It may bind many variables, and must bind `command` once.
     Rule,
-    /// A pool: it binds `depth`, once, and nothing else.
+    /// A pool. It must bind `depth` once, and nothing else.
     Pool,
 }
 
-/// Whether a rule may bind this name.
+/// Returns whether a rule may bind this name.
 fn is_rule_variable(name: &[u8]) -> bool
     ensures { result ≡ list_any (bytes_eq name.now) statements.rule_variables }
 {
@@ -37,7 +37,7 @@ fn is_rule_variable(name: &[u8]) -> bool
 }
 
 impl BlockKind {
-    /// Whether it may bind this name.
+    /// Returns whether the block may bind this name.
     pub fn may_bind(self, name: &[u8]) -> bool
         ensures { result ≡ statements.may_bind self name.now }
     {
@@ -47,7 +47,7 @@ impl BlockKind {
         }
     }
 
-    /// The name that it binds exactly once.
+    /// Returns the name that the block must bind exactly once.
     pub fn required_name(self) -> &'static [u8]
         ensures { result.now ≡ statements.required_name self }
     {
@@ -57,7 +57,7 @@ impl BlockKind {
         }
     }
 
-    /// The fault of a name that it may not bind.
+    /// Returns the fault of a name that the block may not bind.
     pub fn unknown_variable(self, at: u64) -> ParseFault
         ensures { result ≡ statements.unknown_variable self at }
     {
@@ -67,7 +67,7 @@ impl BlockKind {
         }
     }
 
-    /// The fault of the required name, where it is absent or stands there again.
+    /// Returns the fault of the required name if it is missing or repeated.
     pub fn missing_or_repeated(self, at: u64) -> ParseFault
         ensures { result ≡ statements.missing_or_repeated self at }
     {

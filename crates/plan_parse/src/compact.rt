@@ -1,4 +1,4 @@
-//! Statements as they are kept beside their text.
+//! Compact statements, which refer to their text by places.
 
 ghost use Rattle.std.specs.Prelude.{◌≡◌, ℕ, List, []};
 ghost use Rattle.plan_parse.specs.Compact.{build_at, said_in};
@@ -8,25 +8,25 @@ use crate::span::Span;
 use crate::statement::Directive;
 use std::alloc::Global;
 
-/// A path as it is kept beside its text.
+/// A path that is stored by its place in the text.
 #[derive(Clone, Copy, Debug, Drop)]
 pub enum CompactPath {
-    /// The path of the bytes at this place, each of which stands for itself.
+    /// The path whose bytes at this place all stand for themselves.
     Plain(Span),
     /// The path at this place, which has a `$`.
     Pieces(Span),
 }
 
-/// The right side of a binding as it is kept beside its text.
+/// The right side of a binding, stored by its place in the text.
 #[derive(Clone, Copy, Debug, Drop)]
 pub enum CompactValue {
-    /// The value of the bytes at this place, each of which stands for itself.
+    /// The value whose bytes at this place all stand for themselves.
     Plain(Span),
     /// The value at this place, which has a `$`.
     Pieces(Span),
 }
 
-/// A binding as it is kept beside its text.
+/// A binding that is stored by its places in the text.
 #[derive(Clone, Copy, Debug, Drop)]
 pub struct CompactBinding {
     /// The place of its name.
@@ -35,20 +35,20 @@ pub struct CompactBinding {
     pub value: CompactValue,
 }
 
-/// A build line as it is kept beside its text, and the lines below it.
+/// A build line that is stored by its places in the text, with the lines below it.
 #[derive(Clone, Copy, Debug, Drop)]
 pub struct CompactBuild {
-    /// How many bytes stand before it.
+    /// The offset of its first byte.
     pub offset: u32,
-    /// Where its paths stand among those of its file; there is at least one output, explicit or implicit.
+    /// The ranges of its paths among those of its file. There is at least one output, explicit or implicit.
     pub paths: PathPlaces,
     /// The place of its rule's name.
     pub rule: Span,
-    /// Where its own variables, in order, stand among those of its file.
+    /// The range of its own variables, in order, among those of its file.
     pub bindings: ListPlace,
 }
 
-/// The build line in place of one that a file doesn't have.
+/// A default for build lines that a file doesn't have.
 const NO_BUILD: CompactBuild = CompactBuild {
     offset: 0,
     paths: PathPlaces {
@@ -63,20 +63,20 @@ const NO_BUILD: CompactBuild = CompactBuild {
     bindings: ListPlace { start: 0, end: 0 },
 };
 
-/// The build lines of a file, and their paths and variables, each in one list, so that a build line takes no memory of
-/// its own.
+/// The build lines of a file, their paths and their variables, in one list each. With these lists, a build line
+/// takes no memory of its own.
 #[derive(Debug, Drop)]
 pub struct BuildLists {
     /// The build lines in their order.
     pub(crate) builds: Vec<CompactBuild>,
-    /// Their paths, those of a build line one behind the other.
+    /// Their paths. Those of a build line are consecutive.
     pub(crate) paths: Vec<CompactPath>,
-    /// Their own variables, in the same way.
+    /// Their own variables. Those of a build line are consecutive.
     pub(crate) bindings: Vec<CompactBinding>,
 }
 
 impl BuildLists {
-    /// No build line.
+    /// Creates empty lists.
     pub(crate) fn new(alloc: Global) -> Self
         ensures builds { result.builds.items ≡ [] }
         ensures paths { result.paths.items ≡ [] }
@@ -89,7 +89,7 @@ impl BuildLists {
         }
     }
 
-    /// Lets go of spare room, where memory allows it.
+    /// Releases spare room, if memory allows it.
     pub(crate) fn shrink(&mut self)
         ensures builds { self.new.builds.items ≡ self.old.builds.items }
         ensures paths { self.new.paths.items ≡ self.old.paths.items }
@@ -100,7 +100,7 @@ impl BuildLists {
         self.bindings.shrink_to_fit();
     }
 
-    /// The build line of this number, or one without anything where there is none.
+    /// Returns build line `number`. Returns an empty one if there is no such build line.
     pub(crate) fn build(&self, number: u32) -> CompactBuild
         ensures { result ≡ build_at self.now number }
     {
@@ -111,20 +111,20 @@ impl BuildLists {
     }
 }
 
-/// A statement as it is kept beside its text and its file's build lines: of a binding, and of the paths and variables
-/// of a build line, their places, which are read again where they are needed.
+/// A statement that is stored by places in the text, and by the number of its build line in the file. The
+/// contents of a binding, and the paths and variables of a build line, are read again when they are needed.
 #[derive(Debug, Drop)]
 pub enum CompactStatement {
     /// The binding in this line.
     Binding(Span),
-    /// The build line of this number.
+    /// The build line with this number.
     Build(u32),
     /// Any other statement.
     Directive(Box<Directive>),
 }
 
 impl CompactStatement {
-    /// How many bytes of its text stand before it.
+    /// Returns the offset of its first byte.
     pub fn offset(&self, lists: &BuildLists) -> u64
         ensures { (text : List ℕ) → result ≡ (said_in text lists.now self.now).offset }
     {
@@ -136,7 +136,7 @@ impl CompactStatement {
     }
 }
 
-/// The statements of a file, kept beside its text.
+/// The statements of a file, stored by their places in the text.
 #[derive(Debug, Drop)]
 pub struct ParsedFile {
     /// The statements in their order.

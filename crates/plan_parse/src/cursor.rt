@@ -1,13 +1,13 @@
-//! What is left of a line.
+//! The rest of a line that is being read.
 
 ghost use Rattle.std.specs.Prelude.{◌+◌, ◌<◌, ◌^◌, length};
 
-/// What is left of a line, and where it stands.
+/// The rest of a line, with its offset.
 #[derive(Clone, Copy)]
 pub struct Cursor<'a> {
-    /// How many bytes stand before it.
+    /// The offset of the rest in the text.
     pub at: usize,
-    /// What is left.
+    /// The rest of the line.
     pub bytes: &'a [u8],
     ghost short: { at + length bytes.now < 2 ^ 63 },
 }

@@ -1,4 +1,4 @@
-//! Why a text is no list of statements.
+//! The reasons why a text is no list of statements.
 
 ghost use Rattle.std.specs.Prelude.{◌≡◌};
 ghost use Rattle.plan_parse.specs.declared.fault.ParseFault.TheVariants.{Memory};
@@ -7,38 +7,39 @@ ghost use Rattle.plan_parse.specs.Faults.{number_of, offset_of};
 use plan_text::TextFault;
 use std::alloc::{AllocError, AllocFailed};
 
-/// Why a text is no list of statements. An offset is that of the byte where the thing was expected or stands, counted
-/// from 0.
+/// The reason why a text is no list of statements. An offset counts bytes from 0. It is that of the byte at
+/// which the missing item was expected, or at which the wrong item is.
 #[derive(Clone, Copy, Debug, PartialEq, Eq)]
 pub enum ParseFault {
-    /// A statement, a rule, a pool or a variable without its name.
+    /// A statement, a rule, a pool or a variable has no name.
     ExpectedName(u64),
-    /// No `=` behind the name of a variable.
+    /// The name of a variable isn't followed by `=`.
     ExpectedEquals(u64),
-    /// No `:` behind the outputs of a build line.
+    /// The outputs of a build line aren't followed by `:`.
     ExpectedColon(u64),
-    /// No output on a build line, no target of `default`, or no file of `include` or `subninja`.
+    /// A build line has no output, `default` has no target, or `include` or `subninja` has no file.
     ExpectedPath(u64),
-    /// An indented line below no rule, no pool and no build line.
+    /// A line is indented, but is not below a rule, a pool or a build line.
     UnexpectedIndent(u64),
-    /// A variable that a rule doesn't know.
+    /// A rule binds a variable that rules may not bind.
     UnknownRuleVariable(u64),
-    /// A rule without a `command`, or its second one.
+    /// A rule has no `command`, or has a second one.
     NoCommand(u64),
-    /// A pool without a `depth`, its second one, or another variable of a pool.
+    /// A pool has no `depth`, has a second one, or binds another variable.
     BadPool(u64),
-    /// A validation: `|@` behind the inputs.
+    /// A validation: `|@` after the inputs.
     Validation(u64),
-    /// More on a line than belongs there.
+    /// A line continues after the end of its statement.
     ExpectedLineEnd(u64),
     /// Memory ran out.
     Memory,
-    /// A fault of the text itself, other than want of memory.
+    /// A fault of the text itself, other than running out of memory.
     Text(TextFault),
 }
 
 impl ParseFault {
-    /// The number under which the fault is printed: 10 to 19, 22 for memory, or that of the text's fault.
+    /// Returns the number that a program prints for the fault: 10 to 19, 22 for memory, or the number of the
+    /// text's fault.
     pub fn number(&self) -> u8
         ensures { result ≡ number_of self.now }
     {
@@ -58,7 +59,8 @@ impl ParseFault {
         }
     }
 
-    /// The offset of the byte where the thing was expected or stands; none for want of memory.
+    /// Returns the offset of the byte at which the missing item was expected, or at which the wrong item is.
+    /// Returns None for `Memory`.
     pub fn offset(&self) -> Option<u64>
         ensures { result ≡ offset_of self.now }
     {

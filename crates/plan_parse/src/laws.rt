@@ -1,23 +1,25 @@
-//! What holds of all manifests.
+//! Laws about all manifests.
 
 ghost use Rattle.plan_parse.specs.Laws.{FaultsHavePlaces, StatementsAreWhole, StatementsJoin};
 
 use plan_text::lines_join;
 
-/// A rule binds its command once, a build line has an output of either sort, and a default has a target.
+/// States that a rule binds its command once, a build line has an explicit or implicit output, and a default
+/// has a target.
 pub fn statements_are_whole()
     ensures { StatementsAreWhole }
 {}
 
-/// The statements of two texts make those of both, one behind the other, where each line of the first is ended by a
-/// newline and the second begins a block: no statement depends on what stands in front of its block.
+/// States that the statements of two texts, one after the other, are the statements of the concatenated text. A
+/// newline must end each line of the first text, and the second must begin with a block. No statement depends
+/// on the text before its block.
 pub fn statements_join()
     ensures { StatementsJoin }
 {
     lines_join();
 }
 
-/// Each fault of a text has an offset: none is want of memory, nor that of a path without a byte.
+/// States that each fault of a text has an offset: none is a memory fault, or that of an empty path.
 pub fn faults_have_places()
     ensures { FaultsHavePlaces }
 {}

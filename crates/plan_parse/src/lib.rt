@@ -1,10 +1,10 @@
-//! The statements of a manifest: rules, build lines, pools, defaults, other files and bindings, each with the offset of
-//! its first byte.
+//! Reads the statements of a manifest: rules, build lines, pools, defaults, included files and bindings, each
+//! with the offset of its first byte.
 //!
-//! `parse` goes over the logical lines once. A line without an indentation begins a block, and the indented lines below
-//! it belong to it. The answer is the statements of all blocks, or the first fault of the first block that has one.
-//! `statements_are_whole`, `statements_join` and `faults_have_places` say what holds of all manifests, for the proofs
-//! of the crates above.
+//! `parse` reads the logical lines once. A line without an indentation begins a block, and the indented lines
+//! below it belong to it. The result is the statements of all blocks, or the first fault of the first block
+//! that has one. `statements_are_whole`, `statements_join` and `faults_have_places` are laws about all
+//! manifests, for the proofs of the crates above.
 #![tactic(auto)]
 
 mod block;

@@ -18,7 +18,7 @@ use plan_text::{PieceList, SmallText};
 use std::alloc::{AllocError, Global};
 use std::marker::Model;
 
-/// What a line binds; nothing to nothing where it is no binding.
+/// Reads a line as a binding. If it is no binding, returns an empty name with an empty value.
 fn binding_or_empty(alloc: Global, place: Cursor<'_>) -> Result<Binding, AllocError>
     ensures { IfOk result (λ b. b ≡ compact.binding_or_empty (binding_at (place_of place.entry))) }
 {
@@ -49,14 +49,14 @@ impl<'a> Model for BindingLine<'a> {
 }
 
 impl<'a> BindingLine<'a> {
-    /// The binding in a line of a text; of nothing to nothing where that is none.
+    /// Creates the binding in a line of a text. If the line is no binding, its name and value are empty.
     pub fn new(text: &'a [u8], span: Span) -> BindingLine<'a>
         ensures { result ≡ compact.bound_in text.now span }
     {
         BindingLine { text, span }
     }
 
-    /// What it binds.
+    /// Reads the binding.
     pub fn read(&self, alloc: Global) -> Result<Binding, AllocError>
         ensures { IfOk result (λ b. b ≡ self.now) }
     {
@@ -67,13 +67,13 @@ impl<'a> BindingLine<'a> {
 /// A path in its text.
 #[derive(Clone, Copy)]
 pub enum PathInText<'a> {
-    /// Its bytes, each of which stands for itself.
+    /// The bytes of the path, each of which stands for itself.
     Plain(&'a [u8]),
-    /// Its offset and its bytes, to be read part by part (`part_at`).
+    /// The offset and the bytes of the path, to be read part by part (`part_at`).
     Parts(usize, &'a [u8]),
 }
 
-/// A path of a text.
+/// Returns a path of a text.
 pub fn path_in(text: &[u8], path: CompactPath) -> PathInText<'_>
     ensures pieces { pieces_of result ≡ compact.path_in text.now path }
     ensures fits { IsPlaced result }
@@ -90,9 +90,9 @@ pub fn path_in(text: &[u8], path: CompactPath) -> PathInText<'_>
 /// The right side of a binding in its text.
 #[derive(Drop)]
 pub enum ValueInText<'a> {
-    /// Its bytes, each of which stands for itself.
+    /// The bytes of the value, each of which stands for itself.
     Plain(&'a [u8]),
-    /// What is to be read.
+    /// The value to be read.
     Pieces(ValueLine<'a>),
 }
 
@@ -115,7 +115,7 @@ impl<'a> Model for ValueLine<'a> {
 }
 
 impl<'a> ValueLine<'a> {
-    /// Its pieces.
+    /// Reads the pieces of the value.
     pub fn read(&self, alloc: Global) -> Result<PieceList, AllocError>
         ensures { IfOk result (λ pieces. pieces ≡ self.now) }
     {
@@ -127,7 +127,7 @@ impl<'a> ValueLine<'a> {
     }
 }
 
-/// The right side of a binding of a text.
+/// Returns the right side of a binding of a text.
 pub fn value_in(text: &[u8], value: CompactValue) -> ValueInText<'_>
     ensures { value_of result ≡ compact.value_in text.now value }
 {
@@ -139,7 +139,7 @@ pub fn value_in(text: &[u8], value: CompactValue) -> ValueInText<'_>
     }
 }
 
-/// The name of a binding of a text.
+/// Returns the name of a binding of a text.
 pub fn name_in(text: &[u8], binding: CompactBinding) -> &[u8]
     ensures { result.now ≡ (compact.variable_in text.now binding).name }
 {
@@ -151,7 +151,7 @@ pub fn name_in(text: &[u8], binding: CompactBinding) -> &[u8]
 pub struct BindingsInText<'a> {
     /// The text.
     pub text: &'a [u8],
-    /// The bindings, kept beside it.
+    /// The bindings, stored by their places in the text.
     pub bindings: &'a [CompactBinding],
 }
 
@@ -160,11 +160,11 @@ pub struct BindingsInText<'a> {
 pub struct PathsInText<'a> {
     /// The text.
     pub text: &'a [u8],
-    /// The paths, kept beside it.
+    /// The paths, stored by their places in the text.
     pub paths: &'a [CompactPath],
 }
 
-/// The list of paths in their text that stands at these places among all of its file.
+/// Returns the paths from `start` up to `end` among all paths of a file.
 fn list_in<'a>(text: &'a [u8], all: &'a [CompactPath], start: u32, end: u32) -> PathsInText<'a>
     ensures { paths_in result ≡ map (compact.path_in text.now) (between start end all.now) }
 {
@@ -192,8 +192,8 @@ impl<'a> Model for BuildLine<'a> {
 }
 
 impl<'a> BuildLine<'a> {
-    /// The build line of this number of a file, which is kept beside this text and in these lists; one without anything
-    /// where there is none.
+    /// Returns build line `number` of a file, which is stored by places in this text and in these lists.
+    /// Returns an empty one if there is no such build line.
     pub fn new(text: &'a [u8], lists: &'a BuildLists, number: u32) -> BuildLine<'a>
         ensures { result ≡ compact.build_in text.now lists.now (compact.build_at lists.now number) }
     {
@@ -204,14 +204,14 @@ impl<'a> BuildLine<'a> {
         }
     }
 
-    /// The name of its rule.
+    /// Returns the name of its rule.
     pub fn rule(&self) -> &'a [u8]
         ensures { result.now ≡ self.now.rule }
     {
         line_in(self.text, self.build.rule).bytes
     }
 
-    /// Its own variables in order.
+    /// Returns its own variables in order.
     pub fn bindings(&self) -> BindingsInText<'a>
         ensures { bindings_in result ≡ self.now.bindings }
     {
@@ -222,7 +222,7 @@ impl<'a> BuildLine<'a> {
         }
     }
 
-    /// Its paths.
+    /// Returns its paths.
     pub fn paths(&self) -> PathLists<PathsInText<'a>>
         ensures { map_lists paths_in result ≡ self.now.paths }
     {

@@ -1,4 +1,4 @@
-//! A manifest, read from its first line to its last.
+//! Reads a manifest from its first line to its last.
 
 ghost use Rattle.std.specs.Prelude.{◌≡◌, ◌+◌, ◌<◌, ◌^◌, [], OnOk, Some, length, map};
 ghost use Rattle.plan_text.specs.Outcome.{Meets};
@@ -16,7 +16,7 @@ use crate::statement_reader::statement_of;
 use plan_text::{MAX_SOURCE, TextFault, split_line};
 use std::alloc::Global;
 
-/// The statements of whole blocks, and the block that may go on.
+/// The statements of whole blocks, and the block that may continue.
 #[derive(Drop)]
 struct Reader<'a> {
     alloc: Global,
@@ -44,7 +44,7 @@ impl<'a> Reader<'a> {
         Ok(())
     }
 
-    /// Ends the block: its statement joins those before it, and no line is left of it.
+    /// Ends the block: appends its statement, and removes its lines.
     fn end_block(&mut self) -> Result<(), ParseFault>
         requires block { BlockStandsIn self.now.text.now (state_of self.now) }
         requires kept { AllLast self.now.text.now self.now.lists self.now.statements.items }
@@ -61,7 +61,7 @@ impl<'a> Reader<'a> {
         Ok(())
     }
 
-    /// Takes one more line by its role.
+    /// Adds one more line by its role.
     fn take(&mut self, role: LineRole<'a>) -> Result<(), ParseFault>
         requires block { BlockStandsIn self.now.text.now (state_of self.now) }
         requires kept { AllLast self.now.text.now self.now.lists self.now.statements.items }
@@ -98,7 +98,7 @@ impl<'a> Reader<'a> {
         }
     }
 
-    /// The statements, where no line follows, without spare room for build lines where memory allows it.
+    /// Returns the statements at the end of the text. Releases spare room for build lines if memory allows it.
     fn finish(mut self) -> Result<ParsedFile, ParseFault>
         requires block { BlockStandsIn self.text.now (state_of self) }
         requires kept { AllLast self.text.now self.lists self.statements.items }
@@ -113,7 +113,12 @@ impl<'a> Reader<'a> {
     }
 }
 
-/// The statements of a manifest, kept beside its text, or the first fault of the first block that has one.
+/// Reads the statements of a manifest, and stores them by their places in the text.
+///
+/// # Errors
+///
+/// The first fault of the first block that has one. `SourceTooLong` comes before all other faults. `Memory` if
+/// memory runs out, whatever the text is.
 pub fn parse(alloc: Global, text: &[u8]) -> Result<ParsedFile, ParseFault>
     ensures { Meets ParseFault.Memory (λ file. map (said_in text.now file.lists) file.statements.items) result (statements_of text.now) }
 {

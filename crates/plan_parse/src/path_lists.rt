@@ -3,37 +3,37 @@
 ghost use Rattle.std.specs.Prelude.{◌≡◌};
 ghost use Rattle.plan_parse.specs.PathLists.{between};
 
-/// A value for each list of paths of a build line, such as the paths themselves.
+/// One value for each list of paths of a build line, such as the paths themselves.
 #[derive(Debug, Drop)]
 pub struct PathLists<T> {
-    /// That of the explicit outputs.
+    /// The value for the explicit outputs.
     pub outputs: T,
-    /// That of the implicit outputs, behind `|`.
+    /// The value for the implicit outputs, after `|`.
     pub implicit_outputs: T,
-    /// That of the explicit inputs.
+    /// The value for the explicit inputs.
     pub inputs: T,
-    /// That of the implicit inputs, behind `|`.
+    /// The value for the implicit inputs, after `|`.
     pub implicit_inputs: T,
-    /// That of the order-only inputs, behind `||`.
+    /// The value for the order-only inputs, after `||`.
     pub order_only_inputs: T,
 }
 
-/// Where a list stands among the items of another.
+/// The range of a list in a longer one.
 #[derive(Clone, Copy, Debug, Drop)]
 pub struct ListPlace {
-    /// How many items stand before it.
+    /// The index of its first item.
     pub start: u32,
-    /// How many items it and those before it are.
+    /// The index after its last item.
     pub end: u32,
 }
 
-/// Where the five lists of paths of a build line stand among the paths of its file, one behind the other in this
-/// order.
+/// The ranges of the five lists of paths of a build line among the paths of its file. The lists are
+/// consecutive, in this order.
 #[derive(Clone, Copy, Debug, Drop)]
 pub struct PathPlaces {
-    /// How many paths stand before them.
+    /// The index of the first path.
     pub start: u32,
-    /// The end of the explicit outputs: how many paths they and those before them are.
+    /// The end of the explicit outputs: the index after the last one.
     pub outputs: u32,
     /// The end of the implicit outputs.
     pub implicit_outputs: u32,
@@ -45,7 +45,7 @@ pub struct PathPlaces {
     pub order_only_inputs: u32,
 }
 
-/// The items of a list from the one of this number to that in front of another number.
+/// Returns the items from `start` up to `end`. If the list is shorter, the range ends with it.
 pub fn between<T>(items: &[T], start: u32, end: u32) -> &[T]
     ensures { result.now ≡ between start end items.now }
 {

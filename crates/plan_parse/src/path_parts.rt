@@ -1,4 +1,4 @@
-//! Paths, part by part.
+//! Reads paths part by part.
 
 ghost use Rattle.std.specs.Prelude.{◌≡◌, ◌≤◌, ◌<◌, ◌+◌, ◌^◌, ◌==◌, ◌||◌, ◌∷◌, Some, IfOk, length};
 ghost use Rattle.std.specs.List.{prefix_len};
@@ -21,21 +21,21 @@ pub enum PathPart<'a> {
     Name(&'a [u8]),
 }
 
-/// Whether a byte stands for itself behind a `$`.
+/// Returns whether a byte after a `$` stands for itself.
 fn is_escaped(b: u8) -> bool
     ensures { result ≡ (b == dollar || b == space || b == colon) }
 {
     matches!(b, b'$' | b' ' | b':')
 }
 
-/// Whether a byte behind a `$` begins a line's end.
+/// Returns whether a byte after a `$` begins a newline.
 fn begins_line_end(b: u8) -> bool
     ensures { result ≡ (b == line_feed || b == carriage_return) }
 {
     matches!(b, b'\n' | b'\r')
 }
 
-/// What a `$` stands for with so many bytes behind it.
+/// Returns the meaning of a `$` whose escape has `len` bytes after it.
 fn escaped(text: &[u8], len: usize) -> PathPart<'_>
     requires size { escape_size text.now ≡ Some len }
     requires within { len ≤ length text.now }
@@ -54,7 +54,8 @@ fn escaped(text: &[u8], len: usize) -> PathPart<'_>
     }
 }
 
-/// The part that begins with a `$`, by what stands behind that.
+/// Returns the part that begins with a `$`, given the text after it, and the number of bytes that the part
+/// takes.
 fn escape_at(text: &[u8], at: usize) -> Result<(PathPart<'_>, usize), TextFault>
     requires { length text.now + 1 < 2 ^ 64 }
     ensures { IsFirstPart at (36 ∷ text.now) result }
@@ -65,11 +66,12 @@ fn escape_at(text: &[u8], at: usize) -> Result<(PathPart<'_>, usize), TextFault>
     }
 }
 
-/// The first part of a path that has a byte, at this offset, and how many bytes it takes.
+/// Returns the first part of a path, which is not empty, and the number of bytes that the part takes. The path
+/// is at offset `at`.
 ///
 /// # Errors
 ///
-/// The fault of the path's first byte, which is the path's own.
+/// The fault of the path's first byte, which is the first fault of the path.
 pub fn part_at(text: &[u8], at: usize) -> Result<(PathPart<'_>, usize), TextFault>
     requires { 0 < length text.now }
     ensures { IsFirstPart at text.now result }
@@ -90,7 +92,7 @@ pub fn part_at(text: &[u8], at: usize) -> Result<(PathPart<'_>, usize), TextFaul
     }
 }
 
-/// How many bytes a `$` takes with its escape.
+/// Returns the number of bytes of a `$` with its escape.
 fn escape_unit(p: Cursor<'_>, behind: &[u8]) -> Result<usize, TextFault>
     ensures size { result ≡ escape_unit p.entry.at (escape_size behind.now) }
     ensures within { IfOk result (λ len. len ≤ 1 + length behind.now) }
@@ -101,7 +103,8 @@ fn escape_unit(p: Cursor<'_>, behind: &[u8]) -> Result<usize, TextFault>
     }
 }
 
-/// How many bytes a path goes on with here, a `$` with its escape or one byte; 0 where it ends.
+/// Returns the number of bytes of the next unit of a path: a `$` with its escape, or one byte. Returns 0 if the
+/// path ends.
 fn unit_at(p: Cursor<'_>) -> Result<usize, TextFault>
     ensures size { result ≡ unit_at p.entry.at p.entry.bytes.now }
     ensures within { IfOk result (λ len. len ≤ length p.entry.bytes.now) }
@@ -115,11 +118,11 @@ fn unit_at(p: Cursor<'_>) -> Result<usize, TextFault>
     }
 }
 
-/// How long the path is that stands here, whose first bytes, so many, stand for themselves.
+/// Returns the length of the path at the cursor. Its first `plain` bytes stand for themselves.
 ///
 /// # Errors
 ///
-/// The path's first fault.
+/// The first fault of the path.
 #[inline(never)]
 pub fn checked_len(p: Cursor<'_>, plain: usize) -> Result<usize, TextFault>
     requires { plain ≡ prefix_len is_plain p.bytes.now }

@@ -1,4 +1,4 @@
-//! Reading a line from left to right.
+//! Reads a line from left to right.
 
 ghost use Rattle.std.specs.Prelude.{◌≡◌, ◌+◌, ◌≤◌, true, List, [], ◌∷◌, ◌++◌, length, take, drop, map, IfOk, OnOk};
 ghost use Rattle.std.specs.List.{prefix_len};
@@ -26,10 +26,10 @@ use plan_text::{
 };
 use std::alloc::{AllocError, Global};
 
-/// The paths of a list, each as its pieces.
+/// Paths, each as the list of its pieces.
 type Paths = Vec<PieceList>;
 
-/// A line of a text.
+/// Returns a line of a text.
 pub fn line_in(text: &[u8], span: Span) -> Cursor<'_>
     ensures { place_of result ≡ line_in text.now span }
 {
@@ -45,7 +45,7 @@ pub fn line_in(text: &[u8], span: Span) -> Cursor<'_>
     Cursor { at, bytes: line }
 }
 
-/// What is left past so many bytes.
+/// Skips n bytes.
 pub fn past(p: Cursor<'_>, n: usize) -> Cursor<'_>
     requires { n ≤ length p.bytes.now }
     ensures { place_of result ≡ syntax.past n (place_of p.entry) }
@@ -56,14 +56,15 @@ pub fn past(p: Cursor<'_>, n: usize) -> Cursor<'_>
     }
 }
 
-/// What is left past spaces, and each `$` with the newline behind it.
+/// Skips spaces, and each `$` with the newline after it.
 pub fn past_gap(p: Cursor<'_>) -> Cursor<'_>
     ensures { place_of result ≡ syntax.past_gap (place_of p.entry) }
 {
     past(p, gap_len(p.bytes))
 }
 
-/// The fault of a place where something else was expected: a byte that stands nowhere comes first.
+/// Returns the fault of a place at which another item was expected. A byte that isn't allowed anywhere comes
+/// first.
 pub fn refusal(p: Cursor<'_>, expected: ParseFault) -> ParseFault
     ensures { result ≡ syntax.refusal expected (place_of p.entry) }
 {
@@ -78,14 +79,14 @@ pub fn refusal(p: Cursor<'_>, expected: ParseFault) -> ParseFault
     }
 }
 
-/// The name that stands here, empty where none does.
+/// Returns the name at the cursor. It is empty if there is none.
 pub fn name_of(p: Cursor<'_>) -> &[u8]
     ensures { result.now ≡ syntax.name_of (place_of p.entry) }
 {
     &p.bytes[..name_len(p.bytes)]
 }
 
-/// A name, and the place past it and the gap behind it.
+/// Reads a name, and skips the gap after it.
 pub fn name_at(p: Cursor<'_>) -> Result<(&[u8], Cursor<'_>), ParseFault>
     ensures { seen_by (λ x. (x.0.now, place_of x.1)) result ≡ syntax.name_at (place_of p.entry) }
 {
@@ -96,7 +97,7 @@ pub fn name_at(p: Cursor<'_>) -> Result<(&[u8], Cursor<'_>), ParseFault>
     Ok((&p.bytes[..len], past_gap(past(p, len))))
 }
 
-/// One byte; the place past it and the gap behind it. The fault is that of another byte.
+/// Reads one byte, and skips the gap after it. If there is another byte, the given fault is returned.
 fn byte_at(p: Cursor<'_>, b: u8, fault: ParseFault) -> Result<Cursor<'_>, ParseFault>
     ensures { seen_by place_of result ≡ syntax.byte_at b (λ _. fault) (place_of p.entry) }
 {
@@ -106,7 +107,7 @@ fn byte_at(p: Cursor<'_>, b: u8, fault: ParseFault) -> Result<Cursor<'_>, ParseF
     Ok(past_gap(past(p, 1)))
 }
 
-/// The end of the line.
+/// Checks that the line ends at the cursor.
 pub fn line_end_at(p: Cursor<'_>) -> Result<(), ParseFault>
     ensures { result ≡ syntax.line_end_at (tt {0}) (place_of p.entry) }
 {
@@ -117,7 +118,7 @@ pub fn line_end_at(p: Cursor<'_>) -> Result<(), ParseFault>
     }
 }
 
-/// A fault of the text, as one of the statements.
+/// Converts a fault of the text to one of the statements.
 fn of_text(fault: TextFault) -> ParseFault
     ensures { result ≡ syntax.of_text fault }
 {
@@ -131,7 +132,7 @@ fn of_text(fault: TextFault) -> ParseFault
     }
 }
 
-/// The rest of the line, as a value.
+/// Parses the rest of the line as a value.
 pub fn value_at(alloc: Global, p: Cursor<'_>) -> Result<PieceList, ParseFault>
     ensures { Meets ParseFault.Memory (λ v. v) result (syntax.value_at (place_of p.entry)) }
 {
@@ -141,17 +142,17 @@ pub fn value_at(alloc: Global, p: Cursor<'_>) -> Result<PieceList, ParseFault>
     }
 }
 
-/// Values of fewer bytes are gone through byte by byte: a search by groups pays for longer ones alone.
+/// The length below which values are tested byte by byte. A vectorized search only pays for longer values.
 const SHORT_VALUE: usize = 32;
 
-/// Whether no byte of a short value is a `$` or NUL.
+/// Returns whether no byte of a short value is a `$` or NUL.
 fn is_short_plain(value: &[u8]) -> bool
     ensures { result ≡ true → IsPlainValue value.now }
 {
     !value.iter().any(|b| matches!(*b, b'$' | 0))
 }
 
-/// Whether each byte of a value stands for itself: none is a `$` or NUL.
+/// Returns whether each byte of a value stands for itself: none is a `$` or NUL.
 fn is_plain_value(value: &[u8]) -> bool
     ensures { result ≡ true → IsPlainValue value.now }
 {
@@ -161,7 +162,7 @@ fn is_plain_value(value: &[u8]) -> bool
     memchr2(b'$', 0, value).is_none()
 }
 
-/// The rest of the line as a value, kept beside its text.
+/// Reads the rest of the line as a value, and stores it by its place in the text.
 fn compact_value_at(alloc: Global, text: &[u8], p: Cursor<'_>) -> Result<CompactValue, ParseFault>
     requires { StandsIn text.now (place_of p) }
     ensures { Meets ParseFault.Memory (value_in text.now) result (syntax.value_at (place_of p.entry)) }
@@ -175,7 +176,7 @@ fn compact_value_at(alloc: Global, text: &[u8], p: Cursor<'_>) -> Result<Compact
     Ok(CompactValue::Pieces(span))
 }
 
-/// `name = value`, kept beside its text.
+/// Reads `name = value`, and stores it by its places in the text.
 pub fn compact_binding_at(
     alloc: Global,
     text: &[u8],
@@ -192,7 +193,7 @@ pub fn compact_binding_at(
     Ok(CompactBinding { name, value })
 }
 
-/// `name = value`.
+/// Reads `name = value`.
 pub fn binding_at(alloc: Global, p: Cursor<'_>) -> Result<Binding, ParseFault>
     ensures { Meets ParseFault.Memory (λ b. b) result (statements.binding_at (place_of p.entry)) }
 {
@@ -203,7 +204,8 @@ pub fn binding_at(alloc: Global, p: Cursor<'_>) -> Result<Binding, ParseFault>
     Ok(Binding { name, value })
 }
 
-/// The bytes that stand for themselves in a path: all but a space, `:`, `|`, `$`, NUL and tab.
+/// The table of bytes that belong to a path and stand for themselves: all except a space, `:`, `|`, `$`, NUL
+/// and tab.
 const PLAIN: [bool; 256] = [
     false, true, true, true, true, true, true, true, true, false, true, true, true, true, true,
     true, true, true, true, true, true, true, true, true, true, true, true, true, true, true, true,
@@ -224,14 +226,14 @@ const PLAIN: [bool; 256] = [
     true, true, true, true, true,
 ];
 
-/// Whether a byte belongs to a path and stands for itself.
+/// Returns whether a byte belongs to a path and stands for itself.
 fn is_plain(byte: u8) -> bool
     ensures { result ≡ is_plain byte }
 {
     PLAIN[usize::from(byte)]
 }
 
-/// How many bytes a text begins with that belong to a path and stand for themselves.
+/// Returns the number of bytes at the front of a text that belong to a path and stand for themselves.
 pub fn plain_len(text: &[u8]) -> usize
     ensures len { result ≡ prefix_len is_plain text.now }
     ensures within { result ≤ length text.now }
@@ -239,25 +241,25 @@ pub fn plain_len(text: &[u8]) -> usize
     text.iter().take_while(|b| is_plain(**b)).count()
 }
 
-/// Whether a path ends where this text begins.
+/// Returns whether a path ends at the beginning of this text.
 fn ends_path(text: &[u8]) -> bool
     ensures { result ≡ true → syntax.path_unit text.now ≡ 0 }
 {
     matches!(text, [] | [b' ' | b':' | b'|', ..])
 }
 
-/// How long a path is, and whether it is known that each of its bytes stands for itself.
+/// The length of a path, and whether it is known that each of its bytes stands for itself.
 #[derive(Clone, Copy)]
 struct Extent {
     len: usize,
     is_plain: bool,
 }
 
-/// How long the path is that stands here.
+/// Returns the extent of the path at the cursor.
 ///
 /// # Errors
 ///
-/// The path's first fault.
+/// The first fault of the path.
 #[inline(always)]
 fn extent_at(p: Cursor<'_>) -> Result<Extent, ParseFault>
     ensures len { IfOk result (λ extent. extent.len ≡ syntax.path_len p.entry.bytes.now) }
@@ -281,7 +283,7 @@ fn extent_at(p: Cursor<'_>) -> Result<Extent, ParseFault>
     }
 }
 
-/// The path that takes so many bytes.
+/// Reads the path with this extent.
 fn path_at(alloc: Global, p: Cursor<'_>, extent: Extent) -> Result<PieceList, ParseFault>
     requires within { extent.len ≤ length p.bytes.now }
     requires plain { extent.is_plain ≡ true → extent.len ≤ prefix_len is_plain p.bytes.now }
@@ -298,7 +300,7 @@ fn path_at(alloc: Global, p: Cursor<'_>, extent: Extent) -> Result<PieceList, Pa
     }
 }
 
-/// The path that takes so many bytes, kept beside its text.
+/// Stores the path with this extent by its place in the text.
 fn compact_path_at(text: &[u8], p: Cursor<'_>, extent: Extent) -> Result<CompactPath, ParseFault>
     requires within { extent.len ≤ length p.bytes.now }
     requires plain { extent.is_plain ≡ true → extent.len ≤ prefix_len is_plain p.bytes.now }
@@ -314,7 +316,7 @@ fn compact_path_at(text: &[u8], p: Cursor<'_>, extent: Extent) -> Result<Compact
     Ok(CompactPath::Pieces(span))
 }
 
-/// Appends a path. The first takes no more room than it needs, since most lists have one.
+/// Appends a path. Reserves exact room for the first one, because most lists have one path.
 fn add_path(paths: &mut Paths, path: PieceList) -> Result<(), AllocError>
     ensures { OnOk result (paths.new.items ≡ paths.old.items ++ path ∷ []) }
 {
@@ -325,8 +327,8 @@ fn add_path(paths: &mut Paths, path: PieceList) -> Result<(), AllocError>
     Ok(())
 }
 
-/// The paths of a list, without spare room where memory allows it, and the place of the first byte that belongs to
-/// none.
+/// Reads the paths of a list, and returns them with the place after them. Releases spare room if memory allows
+/// it.
 fn paths_at(alloc: Global, p: Cursor<'_>) -> Result<(Paths, Cursor<'_>), ParseFault>
     ensures { Meets ParseFault.Memory (λ x. (x.0.items, place_of x.1)) result (syntax.paths_at (place_of p.entry)) }
 {
@@ -343,7 +345,7 @@ fn paths_at(alloc: Global, p: Cursor<'_>) -> Result<(Paths, Cursor<'_>), ParseFa
     }
 }
 
-/// Appends the paths of a list, kept beside their text; the place of the first byte that belongs to none.
+/// Appends the paths of a list, stored by their places in the text. Returns the place after them.
 fn compact_paths_at<'a>(
     text: &[u8],
     p: Cursor<'a>,
@@ -365,28 +367,28 @@ fn compact_paths_at<'a>(
     }
 }
 
-/// `|`, and not `||` or `|@`.
+/// Returns whether `|` is next, and not `||` or `|@`.
 fn is_bar(p: Cursor<'_>) -> bool
     ensures { result ≡ statements.is_bar (place_of p.entry) }
 {
     begins(p.bytes, b'|') && !matches!(p.bytes, [_, b'|' | b'@', ..])
 }
 
-/// `||`.
+/// Returns whether `||` is next.
 fn is_two_bars(p: Cursor<'_>) -> bool
     ensures { result ≡ statements.is_two_bars (place_of p.entry) }
 {
     matches!(p.bytes, [b'|', b'|', ..])
 }
 
-/// `|@`.
+/// Returns whether `|@` is next.
 fn is_validation(p: Cursor<'_>) -> bool
     ensures { result ≡ statements.is_validation (place_of p.entry) }
 {
     matches!(p.bytes, [b'|', b'@', ..])
 }
 
-/// Appends the list behind `|`, which is empty where none stands here.
+/// Appends the paths after `|`. Appends none if there is no `|` at the cursor.
 fn implicit_at<'a>(
     text: &[u8],
     p: Cursor<'a>,
@@ -404,7 +406,7 @@ fn implicit_at<'a>(
     }
 }
 
-/// Appends the list behind `||`, which is empty where none stands here.
+/// Appends the paths after `||`. Appends none if there is no `||` at the cursor.
 fn order_only_at<'a>(
     text: &[u8],
     p: Cursor<'a>,
@@ -421,7 +423,7 @@ fn order_only_at<'a>(
     }
 }
 
-/// No `|@` may stand here.
+/// Refuses `|@`.
 fn no_validation(p: Cursor<'_>) -> Result<(), ParseFault>
     ensures { result ≡ statements.no_validation (place_of p.entry) }
 {
@@ -431,7 +433,7 @@ fn no_validation(p: Cursor<'_>) -> Result<(), ParseFault>
     Ok(())
 }
 
-/// One path or more in two lists, which together have so many.
+/// Checks that there is at least one path in two lists, given the number of paths in both.
 fn some_path(p: Cursor<'_>, count: usize) -> Result<(), ParseFault>
     ensures { (xs ys : List (List Piece)) → length xs + length ys ≡ count → result ≡ statements.some_path (place_of p.entry) xs ys }
 {
@@ -441,14 +443,15 @@ fn some_path(p: Cursor<'_>, count: usize) -> Result<(), ParseFault>
     Ok(())
 }
 
-/// How many items there are so far.
+/// Returns the number of items.
 pub fn count_of<T>(items: &[T]) -> Result<u32, AllocError>
     ensures { IfOk result (λ count. count ≡ length items.now) }
 {
     number_of(items.len())
 }
 
-/// Appends `outputs | implicit_outputs:`; how many paths there are at the end of the former, and the place behind.
+/// Appends the paths of `outputs | implicit_outputs:`. Returns the number of all paths after the explicit
+/// outputs, and the place after the colon.
 pub fn outputs_at<'a>(
     text: &[u8],
     p: Cursor<'a>,
@@ -469,16 +472,16 @@ pub fn outputs_at<'a>(
     Ok((end, behind))
 }
 
-/// How many paths there are at the ends of lists of inputs.
+/// The ends of lists of inputs, as numbers of paths.
 #[derive(Clone, Copy)]
 pub struct InputEnds {
-    /// The end of the explicit ones.
+    /// The end of the explicit inputs.
     pub explicit: u32,
-    /// The end of the implicit ones, behind `|`.
+    /// The end of the implicit inputs, after `|`.
     pub implicit: u32,
 }
 
-/// Appends `inputs | implicit_inputs || order_only_inputs`, to the end of the line.
+/// Appends the paths of `inputs | implicit_inputs || order_only_inputs`, to the end of the line.
 pub fn inputs_at(
     text: &[u8],
     p: Cursor<'_>,
@@ -500,7 +503,7 @@ pub fn inputs_at(
     Ok(InputEnds { explicit, implicit })
 }
 
-/// One path or more, and the end of the line.
+/// Reads one path or more, and the end of the line.
 pub fn targets_at(alloc: Global, p: Cursor<'_>) -> Result<Paths, ParseFault>
     ensures { Meets ParseFault.Memory (λ v. v.items) result (statements.targets_at (place_of p.entry)) }
 {
@@ -510,7 +513,7 @@ pub fn targets_at(alloc: Global, p: Cursor<'_>) -> Result<Paths, ParseFault>
     Ok(targets)
 }
 
-/// One path, and the end of the line.
+/// Reads one path, and the end of the line.
 pub fn file_at(alloc: Global, p: Cursor<'_>) -> Result<PieceList, ParseFault>
     ensures { Meets ParseFault.Memory (λ v. v) result (statements.file_at (place_of p.entry)) }
 {

@@ -4,17 +4,18 @@ ghost use Rattle.std.specs.Prelude.{◌≡◌, IfOk};
 
 use std::alloc::AllocError;
 
-/// Where a line or a path stands in its text. A text that is read has fewer bytes than these numbers can tell.
+/// The place of a line or a path in its text. Any text that is read is short enough for these numbers.
 #[derive(Clone, Copy, Debug, Drop)]
 pub struct Span {
-    /// How many bytes stand before it.
+    /// The offset of its first byte.
     pub at: u32,
-    /// How many bytes it has.
+    /// The number of its bytes.
     pub len: u32,
 }
 
 impl Span {
-    /// The place of so many bytes; none where no number tells it, which no text that is read has.
+    /// Creates the place of `len` bytes at offset `at`. Fails if a number doesn't fit, which doesn't happen in
+    /// texts that are read.
     pub(crate) fn new(at: usize, len: usize) -> Result<Span, AllocError>
         ensures { IfOk result (λ span. (span.at ≡ at) × (span.len ≡ len)) }
     {
@@ -25,7 +26,7 @@ impl Span {
     }
 }
 
-/// A count of bytes or items, as it is kept; none where no number tells it.
+/// Converts a count of bytes or items to 32 bits. Fails as if memory had run out if it doesn't fit.
 pub fn number_of(count: usize) -> Result<u32, AllocError>
     ensures { IfOk result (λ number. number ≡ count) }
 {

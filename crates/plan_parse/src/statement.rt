@@ -1,4 +1,4 @@
-//! What a manifest says.
+//! The statements of a manifest.
 
 use plan_text::{Items, PieceList, SmallText};
 
@@ -14,22 +14,22 @@ pub struct Binding {
 /// A rule and the lines below it.
 #[derive(Debug, Drop)]
 pub struct Rule {
-    /// The name by which build lines ask for it.
+    /// The name by which build lines refer to it.
     pub name: SmallText,
-    /// Its variables in order, one of them `command`.
+    /// Its variables in order, one of which is `command`.
     pub bindings: Items<Binding>,
 }
 
 /// A pool.
 #[derive(Debug, Drop)]
 pub struct Pool {
-    /// The name by which edges ask for it.
+    /// The name by which edges refer to it.
     pub name: SmallText,
     /// The pieces of its depth.
     pub depth: PieceList,
 }
 
-/// What a directive says: a statement that is neither a binding nor a build line.
+/// The contents of a directive: a statement that is neither a binding nor a build line.
 #[derive(Debug, Drop)]
 pub enum DirectiveKind {
     /// `rule name` and its block.
@@ -47,8 +47,8 @@ pub enum DirectiveKind {
 /// A directive, with the offset of its first byte.
 #[derive(Debug, Drop)]
 pub struct Directive {
-    /// How many bytes stand before it.
+    /// The offset of its first byte.
     pub offset: u64,
-    /// What it says.
+    /// Its contents.
     pub kind: DirectiveKind,
 }

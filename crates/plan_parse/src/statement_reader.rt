@@ -26,7 +26,7 @@ use crate::statement::{Binding, Directive, DirectiveKind, Pool, Rule};
 use plan_text::{Items, PieceList, SmallText};
 use std::alloc::Global;
 
-/// A name and the end of the line.
+/// Reads a name and the end of the line.
 fn named_line(p: Cursor<'_>) -> Result<&[u8], ParseFault>
     ensures { seen_by (λ name. name.now) result ≡ statements.named_line (place_of p.entry) }
 {
@@ -35,7 +35,7 @@ fn named_line(p: Cursor<'_>) -> Result<&[u8], ParseFault>
     Ok(name)
 }
 
-/// A rule or a pool, from its name on, and the lines below it.
+/// Reads a rule or a pool, from its name on, and the lines below it.
 fn named_block(
     alloc: Global,
     block: BlockKind,
@@ -52,7 +52,7 @@ fn named_block(
     Ok((name, bindings))
 }
 
-/// `rule name`, from its name on, and the lines below it.
+/// Reads `rule name`, from the name on, and the lines below it.
 fn rule_of(
     alloc: Global,
     at: usize,
@@ -71,7 +71,7 @@ fn rule_of(
     })
 }
 
-/// The value of a pool's one line.
+/// Returns the value of the single line of a pool.
 fn depth_of(alloc: Global, bindings: Vec<Binding>) -> PieceList
     ensures { result ≡ statements.depth_of bindings.items }
 {
@@ -81,7 +81,7 @@ fn depth_of(alloc: Global, bindings: Vec<Binding>) -> PieceList
     }
 }
 
-/// `pool name`, from its name on, and the lines below it.
+/// Reads `pool name`, from the name on, and the lines below it.
 fn pool_of(
     alloc: Global,
     at: usize,
@@ -98,8 +98,8 @@ fn pool_of(
     })
 }
 
-/// `build outputs: rule inputs`, from its outputs on, and the lines below it. Its paths and variables are appended to
-/// those of its file.
+/// Reads `build outputs: rule inputs`, from the outputs on, and the lines below it. Its paths and variables are
+/// appended to those of its file.
 fn build_of(
     alloc: Global,
     text: &[u8],
@@ -140,7 +140,7 @@ fn build_of(
     })
 }
 
-/// A build line, from its outputs on, kept among those of its file.
+/// Reads a build line, from its outputs on, and appends it to those of its file.
 fn keep_build(
     alloc: Global,
     text: &[u8],
@@ -161,7 +161,7 @@ fn keep_build(
     Ok(CompactStatement::Build(number))
 }
 
-/// `default targets`, from its targets on, and nothing below it.
+/// Reads `default targets`, from the targets on, and refuses lines below it.
 fn default_of(
     alloc: Global,
     at: usize,
@@ -178,7 +178,7 @@ fn default_of(
     })
 }
 
-/// `include path`, from its path on, and nothing below it.
+/// Reads `include path`, from the path on, and refuses lines below it.
 fn include_of(
     alloc: Global,
     at: usize,
@@ -195,7 +195,7 @@ fn include_of(
     })
 }
 
-/// `subninja path`, from its path on, and nothing below it.
+/// Reads `subninja path`, from the path on, and refuses lines below it.
 fn subninja_of(
     alloc: Global,
     at: usize,
@@ -212,7 +212,7 @@ fn subninja_of(
     })
 }
 
-/// `name = value`, and nothing below it: its place.
+/// Reads `name = value`, refuses lines below it, and returns its place.
 fn binding_of(
     alloc: Global,
     text: &[u8],
@@ -227,7 +227,7 @@ fn binding_of(
     Ok(Span::new(p.at, p.bytes.len())?)
 }
 
-/// A directive that was read, as it is kept.
+/// Boxes a directive that was read.
 fn keep(alloc: Global, read: Result<Directive, ParseFault>) -> Result<CompactStatement, ParseFault>
     ensures read { (text : List ℕ) (lists : BuildLists) (said : Result Statement the_fault.ParseFault) → Meets ParseFault.Memory directive_said read said → Meets ParseFault.Memory (said_in text lists) result said }
     ensures lasts { IfOk result (λ statement. (text : List ℕ) (lists : BuildLists) → Lasts text lists statement) }
@@ -235,8 +235,8 @@ fn keep(alloc: Global, read: Result<Directive, ParseFault>) -> Result<CompactSta
     Ok(CompactStatement::Directive(Box::new(alloc, read?)?))
 }
 
-/// A statement, by the word that it begins with, and the lines below it, kept beside its text. A build line joins those
-/// of its file.
+/// Reads a statement, by the word that it begins with, and the lines below it. Stores it by its places in the
+/// text. A build line is appended to those of its file.
 pub fn statement_of(
     alloc: Global,
     text: &[u8],

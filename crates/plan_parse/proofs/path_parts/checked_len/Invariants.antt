@@ -2,7 +2,7 @@ use Rattle.std.proofs.Common.{◌-◌, length}
 use Rattle.plan_parse.proofs.UnitLemmas.{Walked}
 use Rattle.plan_parse.proofs.path_parts.checked_len.Given as goal
 
--- the path goes on so far
+-- the path continues up to here without a fault
 abbrev pub invariant-loop-unit : goal.invariant-loop-unit
 invariant-loop-unit l = Walked l.p.at l.p.bytes.now l.len
 
