@@ -1,4 +1,5 @@
--- Edges whose paths and texts are rows of all edges. Serves src/manifest/edge_rows.rt and src/edge/build_line.rt.
+-- Edges whose paths and texts are held in rows that all edges share. Used for src/manifest/edge_rows.rt and
+-- src/edge/build_line.rt.
 use Rattle.std.proofs.Common.{◌≡◌, ℕ, ◌<◌, ◌≤◌, List, [], ◌∷◌, ◌++◌, length, map, get_or, refl, ap, sym, subst, ◌∙◌, append_assoc, arith, length-append, Result, Ok, Err}
 use Rattle.std.specs.List.{All}
 use Rattle.std.proofs.lemmas.List.{get_or_append_left, map-append}
@@ -17,10 +18,11 @@ use Rattle.plan_scope.specs.Edge.{Edge}
 use Rattle.plan_scope.specs.Edges.{edge_of, is_present}
 use Rattle.plan_scope.specs.EdgePlaces.{ArePlaced, paths_at}
 use Rattle.plan_scope.specs.EdgeRows.{AreWithin, BeginsEmpty, IsPlaced, edge_at, edge_with, edges_in}
-use Rattle.plan_scope.specs.EdgeAnswers.{AreTexts, GivesEdge, GivesMarks, HasMore, texts_read}
+use Rattle.plan_chunks.specs.Joining.{HasMore}
+use Rattle.plan_scope.specs.EdgeAnswers.{AreTexts, GivesEdge, GivesMarks, texts_read}
 use Rattle.plan_scope.proofs.PathLemmas.{between_more, same_lists}
 
--- the paths of an edge stay where more is put behind them
+-- The paths of an edge stay the same when more paths are appended.
 pub paths_stay : (rows more : List Text) (p : PathPlaces) → ArePlaced (length rows) p → paths_at (rows ++ more) p ≡ paths_at rows p
 paths_stay rows more p h =
     let io = h.implicit_outputs in
@@ -41,7 +43,7 @@ made paths command description depfile pool m = record { paths = paths; command 
 same_made : (p q : PathLists (List Text)) (a b c d w x y z : Text) (m : EdgeMarks) → p ≡ q → a ≡ w → b ≡ x → c ≡ y → d ≡ z → made p a b c d m ≡ made q w x y z m
 same_made p q a b c d w x y z m e f g h i = cc
 
--- and so do its texts
+-- Its texts stay the same too.
 pub edge_stays : (rows more texts others : List Text) (m : EdgeMarks) → IsPlaced (length rows) (length texts) m → edge_at (rows ++ more) (texts ++ others) m ≡ edge_at rows texts m
 edge_stays rows more texts others m h =
     same_made _ _ _ _ _ _ _ _ _ _ m (paths_stay rows more m.paths h.paths)
@@ -50,7 +52,7 @@ edge_stays rows more texts others m h =
     (get_or_append_left texts others [] m.depfile h.depfile)
     (get_or_append_left texts others [] m.pool h.pool)
 
--- edges stay where more is put behind their paths and their texts
+-- Edges stay the same when more paths and texts are appended.
 edges_stay : (rows more texts others : List Text) (ms : List EdgeMarks) → All (IsPlaced (length rows) (length texts)) ms → map (edge_at (rows ++ more) (texts ++ others)) ms ≡ map (edge_at rows texts) ms
 edges_stay rows more texts others [] h = refl
 edges_stay rows more texts others (m ∷ ms) h =
@@ -58,7 +60,7 @@ edges_stay rows more texts others (m ∷ ms) h =
     let rest = edges_stay rows more texts others ms (All-tail (IsPlaced (length rows) (length texts)) m ms h) in
     ap (λ (e : Edge). e ∷ map (edge_at (rows ++ more) (texts ++ others)) ms) first ∙ ap (λ (es : List Edge). edge_at rows texts m ∷ es) rest
 
--- places among fewer rows are such among more
+-- Places that are within fewer rows are within more rows.
 pub placed_wider : (a b : ℕ) (p : PathPlaces) → a ≤ b → ArePlaced a p → ArePlaced b p
 placed_wider a b p w h =
     let e = h.end in
@@ -69,25 +71,25 @@ longer before more now e =
     let whole = ap length e ∙ length-append before more in
     omega (arith, whole)
 
--- a first text that is empty stays so
+-- A first text that is empty stays so.
 pub begins_still : (before now : List Text) → HasMore before now → BeginsEmpty before → BeginsEmpty now
 begins_still before now more b =
     let some = b.some in
     let far = longer before more.0 now more.1 in
     record { some = omega (arith, some, far); none = ap (λ l. get_or l 0 []) more.1 ∙ get_or_append_left before more.0 [] 0 b.some ∙ b.none }
 
--- a text that was put stays
+-- A text that was appended stays the same.
 pub text_stays : (before now : List Text) (n : ℕ) (text : Text) → HasMore before now → (get_or before n [] ≡ text) × (n < length before) → (get_or now n [] ≡ text) × (n < length now)
 text_stays before now n text more h =
     let far = longer before more.0 now more.1 in
     let lt = h.1 in
     (ap (λ l. get_or l n []) more.1 ∙ get_or_append_left before more.0 [] n h.1 ∙ h.0, omega (arith, lt, far))
 
--- what follows twice follows
+-- Rows that got more in each of two steps got more in both together.
 pub more_far : (before mid now : List Text) → HasMore before mid → HasMore mid now → HasMore before now
 more_far before mid now m n = (m.0 ++ n.0, n.1 ∙ ap (λ l. l ++ n.0) m.1 ∙ append_assoc before m.0 n.0)
 
--- one more edge, whose paths and texts were put behind those before
+-- One more edge, whose paths and texts were appended.
 pub edge_put : (before now : EdgeRows) (more others : List Text) (m : EdgeMarks) → now.paths.rows ≡ before.paths.rows ++ more → now.texts ≡ before.texts ++ others
     → now.marks.items ≡ before.marks.items ++ m ∷ [] → AreWithin before → ArePlaced (length now.paths.rows) m.paths → AreTexts (length now.texts) m
     → (edges_in now ≡ edges_in before ++ edge_at now.paths.rows now.texts m ∷ []) × AreWithin now
@@ -110,18 +112,18 @@ edge_put before now more others m p t n within places texts =
       record { marks = subst (All (IsPlaced (length now.paths.rows) (length now.texts))) (sym n) all; empty = begins_still before.texts now.texts (others, t) within.empty },
     )
 
--- an edge whose texts were put
+-- An edge whose texts were appended.
 pub texts_put : (now : List Text) (paths : PathLists (List Text)) (v : Variables) (m : EdgeMarks) → get_or now m.command [] ≡ v.command → get_or now m.description [] ≡ v.description
     → get_or now m.depfile [] ≡ v.depfile → get_or now m.pool [] ≡ v.pool → m.restat ≡ is_present v.restat → m.generator ≡ is_present v.generator → edge_with paths now m ≡ edge_of paths v m.phony
 texts_put now paths v m c d e f r g = cc
 
--- a refusal of an edge's texts is one of the edge
+-- A refusal of an edge's texts is one of the edge.
 pub marks_refused : (paths : PathLists (List Text)) (places : PathPlaces) (old new : List Text) (before now : EdgeRows) (fault : StatementFault) (held meant : Result Edge Cause) → held ≡ meant
     → GivesMarks paths places old new (Err fault) held → GivesEdge before now (Err fault) meant
 marks_refused paths places old new before now (Refused cause) held meant e h = sym e ∙ h
 marks_refused paths places old new before now Memory held meant e h = tt {0}
 
--- an edge whose paths were read and whose texts were put
+-- An edge whose paths were read and whose texts were appended.
 pub edge_given : (before now : EdgeRows) (read : PathTexts) (places : PathPlaces) (m : EdgeMarks) (held meant : Result Edge Cause) → HasMore before.paths.rows now.paths.rows
     → ArePlaced (length now.paths.rows) places → read ≡ texts_read now.paths places → GivesMarks read.paths places before.texts now.texts (Ok m) held → held ≡ meant
     → now.marks.items ≡ before.marks.items ++ m ∷ [] → AreWithin before → GivesEdge before now (Ok (tt {0})) meant

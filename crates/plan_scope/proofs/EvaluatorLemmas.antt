@@ -1,4 +1,4 @@
--- One more statement evaluated. Serves src/manifest/evaluator.rt.
+-- One more statement is evaluated. Used for src/manifest/evaluator.rt.
 use Rattle.std.proofs.Common.{◌≡◌, ◌≢◌, ℕ, ◌+◌, Bool, true, false, ◌||◌, cond, eqb, List, [], ◌∷◌, ◌++◌, length, Option, Some, None, Result, Ok, Err, refl, ap, sym, ◌∙◌, bytes_eq, option_map, append-nil, append_assoc, arith, length-append}
 use Rattle.std.specs.Prelude.{codes, OnOk, flat_map}
 use Rattle.std.proofs.lemmas.List.Concat.{flat_map-append}
@@ -27,23 +27,23 @@ use Rattle.plan_scope.specs.EdgeAnswers.{GivesEdge}
 use Rattle.plan_scope.specs.Outcomes.{Gives}
 use Rattle.plan_scope.proofs.ScopeLemmas.{agrees_more, same_bound}
 
--- names of pools with those of one more statement
+-- The names of pools with those of one more statement.
 pub pools_more : (above : List TreeStatement) (l : TreeStatement) → pools_of (above ++ l ∷ []) ≡ pools_of above ++ pools_in l.kind
 pools_more above l =
     ap (λ (names : List Name). codes "console" ∷ names) (flat_map-append (λ (l : TreeStatement). pools_in l.kind) above (l ∷ []) ∙ ap (λ (names : List Name). flat_map (λ (l : TreeStatement). pools_in l.kind) above ++ names) (append-nil (pools_in l.kind)))
 
--- the same names, with the same behind them
+-- The same names, followed by the same names.
 names_behind : (held meant more : List Name) → EqNames held meant → EqNames (held ++ more) (meant ++ more)
 names_behind held meant more same n =
     list_any-append (bytes_eq n) held more ∙ (ap (λ (t : Bool). t || is_among more n) (same n) ∙ sym (list_any-append (bytes_eq n) meant more))
 
--- the names of the pools of one more statement
+-- The names of the pools of one more statement.
 pub pools_taken : (above : List TreeStatement) (l : TreeStatement) (held now : List Name) → EqNames held (pools_of above)
     → ((n : Name) → is_among now n ≡ is_among (held ++ pools_in l.kind) n) → EqNames now (pools_of (above ++ l ∷ []))
 pools_taken above l held now same h n =
     h n ∙ (names_behind held (pools_of above) (pools_in l.kind) same n ∙ ap (λ names. is_among names n) (sym (pools_more above l)))
 
--- the own scope of a statement
+-- The own scope of a statement.
 pub own_bound : {V : Type 0} (scopes : List ℕ) (own : ℕ) (word name : Name) (v w : V) → own_of scopes ≡ Some own → word ≡ name → v ≡ w → (own, (word, v)) ∷ [] ≡ in_own scopes name w
 own_bound [] own word name v w e f g = cc
 own_bound (o ∷ outer) own word name v w e f g = cc
@@ -52,7 +52,7 @@ none_bound : {V : Type 0} (scopes : List ℕ) (name : Name) (v : V) → own_of s
 none_bound [] name v e = refl
 none_bound (o ∷ outer) name v e = cc
 
--- what a manifest has behind one more edge, pool or some more targets
+-- A manifest after one more edge, one more pool or more targets.
 edge_behind : (edges now : List Edge) (pools : List Pool) (defaults : List DefaultTarget) (edge : Edge) → now ≡ edges ++ edge ∷ []
     → record { edges = now; pools = pools; defaults = defaults } ≡ with_more (record { edges = edges; pools = pools; defaults = defaults }) (edge_alone edge)
 edge_behind edges now pools defaults edge e =
@@ -66,12 +66,12 @@ edge_more before now pools defaults (Ok done) meant g = (edge_alone g.0, ap (map
 edge_more before now pools defaults (Err (Refused cause)) meant g = ap (map_ok edge_alone) g
 edge_more before now pools defaults (Err Memory) meant g = tt {0}
 
--- edges that lie within their rows do so with one more
+-- Edges that are within their rows stay so with one more edge.
 pub given_within : (before now : EdgeRows) (r : Result (Unit {0}) StatementFault) (meant : Result Edge Cause) → (AreWithin before → GivesEdge before now r meant) → OnOk r (AreWithin before → AreWithin now)
 given_within before now (Ok done) meant g = λ w. (g w).3
 given_within before now (Err fault) meant g = tt {0}
 
--- two facts of an answer
+-- A conclusion from two facts that hold for an Ok.
 pub on_ok_both : {E : Type 0} {P Q R : Type 0} (r : Result (Unit {0}) E) → (P → Q → R) → OnOk r P → OnOk r Q → OnOk r R
 on_ok_both (Ok x) f p q = f p q
 on_ok_both (Err e) f p q = tt {0}
@@ -83,7 +83,7 @@ pool_behind edges pools now defaults pool e =
     ∙ (ap (λ (l : List Edge). record { edges = l; pools = pools ++ pool ∷ []; defaults = defaults }) (sym (append-nil edges))
     ∙ ap (λ (l : List DefaultTarget). record { edges = edges ++ []; pools = pools ++ pool ∷ []; defaults = l }) (sym (append-nil defaults)))
 
--- some more targets
+-- More targets.
 pub targets_behind : (edges : List Edge) (pools : List Pool) (defaults now targets : List DefaultTarget) → now ≡ defaults ++ targets
     → record { edges = edges; pools = pools; defaults = now } ≡ with_more (record { edges = edges; pools = pools; defaults = defaults }) (defaults_alone targets)
 targets_behind edges pools defaults now targets e =
@@ -91,19 +91,19 @@ targets_behind edges pools defaults now targets e =
     ∙ (ap (λ (l : List Edge). record { edges = l; pools = pools; defaults = defaults ++ targets }) (sym (append-nil edges))
     ∙ ap (λ (l : List Pool). record { edges = edges ++ []; pools = l; defaults = defaults ++ targets }) (sym (append-nil pools)))
 
--- a statement that gives nothing changes nothing
+-- A statement that adds nothing changes nothing.
 pub nothing_behind : (m : Manifest) → m ≡ with_more m empty_manifest
 nothing_behind m =
     ap (λ (l : List Edge). record { edges = l; pools = m.pools; defaults = m.defaults }) (sym (append-nil m.edges))
     ∙ (ap (λ (l : List Pool). record { edges = m.edges ++ []; pools = l; defaults = m.defaults }) (sym (append-nil m.pools))
     ∙ ap (λ (l : List DefaultTarget). record { edges = m.edges ++ []; pools = m.pools ++ []; defaults = l }) (sym (append-nil m.defaults)))
 
--- a fault stays one
+-- A fault stays a fault.
 pub fault_kept : {A : Type 0} (f : A → Manifest) (before now : Manifest) (fault : StatementFault) (meant : Result A Cause) → Gives {A = A} (Err fault) meant → GivesMore before now (Err fault) (map_ok f meant)
 fault_kept f before now (Refused cause) meant e = ap (map_ok f) e
 fault_kept f before now Memory meant e = tt
 
--- what no statement gives
+-- The results before the first statement.
 pub fits_none : (bound : ScopedBindings Text) (rules : ScopedBindings (Bindings (List Piece))) (names : List Name) (marks : List EdgeMarks) → bound ≡ [] → rules ≡ [] → ((n : Name) → is_among names n ≡ is_among (codes "console" ∷ []) n) → marks ≡ []
     → KeptEqScoped bound (bound_by []) × EqScoped rules (rules_of []) × EqNames names (pools_of []) × (length marks ≡ length (builds_of []))
 fits_none bound rules names marks e f g h = (
@@ -113,7 +113,7 @@ fits_none bound rules names marks e f g h = (
   ap (λ (l : List EdgeMarks). length l) h,
 )
 
--- the manifest of no statement has the pool `console` alone
+-- The manifest of no statement has only the pool `console`.
 pub manifest_alone : (edges : List Edge) (before pools : List Pool) (defaults : List DefaultTarget) (name : Name) → edges ≡ [] → before ≡ [] → pools ≡ before ++ record { name = name; depth = 1 } ∷ [] → name ≡ codes "console" → defaults ≡ []
     → record { edges = edges; pools = pools; defaults = defaults } ≡ pool_alone console
 manifest_alone edges before pools defaults name e f g h k =
@@ -142,7 +142,7 @@ frame_append {V} s (x ∷ a) b =
     ap (λ (rest : Bindings V). cond (eqb x.0 s) (x.1 ∷ rest) rest) (frame_append s a b)
     ∙ elim (eqb x.0 s) as (λ t. cond t (x.1 ∷ (frame s a ++ frame s b)) (frame s a ++ frame s b) ≡ cond t (x.1 ∷ frame s a) (frame s a) ++ frame s b) [ true ↦ refl | false ↦ refl ]
 
--- the same values, with the same behind them
+-- The same values, followed by the same values.
 same_behind : {V : Type 0} (held meant more : ScopedBindings V) → EqScoped held meant → EqScoped (held ++ more) (meant ++ more)
 same_behind {V} held meant more same s n =
     ap (last_of n) (frame_append s held more) ∙ (last_of_append n (frame s held) (frame s more)
@@ -158,17 +158,17 @@ rules_more : (above : List TreeStatement) (l : TreeStatement) → rules_of (abov
 rules_more above l =
     flat_map-append (λ (l : TreeStatement). rules_in l.scopes l.kind) above (l ∷ []) ∙ ap (λ (x : ScopedBindings (Bindings (List Piece))). rules_of above ++ x) (append-nil (rules_in l.scopes l.kind))
 
--- the build lines of one more statement
+-- The build lines of one more statement.
 pub builds_more : (above : List TreeStatement) (l : TreeStatement) → length (builds_of (above ++ l ∷ [])) ≡ length (builds_of above) + length (builds_in l.kind)
 builds_more above l =
     ap (λ (x : List Build). length x) (flat_map-append (λ (l : TreeStatement). builds_in l.kind) above (l ∷ []) ∙ ap (λ (x : List Build). builds_of above ++ x) (append-nil (builds_in l.kind)))
     ∙ length-append (builds_of above) (builds_in l.kind)
 
--- what is known of some statements: what is bound, the rules, the pools, the number of build lines
+-- The facts of statements: their bindings, their rules, their pools, and the number of their build lines.
 abbrev pub Known : ScopedBindings Text → ScopedBindings (Bindings (List Piece)) → List Name → ℕ → List TreeStatement → Type 0
 Known bound rules names count above = KeptEqScoped bound (bound_by above) × EqScoped rules (rules_of above) × EqNames names (pools_of above) × (count ≡ length (builds_of above))
 
--- the same with one more statement
+-- The same with one more statement.
 pub known_more : (bound : ScopedBindings Text) (rules held : ScopedBindings (Bindings (List Piece))) (names names_held : List Name) (count count_held : ℕ) (above : List TreeStatement) (l : TreeStatement) (k : StatementKind) → l.kind ≡ k
     → KeptEqScoped bound (bound_by above ++ bound_in (bound_by above) l.scopes k)
     → EqScoped held (rules_of above) → EqScoped rules (held ++ rules_in l.scopes k)
@@ -188,15 +188,15 @@ known_more bound rules held names names_held count count_held above l k e f g h 
   n ∙ (ap (λ (c : ℕ). c + length (builds_in k)) m ∙ (ap (λ (y : StatementKind). length (builds_of above) + length (builds_in y)) (sym e) ∙ sym (builds_more above l))),
 )
 
--- nothing behind values changes none
+-- Appending nothing changes no value.
 pub same_end : {V : Type 0} (held : ScopedBindings V) → EqScoped held (held ++ [])
 same_end {V} held s n = ap (λ (bs : ScopedBindings V). last_of n (frame s bs)) (sym (append-nil held))
 
--- nothing behind names changes none
+-- Appending nothing changes no name.
 pub names_end : (names : List Name) (n : Name) → is_among names n ≡ is_among (names ++ []) n
 names_end names n = ap (λ (ns : List Name). is_among ns n) (sym (append-nil names))
 
--- with one more statement that tells nothing of these
+-- The same with one more statement that changes none of these facts.
 pub known_same : (bound : ScopedBindings Text) (rules : ScopedBindings (Bindings (List Piece))) (names : List Name) (count : ℕ) (above : List TreeStatement) (l : TreeStatement) (k : StatementKind) → l.kind ≡ k
     → bound_in (bound_by above) l.scopes k ≡ [] → rules_in l.scopes k ≡ [] → pools_in k ≡ [] → builds_in k ≡ []
     → KeptEqScoped bound (bound_by above) → EqScoped rules (rules_of above) → EqNames names (pools_of above) → count ≡ length (builds_of above)
@@ -208,12 +208,12 @@ known_same bound rules names count above l k e f g h i agrees same known counted
     known (λ n. names_end names n ∙ ap (λ (ns : List Name). is_among (names ++ ns) n) (sym h))
     counted (let z : length (builds_in k) ≡ 0 = ap (λ (b : List Build). length b) i in omega (arith, z))
 
--- the edge of a build line by the same rules
+-- The edge of a build line is the same if the rules are.
 pub built_same : (names : List Name) (held rules : ScopedBindings (Bindings (List Piece))) (scopes : List ℕ) (h f : Name → Text) (b : Build) → EqScoped held rules → edge_of_build names held scopes h f b ≡ edge_of_build names rules scopes h f b
 built_same names held rules scopes h f b same =
     ap (λ (o : Option (Bindings (List Piece))). cond (bytes_eq b.rule (codes "phony")) (edge_or_refusal names h b (phony_variables (environment_of h f b [])) true) (edge_of_rule names h f b o)) (same_nearest held rules same scopes b.rule)
 
--- what holds anyway holds of an Ok
+-- A fact that holds in any case holds for an Ok.
 pub on_ok_always : {T E P : Type 0} (r : Result T E) → P → OnOk r P
 on_ok_always (Ok x) p = p
 on_ok_always (Err e) p = tt
@@ -228,7 +228,7 @@ front_more : (before given : Manifest) (l : TreeStatement) (more : Result Manife
 front_more before given l (Ok more) = ap (λ (m : Manifest). Ok m) (with_more_assoc before given more)
 front_more before given l (Err e) = refl
 
--- one more statement that is well
+-- One more statement that succeeds.
 pub next_given : (all above : List TreeStatement) (l : TreeStatement) (rest next : List TreeStatement) (before now : Manifest) (meant : Result Manifest ScopeFault) → rest ≡ l ∷ next
     → GivesMore before now (Ok tt) (manifest_of_kind all above l.scopes l.kind)
     → with_front before (manifest_past all above rest) ≡ meant
@@ -240,7 +240,7 @@ next_given all above l rest next before now meant e g h =
     ∙ (ap (λ (r : Result Manifest Cause). with_front before (in_front l r more)) (sym g.1)
     ∙ (ap (λ (x : List TreeStatement). with_front before (manifest_past all above x)) (sym e) ∙ h)))
 
--- a statement that is refused
+-- A statement that is refused.
 pub fault_given : (all above : List TreeStatement) (l : TreeStatement) (rest next : List TreeStatement) (before now : Manifest) (meant : Result Manifest ScopeFault) (fault : StatementFault) (r : ScopeFault) → rest ≡ l ∷ next
     → GivesMore before now (Err fault) (manifest_of_kind all above l.scopes l.kind)
     → with_front before (manifest_past all above rest) ≡ meant

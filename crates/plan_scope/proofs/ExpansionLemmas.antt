@@ -1,4 +1,4 @@
--- A text that is found in steps is the one that is found by names in use. Serves src/edge/expansion.rt.
+-- A text that is found in steps is the one that is found with names in use. Used for src/edge/expansion.rt.
 use Rattle.std.proofs.Common.{◌≡◌, ℕ, zero, suc, ◌≤◌, Bool, true, false, ◌||◌, List, [], ◌∷◌, Option, Some, None, refl, ap, sym, subst, ◌∙◌, bytes_eq, arith}
 use Rattle.std.specs.List.{list_any}
 use Rattle.std.proofs.lemmas.Slice.Eq.{bytes_eq-Decides}
@@ -8,12 +8,12 @@ use Rattle.plan_scope.specs.Scopes.{Text, Name}
 use Rattle.plan_scope.specs.Expansion.{Meaning, Known, Late, both, text_of_piece, joined, text_of, text_within}
 use Rattle.plan_scope.specs.Memo.{text_by}
 
--- a text that is known
+-- A text that is known.
 within_known : (meaning : Name → Meaning) (n : ℕ) (in_use : List Name) (name : Name) (t : Text) → meaning name ≡ Known t → text_within n meaning in_use name ≡ Some t
 within_known meaning zero in_use name t e = ap (λ m. text_of m true (λ pieces. None)) e
 within_known meaning (suc n) in_use name t e = ap (λ m. text_of m (list_any (bytes_eq name) in_use) (joined (text_within n meaning (name ∷ in_use)))) e
 
--- each text that the first gives, the second gives
+-- The second gives each text that the first gives.
 abbrev Less : {X : Type 0} → (X → Option Text) → (X → Option Text) → Type 0
 Less {X} f g = (x : X) (t : Text) → f x ≡ Some t → g x ≡ Some t
 
@@ -31,7 +31,7 @@ joined_more : (f g : Name → Option Text) → Less f g → (ps : List Piece) (t
 joined_more f g h [] t e = e
 joined_more f g h (p ∷ ps) t e = both_more (text_of_piece f p) (joined f ps) (text_of_piece g p) (joined g ps) (piece_more f g h p) (joined_more f g h ps) t e
 
--- what is met less often in use
+-- A text stays the same if its name is no longer in use.
 meant_more : (a : Meaning) (s : Bool) (f g : List Piece → Option Text) → Less f g → (t : Text) → text_of a s f ≡ Some t → text_of a false g ≡ Some t
 meant_more (Known x) s f g h t e = e
 meant_more (Late ps) true f g h t e = cc
@@ -41,7 +41,7 @@ none_more : (a : Meaning) (g : List Piece → Option Text) (t : Text) → text_o
 none_more (Known x) g t e = e
 none_more (Late ps) g t e = cc
 
--- more steps give the same text
+-- More steps give the same text.
 pub by_more : (m : Name → Meaning) (n k : ℕ) → n ≤ k → Less (text_by n m) (text_by k m)
 by_more m zero zero le x t e = e
 by_more m zero (suc k) le x t e = none_more (m x) (joined (text_by k m)) t e
@@ -49,13 +49,13 @@ by_more m (suc n) zero le x t e = let f : ⊥ = omega arith in absurd f
 by_more m (suc n) (suc k) le x t e =
     meant_more (m x) false (joined (text_by n m)) (joined (text_by k m)) (joined_more (text_by n m) (text_by k m) (by_more m n k (omega arith))) t e
 
--- names in use find no other text
+-- A text that is found with names in use is found in steps too.
 within_by : (m : Name → Meaning) (n : ℕ) (used : List Name) → Less (text_within n m used) (text_by n m)
 within_by m zero used x t e = e
 within_by m (suc n) used x t e =
     meant_more (m x) (list_any (bytes_eq x) used) (joined (text_within n m (x ∷ used))) (joined (text_by n m)) (joined_more (text_within n m (x ∷ used)) (text_by n m) (within_by m n (x ∷ used))) t e
 
--- none of these names has a text
+-- None of these names has a text.
 abbrev NoneOf : (Name → Option Text) → List Name → Type 0
 NoneOf f [] = Unit {0}
 NoneOf f (u ∷ us) = (f u ≡ None) × NoneOf f us
@@ -107,7 +107,7 @@ step_found m j (suc n) used x t (Some y) e le ih free h =
     let same : text_by j m x ≡ Some t = e ∙ (sym more ∙ h) in
     ih (suc n) (omega arith) used (none_less (text_by j m) (text_by (suc j) m) (by_more m j (suc j) (omega arith)) used free) x t same
 
--- Where no name in use has a text within so many steps, none is met on the way to one that has.
+-- If no name in use has a text within a number of steps, none is met on the way to a name that has one.
 by_within : (m : Name → Meaning) (k : ℕ) → Finds m k
 by_within m zero n le used free x t e = at_none m n used x t (m x) refl e
 by_within m (suc j) n le used free x t e = step_found m j n used x t (text_by j m x) refl le (by_within m j) free e
@@ -117,14 +117,14 @@ equal_by None None h k = refl
 equal_by None (Some y) h k = k y refl
 equal_by (Some x) b h k = sym (h x refl)
 
--- a text that no name in use stands before is found in as many steps
+-- If no name is in use, the same texts are found in the same number of steps.
 pub within_is_by : (m : Name → Meaning) (n : ℕ) (x : Name) → text_within n m [] x ≡ text_by n m x
 within_is_by m n x = equal_by (text_within n m [] x) (text_by n m x) (within_by m n [] x) (by_within m n n (omega arith) [] (tt {0}) x)
 
--- more steps give a piece the same text
+-- More steps give a piece the same text.
 pub piece_by : (m : Name → Meaning) (n k : ℕ) → n ≤ k → (p : Piece) (t : Text) → text_of_piece (text_by n m) p ≡ Some t → text_of_piece (text_by k m) p ≡ Some t
 piece_by m n k le = piece_more (text_by n m) (text_by k m) (by_more m n k le)
 
--- more steps give pieces the same text
+-- More steps give pieces the same text.
 pub joined_by : (m : Name → Meaning) (n k : ℕ) → n ≤ k → (ps : List Piece) (t : Text) → joined (text_by n m) ps ≡ Some t → joined (text_by k m) ps ≡ Some t
 joined_by m n k le = joined_more (text_by n m) (text_by k m) (by_more m n k le)

@@ -8,6 +8,7 @@ pub mod PlainTable
 pub mod MemoLemmas
 pub mod CompiledLemmas
 pub mod PathLemmas
+pub mod TextListLemmas
 pub mod EdgeRowLemmas
 pub mod PathPartLemmas
 pub mod VariableLemmas

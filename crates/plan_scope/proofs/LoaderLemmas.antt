@@ -1,4 +1,4 @@
--- What is loaded, piece by piece. Serves src/tree/loader.rt.
+-- Loading, step by step. Used for src/tree/loader.rt.
 use Rattle.std.proofs.Common.{◌≡◌, ◌≢◌, ℕ, zero, suc, ◌+◌, ◌-◌, ◌<◌, ◌≤◌, inl, inr, Bool, true, false, ◌==◌, List, [], ◌∷◌, ◌++◌, length, map, Option, Some, None, Result, Ok, Err, refl, ap, sym, subst, ◌∙◌, option_map, get_or, take, drop, arith}
 use Rattle.std.specs.Prelude.{slice_get}
 use Rattle.std.proofs.Math.Seq.{take-length}
@@ -37,8 +37,8 @@ use Rattle.plan_scope.proofs.ListLemmas.{dropped_at}
 use Rattle.plan_scope.proofs.RuleLemmas.{by_rules}
 use Rattle.plan_scope.proofs.TextLemmas.{Same, same_from_kept}
 
--- What holds between two statements of a file: no read failed, the source answers as before, and the statements so far
--- are loaded.
+-- The invariant between two statements of a file: no read failed, the source may return the same as before, and the
+-- statements so far are loaded.
 pub record LoadsSoFar (gives gives_now : FileContents) (fails fails_now : PathSet) (before now left : ℕ) (f : File) (above so_far : List TreeStatement) (start : ℕ) : Type 0 where
   pub unfailed : now ≡ before
   pub same : SameFiles gives_now fails_now gives fails
@@ -57,7 +57,7 @@ statement_wider answers wide next more t n above l None None out r = n (above ++
 statement_wider answers wide next more t n above l None (Some file) out r =
     (r.0, t file (scopes_in above l.scopes l.kind) above r.0 r.1, goes_wider next more r.0 out n r.2)
 
--- what includes more files loads as much
+-- If the answers for included files allow more, each load stays allowed.
 all_wider : (answers wide : FileAnswers) → ((path : Text) (scopes : List ℕ) (above : List TreeStatement) (out : Outcome) → answers path scopes above out → wide path scopes above out)
     → (left : ℕ) (path : Text) (scopes : List ℕ) (statements : List Statement) (above : List TreeStatement) (out : Outcome)
     → LoadsStatements answers left path scopes above statements out → LoadsStatements wide left path scopes above statements out
@@ -80,7 +80,7 @@ file_wider g h m n answers wide left gh mn t path scopes above out (inl r) = inl
 file_wider g h m n answers wide left gh mn t path scopes above out (inr r) =
     inr (r.0, gh path (Some r.0) r.1, parsed_wider answers wide t left path scopes above (statements_of r.0) out r.2)
 
--- what gives more, or misses more, loads as much
+-- If a source may return more, or more files may be missing, each load stays allowed.
 within_wider : (g h : FileContents) (m n : PathSet) → ((p : Text) (bytes : Option (List ℕ)) → g p bytes → h p bytes) → ((p : Text) → m p → n p)
     → (left : ℕ) (path : Text) (scopes : List ℕ) (above : List TreeStatement) (out : Outcome) → LoadsWithin g m left path scopes above out → LoadsWithin h n left path scopes above out
 unfolding LoadsWithin
@@ -103,14 +103,14 @@ missing_wider : (g h : FileContents) (f k : PathSet) (b c n : ℕ) → ((p : Tex
 missing_wider g h f k b c n gh fk e p (inl r) = inl (gh p None r.0, r.1 ∙ e)
 missing_wider g h f k b c n gh fk e p (inr r) = inr (fk p r.0, r.1 ∙ ap (λ (x : ℕ). x + 1) e)
 
--- such sources, one after the other
+-- If a source may return the same after each of two steps, it may after both.
 pub same_files : (g h i : FileContents) (e f k : PathSet) → SameFiles g e h f → SameFiles h f i k → SameFiles g e i k
 same_files g h i e f k a b = (
   λ p bytes. (λ x. (b.0 p bytes).0 ((a.0 p bytes).0 x), λ x. (a.0 p bytes).1 ((b.0 p bytes).1 x)),
   λ p. (λ x. (b.1 p).0 ((a.1 p).0 x), λ x. (a.1 p).1 ((b.1 p).1 x)),
 )
 
--- an answer by what is loaded, where the same count of failed reads stood before
+-- An answer stays allowed if the count of failed reads was the same before.
 answers_wider : (g h : FileContents) (f k : PathSet) (b c n : ℕ) (R S : PathSet → Outcome → Type 0) (result : Outcome) → ((p : Text) (bytes : Option (List ℕ)) → g p bytes → h p bytes) → ((p : Text) → f p → k p) → b ≡ c
     → ((m o : PathSet) → ((p : Text) → m p → o p) → R m result → S o result) → Answers g f b n R result → Answers h k c n S result
 answers_wider g h f k b c n R S (Ok statements) gh fk e w r = (r.0 ∙ e, w never never (λ p x. x) r.1)
@@ -120,18 +120,18 @@ answers_wider g h f k b c n R S (Err (Parse path fault)) gh fk e w r = (r.0 ∙ 
 answers_wider g h f k b c n R S (Err (Refused path offset cause)) gh fk e w r = (r.0 ∙ e, w never never (λ p x. x) r.1)
 answers_wider g h f k b c n R S (Err Memory) gh fk e w r = (r.0 ∙ e, w never never (λ p x. x) r.1)
 
--- a file that is missing
+-- A file that is missing.
 pub missing_file : (g : FileContents) (f : PathSet) (b n left : ℕ) (asked path : Text) (scopes : List ℕ) (above : List TreeStatement) → asked ≡ path → IsMissing g f b n asked → LoadsWithin g (IsMissing g f b n) left path scopes above (Err (SourceMissing path))
 missing_file g f b n left asked path scopes above e r = file_is g (IsMissing g f b n) left path scopes above (Err (SourceMissing path)) (inl (refl, subst (IsMissing g f b n) e r))
 
--- a file that is no list of statements
+-- A file whose bytes aren't a list of statements.
 pub unparsed_file : (g : FileContents) (left : ℕ) (asked path : Text) (scopes : List ℕ) (above : List TreeStatement) (fault : ParseFault) → asked ≡ path
     → ((bytes : List ℕ) × g asked (Some bytes) × (statements_of bytes ≡ Err fault)) → LoadsWithin g never left path scopes above (Err (Parse path fault))
 unparsed_file g left asked path scopes above fault e r =
     file_is g never left path scopes above (Err (Parse path fault))
     (inr (r.0, subst (λ (p : Text). g p (Some r.0)) e r.1, subst (λ (x : Result (List Statement) ParseFault). LoadsParsed (includes g never left) left path scopes above x (Err (Parse path fault))) (sym r.2) refl))
 
--- a file with these statements
+-- A file with these statements.
 pub parsed_file : (g h : FileContents) (f k : PathSet) (b c n left : ℕ) (asked path : Text) (scopes : List ℕ) (above : List TreeStatement) (statements : List Statement) (result : Outcome) → asked ≡ path
     → ((p : Text) (bytes : Option (List ℕ)) → g p bytes → h p bytes) → ((p : Text) → f p → k p) → b ≡ c
     → ((bytes : List ℕ) × h asked (Some bytes) × (statements_of bytes ≡ Ok statements))
@@ -157,7 +157,7 @@ statement_then answers next more above l statements out h (Some cause) file r = 
 statement_then answers next more above l statements out h None None r = h (above ++ l ∷ []) r
 statement_then answers next more above l statements out h None (Some file) r = (r.0, r.1, goes_then next more r.0 statements out h r.2)
 
--- statements, and those behind them
+-- Statements, followed by others.
 pub all_then : (answers : FileAnswers) (left : ℕ) (path : Text) (scopes : List ℕ) (front back : List Statement) (above statements : List TreeStatement) (out : Outcome)
     → LoadsStatements answers left path scopes above front (Ok statements) → LoadsStatements answers left path scopes statements back out → LoadsStatements answers left path scopes above (front ++ back) out
 all_then answers left path scopes [] back above statements out r q =
@@ -172,7 +172,7 @@ goes_stop : (more : RestAnswers) (inner : Outcome) (fault : ScopeFault) → Goes
 goes_stop more (Ok statements) fault r = cc
 goes_stop more (Err other) fault r = r
 
--- the fault of a statement is that of all
+-- A fault of a statement is the fault of the whole file.
 one_stops : (answers : FileAnswers) (more : RestAnswers) (above : List TreeStatement) (l : TreeStatement) (fault : ScopeFault) (cause : Option Cause) (file : Option Text)
     → LoadsStatement answers (λ statements out. out ≡ Ok statements) above l cause file (Err fault) → LoadsStatement answers more above l cause file (Err fault)
 one_stops answers more above l fault (Some cause) file r = r
@@ -185,7 +185,7 @@ one_wider g h m n gh mn left above l out r =
     statement_wider (includes g m left) (includes h n left) (λ statements o. o ≡ Ok statements) (λ statements o. o ≡ Ok statements) (includes_wider g h m n gh mn left) (λ statements o x. x) above l
     (cause_to_load left (lookup (bound_by above) l.scopes) l.kind) (included_by (lookup (bound_by above) l.scopes) l.kind) out r
 
--- one more statement is loaded
+-- One more statement is loaded.
 goes_on : (g h : FileContents) (left : ℕ) (path : Text) (scopes : List ℕ) (front : List Statement) (s : Statement) (above mid statements : List TreeStatement)
     → ((p : Text) (bytes : Option (List ℕ)) → g p bytes → h p bytes)
     → LoadsStatements (includes h never left) left path scopes above front (Ok mid)
@@ -195,7 +195,7 @@ goes_on g h left path scopes front s above mid statements gh r q =
     all_then (includes h never left) left path scopes front (s ∷ []) above mid (Ok statements) r
     (one_wider g h never never gh (λ p x. x) left mid (record { path = path; scopes = scopes; offset = s.offset; kind = s.kind }) (Ok statements) q)
 
--- a statement is not loaded
+-- A statement isn't loaded.
 stops : (g h : FileContents) (f k : PathSet) (b c n left : ℕ) (path : Text) (scopes : List ℕ) (front : List Statement) (s : Statement) (back all : List Statement) (above mid : List TreeStatement) (fault : ScopeFault)
     → ((p : Text) (bytes : Option (List ℕ)) → g p bytes → h p bytes) → ((p : Text) → f p → k p) → b ≡ c → front ++ s ∷ back ≡ all
     → LoadsStatements (includes h never left) left path scopes above front (Ok mid)
@@ -211,7 +211,7 @@ stops g h f k b c n left path scopes front s back all above mid fault gh fk e w 
     (cause_to_load left (lookup (bound_by mid) scopes) s.kind) (included_by (lookup (bound_by mid) scopes) s.kind)
     (one_wider g h m wide gh mw left mid l (Err fault) x)))) a
 
--- a fault, by what is loaded whatever is missing
+-- A fault, whatever files are missing.
 fault_answer : (h : FileContents) (k : PathSet) (c n : ℕ) (R : PathSet → Outcome → Type 0) (fault : ScopeFault) → n ≡ c → ((m : PathSet) → fault ≢ LoadMemory → R m (Err fault)) → Answers h k c n R (Err fault)
 fault_answer h k c n R LoadMemory e r = e
 fault_answer h k c n R (SourceMissing path) e r = r (IsMissing h k c n) (λ x. cc)
@@ -219,7 +219,7 @@ fault_answer h k c n R (Parse path fault) e r = (e, r never (λ x. cc))
 fault_answer h k c n R (Refused path offset cause) e r = (e, r never (λ x. cc))
 fault_answer h k c n R Memory e r = (e, r never (λ x. cc))
 
--- items up to one number, and those up to another
+-- Items up to one number, followed by those up to another.
 take_then : {X : Type 0} (start end : ℕ) (xs : List X) → start ≤ end → end ≤ length xs → take start xs ++ between start end xs ≡ take end xs
 take_then start end xs le lt =
     let f : length (take end xs) ≡ end = length-take-le end xs lt in
@@ -227,11 +227,11 @@ take_then start end xs le lt =
     (ap (take start) (sym (take-append-drop end xs)) ∙ take-append-le start (take end xs) (drop end xs) (omega (arith, f, le)))
     ∙ take-append-drop start (take end xs)
 
--- statements that include no file, whatever may be included
+-- Statements that include no file, whatever may be included.
 from_none : (answers : FileAnswers) (left : ℕ) (path : Text) (scopes : List ℕ) (statements : List Statement) (above : List TreeStatement) (out : Outcome) → LoadsStatements no_files left path scopes above statements out → LoadsStatements answers left path scopes above statements out
 from_none answers left path scopes statements above out r = all_wider no_files answers (λ p s a o x. absurd x) left path scopes statements above out r
 
--- statements that include no file, behind those so far
+-- Statements that include no file, after those so far.
 up_to_more : (h : FileContents) (left : ℕ) (f : File) (start end : ℕ) (above mid statements : List TreeStatement) → start ≤ end → end ≤ length f.parsed.value.statements
     → LoadsStatements (includes h never left) left f.path f.scopes above (take start (statements_in f.parsed.value)) (Ok mid)
     → LoadsBetween f start end mid (Ok statements)
@@ -243,7 +243,7 @@ up_to_more h left f start end above mid statements le lt r q =
     (all_then (includes h never left) left f.path f.scopes (take start all) (between start end all) above mid (Ok statements) r
     (from_none (includes h never left) left f.path f.scopes (between start end all) mid (Ok statements) (q left)))
 
--- no statement behind those so far includes a file
+-- No statement after those so far includes a file.
 pub up_to_ends : (h : FileContents) (left : ℕ) (f : File) (start : ℕ) (above mid statements : List TreeStatement) (include : Option Include) → include ≡ None → start ≤ length f.parsed.value.statements
     → LoadsStatements (includes h never left) left f.path f.scopes above (take start (statements_in f.parsed.value)) (Ok mid)
     → LoadsBetween f start (end_of f include) mid (Ok statements)
@@ -255,7 +255,7 @@ up_to_ends h left f start above mid statements include e le r q =
     subst (λ (x : List Statement). LoadsStatements (includes h never left) left f.path f.scopes above x (Ok statements)) (ap (λ (n : ℕ). take n all) (sym same) ∙ take-length all)
     (up_to_more h left f start count above mid statements le (omega arith) r (subst (λ (o : Option Include). LoadsBetween f start (end_of f o) mid (Ok statements)) e q))
 
--- a fault of a statement that includes no file, behind those so far
+-- A fault of a statement that includes no file, after those so far.
 pub up_to_stops : (h : FileContents) (k : PathSet) (c n left : ℕ) (f : File) (start : ℕ) (above mid : List TreeStatement) (fault : ScopeFault) → n ≡ c
     → LoadsStatements (includes h never left) left f.path f.scopes above (take start (statements_in f.parsed.value)) (Ok mid)
     → (fault ≢ LoadMemory → LoadsFrom f start mid (Err fault))
@@ -268,7 +268,7 @@ up_to_stops h k c n left f start above mid fault e r q =
     (all_wider (includes h never left) (includes h m left) (includes_wider h h never m (λ p bytes x. x) (λ p x. absurd x) left) left f.path f.scopes (take start all) above (Ok mid) r)
     (from_none (includes h m left) left f.path f.scopes (drop start all) mid (Err fault) (q not left))))
 
--- the statement of a file that stands at this place
+-- The statement of a file at this place.
 abbrev StandsAt : File → ℕ → TreeStatement → Type 0
 StandsAt f place l = (c : CompactStatement) × (get_or f.parsed.value.statements place c ≡ c) × (l ≡ statement_at f c)
 
@@ -279,7 +279,7 @@ stands_at f place l e = found (slice_get f.parsed.value.statements place) refl (
     found None is e = cc
     found (Some c) is e = let same : statement_at f c ≡ l = cc in (c, get_or_from_slice_get f.parsed.value.statements place c c is, sym same)
 
--- a statement that includes a file sees what its file does
+-- A statement that includes a file sees the scopes of its file.
 pub included_scopes : (f : File) (start : ℕ) (include : Option Include) (i : Include) → include ≡ Some i → IsNext f start include → 0 < length f.scopes → 0 < length i.statement.scopes
 included_scopes f start include i e next lt =
     let at : IsInclude f start i = subst (λ (o : Option Include). IsNext f start o) e next in
@@ -289,11 +289,11 @@ included_scopes f start include i e next lt =
 pub next_is : (f : File) (start : ℕ) (include : Option Include) (i : Include) → include ≡ Some i → IsNext f start include → IsInclude f start i
 next_is f start include i e next = subst (λ (o : Option Include). IsNext f start o) e next
 
--- the item at a place, seen by a function
+-- The item at a place, under a function.
 seen_at : {X Y : Type 0} (g : X → Y) (xs : List X) (n : ℕ) (x : X) → n < length xs → get_or xs n x ≡ x → get_or (map g xs) n (g x) ≡ g x
 seen_at g xs n x lt e = get_or-map g xs n x (g x) lt ∙ ap g e
 
--- statements that include no file, behind those so far, and one that includes a file
+-- Statements that include no file, after those so far, and then one that includes a file.
 pub include_more : (g h : FileContents) (left : ℕ) (f : File) (start : ℕ) (include : Option Include) (i : Include) (above mid plain statements : List TreeStatement) → ((p : Text) (bytes : Option (List ℕ)) → g p bytes → h p bytes)
     → include ≡ Some i → IsNext f start include
     → LoadsStatements (includes h never left) left f.path f.scopes above (take start (statements_in f.parsed.value)) (Ok mid)
@@ -312,7 +312,7 @@ include_more g h left f start include i above mid plain statements gh e next r q
     (goes_on g h left f.path f.scopes (take i.place all) (said s.0) above plain statements gh front
     (subst (λ (l : TreeStatement). LoadsOne (includes g never left) left plain l (Ok statements)) s.2 one))
 
--- the same where that one has a fault
+-- The same if the including statement has a fault.
 pub include_stops : (g h : FileContents) (fails k : PathSet) (b c n left : ℕ) (f : File) (start : ℕ) (include : Option Include) (i : Include) (above mid plain : List TreeStatement) (fault : ScopeFault)
     → ((p : Text) (bytes : Option (List ℕ)) → g p bytes → h p bytes) → ((p : Text) → fails p → k p) → b ≡ c
     → include ≡ Some i → IsNext f start include
@@ -334,7 +334,7 @@ include_stops g h fails k b c n left f start include i above mid plain fault gh 
     stops g h fails k b c n left f.path f.scopes (take i.place all) (said s.0) (drop (i.place + 1) all) all above plain fault gh fk bc whole front
     (subst (λ (l : TreeStatement). Answers g fails b n (λ missing out. LoadsOne (includes g missing left) left plain l out) (Err fault)) s.2 one)
 
--- a statement that includes a file
+-- A statement that includes a file.
 pub includes_file : (g : FileContents) (f : PathSet) (b n left : ℕ) (above : List TreeStatement) (l : TreeStatement) (path : Text) (result : Outcome)
     → cause_to_load left (lookup (bound_by above) l.scopes) l.kind ≡ None → included_by (lookup (bound_by above) l.scopes) l.kind ≡ Some path → 0 < left
     → Answers g f b n (λ missing out. LoadsWithin g missing (left - 1) path (scopes_in above l.scopes l.kind) above out) result
@@ -367,14 +367,14 @@ same_cause left a b (inr h) =
     let s : is_long_path b ≡ true = lt-ltb max_path (length b) (omega (arith, h.1)) in
     ap (λ (t : Bool). three (left == 0) t (is_long_path a)) (p ∙ sym q) ∙ ap (λ (t : Bool). three (left == 0) (is_empty b) t) (r ∙ sym s)
 
--- a path without a byte
+-- A path without bytes.
 pub empty_refused : (left : ℕ) (a b : Text) → kept a ≡ kept b → ((left ≡ 0) → ⊥) → is_empty a ≡ true → cause_of_path left b ≡ Some EmptyPath
 empty_refused left a b k n e =
     sym (same_cause left a b (same_from_kept a b k))
     ∙ (ap (λ (t : Bool). three t (is_empty a) (is_long_path a)) (ne_eqb left 0 n)
     ∙ ap (λ (t : Bool). three false t (is_long_path a)) e)
 
--- a path that is too long
+-- A path that is too long.
 pub long_refused : (left : ℕ) (a b : Text) → kept a ≡ kept b → ((left ≡ 0) → ⊥) → is_empty a ≡ false → max_path < length a → cause_of_path left b ≡ Some PathTooLong
 long_refused left a b k n e lt =
     sym (same_cause left a b (same_from_kept a b k))
@@ -386,7 +386,7 @@ same_short : (a b : Text) → length a ≤ max_path → Same a b → a ≡ b
 same_short a b le (inl e) = e
 same_short a b le (inr h) = let f : ⊥ = omega (arith, le, h.0) in absurd f
 
--- a path that is taken
+-- A path that is accepted.
 pub path_taken : (left : ℕ) (a b x : Text) → kept a ≡ kept b → ((left ≡ 0) → ⊥) → is_empty a ≡ false → length a ≤ max_path → x ≡ a → (cause_of_path left b ≡ None) × (Some b ≡ Some x)
 path_taken left a b x k n e le f = (
   sym (same_cause left a b (same_from_kept a b k))
@@ -396,7 +396,7 @@ path_taken left a b x k n e le f = (
   ap (λ (y : Text). Some y) (sym (f ∙ same_short a b le (same_from_kept a b k))),
 )
 
--- the file of a statement that includes it
+-- The file that a statement includes.
 pub taken_of : (left : ℕ) (here names : Name → Text) (path : List Piece) (k : StatementKind) (result : Result Text StatementFault) → here ≡ names → path_included k ≡ Some path
     → IsIncluded (cause_of_path left (expand here path)) (Some (expand here path)) result → IsIncluded (cause_to_load left names k) (included_by names k) result
 taken_of left here names path k result is e r =
@@ -422,7 +422,7 @@ taken_of left here names path k result is e r =
     files (kind.Default targets) e = cc
     files (kind.Binding b) e = cc
 
--- where a file may be included, one more may be open
+-- If a file may be included, the number of files that may be open isn't 0.
 pub one_more : (left : ℕ) (here : Name → Text) (k : StatementKind) (path : Text) → cause_to_load left here k ≡ None → included_by here k ≡ Some path → 0 < left
 one_more zero here (kind.Include p) path c f = cc
 one_more zero here (kind.Subninja p) path c f = cc
@@ -433,7 +433,7 @@ one_more left here (kind.Pool p) path c f = cc
 one_more left here (kind.Default targets) path c f = cc
 one_more left here (kind.Binding b) path c f = cc
 
--- the statements included see a scope
+-- The included statements see a scope.
 pub some_scope : (above : List TreeStatement) (scopes inner : List ℕ) (k : StatementKind) → 0 < length scopes → inner ≡ scopes_in above scopes k → 0 < length inner
 some_scope above scopes inner k lt e = subst (λ (s : List ℕ). 0 < length s) (sym e) (seen k)
   where
@@ -455,13 +455,13 @@ first g m n name path scopes above out mn e f h r =
     (subst (λ (x : List ℕ). LoadsWithin g m 63 name x [] out) f
     (subst (λ (x : List TreeStatement). LoadsWithin g m 63 name scopes x out) h r))))
 
--- a tree that is loaded
+-- A tree that is loaded.
 pub tree_loaded : (g : FileContents) (f : PathSet) (b n : ℕ) (name path : Text) (scopes : List ℕ) (above statements tree : List TreeStatement) → name ≡ path → scopes ≡ 0 ∷ [] → above ≡ [] → tree ≡ statements
     → Answers g f b n (λ missing out. LoadsWithin g missing 63 name scopes above out) (Ok statements) → Loads g f b n path (Ok tree)
 tree_loaded g f b n name path scopes above statements tree e i h k r =
     (r.0, subst (λ (x : List TreeStatement). LoadsFirst g (IsMissing g f b n) path (Ok x)) (sym k) (first g never (IsMissing g f b n) name path scopes above (Ok statements) (λ p x. absurd x) e i h r.1))
 
--- a tree that isn't
+-- A tree that isn't loaded.
 pub tree_failed : (g : FileContents) (f : PathSet) (b n : ℕ) (name path : Text) (scopes : List ℕ) (above : List TreeStatement) (fault : ScopeFault) → name ≡ path → scopes ≡ 0 ∷ [] → above ≡ []
     → Answers g f b n (λ missing out. LoadsWithin g missing 63 name scopes above out) (Err fault) → Loads g f b n path (Err fault)
 tree_failed g f b n name path scopes above LoadMemory e i h r = r

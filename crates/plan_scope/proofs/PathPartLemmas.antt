@@ -1,4 +1,4 @@
--- Paths that are put together part by part. Serves src/edge/paths.rt.
+-- Paths that are expanded part by part. Used for src/edge/paths.rt.
 use Rattle.std.proofs.Common.{◌≡◌, ℕ, ◌+◌, List, [], ◌∷◌, ◌++◌, drop, Result, Ok, Err, refl, sym, ap, ◌∙◌, arith, append_assoc}
 use Rattle.std.proofs.lemmas.List.{drop-drop}
 use Rattle.plan_text.specs.Gathering.{bytes_onto}
@@ -15,12 +15,12 @@ use Rattle.plan_parse.specs.Reading.{lift_fault}
 use Rattle.plan_scope.specs.PathParts.{part_value}
 use Rattle.plan_scope.specs.Scopes.{Name, Text, expand}
 
--- the text of pieces, where there are any
+-- The text of pieces, if there are any.
 abbrev pub text_of : (Name → Text) → Result (List Piece) TextFault → Result Text TextFault
 text_of value (Ok pieces) = Ok (expand value pieces)
 text_of value (Err fault) = Err fault
 
--- a text in front of another, where there is one
+-- A text before another, if there is another.
 abbrev pub text_onto : Text → Result Text TextFault → Result Text TextFault
 text_onto text (Ok more) = Ok (text ++ more)
 text_onto text (Err fault) = Err fault
@@ -46,12 +46,12 @@ onto_twice : (a b : Text) (r : Result Text TextFault) → text_onto a (text_onto
 onto_twice a b (Ok more) = ap (λ (v : Text). Ok v) (sym (append_assoc a b more))
 onto_twice a b (Err fault) = refl
 
--- nothing is in front of the whole path
+-- Nothing comes before the whole path.
 pub none_onto : (r : Result Text TextFault) → r ≡ text_onto [] r
 none_onto (Ok more) = refl
 none_onto (Err fault) = refl
 
--- the parts so far and one more
+-- The parts so far, and one more.
 pub text_more : (value : Name → Text) (at done n : ℕ) (path : List ℕ) (front : Text) (p : PathPart)
     → text_of value (pieces_from mode.Path at path) ≡ text_onto front (text_of value (pieces_from mode.Path (at + done) (drop done path)))
     → pieces_from mode.Path (at + done) (drop done path) ≡ map_pieces (part_onto p) (pieces_from mode.Path (at + done + n) (drop n (drop done path)))
@@ -65,12 +65,12 @@ text_more value at done n path front p so_far first =
     ∙ ap (text_onto front) (text_of_part value p rest)
     ∙ onto_twice front (part_value value p) (text_of value rest)
 
--- the text of a path that was read to its end
+-- The text of a path that was read to its end.
 pub whole_text : (value : Name → Text) (r : Result (List Piece) TextFault) (t : Text) → text_of value r ≡ Ok t → expand value (pieces_or_none (lift_fault r)) ≡ t
 whole_text value (Ok pieces) t h = cc
 whole_text value (Err fault) t h = absurd cc
 
--- a path that is none has no text
+-- Bytes that aren't a path have no text.
 pub no_text : (value : Name → Text) (r : Result (List Piece) TextFault) (front : Text) (rest : Result (List Piece) TextFault) (fault : TextFault)
     → text_of value r ≡ text_onto front (text_of value rest) → rest ≡ Err fault → expand value (pieces_or_none (lift_fault r)) ≡ []
 no_text value (Err other) front rest fault h e = refl

@@ -1,4 +1,4 @@
--- The table of the bytes that a shell takes as they are. Serves src/scope/text.rt, `is_plain`.
+-- The table of the bytes that a shell takes as they are. Used for src/scope/text.rt, `is_plain`.
 use Rattle.std.proofs.Common.{◌≡◌, ℕ, zero, suc, ◌+◌, ◌<◌, Bool, true, false, ◌&&◌, not, List, [], ◌∷◌, length, get_or, refl, ap, sym, ◌∙◌, arith}
 use Rattle.plan_scope.specs.declared.scope.text.TheConstants.{PLAIN}
 use Rattle.plan_scope.specs.Expansion.{is_plain}
@@ -16,7 +16,7 @@ both_true : (a b : Bool) → (a && b) ≡ true → (a ≡ true) × (b ≡ true)
 both_true true b h = (refl, h)
 both_true false b h = cc
 
--- a table of the bytes from one on
+-- A table of the bytes from a number on.
 abbrev tells : ℕ → List Bool → Bool
 tells n [] = true
 tells n (t ∷ ts) = same t (is_plain n) && tells (suc n) ts
@@ -28,6 +28,6 @@ told n (t ∷ ts) h zero k lt e =
     same_is t (is_plain n) (both_true (same t (is_plain n)) (tells (suc n) ts) h).0 ∙ ap is_plain (sym here)
 told n (t ∷ ts) h (suc i) k lt e = told (suc n) ts (both_true (same t (is_plain n)) (tells (suc n) ts) h).1 i k (omega arith) (omega (arith, e))
 
--- the table tells of each byte whether it is plain
+-- The table shows for each byte whether it is plain.
 pub plain_told : (b : ℕ) → b < 256 → get_or PLAIN b false ≡ is_plain b
 plain_told b lt = told 0 PLAIN refl b b lt (omega arith)

@@ -1,4 +1,4 @@
--- Numbers that grow with their digits. Serves src/manifest/pools.rt.
+-- Numbers grow with their digits. Used for src/manifest/pools.rt.
 use Rattle.std.proofs.Common.{◌≡◌, ◌<◌, ℕ, Bool, true, false, List, [], ◌∷◌, refl, ap, sym, ◌∙◌}
 use Rattle.std.proofs.Common.{inl, inr, Result, Err, length}
 use Rattle.std.proofs.lemmas.Bool.{lt-ltb}
@@ -21,11 +21,11 @@ same_depth : (a b : Text) → Same a b → depth_by a ≡ depth_by b
 same_depth a b (inl e) = ap depth_by e
 same_depth a b (inr h) = long_depth a h.0 ∙ sym (long_depth b h.1)
 
--- the depth in a text of which as much is kept
+-- Texts with equal kept texts have the same depth.
 kept_depth : (a b : Text) → kept a ≡ kept b → depth_by a ≡ depth_by b
 kept_depth a b e = same_depth a b (same_from_kept a b e)
 
--- the pool of a name and the depth in a text
+-- The pool with a name and the depth in a text.
 abbrev pub pool_from : Name → Bool → Result ℕ Cause → Result Pool Cause
 pool_from name true depth = Err DuplicatePool
 pool_from name false depth = map_ok (λ d. record { name = name; depth = d }) depth
@@ -38,11 +38,11 @@ pool_at name false true none depth = refl
 pool_at name false false true depth = refl
 pool_at name false false false depth = refl
 
--- a pool by whether its name is among those above and by its depth
+-- A pool, depending on whether its name is among those above and on its depth.
 pub pool_is : (above : List Name) (name : Name) (text : Text) → pool_by above name text ≡ pool_from name (is_among above name) (depth_by text)
 pool_is above name text = pool_at name (is_among above name) (is_too_long text) (is_none (depth_in text)) (unwrap_or (depth_in text) 0)
 
--- what is held of the names of pools, of a pool's own name and of its depth gives the pool
+-- The held names of pools, the pool's own name and its depth determine the pool.
 pub pool_held : (held names : List Name) (word name : Name) (t text : Text) (b taken : Bool) (r : Result ℕ Cause) → ((n : Name) → is_among held n ≡ is_among names n) → word ≡ name → b ≡ is_among held word → b ≡ taken
     → kept t ≡ kept text → r ≡ depth_by t → pool_by names name text ≡ pool_from name taken r
 pool_held held names word name t text b taken r same e f g k l =

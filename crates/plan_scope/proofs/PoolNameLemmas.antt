@@ -1,4 +1,4 @@
--- Names among others. Serves src/manifest/pool_names.rt.
+-- Names in a set. Used for src/manifest/pool_names.rt.
 use Rattle.std.proofs.Common.{◌≡◌, Bool, true, false, ◌||◌, [], ◌∷◌, ◌++◌, map, Option, Some, None, refl, ap, sym, ◌∙◌, bytes_eq, cond, option_map}
 use Rattle.std.specs.Prelude.{is_some}
 use Rattle.std.proofs.lemmas.List.{map-append}
@@ -12,19 +12,19 @@ known_by true (Some w) v x e = refl
 known_by false None v x e = e
 known_by false (Some w) v x e = e
 
--- an option is there as its image is
+-- An option is Some if and only if its image is.
 pub some_mapped : {A B : Type 0} (f : A → B) (o : Option A) → is_some (option_map f o) ≡ is_some o
 some_mapped f None = refl
 some_mapped f (Some x) = refl
 
--- a name is bound where it is among the names
+-- A name is bound if and only if it is among the names.
 pub names_known : {V : Type 0} (name : Name) (bs : Bindings V) → is_among (map (λ b. b.0) bs) name ≡ is_some (last_of name bs)
 names_known name [] = refl
 names_known name (b ∷ bs) =
     ap (λ t. t || is_among (map (λ b. b.0) bs) name) (bytes_eq_sym name b.0)
     ∙ known_by (bytes_eq b.0 name) (last_of name bs) b.1 (is_among (map (λ b. b.0) bs) name) (names_known name bs)
 
--- one name more
+-- One more name.
 pub names_more : {V : Type 0} (held now : Bindings V) (name n : Name) (value : V) → last_of n now ≡ last_of n (held ++ (name, value) ∷ [])
     → is_among (map (λ b. b.0) now) n ≡ is_among (map (λ b. b.0) held ++ name ∷ []) n
 names_more {V} held now name n value e =

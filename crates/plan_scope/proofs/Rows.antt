@@ -1,4 +1,4 @@
--- Worked examples of scopes and expansion, from the bytes of files on.
+-- Worked examples of scopes and expansion, beginning with the bytes of files.
 use Rattle.std.proofs.Common.{◌≡◌, ℕ, Bor, List, [], ◌∷◌, ◌++◌, ◌⊎◌, inl, inr, map, Option, Some, Result, Ok, Err, refl}
 use Rattle.std.specs.Prelude.{codes, true, false}
 use Rattle.plan_parse.specs.declared.fault.ParseFault.{ParseFault}
@@ -27,7 +27,7 @@ abbrev shown : Result Manifest ScopeFault → Result (List ℕ) ScopeFault
 shown (Ok m) = Ok (commands_of m)
 shown (Err e) = Err e
 
--- the statements of a file as those of a tree
+-- The statements of a file as those of a tree.
 abbrev tree_statements : List ℕ → List ℕ → Result (List Statement) ParseFault → List TreeStatement
 tree_statements path scopes (Ok statements) = map (λ s. record { path = path; scopes = scopes; offset = s.offset; kind = s.kind }) statements
 tree_statements path scopes (Err e) = []
@@ -60,7 +60,7 @@ block_before_file : commands (codes "rule e" ++ lf ++ codes "  command = echo $x
     ≡ Ok (codes "echo 2 f1" ++ lf)
 block_before_file = refl
 
--- the rule must stand above
+-- The rule must be declared above.
 rule_below : commands (codes "build a: r" ++ lf ++ codes "rule r" ++ lf ++ codes "  command = true") ≡ Err (Refused name 0 UnknownRule)
 rule_below = refl
 
@@ -73,7 +73,7 @@ phony_declared = refl
 cycle : commands (codes "rule r" ++ lf ++ codes "  command = a $command" ++ lf ++ codes "build a$none: r $none") ≡ Err (Refused name 30 RuleCycle)
 cycle = refl
 
--- a block that binds `command` hides the rule's
+-- A block that binds `command` hides the rule's.
 block_command : commands (codes "rule r" ++ lf ++ codes "  command = a $command" ++ lf ++ codes "build a: r" ++ lf ++ codes "  command = b$ $x")
     ≡ Ok (codes "b " ++ lf)
 block_command = refl
@@ -81,18 +81,18 @@ block_command = refl
 empty_path : commands (codes "rule r" ++ lf ++ codes "  command = true" ++ lf ++ codes "build a: r $none") ≡ Err (Refused name 24 EmptyPath)
 empty_path = refl
 
--- right sides of a block see the file above alone, paths see the block
+-- Values of a block see only the file above. Paths see the block.
 block_scope : commands (codes "x = 1" ++ lf ++ codes "rule r" ++ lf ++ codes "  command = $y $out $in_newline" ++ lf ++ codes "build $x$y: r $x b" ++ lf ++ codes "  x = 2" ++ lf ++ codes "  y = <$x>" ++ lf)
     ≡ Ok (codes "<1> '2<1>' 2" ++ lf ++ codes "b" ++ lf)
 block_scope = refl
 
--- `in` is special in rule variables alone
+-- `in` is special only in rule variables.
 in_of_file : commands (codes "in = f" ++ lf ++ codes "x = $in" ++ lf ++ codes "rule r" ++ lf ++ codes "  command = $x $in" ++ lf ++ codes "build $in: r a" ++ lf ++ codes "  in = b")
     ≡ Ok (codes "f a" ++ lf)
 in_of_file = refl
 
--- paths are quoted in a command and a description, also inside the variables that these refer to, and not in other
--- variables
+-- Paths are quoted in a command and a description, including inside the variables that these refer to, and not in other
+-- variables.
 quoting : manifest (codes "rule r" ++ lf ++ codes "  command = c $rspfile_content" ++ lf ++ codes "  description = d $in" ++ lf ++ codes "  depfile = $in.d" ++ lf ++ codes "  rspfile_content = $out" ++ lf ++ codes "build a$ b/./c | d: r e$ f | .//g || h")
     ≡ Ok (record {
       edges = record {
@@ -122,7 +122,7 @@ phony = refl
 unknown_pool : commands (codes "pool p" ++ lf ++ codes "  depth = 4" ++ lf ++ codes "rule r" ++ lf ++ codes "  command = true" ++ lf ++ codes "  pool = q" ++ lf ++ codes "build a: r") ≡ Err (Refused name 54 UnknownPool)
 unknown_pool = refl
 
--- a pool may stand below
+-- A pool may be declared below.
 pool_below : commands (codes "rule r" ++ lf ++ codes "  command = $pool" ++ lf ++ codes "  pool = q" ++ lf ++ codes "build a: r" ++ lf ++ codes "pool q" ++ lf ++ codes "  depth = 0") ≡ Ok (codes "q" ++ lf)
 pool_below = refl
 
@@ -144,7 +144,7 @@ eight_digits = refl
 blank_behind_depth : commands (codes "pool p" ++ lf ++ codes " depth = 1 ") ≡ Err (Refused name 0 BadDepth)
 blank_behind_depth = refl
 
--- dyndep set by one block alone
+-- `dyndep` is set by only one block.
 one_dyndep : commands (codes "rule r" ++ lf ++ codes "  command = true" ++ lf ++ codes "  dyndep = $dd" ++ lf ++ codes "build a: r" ++ lf ++ codes "build b: r" ++ lf ++ codes "  dd = x") ≡ Err (Refused name 50 Dyndep)
 one_dyndep = refl
 
@@ -163,7 +163,8 @@ other_deps = refl
 gcc_deps : commands (rule_r ++ codes "build a: r" ++ lf ++ codes " deps = gcc") ≡ Ok (codes "true" ++ lf)
 gcc_deps = refl
 
--- the least number first: a pool before a cycle, a cycle before an empty path, that before a response file
+-- The cause with the least number comes first: a pool before a cycle, a cycle before an empty path, and that before a
+-- response file.
 least_number : commands (codes "rule r" ++ lf ++ codes "  command = $command" ++ lf ++ codes "build a: r $none" ++ lf ++ codes " pool = q" ++ lf ++ codes " rspfile = x") ≡ Err (Refused name 28 UnknownPool)
 least_number = refl
 
@@ -173,7 +174,7 @@ cycle_first = refl
 empty_first : commands (rule_r ++ codes "build a: r || $none" ++ lf ++ codes " rspfile = x") ≡ Err (Refused name 24 EmptyPath)
 empty_first = refl
 
--- defaults count the build lines above them
+-- Defaults count the build lines above them.
 defaults : manifest (codes "default x/../a" ++ lf ++ codes "build a: phony" ++ lf ++ codes "default a b")
     ≡ Ok (record {
       edges = record {
@@ -200,7 +201,7 @@ defaults = refl
 empty_default : commands (codes "default $none") ≡ Err (Refused name 0 EmptyPath)
 empty_default = refl
 
--- a file included by another
+-- A file that another one includes.
 abbrev front : List ℕ
 front = codes "rule e" ++ lf ++ codes "  command = echo $x" ++ lf ++ codes "x = 1" ++ lf
 
@@ -211,14 +212,14 @@ abbrev included : List ℕ → List ℕ → Result (List ℕ) ScopeFault
 included word scopes =
     shown (manifest_of (tree_statements name (0 ∷ []) (statements_of (front ++ word ++ codes " c.ninja")) ++ tree_statements (codes "c.ninja") scopes (statements_of child) ++ tree_statements name (0 ∷ []) (statements_of (codes "build p: e"))))
 
--- a subninja file opens a scope, an included one goes on in that of its statement
+-- A subninja file opens a scope. An included one continues in the scope of its statement.
 by_subninja : included (codes "subninja") (3 ∷ 0 ∷ []) ≡ Ok (codes "echo 2" ++ lf ++ codes "echo 1" ++ lf)
 by_subninja = refl
 
 by_include : included (codes "include") (0 ∷ []) ≡ Ok (codes "echo 2" ++ lf ++ codes "echo 2" ++ lf)
 by_include = refl
 
--- a subninja file may declare a rule of its parent anew, an included one may not
+-- A subninja file may declare a rule of its parent again. An included one may not.
 rule_anew : shown (manifest_of (tree_statements name (0 ∷ []) (statements_of rule_r) ++ tree_statements (codes "c") (1 ∷ 0 ∷ []) (statements_of (codes "rule r" ++ lf ++ codes "  command = false" ++ lf ++ codes "build c: r")) ++ tree_statements name (0 ∷ []) (statements_of (codes "build p: r"))))
     ≡ Ok (codes "false" ++ lf ++ codes "true" ++ lf)
 rule_anew = refl
@@ -226,11 +227,11 @@ rule_anew = refl
 rule_again : shown (manifest_of (tree_statements name (0 ∷ []) (statements_of rule_r) ++ tree_statements (codes "c") (0 ∷ []) (statements_of (codes "x = 1" ++ lf ++ rule_r)))) ≡ Err (Refused (codes "c") 6 DuplicateRule)
 rule_again = refl
 
--- a source with two files
+-- A source with two files.
 abbrev gives : List ℕ → Option (List ℕ) → Type 0
 gives path bytes = ((path ≡ name) × (bytes ≡ Some (codes "subninja c"))) ⊎ ((path ≡ codes "c") × (bytes ≡ Some (codes "x = 1")))
 
--- its tree
+-- Its tree.
 two_files : LoadsFirst gives (λ path. ⊥) name (Ok (tree_statements (codes "c") (1 ∷ 0 ∷ []) (statements_of (codes "x = 1"))))
 two_files =
     let back = tree_statements (codes "c") (1 ∷ 0 ∷ []) (statements_of (codes "x = 1")) in
@@ -239,14 +240,14 @@ two_files =
     (is_read 62 (codes "c") (1 ∷ 0 ∷ []) [] (codes "x = 1") _ (Ok back) (inr (refl, refl)) refl (is_added 62 (codes "c") (1 ∷ 0 ∷ []) [] _ [] (Ok back) refl refl (ends 62 (codes "c") (1 ∷ 0 ∷ []) back)))
     (ends 63 name (0 ∷ []) back))
 
--- a file opens a scope that neither statements above have nor the statement that includes it
+-- A file opens a scope that differs from those of the statements above and of the statement that includes it.
 fresh_scopes : fresh_scope (tree_statements name (0 ∷ []) (statements_of child) ++ tree_statements (codes "c") (1 ∷ 0 ∷ []) (statements_of child)) (0 ∷ []) ≡ 2
 fresh_scopes = refl
 
 fresh_inside : fresh_scope [] (2 ∷ 0 ∷ []) ≡ 3
 fresh_inside = refl
 
--- at depth 64 nothing is included, whatever the path
+-- At depth 64 nothing is included, whatever the path.
 too_deep : MayLoad gives (λ path. ⊥) 0 (whole_file name (0 ∷ [])) [] (Err (Refused name 0 IncludeDepth))
 too_deep = is_read 0 name (0 ∷ []) [] (codes "subninja c") _ _ (inl (refl, refl)) refl (is_refused 0 name (0 ∷ []) [] _ [] IncludeDepth refl)
 
@@ -258,7 +259,7 @@ missing_file = is_missing 63 (codes "d") (0 ∷ []) [] refl
 abbrev lent : List ℕ → Bor (List ℕ)
 lent bytes = record { ref_ptr = (0, 0); now = bytes }
 
--- an edge with two inputs, one with a space in it
+-- An edge with two inputs, one of them with a space.
 abbrev edge_in : Bindings Text → EdgeEnvironment
 edge_in block = record { inputs = codes "a b" ∷ codes "c" ∷ []; outputs = codes "o" ∷ []; block = block; rule = []; file = λ name. [] }
 
@@ -268,7 +269,7 @@ compile_parts = part.Near (lent (codes "cc")) (lent (codes "gcc")) ∷ part.Lite
 parts_in_turn : text_of_parts quoted (edge_in []) compile_parts ≡ codes "gcc -o o 'a b' c"
 parts_in_turn = refl
 
--- what the block binds, in place of what is known in the file; paths as they are
+-- The block's bindings replace the file's, and paths are unchanged.
 parts_by_block : text_of_parts plain (edge_in ((codes "cc", codes "clang") ∷ [])) compile_parts ≡ codes "clang -o o a b c"
 parts_by_block = refl
 

@@ -1,4 +1,4 @@
--- What the loader's steps answer, the rules of loading allow, and no more than that. Serves src/tree/loader.rt.
+-- The loader's steps allow exactly the outcomes that the rules of loading allow. Used for src/tree/loader.rt.
 use Rattle.std.proofs.Common.{◌≡◌, ℕ, zero, suc, inl, inr, List, [], ◌∷◌, ◌++◌, Option, Some, None, Result, Ok, Err, refl, sym, subst}
 use Rattle.plan_parse.specs.declared.fault.ParseFault.{ParseFault}
 use Rattle.plan_parse.specs.Kinds.{Statement}
@@ -11,12 +11,12 @@ use Rattle.plan_scope.specs.Loading.{FileContents, Outcome, PathSet, Job, whole_
 use Rattle.plan_scope.specs.LoaderAnswers.{includes}
 use Rattle.plan_scope.specs.LoadingSteps.{FileAnswers, RestAnswers, GoesOn, LoadsStatement, LoadsStatements, LoadsParsed, LoadsFile, LoadsWithin}
 
--- what may be answered for an included file, the rules allow
+-- The rules allow each outcome that the steps allow for an included file.
 abbrev ByRules : FileContents → PathSet → ℕ → FileAnswers → Type 0
 ByRules g m zero answers = (path : Text) (scopes : List ℕ) (above : List TreeStatement) (out : Outcome) → answers path scopes above out → ⊥
 ByRules g m (suc left) answers = (path : Text) (scopes : List ℕ) (above : List TreeStatement) (out : Outcome) → answers path scopes above out → MayLoad g m left (whole_file path scopes) above out
 
--- an included file, and what follows
+-- An included file, and the rest after it.
 goes_on : (g : FileContents) (m : PathSet) (next : RestAnswers) (left : ℕ) (path : Text) (scopes : List ℕ) (s : Statement) (more : List Statement) (above : List TreeStatement) (file : Text) (inner out : Outcome)
     → ((so_far : List TreeStatement) (o : Outcome) → next so_far o → MayLoad g m (suc left) (rest_of_file path scopes more) so_far o)
     → cause_to_load (suc left) (names_above above scopes) s.kind ≡ None → included_by (names_above above scopes) s.kind ≡ Some file
@@ -25,7 +25,7 @@ goes_on g m next left path scopes s more above file (Ok so_far) out h e f r q = 
 goes_on g m next left path scopes s more above file (Err fault) out h e f r q =
     subst (λ (o : Outcome). MayLoad g m (suc left) (rest_of_file path scopes (s ∷ more)) above o) (sym q) (includes_fault left path scopes above s more file fault e f r)
 
--- one statement, and what follows
+-- One statement, and the rest after it.
 statement_by : (g : FileContents) (m : PathSet) (answers : FileAnswers) (next : RestAnswers) (left : ℕ) → ByRules g m left answers → (path : Text) (scopes : List ℕ) (s : Statement) (more : List Statement)
     → ((so_far : List TreeStatement) (o : Outcome) → next so_far o → MayLoad g m left (rest_of_file path scopes more) so_far o)
     → (above : List TreeStatement) (cause : Option Cause) (file : Option Text) (out : Outcome) → cause_to_load left (names_above above scopes) s.kind ≡ cause → included_by (names_above above scopes) s.kind ≡ file
@@ -38,7 +38,7 @@ statement_by g m answers next zero a path scopes s more h above None (Some file)
 statement_by g m answers next (suc left) a path scopes s more h above None (Some file) out e f r =
     goes_on g m next left path scopes s more above file r.0 out h e f (a file (scopes_in above scopes s.kind) above r.0 r.1) r.2
 
--- the statements of a file
+-- The statements of a file.
 all_by : (g : FileContents) (m : PathSet) (answers : FileAnswers) (left : ℕ) → ByRules g m left answers → (path : Text) (scopes : List ℕ) (statements : List Statement) (above : List TreeStatement) (out : Outcome)
     → LoadsStatements answers left path scopes above statements out → MayLoad g m left (rest_of_file path scopes statements) above out
 all_by g m answers left a path scopes [] above out r =
@@ -60,13 +60,13 @@ file_by g m answers left a path scopes above out (inl r) =
     subst (λ (o : Outcome). MayLoad g m left (whole_file path scopes) above o) (sym r.0) (is_missing left path scopes above r.1)
 file_by g m answers left a path scopes above out (inr r) = parsed_by g m answers left a path scopes above r.0 (statements_of r.0) out r.1 refl r.2
 
--- a file, and all that it includes
+-- A file, and all files that it includes.
 pub by_rules : (g : FileContents) (m : PathSet) (left : ℕ) (path : Text) (scopes : List ℕ) (above : List TreeStatement) (out : Outcome) → LoadsWithin g m left path scopes above out → MayLoad g m left (whole_file path scopes) above out
 unfolding LoadsWithin
 by_rules g m zero path scopes above out r = file_by g m (λ path scopes above out. ⊥) 0 (λ path scopes above out x. x) path scopes above out r
 by_rules g m (suc left) path scopes above out r = file_by g m (LoadsWithin g m left) (suc left) (by_rules g m left) path scopes above out r
 
--- === The rules allow no more than that ===
+-- === The rules allow no other outcome ===
 
 abbrev StepsOf : FileContents → PathSet → ℕ → Job → List TreeStatement → Outcome → Type 0
 StepsOf g m left (whole_file path scopes) above out = LoadsWithin g m left path scopes above out
@@ -77,13 +77,13 @@ unfolding LoadsWithin
 within_is g m zero path scopes above out r = r
 within_is g m (suc left) path scopes above out r = r
 
--- a statement's step, by its cause and the file that it includes
+-- A statement's step, given its cause and the file that it includes.
 steps_by : (answers : FileAnswers) (next : RestAnswers) (above : List TreeStatement) (l : TreeStatement) (c cause : Option Cause) (f file : Option Text) (out : Outcome) → c ≡ cause → f ≡ file
     → LoadsStatement answers next above l cause file out → LoadsStatement answers next above l c f out
 steps_by answers next above l c cause f file out e i r =
     subst (λ (x : Option Cause). LoadsStatement answers next above l x f out) (sym e) (subst (λ (y : Option Text). LoadsStatement answers next above l cause y out) (sym i) r)
 
--- what the rules allow, the steps answer
+-- The steps allow each outcome that the rules allow.
 from_rules : (g : FileContents) (m : PathSet) (left : ℕ) (job : Job) (above : List TreeStatement) (out : Outcome) → MayLoad g m left job above out → StepsOf g m left job above out
 from_rules g m left job above out (is_missing n path scopes up x) = within_is g m n path scopes up (Err (SourceMissing path)) (inl (refl, x))
 from_rules g m left job above out (has_fault n path scopes up bytes fault b e) =

@@ -1,4 +1,4 @@
--- What values by scope and name show of their map. Serves src/scope/scoped_map.rt.
+-- The bindings that a scoped map shows of its map. Used for src/scope/scoped_map.rt.
 use Rattle.std.proofs.Common.{◌≡◌, ◌<◌, ℕ, zero, suc, Bool, true, false, ◌&&◌, List, [], ◌∷◌, ◌++◌, ◌==◌, Option, Some, None, refl, ap, sym, ◌∙◌, bytes_eq, cond, nat_eq, slice_index_or, slice_set, subst}
 use Rattle.std.proofs.lemmas.List.{get_or-set_same, length-set}
 use Rattle.std.proofs.lemmas.Slice.Eq.{bytes_eq-Decides}
@@ -9,7 +9,7 @@ use Rattle.plan_scope.specs.Scopes.{Name, Bindings, ScopedBindings, last_of, fra
 use Rattle.plan_scope.specs.Keys.{AreMarked, IsMarked, mark_of, marks, same_key, same_key_equiv, key_of, scoped_by}
 use Rattle.plan_scope.proofs.SmallMapLemmas.{last_of_push}
 
--- one more binding, and what is then bound in a scope
+-- One more binding, and the bindings of a scope after it.
 frame_push : {V : Type 0} (s : ℕ) (bs : ScopedBindings V) (b : ℕ × (Name × V)) → frame s (bs ++ b ∷ []) ≡ frame s bs ++ cond (b.0 == s) (b.1 ∷ []) []
 frame_push {V} s [] b = elim (b.0 == s) as (λ t. ◌≡◌ {A = Bindings V} (cond t (b.1 ∷ []) []) (cond t (b.1 ∷ []) [])) [ true ↦ refl | false ↦ refl ]
 frame_push {V} s (x ∷ xs) b =
@@ -20,7 +20,7 @@ none_more : {V : Type 0} (n : Name) (bs : Bindings V) → last_of n (bs ++ []) �
 none_more n [] = refl
 none_more {V} n (x ∷ xs) = ap (λ (o : Option V). or_else o (cond (bytes_eq x.0 n) (Some x.1) None)) (none_more n xs)
 
--- the last value of a name in a scope, behind one more binding
+-- The last value of a name in a scope, with one more binding.
 pub last_in_push : {V : Type 0} (s : ℕ) (n : Name) (bs : ScopedBindings V) (b : ℕ × (Name × V))
     → last_of n (frame s (bs ++ b ∷ [])) ≡ cond (same_key (b.0, b.1.0) (s, n)) (Some b.1.1) (last_of n (frame s bs))
 last_in_push {V} s n bs b =
@@ -28,7 +28,7 @@ last_in_push {V} s n bs b =
     ∙ elim (b.0 == s) as (λ t. last_of n (frame s bs ++ cond t (b.1 ∷ []) []) ≡ cond (t && bytes_eq b.1.0 n) (Some b.1.1) (last_of n (frame s bs)))
     [ true ↦ last_of_push n (frame s bs) b.1 | false ↦ none_more n (frame s bs) ]
 
--- a look-up in the map gives the last value of a name in a scope
+-- A lookup in the map gives the last value of a name in a scope.
 pub last_in_scoped : {V : Type 0} (s : ℕ) (n : Name) (es : List (Key × V)) → last_of n (frame s (scoped_by es)) ≡ lookup (λ k. same_key (s, n) (key_of k)) es
 last_in_scoped s n [] = refl
 last_in_scoped {V} s n (e ∷ es) =
@@ -57,13 +57,13 @@ inserted_at {V} q es e k v more false h =
     ap (λ (o : Option V). cond (same_key q (key_of e.0)) (Some e.1) o) more
     ∙ both_same q (key_of k) (key_of e.0) v e.1 (lookup (λ x. same_key q (key_of x)) es) h (same_key q (key_of e.0)) (same_key (key_of k) q) refl refl
 
--- what is bound after an insertion
+-- The bindings after an insertion.
 lookup_inserted : {V : Type 0} (q : ℕ × Name) (es : List (Key × V)) (k : Key) (v : V)
     → lookup (λ x. same_key q (key_of x)) (insert_entry (λ x y. same_key (key_of x) (key_of y)) es k v) ≡ cond (same_key (key_of k) q) (Some v) (lookup (λ x. same_key q (key_of x)) es)
 lookup_inserted {V} q [] k v = ap (λ (t : Bool). cond {A = Option V} t (Some v) None) (same_key_equiv.symm q (key_of k))
 lookup_inserted {V} q (e ∷ es) k v = inserted_at q es e k v (lookup_inserted q es k v) (same_key (key_of k) (key_of e.0)) refl
 
--- after a name was bound anew
+-- After a name was bound again.
 pub set_scoped : {V : Type 0} (es fs : List (Key × V)) (key : Key) (name : Name) (value : V) → key.name.items ≡ name
     → fs ≡ insert_entry (λ x y. same_key (key_of x) (key_of y)) es key value
     → (s : ℕ) (n : Name) → last_of n (frame s (scoped_by fs)) ≡ last_of n (frame s (scoped_by es ++ (key.scope, (name, value)) ∷ []))
@@ -76,12 +76,12 @@ set_scoped {V} es fs key name value e f s n =
     ∙ (ap (λ (o : Option V). cond (same_key (key.scope, name) (s, n)) (Some value) o) (sym (last_in_scoped s n es))
     ∙ sym (last_in_push s n (scoped_by es) (key.scope, (name, value)))))))
 
--- a name that no scope has
+-- A name that no scope has.
 pub nearest_none : {V : Type 0} (bound : ScopedBindings V) (name : Name) → ((s : ℕ) → last_of name (frame s bound) ≡ None) → (scopes : List ℕ) → nearest bound scopes name ≡ None
 nearest_none bound name h [] = refl
 nearest_none {V} bound name h (s ∷ outer) = ap (λ (o : Option V). or_else o (nearest bound outer name)) (h s) ∙ nearest_none bound name h outer
 
--- what has no mark after one more was set had none before
+-- A name without a mark after one more was set had none before.
 unmarked_before : (l : List Bool) (i j : ℕ) → slice_index_or (slice_set l i true) j false ≡ false → slice_index_or l j false ≡ false
 unmarked_before [] i j e = refl
 unmarked_before (x ∷ xs) zero zero e = cc
@@ -104,7 +104,7 @@ marked_at {V} es marked i scope name value h m lt s n e true k =
     cc
 marked_at es marked i scope name value h m lt s n e false k = h.1 s n (unmarked_before marked i (mark_of n) e)
 
--- after a name was bound anew and its mark was set
+-- After a name was bound again and its mark was set.
 pub marked_set : {V : Type 0} (es fs : List (Key × V)) (marked : List Bool) (i : ℕ) (key : Key) (name : Name) (value : V) → IsMarked marked es → i ≡ mark_of name → i < marks
     → key.name.items ≡ name → fs ≡ insert_entry (λ x y. same_key (key_of x) (key_of y)) es key value → IsMarked (slice_set marked i true) fs
 marked_set es fs marked i key name value h m lt k f = (
@@ -126,7 +126,7 @@ marked_there {V} bs marked i name value h m lt n e true k =
     cc
 marked_there bs marked i name value h m lt n e false k = h.1 n (unmarked_before marked i (mark_of n) e)
 
--- one more binding, and its mark
+-- One more binding, and its mark.
 pub marked_more : {V : Type 0} (bs : Bindings V) (marked : List Bool) (i : ℕ) (name : Name) (value : V) → AreMarked marked bs → i ≡ mark_of name → i < marks
     → AreMarked (slice_set marked i true) (bs ++ (name, value) ∷ [])
 marked_more bs marked i name value h m lt = (

@@ -1,4 +1,4 @@
--- Each manifest is sound. Serves src/laws.rt, `manifests_are_sound`.
+-- Each manifest is sound. Used for src/laws.rt, `manifests_are_sound`.
 use Rattle.std.proofs.Common.{◌≡◌, ℕ, suc, ◌≤◌, ◌⊎◌, inl, inr, Bool, true, false, not, ◌||◌, ◌&&◌, List, [], ◌∷◌, ◌++◌, length, map, Option, Some, None, Result, Ok, Err, refl, ap, sym, subst, ◌∙◌, bytes_eq, cond, leb, lit≤, arith, append-nil, append_assoc, flat_map, unwrap_or}
 use Rattle.std.specs.Prelude.{codes, is_none}
 use Rattle.std.specs.List.{All, list_any}
@@ -29,7 +29,7 @@ use Rattle.plan_scope.specs.Edges.{texts_of_variables, canonical_paths, has_empt
 use Rattle.plan_scope.specs.Sound.{AreApart, IsPath, IsSound, IsSoundEdge, MakesSome, names_of}
 use Rattle.plan_scope.proofs.PathLemmas.{forms_in, or_parts}
 
--- none of these causes stands
+-- None of these causes applies.
 abbrev NoneStands : List (Bool × Cause) → Type 0
 NoneStands [] = Unit {0}
 NoneStands (x ∷ more) = (x.0 ≡ false) × NoneStands more
@@ -46,7 +46,7 @@ not_refused : {A : Type 0} (cause : Option Cause) (x y : A) → or_refused cause
 not_refused None x y e = let k : x ≡ y = cc in (refl, k)
 not_refused (Some cause) x y e = cc
 
--- the canonical form of a path that has a byte, and isn't too long
+-- The canonical form of a path that has bytes and isn't too long.
 path_sound : CanonicalStays → (path : Text) → is_empty path ≡ false → is_long_path path ≡ false → IsPath (path_of path)
 path_sound s [] n l = cc
 path_sound s (b ∷ rest) n l =
@@ -62,7 +62,7 @@ paths_sound s (p ∷ ps) n l =
     let short = or_parts (is_long_path p) (list_any is_long_path ps) l in
     All-cons IsPath (path_of p) (map path_of ps) (path_sound s p none.0 short.0) (paths_sound s ps none.1 short.1)
 
--- two tests, the later of which is one of two
+-- Two tests, the later of which is one of two.
 known_by : (e l a : Bool) → (not e && (l || not a)) ≡ false → (e ≡ true) ⊎ (a ≡ true)
 known_by true l a h = inl refl
 known_by false true a h = cc
@@ -80,7 +80,7 @@ pool_known pools text h = known (known_by (is_empty text) (is_too_long text) (is
     known (inl e) = inl (no_byte text e)
     known (inr e) = inr e
 
--- variables without a text but one
+-- Variables of which only one has a text.
 record NoTexts (v : Variables) : Type 0 where
   command : v.command ≡ []
   description : v.description ≡ []
@@ -127,7 +127,7 @@ built_sound s pools rules scopes here file b e some h = either (bytes_eq b.rule 
     either true h = edge_sound s pools here b (phony_variables (environment_of here file b [])) true e some (λ p. record { command = refl; description = refl; depfile = refl; pool = refl }) h
     either false h = by_sound s pools here file b (nearest rules scopes b.rule) e some h
 
--- what statements add, by the names of all pools and of those above, and the names of their own
+-- The additions of statements, given the names of all pools and of those above, and the names of their own pools.
 record Adds (pools before names : List Name) (m : Manifest) : Type 0 where
   edges : All (IsSoundEdge pools) m.edges
   apart : AreApart before (names_of m.pools)
@@ -202,7 +202,7 @@ defaults_given s pools before n paths targets h =
     subst (λ (ts : List DefaultTarget). Adds pools before [] (defaults_alone ts)) r.1
     (record { edges = All-nil (IsSoundEdge pools); apart = tt {0}; named = refl; depths = All-nil (λ p. p.depth ≤ max_depth); defaults = targets_sound s n paths c.0 c.1.0 })
 
--- each of a list
+-- Each item of a list has a property.
 abbrev Every : {X : Type 0} → (X → Type 0) → List X → Type 0
 Every P [] = Unit {0}
 Every P (x ∷ xs) = P x × Every P xs
@@ -215,7 +215,7 @@ every_parts : {X : Type 0} (P : X → Type 0) (xs ys : List X) → Every P (xs +
 every_parts P [] ys a = (tt {0}, a)
 every_parts P (x ∷ xs) ys a = let more = every_parts P xs ys a.1 in ((a.0, more.0), more.1)
 
--- what a statement gives
+-- The addition of a statement.
 given_sound : CanonicalStays → (all above : List TreeStatement) (scopes : List ℕ) (k : StatementKind) (m : Manifest) → Every MakesSome (builds_in k) → manifest_of_kind all above scopes k ≡ Ok m → Adds (pools_of all) (pools_of above) (pools_in k) m
 given_sound s all above scopes (kind.Rule r) m some h = nothing_given (pools_of all) (pools_of above) (is_taken (rules_of above) scopes r.name) DuplicateRule m h
 given_sound s all above scopes (kind.Build b) m some h =
@@ -252,7 +252,7 @@ pools_more : (above : List TreeStatement) (l : TreeStatement) → pools_of (abov
 pools_more above l =
     ap (λ (ns : List Name). codes "console" ∷ ns) (flat_map-append declared_in above (l ∷ []) ∙ ap (λ (ns : List Name). flat_map declared_in above ++ ns) (append-nil (pools_in l.kind)))
 
--- what statements give
+-- The additions of statements.
 past_sound : CanonicalStays → (all above statements : List TreeStatement) (m : Manifest) → Every MakesSome (builds_of statements) → manifest_past all above statements ≡ Ok m
     → Adds (pools_of all) (pools_of above) (flat_map declared_in statements) m
 past_sound s all above [] m some h = let k : empty_manifest ≡ m = cc in subst (Adds (pools_of all) (pools_of above) []) k (adds_nothing (pools_of all) (pools_of above))
@@ -278,7 +278,7 @@ whole_parts : (front : Manifest) (r : Result Manifest ScopeFault) (m : Manifest)
 whole_parts front (Ok y) m e = let k : with_more front y ≡ m = cc in (y, refl, k)
 whole_parts front (Err fault) m e = cc
 
--- each manifest
+-- Each manifest.
 pub manifest_sound : CanonicalStays → (statements : List TreeStatement) (m : Manifest) → All MakesSome (builds_of statements) → manifest_of statements ≡ Ok m → IsSound m
 manifest_sound s statements m some h =
     let r = whole_parts (pool_alone console) (manifest_past statements [] statements) m h in

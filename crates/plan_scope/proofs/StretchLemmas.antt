@@ -1,4 +1,4 @@
--- Statements that are kept as stretches of files. Serves src/tree/loaded.rt and src/tree/statements.rt.
+-- Statements that are held as stretches of files. Used for src/tree/loaded.rt and src/tree/statements.rt.
 use Rattle.std.proofs.Common.{◌≡◌, ℕ, ◌+◌, ◌-◌, ◌<◌, ◌≤◌, List, [], ◌∷◌, ◌++◌, Some, length, map, max, refl, ap, sym, ◌∙◌, take, drop, get_or, append-nil, arith}
 use Rattle.std.specs.Prelude.{slice_get}
 use Rattle.std.proofs.lemmas.List.{drop-map, take-map, length-drop, length-take-le, drop_all}
@@ -12,7 +12,7 @@ use Rattle.plan_scope.specs.Loading.{greatest_scope, own_scope}
 use Rattle.plan_scope.specs.FileStatements.{joined, left_of, statement_at, statements_at}
 use Rattle.plan_scope.proofs.ListLemmas.{one_dropped}
 
--- statements of a file between two numbers, one by one
+-- The statements of a file between two numbers, one by one.
 between_kept : (f : File) (start end : ℕ) → between start end (statements_at f) ≡ map (statement_at f) (between start end f.parsed.value.statements)
 between_kept f start end = ap (drop start) (take-map (statement_at f) end f.parsed.value.statements) ∙ drop-map (statement_at f) start (take end f.parsed.value.statements)
 
@@ -28,11 +28,11 @@ greatest_append : (xs ys : List TreeStatement) → greatest_scope (xs ++ ys) ≡
 greatest_append [] ys = omega arith
 greatest_append (x ∷ xs) ys = let rest = greatest_append xs ys in omega (arith, rest)
 
--- stretches, and one more
+-- Stretches, and one more.
 pub joined_more : (front : List (List TreeStatement)) (stretch : List TreeStatement) → joined (front ++ stretch ∷ []) ≡ joined front ++ stretch
 joined_more front stretch = flat_map-append (λ (s : List TreeStatement). s) front (stretch ∷ []) ∙ ap (λ (x : List TreeStatement). joined front ++ x) (append-nil stretch)
 
--- the greatest own scope with one more stretch of a file
+-- The greatest own scope with one more stretch of a file.
 pub greatest_behind : (f : File) (start end : ℕ) (front now : List (List TreeStatement)) → start < end → end ≤ length f.parsed.value.statements
     → now ≡ front ++ between start end (statements_at f) ∷ [] → max (greatest_scope (joined front)) (own_scope f.scopes) ≡ greatest_scope (joined now)
 greatest_behind f start end front now lt le e =
@@ -43,21 +43,21 @@ greatest_behind f start end front now lt le e =
     ∙ (sym (greatest_append (joined front) (between start end (statements_at f)))
     ∙ ap greatest_scope (sym (joined_more front (between start end (statements_at f))) ∙ ap joined (sym e)))
 
--- nothing of the first stretch is passed
+-- No statement of the first stretch was returned yet.
 pub left_of_all : (stretches : List (List TreeStatement)) → left_of stretches 0 ≡ joined stretches
 left_of_all [] = refl
 left_of_all (s ∷ more) = sym (flat_map-cons (λ (x : List TreeStatement). x) s more)
 
--- all of the first stretch is passed
+-- All statements of the first stretch were returned.
 pub left_behind : (stretch : List TreeStatement) (behind : List (List TreeStatement)) (passed : ℕ) → length stretch ≤ passed → left_of (stretch ∷ behind) passed ≡ left_of behind 0
 left_behind stretch behind passed le = ap (λ (x : List TreeStatement). x ++ joined behind) (drop_all passed stretch le) ∙ sym (left_of_all behind)
 
--- one statement of the first stretch is given
+-- One statement of the first stretch is returned.
 left_more : (stretch : List TreeStatement) (behind : List (List TreeStatement)) (passed : ℕ) (l : TreeStatement) → slice_get stretch passed ≡ Some l → left_of (stretch ∷ behind) passed ≡ l ∷ left_of (stretch ∷ behind) (passed + 1)
 left_more stretch behind passed l e =
     ap (λ (x : List TreeStatement). x ++ joined behind) (one_dropped stretch passed l (slice_get_within stretch passed l e) (sym (get_or_from_slice_get stretch passed l l e)))
 
--- the same of the first of all stretches
+-- The same for the first of all stretches.
 pub first_given : (stretches : List (List TreeStatement)) (stretch : List TreeStatement) (passed : ℕ) (l : TreeStatement) → 1 ≤ length stretches → stretch ≡ get_or stretches 0 stretch → slice_get stretch passed ≡ Some l
     → left_of stretches passed ≡ l ∷ left_of stretches (passed + 1)
 first_given [] stretch passed l le is e = let no : ⊥ = omega (arith, le) in absurd no

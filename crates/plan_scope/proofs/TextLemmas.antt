@@ -1,4 +1,4 @@
--- Texts of which as much is kept. Serves src/scope/text.rt, and whatever keeps texts.
+-- Texts with equal kept texts. Used for src/scope/text.rt, and for all code that keeps texts.
 use Rattle.std.proofs.Common.{◌≡◌, ℕ, zero, suc, ◌+◌, ◌<◌, ◌≤◌, Bool, true, false, List, [], ◌∷◌, ◌++◌, length, map, Option, Some, None, refl, ap, sym, ◌∙◌, cond, eqb, option_map, unwrap_or, flat_map, ◌⊎◌, inl, inr, arith, length-append, append_assoc, append-nil, take, get_or}
 use Rattle.std.proofs.lemmas.List.{take_more, map_more, map-append}
 use Rattle.std.proofs.lemmas.List.Concat.{flat_map-append}
@@ -21,11 +21,11 @@ kept_short : (a : Text) → length a ≤ max_text → kept a ≡ Some a
 unfolding kept
 kept_short a h = ap (λ (t : Bool). cond {A = Option Text} t None (Some a)) (le-ltb max_text (length a) h)
 
--- of two texts that are too long nothing is kept
+-- Two texts that are too long have equal kept texts.
 pub both_long : (a b : Text) → max_text < length a → max_text < length b → kept a ≡ kept b
 both_long a b h i = kept_long a h ∙ sym (kept_long b i)
 
--- equal texts, or two that are too long
+-- The texts are equal, or both are too long.
 abbrev pub Same : Text → Text → Type 0
 Same a b = (a ≡ b) ⊎ ((max_text < length a) × (max_text < length b))
 
@@ -35,7 +35,7 @@ same_at a b (inl p) (inr q) e = let k = kept_long a p in let l = kept_short b q 
 same_at a b (inr p) (inl q) e = let k = kept_short a p in let l = kept_long b q in cc
 same_at a b (inr p) (inr q) e = let k = kept_short a p in let l = kept_short b q in let s : a ≡ b = cc in inl s
 
--- texts of which as much is kept are the same, or both too long
+-- Texts with equal kept texts are the same, or both are too long.
 pub same_from_kept : (a b : Text) → kept a ≡ kept b → Same a b
 same_from_kept a b e = same_at a b (cases_lt max_text (length a)) (cases_lt max_text (length b)) e
 
@@ -44,7 +44,7 @@ appended_by a b c d (inl e) (inl f) = cc
 appended_by a b c d (inr h) s = both_long (a ++ c) (b ++ d) (omega (arith, length-append a c)) (omega (arith, length-append b d))
 appended_by a b c d (inl e) (inr h) = both_long (a ++ c) (b ++ d) (omega (arith, length-append a c)) (omega (arith, length-append b d))
 
--- as much is kept of texts joined
+-- Joined texts have equal kept texts.
 pub kept_append : (a b c d : Text) → kept a ≡ kept b → kept c ≡ kept d → kept (a ++ c) ≡ kept (b ++ d)
 kept_append a b c d e f = appended_by a b c d (same_from_kept a b e) (same_from_kept c d f)
 
@@ -64,11 +64,11 @@ quoted_by : (a b : Text) → Same a b → kept (quoted a) ≡ kept (quoted b)
 quoted_by a b (inl e) = cc
 quoted_by a b (inr h) = both_long (quoted a) (quoted b) (omega (arith, length_quoted a)) (omega (arith, length_quoted b))
 
--- as much is kept of texts quoted
+-- Quoted texts have equal kept texts.
 pub kept_quoted : (a b : Text) → kept a ≡ kept b → kept (quoted a) ≡ kept (quoted b)
 kept_quoted a b e = quoted_by a b (same_from_kept a b e)
 
--- as much is kept of paths joined
+-- Joined paths have equal kept texts.
 pub kept_paths : (f : Text → Text) → ((a b : Text) → kept a ≡ kept b → kept (f a) ≡ kept (f b))
     → (s : ℕ) (ps qs : List Text) → map kept ps ≡ map kept qs → kept (join_with_byte s (map f ps)) ≡ kept (join_with_byte s (map f qs))
 kept_paths f h s [] [] e = refl
@@ -87,19 +87,19 @@ kept_value : (f g : Name → Text) → ((n : Name) → kept (f n) ≡ kept (g n)
 kept_value f g h (Literal t) = refl
 kept_value f g h (Reference n) = h n
 
--- as much is kept of pieces expanded by names that stand for as much
+-- Pieces have equal kept texts if the names in them have.
 pub kept_expand : (f g : Name → Text) → ((n : Name) → kept (f n) ≡ kept (g n)) → (ps : List Piece) → kept (expand f ps) ≡ kept (expand g ps)
 kept_expand f g h [] = refl
 kept_expand f g h (p ∷ ps) = kept_append (value_of f p) (value_of g p) (expand f ps) (expand g ps) (kept_value f g h p) (kept_expand f g h ps)
 
--- as much is kept of a text or what stands in its place
+-- If two options and their defaults have equal kept texts, their values have too.
 pub kept_or : (o p : Option Text) (a b : Text) → option_map kept o ≡ option_map kept p → kept a ≡ kept b → kept (unwrap_or o a) ≡ kept (unwrap_or p b)
 kept_or None None a b e f = f
 kept_or None (Some y) a b e f = cc
 kept_or (Some x) None a b e f = cc
 kept_or (Some x) (Some y) a b e f = cc
 
--- one text appended behind another
+-- One text is appended to another.
 pub kept_then : (before middle now x y : Text) → kept middle ≡ kept (before ++ x) → kept now ≡ kept (middle ++ y) → kept now ≡ kept (before ++ (x ++ y))
 kept_then before middle now x y e f =
     f ∙ (kept_append middle (before ++ x) y y e refl ∙ ap kept (append_assoc before x y))
@@ -119,7 +119,7 @@ join_push f s (q ∷ r ∷ ps) p =
     ap (λ (t : Text). f q ++ (s ∷ t)) (join_push f s (r ∷ ps) p)
     ∙ sym (append_assoc (f q) (s ∷ join_with_byte s (map f (r ∷ ps))) (s ∷ f p))
 
--- one more path of a list
+-- One more path of a list.
 pub join_taken : (f : Text → Text) (s : ℕ) (ps : List Text) (i : ℕ) (p : Text) (b : Bool) → i < length ps → p ≡ get_or ps i p → b ≡ eqb i 0
     → (join_with_byte s (map f (take i ps)) ++ cond b [] (s ∷ [])) ++ f p ≡ join_with_byte s (map f (take (i + 1) ps))
 join_taken f s ps i p b h e z =
@@ -130,13 +130,13 @@ join_taken f s ps i p b h e z =
     ∙ (sym (join_push f s (take i ps) p)
     ∙ ap (λ (l : List Text). join_with_byte s (map f l)) (ap (λ (x : Text). take i ps ++ x ∷ []) e ∙ sym (take_more ps i p h))))
 
--- one more item, each with a text
+-- One more item, each with a text.
 pub flat_map_taken : {X : Type 0} (f : X → Text) (xs : List X) (i : ℕ) (d : X) → i < length xs → flat_map f (take (i + 1) xs) ≡ flat_map f (take i xs) ++ f (get_or xs i d)
 flat_map_taken f xs i d h =
     ap (flat_map f) (take_more xs i d h)
     ∙ (flat_map-append f (take i xs) (get_or xs i d ∷ []) ∙ ap (λ (t : Text). flat_map f (take i xs) ++ t) (append-nil (f (get_or xs i d))))
 
--- one more piece
+-- One more piece.
 pub kept_taken : (f : Name → Text) (pieces : List Piece) (i : ℕ) (p : Piece) (out now t : Text) → i < length pieces → p ≡ get_or pieces i p
     → kept out ≡ kept (expand f (take i pieces)) → t ≡ value_of f p → kept now ≡ kept (out ++ t)
     → kept now ≡ kept (expand f (take (i + 1) pieces))
@@ -144,7 +144,7 @@ kept_taken f pieces i p out now t lt e h v k =
     k ∙ (kept_append out (expand f (take i pieces)) t (value_of f (get_or pieces i p)) h (ap kept v ∙ ap (λ q. kept (value_of f q)) e)
     ∙ ap kept (sym (flat_map_taken (value_of f) pieces i p lt)))
 
--- one more path
+-- One more path.
 pub paths_taken : {X : Type 0} (f : X → Text) (paths : List X) (i : ℕ) (p : X) (texts now : List Text) (t : Text) → i < length paths → p ≡ get_or paths i p
     → map kept texts ≡ map kept (map f (take i paths)) → kept t ≡ kept (f p) → now ≡ texts ++ t ∷ []
     → map kept now ≡ map kept (map f (take (i + 1) paths))
@@ -160,11 +160,11 @@ long_same : (a b : Text) → Same a b → is_too_long a ≡ is_too_long b
 long_same a b (inl e) = ap is_too_long e
 long_same a b (inr h) = lt-ltb max_text (length a) h.0 ∙ sym (lt-ltb max_text (length b) h.1)
 
--- texts of which as much is kept are both too long, or neither is
+-- Of two texts with equal kept texts, both are too long or neither is.
 pub long_kept : (a b : Text) → kept a ≡ kept b → is_too_long a ≡ is_too_long b
 long_kept a b e = long_same a b (same_from_kept a b e)
 
--- an element of a list, whatever stands for none
+-- The default doesn't matter for an item that is within a list.
 pub any_item : {X : Type 0} (xs : List X) (i : ℕ) (d e : X) → i < length xs → get_or xs i d ≡ get_or xs i e
 any_item [] i d e h = absurd (omega arith)
 any_item (x ∷ xs) zero d e h = refl

@@ -1,4 +1,4 @@
--- The statements of a tree that is loaded are whole, as the statements of each of its files are. Serves src/laws.rt,
+-- The statements of a loaded tree are whole, because the statements of each of its files are. Used for src/laws.rt,
 -- `trees_are_whole`.
 use Rattle.std.proofs.Common.{ℕ, suc, List, [], ◌∷◌, ◌++◌, Ok, Err}
 use Rattle.std.specs.List.{All, AllByRecursion}
@@ -12,16 +12,16 @@ use Rattle.plan_scope.specs.Edges.{builds_in, builds_of}
 use Rattle.plan_scope.specs.Loading.{FileContents, Outcome, PathSet, LoadsFirst, Job, whole_file, rest_of_file, MayLoad, is_missing, has_fault, is_read, ends, is_refused, is_added, includes_file, includes_fault, placed, scopes_in}
 use Rattle.plan_scope.specs.Sound.{MakesSome}
 
--- each statement says what is whole
+-- Each statement is whole.
 abbrev AreWhole : List TreeStatement → Type 0
 AreWhole statements = AllByRecursion (λ l. IsWholeKind l.kind) statements
 
--- so do the statements of an answer
+-- The statements of an answer are whole.
 abbrev IsAnsweredWhole : Outcome → Type 0
 IsAnsweredWhole (Ok statements) = AreWhole statements
 IsAnsweredWhole (Err fault) = Unit {0}
 
--- the statements that are left of a file are whole
+-- The rest of a file's statements are whole.
 abbrev JobIsWhole : Job → Type 0
 JobIsWhole (whole_file path scopes) = Unit {0}
 JobIsWhole (rest_of_file path scopes statements) = AllByRecursion IsWhole statements
@@ -30,7 +30,7 @@ one_more : (above : List TreeStatement) (l : TreeStatement) → AreWhole above �
 one_more [] l a w = (w, tt {0})
 one_more (x ∷ above) l a w = (a.0, one_more above l a.1 w)
 
--- whole statements are answered behind whole statements
+-- An answer after whole statements has whole statements.
 rules_whole : StatementsAreWhole → (g : FileContents) (m : PathSet) (left : ℕ) (job : Job) (above : List TreeStatement) (out : Outcome) → MayLoad g m left job above out → AreWhole above → JobIsWhole job → IsAnsweredWhole out
 rules_whole s g m left job above out (is_missing n path scopes up x) a w = tt {0}
 rules_whole s g m left job above out (has_fault n path scopes up bytes fault b e) a w = tt {0}
@@ -56,6 +56,6 @@ statements_make : (statements : List TreeStatement) → AreWhole statements → 
 statements_make [] w = All-nil MakesSome
 statements_make (l ∷ more) w = All-append MakesSome (builds_in l.kind) (builds_of more) (kind_makes l.kind w.0) (statements_make more w.1)
 
--- each build line of a tree that is loaded has an output
+-- Each build line of a loaded tree has an output.
 pub loaded_makes : StatementsAreWhole → (g : FileContents) (m : PathSet) (path : Text) (statements : List TreeStatement) → LoadsFirst g m path (Ok statements) → All MakesSome (builds_of statements)
 loaded_makes s g m path statements r = statements_make statements (rules_whole s g m 63 (whole_file path (0 ∷ [])) [] (Ok statements) r (tt {0}) (tt {0}))

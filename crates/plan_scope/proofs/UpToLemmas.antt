@@ -1,4 +1,4 @@
--- Statements that include no file. Serves src/tree/loader.rt, up to `load_up_to_include`.
+-- Statements that include no file. Used for src/tree/loader.rt, up to `load_up_to_include`.
 use Rattle.std.proofs.Common.{◌≡◌, ◌≢◌, ℕ, ◌+◌, ◌<◌, ◌≤◌, Bool, true, false, List, [], ◌∷◌, ◌++◌, ◌||◌, if◌then◌else◌, length, map, Option, Some, None, Ok, Err, refl, ap, sym, subst, ◌∙◌, take, drop, get_or, append-nil, append_assoc, arith}
 use Rattle.std.specs.List.{list_any}
 use Rattle.std.proofs.lemmas.List.{drop_all, drop-append-le, length-take-le, length-map, take-append-drop, take_more, get_or-map}
@@ -27,23 +27,23 @@ use Rattle.plan_scope.proofs.ListLemmas.{dropped_at}
 use Rattle.plan_scope.proofs.ScopeLemmas.{agrees_more}
 use Rattle.plan_scope.proofs.LoaderLemmas.{all_then}
 
--- no item stands between a number and itself
+-- No item is between a number and itself.
 none_between : {X : Type 0} (n : ℕ) (xs : List X) → n ≤ length xs → between n n xs ≡ []
 none_between n xs le = let e : length (take n xs) ≡ n = length-take-le n xs le in drop_all n (take n xs) (omega (arith, e))
 
--- items, and one more
+-- Items, and one more.
 between_more : {X : Type 0} (start n : ℕ) (xs : List X) (x : X) → start ≤ n → n < length xs → get_or xs n x ≡ x → between start (n + 1) xs ≡ between start n xs ++ x ∷ []
 between_more start n xs x le lt e =
     let f : length (take n xs) ≡ n = length-take-le n xs (omega (arith, lt)) in
     ap (drop start) (take_more xs n x lt ∙ ap (λ y. take n xs ++ y ∷ []) e) ∙ drop-append-le start (take n xs) (x ∷ []) (omega (arith, f, le))
 
--- items, and all behind them
+-- Items, and all items after them.
 between_then : {X : Type 0} (start n : ℕ) (xs : List X) → start ≤ n → n ≤ length xs → between start n xs ++ drop n xs ≡ drop start xs
 between_then start n xs le lt =
     let f : length (take n xs) ≡ n = length-take-le n xs lt in
     sym (drop-append-le start (take n xs) (drop n xs) (omega (arith, f, le))) ∙ ap (drop start) (take-append-drop n xs)
 
--- the item at a place, seen by a function
+-- The item at a place, under a function.
 seen_at : {X Y : Type 0} (g : X → Y) (xs : List X) (n : ℕ) (x : X) → n < length xs → get_or xs n x ≡ x → get_or (map g xs) n (g x) ≡ g x
 seen_at g xs n x lt e = get_or-map g xs n x (g x) lt ∙ ap g e
 
@@ -56,7 +56,7 @@ none_included here (kind.Pool q) p = refl
 none_included here (kind.Default targets) p = refl
 none_included here (kind.Binding b) p = refl
 
--- whether a statement binds a text that is too long
+-- Whether a statement binds a text that is too long.
 abbrev pub binds_long : ScopedBindings Text → List ℕ → StatementKind → Bool
 binds_long meant scopes k = list_any (λ b. is_too_long b.1.1) (bound_in meant scopes k)
 
@@ -88,7 +88,7 @@ long_cause left meant (own ∷ outer) (kind.Build b) lt e = cc
 long_cause left meant (own ∷ outer) (kind.Pool q) lt e = cc
 long_cause left meant (own ∷ outer) (kind.Default targets) lt e = cc
 
--- a statement that includes no file, and binds no text that is too long
+-- A statement that includes no file and binds no text that is too long.
 loads_one : (left : ℕ) (f : File) (mid : List TreeStatement) (s : Statement) → path_included s.kind ≡ None → 0 < length f.scopes → binds_long (bound_by mid) f.scopes s.kind ≡ false
     → LoadsStatements no_files left f.path f.scopes mid (s ∷ []) (Ok (mid ++ said_at f s ∷ []))
 loads_one left f mid s p lt e =
@@ -98,7 +98,7 @@ loads_one left f mid s p lt e =
     subst (λ (c : Option Cause). LoadsStatement no_files next mid (said_at f s) c (included_by here s.kind) out) (sym (no_cause left (bound_by mid) f.scopes s.kind p lt e))
     (subst (λ (i : Option Text). LoadsStatement no_files next mid (said_at f s) None i out) (sym (none_included here s.kind p)) refl)
 
--- a statement that binds a text that is too long
+-- A statement that binds a text that is too long.
 stops_at : (left : ℕ) (f : File) (mid : List TreeStatement) (s : Statement) (more : List Statement) → 0 < length f.scopes → binds_long (bound_by mid) f.scopes s.kind ≡ true
     → LoadsStatements no_files left f.path f.scopes mid (s ∷ more) (Err (Refused f.path s.offset TextTooLong))
 stops_at left f mid s more lt e =
@@ -106,7 +106,7 @@ stops_at left f mid s more lt e =
     let out : Outcome = Err (Refused f.path s.offset TextTooLong) in
     subst (λ (c : Option Cause). LoadsStatement no_files (λ statements o. LoadsStatements no_files left f.path f.scopes statements more o) mid (said_at f s) c (included_by here s.kind) out) (sym (long_cause left (bound_by mid) f.scopes s.kind lt e)) refl
 
--- no statement is bound
+-- No statement is bound yet.
 pub binds_none : (f : File) (start : ℕ) (bound : ScopedBindings Text) → start ≤ length f.parsed.value.statements → BindsBetween f start start bound bound
 binds_none f start bound le = λ above k.
     let all = f.parsed.value.statements in
@@ -119,7 +119,7 @@ binds_none f start bound le = λ above k.
           (ap (λ (x : List TreeStatement). Ok x) none),
     )
 
--- one more statement is bound
+-- One more statement is bound.
 pub binds_more : (f : File) (start n : ℕ) (before mid now : ScopedBindings Text) (c : CompactStatement) (l : TreeStatement)
     → start ≤ n → n < length f.parsed.value.statements → get_or f.parsed.value.statements n c ≡ c → l ≡ statement_at f c → path_included l.kind ≡ None → 0 < length f.scopes
     → ((meant : ScopedBindings Text) → KeptEqScoped mid meant → KeptEqScoped now (meant ++ bound_in meant l.scopes l.kind))
@@ -156,7 +156,7 @@ refusal_is l cause (Parse path fault) not r = r
 refusal_is l cause (Refused path offset other) not r = r
 refusal_is l cause Memory not r = r
 
--- a statement is refused
+-- A statement is refused.
 pub refuses : (f : File) (start n : ℕ) (before mid : ScopedBindings Text) (c : CompactStatement) (l : TreeStatement) (fault : ScopeFault)
     → start ≤ n → n < length f.parsed.value.statements → get_or f.parsed.value.statements n c ≡ c → l ≡ statement_at f c → 0 < length f.scopes
     → ((meant : ScopedBindings Text) → KeptEqScoped mid meant → IsBound l (binds_long meant l.scopes l.kind) (Err fault))
@@ -179,7 +179,7 @@ refuses f start n before mid c l fault le lt at is some bound held = λ not abov
     (all_then no_files left f.path f.scopes (between start n (map said all)) (said c ∷ drop (n + 1) (map said all)) above so_far (Err (Refused f.path (said c).offset TextTooLong)) (w.1 left)
     (stops_at left f so_far (said c) (drop (n + 1) (map said all)) some long)))
 
--- statements that were bound, up to one that includes a file
+-- Statements that were bound, up to one that includes a file.
 pub up_to_loaded : (f g : File) (start end : ℕ) (before now : ScopedBindings Text) (above stands loaded : List TreeStatement) (include : Option Include) → g ≡ f → stands ≡ above → KeptEqScoped before (bound_by stands)
     → BindsUpTo g start before now include → end ≡ end_of f include → loaded ≡ stands ++ between start end (statements_at f)
     → IsNext f start include × LoadsBetween f start (end_of f include) above (Ok loaded)
@@ -193,7 +193,7 @@ up_to_loaded f g start end before now above stands loaded include e same k b end
           (sym (is ∙ ap (λ (n : ℕ). stands ++ between start n (statements_at f)) ends)) (w.1 left)),
     )
 
--- a statement among them that is refused
+-- A statement among them that is refused.
 pub up_to_refused : (f g : File) (start : ℕ) (before : ScopedBindings Text) (above stands : List TreeStatement) (fault : ScopeFault) → g ≡ f → stands ≡ above → KeptEqScoped before (bound_by stands)
     → RefusesUpTo g start before fault → fault ≢ LoadMemory → LoadsFrom f start above (Err fault)
 up_to_refused f g start before above stands fault e same k r not =

@@ -1,4 +1,4 @@
--- Variables of which as much is kept, and the edges that they give. Serves src/edge/variables.rt and
+-- Variables with equal kept texts, and the edges that they give. Used for src/edge/variables.rt and
 -- src/edge/build_line.rt.
 use Rattle.std.proofs.Common.{◌≡◌, ℕ, zero, suc, Bool, true, false, not, ◌||◌, ◌&&◌, ◌<◌, List, [], ◌∷◌, length, map, Option, Some, None, Result, Ok, Err, refl, ap, sym, ◌∙◌, bytes_eq, option_map, cond, inl, inr, arith, subst}
 use Rattle.std.specs.Prelude.{codes, is_none}
@@ -21,20 +21,20 @@ use Rattle.plan_scope.specs.Parts.{IsRead, texts_in, environment_from}
 use Rattle.plan_scope.proofs.TextLemmas.{Same, same_from_kept, kept_append, kept_or, kept_paths, kept_quoted, long_kept}
 use Rattle.plan_scope.proofs.PathLemmas.{empty_kept, exact_kept, kept_lists, or_parts}
 
--- equal items give equal lists
+-- Equal items make equal lists.
 infixr 10 ◌∷≡◌
 pub ◌∷≡◌ : {X : Type 0} {x y : X} {xs ys : List X} → x ≡ y → xs ≡ ys → x ∷ xs ≡ y ∷ ys
 e ∷≡ f = cc
 
--- a test of one item more
+-- A test of one more item.
 pub also : (t u w c : Bool) → t ≡ (u || c) → u ≡ w → t ≡ (w || c)
 also t u w c e f = e ∙ ap (λ x. x || c) f
 
--- two tests that say the same
+-- Two tests with the same result.
 pub or_both : (a b c d : Bool) → a ≡ c → b ≡ d → (a || b) ≡ (c || d)
 or_both a b c d e f = cc
 
--- whether an item of a list passes, by going along it
+-- Whether an item of a list passes, item by item.
 abbrev any_past : {A : Type 0} → (A → Bool) → Bool → List A → Bool
 any_past test t [] = t
 any_past test t (x ∷ xs) = any_past test (t || test x) xs
@@ -43,13 +43,13 @@ or_assoc : (a b c : Bool) → ((a || b) || c) ≡ (a || (b || c))
 or_assoc true b c = refl
 or_assoc false b c = refl
 
--- it is whether one of them does
+-- The result is whether one of the items passes.
 pub any_past_is : {A : Type 0} (test : A → Bool) (t : Bool) (xs : List A) → any_past test t xs ≡ (t || list_any test xs)
 any_past_is test true [] = refl
 any_past_is test false [] = refl
 any_past_is test t (x ∷ xs) = any_past_is test (t || test x) xs ∙ or_assoc t (test x) (list_any test xs)
 
--- a way to show paths that shows alike what is kept alike
+-- A quoting that gives equal kept texts for equal kept texts.
 abbrev Shows : (Text → Text) → Type 0
 Shows show = (a b : Text) → kept a ≡ kept b → kept (show a) ≡ kept (show b)
 
@@ -59,7 +59,7 @@ shows_plain a b e = e
 shows_quoted : Shows quoted
 shows_quoted a b e = kept_quoted a b e
 
--- what of a meaning is kept
+-- The kept part of a meaning.
 abbrev seen : Meaning → Result (Option Text) (List Piece)
 seen (Known text) = Ok (kept text)
 seen (Late pieces) = Err pieces
@@ -74,7 +74,7 @@ seen_late : (o : Option (List Piece)) (m n : Meaning) → seen m ≡ seen n → 
 seen_late None m n f = f
 seen_late (Some ps) m n f = refl
 
--- two edges that are looked up alike
+-- Two edges with environments that are kept equally.
 pub record Alike (u v : EdgeEnvironment) : Type 0 where
   pub inputs : map kept u.inputs ≡ map kept v.inputs
   pub outputs : map kept u.outputs ≡ map kept v.outputs
@@ -157,7 +157,7 @@ meets_alike show t u v h (n ∷ ns) =
 texts_alike : (show : Text → Text) → Shows show → (u v : EdgeEnvironment) → Alike u v → (name : Name) → kept (text_of_variable show u name) ≡ kept (text_of_variable show v name)
 texts_alike show t u v h name = kept_or (variable show u name) (variable show v name) [] [] (variable_alike show t u v h name) refl
 
--- the variables of two such edges
+-- The variables of two such edges.
 variables_alike : (u v : EdgeEnvironment) → Alike u v → KeptEqVariables (variables_of u) (variables_of v)
 variables_alike u v h =
     let p = texts_alike plain shows_plain u v h in
@@ -167,7 +167,7 @@ variables_alike u v h =
       cycle = or_both _ _ _ _ (meets_alike quoted shows_quoted u v h quoted_names) (meets_alike plain shows_plain u v h plain_names);
     }
 
--- the variables of two such phony edges
+-- The variables of two such phony edges.
 phony_alike : (u v : EdgeEnvironment) → Alike u v → KeptEqVariables (phony_variables u) (phony_variables v)
 phony_alike u v h = record {
   texts = refl ∷≡ refl ∷≡ refl ∷≡ refl ∷≡ texts_alike plain shows_plain u v h (codes "dyndep") ∷≡ refl;
@@ -177,15 +177,15 @@ phony_alike u v h = record {
 variables_through : (u v w : Variables) → KeptEqVariables u v → KeptEqVariables v w → KeptEqVariables u w
 variables_through u v w e f = record { texts = e.texts ∙ f.texts; cycle = e.cycle ∙ f.cycle }
 
--- variables that were found in an edge that is looked up like another
+-- Variables of an edge whose environment is kept like another's.
 pub found_alike : (held : Variables) (u v : EdgeEnvironment) → KeptEqVariables held (variables_of u) → Alike u v → KeptEqVariables held (variables_of v)
 found_alike held u v e h = variables_through held (variables_of u) (variables_of v) e (variables_alike u v h)
 
--- the same of a phony edge
+-- The same for a phony edge.
 pub found_alike_phony : (held : Variables) (u v : EdgeEnvironment) → KeptEqVariables held (phony_variables u) → Alike u v → KeptEqVariables held (phony_variables v)
 found_alike_phony held u v e h = variables_through held (phony_variables u) (phony_variables v) e (phony_alike u v h)
 
--- what the code holds of a build line is looked up alike
+-- The environment that the code holds for a build line is kept like the line's own.
 pub alike_read : (h f : Name → Text) (b : Build) (p : Parts) (rule other : Bindings (List Piece)) (file : Name → Text) (held : EdgeEnvironment)
     → IsRead h b p → rule ≡ other → KeptEqLookup file f → held ≡ environment_from p rule file → Alike held (environment_of h f b other)
 alike_read h f b p rule other file held r e s u =
@@ -261,7 +261,7 @@ or_refused_same : {A : Type 0} (o : Option Cause) (x y : A) → (o ≡ None → 
 or_refused_same None x y h = ap (λ e. Ok e) (h refl)
 or_refused_same (Some cause) x y h = refl
 
--- the edge, where no path and no text is too long
+-- The edge, if no path and no text is too long.
 edge_same : (h : Name → Text) (b : Build) (p : Parts) (u v : Variables) (t : Bool) → IsRead h b p → KeptEqVariables u v → p.read.has_long ≡ false → list_any is_too_long (texts_of_variables u) ≡ false
     → edge_of p.read.paths u t ≡ edge_of (canonical_paths (texts_in h b)) v t
 edge_same h b p u v t r e far long =
@@ -275,7 +275,7 @@ edge_same h b p u v t r e far long =
     let pool : u.pool ≡ v.pool = cc in
     cc
 
--- what the code holds gives the edge that is meant
+-- The parts that the code holds give the edge of the build line.
 pub edge_held : (pools names : List Name) (h : Name → Text) (b : Build) (p : Parts) (u v : Variables) (t : Bool) → EqNames pools names → IsRead h b p → KeptEqVariables u v
     → or_refused (first_of (causes_of pools u p.read.has_empty p.read.has_long p.block.has_long)) (edge_of p.read.paths u t) ≡ edge_or_refusal names h b v t
 edge_held pools names h b p u v t s r e =

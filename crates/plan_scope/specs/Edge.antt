@@ -3,8 +3,8 @@ use Rattle.std.specs.Prelude.{Bool, List}
 use Rattle.plan_parse.specs.declared.path_lists.PathLists.{PathLists}
 use Rattle.plan_scope.specs.Scopes.{Text}
 
--- What a build line makes, from what, and how: its canonical paths, the texts of its variables, none of which is too
--- long, and whether restat, generator and phony hold of it.
+-- The outputs and inputs of a build line and how the outputs are built: its canonical paths, the texts of its
+-- variables, and the flags restat, generator and phony. No text is too long.
 pub record Edge : Type 0 where
   pub paths : PathLists (List Text)
   pub command : Text

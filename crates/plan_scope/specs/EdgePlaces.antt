@@ -1,11 +1,11 @@
--- Where the paths of an edge stand among those of all edges.
+-- The places of an edge's paths among those of all edges.
 use Rattle.std.specs.Prelude.{◌≤◌, ℕ, List}
 use Rattle.plan_parse.specs.declared.path_lists.PathLists.{PathLists}
 use Rattle.plan_parse.specs.PathLists.{between}
 use Rattle.plan_scope.specs.declared.manifest.edge_paths.PathPlaces.{PathPlaces}
 use Rattle.plan_scope.specs.Scopes.{Text}
 
--- the paths of an edge, by the paths of all edges
+-- The paths of an edge, taken from the paths of all edges.
 abbrev pub paths_at : List Text → PathPlaces → PathLists (List Text)
 paths_at rows p = record {
   outputs = between p.outputs p.implicit_outputs rows;
@@ -15,7 +15,7 @@ paths_at rows p = record {
   order_only_inputs = between p.order_only_inputs p.end rows;
 }
 
--- the places of an edge's paths ascend, and lie among so many
+-- The places of an edge's paths ascend and are at most `count`.
 pub record ArePlaced (count : ℕ) (p : PathPlaces) : Type 0 where
   pub outputs : p.outputs ≤ p.implicit_outputs
   pub implicit_outputs : p.implicit_outputs ≤ p.inputs

@@ -1,4 +1,4 @@
--- The statements of a file, and those of a tree, which are kept file by file.
+-- The statements of a file, and the statements of a tree, which are held file by file.
 use Rattle.std.specs.Prelude.{ℕ, List, [], ◌∷◌, ◌++◌, map, flat_map, drop}
 use Rattle.plan_parse.specs.declared.compact.CompactStatement.{CompactStatement}
 use Rattle.plan_parse.specs.Compact.{said_in}
@@ -6,23 +6,23 @@ use Rattle.plan_parse.specs.Kinds.{Statement}
 use Rattle.plan_scope.specs.declared.tree.File.{File}
 use Rattle.plan_scope.specs.Trees.{TreeStatement}
 
--- a statement that stands in a file
+-- A statement of a file.
 abbrev pub said_at : File → Statement → TreeStatement
 said_at f s = record { path = f.path; scopes = f.scopes; offset = s.offset; kind = s.kind }
 
--- a statement that is kept beside a file's bytes
+-- A statement in the compact form that refers to the file's bytes.
 abbrev pub statement_at : File → CompactStatement → TreeStatement
 statement_at f s = said_at f (said_in f.parsed.value.text f.parsed.value.lists s)
 
--- all statements of a file
+-- All statements of a file.
 abbrev pub statements_at : File → List TreeStatement
 statements_at f = map (statement_at f) f.parsed.value.statements
 
--- stretches of statements, one behind the other
+-- The joined stretches of statements.
 abbrev pub joined : List (List TreeStatement) → List TreeStatement
 joined stretches = flat_map (λ s. s) stretches
 
--- what is left of stretches where so many statements of the first one are passed
+-- The rest of the stretches after `passed` statements of the first one.
 abbrev pub left_of : List (List TreeStatement) → ℕ → List TreeStatement
 left_of [] passed = []
 left_of (stretch ∷ behind) passed = drop passed stretch ++ joined behind

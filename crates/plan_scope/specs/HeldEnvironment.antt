@@ -1,4 +1,4 @@
--- What an edge's variables are looked up in, as the code holds it.
+-- The environment of an edge, as the code holds it.
 use Rattle.plan_scope.specs.declared.edge.expansion.EdgeEnvironment.{EdgeEnvironment as Held}
 use Rattle.plan_scope.specs.Expansion.{EdgeEnvironment}
 use Rattle.plan_scope.specs.ScopeNames.{names_in}

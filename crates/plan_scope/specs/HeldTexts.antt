@@ -1,4 +1,4 @@
--- Texts that stand elsewhere, or were put together.
+-- Texts that are borrowed or owned.
 use Rattle.std.specs.Prelude.{ℕ, List}
 use Rattle.plan_scope.specs.declared.scope.held_text.Held.{Held}
 use Rattle.plan_scope.specs.declared.scope.held_text.Held.TheVariants.{Lent, Made}

@@ -1,4 +1,4 @@
--- What a statement says, beside its text.
+-- The contents of a statement, without its place.
 use Rattle.plan_parse.specs.Kinds.{StatementKind}
 use Rattle.plan_parse.specs.Kinds as kind
 use Rattle.plan_parse.specs.Compact.{kind_of}

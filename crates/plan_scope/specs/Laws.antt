@@ -1,4 +1,4 @@
--- What holds of all manifests.
+-- Laws that hold for all manifests.
 use Rattle.std.specs.Prelude.{◌≡◌, ℕ, List, Ok}
 use Rattle.std.specs.List.{All}
 use Rattle.plan_scope.specs.declared.manifest.Manifest.{Manifest}
@@ -8,15 +8,15 @@ use Rattle.plan_scope.specs.Edges.{builds_of, manifest_of}
 use Rattle.plan_scope.specs.Loading.{FileContents, IsMissing, LoadsFirst, PathSet}
 use Rattle.plan_scope.specs.Sound.{IsSound, MakesSome}
 
--- what statements mean, each build line of which has an output, is sound
+-- If each build line of the statements has an output, their manifest is sound.
 abbrev pub ManifestsAreSound : Type 0
 ManifestsAreSound = (statements : List TreeStatement) (m : Manifest) → All MakesSome (builds_of statements) → manifest_of statements ≡ Ok m → IsSound m
 
--- each build line of a tree that is loaded has an output, by what the source may give and which reads may fail
+-- Each build line of a tree that is loaded has an output, whatever the source may return and whichever reads may fail.
 abbrev pub TreesAreWhole : (gives : FileContents) → (fails : PathSet) → Type 0
 TreesAreWhole gives fails = (before now : ℕ) (path : Text) (statements : List TreeStatement) → LoadsFirst gives (IsMissing gives fails before now) path (Ok statements) → All MakesSome (builds_of statements)
 
--- so what the statements of a tree that is loaded mean is sound
+-- The manifest of a tree that is loaded is sound.
 abbrev pub LoadedManifestsAreSound : (gives : FileContents) → (fails : PathSet) → Type 0
 LoadedManifestsAreSound gives fails =
     (before now : ℕ) (path : Text) (statements : List TreeStatement) (m : Manifest) → LoadsFirst gives (IsMissing gives fails before now) path (Ok statements) → manifest_of statements ≡ Ok m → IsSound m

@@ -8,6 +8,7 @@ pub mod Expansion
 pub mod Edge
 pub mod Edges
 pub mod EdgePlaces
+pub mod TextLists
 pub mod EdgeRows
 pub mod EdgeAnswers
 pub mod Sound

@@ -1,4 +1,4 @@
--- What the steps towards an edge answer.
+-- Answers of the steps towards an edge.
 use Rattle.std.specs.Prelude.{◌≡◌, List, Option, Some, None, Result, Ok, Err, Vec, ◌++◌, option_map}
 use Rattle.std.specs.declared.alloc.Global.{Global}
 use Rattle.plan_scope.specs.declared.fault.Cause.TheVariants.{RuleCycle}
@@ -8,19 +8,19 @@ use Rattle.plan_scope.specs.declared.fault.StatementFault.TheVariants.{Refused, 
 use Rattle.plan_scope.specs.Scopes.{Text}
 use Rattle.plan_scope.specs.Kept.{kept}
 
--- What was answered where this text was to be appended, as far as it is kept; none is that of a cycle.
+-- The answer when this text is to be appended, as far as it is kept. None means a cycle.
 abbrev pub Appends : (before now : Text) → Result (Unit {0}) StatementFault → Option Text → Type 0
 Appends before now (Ok done) meant = option_map (λ text. kept (before ++ text)) meant ≡ Some (kept now)
 Appends before now (Err (Refused cause)) meant = (meant ≡ None) × (cause ≡ RuleCycle)
 Appends before now (Err Memory) meant = Unit {0}
 
--- what was answered is what is meant, unless memory ran out
+-- The answer is the one that is meant, unless memory ran out.
 abbrev pub Gives : {A : Type 0} → Result A StatementFault → Result A Cause → Type 0
 Gives (Ok x) meant = meant ≡ Ok x
 Gives (Err (Refused cause)) meant = meant ≡ Err cause
 Gives (Err Memory) meant = Unit {0}
 
--- the same of a list
+-- The same for a list.
 abbrev pub GivesItems : {A : Type 0} → Result (Vec A Global) StatementFault → Result (List A) Cause → Type 0
 GivesItems (Ok x) meant = meant ≡ Ok x.items
 GivesItems (Err (Refused cause)) meant = meant ≡ Err cause

@@ -1,4 +1,4 @@
--- What is read of a build line.
+-- The parts that are read from a build line.
 use Rattle.std.specs.Prelude.{◌≡◌, false, List}
 use Rattle.std.specs.List.{list_any}
 use Rattle.plan_text.specs.declared.piece_reader.Piece.{Piece}
@@ -12,11 +12,11 @@ use Rattle.plan_scope.specs.Edges.{Paths, block_of, canonical_paths, has_empty, 
 use Rattle.plan_scope.specs.Kept.{KeptEqBindings}
 use Rattle.plan_scope.specs.Paths.{kept_in}
 
--- the paths of a build line as expanded, by what names stand for above it
+-- The expanded paths of a build line, by the meaning of names above it.
 abbrev pub texts_in : (Name → Text) → Build → Paths
 texts_in here b = texts_of (near here (block_of here b.bindings)) b
 
--- what was read is what the build line means, as far as texts are kept
+-- The parts that were read are those of the build line, as far as texts are kept.
 pub record IsRead (here : Name → Text) (b : Build) (p : Parts) : Type 0 where
   pub values : KeptEqBindings p.block.values (block_of here b.bindings)
   pub long_value : p.block.has_long ≡ list_any (λ x. is_too_long x.1) (block_of here b.bindings)
@@ -25,10 +25,10 @@ pub record IsRead (here : Name → Text) (b : Build) (p : Parts) : Type 0 where
   pub empty_path : p.read.has_empty ≡ has_empty (texts_in here b)
   pub long_path : p.read.has_long ≡ has_long (texts_in here b)
 
--- what is read of its block and of its paths
+-- The parts with this block and these paths.
 abbrev pub parts_with : BlockTexts → PathTexts → Parts
 parts_with block read = record { block = block; read = read }
 
--- what its variables are looked up in, by its rule and what names stand for in its file
+-- The environment with these parts and this rule, by the meaning of names in the file.
 abbrev pub environment_from : Parts → Bindings (List Piece) → (Name → Text) → EdgeEnvironment
 environment_from p rule file = record { inputs = p.read.paths.inputs; outputs = p.read.paths.outputs; block = p.block.values; rule = rule; file = file }

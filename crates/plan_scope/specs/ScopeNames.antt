@@ -1,7 +1,7 @@
--- What names stand for, as the code holds it.
+-- The meaning of names, as the code holds it.
 use Rattle.plan_scope.specs.declared.scope.Scope.{Scope}
 use Rattle.plan_scope.specs.Scopes.{Text, Name, lookup}
 
--- what names stand for in a scope
+-- The meaning of names in a scope.
 abbrev pub names_in : Scope → Name → Text
 names_in scope = lookup scope.bound.now scope.scopes.now

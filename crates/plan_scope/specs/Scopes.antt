@@ -1,4 +1,4 @@
--- What names are bound to. (Ninja manual, "Variable expansion" and "Evaluation and scoping".)
+-- Bindings of names. (Ninja manual, "Variable expansion" and "Evaluation and scoping".)
 use Rattle.std.specs.Prelude.{ℕ, Bool, List, [], ◌∷◌, ◌++◌, Option, Some, None, ◌==◌, bytes_eq, nat_lt, length, if◌then◌else◌, unwrap_or, flat_map}
 use Rattle.plan_text.specs.declared.piece_reader.Piece.{Piece}
 use Rattle.plan_text.specs.declared.piece_reader.Piece.TheVariants.{Literal, Reference}
@@ -13,7 +13,7 @@ Text = List ℕ
 abbrev pub Name : Type 0
 Name = List ℕ
 
--- names with what they are bound to, in the order of their bindings
+-- Names with their values, in the order of their bindings.
 abbrev pub Bindings : Type 0 → Type 0
 Bindings V = List (Name × V)
 
@@ -21,26 +21,26 @@ abbrev pub or_else : {V : Type 0} → Option V → Option V → Option V
 or_else (Some v) other = Some v
 or_else None other = other
 
--- what the last binding of a name gives
+-- The value of the last binding of a name.
 abbrev pub last_of : {V : Type 0} → Name → Bindings V → Option V
 last_of name [] = None
 last_of name (b ∷ bs) = or_else (last_of name bs) (if bytes_eq b.0 name then Some b.1 else None)
 
--- names with what they are bound to, each in a scope, in the order of the tree
+-- Names with their values, each in a scope, in the order of the tree.
 abbrev pub ScopedBindings : Type 0 → Type 0
 ScopedBindings V = List (ℕ × (Name × V))
 
--- the bindings of one scope
+-- The bindings of one scope.
 abbrev pub frame : {V : Type 0} → ℕ → ScopedBindings V → Bindings V
 frame scope [] = []
 frame scope (b ∷ bs) = if b.0 == scope then b.1 ∷ frame scope bs else frame scope bs
 
--- what the last binding in the nearest scope that has one gives
+-- The value of the last binding in the nearest scope that has one.
 abbrev pub nearest : {V : Type 0} → ScopedBindings V → List ℕ → Name → Option V
 nearest bound [] name = None
 nearest bound (scope ∷ outer) name = or_else (last_of name (frame scope bound)) (nearest bound outer name)
 
--- the text of a name, empty where no scope binds it
+-- The text of a name, empty if no scope binds it.
 abbrev pub lookup : ScopedBindings Text → List ℕ → Name → Text
 lookup bound scopes name = unwrap_or (nearest bound scopes name) []
 
@@ -48,26 +48,26 @@ abbrev pub value_of : (Name → Text) → Piece → Text
 value_of value (Literal text) = text
 value_of value (Reference name) = value name
 
--- the values of the pieces, joined
+-- The joined values of the pieces.
 abbrev pub expand : (Name → Text) → List Piece → Text
 expand value pieces = flat_map (value_of value) pieces
 
--- a binding in the own scope of a statement, the first that it sees
+-- A binding in the own scope of a statement, which is the first that it sees.
 abbrev pub in_own : {V : Type 0} → List ℕ → Name → V → ScopedBindings V
 in_own [] name value = []
 in_own (own ∷ outer) name value = (own, (name, value)) ∷ []
 
--- what a statement binds, its right side expanded at once by the bindings above it
+-- The binding of a statement. Its value is expanded at once by the bindings above it.
 abbrev pub bound_in : ScopedBindings Text → List ℕ → StatementKind → ScopedBindings Text
 bound_in above scopes (kind.Binding b) = in_own scopes b.name (expand (lookup above scopes) b.value)
 bound_in above scopes other = []
 
--- these bindings, and those of the statements behind them
+-- These bindings, followed by those of the statements.
 abbrev pub bound_past : ScopedBindings Text → List TreeStatement → ScopedBindings Text
 bound_past above [] = above
 bound_past above (l ∷ more) = bound_past (above ++ bound_in above l.scopes l.kind) more
 
--- what statements bind
+-- The bindings of statements.
 abbrev pub bound_by : List TreeStatement → ScopedBindings Text
 bound_by statements = bound_past [] statements
 

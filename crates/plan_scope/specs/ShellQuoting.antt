@@ -1,4 +1,4 @@
--- How a path is shown, as the code holds it.
+-- The quoting of paths, as the code holds it.
 use Rattle.plan_scope.specs.declared.scope.text.Quoting.{Quoting}
 use Rattle.plan_scope.specs.declared.scope.text.Quoting.TheVariants.{Plain, Shell}
 use Rattle.plan_scope.specs.Scopes.{Text}

@@ -2,8 +2,8 @@
 use Rattle.std.specs.Prelude.{ℕ, List}
 use Rattle.plan_parse.specs.Kinds.{StatementKind}
 
--- A statement, the path and the offset where it stands, and the scopes that it sees, its own first. The statements of
--- a file stand in place of the statement that includes it.
+-- A statement with its path, its offset, and the scopes that it sees, its own first. The statements of a file replace
+-- the statement that includes it.
 pub record TreeStatement : Type 0 where
   pub path : List ℕ
   pub scopes : List ℕ

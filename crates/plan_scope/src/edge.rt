@@ -1,4 +1,4 @@
-//! The edges of build lines: their paths, and their variables.
+//! Evaluates build lines into edges: their paths and their variables.
 
 pub(crate) mod build_line;
 pub(crate) mod compiled;

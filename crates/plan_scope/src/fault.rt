@@ -1,4 +1,4 @@
-//! Why a manifest has no meaning.
+//! Faults of manifests.
 
 ghost use Rattle.std.specs.Prelude.{◌≡◌};
 ghost use Rattle.plan_scope.specs.Faults.{cause_number, number_of};
@@ -9,39 +9,39 @@ use plan_parse::ParseFault;
 use plan_text::Items;
 use std::alloc::{AllocError, AllocFailed};
 
-/// Why a statement is refused.
+/// The reason why a statement is refused.
 #[derive(Clone, Copy, Debug, PartialEq, Eq)]
 pub enum Cause {
-    /// The 64 files above it are open already.
+    /// 64 files are open already: the statement's own and those that include it.
     IncludeDepth,
-    /// A rule of this name stands above in the same scope, or the name is `phony`.
+    /// A rule with this name is above in the same scope, or the name is `phony`.
     DuplicateRule,
-    /// No rule of this name stands above.
+    /// No visible rule above has this name.
     UnknownRule,
-    /// A pool of this name stands above, or the name is `console`.
+    /// A pool with this name is above, or the name is `console`.
     DuplicatePool,
-    /// The tree has no pool of this name.
+    /// The tree has no pool with this name.
     UnknownPool,
-    /// A variable of a rule refers to itself.
+    /// A variable of a rule refers to itself, directly or through other variables.
     RuleCycle,
-    /// A path without a byte.
+    /// A path has no bytes.
     EmptyPath,
-    /// A `dyndep` that isn't empty.
+    /// A `dyndep` isn't empty.
     Dyndep,
-    /// An `rspfile` that isn't empty.
+    /// An `rspfile` isn't empty.
     Rspfile,
-    /// A `deps` that is neither empty nor `gcc`.
+    /// A `deps` is neither empty nor `gcc`.
     DepsKind,
-    /// A path of more than 4,096 bytes.
+    /// A path has more than 4,096 bytes.
     PathTooLong,
-    /// A text of more than 1,048,576 bytes.
+    /// A text has more than 1,048,576 bytes.
     TextTooLong,
-    /// A `depth` that isn't one to seven digits, or above 1,000,000.
+    /// A `depth` isn't one to seven digits, or is above 1,000,000.
     BadDepth,
 }
 
 impl Cause {
-    /// The number under which the cause is printed.
+    /// Returns the number under which the cause is printed.
     pub fn number(&self) -> u8
         ensures { result ≡ cause_number self.now }
     {
@@ -63,24 +63,25 @@ impl Cause {
     }
 }
 
-/// Why a manifest is not read, or has no meaning.
+/// The reason why a manifest can't be loaded or evaluated.
 #[derive(Debug, Drop)]
 pub enum ScopeFault {
     /// The file at this path is missing or can't be read.
     SourceMissing(Items<u8>),
-    /// The file at this path is no list of statements; never for want of memory.
+    /// The bytes of the file at this path aren't a list of statements. Running out of memory is reported as
+    /// `LoadMemory`.
     Parse(Items<u8>, ParseFault),
     /// The statement at this offset of the file at this path is refused.
     Refused(Items<u8>, u64, Cause),
-    /// Memory ran out while the file was read.
+    /// Memory ran out while the files were loaded.
     LoadMemory,
     /// Memory ran out while the statements were evaluated.
     Memory,
 }
 
 impl ScopeFault {
-    /// The number under which the fault is printed: 20 for a missing file, 22 and 41 for memory, else that of the
-    /// statements' fault or of the cause.
+    /// Returns the number under which the fault is printed: 20 for a missing file, 22 and 41 for memory, or else the
+    /// number of the parser's fault or of the cause.
     pub fn number(&self) -> u8
         ensures { result ≡ number_of self.now }
     {
@@ -94,7 +95,7 @@ impl ScopeFault {
     }
 }
 
-/// Why a statement tells nothing.
+/// The reason why a statement adds nothing.
 #[derive(Clone, Copy)]
 pub enum StatementFault {
     /// The statement is refused.
@@ -127,12 +128,12 @@ impl From<AllocError> for ScopeFault {
     }
 }
 
-/// Why the statements of a file are not there.
+/// The reason why the statements of a file can't be read.
 #[derive(Clone, Copy)]
 pub enum ReadFault {
     /// The file is missing or can't be read.
     Missing,
-    /// Its bytes are no list of statements.
+    /// Its bytes aren't a list of statements.
     Parse(ParseFault),
     /// Memory ran out.
     Memory,

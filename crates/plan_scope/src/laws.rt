@@ -1,4 +1,4 @@
-//! What holds of all manifests.
+//! Laws that hold for all manifests.
 
 ghost use Rattle.plan_scope.specs.Laws.{LoadedManifestsAreSound, ManifestsAreSound, TreesAreWhole};
 
@@ -6,23 +6,23 @@ use crate::tree::source::Source;
 use plan_parse::statements_are_whole;
 use plan_text::canonical_stays;
 
-/// A manifest is sound where each build line has an output: so is each edge, its paths are canonical and within their
-/// limit, its texts within theirs, its pool is declared, and a phony runs nothing; pools differ in their names, and
-/// their depths are within their limit.
+/// Proves that a manifest is sound if each of its build lines has an output. Each edge then has an output, its paths
+/// are canonical and within their limit, its texts are within theirs, its pool is declared, and it runs nothing if it
+/// is phony. The names of pools differ, and their depths are within their limit.
 pub fn manifests_are_sound()
     ensures { ManifestsAreSound }
 {
     canonical_stays();
 }
 
-/// Each build line of a tree that is loaded from a source has an output, in whatever state the source is.
+/// Proves that each build line of a tree that is loaded from a source has an output, in whatever state the source is.
 pub fn trees_are_whole<S: Source>()
     ensures { (source : S) → TreesAreWhole (S.gives source) (S.fails source) }
 {
     statements_are_whole();
 }
 
-/// What the statements of a tree mean that is loaded from a source is sound.
+/// Proves that the manifest of a tree that is loaded from a source is sound.
 pub fn loaded_manifests_are_sound<S: Source>()
     ensures { (source : S) → LoadedManifestsAreSound (S.gives source) (S.fails source) }
 {

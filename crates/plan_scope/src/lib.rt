@@ -1,4 +1,4 @@
-//! What the statements of a manifest mean: its edges and their commands.
+//! Evaluates the statements of a manifest into its edges and their commands.
 #![tactic(auto)]
 
 mod edge;
@@ -13,9 +13,11 @@ pub use laws::{loaded_manifests_are_sound, manifests_are_sound, trees_are_whole}
 pub use manifest::commands::{WriteFault, write_commands};
 pub use manifest::edge_list::{EdgeList, EdgeRef};
 pub use manifest::edge_paths::EdgePaths;
+pub use manifest::edge_text::{EdgeText, write_text};
 pub use manifest::evaluator::evaluate;
 pub use manifest::path_range::PathRange;
 pub use manifest::{DefaultTarget, Manifest, Pool};
+pub use scope::held_text::HeldText;
 pub use tree::loader::load;
 pub use tree::source::{Source, SourceFault};
 pub use tree::statements::Statements;

@@ -1,26 +1,29 @@
-//! What a tree means.
+//! Manifests: the evaluated form of a tree's statements.
 
+pub(crate) mod chunks;
 pub(crate) mod commands;
 mod defaults;
 pub(crate) mod edge_list;
 pub(crate) mod edge_paths;
 pub(crate) mod edge_rows;
+pub(crate) mod edge_text;
 pub(crate) mod evaluator;
 pub(crate) mod found_rules;
 pub(crate) mod path_range;
 pub(crate) mod pool_names;
 mod pools;
 mod rules;
+pub(crate) mod text_list;
 
 use crate::manifest::edge_list::EdgeList;
 use plan_text::{Items, SmallText};
 
-/// A pool of edges.
+/// A pool, which limits the number of its edges that run at once.
 #[derive(Debug, Drop)]
 pub struct Pool {
-    /// The name by which edges ask for it.
+    /// The name by which edges refer to it.
     pub name: Items<u8>,
-    /// How many of its edges may run at once, at most 1,000,000; 0 is no limit.
+    /// The number of its edges that may run at once, at most 1,000,000. 0 means no limit.
     pub depth: u64,
 }
 
@@ -29,16 +32,16 @@ pub struct Pool {
 pub struct DefaultTarget {
     /// Its canonical path.
     pub path: SmallText,
-    /// How many build lines stand above the statement.
+    /// The number of build lines above the statement.
     pub edges_above: usize,
 }
 
-/// What a tree means.
+/// The meaning of a tree: its edges, pools and default targets.
 #[derive(Debug, Drop)]
 pub struct Manifest {
-    /// An edge for each build line, in their order.
+    /// One edge for each build line, in their order.
     pub edges: EdgeList,
-    /// `console`, and then the pools in their order.
+    /// The pool `console`, and then the declared pools in their order.
     pub pools: Items<Pool>,
     /// The targets of all `default` statements in their order.
     pub defaults: Items<DefaultTarget>,

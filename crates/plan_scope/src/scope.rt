@@ -1,4 +1,4 @@
-//! What names stand for at a place of a tree.
+//! The meaning of names at a place of a tree.
 
 ghost use Rattle.std.specs.Prelude.{◌≡◌, ◌≤◌, ◌+◌, [], ◌∷◌, ◌++◌, length, IfOk, OnOk};
 ghost use Rattle.std.specs.List.{list_any};
@@ -20,16 +20,16 @@ use plan_parse::Binding;
 use plan_text::{Items, MAX_TEXT, Piece};
 use std::alloc::{AllocError, Global};
 
-/// What names stand for at a place of a tree.
+/// The meaning of names at a place of a tree.
 #[derive(Clone, Copy)]
 pub struct Scope<'a> {
-    /// What is bound in all scopes.
+    /// The bindings of all scopes.
     pub bound: &'a ScopedMap<Items<u8>>,
-    /// The scopes that are seen there, the nearest first.
+    /// The scopes that are visible there, the nearest first.
     pub scopes: &'a [usize],
 }
 
-/// The text of a name, empty where no scope binds it.
+/// Returns the text of a name, or an empty text if no scope binds it.
 pub fn name_text<'a>(scope: Scope<'a>, name: &[u8]) -> &'a [u8]
     ensures { result.now ≡ names_in scope.entry name.now }
 {
@@ -39,7 +39,7 @@ pub fn name_text<'a>(scope: Scope<'a>, name: &[u8]) -> &'a [u8]
     }
 }
 
-/// The text of a piece of a right side.
+/// Returns the text of a piece of a value.
 fn piece_text<'a>(scope: Scope<'a>, piece: &'a Piece) -> &'a [u8]
     ensures { result.now ≡ value_of (names_in scope.entry) piece.now }
 {
@@ -49,7 +49,8 @@ fn piece_text<'a>(scope: Scope<'a>, piece: &'a Piece) -> &'a [u8]
     }
 }
 
-/// How many bytes the literal pieces of a text have, at most as many as are kept: room to begin with.
+/// Returns the number of bytes in the literal pieces of a text, at most the number that is kept. It is the text's
+/// initial capacity.
 fn literal_len(pieces: &[Piece]) -> usize
     ensures { result ≤ max_text + 1 }
 {
@@ -62,7 +63,7 @@ fn literal_len(pieces: &[Piece]) -> usize
     len.min(MAX_TEXT + 1)
 }
 
-/// The text of a right side.
+/// Expands the pieces of a value.
 pub fn expand_pieces<'a>(
     alloc: Global,
     scope: Scope<'a>,
@@ -78,7 +79,7 @@ pub fn expand_pieces<'a>(
     Ok(text)
 }
 
-/// Binds a name in a scope, by what is bound above. Answers whether its text is too long.
+/// Binds a name in a scope, by the bindings above. Returns whether its text is too long.
 fn bind_in(
     alloc: Global,
     bound: &mut ScopedMap<Items<u8>>,
@@ -102,7 +103,7 @@ fn bind_in(
     Ok(long)
 }
 
-/// Binds a name in the own scope of a statement, by what is bound above. Answers whether its text is too long.
+/// Binds a name in the own scope of a statement, by the bindings above. Returns whether its text is too long.
 fn bind_own(
     alloc: Global,
     bound: &mut ScopedMap<Items<u8>>,
@@ -118,7 +119,7 @@ fn bind_own(
     }
 }
 
-/// Binds what a statement binds, by what is bound above it. Answers whether a text is too long.
+/// Binds the name of a statement that is a binding, by the bindings above it. Returns whether its text is too long.
 pub fn bind_statement(
     alloc: Global,
     bound: &mut ScopedMap<Items<u8>>,

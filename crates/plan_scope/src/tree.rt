@@ -29,16 +29,16 @@ use std::rc::Rc;
 /// A file of a tree.
 #[derive(Drop)]
 pub struct File {
-    /// The path of the file, as it was asked for.
+    /// The path of the file, as it was requested.
     pub path: Items<u8>,
-    /// The scopes that its statements see, their own first.
+    /// The scopes that are visible to its statements, their own first.
     pub scopes: Items<usize>,
-    /// What was read of it: statements are read again from there. Files that say the same may share it.
+    /// The parsed file, from which statements are read again. Files with the same contents may share it.
     pub parsed: Rc<Parsed>,
 }
 
 impl File {
-    /// Its statements.
+    /// Returns its statements.
     pub fn statements(&self) -> &[CompactStatement]
         ensures { result.now ≡ self.now.parsed.value.statements }
     {
@@ -51,7 +51,7 @@ impl File {
 pub struct TreeStatement<'a> {
     /// The file.
     file: &'a File,
-    /// The statement, kept beside the file's bytes.
+    /// The statement, in its compact form that refers to the file's bytes.
     statement: &'a CompactStatement,
 }
 
@@ -65,35 +65,35 @@ impl<'a> Model for TreeStatement<'a> {
 }
 
 impl<'a> TreeStatement<'a> {
-    /// A statement that is kept beside a file's bytes.
+    /// Creates a statement from its file and its compact form.
     pub(crate) fn new(file: &'a File, statement: &'a CompactStatement) -> Self
         ensures { result ≡ statement_at file.now statement.now }
     {
         TreeStatement { file, statement }
     }
 
-    /// The path of its file.
+    /// Returns the path of its file.
     pub fn path(&self) -> &'a [u8]
         ensures { result.now ≡ self.now.path }
     {
         self.file.path.as_slice()
     }
 
-    /// The scopes that it sees, its own first.
+    /// Returns the scopes that are visible to it, its own first.
     pub fn scopes(&self) -> &'a [usize]
         ensures { result.now ≡ self.now.scopes }
     {
         self.file.scopes.as_slice()
     }
 
-    /// How many bytes stand before it in its file.
+    /// Returns the number of bytes before it in its file.
     pub fn offset(&self) -> u64
         ensures { result ≡ self.now.offset }
     {
         self.statement.offset(self.file.parsed.as_ref().lists())
     }
 
-    /// The fault that it is refused for a cause.
+    /// Returns the fault that refuses it for a cause.
     pub(crate) fn refusal(&self, alloc: Global, cause: Cause) -> Result<ScopeFault, AllocError>
         ensures { IfOk result (λ fault. fault ≡ scope_fault.Refused self.now.path self.now.offset cause) }
     {
@@ -101,7 +101,7 @@ impl<'a> TreeStatement<'a> {
     }
 }
 
-/// What a statement says.
+/// The contents of a statement.
 #[derive(Drop)]
 pub enum Said<'a> {
     /// A binding.
@@ -113,7 +113,7 @@ pub enum Said<'a> {
 }
 
 impl<'a> TreeStatement<'a> {
-    /// What it says.
+    /// Returns its contents.
     pub fn said(&self) -> Said<'a>
         ensures { kind_said result ≡ self.now.kind }
     {
@@ -127,13 +127,13 @@ impl<'a> TreeStatement<'a> {
     }
 }
 
-/// The statements of a manifest and of all files that it includes: those of a file stand in place of the `include` or
+/// The statements of a manifest and of all files that it includes. The statements of a file replace the `include` or
 /// `subninja` statement that includes it.
 #[derive(Drop)]
 pub struct Tree {
     /// The statements in their order, as stretches of files.
     stretches: Items<Stretch>,
-    /// What they bind.
+    /// Their bindings.
     bound: ScopedMap<Items<u8>>,
 }
 
@@ -152,14 +152,14 @@ impl Model for Tree {
 }
 
 impl Tree {
-    /// The statements in their order.
+    /// Returns the statements in their order.
     pub fn statements(&self) -> Statements<'_>
         ensures { result ≡ self.now }
     {
         Statements::new(self.stretches.as_slice())
     }
 
-    /// What they bind.
+    /// Returns the bindings of the statements.
     pub(crate) fn bound(&self) -> &ScopedMap<Items<u8>>
         ensures { KeptEqScoped result.now (bound_by self.now) }
     {

@@ -1,4 +1,4 @@
-//! The edge of a build line.
+//! Evaluates a build line into an edge.
 
 ghost use Rattle.std.specs.Prelude.{◌≡◌, ◌<◌, ◌+◌, [], List, IfOk, OnOk, get_or, length, true, false};
 ghost use Rattle.plan_scope.specs.Scopes.{Name, Text};
@@ -9,12 +9,13 @@ ghost use Rattle.plan_scope.specs.HeldEnvironment.{environment_of as held_enviro
 ghost use Rattle.plan_scope.specs.Parts.{IsRead, environment_from, parts_with};
 ghost use Rattle.plan_scope.specs.EdgePlaces.{ArePlaced};
 ghost use Rattle.plan_scope.specs.EdgeRows.{AreWithin, BeginsEmpty, edge_with};
-ghost use Rattle.plan_scope.specs.EdgeAnswers.{AreTexts, GivesEdge, GivesMarks, HasMore, texts_read};
+ghost use Rattle.plan_chunks.specs.Joining.{HasMore};
+ghost use Rattle.plan_scope.specs.EdgeAnswers.{AreTexts, GivesEdge, GivesMarks, texts_read};
 ghost use Rattle.plan_scope.specs.ScopeNames.{names_in};
 
 use crate::edge::compiled::CompiledRule;
 use crate::edge::expansion::EdgeEnvironment;
-use crate::edge::paths::{BlockTexts, PathRows, PathTexts, block, read_paths, row_count};
+use crate::edge::paths::{BlockTexts, PathRows, PathTexts, block, read_paths};
 use crate::edge::rule_variables::RuleVariables;
 use crate::edge::variables::{
     Variables, has_long_text, is_other_deps, is_present, keep_room, variables_of_phony,
@@ -24,23 +25,23 @@ use crate::fault::{Cause, StatementFault};
 use crate::manifest::edge_paths::PathPlaces;
 use crate::manifest::edge_rows::{EdgeMarks, EdgeRows};
 use crate::manifest::pool_names::PoolNames;
+use crate::manifest::text_list::TextList;
 use crate::scope::Scope;
 use crate::scope::text::is_long;
 use plan_parse::BuildLine;
-use plan_text::RowList;
 use std::alloc::{AllocError, Global};
 
-/// What is read of a build line before its variables are looked up.
+/// The parts of a build line that are read before its variables are looked up.
 #[derive(Drop)]
 pub struct Parts<'a> {
-    /// Its block.
+    /// The variables of its block.
     pub block: BlockTexts<'a>,
-    /// What is read of its paths.
+    /// Its paths.
     pub read: PathTexts<'a>,
 }
 
-/// Reads a build line, by what names stand for above it: its block, and its paths behind those of the lines before,
-/// with their places.
+/// Reads the block and the paths of a build line, by the meaning of names above it. Appends the paths to those of the
+/// lines before, and returns the block and the places of the paths.
 fn read_parts<'a>(
     alloc: Global,
     here: Scope<'a>,
@@ -56,7 +57,7 @@ fn read_parts<'a>(
     Ok((block, places))
 }
 
-/// Whether a text asks for a pool that isn't there.
+/// Checks whether a text names a pool that doesn't exist. An empty text names none.
 fn names_no_pool(pools: &PoolNames, text: &[u8]) -> bool
     ensures { result ≡ names_no_pool pools.now text.now }
 {
@@ -69,7 +70,8 @@ fn names_no_pool(pools: &PoolNames, text: &[u8]) -> bool
     !pools.contains(text)
 }
 
-/// Why a build line with these variables is refused.
+/// Returns the cause for which a build line with these variables is refused. If there are several, returns the one with
+/// the least number.
 fn cause(pools: &PoolNames, parts: &Parts, variables: &Variables) -> Option<Cause>
     ensures { result ≡ first_of (causes_of pools.now variables.now parts.now.read.has_empty parts.now.read.has_long parts.now.block.has_long) }
 {
@@ -100,25 +102,25 @@ fn cause(pools: &PoolNames, parts: &Parts, variables: &Variables) -> Option<Caus
     None
 }
 
-/// Puts a text behind those before, and gives its number; the first one's where it is empty.
-fn put_text(texts: &mut RowList<u8>, text: &[u8]) -> Result<u32, AllocError>
+/// Appends a text and returns its number. If the text is empty, returns the number of the first text, which is empty.
+fn put_text(texts: &mut TextList, text: &[u8]) -> Result<u32, AllocError>
     ensures text { IfOk result (λ n. BeginsEmpty texts.old → (get_or texts.new n [] ≡ text.now) × (n < length texts.new)) }
     ensures more { OnOk result (HasMore texts.old texts.new) }
 {
     if text.is_empty() {
         return Ok(0);
     }
-    let number = row_count(texts)?;
+    let number = texts.count()?;
     texts.push(text)?;
     Ok(number)
 }
 
-/// The marks of the edge with these places and variables, whose texts are put behind those before.
+/// Appends the texts of an edge with these places and variables, and returns the edge's marks.
 fn marks_of(
     places: PathPlaces,
     variables: &Variables,
     phony: bool,
-    texts: &mut RowList<u8>,
+    texts: &mut TextList,
 ) -> Result<EdgeMarks, AllocError>
     ensures edge { IfOk result (λ m. BeginsEmpty texts.old → (paths : Paths) → edge_with paths texts.new m ≡ edge_of paths variables.now phony) }
     ensures places { IfOk result (λ m. m.paths ≡ places) }
@@ -137,14 +139,14 @@ fn marks_of(
     })
 }
 
-/// The marks of the edge with these variables, unless it is refused.
+/// Returns the marks of the edge with these variables, or the cause for which it is refused.
 fn marks_or_refusal(
     pools: &PoolNames,
     parts: &Parts,
     places: PathPlaces,
     variables: &Variables,
     phony: bool,
-    texts: &mut RowList<u8>,
+    texts: &mut TextList,
 ) -> Result<EdgeMarks, StatementFault>
     ensures { BeginsEmpty texts.old → GivesMarks parts.now.read.paths places texts.old texts.new result (or_refused (first_of (causes_of pools.now variables.now parts.now.read.has_empty parts.now.read.has_long parts.now.block.has_long)) (edge_of parts.now.read.paths variables.now phony)) }
 {
@@ -154,7 +156,7 @@ fn marks_or_refusal(
     }
 }
 
-/// What the variables of an edge are looked up in.
+/// Creates the environment in which the variables of an edge are looked up.
 fn environment_with<'a>(
     parts: &'a Parts<'a>,
     rule: &'a RuleVariables<'a>,
@@ -170,8 +172,9 @@ fn environment_with<'a>(
     }
 }
 
-/// Adds the edge of a build line with this rule, compiled for its file or not, by the pools of the tree and by what
-/// names stand for above the statement and, once the whole tree was read, in its file.
+/// Adds the edge of a build line with this rule. `compiled` is the rule as far as it is compiled for its file, and
+/// `pools` has the pools of the tree. `here` gives the meaning of names above the statement, and `file` their meaning
+/// in its file after the whole tree was read.
 pub fn push_edge<'a>(
     alloc: Global,
     pools: &PoolNames<'a>,
@@ -197,7 +200,7 @@ pub fn push_edge<'a>(
     Ok(())
 }
 
-/// Adds the edge of a phony build line, by the same.
+/// Adds the edge of a phony build line, with the same meaning of names as `push_edge`.
 pub fn push_phony_edge<'a>(
     alloc: Global,
     pools: &PoolNames<'a>,

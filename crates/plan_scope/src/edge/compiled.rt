@@ -1,4 +1,4 @@
-//! Rules compiled for a file: what of their variables is known before an edge is.
+//! Rules that are compiled for a file: the parts of their variables that are known before an edge is read.
 
 ghost use Rattle.std.specs.Prelude.{◌≡◌, ◌++◌, IfOk, OnOk, unwrap_or};
 ghost use Rattle.plan_scope.specs.Scopes.{last_of};
@@ -20,51 +20,51 @@ use std::alloc::{AllocError, Global};
 pub enum VariablePart<'a> {
     /// A text.
     Literal(&'a [u8]),
-    /// The explicit inputs, a space between each two.
+    /// The explicit inputs, separated by spaces.
     Inputs,
-    /// The explicit inputs, each on a line of its own.
+    /// The explicit inputs, separated by newlines.
     InputsByLine,
-    /// The explicit outputs, a space between each two.
+    /// The explicit outputs, separated by spaces.
     Outputs,
-    /// What the edge's block binds to this name, or else this text.
+    /// The text that the edge's block binds to the name (first), or else this text (second).
     Near(&'a [u8], &'a [u8]),
 }
 
 /// The parts of the variables that an edge with a rule looks up.
 #[derive(Drop)]
 pub struct RuleParts<'a> {
-    /// What runs.
+    /// The command line.
     pub command: Vec<VariablePart<'a>>,
     /// The path of its depfile.
     pub depfile: Vec<VariablePart<'a>>,
     /// How its depfile is handled.
     pub deps: Vec<VariablePart<'a>>,
-    /// What is shown in place of the command.
+    /// The text that is shown instead of the command.
     pub description: Vec<VariablePart<'a>>,
     /// The path of a file with more outputs and inputs.
     pub dyndep: Vec<VariablePart<'a>>,
-    /// Not empty where it makes the manifest's own files.
+    /// Not empty if the edge builds the manifest's own files.
     pub generator: Vec<VariablePart<'a>>,
     /// The name of its pool.
     pub pool: Vec<VariablePart<'a>>,
-    /// Not empty where outputs that it leaves alone count as built.
+    /// Not empty if outputs that the command leaves unchanged count as built.
     pub restat: Vec<VariablePart<'a>>,
     /// The path of a response file.
     pub rspfile: Vec<VariablePart<'a>>,
 }
 
-/// A rule in a file.
+/// A rule as far as it is compiled for a file.
 #[derive(Drop)]
 pub enum CompiledRule<'a> {
-    /// One build line used it so far, for which it wasn't compiled.
+    /// Only one build line used the rule so far, and the rule wasn't compiled for it.
     Met,
-    /// Its parts, for the edges whose blocks bind no variable of the rule.
+    /// The parts of its variables, for the edges whose blocks bind no variable of the rule.
     Whole(RuleParts<'a>),
-    /// A variable has a cycle, very many parts, or many others one inside another.
+    /// The rule isn't compiled: a variable has a cycle, too many parts, or too many nested variables.
     Unknown,
 }
 
-/// What a block binds to a name, or else this text.
+/// Returns the text that a block binds to a name, or else `text`.
 fn near_text<'b, 'a>(block: &'b SmallMap<'a, HeldText<'a>>, name: &[u8], text: &'b [u8]) -> &'b [u8]
     ensures { result.now ≡ unwrap_or (last_of name.now block.now) text.now }
 {
@@ -74,7 +74,7 @@ fn near_text<'b, 'a>(block: &'b SmallMap<'a, HeldText<'a>>, name: &[u8], text: &
     }
 }
 
-/// Appends a part as it stands in an edge.
+/// Appends the text of a part in an edge.
 fn append_part<'a>(
     out: &mut Vec<u8>,
     edge: &EdgeEnvironment<'a>,
@@ -92,7 +92,7 @@ fn append_part<'a>(
     }
 }
 
-/// A copy of a text, as far as it is kept.
+/// Copies a text into a spare buffer. Of a text that is too long, copies only one byte more than is allowed.
 fn spare_copy(alloc: Global, text: &[u8], spare: &mut SpareTexts) -> Result<Items<u8>, AllocError>
     ensures { IfOk result (λ copy. kept copy ≡ kept text.now) }
 {
@@ -106,7 +106,7 @@ fn spare_copy(alloc: Global, text: &[u8], spare: &mut SpareTexts) -> Result<Item
     }
 }
 
-/// The texts of parts as they stand in an edge, joined.
+/// Joins the texts of parts in an edge.
 fn joined_parts<'a>(
     alloc: Global,
     edge: &EdgeEnvironment<'a>,
@@ -123,7 +123,7 @@ fn joined_parts<'a>(
     Ok(Items::new(text))
 }
 
-/// The text of parts as they stand in an edge. Most variables have no part, or a name alone.
+/// Returns the text of parts in an edge. Most variables have no part, or only one name.
 pub fn text_of_parts<'a>(
     alloc: Global,
     edge: &EdgeEnvironment<'a>,

@@ -1,4 +1,4 @@
-//! The variables of a rule, expanded where the rule is used.
+//! Expands the variables of a rule for an edge that uses the rule.
 
 ghost use Rattle.std.specs.Prelude.{◌≡◌, ◌≤◌, ℕ, Some, map, option_map, if◌then◌else◌};
 ghost use Rattle.std.specs.List.{join_with_byte};
@@ -21,7 +21,7 @@ use crate::scope::{Scope, name_text};
 use plan_text::{Items, Piece};
 use std::alloc::Global;
 
-/// What the variables of an edge are looked up in, the nearest first.
+/// The environment in which the variables of an edge are looked up, the nearest binding first.
 #[derive(Clone, Copy)]
 pub struct EdgeEnvironment<'a> {
     /// Its canonical paths.
@@ -30,11 +30,12 @@ pub struct EdgeEnvironment<'a> {
     pub block: &'a SmallMap<'a, HeldText<'a>>,
     /// The variables of its rule.
     pub rule: &'a RuleVariables<'a>,
-    /// What names stand for in its file once the whole tree was read.
+    /// The meaning of names in its file after the whole tree was read.
     pub file: Scope<'a>,
 }
 
-/// The paths that a name stands for, and the byte between each two.
+/// Returns the paths that `in`, `out` or `in_newline` denotes, and the byte between two paths. Returns `None` for
+/// other names.
 fn listed<'a>(edge: &EdgeEnvironment<'a>, name: &[u8]) -> Option<(PathRange<'a>, u8)>
     ensures { (quoting : Text → Text) → option_map (λ l. join_with_byte l.1 (map quoting l.0)) result ≡ listed quoting (environment_of edge.now) name.now }
 {
@@ -50,7 +51,7 @@ fn listed<'a>(edge: &EdgeEnvironment<'a>, name: &[u8]) -> Option<(PathRange<'a>,
     None
 }
 
-/// Appends a text that is known.
+/// Appends a text that is known. Returns the depth 0.
 fn append_known(out: &mut Vec<u8>, text: &[u8]) -> Result<usize, StatementFault>
     ensures { AppendsBy out.old.items out.new.items 0 result (λ n. Some text.now) }
 {
@@ -58,7 +59,7 @@ fn append_known(out: &mut Vec<u8>, text: &[u8]) -> Result<usize, StatementFault>
     Ok(0)
 }
 
-/// Appends paths as they are shown, this byte between each two.
+/// Appends paths with this quoting and a separator between them. Returns the depth 0.
 fn append_listed(
     out: &mut Vec<u8>,
     quoting: Quoting,
@@ -71,16 +72,16 @@ fn append_listed(
     Ok(0)
 }
 
-/// How many pieces a variable may have that is put together anew each time that it is named.
+/// The greatest number of pieces in a variable that is expanded again each time that it is named.
 const FEW: usize = 8;
 
-/// Whether a variable, so many others of the rule one inside another in it, is put together anew each time that it is
-/// named.
+/// Checks whether a variable is expanded again each time that it is named, given the number of variables of the rule
+/// that are nested in it.
 fn is_cheap(depth: usize, pieces: &[Piece]) -> bool {
     (depth == 0) & (pieces.len() <= FEW)
 }
 
-/// The greater of two depths.
+/// Returns the greater of two depths.
 fn greater(depth: usize, other: usize) -> usize
     ensures first { depth ≤ result }
     ensures other { other ≤ result }
@@ -89,8 +90,8 @@ fn greater(depth: usize, other: usize) -> usize
     if depth < other { other } else { depth }
 }
 
-/// Appends a variable of an edge, where at most `left` variables of the rule may lie one inside another, and answers
-/// how many do.
+/// Appends a variable of an edge. Returns its depth: the number of variables of the rule that are nested in it,
+/// including itself. Refuses a depth above `left`.
 #[cycle(expansion)]
 fn append_variable<'a>(
     alloc: Global,
@@ -119,7 +120,8 @@ fn append_variable<'a>(
     }
 }
 
-/// Appends a variable that the rule binds to these pieces.
+/// Appends a variable that the rule binds to these pieces, and returns its depth. Keeps its text in the memo, unless it
+/// is cheap or the outermost.
 #[cycle(expansion)]
 fn append_late<'a>(
     alloc: Global,
@@ -158,7 +160,7 @@ fn append_late<'a>(
     Ok(depth + 1)
 }
 
-/// Appends a piece of a variable of a rule.
+/// Appends a piece of a variable of a rule, and returns its depth.
 #[cycle(expansion)]
 fn append_piece<'a>(
     alloc: Global,
@@ -187,7 +189,7 @@ fn append_piece<'a>(
     }
 }
 
-/// Appends the pieces of a variable of a rule.
+/// Appends the pieces of a variable of a rule, and returns the greatest of their depths.
 #[cycle(expansion)]
 fn append_pieces<'a>(
     alloc: Global,
@@ -212,8 +214,8 @@ fn append_pieces<'a>(
     Ok(deepest)
 }
 
-/// Appends a variable of an edge, expanded for itself. What is kept on the way serves the edge's other variables that
-/// show paths alike.
+/// Appends a variable of an edge, expanded from the outermost level. The memo serves the edge's other variables that
+/// have the same quoting.
 pub fn append_whole<'a>(
     alloc: Global,
     edge: &'a EdgeEnvironment<'a>,

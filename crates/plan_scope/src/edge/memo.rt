@@ -1,5 +1,4 @@
-//! Variables of a rule whose texts were found on the way to another's, so that none is expanded each time that it is
-//! named.
+//! Memoizes texts of a rule's variables, so that a variable isn't expanded again each time that it is named.
 
 ghost use Rattle.std.specs.Prelude.{◌≡◌, ◌++◌, Some, IfOk, option_map, length};
 ghost use Rattle.plan_scope.specs.Scopes.{Name, Text};
@@ -11,18 +10,19 @@ use crate::scope::text::{copy_of, is_long};
 use plan_text::Items;
 use std::alloc::{AllocError, Global};
 
-/// A variable of a rule that has a text.
+/// A variable of a rule whose text was found.
 #[derive(Drop)]
 pub struct MemoEntry<'a> {
     /// Its name.
     pub name: &'a [u8],
-    /// How many variables of the rule lie one inside another in it, itself among them.
+    /// The number of variables of the rule that are nested in it, including itself.
     pub depth: usize,
-    /// Its text; none where it was the end of a text that is too long.
+    /// Its text. `None` if it ended a text that is too long.
     pub text: Option<Items<u8>>,
 }
 
-/// What to append of a variable: nothing behind a text that is too long already.
+/// Returns the depth of a variable and the text to append, if it is known. The text is empty if `out` is already too
+/// long.
 fn text_of_entry<'b, 'a>(memo: &'b MemoEntry<'a>, out: &[u8]) -> Option<(usize, &'b [u8])>
     ensures { (meaning : Name → Meaning) → IsMemoEntry meaning memo.now → IsRecalled meaning memo.now.depth memo.now.name.now out.now (option_map (λ f. (f.0, f.1.now)) result) }
 {
@@ -35,7 +35,7 @@ fn text_of_entry<'b, 'a>(memo: &'b MemoEntry<'a>, out: &[u8]) -> Option<(usize, 
     }
 }
 
-/// How many steps give a name its text, at most `left`, and what to append of it, where that is known.
+/// Returns the depth of a variable and the text to append, if the memo has the variable with a depth of at most `left`.
 pub fn recall<'b, 'a>(
     memo: &'b [MemoEntry<'a>],
     name: &[u8],
@@ -52,7 +52,7 @@ pub fn recall<'b, 'a>(
     None
 }
 
-/// A text behind so many bytes, unless all together is too long.
+/// Copies the text in `out` after the first `start` bytes. Returns `None` if `out` is too long.
 fn text_behind(alloc: Global, out: &[u8], start: usize) -> Result<Option<Items<u8>>, AllocError>
     ensures { IfOk result (λ text. (before behind : Text) → length before ≡ start → kept out.now ≡ kept (before ++ behind) → Says text behind) }
 {
@@ -65,7 +65,7 @@ fn text_behind(alloc: Global, out: &[u8], start: usize) -> Result<Option<Items<u
     }
 }
 
-/// Keeps the text of a variable that stands in `out` behind so many bytes.
+/// Keeps the text of a variable, which is in `out` after the first `start` bytes.
 pub fn memoize<'a>(
     alloc: Global,
     memo: &mut Vec<MemoEntry<'a>>,

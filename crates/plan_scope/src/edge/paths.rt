@@ -1,4 +1,4 @@
-//! The texts of a build line: its block and its paths.
+//! Reads the texts of a build line: its block and its paths.
 
 ghost use Rattle.std.specs.Prelude.{◌≡◌, ◌||◌, ◌≤◌, ◌<◌, ◌+◌, ◌++◌, ◌∷◌, ◌^◌, [], List, length, IfOk, OnOk, map};
 ghost use Rattle.std.specs.List.{list_any};
@@ -10,7 +10,8 @@ ghost use Rattle.plan_scope.specs.Edges.{Paths, block_of, near, path_of, paths_o
 ghost use Rattle.plan_scope.specs.Kept.{KeptEqBindings, KeptEqLookup, kept};
 ghost use Rattle.plan_scope.specs.Paths.{AreRead, ReadsPath, ReadsPaths, kept_in};
 ghost use Rattle.plan_scope.specs.EdgePlaces.{ArePlaced};
-ghost use Rattle.plan_scope.specs.EdgeAnswers.{HasMore, texts_read};
+ghost use Rattle.plan_chunks.specs.Joining.{HasMore};
+ghost use Rattle.plan_scope.specs.EdgeAnswers.{texts_read};
 ghost use Rattle.plan_scope.specs.ScopeNames.{names_in};
 
 use crate::manifest::edge_paths::{EdgePaths, PathPlaces};
@@ -28,13 +29,13 @@ use std::alloc::{AllocError, Global};
 /// The variables of a build block.
 #[derive(Drop)]
 pub struct BlockTexts<'a> {
-    /// Their texts.
+    /// Their texts, by name.
     pub values: SmallMap<'a, HeldText<'a>>,
-    /// Whether a text that the block gives is too long, also one that it replaces.
+    /// Whether a text of the block is too long, including texts that a later line replaces.
     pub has_long: bool,
 }
 
-/// The text of a right side in a build block, by what names stand for above it.
+/// Returns the text of a value in a build block, by the meaning of names above it.
 fn value_text<'a>(
     alloc: Global,
     here: Scope<'a>,
@@ -52,7 +53,7 @@ fn value_text<'a>(
     }
 }
 
-/// The variables of a build block, by what names stand for above it.
+/// Reads the variables of a build block, by the meaning of names above it.
 pub fn block<'a>(
     alloc: Global,
     here: Scope<'a>,
@@ -72,7 +73,7 @@ pub fn block<'a>(
     Ok(BlockTexts { values, has_long })
 }
 
-/// The text of a name on a build line: its own block comes first.
+/// Returns the text of a name on a build line. Looks it up in the line's own block first.
 fn text_near<'a>(block: &'a SmallMap<'a, HeldText<'a>>, here: Scope<'a>, name: &[u8]) -> &'a [u8]
     ensures { result.now ≡ near (names_in here.entry) block.now name.now }
 {
@@ -82,7 +83,7 @@ fn text_near<'a>(block: &'a SmallMap<'a, HeldText<'a>>, here: Scope<'a>, name: &
     }
 }
 
-/// The text of a part of a path.
+/// Returns the text of a part of a path.
 fn part_text<'a>(
     block: &'a SmallMap<'a, HeldText<'a>>,
     here: Scope<'a>,
@@ -96,7 +97,8 @@ fn part_text<'a>(
     }
 }
 
-/// Puts a path of a build line together in a buffer, in place of what that held; nothing where it is no path.
+/// Expands a path of a build line into a buffer, and replaces its contents. Leaves the buffer empty if the path is
+/// malformed.
 fn expand_path<'a>(
     block: &'a SmallMap<'a, HeldText<'a>>,
     here: Scope<'a>,
@@ -121,14 +123,14 @@ fn expand_path<'a>(
     Ok(())
 }
 
-/// Whether a path is too long.
+/// Checks whether a path is too long.
 fn is_long_path(path: &[u8]) -> bool
     ensures { result ≡ is_long_path path.now }
 {
     path.len() > MAX_PATH
 }
 
-/// The canonical form of a path. A path that has no byte, or is too long, stays as it is.
+/// Returns the canonical form of a path. A path that has no bytes, or is too long, stays as it is.
 pub fn canonical_path(alloc: Global, path: &[u8]) -> Result<SmallText, AllocError>
     ensures { IfOk result (λ form. form ≡ path_of path.now) }
 {
@@ -145,7 +147,7 @@ pub fn canonical_path(alloc: Global, path: &[u8]) -> Result<SmallText, AllocErro
     }
 }
 
-/// Appends the canonical form of a path. A path that has no byte, or is too long, stays as it is.
+/// Appends the canonical form of a path. A path that has no bytes, or is too long, stays as it is.
 fn push_form(alloc: Global, rows: &mut RowList<u8>, path: &[u8]) -> Result<(), AllocError>
     ensures { OnOk result (rows.new ≡ rows.old ++ path_of path.now ∷ []) }
 {
@@ -162,24 +164,24 @@ fn push_form(alloc: Global, rows: &mut RowList<u8>, path: &[u8]) -> Result<(), A
     }
 }
 
-/// The canonical paths of build lines, one behind the other, and what was seen of those of the last line.
+/// The canonical paths of all build lines so far, and flags of the paths of the last line.
 #[derive(Debug, Drop)]
 pub struct PathRows {
     /// The canonical paths.
     pub rows: RowList<u8>,
-    /// What a path is put together in, whatever it holds.
+    /// A buffer in which a path is expanded. Its contents are replaced by each path.
     buffer: Vec<u8>,
-    /// Whether a path of the last build line has no byte as expanded.
+    /// Whether a path of the last build line has no bytes when expanded.
     pub has_empty: bool,
-    /// Whether one is too long as expanded.
+    /// Whether a path of the last build line is too long when expanded.
     pub has_long: bool,
 }
 
-/// How many bytes the buffer has room for at first, enough for most paths.
+/// The initial capacity of the buffer in bytes, which is enough for most paths.
 const BUFFER: usize = 500;
 
 impl PathRows {
-    /// No path.
+    /// Creates rows without a path.
     pub fn new(alloc: Global) -> Result<PathRows, AllocError>
         ensures { IfOk result (λ read. read.rows ≡ []) }
     {
@@ -192,7 +194,7 @@ impl PathRows {
     }
 }
 
-/// Appends the canonical form of a path as expanded, and adds what is seen of it to what was seen of others.
+/// Appends the canonical form of an expanded path, and updates both flags.
 fn push_seen(
     alloc: Global,
     rows: &mut RowList<u8>,
@@ -207,7 +209,7 @@ fn push_seen(
     push_form(alloc, rows, path)
 }
 
-/// Reads a path as expanded.
+/// Adds an expanded path.
 fn add_path(alloc: Global, read: &mut PathRows, path: &[u8]) -> Result<(), AllocError>
     ensures { OnOk result (ReadsPath read.old path.now read.new) }
 {
@@ -215,7 +217,7 @@ fn add_path(alloc: Global, read: &mut PathRows, path: &[u8]) -> Result<(), Alloc
     push_seen(alloc, &mut read.rows, has_empty, has_long, path)
 }
 
-/// Reads a path that is put together part by part.
+/// Expands a path part by part and adds it.
 fn add_expanded<'a>(
     alloc: Global,
     block: &'a SmallMap<'a, HeldText<'a>>,
@@ -232,7 +234,7 @@ fn add_expanded<'a>(
     push_seen(alloc, &mut read.rows, has_empty, has_long, &read.buffer)
 }
 
-/// Reads a path of a build line.
+/// Reads a path of a build line and adds it.
 fn read_one<'a>(
     alloc: Global,
     block: &'a SmallMap<'a, HeldText<'a>>,
@@ -249,7 +251,7 @@ fn read_one<'a>(
     }
 }
 
-/// Reads the paths of a list behind those of the lists before it. How many there are then is where the next begins.
+/// Reads the paths of a list and appends them. Returns the number of all paths, which is where the next list begins.
 fn read_list<'a>(
     alloc: Global,
     block: &'a SmallMap<'a, HeldText<'a>>,
@@ -266,7 +268,7 @@ fn read_list<'a>(
     row_count(&read.rows)
 }
 
-/// How many rows there are, where four bytes can tell it.
+/// Returns the number of rows. Returns `AllocError` if it doesn't fit in four bytes.
 pub fn row_count(rows: &RowList<u8>) -> Result<u32, AllocError>
     ensures { IfOk result (λ count. count ≡ length rows.now) }
 {
@@ -276,19 +278,19 @@ pub fn row_count(rows: &RowList<u8>) -> Result<u32, AllocError>
     }
 }
 
-/// What is read of the paths of a build line.
+/// The paths that were read of a build line.
 #[derive(Drop)]
 pub struct PathTexts<'a> {
     /// Their canonical forms.
     pub paths: EdgePaths<'a>,
-    /// Whether a path as expanded has no byte.
+    /// Whether an expanded path has no bytes.
     pub has_empty: bool,
-    /// Whether a path as expanded is too long.
+    /// Whether an expanded path is too long.
     pub has_long: bool,
 }
 
 impl<'a> PathTexts<'a> {
-    /// What was read of the last build line, whose paths stand at these places.
+    /// Creates the view of the paths of the last build line, which are at these places.
     pub fn new(read: &'a PathRows, places: PathPlaces) -> PathTexts<'a>
         requires { ArePlaced (length read.now.rows) places }
         ensures { result ≡ texts_read read.now places }
@@ -301,7 +303,8 @@ impl<'a> PathTexts<'a> {
     }
 }
 
-/// Reads the paths of a build line, by its block and what names stand for above it, behind those of the lines before.
+/// Reads the paths of a build line, by its block and by the meaning of names above it. Appends them to those of the
+/// lines before, and returns their places.
 pub fn read_paths<'a>(
     alloc: Global,
     block: &'a SmallMap<'a, HeldText<'a>>,
@@ -326,14 +329,14 @@ pub fn read_paths<'a>(
     })
 }
 
-/// Whether a path of a list has no byte.
+/// Checks whether a path of a list has no bytes.
 pub fn list_has_empty(paths: &[Items<u8>]) -> bool
     ensures { result ≡ list_any is_empty paths.now }
 {
     paths.iter().any(|path| path.as_slice().is_empty())
 }
 
-/// Whether a path of a list is too long.
+/// Checks whether a path of a list is too long.
 pub fn list_has_long(paths: &[Items<u8>]) -> bool
     ensures { result ≡ list_any is_long_path paths.now }
 {

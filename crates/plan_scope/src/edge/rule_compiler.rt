@@ -1,4 +1,4 @@
-//! The variables of a rule, compiled for a file.
+//! Compiles the variables of a rule for a file.
 
 ghost use Rattle.std.specs.Prelude.{◌≡◌, ◌<◌, ◌≤◌, ◌-◌, ◌++◌, ◌∷◌, [], IfOk, OnOk, option_map, true};
 ghost use Rattle.plan_scope.specs.Scopes.{Text};
@@ -13,21 +13,21 @@ use crate::scope::{Scope, name_text};
 use plan_text::Piece;
 use std::alloc::{AllocError, Global};
 
-/// How many parts a variable may have; one with more isn't compiled.
+/// The greatest number of parts in a variable. A variable with more isn't compiled.
 const MOST_PARTS: usize = 200;
 
-/// How many variables of the rule may lie one inside another in one that is compiled: each of its parts is reached by
-/// so many steps at most.
+/// The greatest number of nested variables of the rule in a variable that is compiled. Each of its parts is reached in
+/// at most this many steps.
 const DEEPEST: usize = 4;
 
-/// How deep a variable of a rule with so many lines may be.
+/// Returns the greatest depth of a variable in a rule with this number of lines.
 fn depth_limit(lines: usize) -> usize
     ensures { result ≤ lines }
 {
     if lines < DEEPEST { lines } else { DEEPEST }
 }
 
-/// The paths that a name stands for.
+/// Returns the part for a name that denotes paths, or `None` for other names.
 fn listed_part<'a>(name: &'a [u8]) -> Option<VariablePart<'a>>
     ensures { (show : Text → Text) (edge : EdgeEnvironment) → option_map (text_of_part show edge) result ≡ listed show edge name.now }
 {
@@ -43,7 +43,7 @@ fn listed_part<'a>(name: &'a [u8]) -> Option<VariablePart<'a>>
     None
 }
 
-/// Adds a part, and says that it did.
+/// Adds a part and returns `true`.
 fn add_part<'a>(
     parts: &mut Vec<VariablePart<'a>>,
     part: VariablePart<'a>,
@@ -54,8 +54,8 @@ fn add_part<'a>(
     Ok(true)
 }
 
-/// Adds the parts of a variable, where at most `left` variables of the rule may lie one inside another. Answers
-/// whether they are all.
+/// Adds the parts of a variable. Returns `false` if parts are missing because more than `left` variables of the rule
+/// are nested in it or it has too many parts.
 #[cycle(compiling)]
 fn add_variable<'a>(
     rule: &RuleVariables<'a>,
@@ -76,8 +76,8 @@ fn add_variable<'a>(
     }
 }
 
-/// Adds the parts of a variable that the rule binds to these pieces. One without pieces has a part without a byte, so
-/// that the parts count the variables that were met.
+/// Adds the parts of a variable that the rule binds to these pieces. A variable without pieces gets an empty part, so
+/// that the number of parts limits the number of variables that are visited. Returns whether no part is missing.
 #[cycle(compiling)]
 fn add_late<'a>(
     rule: &RuleVariables<'a>,
@@ -97,7 +97,7 @@ fn add_late<'a>(
     }
 }
 
-/// Adds the parts of a piece of a variable of the rule.
+/// Adds the parts of a piece of a variable of the rule. Returns whether no part is missing.
 #[cycle(compiling)]
 fn add_piece<'a>(
     rule: &RuleVariables<'a>,
@@ -114,7 +114,7 @@ fn add_piece<'a>(
     }
 }
 
-/// Adds the parts of the pieces of a variable of the rule.
+/// Adds the parts of the pieces of a variable of the rule. Returns whether no part is missing.
 #[cycle(compiling)]
 fn add_pieces<'a>(
     rule: &RuleVariables<'a>,
@@ -136,7 +136,7 @@ fn add_pieces<'a>(
     Ok(true)
 }
 
-/// The parts of a variable of a rule in a file; takes note where they aren't all.
+/// Compiles a variable of a rule for a file. Sets `is_whole` to `false` if parts are missing.
 fn compile_variable<'a>(
     alloc: Global,
     rule: &RuleVariables<'a>,
@@ -153,7 +153,7 @@ fn compile_variable<'a>(
     Ok(parts)
 }
 
-/// A rule in a file.
+/// Compiles a rule for a file. Returns `Unknown` if parts of a variable are missing.
 pub fn compile_rule<'a>(
     alloc: Global,
     rule: &RuleVariables<'a>,

@@ -18,7 +18,7 @@ use std::marker::Model;
 pub struct RuleVariables<'a> {
     bindings: &'a [Binding],
     last: SmallMap<'a, &'a [Piece]>,
-    /// Whether a line binds a name of this mark.
+    /// Whether a line binds a name with this mark.
     marked: [bool; MARKS],
 }
 
@@ -37,7 +37,7 @@ impl<'a> Model for RuleVariables<'a> {
 }
 
 impl<'a> RuleVariables<'a> {
-    /// The variables that these lines bind.
+    /// Collects the variables that these lines bind.
     pub fn new(alloc: Global, bindings: &'a [Binding]) -> Result<Self, AllocError>
         ensures { IfOk result (λ r. r ≡ late bindings.now) }
     {
@@ -54,7 +54,7 @@ impl<'a> RuleVariables<'a> {
         })
     }
 
-    /// No variable.
+    /// Creates the variables of a rule without lines.
     pub fn empty(alloc: Global) -> Self
         ensures { result ≡ [] }
     {
@@ -65,14 +65,14 @@ impl<'a> RuleVariables<'a> {
         }
     }
 
-    /// How many lines bind one.
+    /// Returns the number of lines that bind a variable.
     pub fn len(&self) -> usize
         ensures { result ≡ length self.now }
     {
         self.bindings.len()
     }
 
-    /// The pieces of a variable.
+    /// Returns the pieces of a variable, or `None` if no line binds it.
     #[inline(always)]
     pub fn get(&self, name: &[u8]) -> Option<&'a [Piece]>
         ensures { option_map (λ p. p.now) result ≡ last_of name.now self.now }
@@ -86,7 +86,7 @@ impl<'a> RuleVariables<'a> {
         }
     }
 
-    /// Whether a block binds none of them.
+    /// Checks whether a block binds none of the variables.
     pub fn are_left_by<'b>(&self, block: &SmallMap<'b, HeldText<'b>>) -> bool
         ensures { result ≡ true → LeavesRule self.now block.now }
     {

@@ -1,25 +1,25 @@
-//! Room for texts, kept from edge to edge.
+//! Spare buffers for texts, reused from edge to edge.
 
 ghost use Rattle.std.specs.Prelude.{◌≡◌, []};
 
 use plan_text::Items;
 use std::alloc::Global;
 
-/// Room of texts that are no longer needed, for those to come: what it holds is of no account.
+/// The buffers of texts that are no longer needed, reused for later texts. Their contents don't matter.
 #[derive(Debug, Drop)]
 pub struct SpareTexts {
     texts: Vec<Vec<u8>>,
 }
 
 impl SpareTexts {
-    /// No room.
+    /// Creates an empty list of buffers.
     pub fn new(alloc: Global) -> SpareTexts {
         SpareTexts {
             texts: Vec::new(alloc),
         }
     }
 
-    /// An empty text, with room where some was kept.
+    /// Returns an empty text, with the capacity of a spare buffer if there is one.
     pub fn take(&mut self, alloc: Global) -> Vec<u8>
         ensures { result.items ≡ [] }
     {
@@ -32,7 +32,7 @@ impl SpareTexts {
         }
     }
 
-    /// Keeps the room of a text that isn't empty, where memory allows it.
+    /// Keeps the buffer of a text that isn't empty. Drops it if memory runs out.
     pub fn keep(&mut self, text: Items<u8>) {
         if !text.is_empty() {
             let _ = self.texts.push(text.into_vec());

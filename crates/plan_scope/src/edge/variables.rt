@@ -1,4 +1,4 @@
-//! The variables of an edge.
+//! Evaluates the variables of an edge.
 
 ghost use Rattle.std.specs.Prelude.{◌≡◌, ◌||◌, [], IfOk, OnOk, None, false, is_none, true};
 ghost use Rattle.std.specs.List.{list_any};
@@ -24,38 +24,39 @@ use std::alloc::{AllocError, Global};
 /// The texts of the variables that an edge looks up.
 #[derive(Drop)]
 pub struct Variables {
-    /// What runs.
+    /// The command line.
     pub command: Items<u8>,
     /// The path of its depfile.
     pub depfile: Items<u8>,
     /// How its depfile is handled.
     pub deps: Items<u8>,
-    /// What is shown in place of the command.
+    /// The text that is shown instead of the command.
     pub description: Items<u8>,
     /// The path of a file with more outputs and inputs.
     pub dyndep: Items<u8>,
-    /// Not empty where it makes the manifest's own files.
+    /// Not empty if the edge builds the manifest's own files.
     pub generator: Items<u8>,
     /// The name of its pool.
     pub pool: Items<u8>,
-    /// Not empty where outputs that it leaves alone count as built.
+    /// Not empty if outputs that the command leaves unchanged count as built.
     pub restat: Items<u8>,
     /// The path of a response file.
     pub rspfile: Items<u8>,
-    /// Whether the expansion of one meets a name that is in use already, so that it has no text.
+    /// Whether the expansion of a variable meets a name that is being expanded already, so that the variable has no
+    /// text.
     pub has_cycle: bool,
 }
 
-/// What is found of the variables of an edge that show paths alike.
+/// The findings from the variables of an edge that have the same quoting.
 #[derive(Drop)]
 struct Findings<'a> {
-    /// The variables of its rule that were found on the way.
+    /// The variables of its rule whose texts were found.
     memo: Vec<MemoEntry<'a>>,
-    /// Whether the expansion of one meets a name that is in use already.
+    /// Whether the expansion of a variable meets a name that is being expanded already.
     has_cycle: bool,
 }
 
-/// Whether it is told without a look-up in the file that nothing binds a name.
+/// Checks, without a lookup in the file, whether nothing binds a name. `false` means that something may bind it.
 fn is_unbound<'a>(edge: &EdgeEnvironment<'a>, name: &[u8]) -> bool
     ensures { result ≡ true → (quoting : Text → Text) → listed quoting (environment_of edge.now) name.now ≡ None → meaning_of quoting (environment_of edge.now) name.now ≡ Known [] }
 {
@@ -72,7 +73,7 @@ fn is_unbound<'a>(edge: &EdgeEnvironment<'a>, name: &[u8]) -> bool
     }
 }
 
-/// Nothing found yet.
+/// Creates findings for no variable.
 fn no_findings<'a>(alloc: Global) -> Findings<'a>
     ensures memo { result.memo.items ≡ [] }
     ensures cycle { result.has_cycle ≡ false }
@@ -83,8 +84,8 @@ fn no_findings<'a>(alloc: Global) -> Findings<'a>
     }
 }
 
-/// A variable of an edge, expanded for itself; empty where its expansion meets a name that is in use already, which is
-/// kept among the findings.
+/// Expands a variable of an edge. If the expansion meets a name that is being expanded already, returns an empty text
+/// and sets `has_cycle` in the findings.
 fn variable<'a>(
     alloc: Global,
     edge: &'a EdgeEnvironment<'a>,
@@ -113,7 +114,7 @@ fn variable<'a>(
     }
 }
 
-/// The variables of an edge with a rule, each expanded. Paths in its command and its description are quoted.
+/// Expands the variables of an edge with a rule. Paths in its command and its description are quoted.
 fn expanded_variables<'a>(
     alloc: Global,
     edge: &'a EdgeEnvironment<'a>,
@@ -137,7 +138,7 @@ fn expanded_variables<'a>(
     })
 }
 
-/// The variables of an edge with a rule, by their parts, in the same way.
+/// Returns the same variables as `expanded_variables`, from the compiled parts of the rule.
 fn compiled_variables<'a>(
     alloc: Global,
     edge: &EdgeEnvironment<'a>,
@@ -162,8 +163,8 @@ fn compiled_variables<'a>(
     })
 }
 
-/// The variables of an edge with a rule: by the rule as it was compiled, where it was and the edge's block binds none of
-/// the rule's variables.
+/// Returns the variables of an edge with a rule. Uses the compiled parts of the rule if there are any and the edge's
+/// block binds none of the rule's variables.
 pub fn variables_of_rule<'a>(
     alloc: Global,
     edge: &'a EdgeEnvironment<'a>,
@@ -181,7 +182,7 @@ pub fn variables_of_rule<'a>(
     }
 }
 
-/// The variables of a phony edge: it looks up `dyndep` alone.
+/// Returns the variables of a phony edge, which looks up only `dyndep`.
 pub fn variables_of_phony<'a>(
     alloc: Global,
     edge: &'a EdgeEnvironment<'a>,
@@ -205,28 +206,28 @@ pub fn variables_of_phony<'a>(
     })
 }
 
-/// Whether the text of a variable has a byte.
+/// Checks whether the text of a variable isn't empty.
 pub fn is_present(text: &[u8]) -> bool
     ensures { result ≡ is_present text.now }
 {
     !text.is_empty()
 }
 
-/// Whether a `deps` asks for what isn't known.
+/// Checks whether a `deps` is neither empty nor `gcc`.
 pub fn is_other_deps(text: &[u8]) -> bool
     ensures { result ≡ is_other_deps text.now }
 {
     !text.is_empty() & (text != b"gcc".as_slice())
 }
 
-/// Whether one of these texts is too long.
+/// Checks whether one of these texts is too long.
 fn any_is_long(texts: &[&Items<u8>]) -> bool
     ensures { result ≡ list_any (λ text. is_too_long text.now) texts.now }
 {
     texts.iter().any(|text| is_long(text.as_slice()))
 }
 
-/// Whether the text of a variable is too long.
+/// Checks whether the text of a variable is too long.
 pub fn has_long_text(variables: &Variables) -> bool
     ensures { result ≡ list_any is_too_long (texts_of_variables variables.now) }
 {
@@ -243,7 +244,7 @@ pub fn has_long_text(variables: &Variables) -> bool
     ])
 }
 
-/// Keeps the room of the texts of variables that are no longer needed.
+/// Keeps the buffers of the texts of variables that are no longer needed.
 pub fn keep_room(variables: Variables, spare: &mut SpareTexts) {
     spare.keep(variables.command);
     spare.keep(variables.depfile);

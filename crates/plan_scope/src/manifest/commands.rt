@@ -1,15 +1,17 @@
-//! The commands of a manifest, written.
+//! Writes the commands of a manifest.
 
 ghost use Rattle.std.specs.Prelude.{◌≡◌, [], ◌∷◌, ◌++◌, is_ok};
 ghost use Rattle.plan_text.specs.Bytes.{line_feed};
 ghost use Rattle.plan_text.specs.Sinks.{Writes};
 ghost use Rattle.plan_scope.specs.Edges.{command_line, commands_of};
+ghost use Rattle.plan_scope.specs.TextLists.{whole};
 
 use crate::manifest::Manifest;
 use crate::manifest::edge_list::EdgeRef;
+use crate::manifest::edge_text::{EdgeText, write_text};
 use plan_text::{Sink, SinkFault, write_all, writes_join};
 
-/// A write failed.
+/// A write to the sink failed.
 #[derive(Clone, Copy, Debug, PartialEq, Eq)]
 pub struct WriteFault;
 
@@ -19,28 +21,31 @@ impl From<SinkFault> for WriteFault {
     }
 }
 
-/// Writes some bytes and a newline.
-fn write_line<W: Sink>(statement: &[u8], out: &mut W) -> Result<(), WriteFault>
-    ensures { Writes (is_ok result) (W.failures out.old, W.taken out.old) (W.failures out.new, W.taken out.new) (statement.now ++ line_feed ∷ []) }
+/// Writes a text and a newline.
+fn write_line<W: Sink>(statement: &EdgeText<'_>, out: &mut W) -> Result<(), WriteFault>
+    ensures { Writes (is_ok result) (W.failures out.old, W.taken out.old) (W.failures out.new, W.taken out.new) (whole statement.now ++ line_feed ∷ []) }
 {
     writes_join();
-    write_all(out, statement)?;
+    write_text(statement, out)?;
     write_all(out, b"\n")?;
     Ok(())
 }
 
-/// Writes the command of an edge and a newline; nothing of a phony.
+/// Writes the command of an edge and a newline. Writes nothing for a phony edge.
 fn write_command<W: Sink>(edge: &EdgeRef<'_>, out: &mut W) -> Result<(), WriteFault>
     ensures { Writes (is_ok result) (W.failures out.old, W.taken out.old) (W.failures out.new, W.taken out.new) (command_line edge.now) }
 {
     if edge.is_phony() {
         return Ok(());
     }
-    write_line(edge.command(), out)
+    write_line(&edge.command(), out)
 }
 
-/// Writes the command of each edge that isn't a phony, in order, a newline after each, and nothing else. At the first
-/// failed write it stops, and the sink took the bytes in front of it.
+/// Writes the command of each edge that isn't phony, in order, with a newline after each.
+///
+/// # Errors
+///
+/// `WriteFault` at the first failed write. The sink has then taken only bytes before it.
 pub fn write_commands<W: Sink>(manifest: &Manifest, out: &mut W) -> Result<(), WriteFault>
     ensures { Writes (is_ok result) (W.failures out.old, W.taken out.old) (W.failures out.new, W.taken out.new) (commands_of manifest.now) }
 {

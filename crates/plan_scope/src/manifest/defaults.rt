@@ -1,4 +1,4 @@
-//! The targets of a `default` statement.
+//! Evaluates the targets of `default` statements.
 
 ghost use Rattle.std.specs.Prelude.{◌≡◌, IfOk, map};
 ghost use Rattle.plan_scope.specs.Scopes.{Name, Text};
@@ -14,7 +14,7 @@ use crate::scope::{Scope, expand_pieces};
 use plan_text::{Items, PieceList};
 use std::alloc::{AllocError, Global};
 
-/// The paths of targets as expanded.
+/// Expands the paths of targets by the names in `here`.
 fn expand_targets<'a>(
     alloc: Global,
     here: Scope<'a>,
@@ -30,7 +30,7 @@ fn expand_targets<'a>(
     Ok(Items::new(texts))
 }
 
-/// The targets with these paths.
+/// Creates targets with the canonical forms of these paths.
 fn targets_at(
     alloc: Global,
     edges_above: usize,
@@ -46,7 +46,11 @@ fn targets_at(
     Ok(targets)
 }
 
-/// The targets of a statement, by how many build lines stand above it.
+/// Evaluates the targets of a `default` statement that has `edges_above` build lines above it.
+///
+/// # Errors
+///
+/// `EmptyPath` if an expanded path has no bytes, or else `PathTooLong` if one is too long. `Memory` if memory runs out.
 pub fn targets<'a>(
     alloc: Global,
     edges_above: usize,

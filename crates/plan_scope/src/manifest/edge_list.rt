@@ -2,15 +2,18 @@
 
 ghost use Rattle.std.specs.Prelude.{◌≡◌, ◌<◌, Some, length, slice_get};
 ghost use Rattle.plan_scope.specs.EdgeRows.{AreWithin, edges_in};
+ghost use Rattle.plan_scope.specs.TextLists.{whole};
 
 use crate::manifest::edge_paths::EdgePaths;
 use crate::manifest::edge_rows::{EdgeMarks, EdgeRows};
+use crate::manifest::edge_text::EdgeText;
 use crate::manifest::path_range::PathRange;
-use plan_text::RowList;
+use crate::manifest::text_list::TextList;
 use std::marker::Model;
 
-/// The edges of a manifest in the order of their build lines. A contract sees their list. Their paths and their texts
-/// are rows of all edges: an edge takes 44 bytes, and 4 for each path and each text that isn't empty, beside their bytes.
+/// The edges of a manifest in the order of their build lines. Contracts see a list of edges. The paths and the texts of
+/// all edges share rows: an edge takes 44 bytes, and 4 bytes for each path and each text that isn't empty, in addition
+/// to the bytes of its paths and texts. Chunks that long texts share are held once.
 #[derive(Debug, Drop)]
 pub struct EdgeList {
     rows: EdgeRows,
@@ -29,7 +32,7 @@ impl Model for EdgeList {
 }
 
 impl EdgeList {
-    /// The edges of these rows.
+    /// Creates the list of the edges in these rows.
     pub(crate) fn new(rows: EdgeRows) -> EdgeList
         requires { AreWithin rows }
         ensures { result ≡ edges_in rows }
@@ -37,14 +40,14 @@ impl EdgeList {
         EdgeList { rows }
     }
 
-    /// How many edges there are.
+    /// Returns the number of edges.
     pub fn len(&self) -> usize
         ensures { result ≡ length self.now }
     {
         self.rows.marks.len()
     }
 
-    /// The edge of this number, counted from 0.
+    /// Returns the edge with this number, counted from 0.
     pub fn edge(&self, number: usize) -> EdgeRef<'_>
         requires { number < length self.now }
         ensures { slice_get self.now number ≡ Some result }
@@ -58,11 +61,12 @@ impl EdgeList {
     }
 }
 
-/// An edge of a manifest: what a build line makes, from what, and how. Its paths are canonical.
+/// An edge of a manifest: the outputs and inputs of a build line, and how the outputs are built. Its paths are
+/// canonical.
 #[derive(Drop)]
 pub struct EdgeRef<'a> {
     paths: EdgePaths<'a>,
-    texts: &'a RowList<u8>,
+    texts: &'a TextList,
     marks: EdgeMarks,
 }
 
@@ -76,84 +80,86 @@ impl<'a> Model for EdgeRef<'a> {
 }
 
 impl<'a> EdgeRef<'a> {
-    /// Its explicit outputs.
+    /// Returns its explicit outputs.
     pub fn outputs(&self) -> PathRange<'a>
         ensures { result ≡ self.now.paths.outputs }
     {
         self.paths.outputs()
     }
 
-    /// Its implicit outputs. There is at least one output, explicit or implicit.
+    /// Returns its implicit outputs. There is at least one output, explicit or implicit.
     pub fn implicit_outputs(&self) -> PathRange<'a>
         ensures { result ≡ self.now.paths.implicit_outputs }
     {
         self.paths.implicit_outputs()
     }
 
-    /// Its explicit inputs.
+    /// Returns its explicit inputs.
     pub fn inputs(&self) -> PathRange<'a>
         ensures { result ≡ self.now.paths.inputs }
     {
         self.paths.inputs()
     }
 
-    /// Its implicit inputs.
+    /// Returns its implicit inputs.
     pub fn implicit_inputs(&self) -> PathRange<'a>
         ensures { result ≡ self.now.paths.implicit_inputs }
     {
         self.paths.implicit_inputs()
     }
 
-    /// Its order-only inputs.
+    /// Returns its order-only inputs.
     pub fn order_only_inputs(&self) -> PathRange<'a>
         ensures { result ≡ self.now.paths.order_only_inputs }
     {
         self.paths.order_only_inputs()
     }
 
-    /// The text of its command; empty for a phony.
-    pub fn command(&self) -> &'a [u8]
-        ensures { result.now ≡ self.now.command }
+    /// Returns its command, which is empty for a phony edge.
+    pub fn command(&self) -> EdgeText<'a>
+        ensures { whole result ≡ self.now.command }
     {
-        self.texts.row(self.marks.command as usize)
+        self.texts.text(self.marks.command as usize)
     }
 
-    /// What is shown in place of the command, where it isn't empty.
-    pub fn description(&self) -> &'a [u8]
-        ensures { result.now ≡ self.now.description }
+    /// Returns its description. If it isn't empty, it is shown instead of the command.
+    pub fn description(&self) -> EdgeText<'a>
+        ensures { whole result ≡ self.now.description }
     {
-        self.texts.row(self.marks.description as usize)
+        self.texts.text(self.marks.description as usize)
     }
 
-    /// The path of its depfile as expanded; empty where it has none.
-    pub fn depfile(&self) -> &'a [u8]
-        ensures { result.now ≡ self.now.depfile }
+    /// Returns the expanded path of its depfile, or an empty text if it has none.
+    pub fn depfile(&self) -> EdgeText<'a>
+        ensures { whole result ≡ self.now.depfile }
     {
-        self.texts.row(self.marks.depfile as usize)
+        self.texts.text(self.marks.depfile as usize)
     }
 
-    /// The name of its pool; empty where it has none.
-    pub fn pool(&self) -> &'a [u8]
-        ensures { result.now ≡ self.now.pool }
+    /// Returns the name of its pool, or an empty text if it has none.
+    pub fn pool(&self) -> EdgeText<'a>
+        ensures { whole result ≡ self.now.pool }
     {
-        self.texts.row(self.marks.pool as usize)
+        self.texts.text(self.marks.pool as usize)
     }
 
-    /// Whether outputs that its command leaves alone count as if they had never needed building.
+    /// Checks whether `restat` is set: outputs that the command leaves unchanged count as if they had never needed
+    /// building.
     pub fn has_restat(&self) -> bool
         ensures { result ≡ self.now.restat }
     {
         self.marks.restat
     }
 
-    /// Whether it makes the manifest's own files: a change of its command alone doesn't run it.
+    /// Checks whether `generator` is set: the edge builds the manifest's own files, and a change of only its command
+    /// doesn't run it again.
     pub fn is_generator(&self) -> bool
         ensures { result ≡ self.now.generator }
     {
         self.marks.generator
     }
 
-    /// Whether it only gives its inputs other names.
+    /// Checks whether the edge is phony: it runs nothing and only gives its inputs other names.
     pub fn is_phony(&self) -> bool
         ensures { result ≡ self.now.phony }
     {

@@ -1,4 +1,4 @@
-//! The paths of an edge among those of all edges.
+//! The paths of an edge in the rows of all edges.
 
 ghost use Rattle.std.specs.Prelude.{◌≡◌, length};
 ghost use Rattle.plan_scope.specs.EdgePlaces.{ArePlaced, paths_at};
@@ -7,7 +7,7 @@ use crate::manifest::path_range::PathRange;
 use plan_text::RowList;
 use std::marker::Model;
 
-/// Where the lists of an edge's paths stand among the paths of all edges, one list behind the other.
+/// The places of an edge's lists of paths in the rows of all edges. Each list ends where the next one begins.
 #[derive(Clone, Copy, Debug, Drop)]
 pub struct PathPlaces {
     /// The number of the first explicit output.
@@ -20,11 +20,11 @@ pub struct PathPlaces {
     pub implicit_inputs: u32,
     /// The number of the first order-only input.
     pub order_only_inputs: u32,
-    /// The number behind the last path.
+    /// The number after that of the last path.
     pub end: u32,
 }
 
-/// The paths of an edge. A contract sees their lists.
+/// The paths of an edge. Contracts see their lists.
 #[derive(Drop)]
 pub struct EdgePaths<'a> {
     rows: &'a RowList<u8>,
@@ -45,7 +45,7 @@ impl<'a> Model for EdgePaths<'a> {
 }
 
 impl<'a> EdgePaths<'a> {
-    /// The paths at these places.
+    /// Creates the view of the paths at these places.
     pub(crate) fn new(rows: &'a RowList<u8>, places: PathPlaces) -> EdgePaths<'a>
         requires { ArePlaced (length rows.now) places }
         ensures { result ≡ paths_at rows.now places }
@@ -53,7 +53,7 @@ impl<'a> EdgePaths<'a> {
         EdgePaths { rows, places }
     }
 
-    /// The explicit outputs.
+    /// Returns the explicit outputs.
     pub fn outputs(&self) -> PathRange<'a>
         ensures { result ≡ self.now.outputs }
     {
@@ -61,7 +61,7 @@ impl<'a> EdgePaths<'a> {
         PathRange::new(self.rows, start as usize, end as usize)
     }
 
-    /// The implicit outputs.
+    /// Returns the implicit outputs.
     pub fn implicit_outputs(&self) -> PathRange<'a>
         ensures { result ≡ self.now.implicit_outputs }
     {
@@ -69,7 +69,7 @@ impl<'a> EdgePaths<'a> {
         PathRange::new(self.rows, start as usize, end as usize)
     }
 
-    /// The explicit inputs.
+    /// Returns the explicit inputs.
     pub fn inputs(&self) -> PathRange<'a>
         ensures { result ≡ self.now.inputs }
     {
@@ -77,7 +77,7 @@ impl<'a> EdgePaths<'a> {
         PathRange::new(self.rows, start as usize, end as usize)
     }
 
-    /// The implicit inputs.
+    /// Returns the implicit inputs.
     pub fn implicit_inputs(&self) -> PathRange<'a>
         ensures { result ≡ self.now.implicit_inputs }
     {
@@ -85,7 +85,7 @@ impl<'a> EdgePaths<'a> {
         PathRange::new(self.rows, start as usize, end as usize)
     }
 
-    /// The order-only inputs.
+    /// Returns the order-only inputs.
     pub fn order_only_inputs(&self) -> PathRange<'a>
         ensures { result ≡ self.now.order_only_inputs }
     {

@@ -1,4 +1,4 @@
-//! What the statements of a tree mean.
+//! Evaluates the statements of a tree.
 
 ghost use Rattle.std.specs.Prelude.{◌≡◌, ◌≢◌, ◌≤◌, ◌+◌, ℕ, List, [], ◌∷◌, ◌++◌, length, OnOk, IfOk, Some, false};
 ghost use Rattle.plan_text.specs.Outcome.{Meets};
@@ -37,19 +37,19 @@ use plan_parse::{BuildLine, DirectiveKind};
 use plan_text::{Items, PieceList};
 use std::alloc::{AllocError, Global};
 
-/// What all statements of the tree give.
+/// Facts of the whole tree. An edge may refer to pools below it, and its rule's variables to bindings below it.
 #[derive(Drop)]
 pub struct TreeFacts<'a> {
-    /// What is bound in all scopes.
+    /// The bindings of all scopes.
     pub bound: &'a ScopedMap<Items<u8>>,
-    /// The names of the pools.
+    /// The names of all pools.
     pub pool_names: PoolNames<'a>,
 }
 
-/// What the statements so far give.
+/// The results of the statements so far.
 #[derive(Drop)]
 pub struct Evaluation<'a> {
-    /// What is bound in all scopes.
+    /// The bindings of all scopes.
     pub bound: ScopedMap<Items<u8>>,
     /// The rules in all scopes.
     pub rules: ScopedMap<RuleVariables<'a>>,
@@ -63,7 +63,7 @@ pub struct Evaluation<'a> {
     pub defaults: Vec<DefaultTarget>,
 }
 
-/// What all statements give.
+/// Collects the facts of the whole tree.
 fn facts_of_tree<'a>(alloc: Global, tree: &'a Tree) -> Result<TreeFacts<'a>, AllocError>
     ensures { IfOk result (λ facts. Knows facts tree.now) }
 {
@@ -73,7 +73,7 @@ fn facts_of_tree<'a>(alloc: Global, tree: &'a Tree) -> Result<TreeFacts<'a>, All
     })
 }
 
-/// How many edges a statement may give.
+/// Returns the number of edges that a statement adds unless it is refused.
 fn edge_count_of_statement(statement: &TreeStatement<'_>) -> usize
     ensures edges { result ≡ length (builds_in statement.now.kind) }
     ensures within { result ≤ 1 }
@@ -85,7 +85,7 @@ fn edge_count_of_statement(statement: &TreeStatement<'_>) -> usize
     }
 }
 
-/// How many edges a tree may give.
+/// Returns the number of edges that the statements of a tree add unless one is refused.
 fn edge_count(tree: &Tree) -> Result<usize, AllocError>
     ensures { IfOk result (λ edges. edges ≡ length (builds_of tree.now)) }
 {
@@ -99,7 +99,7 @@ fn edge_count(tree: &Tree) -> Result<usize, AllocError>
     Ok(edges)
 }
 
-/// What no statement gives, the pool `console`, with room for so many edges.
+/// Creates the results before the first statement: the pool `console`, with capacity for `edges` edges.
 fn initial_evaluation<'a>(alloc: Global, edges: usize) -> Result<Evaluation<'a>, AllocError>
     ensures { IfOk result (λ e. Fits e [] × (manifest_in e ≡ pool_alone console)) }
 {
@@ -121,7 +121,7 @@ fn initial_evaluation<'a>(alloc: Global, edges: usize) -> Result<Evaluation<'a>,
     })
 }
 
-/// Adds the edge of a build line with a rule that isn't kept yet; from now on it is, but not compiled.
+/// Adds the edge of a build line whose rule isn't kept yet. Keeps the rule in `found`, not compiled.
 fn add_edge_of_new_rule<'b, 'a>(
     alloc: Global,
     pools: &PoolNames<'b>,
@@ -149,7 +149,7 @@ fn add_edge_of_new_rule<'b, 'a>(
     added
 }
 
-/// Adds the edge of a build line with a rule that one other used; from now on it is compiled.
+/// Adds the edge of a build line whose rule one build line used before. Compiles the rule and keeps it in `found`.
 fn add_edge_of_met_rule<'b, 'a>(
     alloc: Global,
     pools: &PoolNames<'b>,
@@ -177,7 +177,7 @@ fn add_edge_of_met_rule<'b, 'a>(
     added
 }
 
-/// Adds the edge of a build line.
+/// Adds the edge of a build line. Refuses the line if its rule is unknown.
 fn add_edge_of_build<'b, 'a>(
     alloc: Global,
     pools: &PoolNames<'b>,
@@ -211,7 +211,7 @@ fn add_edge_of_build<'b, 'a>(
     }
 }
 
-/// Adds what a build line gives.
+/// Adds the edge of a build line to the results so far.
 fn add_build<'a>(
     alloc: Global,
     facts: &TreeFacts<'a>,
@@ -250,7 +250,7 @@ fn add_build<'a>(
     )
 }
 
-/// Adds what a pool gives.
+/// Adds a pool that a statement declares.
 fn add_pool<'a>(
     alloc: Global,
     so_far: &mut Evaluation<'a>,
@@ -274,7 +274,7 @@ fn add_pool<'a>(
     Ok(())
 }
 
-/// Adds what a `default` statement gives.
+/// Adds the targets of a `default` statement.
 fn add_default<'a>(
     alloc: Global,
     so_far: &mut Evaluation<'a>,
@@ -297,7 +297,7 @@ fn add_default<'a>(
     Ok(())
 }
 
-/// Adds what a statement gives that is a binding.
+/// Adds the binding of a statement that is a binding.
 fn add_binding<'a>(
     alloc: Global,
     so_far: &mut Evaluation<'a>,
@@ -312,7 +312,8 @@ fn add_binding<'a>(
     Ok(())
 }
 
-/// Adds what a directive gives.
+/// Adds the rule, the pool or the default targets of a directive. Clears the kept rules if the directive declares a
+/// rule, which may hide one of them.
 fn add_directive<'a>(
     alloc: Global,
     so_far: &mut Evaluation<'a>,
@@ -338,7 +339,7 @@ fn add_directive<'a>(
     }
 }
 
-/// Adds what a build line gives, by the statement that it is.
+/// Adds the edge of a build line, given its statement.
 fn add_edge<'a>(
     alloc: Global,
     facts: &TreeFacts<'a>,
@@ -357,7 +358,7 @@ fn add_edge<'a>(
     add_build(alloc, facts, so_far, found, scopes, &*build)
 }
 
-/// Adds what a statement gives.
+/// Adds the results of a statement.
 fn add_statement<'a>(
     alloc: Global,
     facts: &TreeFacts<'a>,
@@ -377,7 +378,7 @@ fn add_statement<'a>(
     }
 }
 
-/// The fault of a statement, with its place.
+/// Adds the place of a statement to its fault. Returns `Memory` if memory runs out.
 fn fault_at(alloc: Global, statement: &TreeStatement<'_>, fault: StatementFault) -> ScopeFault
     ensures { IsLocated fault statement.now result }
 {
@@ -390,7 +391,7 @@ fn fault_at(alloc: Global, statement: &TreeStatement<'_>, fault: StatementFault)
     }
 }
 
-/// What all statements of a tree give.
+/// Evaluates all statements of a tree in order and adds their results to `so_far`.
 fn evaluate_statements<'a>(
     alloc: Global,
     facts: &TreeFacts<'a>,
@@ -411,7 +412,7 @@ fn evaluate_statements<'a>(
     Ok(so_far)
 }
 
-/// What the statements of a tree give, `console` among the pools.
+/// Evaluates the statements of a tree. The pool `console` is among the pools.
 fn evaluate_tree<'a>(alloc: Global, tree: &'a Tree) -> Result<Evaluation<'a>, ScopeFault>
     ensures within { IfOk result (λ e. AreWithin e.edges) }
     ensures given { Meets ScopeFault.Memory manifest_in result (manifest_of tree.now) }
@@ -421,11 +422,12 @@ fn evaluate_tree<'a>(alloc: Global, tree: &'a Tree) -> Result<Evaluation<'a>, Sc
     evaluate_statements(alloc, &facts, so_far, tree)
 }
 
-/// What the statements of a tree mean.
+/// Evaluates the statements of a tree.
 ///
 /// # Errors
 ///
-/// `Refused` with the first statement that is at fault, and the cause of the least number that it has; `Memory`.
+/// `Refused` for the first statement that has a fault, with the cause that has the least number among its causes.
+/// `Memory` if memory runs out.
 pub fn evaluate(alloc: Global, tree: &Tree) -> Result<Manifest, ScopeFault>
     ensures { Meets ScopeFault.Memory (λ m. m) result (manifest_of tree.now) }
 {

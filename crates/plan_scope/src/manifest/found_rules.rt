@@ -1,4 +1,4 @@
-//! The rules of the latest build lines, compiled where two used them.
+//! The rules of the latest build lines. A rule is compiled when a second build line uses it.
 
 ghost use Rattle.std.specs.Prelude.{◌≡◌, List, IfSome, OnOk};
 ghost use Rattle.plan_text.specs.declared.piece_reader.Piece.{Piece};
@@ -8,21 +8,21 @@ ghost use Rattle.plan_scope.specs.Found.{AreFound, IsCompiledFrom};
 use crate::edge::compiled::CompiledRule;
 use std::alloc::AllocError;
 
-/// A rule that a build line found.
+/// A rule that a build line refers to.
 #[derive(Drop)]
 pub struct FoundRule<'a> {
-    /// The scopes that are seen from the build line.
+    /// The scopes that are visible from the build line.
     pub scopes: &'a [usize],
     /// The rule's name.
     pub name: &'a [u8],
-    /// What is known of its variables in the file.
+    /// The rule's variables as far as they are known in the file.
     pub compiled: CompiledRule<'a>,
 }
 
-/// How many rules are kept. Most files take turns with few of theirs.
+/// The greatest number of rules that are kept. Most files use few rules in turn.
 const MOST_RULES: usize = 16;
 
-/// The rule of this name that was found from these scopes.
+/// Returns the kept rule with this name that was found from these scopes.
 pub fn find_rule<'b, 'a>(
     found: &'b [FoundRule<'a>],
     scopes: &[usize],
@@ -40,7 +40,7 @@ pub fn find_rule<'b, 'a>(
     None
 }
 
-/// Keeps a rule; where there are many others, in place of them.
+/// Keeps a rule. If `MOST_RULES` rules are kept already, drops them first.
 pub fn keep_rule<'a>(found: &mut Vec<FoundRule<'a>>, rule: FoundRule<'a>) -> Result<(), AllocError>
     ensures { OnOk result ((rules : ScopedBindings (Bindings (List Piece))) (bound : ScopedBindings Text) → AreFound rules bound found.old.items → IsCompiledFrom rules bound rule.entry.scopes.now rule.entry.name.now rule.entry.compiled → AreFound rules bound found.new.items) }
 {
@@ -51,7 +51,7 @@ pub fn keep_rule<'a>(found: &mut Vec<FoundRule<'a>>, rule: FoundRule<'a>) -> Res
     Ok(())
 }
 
-/// Puts a rule in the place of the one of its name that was found from its scopes.
+/// Replaces the kept rule that has the same name and was found from the same scopes, if there is one.
 pub fn replace_rule<'a>(found: &mut Vec<FoundRule<'a>>, rule: FoundRule<'a>)
     ensures { (rules : ScopedBindings (Bindings (List Piece))) (bound : ScopedBindings Text) → AreFound rules bound found.old.items → IsCompiledFrom rules bound rule.entry.scopes.now rule.entry.name.now rule.entry.compiled → AreFound rules bound found.new.items }
 {

@@ -1,4 +1,4 @@
-//! Paths that stand one behind the other.
+//! Ranges of paths.
 
 ghost use Rattle.std.specs.Prelude.{◌≡◌, ◌≤◌, [], get_or, length};
 ghost use Rattle.plan_parse.specs.PathLists.{between};
@@ -6,7 +6,7 @@ ghost use Rattle.plan_parse.specs.PathLists.{between};
 use plan_text::RowList;
 use std::marker::Model;
 
-/// Paths that stand one behind the other among those of all edges. A contract sees their list.
+/// Consecutive paths in the rows of all edges. Contracts see their list.
 #[derive(Drop)]
 pub struct PathRange<'a> {
     rows: &'a RowList<u8>,
@@ -27,7 +27,7 @@ impl<'a> Model for PathRange<'a> {
 }
 
 impl<'a> PathRange<'a> {
-    /// The paths from the one of this number to that in front of another number.
+    /// Creates the range of the paths with the numbers from `start` up to, but not including, `end`.
     pub(crate) fn new(rows: &'a RowList<u8>, start: usize, end: usize) -> PathRange<'a>
         requires ascend { start ≤ end }
         requires within { end ≤ length rows.now }
@@ -36,14 +36,14 @@ impl<'a> PathRange<'a> {
         PathRange { rows, start, end }
     }
 
-    /// How many paths there are.
+    /// Returns the number of paths.
     pub fn len(&self) -> usize
         ensures { result ≡ length self.now }
     {
         self.end - self.start
     }
 
-    /// The path of this number, counted from 0; empty where there are not as many.
+    /// Returns the path with this number, counted from 0, or an empty slice if there is no such path.
     pub fn path(&self, number: usize) -> &'a [u8]
         ensures { result.now ≡ get_or self.now number [] }
     {

@@ -11,10 +11,10 @@ use plan_parse::DirectiveKind;
 use std::alloc::{AllocError, Global};
 use std::marker::Model;
 
-/// The name of the pool that is there without a statement.
+/// The name of the pool that exists without a declaration.
 pub const CONSOLE: &[u8] = b"console";
 
-/// Names of pools.
+/// A set of names of pools.
 #[derive(Drop)]
 pub struct PoolNames<'a> {
     names: SmallMap<'a, ()>,
@@ -30,7 +30,7 @@ impl<'a> Model for PoolNames<'a> {
 }
 
 impl<'a> PoolNames<'a> {
-    /// No name.
+    /// Creates an empty set.
     pub fn new(alloc: Global) -> Self
         ensures { result ≡ [] }
     {
@@ -39,21 +39,21 @@ impl<'a> PoolNames<'a> {
         }
     }
 
-    /// Whether a name is among them.
+    /// Checks whether a name is in the set.
     pub fn contains(&self, name: &[u8]) -> bool
         ensures { result ≡ is_among self.now name.now }
     {
         self.names.get(name).is_some()
     }
 
-    /// One name more.
+    /// Inserts a name.
     pub fn insert(&mut self, name: &'a [u8]) -> Result<(), AllocError>
         ensures names { OnOk result ((n : List ℕ) → is_among self.new n ≡ is_among (self.old ++ name.now ∷ []) n) }
     {
         self.names.set(name, ())
     }
 
-    /// The names of the pools of a tree.
+    /// Collects the names of the pools of a tree, including `console`.
     pub fn of_tree(alloc: Global, tree: &'a Tree) -> Result<Self, AllocError>
         ensures { IfOk result (λ names. EqNames names (pools_of tree.now)) }
     {
@@ -66,7 +66,7 @@ impl<'a> PoolNames<'a> {
     }
 }
 
-/// Inserts the name of a pool that a directive declares.
+/// Inserts the name of the pool that a directive declares, if it declares one.
 fn insert_declared<'a>(names: &mut PoolNames<'a>, kind: &'a DirectiveKind) -> Result<(), AllocError>
     ensures { OnOk result ((n : List ℕ) → is_among names.new n ≡ is_among (names.old ++ pools_in (kind_of kind.now)) n) }
 {
@@ -76,7 +76,7 @@ fn insert_declared<'a>(names: &mut PoolNames<'a>, kind: &'a DirectiveKind) -> Re
     }
 }
 
-/// Inserts the name of a pool that a statement declares.
+/// Inserts the name of the pool that a statement declares, if it declares one.
 fn insert_from_statement<'a>(
     names: &mut PoolNames<'a>,
     statement: &TreeStatement<'a>,

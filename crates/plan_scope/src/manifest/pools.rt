@@ -19,10 +19,10 @@ use std::alloc::Global;
 /// The greatest depth of a pool.
 const MAX_DEPTH: u64 = 1_000_000;
 
-/// The most digits of a depth.
+/// The greatest number of digits in a depth.
 const MAX_DIGITS: usize = 7;
 
-/// The depth that a text says.
+/// Parses a depth. Returns `None` if the text isn't one to seven digits or the number is above `MAX_DEPTH`.
 fn depth_in(text: &[u8]) -> Option<u64>
     ensures { result ≡ depth_in text.now }
 {
@@ -32,7 +32,7 @@ fn depth_in(text: &[u8]) -> Option<u64>
     number_in(text, MAX_DEPTH)
 }
 
-/// The depth that a text says, or why it is refused.
+/// Parses a depth. Returns the cause if the text is refused.
 fn depth(text: &[u8]) -> Result<u64, Cause>
     ensures { result ≡ depth_by text.now }
 {
@@ -45,7 +45,12 @@ fn depth(text: &[u8]) -> Result<u64, Cause>
     }
 }
 
-/// The pool that a statement declares, by the names of those above it.
+/// Evaluates the declaration of a pool, given the names of the pools above it.
+///
+/// # Errors
+///
+/// `DuplicatePool` if a pool of this name is above, `TextTooLong` or `BadDepth` if the depth is refused, `Memory` if
+/// memory runs out.
 pub fn pool<'a>(
     alloc: Global,
     above: &PoolNames<'a>,

@@ -1,4 +1,4 @@
-//! Rules, declared in scopes.
+//! Declarations of rules in scopes.
 
 ghost use Rattle.std.specs.Prelude.{◌≡◌, ◌||◌, ◌++◌, OnOk, bytes_eq, codes};
 ghost use Rattle.plan_scope.specs.Scopes.{in_own};
@@ -12,7 +12,7 @@ use crate::scope::scoped_map::ScopedMap;
 use plan_parse::Rule;
 use std::alloc::{AllocError, Global};
 
-/// The own scope of a statement.
+/// Returns the own scope of a statement, which is the first that it sees.
 fn own_scope(scopes: &[usize]) -> Option<usize>
     ensures { result ≡ own_of scopes.now }
 {
@@ -22,7 +22,7 @@ fn own_scope(scopes: &[usize]) -> Option<usize>
     }
 }
 
-/// Whether the own scope of a statement has a rule of this name.
+/// Checks whether the own scope of a statement has a rule with this name.
 fn has_own<'a>(rules: &ScopedMap<RuleVariables<'a>>, scopes: &[usize], name: &[u8]) -> bool
     ensures { result ≡ has_own rules.now scopes.now name.now }
 {
@@ -32,21 +32,21 @@ fn has_own<'a>(rules: &ScopedMap<RuleVariables<'a>>, scopes: &[usize], name: &[u
     }
 }
 
-/// Whether a rule's name is that of edges without a command.
+/// Checks whether a name is `phony`, the rule of edges without a command.
 pub fn is_phony(name: &[u8]) -> bool
     ensures { result ≡ bytes_eq name.now (codes "phony") }
 {
     name == b"phony".as_slice()
 }
 
-/// Whether no rule may be declared under this name.
+/// Checks whether no rule may be declared under this name.
 fn is_taken<'a>(rules: &ScopedMap<RuleVariables<'a>>, scopes: &[usize], name: &[u8]) -> bool
     ensures { result ≡ is_taken rules.now scopes.now name.now }
 {
     is_phony(name) || has_own(rules, scopes, name)
 }
 
-/// Gives a rule its name in the own scope of a statement.
+/// Sets a rule under its name in the own scope of a statement.
 fn insert_rule<'a>(
     alloc: Global,
     rules: &mut ScopedMap<RuleVariables<'a>>,
@@ -63,6 +63,11 @@ fn insert_rule<'a>(
 }
 
 /// Declares a rule for the build lines below it.
+///
+/// # Errors
+///
+/// `DuplicateRule` if the name is `phony` or the own scope already has a rule with this name. `Memory` if memory runs
+/// out.
 pub fn declare<'a>(
     alloc: Global,
     rules: &mut ScopedMap<RuleVariables<'a>>,

@@ -1,19 +1,19 @@
-//! Texts that stand elsewhere, or were put together.
+//! Texts that are borrowed or owned.
 
 ghost use Rattle.std.specs.Prelude.{◌≡◌};
 
 use std::marker::Model;
 
-/// Where a text's bytes lie.
+/// The bytes of a text.
 #[derive(Drop)]
 enum Held<'a> {
-    /// Elsewhere.
+    /// Borrowed bytes.
     Lent(&'a [u8]),
-    /// In an allocation.
+    /// Owned bytes.
     Made(Vec<u8>),
 }
 
-/// A text that stands elsewhere, or was put together. A contract sees it as its bytes.
+/// A text that is borrowed or owned. Contracts see it as its bytes.
 #[derive(Drop)]
 pub struct HeldText<'a> {
     held: Held<'a>,
@@ -29,7 +29,7 @@ impl<'a> Model for HeldText<'a> {
 }
 
 impl<'a> HeldText<'a> {
-    /// The text of bytes that stand elsewhere.
+    /// Creates a text that borrows its bytes.
     pub fn lent(bytes: &'a [u8]) -> HeldText<'a>
         ensures { result ≡ bytes.now }
     {
@@ -38,8 +38,8 @@ impl<'a> HeldText<'a> {
         }
     }
 
-    /// The text of bytes that were put together.
-    pub fn made(bytes: Vec<u8>) -> HeldText<'a>
+    /// Creates a text that owns its bytes.
+    pub(crate) fn made(bytes: Vec<u8>) -> HeldText<'a>
         ensures { result ≡ bytes.items }
     {
         HeldText {
@@ -47,7 +47,7 @@ impl<'a> HeldText<'a> {
         }
     }
 
-    /// Its bytes.
+    /// Returns its bytes.
     pub fn as_slice(&self) -> &[u8]
         ensures { result.now ≡ self.now }
     {

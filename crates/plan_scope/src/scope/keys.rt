@@ -1,9 +1,10 @@
-//! Scopes and names as keys of a map. Each feeds its hasher with its name at once, not byte by byte.
+//! Scopes with names, as keys of a map. Each feeds its hasher eight bytes of its name at once.
 
 ghost use Rattle.std.specs.Cmp.{on_equiv, on_per, partial_equiv_from_equiv};
 ghost use Rattle.plan_scope.specs.Keys.{key_input, key_of, same_key, same_key_equiv, same_key_fed};
 
 use indexmap::Equivalent;
+use plan_text::feed_words;
 use std::hash::{Hash, Hasher};
 
 /// A scope and a name, as a map holds them.
@@ -36,7 +37,7 @@ impl Hash for Key {
 
     fn hash<H: Hasher>(&self, state: &mut H) {
         self.scope.hash(state);
-        state.write(&self.name);
+        feed_words(&self.name, state);
     }
 }
 
@@ -70,7 +71,7 @@ impl<'a> Hash for Named<'a> {
 
     fn hash<H: Hasher>(&self, state: &mut H) {
         self.scope.hash(state);
-        state.write(self.name);
+        feed_words(self.name, state);
     }
 }
 

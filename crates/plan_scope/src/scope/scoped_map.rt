@@ -9,10 +9,10 @@ use indexmap::IndexMap;
 use std::alloc::{AllocError, Global};
 use std::marker::Model;
 
-/// How many marks names have.
+/// The number of marks.
 pub const MARKS: usize = 64;
 
-/// The mark of a name: names that have different marks differ.
+/// Returns the mark of a name. Names with different marks differ.
 pub fn mark(name: &[u8]) -> usize
     ensures mark { result ≡ mark_of name.now }
     ensures within { result < marks }
@@ -23,12 +23,12 @@ pub fn mark(name: &[u8]) -> usize
     }
 }
 
-/// Values by scope and name, the last for each.
+/// Values by scope and name. Only the last value of a name in a scope is held.
 #[derive(Drop)]
 pub struct ScopedMap<V> {
     values: IndexMap<Key, V>,
-    /// Whether a name of this mark was set. Most names that are looked up in vain are told by that, without a hash
-    /// for each scope.
+    /// Whether a name with this mark was set. For most names that aren't bound, the mark shows that without a hash for
+    /// each scope.
     marked: [bool; MARKS],
 }
 
@@ -44,7 +44,7 @@ impl<V> Model for ScopedMap<V> {
 }
 
 impl<V> ScopedMap<V> {
-    /// No value.
+    /// Creates an empty map.
     pub fn new(alloc: Global) -> Self
         ensures { result ≡ [] }
     {
@@ -54,7 +54,7 @@ impl<V> ScopedMap<V> {
         }
     }
 
-    /// The value of a name in a scope.
+    /// Returns the value of a name in a scope.
     pub fn own(&self, scope: usize, name: &[u8]) -> Option<&V>
         ensures { option_map (λ v. v.now) result ≡ last_of name.now (frame scope self.now) }
     {
@@ -64,14 +64,14 @@ impl<V> ScopedMap<V> {
         }
     }
 
-    /// Whether a scope may have the name, as far as its mark tells.
+    /// Checks by its mark whether a scope may have the name. If it returns `false`, no scope has the name.
     pub fn may_have(&self, name: &[u8]) -> bool
         ensures { result ≡ false → (scopes : List ℕ) → nearest self.now scopes name.now ≡ None }
     {
         self.marked[mark(name)]
     }
 
-    /// The value of a name in the nearest of these scopes that has one.
+    /// Returns the value of a name in the nearest of these scopes that has one.
     pub fn nearest(&self, scopes: &[usize], name: &[u8]) -> Option<&V>
         ensures { option_map (λ v. v.now) result ≡ nearest self.now scopes.now name.now }
     {
@@ -89,7 +89,7 @@ impl<V> ScopedMap<V> {
 }
 
 impl<V: Drop> ScopedMap<V> {
-    /// Gives a name a value in a scope, behind those that it may have.
+    /// Sets the value of a name in a scope. Replaces the value that it may have.
     pub fn set(
         &mut self,
         alloc: Global,

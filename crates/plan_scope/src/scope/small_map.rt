@@ -8,12 +8,13 @@ use indexmap::IndexMap;
 use std::alloc::{AllocError, Global};
 use std::marker::Model;
 
-/// Values by name, the last for each. Most frames have few, which are found sooner one by one than by their hashes.
+/// Values by name, of which the last one counts. Most maps have few values, which are found faster one by one than by
+/// hashes.
 #[derive(Drop)]
 pub struct SmallMap<'a, V> {
     /// The first values, in the order in which they were set.
     few: Vec<(&'a [u8], V)>,
-    /// Those that were set once there were few already.
+    /// The values that were set after the first ones.
     more: IndexMap<&'a [u8], V>,
 }
 
@@ -29,10 +30,10 @@ impl<'a, V> Model for SmallMap<'a, V> {
     ghost invariant = { λ f. length f.few.items < most_few → f.more.entries ≡ [] };
 }
 
-/// How many values are held one by one.
+/// The number of values that are searched one by one.
 const FEW: usize = 8;
 
-/// The last value of a name.
+/// Returns the last value of a name.
 fn last_among<'b, 'a, V>(few: &'b [(&'a [u8], V)], name: &[u8]) -> Option<&'b V>
     ensures { option_map (λ v. v.now) result ≡ last_of name.now (few_bindings few.now) }
 {
@@ -46,7 +47,7 @@ fn last_among<'b, 'a, V>(few: &'b [(&'a [u8], V)], name: &[u8]) -> Option<&'b V>
 }
 
 impl<'a, V> SmallMap<'a, V> {
-    /// The map without a value.
+    /// Creates an empty map.
     pub fn new(alloc: Global) -> Self
         ensures { result ≡ [] }
     {
@@ -56,7 +57,7 @@ impl<'a, V> SmallMap<'a, V> {
         }
     }
 
-    /// The value of a name.
+    /// Returns the value of a name.
     #[inline(always)]
     pub fn get(&self, name: &[u8]) -> Option<&V>
         ensures { option_map (λ v. v.now) result ≡ last_of name.now self.now }
@@ -67,7 +68,7 @@ impl<'a, V> SmallMap<'a, V> {
         self.get_among(name)
     }
 
-    /// The value of a name, where there are some.
+    /// Returns the value of a name in a map that isn't empty.
     fn get_among(&self, name: &[u8]) -> Option<&V>
         ensures { option_map (λ v. v.now) result ≡ last_of name.now self.now }
     {
@@ -82,7 +83,7 @@ impl<'a, V> SmallMap<'a, V> {
 }
 
 impl<'a, V: Drop> SmallMap<'a, V> {
-    /// Gives a name a value, behind those that it may have.
+    /// Sets the value of a name. Lookups find it instead of the value that the name may have.
     pub fn set(&mut self, name: &'a [u8], value: V) -> Result<(), AllocError>
         ensures bound { OnOk result ((n : List ℕ) → last_of n self.new ≡ last_of n (self.old ++ (name.now, value) ∷ [])) }
     {

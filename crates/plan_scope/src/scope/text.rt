@@ -1,4 +1,4 @@
-//! Texts that are put together, as far as they are kept.
+//! Texts that are joined. Of a text that is too long, only one byte more than is allowed is kept.
 
 ghost use Rattle.std.specs.Prelude.{◌≡◌, ◌≤◌, ◌+◌, ◌++◌, length, IfOk, OnOk};
 ghost use Rattle.std.specs.List.{join_with_byte, list_all};
@@ -13,16 +13,16 @@ use crate::manifest::path_range::PathRange;
 use plan_text::{Items, MAX_TEXT};
 use std::alloc::{AllocError, Global};
 
-/// How a path is shown.
+/// How a path is quoted.
 #[derive(Clone, Copy)]
 pub enum Quoting {
-    /// As it is.
+    /// Not quoted.
     Plain,
-    /// For a shell.
+    /// Quoted for a shell.
     Shell,
 }
 
-/// A copy of a text.
+/// Copies a text.
 pub fn copy_of(alloc: Global, text: &[u8]) -> Result<Items<u8>, AllocError>
     ensures { IfOk result (λ copy. copy ≡ text.now) }
 {
@@ -32,14 +32,14 @@ pub fn copy_of(alloc: Global, text: &[u8]) -> Result<Items<u8>, AllocError>
     }
 }
 
-/// Whether a text is too long.
+/// Checks whether a text is too long.
 pub fn is_long(text: &[u8]) -> bool
     ensures { result ≡ is_too_long text.now }
 {
     text.len() > MAX_TEXT
 }
 
-/// As much of a text as is kept: of one that is too long no more than shows it.
+/// Returns the part of a text that is kept. Of a text that is too long, that is one byte more than is allowed.
 pub fn front_kept(text: &[u8]) -> &[u8]
     ensures { kept result.now ≡ kept text.now }
 {
@@ -50,7 +50,8 @@ pub fn front_kept(text: &[u8]) -> &[u8]
     }
 }
 
-/// Appends a text. Of a text that is too long no more is kept than shows it: one byte more than is allowed.
+/// Appends a text. Of a text that is too long, keeps only one byte more than is allowed, which shows that it is too
+/// long.
 #[inline(always)]
 pub fn append(out: &mut Vec<u8>, text: &[u8]) -> Result<(), AllocError>
     ensures appended { OnOk result (kept out.new.items ≡ kept (out.old.items ++ text.now)) }
@@ -91,14 +92,14 @@ const PLAIN: [bool; 256] = [
     false, false, false, false, false, false, false, false, false, false,
 ];
 
-/// Whether a shell takes the byte as it is.
+/// Checks whether a shell takes the byte as it is.
 fn is_plain(byte: u8) -> bool
     ensures { result ≡ is_plain byte }
 {
     PLAIN[usize::from(byte)]
 }
 
-/// Appends a byte, unless the text is too long already.
+/// Appends a byte, unless the text is already too long.
 fn append_byte(out: &mut Vec<u8>, byte: u8) -> Result<(), AllocError>
     ensures { OnOk result (kept out.new.items ≡ kept (out.old.items ++ byte ∷ [])) }
 {
@@ -109,7 +110,7 @@ fn append_byte(out: &mut Vec<u8>, byte: u8) -> Result<(), AllocError>
     Ok(())
 }
 
-/// Appends a byte that stands between quotes.
+/// Appends a byte that comes between single quotes.
 fn append_escaped(out: &mut Vec<u8>, byte: u8) -> Result<(), AllocError>
     ensures { OnOk result (kept out.new.items ≡ kept (out.old.items ++ escaped byte)) }
 {
@@ -120,7 +121,7 @@ fn append_escaped(out: &mut Vec<u8>, byte: u8) -> Result<(), AllocError>
     }
 }
 
-/// Appends a path between quotes.
+/// Appends a path between single quotes.
 fn append_between_quotes(out: &mut Vec<u8>, path: &[u8]) -> Result<(), AllocError>
     ensures { OnOk result (kept out.new.items ≡ kept (out.old.items ++ (single_quote ∷ (flat_map escaped path.now ++ single_quote ∷ [])))) }
 {
@@ -131,14 +132,14 @@ fn append_between_quotes(out: &mut Vec<u8>, path: &[u8]) -> Result<(), AllocErro
     append(out, b"'")
 }
 
-/// Whether a shell takes the path as it is.
+/// Checks whether a shell takes the path as it is.
 fn is_all_plain(path: &[u8]) -> bool
     ensures { result ≡ list_all is_plain path.now }
 {
     path.iter().all(|byte| is_plain(*byte))
 }
 
-/// Appends a path for a shell.
+/// Appends a path, quoted for a shell if that is necessary.
 fn append_quoted(out: &mut Vec<u8>, path: &[u8]) -> Result<(), AllocError>
     ensures { OnOk result (kept out.new.items ≡ kept (out.old.items ++ quoted path.now)) }
 {
@@ -149,7 +150,7 @@ fn append_quoted(out: &mut Vec<u8>, path: &[u8]) -> Result<(), AllocError>
     }
 }
 
-/// Appends a path as it is shown.
+/// Appends a path with this quoting.
 fn append_path(out: &mut Vec<u8>, quoting: Quoting, path: &[u8]) -> Result<(), AllocError>
     ensures { OnOk result (kept out.new.items ≡ kept (out.old.items ++ quoted_as quoting path.now)) }
 {
@@ -159,7 +160,7 @@ fn append_path(out: &mut Vec<u8>, quoting: Quoting, path: &[u8]) -> Result<(), A
     }
 }
 
-/// Appends what stands in front of a path of a list.
+/// Appends the separator before a path of a list, unless the path is the first.
 fn append_separator(out: &mut Vec<u8>, is_first: bool, separator: u8) -> Result<(), AllocError>
     ensures { OnOk result (kept out.new.items ≡ kept (out.old.items ++ (if is_first then [] else separator ∷ []))) }
 {
@@ -169,8 +170,8 @@ fn append_separator(out: &mut Vec<u8>, is_first: bool, separator: u8) -> Result<
     append_byte(out, separator)
 }
 
-/// Appends paths as they are shown, this byte between each two. Behind a text that is too long nothing is kept, and
-/// no path is looked at.
+/// Appends paths with this quoting and a separator between them. If the text is already too long, appends nothing and
+/// doesn't read the paths.
 pub fn append_paths(
     out: &mut Vec<u8>,
     quoting: Quoting,

@@ -24,7 +24,7 @@ pub struct Stretches {
     stretches: Vec<Stretch>,
     /// The greatest of their own scopes.
     greatest: usize,
-    /// What was first read under each path that they stand in.
+    /// The file that was parsed first under each path.
     read: IndexMap<Vec<u8>, Rc<Parsed>>,
 }
 
@@ -41,7 +41,7 @@ impl Model for Stretches {
     ghost invariant = { λ s. s.greatest ≡ greatest_scope (joined s.stretches.items) };
 }
 
-/// The own scope of a statement that sees these.
+/// Returns the own scope of a statement that sees these scopes.
 pub fn own_scope(scopes: &[usize]) -> usize
     ensures { result ≡ own_scope scopes.now }
 {
@@ -52,7 +52,7 @@ pub fn own_scope(scopes: &[usize]) -> usize
 }
 
 impl Stretches {
-    /// No statement.
+    /// Creates an empty list.
     pub fn new(alloc: Global) -> Self
         ensures { result ≡ [] }
     {
@@ -63,7 +63,8 @@ impl Stretches {
         }
     }
 
-    /// What was first read under a path, if it was these bytes and some of its statements are here.
+    /// Returns the file that was parsed first under a path, if it has these bytes and some of its statements are in
+    /// this list.
     pub fn find(&self, path: &[u8], bytes: &[u8]) -> Option<Rc<Parsed>>
         ensures { IfSome result (λ parsed. IsParsed bytes.now (Ok parsed.value)) }
     {
@@ -77,7 +78,7 @@ impl Stretches {
         }
     }
 
-    /// Remembers what was read of a file, unless something was under its path.
+    /// Remembers a parsed file, unless its path has one already.
     fn remember(&mut self, alloc: Global, file: &File) -> Result<(), AllocError>
         ensures { self.new ≡ self.old }
     {
@@ -89,7 +90,7 @@ impl Stretches {
         Ok(())
     }
 
-    /// Adds the statements of a file from one number on, in front of that of another number.
+    /// Appends the statements of a file with the numbers from `start` up to, but not including, `end`.
     pub fn push(
         &mut self,
         alloc: Global,
@@ -113,7 +114,8 @@ impl Stretches {
         Ok(())
     }
 
-    /// The scope that a statement opens which sees these scopes; none where there is no greater number.
+    /// Returns the scope that a statement with these visible scopes opens. Returns `AllocError` if the number
+    /// overflows.
     pub fn fresh_scope(&self, scopes: &[usize]) -> Result<usize, AllocError>
         ensures { IfOk result (λ scope. scope ≡ fresh_scope self.now scopes.now) }
     {
@@ -124,12 +126,12 @@ impl Stretches {
     }
 }
 
-/// The statements that are loaded so far, and what they bind.
+/// The statements that are loaded so far, and their bindings.
 #[derive(Drop)]
 pub struct Loaded {
     /// The statements.
     pub statements: Stretches,
-    /// What they bind.
+    /// Their bindings.
     pub bound: ScopedMap<Items<u8>>,
 }
 
@@ -147,7 +149,7 @@ impl Model for Loaded {
 }
 
 impl Loaded {
-    /// No statement.
+    /// Creates an empty list.
     pub fn new(alloc: Global) -> Self
         ensures { result ≡ [] }
     {
@@ -157,21 +159,21 @@ impl Loaded {
         }
     }
 
-    /// The statements.
+    /// Returns the statements.
     pub fn statements(&self) -> &Stretches
         ensures { result.now ≡ self.now }
     {
         &self.statements
     }
 
-    /// What they bind.
+    /// Returns their bindings.
     pub fn bound(&self) -> &ScopedMap<Items<u8>>
         ensures { KeptEqScoped result.now (bound_by self.now) }
     {
         &self.bound
     }
 
-    /// The tree of these statements, without spare room where memory allows it.
+    /// Returns the tree of these statements. Releases spare capacity if memory allows it.
     pub fn into_tree(self) -> Tree
         ensures { result ≡ self }
     {

@@ -1,4 +1,4 @@
-//! Trees from a source.
+//! Loads trees from a source.
 
 ghost use Rattle.std.specs.Prelude.{◌≡◌, ◌≢◌, ◌<◌, ◌≤◌, ◌+◌, ◌-◌, [], ◌∷◌, ◌++◌, Option, Some, IfErr, IfOk, OnOk, ℕ, List, length, option_map};
 ghost use Rattle.std.specs.List.{list_any};
@@ -28,13 +28,13 @@ use plan_text::{Items, MAX_PATH, Piece};
 use std::alloc::{AllocError, Global};
 use std::rc::Rc;
 
-/// How many files more may be open beside the first.
+/// The number of files that may be open in addition to the first.
 const MORE_FILES: usize = 63;
 
-/// The first file's scope.
+/// The scope of the first file.
 const FIRST_SCOPE: usize = 0;
 
-/// The fault of a statement.
+/// Returns the fault that refuses a statement, or `LoadMemory` if memory runs out.
 fn refusal_of(alloc: Global, statement: &TreeStatement<'_>, cause: Cause) -> ScopeFault
     ensures { IsRefusal statement.now cause result }
 {
@@ -44,7 +44,7 @@ fn refusal_of(alloc: Global, statement: &TreeStatement<'_>, cause: Cause) -> Sco
     }
 }
 
-/// The statements of a file's bytes, without spare room where memory allows it.
+/// Parses a file's bytes. Releases spare capacity if memory allows it.
 fn parse_bytes(alloc: Global, mut bytes: Vec<u8>) -> Result<Rc<Parsed>, ReadFault>
     ensures { IsParsed bytes.items (seen_by (λ parsed. parsed.value) result) }
 {
@@ -59,7 +59,7 @@ fn parse_bytes(alloc: Global, mut bytes: Vec<u8>) -> Result<Rc<Parsed>, ReadFaul
     }
 }
 
-/// The statements of a file's bytes, shared with what was first read under its path, where that is the same.
+/// Parses a file's bytes, or shares the file that was parsed first under its path if that has the same bytes.
 fn parse_or_share(
     alloc: Global,
     loaded: &Loaded,
@@ -74,7 +74,7 @@ fn parse_or_share(
     }
 }
 
-/// The statements of the file at a path.
+/// Reads and parses the file at a path.
 fn read_statements<S: Source>(
     alloc: Global,
     source: &mut S,
@@ -92,7 +92,7 @@ fn read_statements<S: Source>(
     }
 }
 
-/// The path of a file to include, where so many more may be open.
+/// Expands the path of a file to include. `left` is the number of files that may still be opened.
 fn expand_included_path<'a>(
     alloc: Global,
     scope: Scope<'a>,
@@ -117,7 +117,7 @@ fn expand_included_path<'a>(
 /// A statement that includes a file.
 #[derive(Drop)]
 pub struct Include<'a> {
-    /// How many statements of its own file stand before it.
+    /// The number of statements before it in its own file.
     pub place: usize,
     /// The statement.
     pub statement: TreeStatement<'a>,
@@ -125,7 +125,7 @@ pub struct Include<'a> {
     pub path: &'a [Piece],
 }
 
-/// The path of the file that a directive includes, if it includes any.
+/// Returns the path of the file that a directive includes, if it includes one.
 fn path_of_directive(kind: &DirectiveKind) -> Option<&[Piece]>
     ensures { option_map (λ path. path.now) result ≡ path_included (kind_of kind.now) }
 {
@@ -138,7 +138,7 @@ fn path_of_directive(kind: &DirectiveKind) -> Option<&[Piece]>
     }
 }
 
-/// The path of the file that a statement includes, if it includes any.
+/// Returns the path of the file that a statement includes, if it includes one.
 fn path_included<'a>(statement: &TreeStatement<'a>) -> Option<&'a [Piece]>
     ensures { option_map (λ path. path.now) result ≡ path_included statement.now.kind }
 {
@@ -149,7 +149,7 @@ fn path_included<'a>(statement: &TreeStatement<'a>) -> Option<&'a [Piece]>
     }
 }
 
-/// The path of the file that a statement includes, expanded.
+/// Expands the path of the file that a statement includes.
 fn included_path(
     alloc: Global,
     loaded: &Loaded,
@@ -166,7 +166,7 @@ fn included_path(
     expand_included_path(alloc, scope, include.path, left)
 }
 
-/// Whether a statement opens a scope for the statements that it includes.
+/// Checks whether a statement opens a scope for the statements that it includes.
 fn opens_scope(statement: &TreeStatement<'_>) -> bool
     ensures { result ≡ opens_scope statement.now.kind }
 {
@@ -176,7 +176,7 @@ fn opens_scope(statement: &TreeStatement<'_>) -> bool
     )
 }
 
-/// The scopes of the statements that a statement includes.
+/// Returns the scopes that are visible to the statements that a statement includes.
 fn scopes_of_included(
     alloc: Global,
     loaded: &Loaded,
@@ -192,7 +192,7 @@ fn scopes_of_included(
     Ok(Items::new(inner))
 }
 
-/// Binds what a statement binds, unless its text is too long.
+/// Adds the binding of a statement, if it is one. Refuses a text that is too long.
 fn bind(
     alloc: Global,
     bound: &mut ScopedMap<Items<u8>>,
@@ -208,7 +208,8 @@ fn bind(
     }
 }
 
-/// Binds what the statements of a file bind from one number on, up to the first that includes a file. Gives this one.
+/// Adds the bindings of a file's statements from the number `start` on, up to the first statement that includes a file.
+/// Returns this statement, if there is one.
 fn bind_up_to_include<'a>(
     alloc: Global,
     bound: &mut ScopedMap<Items<u8>>,
@@ -241,7 +242,7 @@ fn bind_up_to_include<'a>(
     Ok(None)
 }
 
-/// How many statements of a file stand before one that includes a file, or are there.
+/// Returns the number of statements of a file before the one that includes a file, or of all if there is none.
 fn end_of(file: &File, include: &Option<Include<'_>>) -> usize
     ensures { result ≡ end_of file.now include.now }
 {
@@ -251,16 +252,16 @@ fn end_of(file: &File, include: &Option<Include<'_>>) -> usize
     }
 }
 
-/// Statements that are loaded so far, and the next one of the file, if it includes another file.
+/// The statements that are loaded so far, and the next statement of the file if it includes another file.
 #[derive(Drop)]
 pub struct LoadedUpTo<'a> {
     /// The statements.
     pub loaded: Loaded,
-    /// The next one.
+    /// The next statement, if it includes a file.
     pub include: Option<Include<'a>>,
 }
 
-/// Loads the statements of a file from one number on, up to the first that includes a file.
+/// Loads the statements of a file from the number `start` on, up to the first statement that includes a file.
 fn load_up_to_include<'a>(
     alloc: Global,
     loaded: Loaded,
@@ -289,7 +290,8 @@ fn load_up_to_include<'a>(
     }
 }
 
-/// Loads the file at a path, for the statements behind these. So many files more may be open beside it.
+/// Loads the file at a path after the statements in `loaded`. `left` is the number of further files that may be open
+/// with it.
 #[cycle(loading)]
 fn load_file<S: Source>(
     alloc: Global,
@@ -320,7 +322,7 @@ fn load_file<S: Source>(
     }
 }
 
-/// Loads the statements of a file.
+/// Loads the statements of a file, and those of the files that it includes.
 #[cycle(loading)]
 fn load_statements<S: Source>(
     alloc: Global,
@@ -379,17 +381,16 @@ fn load_included<S: Source>(
     load_file(alloc, source, loaded, path, scopes, left - 1)
 }
 
-/// Reads the file at this path and all files that it includes: the statements of a file stand in place of the
-/// `include` or `subninja` statement that includes it.
-/// Want of memory, also the source's and the reader's, is `LoadMemory`.
+/// Reads the file at this path and all files that it includes. The statements of a file replace the `include` or
+/// `subninja` statement that includes it.
 ///
 /// # Errors
 ///
-/// The first in the order of the statements: `SourceMissing` where the source has no such file or its read fails,
-/// `Parse` where a file's
-/// bytes are no list of statements, and `Refused` where a statement binds a name to a text that is too long, includes
-/// a file from an
-/// empty path or one of more than 4,096 bytes, or stands in a file with 63 others open above it.
+/// The first fault in the order of the statements: `SourceMissing` if the source has no such file or fails to read it,
+/// `Parse` if the bytes of a file aren't a list of statements, and `Refused` for a statement. A statement is refused if
+/// it binds a name to a text that is too long, includes a file by an empty path or one of more than 4,096 bytes, or
+/// includes a file while its own file and 63 others are open. `LoadMemory` if the loader, the source or the parser runs
+/// out of memory.
 pub fn load<S: Source>(alloc: Global, source: &mut S, path: &[u8]) -> Result<Tree, ScopeFault>
     ensures loaded { Loads (S.gives source.old) (S.fails source.old) (S.failures source.old) (S.failures source.new) path.now result }
     ensures same { SameFiles (S.gives source.new) (S.fails source.new) (S.gives source.old) (S.fails source.old) }

@@ -1,4 +1,4 @@
-//! The statements of a file, kept beside its bytes.
+//! Parsed files: statements along with the bytes that they refer to.
 
 ghost use Rattle.std.specs.Prelude.{◌≡◌, Ok, bytes_eq, map};
 ghost use Rattle.plan_parse.specs.Compact.{said_in};
@@ -9,7 +9,7 @@ use plan_parse::{BuildLists, CompactStatement, ParsedFile};
 use plan_text::Items;
 use std::marker::Model;
 
-/// A file's bytes, and the statements in them, kept beside them.
+/// A file's bytes, and its statements in a compact form that refers to them.
 #[derive(Drop)]
 pub struct Parsed {
     text: Items<u8>,
@@ -31,7 +31,7 @@ impl Model for Parsed {
 }
 
 impl Parsed {
-    /// The bytes of a file with their statements.
+    /// Creates a parsed file from its bytes and its statements.
     pub fn new(text: Vec<u8>, file: ParsedFile) -> Self
         requires { statements_of text.items ≡ Ok (map (said_in text.items file.lists) file.statements.items) }
         ensures text { result.text ≡ text.items }
@@ -45,21 +45,21 @@ impl Parsed {
         }
     }
 
-    /// The bytes.
+    /// Returns the bytes.
     pub fn text(&self) -> &[u8]
         ensures { result.now ≡ self.now.text }
     {
         self.text.as_slice()
     }
 
-    /// The build lines.
+    /// Returns the lists of the build lines.
     pub fn lists(&self) -> &BuildLists
         ensures { result.now ≡ self.now.lists }
     {
         &self.lists
     }
 
-    /// Whether they are those of these bytes.
+    /// Checks whether the file has these bytes.
     pub fn is_of(&self, bytes: &[u8]) -> bool
         ensures same { result ≡ bytes_eq self.now.text bytes.now }
         ensures read { statements_of self.now.text ≡ Ok (statements_in self.now) }
@@ -67,7 +67,7 @@ impl Parsed {
         self.text.as_slice() == bytes
     }
 
-    /// The statements.
+    /// Returns the statements.
     pub fn statements(&self) -> &[CompactStatement]
         ensures { result.now ≡ self.now.statements }
     {

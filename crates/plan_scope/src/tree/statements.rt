@@ -7,11 +7,11 @@ use crate::tree::TreeStatement;
 use crate::tree::stretch::Stretch;
 use std::marker::Model;
 
-/// The statements of a tree from one on, in their order.
+/// The statements of a tree that are still to come, in their order.
 #[derive(Drop)]
 pub struct Statements<'a> {
     stretches: &'a [Stretch],
-    /// How many statements of the first stretch were given.
+    /// The number of statements of the first stretch that were returned.
     given: usize,
 }
 
@@ -26,7 +26,7 @@ impl<'a> Model for Statements<'a> {
 }
 
 impl<'a> Statements<'a> {
-    /// The statements of these stretches.
+    /// Creates the statements of these stretches.
     pub fn new(stretches: &'a [Stretch]) -> Self
         ensures { result ≡ joined stretches.now }
     {

@@ -1,4 +1,4 @@
-//! Statements of a file that stand one behind the other in a tree.
+//! Consecutive statements of a file.
 
 ghost use Rattle.std.specs.Prelude.{◌≡◌, ◌≤◌, ◌<◌, Some, length, slice_get};
 ghost use Rattle.plan_parse.specs.PathLists.{between};
@@ -8,14 +8,14 @@ use crate::tree::{File, TreeStatement};
 use std::marker::Model;
 use std::rc::Rc;
 
-/// Statements of a file that stand one behind the other in a tree.
+/// Consecutive statements of a file that are also consecutive in a tree.
 #[derive(Drop)]
 pub struct Stretch {
     /// The file.
     file: Rc<File>,
-    /// How many of its statements stand before the first of these.
+    /// The number of the file's statements before the first of this stretch.
     start: usize,
-    /// How many of its statements these are, with those before them.
+    /// The number of the file's statements up to the end of this stretch.
     end: usize,
 }
 
@@ -33,7 +33,7 @@ impl Model for Stretch {
 }
 
 impl Stretch {
-    /// The statements of a file from one number on, in front of that of another number.
+    /// Creates the stretch of a file's statements with the numbers from `start` up to, but not including, `end`.
     pub fn new(file: Rc<File>, start: usize, end: usize) -> Self
         requires start { start ≤ end }
         requires end { end ≤ length file.value.parsed.value.statements }
@@ -42,14 +42,14 @@ impl Stretch {
         Stretch { file, start, end }
     }
 
-    /// How many statements these are.
+    /// Returns the number of statements.
     pub fn len(&self) -> usize
         ensures { result ≡ length self.now }
     {
         self.end - self.start
     }
 
-    /// The statement of this number.
+    /// Returns the statement with this number, counted from 0 in the stretch.
     pub fn statement(&self, number: usize) -> TreeStatement<'_>
         requires { number < length self.now }
         ensures { slice_get self.now number ≡ Some result }

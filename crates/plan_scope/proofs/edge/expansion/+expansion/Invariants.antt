@@ -18,7 +18,7 @@ decreases-append_piece l = 4 * l.left + 2
 abbrev pub decreases-append_pieces : goal.decreases-append_pieces
 decreases-append_pieces l = 4 * l.left + 3
 
--- the pieces so far are appended
+-- The pieces so far are appended.
 abbrev pub invariant-append_pieces-loop-piece : goal.invariant-append_pieces-loop-piece
 invariant-append_pieces-loop-piece l =
     let meaning : List ℕ → Meaning = meaning_of (quoted_as l.quoting) (environment_of l.edge) in

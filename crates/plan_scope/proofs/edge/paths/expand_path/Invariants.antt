@@ -9,7 +9,7 @@ use Rattle.plan_scope.specs.ScopeNames.{names_in}
 use Rattle.plan_scope.proofs.PathPartLemmas.{text_of, text_onto}
 use Rattle.plan_scope.proofs.edge.paths.expand_path.Given as goal
 
--- the text of the parts so far, as far as it is kept
+-- The text of the parts so far, as far as it is kept.
 abbrev pub invariant-loop-done : goal.invariant-loop-done
 invariant-loop-done l =
     (l.done ≤ length l.path)

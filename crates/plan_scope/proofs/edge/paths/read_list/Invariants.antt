@@ -7,7 +7,7 @@ use Rattle.plan_scope.specs.Paths.{ReadsPaths}
 use Rattle.plan_scope.specs.ScopeNames.{names_in}
 use Rattle.plan_scope.proofs.edge.paths.read_list.Given as goal
 
--- the paths so far as expanded
+-- The expanded paths so far.
 abbrev pub invariant-loop-path : goal.invariant-loop-path
 invariant-loop-path l =
     (texts : List Text)

@@ -17,6 +17,6 @@ decreases-add_piece l = 4 * l.left + 2
 abbrev pub decreases-add_pieces : goal.decreases-add_pieces
 decreases-add_pieces l = 4 * l.left + 3
 
--- the pieces so far are added
+-- The pieces so far are added.
 abbrev pub invariant-add_pieces-loop-piece : goal.invariant-add_pieces-loop-piece
 invariant-add_pieces-loop-piece l = AddsParts l.rule (names_in l.file) l.fn.parts.items l.parts.items (λ meaning. joined (text_by l.left meaning) (take l.piece-index l.pieces))

@@ -16,7 +16,7 @@ returns-then-is_phony-clause-edge c = λ names h f s a b w.
     let is : bytes_eq c.args.build.now.rule (codes "phony") ≡ true = sym (ap (λ n. bytes_eq n (codes "phony")) c.rule.ensures) ∙ (sym c.is_phony.ensures ∙ c.if-is_phony.true) in
     subst (GivesEdge c.args.edges.now c.push_phony_edge.new.edges c.push_phony_edge.result) (sym (ap (λ (t : Bool). cond t phony other) is)) (c.push_phony_edge.ensures.edge names h f s a b w)
 
--- the rule that was looked up, under the name by which it is found
+-- The rule that was looked up is the one under the name by which it is kept.
 pub push_edge-requires : goal.push_edge-requires
 push_edge-requires c =
     let rules = c.args.rules.now in
