@@ -1,4 +1,4 @@
--- What a graph stands on. Serves src/build_graph.rt.
+-- The facts that a graph is based on. Lemmas for src/build_graph.rt.
 use Rattle.std.proofs.Common.{Bool, true, false, ◌≡◌, ◌≢◌, ◌<◌, ◌+◌, ◌++◌, ◌∷◌, [], ◌⊎◌, inl, inr, List, ℕ, zero, suc, Option, Some, None, Result, Ok, Err, ap, arith, ◌∙◌, get_or, length, refl, subst, sym}
 use Rattle.std.specs.Cmp.Lexicographic.{nat_list_eq_equiv}
 use Rattle.std.proofs.lemmas.Map.Views.{list_any-from_Contains}
@@ -23,7 +23,7 @@ use Rattle.plan_graph.proofs.NumberLemmas.{inputs_settle, outputs_settle}
 use Rattle.plan_graph.proofs.TableLemmas.{Reads, table_read}
 use Rattle.plan_graph.proofs.WaitsLemmas.{numbers_given}
 
--- where a manifest has a table, nothing is at fault, and the table fits its edges
+-- if a manifest has a table, there is no fault, and the table fits its edges
 pub sound_table : (m : Manifest) (files : Table) → table_of m ≡ Ok files → (first_fault m ≡ None) × Fits files m.edges
 sound_table m files e = subst (Reads m.edges (first_fault m)) e (table_read m)
 
@@ -63,7 +63,7 @@ past_read above ds (e ∷ es) =
     (or_read (second_producer (flat_map outputs_of above) (outputs_of e)) (or_else (edge_limit above) rest) (second_producer_read (flat_map outputs_of above) (outputs_of e))
     (or_read (edge_limit above) rest (edge_limit_read above) (past_read (above ++ e ∷ []) (drop due ds) es)))
 
--- why the table of a manifest is not there
+-- the reason why a manifest has no table
 pub refuses : (m : Manifest) (fault : GraphFault) → (fault ≢ Memory → table_of m ≡ Err fault) → Refuses m fault
 refuses m Memory h = tt
 refuses m (TwoProducers path) h = refused_table m (TwoProducers path) (h (λ e. cc))
@@ -71,7 +71,7 @@ refuses m (UnknownDefault path) h = refused_table m (UnknownDefault path) (h (λ
 refuses m TooManyEdges h = refused_table m TooManyEdges (h (λ e. cc))
 refuses m (Cycle es) h = absurd (subst IsRead (refused_table m (Cycle es) (h (λ e. cc))) (past_read [] m.defaults m.edges))
 
--- a cycle, where nothing else is at fault
+-- a cycle, if there is no other fault
 pub refuses_cycle : (m : Manifest) (fault : GraphFault) → first_fault m ≡ None → TellsCycle (all_waits m.edges) fault → Refuses m fault
 refuses_cycle m (Cycle es) sound h = (sound, h.0, h.1, h.2)
 refuses_cycle m Memory sound h = tt
@@ -79,13 +79,13 @@ refuses_cycle m (TwoProducers path) sound h = absurd h
 refuses_cycle m (UnknownDefault path) sound h = absurd h
 refuses_cycle m TooManyEdges sound h = absurd h
 
--- a row of a list made edge by edge: none, or that of an edge
+-- a row of a list that is built edge by edge: empty, or that of an edge
 pub row_of : (f : Edge → List ℕ) (es : List Edge) (e : ℕ) → (get_or (map f es) e [] ≡ []) ⊎ ((x : Edge) × (get_or (map f es) e [] ≡ f x))
 row_of f [] e = inl refl
 row_of f (x ∷ es) zero = inr (x, refl)
 row_of f (x ∷ es) (suc e) = row_of f es e
 
--- numbers of edges are less than how many there are
+-- numbers of edges are less than the number of edges
 pub numbers_below : (test : Edge → Bool) (edges : List Edge) → All (λ w. w < length edges) (numbers_from 0 test edges)
 numbers_below test edges k d h =
     let row = numbers_from 0 test edges in
@@ -94,7 +94,7 @@ numbers_below test edges k d h =
     let place : get_or row k d ≡ 0 + n.place = n.counts in
     omega (arith, within, place)
 
--- what is waited for is an edge
+-- the waits of an edge are edges
 pub waits_range : (edges : List Edge) → InRange (all_waits edges)
 waits_range edges e =
     let long : length (all_waits edges) ≡ length edges = length-map edges (waits_of edges) in
@@ -107,11 +107,11 @@ waits_range edges e =
 abbrev okays : List (List ℕ) → Result (List (List ℕ)) GraphFault
 okays rows = Ok rows
 
--- equal answers give equal rows
+-- equal results have equal rows
 pub rows_are : (x y : List (List ℕ)) → okays x ≡ okays y → x ≡ y
 rows_are x y e = cc
 
--- the numbers of outputs and inputs, where a table fits
+-- the numbers of outputs, if a table fits
 pub outputs_known : (files : Table) (edges : List Edge) (outputs : List (List ℕ)) → Fits files edges → outputs ≡ outputs_past [] edges → outputs ≡ rows_of outputs_of (paths_in files) edges
 outputs_known files edges outputs fits is = is ∙ (outputs_settle [] edges ∙ ap (λ (ps : List Path). rows_of outputs_of ps edges) (sym fits.paths))
 

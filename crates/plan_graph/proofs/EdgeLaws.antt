@@ -1,4 +1,4 @@
--- What holds of the files, waits and defaults of all edges.
+-- Laws about the files, waits and defaults of all edges.
 use Rattle.std.proofs.Common.{◌≡◌, ◌≢◌, ◌<◌, ◌+◌, ◌++◌, ◌∷◌, [], ◌∙◌, inl, inr, Bool, true, false, List, ℕ, zero, suc, Some, ap, arith, bytes_eq, get_or, length, map, refl, subst, sym}
 use Rattle.std.specs.Prelude.{◌||◌, All, Contains, flat_map, if◌then◌else◌, slice_get, slice_index}
 use Rattle.std.specs.Cmp.Lexicographic.{nat_list_eq_equiv}
@@ -35,7 +35,7 @@ numbers_ascend test edges = rises_order 0 (numbers_from 0 test edges) (numbers_r
 nothing_ascends : IsStrictlyIncreasing []
 nothing_ascends k h = absurd (omega (arith, h))
 
--- what an edge waits for ascends, and is edges
+-- the waits of an edge ascend, and are edges
 pub waits_in_order : (edges : List Edge) (n : ℕ) → IsStrictlyIncreasing (get_or (all_waits edges) n []) × All (λ w. w < length edges) (get_or (all_waits edges) n [])
 waits_in_order edges n = elim (row_of (waits_of edges) edges n) [
   | inl empty ↦ subst (λ (row : List ℕ). IsStrictlyIncreasing row × All (λ w. w < length edges) row) (sym empty) (nothing_ascends, λ k d h. absurd (omega (arith, h)))
@@ -44,7 +44,7 @@ waits_in_order edges n = elim (row_of (waits_of edges) edges n) [
       (numbers_ascend (produces_any (inputs_of some.0)) edges, numbers_below (produces_any (inputs_of some.0)) edges)
 ]
 
--- so do the edges that are built where no target is asked for
+-- the default edges ascend, and are edges
 pub defaults_in_order : (edges : List Edge) (defaults : List DefaultTarget) → IsStrictlyIncreasing (default_edges edges defaults) × All (λ n. n < length edges) (default_edges edges defaults)
 defaults_in_order edges [] = (numbers_ascend (is_last edges) edges, numbers_below (is_last edges) edges)
 defaults_in_order edges (d ∷ ds) = let test = produces_any (map (λ t. t.path) (d ∷ ds)) in (numbers_ascend test edges, numbers_below test edges)
@@ -61,7 +61,7 @@ producers_are_waited edges n w e path here used producer =
     let there : In w (waits_of edges e) = subst (λ k. In k (waits_of edges e)) (sym found.counts) kept in
     subst (λ (r : List ℕ). Contains r w) (sym row) (contained (waits_of edges e) w there)
 
--- the path of its number
+-- the path at its number
 place_given : (ps : List Path) (p : Path) → is_among ps p ≡ true → slice_get ps (number_of ps p) ≡ Some p
 place_given [] p h = cc
 place_given (x ∷ ps) p h =
@@ -85,7 +85,7 @@ pub all_named : (edges : List Edge) (n : ℕ) (e : Edge) (path : Path) → slice
 all_named edges n e path here named =
     place_given (files_of edges) path (given_later [] (flat_map names edges) path (in_flat names edges e path (edge_in edges n e here) (in_list (names e) path named)))
 
--- no path stands twice
+-- no path is repeated
 place_of_item : (seen : List Path) (k : ℕ) (d p : Path) → k < length seen → get_or seen k d ≡ p → get_or seen k p ≡ p
 place_of_item [] k d p lt same = absurd (omega (arith, lt))
 place_of_item (x ∷ seen) zero d p lt same = same
@@ -104,6 +104,6 @@ distinct_all : (seen ps : List Path) → AllPairs (λ x y. x ≢ y) seen → All
 distinct_all seen [] h = h
 distinct_all seen (p ∷ ps) h = distinct_all (with_path seen p) ps (distinct_step seen p h)
 
--- no file stands twice
+-- no file is repeated
 pub none_twice : (edges : List Edge) → AllPairs (λ x y. x ≢ y) (files_of edges)
 none_twice edges = distinct_all [] (flat_map names edges) (λ i j d h g same. omega (arith, g))

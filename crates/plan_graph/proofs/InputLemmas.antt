@@ -14,6 +14,6 @@ without_append e xs ys =
     elim e.phony as (λ b. (if b then filter test (xs ++ ys) else xs ++ ys) ≡ (if b then filter test xs else xs) ++ (if b then filter test ys else ys))
     [ true ↦ filter-append test xs ys | false ↦ refl ]
 
--- the inputs of all sorts are those that are named, without an edge's own
+-- the inputs of all sorts are the named ones, without the own outputs of a phony
 pub inputs_are : (e : Edge) → inputs_of e ≡ without_own e (inputs_named e)
 inputs_are e = sym (without_append e (e.paths.inputs ++ e.paths.implicit_inputs) e.paths.order_only_inputs) ∙ ap (without_own e) (append_assoc e.paths.inputs e.paths.implicit_inputs e.paths.order_only_inputs)

@@ -9,13 +9,13 @@ abbrev pub In : {X : Type 0} → X → List X → Type 0
 In x [] = ⊥
 In x (y ∷ ys) = (y ≡ x) ⊎ In x ys
 
--- a member by index is one by recursion
+-- a member by index is a member by recursion
 pub in_list : {X : Type 0} (xs : List X) (x : X) → Contains xs x → In x xs
 in_list [] x (k, h, e) = absurd (omega (arith, h))
 in_list (y ∷ ys) x (zero, h, e) = inl e
 in_list (y ∷ ys) x (suc k, h, e) = inr (in_list ys x (k, omega (arith, h), e))
 
--- and the other way round
+-- a member by recursion is a member by index
 pub contained : {X : Type 0} (xs : List X) (x : X) → In x xs → Contains xs x
 contained [] x h = absurd h
 contained (y ∷ ys) x h = elim h [ inl e ↦ (0, omega arith, e) | inr i ↦ (suc (contained ys x i).0, omega (arith, (contained ys x i).1), (contained ys x i).2) ]
@@ -25,7 +25,7 @@ abbrev pub Rises : ℕ → List ℕ → Type 0
 Rises n [] = Unit {0}
 Rises n (x ∷ xs) = (n ≤ x) × Rises (x + 1) xs
 
--- numbers that rise from a bound rise from a lower one
+-- numbers that ascend from a bound ascend from a lower one
 pub rises_lower : (m n : ℕ) (xs : List ℕ) → m ≤ n → Rises n xs → Rises m xs
 rises_lower m n [] h r = tt
 rises_lower m n (x ∷ xs) h r = (omega (arith, h, r.0), r.1)
@@ -35,7 +35,7 @@ rises_rest x xs r k h =
     let next : suc k + 1 ≡ suc (k + 1) = omega arith in
     subst (λ j. slice_index (x ∷ xs) (suc k) < slice_index (x ∷ xs) j) next (r (suc k) (omega (arith, h)))
 
--- strictly increasing numbers rise from the first
+-- strictly increasing numbers ascend from the first
 pub rises_from : (n : ℕ) (xs : List ℕ) → (0 < length xs → n ≤ slice_index xs 0) → IsStrictlyIncreasing xs → Rises n xs
 rises_from n [] low r = tt
 rises_from n (x ∷ xs) low r = (low (omega arith), rises_from (x + 1) xs (λ h. let lt : x < slice_index xs 0 = r 0 (omega (arith, h)) in omega (arith, lt)) (rises_rest x xs r))
@@ -57,7 +57,7 @@ rest_in x y k xs ys e r f i =
     let after : x + 1 ≤ k = rises_bound (x + 1) k xs r i in
     elim (f k (inr i)) [ inl same ↦ absurd (omega (arith, e, same, after)) | inr j ↦ j ]
 
--- a list that rises is known by its members
+-- an ascending list is determined by its members
 pub same_members : (n : ℕ) (xs ys : List ℕ) → Rises n xs → Rises n ys → ((k : ℕ) → In k xs → In k ys) → ((k : ℕ) → In k ys → In k xs) → xs ≡ ys
 same_members n [] [] r s f g = refl
 same_members n [] (y ∷ ys) r s f g = absurd (g y (inl refl))
@@ -68,7 +68,7 @@ same_members n (x ∷ xs) (y ∷ ys) r s f g =
     (λ k. rest_in x y k xs ys e r.1 f) (λ k. rest_in y x k ys xs (sym e) s.1 g) in
     ap (λ (v : ℕ). v ∷ xs) e ∙ ap (λ (v : List ℕ). y ∷ v) rest
 
--- what passes a test
+-- if a member passes a test, one of the items does
 pub in_any : {X : Type 0} (test : X → Bool) (xs : List X) (x : X) → In x xs → test x ≡ true → list_any test xs ≡ true
 in_any test [] x h t = absurd h
 in_any test (y ∷ ys) x h t = elim (test y) as (λ b. test y ≡ b → b || list_any test ys ≡ true) [
@@ -80,7 +80,7 @@ in_any test (y ∷ ys) x h t = elim (test y) as (λ b. test y ≡ b → b || lis
 pub some_is : {X : Type 0} (x y : X) → Some x ≡ Some y → x ≡ y
 some_is x y e = cc
 
--- where any member passes a test, there is one
+-- if one of the items passes a test, a member does
 pub any_in : {X : Type 0} (test : X → Bool) (xs : List X) → list_any test xs ≡ true → (x : X) × In x xs × (test x ≡ true)
 any_in test [] h = absurd (cc)
 any_in {X} test (y ∷ ys) h =
@@ -89,7 +89,7 @@ any_in {X} test (y ∷ ys) h =
       | false ↦ λ e i. let rest = any_in test ys i in (rest.0, inr rest.1, rest.2)
     ] refl h
 
--- what a filter keeps
+-- a member that passes the test of a filter is kept
 pub in_filter : {X : Type 0} (test : X → Bool) (xs : List X) (x : X) → In x xs → test x ≡ true → In x (filter test xs)
 in_filter test [] x h t = absurd h
 in_filter test (y ∷ ys) x h t =
@@ -98,7 +98,7 @@ in_filter test (y ∷ ys) x h t =
       | false ↦ λ e. elim h [ inl same ↦ absurd (cc) | inr i ↦ in_filter test ys x i t ]
     ] refl
 
--- what a filter keeps is a member that passes the test
+-- an item kept by a filter is a member that passes the test
 pub filter_in : {X : Type 0} (test : X → Bool) (xs : List X) (x : X) → In x (filter test xs) → In x xs × (test x ≡ true)
 filter_in test [] x h = absurd h
 filter_in test (y ∷ ys) x h =
@@ -107,7 +107,7 @@ filter_in test (y ∷ ys) x h =
       | false ↦ λ e i. (inr (filter_in test ys x i).0, (filter_in test ys x i).1)
     ] refl h
 
--- a member of two lists put together is one of either
+-- a member of two concatenated lists is a member of one of them
 pub in_append : {X : Type 0} (xs ys : List X) (x : X) → In x (xs ++ ys) → In x xs ⊎ In x ys
 in_append [] ys x h = inr h
 in_append (y ∷ xs) ys x h = elim h [ inl e ↦ inl (inl e) | inr i ↦ elim (in_append xs ys x i) [ inl j ↦ inl (inr j) | inr j ↦ inr j ] ]
@@ -122,12 +122,12 @@ pub append_right : {X : Type 0} (xs ys : List X) (x : X) → In x ys → In x (x
 append_right [] ys x h = h
 append_right (y ∷ xs) ys x h = inr (append_right xs ys x h)
 
--- a member of lists put together comes of one of them
+-- a member of concatenated lists is a member of one of them
 pub flat_in : {X Y : Type 0} (f : X → List Y) (xs : List X) (y : Y) → In y (flat_map f xs) → (x : X) × In x xs × In y (f x)
 flat_in f [] y h = absurd h
 flat_in f (x ∷ xs) y h = elim (in_append (f x) (flat_map f xs) y h) [ inl i ↦ (x, inl refl, i) | inr i ↦ let rest = flat_in f xs y i in (rest.0, inr rest.1, rest.2) ]
 
--- and the other way round
+-- a member of one of the lists is a member of the concatenation
 pub in_flat : {X Y : Type 0} (f : X → List Y) (xs : List X) (x : X) (y : Y) → In x xs → In y (f x) → In y (flat_map f xs)
 in_flat f [] x y h i = absurd h
 in_flat f (z ∷ xs) x y h i = elim h [ inl e ↦ append_left (f z) (flat_map f xs) y (subst (λ v. In y (f v)) (sym e) i) | inr j ↦ append_right (f z) (flat_map f xs) y (in_flat f xs x y j i) ]

@@ -1,4 +1,4 @@
--- The numbers that paths are given while build lines are read. Serves src/edge_reader.rt: numbers.
+-- The numbers that paths are given while build lines are read. Lemmas for src/edge_reader.rt: numbers.
 use Rattle.std.proofs.Common.{◌≡◌, ◌<◌, ◌+◌, ◌++◌, ◌∷◌, [], ◌∙◌, Bool, true, false, List, ℕ, suc, Option, Result, Ok, Err, ap, bytes_eq, drop, get_or, length, map, refl, sym, take}
 use Rattle.std.specs.Prelude.{◌||◌, flat_map, if◌then◌else◌, is_some, nat_le}
 use Rattle.std.proofs.lemmas.List.{append_assoc}
@@ -22,14 +22,14 @@ numbers_append seen (x ∷ xs) ys = ap (λ (ns : List ℕ). number_of seen x ∷
 same_table : (x y : Table) → ◌≡◌ {A = Result Table GraphFault} (Ok x) (Ok y) → x ≡ y
 same_table x y e = cc
 
--- the paths behind one output
+-- the paths after one output
 pub output_path : (files : Table) (number : ℕ) (o : Path) (more : Table) → with_output files number o (file_of o files) ≡ Ok more → paths_in more ≡ with_path (paths_in files) o
 output_path files number o more h =
     let next = with_file files o (with_producer number (file_of o files)) in
     elim (is_some (file_of o files).producer) as (λ b. ◌≡◌ {A = Result Table GraphFault} (if b then Err (TwoProducers o) else Ok next) (Ok more) → paths_in more ≡ with_path (paths_in files) o)
     [ true ↦ λ e. cc | false ↦ λ e. ap paths_in (sym (same_table next more e)) ∙ paths_with files o (with_producer number (file_of o files)) ] h
 
--- the paths behind some outputs
+-- the paths after some outputs
 pub outputs_paths : (files : Table) (number : ℕ) (os : List Path) (more : Table) → with_outputs files number os ≡ Ok more → paths_in more ≡ with_paths (paths_in files) os
 outputs_paths files number [] more h = ap paths_in (sym (same_table files more h))
 outputs_paths files number (o ∷ os) more h =
@@ -39,27 +39,27 @@ outputs_paths files number (o ∷ os) more h =
       | false ↦ λ e. outputs_paths next number os more e ∙ ap (λ (ps : List Path). with_paths ps os) (paths_with files o (with_producer number (file_of o files)))
     ] h
 
--- the paths behind one input
+-- the paths after one input
 pub input_path : (own : Option ℕ) (files : Table) (i : Path) → paths_in (with_input own files i) ≡ with_path (paths_in files) i
 input_path own files i = paths_with files i (with_use own (file_of i files))
 
--- the paths behind some inputs
+-- the paths after some inputs
 pub inputs_paths : (own : Option ℕ) (files : Table) (is : List Path) → paths_in (with_inputs own files is) ≡ with_paths (paths_in files) is
 inputs_paths own files [] = refl
 inputs_paths own files (i ∷ is) = inputs_paths own (with_input own files i) is ∙ ap (λ (ps : List Path). with_paths ps is) (input_path own files i)
 
--- one path more of a row
+-- one more path of a row
 pub outputs_step : (files more : Table) (number : ℕ) (os : List Path) (i : ℕ) (o : Path) → i < length os → o ≡ get_or os i o → with_output files number o (file_of o files) ≡ Ok more
     → with_outputs more number (drop (i + 1) os) ≡ with_outputs files number (drop i os)
 outputs_step files more number os i o lt here e =
     ap (λ (r : Result Table GraphFault). r >>= λ t. with_outputs t number (drop (i + 1) os)) (sym e) ∙ ap (with_outputs files number) (sym (drop_next os i o lt here))
 
--- one input more, and those that are left
+-- one more input, and the remaining ones
 pub inputs_step : (own : Option ℕ) (files more : Table) (is : List Path) (k : ℕ) (i : Path) → k < length is → i ≡ get_or is k i → with_input own files i ≡ more
     → with_inputs own more (drop (k + 1) is) ≡ with_inputs own files (drop k is)
 inputs_step own files more is k i lt here e = ap (λ (t : Table). with_inputs own t (drop (k + 1) is)) (sym e) ∙ ap (with_inputs own files) (sym (drop_next is k i lt here))
 
--- one number more, and those that are left
+-- one more number, and the remaining ones
 pub numbers_step : (seen next : List Path) (row : List ℕ) (ps : List Path) (i : ℕ) (p : Path) (n : ℕ) → i < length ps → p ≡ get_or ps i p → n ≡ number_of seen p → next ≡ with_path seen p
     → (row ++ n ∷ []) ++ numbers_past next (drop (i + 1) ps) ≡ row ++ numbers_past seen (drop i ps)
 numbers_step seen next row ps i p n lt here number grown =
@@ -107,13 +107,13 @@ or_true : (b c : Bool) → c ≡ true → (b || (c || false)) ≡ true
 or_true true c h = refl
 or_true false c h = ap (λ x. x || false) h
 
--- a path is among them once it is named
+-- a path is among the paths when it is named
 pub among_given : (seen : List Path) (p : Path) → is_among (with_path seen p) p ≡ true
 among_given seen p =
     elim (is_among seen p) as (λ b. is_among seen p ≡ b → is_among (if b then seen else seen ++ p ∷ []) p ≡ true)
     [ true ↦ λ e. e | false ↦ λ e. any_append (bytes_eq p) seen (p ∷ []) ∙ or_true (is_among seen p) (bytes_eq p p) (bytes_self p) ] refl
 
--- the numbers that paths are given are theirs at the end
+-- the numbers that paths are given are their final ones
 numbers_settle : (seen ps later : List Path) → numbers_past seen ps ≡ map (number_of (with_paths (with_paths seen ps) later)) ps
 numbers_settle seen [] later = refl
 numbers_settle seen (p ∷ ps) later =
@@ -141,7 +141,7 @@ outputs_settle seen (e ∷ es) =
     ap (λ (row : List ℕ). row ∷ outputs_past more es) (numbers_settle seen outs (ins ++ rest) ∙ ap (λ (ps : List Path). map (number_of ps) outs) (with_paths_app (with_paths seen outs) ins rest))
     ∙ (ap (λ (rows : List (List ℕ)). map (number_of (with_paths more rest)) outs ∷ rows) (outputs_settle more es) ∙ ap (λ (ps : List Path). rows_of outputs_of ps (e ∷ es)) (sym (next_paths seen e es)))
 
--- so are those of inputs
+-- the numbers of inputs while reading are those among all files
 pub inputs_settle : (seen : List Path) (es : List Edge) → inputs_past seen es ≡ rows_of inputs_named (with_paths seen (flat_map names es)) es
 inputs_settle seen [] = refl
 inputs_settle seen (e ∷ es) =
@@ -152,11 +152,11 @@ inputs_settle seen (e ∷ es) =
     ap (λ (row : List ℕ). row ∷ inputs_past more es) (numbers_settle (with_paths seen outs) ins rest)
     ∙ (ap (λ (rows : List (List ℕ)). map (number_of (with_paths more rest)) ins ∷ rows) (inputs_settle more es) ∙ ap (λ (ps : List Path). rows_of inputs_named ps (e ∷ es)) (sym (next_paths seen e es)))
 
--- where build lines are read in turn
+-- build lines that are read in turn
 rows_step : (done : List (List ℕ)) (row : List ℕ) (rest all : List (List ℕ)) → done ++ (row ∷ rest) ≡ all → (done ++ row ∷ []) ++ rest ≡ all
 rows_step done row rest all h = append_assoc done (row ∷ []) rest ∙ h
 
--- a row of the numbers of some paths, and of more behind them
+-- a row of the numbers of some paths, and of more paths after them
 pub row_more : (seen next : List Path) (row middle last : List ℕ) (xs ys : List Path) → middle ≡ row ++ numbers_past seen xs → next ≡ with_paths seen xs → last ≡ middle ++ numbers_past next ys
     → last ≡ row ++ numbers_past seen (xs ++ ys)
 row_more seen next row middle last xs ys one grown two =
@@ -165,14 +165,14 @@ row_more seen next row middle last xs ys one grown two =
     ∙ (ap (λ (ps : List Path). (row ++ numbers_past seen xs) ++ numbers_past ps ys) grown
     ∙ (append_assoc row (numbers_past seen xs) (numbers_past (with_paths seen xs) ys) ∙ ap (λ (ns : List ℕ). row ++ ns) (sym (numbers_append seen xs ys)))))
 
--- build lines that are read in turn
+-- the fault of a target is that of everything that remains
 pub due_refused : (files : Table) (number : ℕ) (ds : List DefaultTarget) (edges : List Edge) (i : ℕ) (e : Edge) (due : List DefaultTarget) (fault : GraphFault) → i < length edges → e ≡ get_or edges i e
     → due ≡ take (targets_above number ds) ds → with_targets files due ≡ Err fault → with_edges files number ds (drop i edges) ≡ Err fault
 due_refused files number ds edges i e due fault lt here is h =
     ap (with_edges files number ds) (drop_next edges i e lt here)
     ∙ ap (λ (r : Result Table GraphFault). r >>= λ t. with_edge t number e >>= λ more. with_edges more (number + 1) (drop (targets_above number ds) ds) (drop (i + 1) edges)) (ap (with_targets files) (sym is) ∙ h)
 
--- the fault of an edge is that of all that is left
+-- the fault of an edge is that of everything that remains
 pub edge_refused : (files : Table) (number : ℕ) (ds : List DefaultTarget) (edges : List Edge) (i : ℕ) (e : Edge) (due : List DefaultTarget) (fault : GraphFault) → i < length edges → e ≡ get_or edges i e
     → due ≡ take (targets_above number ds) ds → with_targets files due ≡ Ok files → with_edge files number e ≡ Err fault → with_edges files number ds (drop i edges) ≡ Err fault
 edge_refused files number ds edges i e due fault lt here is checked h =
@@ -180,7 +180,7 @@ edge_refused files number ds edges i e due fault lt here is checked h =
     ∙ (ap (λ (r : Result Table GraphFault). r >>= λ t. with_edge t number e >>= λ more. with_edges more (number + 1) (drop (targets_above number ds) ds) (drop (i + 1) edges)) (ap (with_targets files) (sym is) ∙ checked)
     ∙ ap (λ (r : Result Table GraphFault). r >>= λ more. with_edges more (number + 1) (drop (targets_above number ds) ds) (drop (i + 1) edges)) h)
 
--- one edge more, and those that are left
+-- one more edge, and the remaining ones
 pub edge_read : (files more : Table) (number : ℕ) (ds : List DefaultTarget) (edges : List Edge) (i : ℕ) (e : Edge) (due rest : List DefaultTarget) → i < length edges → e ≡ get_or edges i e
     → due ≡ take (targets_above number ds) ds → rest ≡ drop (targets_above number ds) ds → with_targets files due ≡ Ok files → with_edge files number e ≡ Ok more
     → with_edges files number ds (drop i edges) ≡ with_edges more (number + 1) rest (drop (i + 1) edges)
@@ -204,11 +204,11 @@ edge_paths_by files number e more (Ok outputs) same h =
           ∙ (inputs_paths own outputs (inputs_named e) ∙ ap (λ (ps : List Path). with_paths ps (inputs_named e)) (outputs_paths files number (outputs_of e) outputs same))
     ] h
 
--- the paths behind one edge
+-- the paths after one edge
 pub edge_paths : (files : Table) (number : ℕ) (e : Edge) (more : Table) → with_edge files number e ≡ Ok more → paths_in more ≡ with_paths (with_paths (paths_in files) (outputs_of e)) (inputs_named e)
 edge_paths files number e more h = edge_paths_by files number e more (with_outputs files number (outputs_of e)) refl h
 
--- one row of outputs more, and those that are left
+-- one more row of outputs, and the remaining ones
 pub outputs_read : (seen next : List Path) (done all : List (List ℕ)) (edges : List Edge) (i : ℕ) (e : Edge) → i < length edges → e ≡ get_or edges i e → next ≡ with_paths (with_paths seen (outputs_of e)) (inputs_named e)
     → done ++ outputs_past seen (drop i edges) ≡ all → (done ++ numbers_past seen (outputs_of e) ∷ []) ++ outputs_past next (drop (i + 1) edges) ≡ all
 outputs_read seen next done all edges i e lt here grown so_far =
@@ -216,7 +216,7 @@ outputs_read seen next done all edges i e lt here grown so_far =
     rows_step done row (outputs_past next (drop (i + 1) edges)) all
     (ap (λ (ps : List Path). done ++ (row ∷ outputs_past ps (drop (i + 1) edges))) grown ∙ (ap (λ (es : List Edge). done ++ outputs_past seen es) (sym (drop_next edges i e lt here)) ∙ so_far))
 
--- one row of inputs more, and those that are left
+-- one more row of inputs, and the remaining ones
 pub inputs_read : (seen next : List Path) (done all : List (List ℕ)) (edges : List Edge) (i : ℕ) (e : Edge) → i < length edges → e ≡ get_or edges i e → next ≡ with_paths (with_paths seen (outputs_of e)) (inputs_named e)
     → done ++ inputs_past seen (drop i edges) ≡ all → (done ++ numbers_past (with_paths seen (outputs_of e)) (inputs_named e) ∷ []) ++ inputs_past next (drop (i + 1) edges) ≡ all
 inputs_read seen next done all edges i e lt here grown so_far =

@@ -1,4 +1,4 @@
--- Ranks and cycles. Serves the laws ranks_rise and ranked_unless_cyclic.
+-- Ranks and cycles. Proofs for the laws ranks_rise and ranked_unless_cyclic.
 use Rattle.std.proofs.Common.{◌≡◌, ◌≢◌, ◌<◌, ◌≤◌, ◌+◌, ◌++◌, ◌∷◌, [], ◌∙◌, ◌⊎◌, inl, inr, List, ℕ, zero, suc, Some, ap, arith, get_or, length, max, refl, set, subst, sym}
 use Rattle.std.specs.Prelude.{Contains, drop, replicate, slice_get, slice_index}
 use Rattle.std.proofs.lemmas.Bool.{cases_lt}
@@ -12,7 +12,7 @@ use Rattle.plan_graph.specs.Walking.{AllDone, InRange, IsWalk, left}
 use Rattle.plan_graph.proofs.MemberLemmas.{In, contained, in_list, some_is}
 use Rattle.plan_graph.proofs.WalkLemmas.{chain_push, closes, cycle_closed, is_open, left_done, left_open, opens, ranks_are, starts, top_open}
 
--- a rank is over each rank of its row
+-- a rank is greater than each rank of its row
 rank_above : (ranks row : List ℕ) (w : ℕ) → In w row → slice_index ranks w < rank_over ranks row
 rank_above ranks [] w h = absurd h
 rank_above ranks (x ∷ xs) w h = elim h [
@@ -20,7 +20,7 @@ rank_above ranks (x ∷ xs) w h = elim h [
   | inr i ↦ let below : slice_index ranks w < rank_over ranks xs = rank_above ranks xs w i in omega (arith, below)
 ]
 
--- the rank of an edge is greater than that of each edge which it waits for
+-- the rank of an edge is greater than that of each edge that it waits for
 pub rise : (waits : List (List ℕ)) (ranks : List ℕ) (e w : ℕ) → AreRanks waits ranks → WaitsFor waits e w → slice_index ranks w < slice_index ranks e
 rise waits ranks e w are h = elim (cases_lt e (length waits)) [
   | inl here ↦
@@ -30,7 +30,7 @@ rise waits ranks e w are h = elim (cases_lt e (length waits)) [
   | inr past ↦ absurd (subst (In w) (get_or_past waits e [] past) (in_list (get_or waits e []) w h))
 ]
 
--- along a chain ranks fall
+-- ranks descend along a chain
 chain_falls : (waits : List (List ℕ)) (ranks : List ℕ) (x : ℕ) (xs : List ℕ) (y : ℕ) → AreRanks waits ranks → Chain waits (x ∷ (xs ++ y ∷ [])) → slice_index ranks y < slice_index ranks x
 chain_falls waits ranks x [] y are h = rise waits ranks x y are h.0
 chain_falls waits ranks x (z ∷ xs) y are h =
@@ -38,12 +38,12 @@ chain_falls waits ranks x (z ∷ xs) y are h =
     let rest : slice_index ranks y < slice_index ranks z = chain_falls waits ranks z xs y are h.1 in
     omega (arith, first, rest)
 
--- where edges have ranks there is no cycle
+-- if edges have ranks, there is no cycle
 pub no_cycle : (waits : List (List ℕ)) (ranks es : List ℕ) → AreRanks waits ranks → IsCycle waits es → ⊥
 no_cycle waits ranks [] are h = h
 no_cycle waits ranks (e ∷ es) are h = let falls : slice_index ranks e < slice_index ranks e = chain_falls waits ranks e es e are h in omega (arith, falls)
 
--- a walk as it stands
+-- a stage of a walk
 record Stage (waits : List (List ℕ)) : Type 0 where
   marks : List Mark
   passed : List ℕ
@@ -123,7 +123,7 @@ closed waits s front top p done =
       left_done s.marks top (slice_get_within s.marks top Open o) o,
     )
 
--- a cycle where the edge that is waited for is open
+-- there is a cycle if an edge that is waited for is open
 met : (waits : List (List ℕ)) (s : Stage waits) (next : ℕ) → ((es : List ℕ) → IsCycle waits es → ⊥) → Contains s.path next → Chain waits (s.path ++ next ∷ []) → ⊥
 met waits s next acyclic (place, within, here) chain =
     acyclic (drop place s.path) (cycle_closed waits s.path next place within (get_or_default s.path place 0 next within ∙ here) chain)
@@ -156,7 +156,7 @@ walked : (waits : List (List ℕ)) → InRange waits → ((es : List ℕ) → Is
 walked waits range acyclic zero s h = elim (next_stage waits range acyclic s) [ inl r ↦ r | inr t ↦ absurd (omega (arith, h, t.1)) ]
 walked waits range acyclic (suc steps) s h = elim (next_stage waits range acyclic s) [ inl r ↦ r | inr t ↦ walked waits range acyclic steps t.0 (let less : left t.0.marks < left s.marks = t.1 in omega (arith, h, less)) ]
 
--- where there is no cycle, edges have ranks
+-- if there is no cycle, edges have ranks
 pub ranked : (waits : List (List ℕ)) → InRange waits → ((es : List ℕ) → IsCycle waits es → ⊥) → (ranks : List ℕ) × AreRanks waits ranks
 ranked waits range acyclic =
     let n = length waits in

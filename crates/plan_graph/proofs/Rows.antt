@@ -79,7 +79,7 @@ own_phony = refl
 own_phony_is_last : default_edges (phony (a ∷ []) (a ∷ []) ∷ []) [] ≡ 0 ∷ []
 own_phony_is_last = refl
 
--- what an edge waits for
+-- an edge in a row of waits
 waits : (row : List ℕ) (k : ℕ) (w : ℕ) → k < length row → slice_index_or row k w ≡ w → Contains row w
 waits row k w h e = (k, h, e)
 
@@ -103,15 +103,15 @@ ring_least_first k other h = omega arith
 ring_sound : first_fault (manifest ring []) ≡ None
 ring_sound = refl
 
--- order-only inputs are waited for; an output on both sides is waited for once
+-- order-only inputs are waited for; an edge both of whose outputs are used is waited for once
 order_only : all_waits (r (a ∷ b ∷ []) [] ∷ line false (c ∷ []) [] [] (b ∷ []) (a ∷ []) ∷ []) ≡ [] ∷ (0 ∷ []) ∷ []
 order_only = refl
 
--- a phony loses its own outputs of either sort from inputs of any sort, and no others
+-- the outputs of a phony, explicit or implicit, are removed from its own inputs of any sort, and from no others
 phony_inputs : all_waits (line true (a ∷ []) (b ∷ []) (b ∷ c ∷ []) (a ∷ []) (d ∷ a ∷ []) ∷ r (c ∷ []) [] ∷ r (d ∷ []) [] ∷ []) ≡ (1 ∷ 2 ∷ []) ∷ [] ∷ [] ∷ []
 phony_inputs = refl
 
--- an edge is last by one output that is no input, of either sort
+-- an edge is last because of a single output that is no input, explicit or implicit
 one_output_last : default_edges (line false (a ∷ []) (b ∷ []) [] [] [] ∷ r (c ∷ []) (a ∷ []) ∷ r (d ∷ []) (c ∷ []) ∷ []) [] ≡ 0 ∷ 2 ∷ []
 one_output_last = refl
 

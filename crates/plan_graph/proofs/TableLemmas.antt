@@ -1,4 +1,4 @@
--- What reading build lines leaves in the table of paths. Serves src/edge_reader.rt: the table of paths.
+-- The table of paths after reading build lines. Lemmas for src/edge_reader.rt: the table of paths.
 use Rattle.std.proofs.Common.{◌≡◌, ◌<◌, ◌+◌, ◌++◌, ◌∷◌, [], ◌∙◌, ◌⊎◌, inl, inr, Bool, true, false, List, ℕ, zero, suc, Option, Some, None, Result, Ok, Err, ap, arith, bytes_eq, cond, length, length-append, refl, subst, sym}
 use Rattle.std.specs.Prelude.{◌||◌, drop, filter, flat_map, if◌then◌else◌, is_some, nat_le, not, slice_get, take}
 use Rattle.std.proofs.lemmas.Slice.Eq.{bytes_eq-Decides}
@@ -39,7 +39,7 @@ paths_shift path x xs b e f =
 paths_stay : (path x : Path) (xs : List Path) → bytes_eq path x ≡ true → with_path (x ∷ xs) path ≡ x ∷ xs
 paths_stay path x xs e = subst (λ t. (if t || is_among xs path then x ∷ xs else x ∷ (xs ++ path ∷ [])) ≡ x ∷ xs) (sym e) refl
 
--- the paths of a table with one path more
+-- the paths of a table with one more path
 pub paths_with : (files : Table) (path : Path) (file : File) → paths_in (with_file files path file) ≡ with_path (paths_in files) path
 paths_with [] path file = refl
 paths_with (f ∷ fs) path file =
@@ -83,7 +83,7 @@ or_or : (a b c : Bool) → ((a || b) || c) ≡ (a || (b || c))
 or_or true b c = refl
 or_or false b c = refl
 
--- whether any of two lists passes a test
+-- whether an item of two lists passes a test
 pub any_append : {X : Type 0} (test : X → Bool) (xs ys : List X) → list_any test (xs ++ ys) ≡ (list_any test xs || list_any test ys)
 any_append test [] ys = refl
 any_append test (x ∷ xs) ys = ap (λ b. test x || b) (any_append test xs ys) ∙ sym (or_or (test x) (list_any test xs) (list_any test ys))
@@ -98,7 +98,7 @@ none_among false i p e = refl
 
 -- === One output, one input ===
 
--- what is known after one output, and after one input
+-- the facts after one output, and after one input
 producer_with_producer : (files : Table) (number : ℕ) (o p : Path) → producer_in (with_file files o (with_producer number (file_of o files))) p ≡ (if bytes_eq p o then Some number else producer_in files p)
 producer_with_producer files number o p =
     ap (λ (f : File). f.producer) (file_with files o p (with_producer number (file_of o files)))
@@ -132,7 +132,7 @@ use_with_use own files i p =
 
 -- === The outputs of an edge ===
 
--- the table after some outputs, where none was made before
+-- the table after some outputs, if none had a producer before
 record Outputs (files : Table) (number : ℕ) (os : List Path) (more : Table) : Type 0 where
   pub paths : paths_in more ≡ with_paths (paths_in files) os
   pub producers : (p : Path) → producer_in more p ≡ (if is_among os p then Some number else producer_in files p)
@@ -226,7 +226,7 @@ reads_inputs own files (i ∷ is) =
           ∙ (sym (any_append (bytes_eq p) (filter f (i ∷ [])) (filter f is)) ∙ ap (λ (qs : List Path). is_among qs p) (sym (filter_next f i is))))));
     }
 
--- paths that are named one behind the other
+-- paths that are named one after another
 pub with_paths_app : (seen xs ys : List Path) → with_paths seen (xs ++ ys) ≡ with_paths (with_paths seen xs) ys
 with_paths_app seen [] ys = refl
 with_paths_app seen (x ∷ xs) ys = with_paths_app (with_path seen x) xs ys
@@ -244,7 +244,7 @@ plus_nothing n = omega arith
 nothing_plus : (n : ℕ) → 0 + n ≡ n
 nothing_plus n = omega arith
 
--- === An edge behind others ===
+-- === An edge after others ===
 
 -- the producer of a path among some edges and one more
 producer_last : (n : ℕ) (above : List Edge) (e : Edge) (p : Path)
@@ -283,7 +283,7 @@ own_last above q (Some k) h =
     let below : k < 0 + length above = producer_below 0 above q k h in
     elim (eqb_tells k (length above)) [ inl y ↦ absurd (omega (arith, below, y.1)) | inr y ↦ y.0 ]
 
--- what counts as an input, by the producers of an edge's outputs
+-- the paths that count as inputs, given the producers of an edge's outputs
 counted : (above : List Edge) (outs ins : List Path) (producer : Path → Option ℕ) (phony : Bool) → ((q : Path) → producer q ≡ (if is_among outs q then Some (length above) else producer_of above q))
     → filter (counts (if phony then Some (length above) else None) producer) ins ≡ (if phony then filter (λ q. not (is_among outs q)) ins else ins)
 counted above outs ins producer false h = filter_all (counts None producer) ins (λ q. not_own (producer q))
@@ -310,9 +310,9 @@ or_nothing (Some x) = refl
 below_limit : (n limit : ℕ) → nat_le limit n ≡ false → n < limit
 below_limit n limit h = leb-false limit n h
 
--- === A table that fits one edge more ===
+-- === A table that fits one more edge ===
 
--- the table after one edge more
+-- the table after one more edge
 fits_next : (files outputs all : Table) (above : List Edge) (e : Edge) → Fits files above → nat_le max_edges (length above) ≡ false
     → Outputs files (length above) (outputs_of e) outputs → Inputs (own_of (length above) e) outputs (inputs_named e) all → Fits all (above ++ e ∷ [])
 fits_next files outputs all above e fits room o i =
@@ -348,7 +348,7 @@ fits_next files outputs all above e fits room o i =
       few = let long : length (above ++ e ∷ []) ≡ length above + 1 = length-append above (e ∷ []) in let less : length above < max_edges = below_limit (length above) max_edges room in omega (arith, long, less);
     }
 
--- what reading one edge more says
+-- the result of reading one more edge
 abbrev ReadsEdge : List Edge → Edge → Result Table GraphFault → Type 0
 ReadsEdge above e (Ok more) = (or_else (second_producer (flat_map outputs_of above) (outputs_of e)) (edge_limit above) ≡ None) × Fits more (above ++ e ∷ [])
 ReadsEdge above e (Err fault) = or_else (second_producer (flat_map outputs_of above) (outputs_of e)) (edge_limit above) ≡ Some fault
@@ -374,7 +374,7 @@ reads_edge files above e fits =
 
 -- === All edges and targets ===
 
--- what the check of targets says
+-- the result of checking targets
 abbrev told : Table → Option GraphFault → Result Table GraphFault
 told files None = Ok files
 told files (Some fault) = Err fault
@@ -386,7 +386,7 @@ reads_targets files above (d ∷ ds) fits =
     ∙ elim (is_among (flat_map outputs_of above) d.path) as (λ b. (if b then with_targets files ds else Err (UnknownDefault d.path)) ≡ told files (if b then unknown_target above ds else Some (UnknownDefault d.path)))
     [ true ↦ reads_targets files above ds fits | false ↦ refl ]
 
--- what reading all that is left says
+-- the result of reading everything that remains
 abbrev pub Reads : List Edge → Option GraphFault → Result Table GraphFault → Type 0
 Reads edges fault (Ok files) = (fault ≡ None) × Fits files edges
 Reads edges fault (Err refused) = fault ≡ Some refused
@@ -411,7 +411,7 @@ read_on : (above : List Edge) (e : Edge) (es : List Edge) (files : Table) (check
 read_on above e es files (Some fault) r go rest h k = refl
 read_on above e es files None r go rest h k = read_rest above e es (r files) go rest h k
 
--- what reading build lines leaves, and why it stops
+-- the table after reading build lines, and the reason why reading stops
 reads : (files : Table) (above : List Edge) (ds : List DefaultTarget) (es : List Edge) → Fits files above → Reads (above ++ es) (fault_past above ds es) (with_edges files (length above) ds es)
 reads files above ds [] fits =
     subst (Reads (above ++ []) (unknown_target above ds)) (sym (reads_targets files above ds fits))

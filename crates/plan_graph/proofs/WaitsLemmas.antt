@@ -1,4 +1,4 @@
--- What edges wait for, by the producers of their inputs. Serves src/waits.rt and src/build_graph.rt.
+-- The waits of edges, by the producers of their inputs. Lemmas for src/waits.rt and src/build_graph.rt.
 use Rattle.std.proofs.Common.{◌≡◌, ◌<◌, ◌+◌, ℕ, zero, suc, List, [], ◌∷◌, ◌++◌, inl, inr, Bool, true, false, Option, Some, None, length, refl, ap, sym, subst, arith, ◌∙◌}
 use Rattle.std.specs.List.{list_any}
 use Rattle.std.specs.Prelude.{◌||◌, ◌==◌, flat_map, drop, filter, get_or, if◌then◌else◌, map, not, slice_get}
@@ -17,7 +17,7 @@ use Rattle.plan_graph.proofs.FilesLemmas.{file_numbered}
 use Rattle.plan_graph.proofs.InputLemmas.{inputs_are}
 use Rattle.plan_graph.proofs.MemberLemmas.{In, Rises, any_in, contained, filter_in, flat_in, in_any, in_filter, in_flat, in_list, rises_from, rises_lower, same_members, some_is}
 
--- the numbers of edges rise
+-- the numbers of edges ascend
 pub numbers_rise : (n : ℕ) (test : Edge → Bool) (es : List Edge) → Rises n (numbers_from n test es)
 numbers_rise n test [] = tt
 numbers_rise n test (e ∷ es) =
@@ -25,7 +25,7 @@ numbers_rise n test (e ∷ es) =
     elim (test e) as (λ b. Rises n (if b then n ∷ numbers_from (n + 1) test es else numbers_from (n + 1) test es))
     [ true ↦ (omega arith, rest) | false ↦ rises_lower n (n + 1) (numbers_from (n + 1) test es) (omega arith) rest ]
 
--- a number is that of an edge at which the test gives true
+-- a number is that of an edge that passes the test
 pub record Numbered (n : ℕ) (test : Edge → Bool) (es : List Edge) (k : ℕ) : Type 0 where
   pub place : ℕ
   pub edge : Edge
@@ -36,7 +36,7 @@ pub record Numbered (n : ℕ) (test : Edge → Bool) (es : List Edge) (k : ℕ) 
 numbered_later : (n : ℕ) (test : Edge → Bool) (e : Edge) (es : List Edge) (k : ℕ) → Numbered (n + 1) test es k → Numbered n test (e ∷ es) k
 numbered_later n test e es k x = record { place = suc x.place; edge = x.edge; here = x.here; passes = x.passes; counts = omega (arith, x.counts) }
 
--- a number that is given is that of an edge which passes the test
+-- a number in the list is that of an edge that passes the test
 pub numbers_given : (n : ℕ) (test : Edge → Bool) (es : List Edge) (k : ℕ) → In k (numbers_from n test es) → Numbered n test es k
 numbers_given n test [] k h = absurd h
 numbers_given n test (e ∷ es) k h =
@@ -45,7 +45,7 @@ numbers_given n test (e ∷ es) k h =
       | false ↦ λ t i. numbered_later n test e es k (numbers_given (n + 1) test es k i)
     ] refl h
 
--- the number of an edge that passes the test is given
+-- the number of an edge that passes the test is in the list
 pub numbers_kept : (n : ℕ) (test : Edge → Bool) (es : List Edge) (i : ℕ) (e : Edge) → slice_get es i ≡ Some e → test e ≡ true → In (n + i) (numbers_from n test es)
 numbers_kept n test [] i e h t = cc
 numbers_kept n test (x ∷ es) zero e h t =
@@ -57,7 +57,7 @@ numbers_kept n test (x ∷ es) (suc i) e h t =
     let later : In (n + suc i) (numbers_from (n + 1) test es) = subst (λ k. In k (numbers_from (n + 1) test es)) moved (numbers_kept (n + 1) test es i e h t) in
     elim (test x) as (λ b. In (n + suc i) (if b then n ∷ numbers_from (n + 1) test es else numbers_from (n + 1) test es)) [ true ↦ inr later | false ↦ later ]
 
--- the first producer of a path makes it
+-- the first producer of a path produces it
 pub producer_found : (n : ℕ) (es : List Edge) (path : Path) (k : ℕ) → producer_from n es path ≡ Some k → Numbered n (λ e. is_among (outputs_of e) path) es k
 producer_found n [] path k h = cc
 producer_found n (e ∷ es) path k h =
@@ -89,7 +89,7 @@ listed_in : (own : Option ℕ) (k : ℕ) (producer : Option ℕ) → producer �
 listed_in own k producer e h =
     subst (λ m. In k (unless_own own m)) (sym e) (subst (λ b. In k (if b then [] else k ∷ [])) (sym h) (inl refl))
 
--- an input is no output of the edge itself where that is a phony
+-- a counted input of a phony is no output of the phony itself
 phony_given : (edges : List Edge) (number : ℕ) (e : Edge) (p : Path) (k : ℕ) (phony : Bool) → ((p : Path) → is_among (outputs_of e) p ≡ true → producer_of edges p ≡ Some number)
     → In p (inputs_named e) → producer_of edges p ≡ Some k → is_own (Some k) (if phony then Some number else None) ≡ false
     → In p (if phony then filter (λ q. not (is_among (outputs_of e) q)) (inputs_named e) else inputs_named e)
@@ -120,7 +120,7 @@ kept_input files edges number e p k fits here i producer =
     let edge : n.edge ≡ e = some_is n.edge e (sym n.here ∙ (ap (slice_get edges) place ∙ here)) in
     subst (λ x. is_among (outputs_of x) p ≡ true) edge n.passes) (subst (In p) (inputs_are e) i)
 
--- the producers of some paths, but for the edge itself, are the edges that make one of these inputs
+-- the producers of some paths, except the edge itself, are the edges that produce one of these inputs
 producers_are : (files : Table) (edges : List Edge) (own : Option ℕ) (named inputs : List Path) (row : List ℕ) → Fits files edges
     → ((p : Path) (k : ℕ) → In p named → producer_of edges p ≡ Some k → is_own (Some k) own ≡ false → In p inputs)
     → ((p : Path) (k : ℕ) → In p inputs → producer_of edges p ≡ Some k → In p named × (is_own (Some k) own ≡ false))
@@ -143,7 +143,7 @@ producers_are files edges own named inputs row fits given kept ascending =
     subst (λ j. In j (numbers_from 0 (produces_any inputs) edges)) (sym n.counts)
     (numbers_kept 0 (produces_any inputs) edges n.place n.edge n.here (in_any (is_among (outputs_of n.edge)) inputs p.0 (given p.0 k p.1 producer is.1) n.passes)))
 
--- what the edge of this number waits for
+-- the waits of the edge with this number
 pub waits_are : (files : Table) (edges : List Edge) (number : ℕ) (e : Edge) (row : List ℕ) → Fits files edges → slice_get edges number ≡ Some e
     → IsAscending (producers files (own_of number e) (inputs_named e)) row → waits_of edges e ≡ row
 waits_are files edges number e row fits here ascending =
@@ -157,7 +157,7 @@ targets_are : (files : Table) (edges : List Edge) (targets : List Path) (row : L
     → IsAscending (producers files None targets) row → numbers_from 0 (produces_any targets) edges ≡ row
 targets_are files edges targets row fits ascending = producers_are files edges None targets targets row fits (λ p k i producer h. i) (λ p k i producer. (i, refl)) ascending
 
--- the item at a place, whatever else stands for none
+-- the item at an index, whatever the default is
 pub item_at : {X : Type 0} (xs : List X) (i : ℕ) (x d : X) → i < length xs → x ≡ get_or xs i d → x ≡ get_or xs i x
 item_at [] i x d lt h = absurd (omega (arith, lt))
 item_at (y ∷ xs) zero x d lt h = h
@@ -168,11 +168,11 @@ item_here [] i x d h = cc
 item_here (y ∷ xs) zero x d h = sym (some_is y x h)
 item_here (y ∷ xs) (suc i) x d h = item_here xs i x d h
 
--- what is left past one edge more
+-- the rest after one more edge
 pub drop_next : {X : Type 0} (xs : List X) (i : ℕ) (x : X) → i < length xs → x ≡ get_or xs i x → drop i xs ≡ x ∷ drop (i + 1) xs
 drop_next xs i x h e = let next : suc i ≡ i + 1 = omega arith in drop-cons xs i x h ∙ (ap (λ y. y ∷ drop (suc i) xs) (sym e) ∙ ap (λ k. x ∷ drop k xs) next)
 
--- the waits of one edge more
+-- the waits of one more edge
 pub next_waits : (edges : List Edge) (i : ℕ) (e : Edge) (rows : List (List ℕ)) (row : List ℕ) (all : List (List ℕ)) → i < length edges → e ≡ get_or edges i e → waits_of edges e ≡ row
     → rows ++ map (waits_of edges) (drop i edges) ≡ all → (rows ++ row ∷ []) ++ map (waits_of edges) (drop (i + 1) edges) ≡ all
 next_waits edges i e rows row all h here is so_far =
@@ -186,7 +186,7 @@ pub named_defaults : (files : Table) (edges : List Edge) (defaults : List Defaul
 named_defaults files edges [] row fits some ascending = cc
 named_defaults files edges (d ∷ ds) row fits some ascending = targets_are files edges (map (λ t. t.path) (d ∷ ds)) row fits ascending
 
--- what is known by numbers is known by paths
+-- the producers by number are the producers by path
 pub producers_numbered : (files : Table) (own : Option ℕ) (ps : List Path) → producers_at files own (map (number_of (paths_in files)) ps) ≡ producers files own ps
 producers_numbered files own [] = refl
 producers_numbered files own (p ∷ ps) =
@@ -217,7 +217,7 @@ row_of_edge named paths [] i e h = cc
 row_of_edge named paths (x ∷ es) zero e h = ap (λ (y : Edge). map (number_of paths) (named y)) (some_is x e h)
 row_of_edge named paths (x ∷ es) (suc i) e h = row_of_edge named paths es i e h
 
--- the edges that are last, one more looked at
+-- the last edges, after one more was tested
 pub last_step : (files : Table) (edges : List Edge) (outputs : List (List ℕ)) (row : List ℕ) (i : ℕ) (last : Bool) → Fits files edges → outputs ≡ rows_of outputs_of (paths_in files) edges → i < length edges
     → last ≡ list_any (λ n. not (file_at n files).is_used) (get_or outputs i [])
     → row ++ numbers_from i (is_last edges) (drop i edges) ≡ (if last then (row ++ i ∷ []) else row) ++ numbers_from (i + 1) (is_last edges) (drop (i + 1) edges)

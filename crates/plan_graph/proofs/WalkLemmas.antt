@@ -1,4 +1,4 @@
--- How a walk goes on. Serves src/walk.rt and src/cycle.rt.
+-- The steps of a walk. Lemmas for src/walk.rt and src/cycle.rt.
 use Rattle.std.proofs.Common.{◌≡◌, ◌≢◌, ℕ, zero, suc, ◌+◌, ◌-◌, ◌*◌, ◌<◌, ◌≤◌, max, List, [], ◌∷◌, ◌++◌, length, refl, sym, ◌∙◌, ap, subst, arith, get_or, set, Some, ◌⊎◌, inl, inr, length-append, length-set, get_or-set_same, get_or-set_other, take, drop, drop-cons, map}
 use Rattle.std.specs.Prelude.{◌==◌, All, replicate, slice_get, slice_index, Contains}
 use Rattle.std.specs.List.Sorted.{IsPermutation}
@@ -19,7 +19,7 @@ use Rattle.plan_graph.specs.Cycles.{WaitsFor, Chain, IsCycle, IsLeastFirst, IsSi
 use Rattle.plan_graph.specs.Walking.{AllDone, DoneTo, IsWalk, KeepsMarks, is_pending, left, left_of, pending}
 use Rattle.plan_graph.proofs.MemberLemmas.{In, append_left, append_right, contained, in_append, in_list}
 
--- === Marks, ranks and paths behind a change ===
+-- === Marks, ranks and paths after a change ===
 
 get_same : {X : Type 0} (xs : List X) (i : ℕ) (y : X) → i < length xs → slice_get (set xs i y) i ≡ Some y
 get_same [] i y h = absurd (omega (arith, h))
@@ -33,7 +33,7 @@ get_other (x ∷ xs) zero (suc j) y h = refl
 get_other (x ∷ xs) (suc i) zero y h = refl
 get_other (x ∷ xs) (suc i) (suc j) y h = get_other xs i j y (λ e. h (ap suc e))
 
--- what is read after a write
+-- the value that is read after a write
 get_cases : {X : Type 0} (xs : List X) (i j : ℕ) (y x : X) → slice_get (set xs i y) j ≡ Some x → ((j ≡ i) × (y ≡ x)) ⊎ ((j ≢ i) × (slice_get xs j ≡ Some x))
 get_cases [] i j y x h = cc
 get_cases (a ∷ xs) zero zero y x h = inl (refl, cc)
@@ -41,7 +41,7 @@ get_cases (a ∷ xs) zero (suc j) y x h = inr (λ e. omega (arith, e), h)
 get_cases (a ∷ xs) (suc i) zero y x h = inr (λ e. omega (arith, e), h)
 get_cases (a ∷ xs) (suc i) (suc j) y x h = elim (get_cases xs i j y x h) [ inl e ↦ inl (ap suc e.0, e.1) | inr e ↦ inr (λ f. e.0 (omega (arith, f)), e.1) ]
 
--- done stays done
+-- an edge that is done stays done
 done_kept : (marks : List Mark) (i : ℕ) (y : Mark) (ws : List ℕ) → slice_get marks i ≢ Some Done → AllDone marks ws → AllDone (set marks i y) ws
 done_kept marks i y [] n h = tt
 done_kept marks i y (w ∷ ws) n h = (get_other marks i w y (λ e. n (ap (slice_get marks) (sym e) ∙ h.0)) ∙ h.0, done_kept marks i y ws n h.1)
@@ -52,14 +52,14 @@ rank_kept marks ranks i r (w ∷ ws) n h =
     let other : w ≢ i = λ e. n (ap (slice_get marks) (sym e) ∙ h.0) in
     ap (λ v. max (v + 1) (rank_over (set ranks i r) ws)) (get_or-set_other ranks i w r 0 other) ∙ ap (λ v. max (slice_index ranks w + 1) v) (rank_kept marks ranks i r ws n h.1)
 
--- the last of a list, and those before it
+-- the last item of a list, and those before it
 at_end : (path : List ℕ) (x : ℕ) → slice_index (path ++ x ∷ []) (length path) ≡ x
 at_end path x = let h : get_or (path ++ x ∷ []) (length path + 0) 0 ≡ x = get_or-append-add path (x ∷ []) 0 0 in subst (λ n. get_or (path ++ x ∷ []) n 0 ≡ x) (omega arith) h
 
 before_end : (path : List ℕ) (x i : ℕ) → i < length path → slice_index (path ++ x ∷ []) i ≡ slice_index path i
 before_end path x i h = get_or_append_left path (x ∷ []) 0 i h
 
--- the length of a path with one edge more
+-- the length of a path with one more edge
 pub length_end : (path : List ℕ) (x : ℕ) → length (path ++ x ∷ []) ≡ length path + 1
 length_end path x = length-append path (x ∷ [])
 
@@ -70,7 +70,7 @@ end_cases path x i h = let l : length (path ++ x ∷ []) ≡ length path + 1 = l
 
 -- === Chains ===
 
--- chains that are cut, that go on, and that meet
+-- chains that are cut, continued, and joined
 chain_front : (waits : List (List ℕ)) (xs ys : List ℕ) → Chain waits (xs ++ ys) → Chain waits xs
 chain_front waits [] ys h = tt
 chain_front waits (x ∷ []) ys h = tt
@@ -82,7 +82,7 @@ chain_back waits (x ∷ []) [] h = tt
 chain_back waits (x ∷ []) (y ∷ ys) h = h.1
 chain_back waits (x ∷ z ∷ xs) ys h = chain_back waits (z ∷ xs) ys h.1
 
--- a chain with one edge more, which its last waits for
+-- a chain with one more edge, for which its last edge waits
 pub chain_push : (waits : List (List ℕ)) (front : List ℕ) (top next : ℕ) → Chain waits (front ++ top ∷ []) → WaitsFor waits top next → Chain waits ((front ++ top ∷ []) ++ next ∷ [])
 chain_push waits [] top next h w = (w, tt)
 chain_push waits (x ∷ []) top next h w = (h.0, (w, tt))
@@ -93,21 +93,21 @@ chain_join waits [] y ys h g = g
 chain_join waits (x ∷ []) y ys h g = (h.0, g)
 chain_join waits (x ∷ z ∷ xs) y ys h g = (h.0, chain_join waits (z ∷ xs) y ys h.1 g)
 
--- === What is left to do ===
+-- === The remaining steps ===
 
--- what was done to i stays done to i
+-- edges that are done stay done after a change
 done_to_kept : (marks : List Mark) (i : ℕ) (y : Mark) (row : List ℕ) (n : ℕ) → slice_get marks i ≢ Some Done → DoneTo marks row n → DoneTo (set marks i y) row n
 done_to_kept marks i y row n not_done h k lt = get_other marks i (slice_index row k) y (λ e. not_done (ap (slice_get marks) (sym e) ∙ h k lt)) ∙ h k lt
 
--- a mark that is not new leaves what is new as it was
+-- a mark that is not new keeps the other edges new
 pub marks_kept : (marks : List Mark) (i : ℕ) (y : Mark) → y ≢ New → KeepsMarks marks (set marks i y)
 marks_kept marks i y old e h = elim (get_cases marks i e y New h) [ inl c ↦ absurd (old c.1) | inr c ↦ c.1 ]
 
--- what is on the path isn't new
+-- an edge on the path isn't new
 not_new : (waits : List (List ℕ)) (marks : List Mark) (passed ranks path : List ℕ) (next : ℕ) → IsWalk waits marks passed ranks path → slice_get marks next ≡ Some New → (i : ℕ) → i < length path → slice_index path i ≢ next
 not_new waits marks passed ranks path next w fresh i lt same = let e : slice_get marks next ≡ Some Open = subst (λ v. slice_get marks v ≡ Some Open) same (w.on_path i lt) in cc
 
--- opening an edge leaves less to do
+-- opening an edge leaves fewer steps
 pub left_open : (marks : List Mark) (i : ℕ) → i < length marks → slice_get marks i ≡ Some New → left (set marks i Open) < left marks
 left_open marks i h e =
     let s : left (set marks i Open) + left_of (get_or marks i New) ≡ left marks + 1 = sum_by-set left_of marks i Open New h in
@@ -115,7 +115,7 @@ left_open marks i h e =
     let k : left_of (get_or marks i New) ≡ 2 = ap left_of g in
     omega (arith, s, k)
 
--- so does closing one
+-- closing an edge leaves fewer steps
 pub left_done : (marks : List Mark) (i : ℕ) → i < length marks → slice_get marks i ≡ Some Open → left (set marks i Done) < left marks
 left_done marks i h e =
     let s : left (set marks i Done) + left_of (get_or marks i New) ≡ left marks + 0 = sum_by-set left_of marks i Done New h in
@@ -136,7 +136,7 @@ pending_done marks i h e =
 
 -- === An edge that is opened or closed ===
 
--- what holds of a walk holds behind an edge that is opened
+-- the invariant of a walk holds after an edge is opened
 pub opens : (waits : List (List ℕ)) (marks : List Mark) (passed ranks path : List ℕ) (next : ℕ) → IsWalk waits marks passed ranks path → slice_get marks next ≡ Some New
     → Chain waits (path ++ next ∷ []) → IsWalk waits (set marks next Open) passed ranks (path ++ next ∷ [])
 opens waits marks passed ranks path next w fresh waited =
@@ -176,7 +176,7 @@ opens waits marks passed ranks path next w fresh waited =
       most = let most : pending marks ≤ length marks = w.most in omega (arith, most, alike, same);
     }
 
--- the row that was closed just now
+-- the row of the edge that was just closed
 closed_row : (waits : List (List ℕ)) (marks : List Mark) (ranks : List ℕ) (top r e : ℕ) → e ≡ top → length ranks ≡ length waits → length marks ≡ length waits → top < length marks
     → slice_get marks top ≢ Some Done → AllDone marks (get_or waits top []) → r ≡ rank_over ranks (get_or waits top [])
     → AllDone (set marks top Done) (get_or waits e []) × (slice_index (set ranks top r) e ≡ rank_over (set ranks top r) (get_or waits e []))
@@ -187,7 +187,7 @@ closed_row waits marks ranks top r e same ranked marked range not_done alldone r
       get_or-set_same ranks top r 0 within ∙ (rank ∙ sym (rank_kept marks ranks top r (get_or waits top []) not_done alldone)),
     )
 
--- a rank over ranks that are low
+-- a rank over low ranks
 rank_low : (marks : List Mark) (ranks row : List ℕ) (bound : ℕ) → ((e : ℕ) → slice_get marks e ≡ Some Done → slice_index ranks e + 1 ≤ bound) → AllDone marks row → rank_over ranks row ≤ bound
 rank_low marks ranks [] bound low h = omega arith
 rank_low marks ranks (w ∷ ws) bound low h =
@@ -195,7 +195,7 @@ rank_low marks ranks (w ∷ ws) bound low h =
     let rest : rank_over ranks ws ≤ bound = rank_low marks ranks ws bound low h.1 in
     omega (arith, first, rest)
 
--- what holds of a walk holds behind an edge that is closed
+-- the invariant of a walk holds after an edge is closed
 pub closes : (waits : List (List ℕ)) (marks : List Mark) (passed ranks path front : List ℕ) (top r : ℕ) → IsWalk waits marks passed ranks path → path ≡ front ++ top ∷ []
     → AllDone marks (get_or waits top []) → r ≡ rank_over ranks (get_or waits top []) → IsWalk waits (set marks top Done) passed (set ranks top r) front
 closes waits marks passed ranks path front top r w p alldone rank =
@@ -241,24 +241,24 @@ closes waits marks passed ranks path front top r w p alldone rank =
       most = omega (arith, most, less, same);
     }
 
--- the last of the path is open
+-- the last edge of the path is open
 pub top_open : (waits : List (List ℕ)) (marks : List Mark) (passed ranks path front : List ℕ) (top : ℕ) → IsWalk waits marks passed ranks path → path ≡ front ++ top ∷ [] → slice_get marks top ≡ Some Open
 top_open waits marks passed ranks path front top w p =
     let long : length path ≡ length front + 1 = ap length p ∙ length_end front top in
     subst (λ v. slice_get marks v ≡ Some Open) (ap (λ q. slice_index q (length front)) p ∙ at_end front top) (w.on_path (length front) (omega (arith, long)))
 
--- a list with one item more, without it
+-- a list with one more item, without that item
 pub take_end : (front : List ℕ) (x : ℕ) → take (length front) (front ++ x ∷ []) ≡ front
 take_end [] x = refl
 take_end (y ∷ front) x = ap (λ ys. y ∷ ys) (take_end front x)
 
 -- === The cycle that a path closes ===
 
--- the cycle that a path closes: from a place on
+-- the cycle that a path closes, from an index on
 cycle_at : (waits : List (List ℕ)) (xs : List ℕ) (y : ℕ) (ys : List ℕ) → Chain waits ((xs ++ y ∷ ys) ++ y ∷ []) → IsCycle waits (y ∷ ys)
 cycle_at waits xs y ys h = chain_back waits xs (y ∷ (ys ++ y ∷ [])) (subst (Chain waits) (append_assoc xs (y ∷ ys) (y ∷ [])) h)
 
--- a cycle from another of its edges on
+-- a cycle, from another of its edges on
 cycle_turned : (waits : List (List ℕ)) (xs : List ℕ) (y : ℕ) (ys : List ℕ) → IsCycle waits (xs ++ y ∷ ys) → IsCycle waits (y ∷ (ys ++ xs))
 cycle_turned waits [] y ys h = subst (λ zs. Chain waits (y ∷ (zs ++ y ∷ []))) (sym (append-nil ys)) h
 cycle_turned waits (x ∷ xs) y ys h =
@@ -275,7 +275,7 @@ other_mark New a b = absurd (a refl)
 other_mark Open a b = refl
 other_mark Done a b = absurd (b refl)
 
--- what is neither new nor done is open
+-- an edge that is neither new nor done is open
 pub is_open : (marks : List Mark) (next : ℕ) → next < length marks → get_or marks next New ≢ New → slice_get marks next ≢ Some Done → slice_get marks next ≡ Some Open
 is_open marks next lt new done =
     let g : slice_get marks next ≡ Some (get_or marks next New) = slice_get-get_or marks next New lt in
@@ -295,7 +295,7 @@ done_of marks [] k d h a = absurd (omega (arith, h))
 done_of marks (w ∷ ws) zero d h a = a.0
 done_of marks (w ∷ ws) (suc k) d h a = done_of marks ws k d (omega (arith, h)) a.1
 
--- all of some edges are done, where as many are as there are
+-- all of some edges are done if their number of done edges is that of all
 pub all_done : (marks : List Mark) (row : List ℕ) → DoneTo marks row (length row) → AllDone marks row
 all_done marks [] h = tt
 all_done marks (w ∷ ws) h = (h 0 (omega arith), all_done marks ws (λ i lt. h (suc i) (omega (arith, lt))))
@@ -321,7 +321,7 @@ least_first waits cycle at ys e least k d h =
     let i : In x (ys ++ take at cycle) = in_list (ys ++ take at cycle) x (Contains-get_or (ys ++ take at cycle) k d h) in
     All-contains (λ n. slice_index cycle at ≤ n) cycle x least (contained cycle x (part_in waits cycle at (slice_index cycle at) ys x e i))
 
--- where no edge stands twice on a path, none does on its back, nor where it is turned
+-- if no edge is repeated on a path, none is repeated in the rest of it, or after a rotation
 pub simple_back : (path : List ℕ) (place : ℕ) → IsSimple path → IsSimple (drop place path)
 simple_back path place simple i j d h g same =
     let long : length (drop place path) ≡ length path - place = length-drop place path in
@@ -336,7 +336,7 @@ simple_turned cycle at simple =
     AllPairs-from_IsDistinct Decides-eqb (drop at cycle ++ take at cycle)
     (IsDistinct-IsPermutation (λ x y. x == y) same_flips cycle (drop at cycle ++ take at cycle) moved (IsDistinct-from_AllPairs Decides-eqb cycle simple))
 
--- a cycle from its least edge on
+-- a cycle, from its least edge on
 pub cycle_told : (waits : List (List ℕ)) (cycle : List ℕ) (at : ℕ) (es : List ℕ) → IsCycle waits cycle → at < length cycle → All (λ n. slice_index cycle at ≤ n) cycle
     → IsSimple cycle → es ≡ drop at cycle ++ take at cycle → IsCycle waits es × IsSimple es × IsLeastFirst es
 cycle_told waits cycle at es is h least simple e =
@@ -350,7 +350,7 @@ cycle_told waits cycle at es is h least simple e =
       subst IsLeastFirst (sym turned) (least_first waits cycle at ys split least),
     )
 
--- the cycle that a path closes, where an edge on it is waited for
+-- the cycle that a path closes if an edge on it is waited for
 pub cycle_closed : (waits : List (List ℕ)) (path : List ℕ) (edge place : ℕ) → place < length path → slice_index path place ≡ edge → Chain waits (path ++ edge ∷ []) → IsCycle waits (drop place path)
 cycle_closed waits path edge place h here chain =
     let rest = drop (suc place) path in
@@ -358,9 +358,9 @@ cycle_closed waits path edge place h here chain =
     let whole : path ≡ take place path ++ (edge ∷ rest) = sym (ap (λ (zs : List ℕ). take place path ++ zs) (sym split) ∙ take-append-drop place path) in
     subst (IsCycle waits) (sym split) (cycle_at waits (take place path) edge rest (subst (λ (zs : List ℕ). Chain waits (zs ++ edge ∷ [])) whole chain))
 
--- === What was passed; the beginning and the end of a walk ===
+-- === Passed waits; the beginning and the end of a walk ===
 
--- what an edge waits for was passed as far as it is done
+-- the waits of an edge that are done were passed
 pub passes : (waits : List (List ℕ)) (marks : List Mark) (passed ranks path : List ℕ) (e n : ℕ) → IsWalk waits marks passed ranks path → e < length waits → n ≤ length (get_or waits e []) → DoneTo marks (get_or waits e []) n
     → IsWalk waits marks (set passed e n) ranks path
 passes waits marks passed ranks path e n w here within done =

@@ -1,4 +1,4 @@
--- What edges wait for one behind the other. A list of waits has a list of edges for each edge.
+-- Chains and cycles of waits. A list of waits has a list of edges for each edge.
 use Rattle.std.specs.Prelude.{◌≡◌, ◌≢◌, ℕ, ◌+◌, ◌≤◌, max, List, [], ◌∷◌, ◌++◌, All, Contains, get_or, map, slice_index}
 use Rattle.std.specs.List.{AllPairs}
 
@@ -17,7 +17,7 @@ abbrev pub IsCycle : List (List ℕ) → List ℕ → Type 0
 IsCycle waits [] = ⊥
 IsCycle waits (e ∷ es) = Chain waits (e ∷ (es ++ e ∷ []))
 
--- no edge stands twice
+-- no edge is repeated
 abbrev pub IsSimple : List ℕ → Type 0
 IsSimple es = AllPairs (λ x y. x ≢ y) es
 
@@ -26,11 +26,11 @@ abbrev pub IsLeastFirst : List ℕ → Type 0
 IsLeastFirst [] = Unit {0}
 IsLeastFirst (e ∷ es) = All (λ other. e ≤ other) es
 
--- 0 without waits, else one more than the greatest rank among them
+-- 0 without waits, or one more than the greatest rank among them
 abbrev pub rank_over : List ℕ → List ℕ → ℕ
 rank_over ranks [] = 0
 rank_over ranks (w ∷ ws) = max (slice_index ranks w + 1) (rank_over ranks ws)
 
--- the rank of each edge, by what it waits for
+-- the rank of each edge, given its waits
 abbrev pub AreRanks : List (List ℕ) → List ℕ → Type 0
 AreRanks waits ranks = ranks ≡ map (rank_over ranks) waits

@@ -1,4 +1,4 @@
--- The numbers under which faults are printed.
+-- The numbers that a program prints for faults.
 use Rattle.std.specs.Prelude.{ℕ}
 use Rattle.plan_graph.specs.declared.fault.GraphFault.{GraphFault}
 use Rattle.plan_graph.specs.declared.fault.GraphFault.TheVariants.{TwoProducers, Cycle, UnknownDefault, TooManyEdges, Memory}

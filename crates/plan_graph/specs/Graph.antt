@@ -20,7 +20,7 @@ outputs_of e = e.paths.outputs ++ e.paths.implicit_outputs
 abbrev pub inputs_named : Edge → List Path
 inputs_named e = e.paths.inputs ++ (e.paths.implicit_inputs ++ e.paths.order_only_inputs)
 
--- a phony loses its own outputs from its inputs
+-- removes the outputs of a phony from its own inputs
 abbrev pub without_own : Edge → List Path → List Path
 without_own e paths = if e.phony then filter (λ p. not (is_among (outputs_of e) p)) paths else paths
 
@@ -35,23 +35,23 @@ order_only_of e = without_own e e.paths.order_only_inputs
 abbrev pub inputs_of : Edge → List Path
 inputs_of e = named_inputs_of e ++ order_only_of e
 
--- an edge that makes one of these paths
+-- an edge that produces one of these paths
 abbrev pub produces_any : List Path → Edge → Bool
 produces_any paths e = list_any (is_among (outputs_of e)) paths
 
--- the numbers, from n on, of the edges at which the test gives true
+-- the numbers, from n on, of the edges that pass the test
 abbrev pub numbers_from : ℕ → (Edge → Bool) → List Edge → List ℕ
 numbers_from n test [] = []
 numbers_from n test (e ∷ es) = if test e then n ∷ numbers_from (n + 1) test es else numbers_from (n + 1) test es
 
--- what an edge waits for, ascending: each edge that makes one of its inputs
+-- the waits of an edge, ascending: each edge that produces one of its inputs
 abbrev pub waits_of : List Edge → Edge → List ℕ
 waits_of edges e = numbers_from 0 (produces_any (inputs_of e)) edges
 
 abbrev pub all_waits : List Edge → List (List ℕ)
 all_waits edges = map (waits_of edges) edges
 
--- the number, from n on, of the first edge that makes a path
+-- the number, from n on, of the first edge that produces a path
 abbrev pub producer_from : ℕ → List Edge → Path → Option ℕ
 producer_from n [] path = None
 producer_from n (e ∷ es) path = if is_among (outputs_of e) path then Some n else producer_from (n + 1) es path
@@ -59,7 +59,7 @@ producer_from n (e ∷ es) path = if is_among (outputs_of e) path then Some n el
 abbrev pub producer_of : List Edge → Path → Option ℕ
 producer_of edges path = producer_from 0 edges path
 
--- each path that build lines name, once, where it first stands
+-- the paths that build lines name, without repetitions, in the order of first occurrence
 abbrev pub files_of : List Edge → List Path
 files_of edges = with_paths [] (flat_map (λ e. outputs_of e ++ inputs_named e) edges)
 
@@ -71,17 +71,18 @@ rows_of named paths edges = map (λ e. map (number_of paths) (named e)) edges
 abbrev pub is_last : List Edge → Edge → Bool
 is_last edges e = list_any (λ o. not (is_among (flat_map inputs_of edges) o)) (outputs_of e)
 
--- what is built where no target is asked for: what `default` statements name, else each edge that is last
+-- the edges that are built if no target is given: those that `default` statements name, or else each edge that
+-- is last
 abbrev pub default_edges : List Edge → List DefaultTarget → List ℕ
 default_edges edges [] = numbers_from 0 (is_last edges) edges
 default_edges edges (d ∷ ds) = numbers_from 0 (produces_any (map (λ t. t.path) (d ∷ ds))) edges
 
--- the first of these outputs that stands above already: in front of it, or among these paths
+-- the first of these outputs that already is one: above, or earlier among these paths
 abbrev pub second_producer : List Path → List Path → Option GraphFault
 second_producer above [] = None
 second_producer above (o ∷ os) = if is_among above o then Some (TwoProducers o) else second_producer (above ++ o ∷ []) os
 
--- the first of these targets that no edge above makes
+-- the first of these targets that no edge above produces
 abbrev pub unknown_target : List Edge → List DefaultTarget → Option GraphFault
 unknown_target above [] = None
 unknown_target above (d ∷ ds) = if is_among (flat_map outputs_of above) d.path then unknown_target above ds else Some (UnknownDefault d.path)
@@ -92,12 +93,11 @@ max_edges = 1048576
 abbrev pub edge_limit : List Edge → Option GraphFault
 edge_limit above = if nat_le max_edges (length above) then Some TooManyEdges else None
 
--- how many of these targets of `default` statements stand above the build line of this number
+-- how many of these targets of `default` statements are above the build line with this number
 abbrev pub targets_above : ℕ → List DefaultTarget → ℕ
 targets_above number defaults = prefix_len (λ d. nat_le d.edges_above number) defaults
 
--- the first fault in the order of reading, past these edges: of the targets that are left, and of the edges that are
--- left
+-- the first fault in the order of reading after these edges: of the remaining targets and the remaining edges
 abbrev pub fault_past : List Edge → List DefaultTarget → List Edge → Option GraphFault
 fault_past above defaults [] = unknown_target above defaults
 fault_past above defaults (e ∷ es) =
@@ -124,7 +124,7 @@ pub record IsGraph (m : Manifest) (g : GraphMeant) : Type 0 where
   pub low : All (λ r. r < length m.edges) g.ranks
   pub defaults : g.defaults ≡ default_edges m.edges m.defaults
 
--- why a manifest has no graph; a cycle only where nothing else is at fault
+-- the reason why a manifest has no graph; a cycle only if there is no other fault
 abbrev pub Refuses : Manifest → GraphFault → Type 0
 Refuses m (Cycle es) = (first_fault m ≡ None) × IsCycle (all_waits m.edges) es × IsSimple es × IsLeastFirst es
 Refuses m Memory = Unit {0}
@@ -132,7 +132,7 @@ Refuses m (TwoProducers path) = first_fault m ≡ Some (TwoProducers path)
 Refuses m (UnknownDefault path) = first_fault m ≡ Some (UnknownDefault path)
 Refuses m TooManyEdges = first_fault m ≡ Some TooManyEdges
 
--- what is said of a manifest: its graph, or why it has none
+-- the result for a manifest: its graph, or the reason why it has none
 abbrev pub GraphIs : Manifest → Result GraphMeant GraphFault → Type 0
 GraphIs m (Ok g) = IsGraph m g
 GraphIs m (Err fault) = Refuses m fault

@@ -1,4 +1,4 @@
-//! What edges wait for, and which are built where no target is asked for.
+//! Builds the graph of a manifest: the waits of edges, and the default edges.
 
 ghost use Rattle.std.specs.Prelude.{◌≡◌, None, Ok, map, not};
 ghost use Rattle.std.specs.List.{list_any};
@@ -18,7 +18,7 @@ use plan_scope::{DefaultTarget, EdgeList, Manifest};
 use plan_text::{Items, RowList};
 use std::alloc::Global;
 
-/// Whether the path of one of these numbers is no input of any edge.
+/// Returns whether the file with one of these numbers is no input of any edge.
 fn has_unused<'a>(files: &Files<'a>, numbers: &[u32]) -> bool
     ensures { result ≡ list_any (λ n. not (file_at n files.now).is_used) numbers.now }
 {
@@ -30,7 +30,8 @@ fn has_unused<'a>(files: &Files<'a>, numbers: &[u32]) -> bool
     false
 }
 
-/// The edges with an output that is no input of any edge, by the numbers of their outputs.
+/// Returns the edges with an output that is no input of any edge, given the numbers of the outputs of each
+/// edge.
 fn last_edges<'a>(
     alloc: Global,
     files: &Files<'a>,
@@ -51,7 +52,7 @@ fn last_edges<'a>(
     Ok(Items::new(numbers))
 }
 
-/// The producers of the targets of `default` statements, in their order.
+/// Returns the producers of the targets of `default` statements, in their order.
 fn producers_of_targets<'a>(
     alloc: Global,
     files: &Files<'a>,
@@ -66,7 +67,7 @@ fn producers_of_targets<'a>(
     Ok(numbers)
 }
 
-/// The edges that are built where no target is asked for.
+/// Returns the edges that are built by default, if no target is given.
 fn default_edges<'a>(
     alloc: Global,
     files: &Files<'a>,
@@ -86,18 +87,23 @@ fn default_edges<'a>(
     Ok(Items::new(numbers))
 }
 
-/// The graph of a manifest.
+/// Builds the graph of a manifest.
 ///
-/// An edge waits for each edge that makes one of its inputs, of any sort; a phony loses its own outputs from its
-/// inputs. Where the manifest has `default` statements, the edges that make their targets are built by default, else
-/// each edge with an output that is no input of another (Ninja manual, "Build statements" and "Default target
-/// statements").
+/// An edge waits for each edge that produces one of its inputs, of any sort. The outputs of a phony are removed
+/// from its own inputs. If the manifest has `default` statements, the edges that produce their targets are
+/// built by default. Otherwise each edge with an output that is no input of any edge is built by default (Ninja
+/// manual, "Build statements" and "Default target statements").
 ///
 /// # Errors
 ///
-/// The first of these in the order of reading: `TwoProducers`, `TooManyEdges`, and `UnknownDefault`, where no build
-/// line above a `default` statement makes its target. Where none of them stands, `Cycle`, with the edges of one cycle.
-/// `Memory` may come in place of any answer.
+/// The first of these faults in the order of reading:
+///
+/// - `TwoProducers` if a path is an output twice.
+/// - `TooManyEdges` if there are more than 1,048,576 edges.
+/// - `UnknownDefault` if no build line above a `default` statement produces its target.
+///
+/// If there is none of them, `Cycle` with the edges of one cycle, if there is one. `Memory` if memory runs out,
+/// whatever the manifest is.
 pub fn graph<'a>(alloc: Global, manifest: &'a Manifest) -> Result<Graph<'a>, GraphFault>
     ensures { GraphIs manifest.now result }
 {

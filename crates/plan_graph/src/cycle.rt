@@ -8,7 +8,7 @@ use crate::fault::GraphFault;
 use plan_text::{Items, RowList};
 use std::alloc::{AllocError, Global};
 
-/// Where the least of these numbers stands.
+/// Returns the index of the least of these numbers.
 fn least(numbers: &[usize]) -> usize
     requires { 0 < length numbers.now }
     ensures within { result < length numbers.now }
@@ -23,7 +23,7 @@ fn least(numbers: &[usize]) -> usize
     at
 }
 
-/// The same cycle from its least edge on.
+/// Rotates a cycle so that it begins with its least edge.
 fn rotate_to_least(alloc: Global, cycle: &[usize]) -> Result<Items<usize>, AllocError>
     requires { 0 < length cycle.now }
     ensures { IfOk result (λ es. (at : ℕ) × (at < length cycle.now) × All (λ n. slice_index cycle.now at ≤ n) cycle.now × (es ≡ drop at cycle.now ++ take at cycle.now)) }
@@ -34,7 +34,7 @@ fn rotate_to_least(alloc: Global, cycle: &[usize]) -> Result<Items<usize>, Alloc
     Ok(Items::new(edges))
 }
 
-/// Where an edge stands on a path.
+/// Returns the index of an edge on a path.
 fn place_of(path: &[usize], edge: usize) -> usize
     requires { Contains path.now edge }
     ensures within { result < length path.now }
@@ -47,7 +47,7 @@ fn place_of(path: &[usize], edge: usize) -> usize
     at
 }
 
-/// The cycle that a path closes, the last of which waits for an edge on it.
+/// Returns the cycle that a path closes. Its last edge waits for `edge`, which is on the path.
 pub fn cycle_from(alloc: Global, waits: &RowList<u32>, path: &[usize], edge: usize) -> GraphFault
     requires here { Contains path.now edge }
     requires chain { Chain waits.now (path.now ++ edge ∷ []) }

@@ -1,4 +1,4 @@
-//! What build lines make and use, in the order of reading.
+//! Reads the outputs and inputs of build lines, in the order of the manifest.
 
 ghost use Rattle.std.specs.Prelude.{◌≡◌, ◌≢◌, ◌≤◌, ◌∷◌, [], ◌++◌, IfOk, Ok, OnOk, length};
 ghost use Rattle.plan_text.specs.Outcome.{Meets};
@@ -15,7 +15,7 @@ use plan_scope::{DefaultTarget, EdgeRef, Manifest, PathRange};
 use plan_text::{Items, RowList};
 use std::alloc::{AllocError, Global};
 
-/// What is known past some build lines.
+/// The facts collected from some build lines.
 #[derive(Drop)]
 pub struct EdgeTable<'a> {
     /// The paths that they name.
@@ -28,14 +28,14 @@ pub struct EdgeTable<'a> {
     row: Vec<u32>,
 }
 
-/// A copy of a path.
+/// Returns a copy of a path.
 fn copy_of(alloc: Global, path: &[u8]) -> Result<Items<u8>, AllocError>
     ensures { IfOk result (λ copy. copy ≡ path.now) }
 {
     Ok(Items::new(Vec::from_slice(alloc, path)?))
 }
 
-/// The fault of a path that has a producer.
+/// Returns the fault of a path that already has a producer.
 fn two_producers(alloc: Global, path: &[u8]) -> GraphFault
     ensures { result ≢ Memory → result ≡ TwoProducers path.now }
 {
@@ -45,7 +45,7 @@ fn two_producers(alloc: Global, path: &[u8]) -> GraphFault
     }
 }
 
-/// Takes an output of the edge of this number, and gives the number of its path.
+/// Adds an output of edge `number`, and returns the number of its path.
 fn with_output<'a>(
     alloc: Global,
     files: &mut Files<'a>,
@@ -69,7 +69,7 @@ fn with_output<'a>(
     Ok(place)
 }
 
-/// Takes outputs of the edge of this number, and appends the numbers of their paths to a row.
+/// Adds outputs of edge `number`, and appends the numbers of their paths to a row.
 fn with_outputs<'a>(
     alloc: Global,
     files: &mut Files<'a>,
@@ -87,7 +87,7 @@ fn with_outputs<'a>(
     Ok(())
 }
 
-/// Whether the producer of a path is the edge itself.
+/// Returns whether the producer of a path is the edge itself.
 pub fn is_own(producer: Option<u32>, own: Option<u32>) -> bool
     ensures { result ≡ reading.is_own producer own }
 {
@@ -98,14 +98,15 @@ pub fn is_own(producer: Option<u32>, own: Option<u32>) -> bool
     }
 }
 
-/// The edge whose own outputs are no inputs of it: a phony.
+/// Returns the edge itself if its own outputs do not count as its inputs, that is, if it is a phony. Returns
+/// None otherwise.
 pub fn own_of<'a>(number: u32, edge: &EdgeRef<'a>) -> Option<u32>
     ensures { result ≡ reading.own_of number edge.now }
 {
     if edge.is_phony() { Some(number) } else { None }
 }
 
-/// Takes an input, and gives the number of its path.
+/// Adds an input, and returns the number of its path.
 fn with_input<'a>(
     files: &mut Files<'a>,
     own: Option<u32>,
@@ -128,7 +129,7 @@ fn with_input<'a>(
     Ok(place)
 }
 
-/// Takes inputs of one sort, and appends the numbers of their paths to a row.
+/// Adds inputs of one sort, and appends the numbers of their paths to a row.
 fn with_inputs<'a>(
     files: &mut Files<'a>,
     own: Option<u32>,
@@ -145,7 +146,7 @@ fn with_inputs<'a>(
     Ok(())
 }
 
-/// Takes the inputs of an edge, and appends the numbers of their paths to a row.
+/// Adds the inputs of an edge, and appends the numbers of their paths to a row.
 fn with_all_inputs<'a>(
     files: &mut Files<'a>,
     own: Option<u32>,
@@ -161,7 +162,7 @@ fn with_all_inputs<'a>(
     Ok(())
 }
 
-/// Takes the outputs of an edge, and appends the numbers of their paths to a row.
+/// Adds the outputs of an edge, and appends the numbers of their paths to a row.
 fn with_all_outputs<'a>(
     alloc: Global,
     files: &mut Files<'a>,
@@ -177,7 +178,7 @@ fn with_all_outputs<'a>(
     Ok(())
 }
 
-/// Takes the outputs of the edge of this number as a row of their own.
+/// Adds the outputs of edge `number` as a new row.
 fn read_outputs<'a>(
     alloc: Global,
     read: &mut EdgeTable<'a>,
@@ -194,7 +195,7 @@ fn read_outputs<'a>(
     Ok(())
 }
 
-/// Takes the inputs of an edge as a row of their own.
+/// Adds the inputs of an edge as a new row.
 fn read_inputs<'a>(
     read: &mut EdgeTable<'a>,
     own: Option<u32>,
@@ -210,7 +211,7 @@ fn read_inputs<'a>(
     Ok(())
 }
 
-/// Takes the edge of this number.
+/// Adds edge `number`.
 fn read_edge<'a>(
     alloc: Global,
     read: &mut EdgeTable<'a>,
@@ -229,7 +230,7 @@ fn read_edge<'a>(
     Ok(())
 }
 
-/// The fault of a target that no edge above makes.
+/// Returns the fault of a target that no edge above produces.
 fn unknown_default(alloc: Global, path: &[u8]) -> GraphFault
     ensures { result ≢ Memory → result ≡ UnknownDefault path.now }
 {
@@ -239,7 +240,7 @@ fn unknown_default(alloc: Global, path: &[u8]) -> GraphFault
     }
 }
 
-/// Whether these targets have producers.
+/// Checks that each of these targets has a producer.
 fn check_targets<'a>(
     alloc: Global,
     files: &Files<'a>,
@@ -256,7 +257,7 @@ fn check_targets<'a>(
     Ok(())
 }
 
-/// How many of these targets stand above the build line of this number.
+/// Returns how many of these targets are above the build line with this number.
 fn targets_above(number: usize, defaults: &[DefaultTarget]) -> usize
     ensures len { result ≡ targets_above number defaults.now }
     ensures within { result ≤ length defaults.now }
@@ -267,7 +268,7 @@ fn targets_above(number: usize, defaults: &[DefaultTarget]) -> usize
         .count()
 }
 
-/// Nothing read, with room for so many edges.
+/// Creates an empty table with room for `edges` edges.
 fn no_edges<'a>(alloc: Global, edges: usize) -> Result<EdgeTable<'a>, AllocError>
     ensures { IfOk result (λ r. (r.files ≡ []) × (r.outputs ≡ []) × (r.inputs ≡ [])) }
 {
@@ -285,7 +286,7 @@ fn no_edges<'a>(alloc: Global, edges: usize) -> Result<EdgeTable<'a>, AllocError
     })
 }
 
-/// What the build lines of a manifest make and use.
+/// Reads the outputs and inputs of the build lines of a manifest.
 pub fn read_edges<'a>(alloc: Global, manifest: &'a Manifest) -> Result<EdgeTable<'a>, GraphFault>
     ensures table { Meets Memory (λ r. r.files) result (reading.table_of manifest.now) }
     ensures outputs { IfOk result (λ r. r.outputs ≡ outputs_past [] manifest.now.edges) }

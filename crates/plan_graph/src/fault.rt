@@ -1,4 +1,4 @@
-//! Why a manifest has no graph.
+//! The reasons why a manifest has no graph.
 
 ghost use Rattle.std.specs.Prelude.{◌≡◌};
 ghost use Rattle.plan_graph.specs.Faults.{number_of};
@@ -7,14 +7,14 @@ ghost use Rattle.plan_graph.specs.declared.fault.GraphFault.TheVariants as graph
 use plan_text::Items;
 use std::alloc::{AllocError, AllocFailed};
 
-/// Why a manifest has no graph.
+/// The reason why a manifest has no graph.
 #[derive(Debug, Drop)]
 pub enum GraphFault {
-    /// This path is an output of two edges, or twice of one.
+    /// This path is an output of two edges, or an output of one edge twice.
     TwoProducers(Items<u8>),
-    /// Each of these edges waits for the next, and the last for the first, which has the least number.
+    /// A cycle of edges. Each waits for the next one, and the last for the first, which has the least number.
     Cycle(Items<usize>),
-    /// No build line above a `default` statement makes this target of it.
+    /// No build line above a `default` statement produces this target.
     UnknownDefault(Items<u8>),
     /// The manifest has more than 1,048,576 edges.
     TooManyEdges,
@@ -23,7 +23,7 @@ pub enum GraphFault {
 }
 
 impl GraphFault {
-    /// The number under which the fault is printed.
+    /// Returns the number that a program prints for the fault, from 50 to 54 in the order of the variants.
     pub fn number(&self) -> u8
         ensures { result ≡ number_of self.now }
     {

@@ -1,4 +1,4 @@
-//! The paths that build lines name.
+//! The table of the paths that build lines name.
 
 ghost use Rattle.std.specs.Prelude.{◌≡◌, ◌<◌, [], IfOk, OnOk, Option, Some, None, if◌then◌else◌, length, option_map, slice_get};
 ghost use Rattle.plan_scope.specs.Edges.{is_among};
@@ -9,22 +9,22 @@ use indexmap::IndexSet;
 use std::alloc::{AllocError, Global};
 use std::marker::Model;
 
-/// What is known of a path.
+/// The facts about a path.
 #[derive(Clone, Copy)]
 pub struct File {
-    /// The edge that makes it.
+    /// The edge that produces it.
     pub producer: Option<u32>,
     /// Whether it is an input of an edge.
     pub is_used: bool,
 }
 
-/// What is known of a path that no build line names.
+/// The facts about a path that no build line names.
 const UNKNOWN: File = File {
     producer: None,
     is_used: false,
 };
 
-/// A number in four bytes; one that they don't hold is refused as where memory runs out.
+/// Converts a number to 32 bits. Fails as if memory had run out if it doesn't fit.
 pub(crate) fn narrow(number: usize) -> Result<u32, AllocError>
     ensures { IfOk result (λ n. n ≡ number) }
 {
@@ -34,11 +34,11 @@ pub(crate) fn narrow(number: usize) -> Result<u32, AllocError>
     }
 }
 
-/// Paths, each once, in the order in which they were first named. Their numbers count from 0.
+/// Paths, without repetitions, in the order in which they were first named. Their numbers count from 0.
 #[derive(Drop)]
 pub struct Files<'a> {
     paths: IndexSet<Key<'a>>,
-    /// What is known of each, by its number.
+    /// The facts about each path, by its number.
     known: Vec<File>,
 }
 
@@ -55,7 +55,7 @@ impl<'a> Model for Files<'a> {
 }
 
 impl<'a> Files<'a> {
-    /// No path.
+    /// Creates an empty table.
     pub(crate) fn new(alloc: Global) -> Self
         ensures { result ≡ [] }
     {
@@ -65,7 +65,7 @@ impl<'a> Files<'a> {
         }
     }
 
-    /// Makes room for so many paths more.
+    /// Reserves room for `paths` further paths.
     pub(crate) fn reserve(&mut self, paths: usize) -> Result<(), AllocError>
         ensures { self.new ≡ self.old }
     {
@@ -73,7 +73,7 @@ impl<'a> Files<'a> {
         self.paths.reserve(paths)
     }
 
-    /// The number of a path, which gets one unless it has one.
+    /// Returns the number of a path, which is added unless it is in the table.
     pub(crate) fn intern(&mut self, path: &'a [u8]) -> Result<usize, AllocError>
         ensures table { OnOk result (self.new ≡ with_file self.old path.now (file_of path.now self.old)) }
         ensures number { IfOk result (λ n. n ≡ number_of (paths_in self.old) path.now) }
@@ -87,7 +87,7 @@ impl<'a> Files<'a> {
         Ok(number)
     }
 
-    /// What is known of the path of this number.
+    /// Returns the facts about path `number`.
     pub(crate) fn at(&self, number: usize) -> File
         ensures { result ≡ file_at number self.now }
     {
@@ -97,7 +97,7 @@ impl<'a> Files<'a> {
         }
     }
 
-    /// Makes known what is now known of the path of this number.
+    /// Stores the facts about path `number`.
     pub(crate) fn set(&mut self, number: usize, file: File)
         requires { number < length self.old }
         ensures { (path : Path) → number ≡ number_of (paths_in self.old) path → self.new ≡ with_file self.old path file }
@@ -105,7 +105,7 @@ impl<'a> Files<'a> {
         self.known[number] = file;
     }
 
-    /// What is known of a path.
+    /// Returns the facts about a path.
     pub(crate) fn get(&self, path: &[u8]) -> File
         ensures { result ≡ file_of path.now self.now }
     {
@@ -115,21 +115,21 @@ impl<'a> Files<'a> {
         }
     }
 
-    /// How many paths there are.
+    /// Returns the number of paths.
     pub fn len(&self) -> usize
         ensures { result ≡ length self.now }
     {
         self.paths.len()
     }
 
-    /// The number of a path.
+    /// Returns the number of a path. Returns None if it isn't in the table.
     pub fn number(&self, path: &[u8]) -> Option<usize>
         ensures { result ≡ (if is_among (paths_in self.now) path.now then Some (number_of (paths_in self.now) path.now) else None) }
     {
         self.paths.get_index_of(&Key { bytes: path })
     }
 
-    /// The path of this number.
+    /// Returns path `number`. Returns None if there is no such path.
     pub fn path(&self, number: usize) -> Option<&'a [u8]>
         ensures { option_map (λ p. p.now) result ≡ slice_get (paths_in self.now) number }
     {
@@ -139,14 +139,14 @@ impl<'a> Files<'a> {
         }
     }
 
-    /// The edge that makes a path.
+    /// Returns the edge that produces a path. Returns None if there is none.
     pub fn producer(&self, path: &[u8]) -> Option<u32>
         ensures { result ≡ producer_in self.now path.now }
     {
         self.get(path).producer
     }
 
-    /// The edge that makes the path of this number.
+    /// Returns the edge that produces path `number`. Returns None if there is none.
     pub fn producer_at(&self, number: usize) -> Option<u32>
         ensures { result ≡ producer_at self.now number }
     {

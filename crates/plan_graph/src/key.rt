@@ -1,13 +1,15 @@
-//! Paths, as they are looked up.
+//! Paths as keys of hash tables.
 
-ghost use Rattle.std.specs.Prelude.{[], ◌∷◌, bytes_eq};
+ghost use Rattle.std.specs.Prelude.{bytes_eq};
 ghost use Rattle.std.specs.Cmp.{on_equiv, on_per, partial_equiv_from_equiv};
 ghost use Rattle.std.specs.Cmp.Lexicographic.{nat_list_eq_equiv};
+ghost use Rattle.plan_text.specs.HashWords.{words};
 ghost use Rattle.plan_graph.specs.Keys.{same_fed};
 
+use plan_text::feed_words;
 use std::hash::{Hash, Hasher};
 
-/// A path that feeds a hasher by one write: a slice would feed it byte by byte.
+/// A path that is hashed eight bytes at a time. A slice would be hashed byte by byte.
 #[derive(Clone, Copy)]
 pub struct Key<'a> {
     /// The path.
@@ -29,11 +31,11 @@ impl<'a> Eq for Key<'a> {
 }
 
 impl<'a> Hash for Key<'a> {
-    ghost hash_input = { λ x. x.bytes.now ∷ [] };
+    ghost hash_input = { λ x. words x.bytes.now };
 
     ghost respects_eq = { λ x y. same_fed x.bytes.now y.bytes.now };
 
     fn hash<H: Hasher>(&self, state: &mut H) {
-        state.write(self.bytes);
+        feed_words(self.bytes, state);
     }
 }

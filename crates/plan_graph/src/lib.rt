@@ -1,4 +1,5 @@
-//! What the edges of a manifest wait for.
+//! Builds the graph of a manifest: the files and waits of its edges, their ranks, and the edges that are built
+//! by default.
 #![tactic(auto)]
 
 mod build_graph;

@@ -1,19 +1,19 @@
-//! How far a walk has come with an edge.
+//! The progress of a walk with an edge.
 
 ghost use Rattle.std.specs.Prelude.{◌≡◌, ◌≢◌, IsFalse, IsTrue};
 
-/// How far a walk has come with an edge.
+/// The progress of a walk with an edge.
 #[derive(Clone, Copy, Drop)]
 pub enum Mark {
     /// The walk has not met it.
     New,
-    /// The walk is on its way through what it waits for.
+    /// The walk has met it, and not yet finished its waits.
     Open,
     /// It has its rank.
     Done,
 }
 
-/// Whether an edge is done.
+/// Returns whether an edge is done.
 pub fn is_done(mark: Mark) -> bool
     ensures yes { IsTrue result → mark ≡ Mark.Done }
     ensures no { IsFalse result → mark ≢ Mark.Done }
@@ -25,7 +25,7 @@ pub fn is_done(mark: Mark) -> bool
     }
 }
 
-/// Whether the walk has not met an edge.
+/// Returns whether the walk has not met an edge.
 pub fn is_new(mark: Mark) -> bool
     ensures yes { IsTrue result → mark ≡ Mark.New }
     ensures no { IsFalse result → mark ≢ Mark.New }

@@ -1,4 +1,4 @@
-//! What each edge waits for.
+//! Computes the waits of each edge.
 
 ghost use Rattle.std.specs.Prelude.{◌≡◌, List, ◌++◌, Ok, Some, map, slice_get};
 ghost use Rattle.plan_text.specs.Outcome.{Meets};
@@ -34,7 +34,7 @@ pub fn add_producer(
     }
 }
 
-/// Appends the producers of the paths of these numbers, unless they are the edge itself.
+/// Appends the producers of the paths with these numbers, unless they are the edge itself.
 fn add_producers<'a>(
     row: &mut Vec<u32>,
     files: &Files<'a>,
@@ -49,7 +49,7 @@ fn add_producers<'a>(
     Ok(())
 }
 
-/// Sorts numbers, and keeps each once.
+/// Sorts numbers in ascending order, and removes repetitions.
 pub fn ascend(numbers: &mut Vec<u32>)
     ensures { IsAscending numbers.old.items numbers.new.items }
 {
@@ -57,7 +57,7 @@ pub fn ascend(numbers: &mut Vec<u32>)
     numbers.dedup();
 }
 
-/// What the edge of this number waits for, by the numbers of its inputs, in place of what the row held.
+/// Computes the waits of edge `number` from the numbers of its inputs. Overwrites the row.
 fn waits_of<'a, 'b>(
     row: &mut Vec<u32>,
     files: &Files<'a>,
@@ -74,7 +74,7 @@ fn waits_of<'a, 'b>(
     Ok(())
 }
 
-/// What each edge waits for, by the numbers of its inputs.
+/// Returns the waits of each edge, given the numbers of its inputs.
 pub fn all_waits<'a>(
     alloc: Global,
     files: &Files<'a>,

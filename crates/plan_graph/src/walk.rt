@@ -1,4 +1,4 @@
-//! A walk along waits, which gives each edge its rank or runs into a cycle.
+//! A walk along waits, which computes the rank of each edge or finds a cycle.
 
 ghost use Rattle.std.specs.Prelude.{◌≡◌, ◌≢◌, ◌<◌, ◌≤◌, ◌+◌, ◌++◌, ◌∷◌, [], ℕ, List, All, IfErr, IfOk, OnOk, Some, get_or, length, slice_get, slice_index, ◌^◌};
 ghost use Rattle.plan_graph.specs.Graph.{max_edges};
@@ -13,19 +13,19 @@ use plan_text::{Items, RowList};
 use std::alloc::{AllocError, Global};
 use std::marker::Model;
 
-/// A walk along waits. Contracts see what each edge waits for, the marks and the path.
+/// A walk along waits. A contract sees the waits of each edge, the marks and the path.
 #[derive(Drop)]
 struct Walk<'a> {
     alloc: Global,
-    /// What each edge waits for.
+    /// The waits of each edge.
     waits: &'a RowList<u32>,
-    /// How far the walk has come with each edge.
+    /// The progress with each edge.
     marks: Vec<Mark>,
-    /// How many of the waits of each edge it has passed; they are done.
+    /// For each edge, the number of its waits that were passed, which are done.
     passed: Vec<usize>,
     /// The rank of each edge that is done.
     ranks: Vec<u32>,
-    /// The edges that are open, each of which waits for the next.
+    /// The open edges, each of which waits for the next.
     path: Vec<usize>,
 }
 
@@ -39,7 +39,7 @@ impl<'a> Model for Walk<'a> {
     ghost invariant = { λ w. IsSound w.waits.now w.marks.items w.passed.items w.ranks.items w.path.items };
 }
 
-/// One more than the greatest rank of a row, 0 of an empty one.
+/// Returns one more than the greatest rank of a row, or 0 if the row is empty.
 fn rank_of(row: &[u32], ranks: &[u32]) -> u32
     requires within { All (λ w. w < length ranks.now) row.now }
     requires low { All (λ w. slice_index ranks.now w + 1 < 2 ^ 32) row.now }
@@ -52,7 +52,7 @@ fn rank_of(row: &[u32], ranks: &[u32]) -> u32
     greatest
 }
 
-/// How many edges at the front of a row are done, where so many are known to be.
+/// Returns the number of edges at the front of a row that are done. At least `known` are known to be done.
 fn done_len(row: &[u32], marks: &[Mark], known: usize) -> usize
     requires range { All (λ w. w < length marks.now) row.now }
     requires known { (known ≤ length row.now) × DoneTo marks.now row.now known }
@@ -71,7 +71,7 @@ fn done_len(row: &[u32], marks: &[Mark], known: usize) -> usize
 }
 
 impl<'a> Walk<'a> {
-    /// A walk that has met no edge.
+    /// Creates a walk that has met no edge.
     fn new(alloc: Global, waits: &'a RowList<u32>) -> Result<Walk<'a>, AllocError>
         requires range { InRange waits.now }
         requires few { length waits.now ≤ max_edges }
@@ -88,14 +88,14 @@ impl<'a> Walk<'a> {
         })
     }
 
-    /// The last of the path.
+    /// Returns the last edge of the path. Returns None if the path is empty.
     fn last(&self) -> Option<usize>
         ensures { IsLast self.now.path result }
     {
         self.path.last().copied()
     }
 
-    /// Opens an edge that the last of the path waits for.
+    /// Opens an edge that the last edge of the path waits for.
     fn open(&mut self, next: usize) -> Result<(), AllocError>
         requires fresh { slice_get self.old.marks next ≡ Some mark.New }
         requires waited { Chain self.old.waits (self.old.path ++ next ∷ []) }
@@ -107,7 +107,7 @@ impl<'a> Walk<'a> {
         Ok(())
     }
 
-    /// Closes the last of the path, all of whose waits are done.
+    /// Closes the last edge of the path, all of whose waits are done.
     fn close(&mut self, top: usize)
         requires last { (front : List ℕ) × (self.old.path ≡ front ++ top ∷ []) }
         requires done { AllDone self.old.marks (get_or self.old.waits top []) }
@@ -118,7 +118,7 @@ impl<'a> Walk<'a> {
         let _ = self.path.pop();
     }
 
-    /// Passes what the last of the path waits for and is done, and answers the first that isn't.
+    /// Passes the waits of the last edge that are done. Returns the first one that isn't, or None if all are.
     fn pass(&mut self, top: usize) -> Option<usize>
         requires { (front : List ℕ) × (self.old.path ≡ front ++ top ∷ []) }
         ensures same { self.new ≡ self.old }
@@ -133,7 +133,7 @@ impl<'a> Walk<'a> {
         Some(row[passed] as usize)
     }
 
-    /// The cycle that the path closes, the last of which waits for an edge that is open.
+    /// Returns the cycle that the path closes. Its last edge waits for an open edge.
     fn cycle(&self, next: usize) -> GraphFault
         requires opened { slice_get self.now.marks next ≡ Some mark.Open }
         requires waited { Chain self.now.waits (self.now.path ++ next ∷ []) }
@@ -142,7 +142,8 @@ impl<'a> Walk<'a> {
         cycle_from(self.alloc, self.waits, &self.path, next)
     }
 
-    /// Opens an edge that the last of the path waits for; where it is open already, there is a cycle.
+    /// Opens an edge that the last edge of the path waits for. If it is already open, returns the cycle as an
+    /// error.
     fn open_or_cycle(&mut self, next: usize) -> Result<(), GraphFault>
         requires here { next < length self.old.waits }
         requires undone { slice_get self.old.marks next ≢ Some mark.Done }
@@ -157,7 +158,7 @@ impl<'a> Walk<'a> {
         Ok(())
     }
 
-    /// Goes on from the last of the path: opens an edge that it waits for, or closes it.
+    /// Makes one step from the last edge of the path: opens an edge that it waits for, or closes it.
     fn step(&mut self, top: usize) -> Result<(), GraphFault>
         requires { (front : List ℕ) × (self.old.path ≡ front ++ top ∷ []) }
         ensures goes_on { OnOk result (GoesOn self.old self.new) }
@@ -170,7 +171,7 @@ impl<'a> Walk<'a> {
         Ok(())
     }
 
-    /// Walks from an edge until it is done, and all that it waits for.
+    /// Walks from an edge until it and all edges that it waits for are done.
     fn visit(&mut self, start: usize) -> Result<(), GraphFault>
         requires empty { self.old.path ≡ [] }
         requires fresh { slice_get self.old.marks start ≡ Some mark.New }
@@ -197,7 +198,7 @@ impl<'a> Walk<'a> {
         Ok(())
     }
 
-    /// The rank of each edge, where the walk has met all.
+    /// Returns the rank of each edge, when the walk has met all edges.
     fn into_ranks(self) -> Items<u32>
         requires empty { self.path ≡ [] }
         requires met { (e : ℕ) → e < length self.waits → slice_get self.marks e ≢ Some mark.New }
@@ -209,7 +210,7 @@ impl<'a> Walk<'a> {
     }
 }
 
-/// The rank of each edge, by what each waits for, or a cycle.
+/// Returns the rank of each edge, given its waits, or a cycle as an error.
 pub fn ranks(alloc: Global, waits: &RowList<u32>) -> Result<Items<u32>, GraphFault>
     requires range { InRange waits.now }
     requires few { length waits.now ≤ max_edges }

@@ -8,7 +8,7 @@ use Rattle.plan_graph.specs.declared.mark.Mark.TheVariants.{Done, Open}
 use Rattle.plan_graph.proofs.WalkLemmas.{closes, done_not_new, done_of, left_done, length_end, marks_kept, take_end, top_open}
 use Rattle.plan_graph.proofs.walk.Walk.close.Goals as goal
 
--- the last of a path is open
+-- the last edge of a path is open
 open_top : (waits : List (List ℕ)) (marks : List Mark) (passed ranks path front : List ℕ) (top : ℕ) (now : State) → IsSound waits marks passed ranks path
     → record { waits = waits; marks = marks; path = path } ≡ now → now.path ≡ front ++ top ∷ [] → slice_get marks top ≡ Some Open
 open_top waits marks passed ranks path front top now sound view p = top_open waits marks passed ranks path front top sound.walk (ap (λ (s : State). s.path) view ∙ p)
