@@ -1,4 +1,4 @@
--- A code is its body with its numbers put in, and what stands at a place of it.
+-- A code is its body with its numbers filled in, and the instruction at each of its places.
 use Rattle.std.proofs.Common.{◌≡◌, ℕ, zero, suc, ◌+◌, List, [], ◌∷◌, ◌++◌, length, get_or, drop, Option, Some, refl, sym, ap, ◌∙◌, arith}
 use Rattle.std.specs.Prelude.{slice_get, ◌≤◌, ◌^◌, None}
 use Rattle.plan_image.specs.Code.{body, instrs_of}
@@ -109,7 +109,7 @@ pub instr_is_found : (is : List BodyInstr) (ns : List ℕ) (place : ℕ) (o : Op
     → result ≡ instr_with_rank ns o rank → o ≡ slice_get is place → rank ≡ get_or ranks place 0 → ranks ≡ ranks_from 0 is → result ≡ slice_get (with_operands is ns) place
 instr_is_found is ns place o ranks rank result e eo er ek = e ∙ rw (eo, er, ek) (sym (seen_at ns is place 0))
 
--- what a code of its own, and one of a body, has at most
+-- the most instructions of a code of its own, and of one that shares a body
 pub own_most : (bs : Option (List (List BodyInstr))) (used : ℕ) (os ns : List ℕ) → bs ≡ None → used + length os ≤ 2 ^ 24 → used + length (instrs_by os ns) ≤ most_code bs
 own_most None used os ns is h = omega (arith, h, length_by (instr_with ns) 0 os)
 own_most (Some bs) used os ns is h = absurd cc
@@ -157,7 +157,7 @@ one_fits (op.Load n) fits = tt
 one_fits (op.Store n) fits = tt
 one_fits (op.Text n) fits = tt
 
--- a body has a spelling, as far as its instructions go
+-- a body has a spelling if its code's instructions have one
 pub bodies_fit : BodiesHaveSpelling
 bodies_fit [] fits = tt
 bodies_fit (i ∷ is) fits = (one_fits i fits.0, bodies_fit is fits.1)

@@ -1,4 +1,4 @@
--- Instructions, kinds and sorts that are read are those that were written, and what was written is read again.
+-- Instructions, kinds and sorts are read as they were written, and everything that is written can be read.
 use Rattle.std.proofs.Common.{◌≡◌, ℕ, suc, ◌+◌, ◌-◌, ◌^◌, ◌<◌, ◌≤◌, Bool, true, false, cond, ltb, eqb, List, [], ◌∷◌, ◌++◌, length, Option, Some, None, Ok, refl, sym, ap, subst, ◌∙◌, append_assoc, arith, ◌⊎◌, inl, inr}
 use Rattle.std.specs.Prelude.{IfSome}
 use Rattle.std.specs.Int.{w32}
@@ -36,7 +36,7 @@ byte_law = record {
   taken (b ∷ bytes) x fits e =
       subst (λ (p : ℕ × List ℕ). Takes (b ∷ bytes) (p.0 ∷ []) p.1 × (p.0 < 256)) (ok_is (b, bytes) x e) (record { parts = refl; rest_fits = λ i. fits (suc i) }, fits 0)
 
--- the value that stands beside a byte
+-- the value paired with a byte
 abbrev pub beside : {X : Type 0} → List (ℕ × X) → ℕ → Option X
 beside [] b = None
 beside (p ∷ ps) b = cond (eqb b p.0) (Some p.1) (beside ps b)
@@ -57,7 +57,7 @@ tag_ok : {X : Type 0} (o : Option X) (bytes rest : List ℕ) (x : X × List ℕ)
 tag_ok (Some y) bytes rest x e = let is = ok_is (y, rest) x e in (ap (λ p. Some p.0) is, ap (λ p. p.1) is)
 tag_ok None bytes rest x e = absurd cc
 
--- one byte that stands for a value
+-- one byte that represents a value
 tagged : {X : Type 0} (ps : List (ℕ × X)) (spell : X → List ℕ) → AllByRecursion (λ p. spell p.1 ≡ p.0 ∷ []) ps
     → (bytes : List ℕ) (x : X × List ℕ) → IsBytes bytes → (byte_at bytes >>= λ b. tag (beside ps b.0) bytes b.1) ≡ Ok x → Takes bytes (spell x.0) x.1
 tagged ps spell all bytes x fits e =
@@ -217,7 +217,7 @@ open_15 b is n = apart (subst (λ (k : ℕ). opening_by k ≡ None) is n) where
   apart : opening_by 15 ≡ None → ⊥
   apart e = cc
 
--- an opcode that can't be open is that of an instruction that can't
+-- an opcode of no open instruction belongs to an instruction that can't be open
 closed : (i : Instr) (b : ℕ) (rest after : List ℕ) → b ∷ rest ≡ instr i ++ after → opening_by b ≡ None → opening_of i ≡ None
 closed op.End b rest after e n = refl
 closed (op.Stat f) b rest after e n = absurd (open_1 b (head_is b 1 rest (number f ++ after) e) n)
@@ -313,7 +313,7 @@ body_instr_law = record {
   body_instr_again (member.Fixed (op.Store n)) rest fits = absurd (no_some opening.Store fits.0)
   body_instr_again (member.Fixed (op.Text n)) rest fits = absurd (no_some opening.Text fits.0)
 
--- a body, where the bodies above have so many instructions
+-- a body, if the bodies before it have `used` instructions
 pub record BodyAfter (used : ℕ) (b : List BodyInstr) : Type 0 where
   pub most : length b ≤ 2 ^ 24 - used
   pub fits : BodyFits b

@@ -1,4 +1,4 @@
--- What stands at each place of a list that is made place by place. Serves src/edges.rt, src/edge_ref.rt.
+-- The items of a list that is built index by index. Lemmas for src/edges.rt and src/edge_ref.rt.
 use Rattle.std.proofs.Common.{◌≡◌, ℕ, zero, suc, ◌+◌, ◌<◌, ◌≤◌, List, [], ◌∷◌, ◌++◌, length, get_or, drop, take, Option, Some, None, true, refl, sym, ap, ◌∙◌, arith}
 use Rattle.std.specs.Prelude.{slice_get, option_map, is_some}
 use Rattle.std.proofs.lemmas.List.{get_or-take, get_or_at, get_or_append_left, length-take-le}
@@ -33,7 +33,7 @@ module _ {X Y : Type 0} where
   pub found_by : (f : ℕ → X → Y) (xs : List X) (i : ℕ) (x : X) → i < length xs → x ≡ get_or xs i x → slice_get (by_place f 0 xs) i ≡ Some (f i x)
   found_by f xs i x h e = get_by f xs i ∙ ap (option_map (f i)) (at xs i x h e)
 
-  -- behind the last one there is none
+  -- there is no item after the last one
   pub past_by : (f : ℕ → X → Y) (xs : List X) (i : ℕ) → length xs ≤ i → slice_get (by_place f 0 xs) i ≡ None
   past_by f xs i h = get_by f xs i ∙ ap (option_map (f i)) (past xs i h)
 
@@ -60,7 +60,7 @@ module _ {X Y : Type 0} where
   same_from f g n (x ∷ xs) h =
       ap (λ y. y ∷ by_place f (n + 1) xs) (h n x (omega arith)) ∙ ap (λ (ys : List Y). g n x ∷ ys) (same_from f g (n + 1) xs (λ i y lt. h i y (omega (arith, lt))))
 
-  -- one item more, where the others stay as they were
+  -- one more item, if the others stay the same
   pub grows_by : (f g : ℕ → X → Y) (xs : List X) (x : X) (y : Y) → ((i : ℕ) (z : X) → i < length xs → g i z ≡ f i z) → g (length xs) x ≡ y
       → by_place g 0 (xs ++ x ∷ []) ≡ by_place f 0 xs ++ y ∷ []
   grows_by f g xs x y h e =
@@ -74,13 +74,13 @@ module _ {X Y : Type 0} where
   there p z g (x ∷ xs) zero lt e = ap Some (e x)
   there p z g (x ∷ xs) (suc i) lt e = there p z g xs i (omega (arith, lt)) e
 
-  -- what does not depend on the item
+  -- a property that does not depend on the item
   pub each_by : {Z : Type 0} (p : Y → Z) (z : Z) (f : ℕ → X → Y) (xs : List X) (i : ℕ) → i < length xs → ((x : X) → p (f i x) ≡ z) → option_map p (slice_get (by_place f 0 xs) i) ≡ Some z
   each_by p z f xs i h e = ap (option_map p) (get_by f xs i) ∙ there p z (f i) xs i h e
 
 -- ---- instructions
 
--- one instruction more
+-- one more instruction
 pub instrs_more : (os ns : List ℕ) (o n : ℕ) (i : Instr) → length os ≡ length ns → instr_by o n ≡ i → instrs_by (os ++ o ∷ []) (ns ++ n ∷ []) ≡ instrs_by os ns ++ i ∷ []
 instrs_more os ns o n i long e =
     grows_by (instr_with ns) (instr_with (ns ++ n ∷ [])) os o i
@@ -89,7 +89,7 @@ instrs_more os ns o n i long e =
 
 -- ---- rows
 
--- the rows before a number, and one behind them
+-- the rows before a number, and one after them
 pub row_put : {X : Type 0} (rows : List (List X)) (n : ℕ) (row : List X) → n ≤ length rows → get_or (take n rows ++ row ∷ []) n [] ≡ row
 row_put rows n row h = get_or_at (take n rows) row [] [] n (length-take-le n rows h)
 
@@ -108,20 +108,20 @@ pub edge_same : (a a' b b' c c' d d' : List (List ℕ)) (n : ℕ) → AreSameBel
     → (i : ℕ) (h : Head) → i < n → edge_with a' b' c' d' i h ≡ edge_with a b c d i h
 edge_same a a' b b' c c' d d' n p q r s i h lt = rw (p i lt, q i lt, r i lt, s i lt) refl
 
--- the edges stay where their rows do
+-- edges stay the same if their rows do
 pub edges_same : (hs : List Head) (n : ℕ) (a a' b b' c c' d d' : List (List ℕ)) → n ≡ length hs → AreSameBelow n a a' → AreSameBelow n b b' → AreSameBelow n c c' → AreSameBelow n d d'
     → by_place (edge_with a' b' c' d') 0 hs ≡ by_place (edge_with a b c d) 0 hs
 edges_same hs n a a' b b' c c' d d' e p q r s =
     same_from (edge_with a' b' c' d') (edge_with a b c d) 0 hs (λ i h lt. edge_same a a' b b' c c' d d' n p q r s i h (omega (arith, e, lt)))
 
--- one edge more
+-- one more edge
 pub edges_more : (hs : List Head) (n : ℕ) (h : Head) (x : Edge) (a a' b b' c c' d d' : List (List ℕ)) → n ≡ length hs → AreSameBelow n a a' → AreSameBelow n b b' → AreSameBelow n c c' → AreSameBelow n d d'
     → edge_with a' b' c' d' n h ≡ x → by_place (edge_with a' b' c' d') 0 (hs ++ h ∷ []) ≡ by_place (edge_with a b c d) 0 hs ++ x ∷ []
 edges_more hs n h x a a' b b' c c' d d' e p q r s shown =
     grows_by (edge_with a b c d) (edge_with a' b' c' d') hs h x (λ i z lt. edge_same a a' b b' c c' d d' n p q r s i z (omega (arith, e, lt)))
     (ap (λ k. edge_with a' b' c' d' k h) (sym e) ∙ shown)
 
--- the body that stands in a column is the one that the code shares, and then the operands are those of their column
+-- the body in a column is the one that the code shares, and then the operands are those of their column
 pub shared_is : (b : Option ℕ) (os ns : List ℕ) → b ≡ shared_body (Some (code_by b os ns))
 shared_is None os ns = refl
 shared_is (Some b) os ns = refl

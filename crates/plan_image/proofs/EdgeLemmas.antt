@@ -1,4 +1,4 @@
--- The code of an edge and edges that are read are those that were written, in both versions.
+-- Edges and their code are read as they were written, in both versions.
 use Rattle.std.proofs.Common.{◌≡◌, ℕ, zero, suc, ◌+◌, ◌-◌, ◌^◌, ◌<◌, ◌≤◌, ltb, List, [], ◌∷◌, ◌++◌, length, Option, Some, None, Ok, refl, sym, ap, subst, ◌∙◌, append_assoc, arith}
 use Rattle.std.specs.Prelude.{slice_get}
 use Rattle.std.specs.Int.{w32}
@@ -29,7 +29,7 @@ Takes7 r0 a r1 b r2 c r3 d r4 e r5 f r6 g r7 ta tb tc td te tf tg =
 
 -- ---- the code of an edge
 
--- a code, where the edges above have so many instructions
+-- a code, if the edges before it have `used` instructions
 pub record CodeAfter (bs : Option (List (List BodyInstr))) (used : ℕ) (c : EdgeCode) : Type 0 where
   pub most : length (instrs_of bs c) ≤ most_code bs - used
   pub fits : CodeFits c
@@ -114,7 +114,7 @@ pool_again (Some n) =
     let e : n + 1 ≡ suc n = omega arith in
     rw e refl
 
--- an edge, where the edges above have so many instructions
+-- an edge, if the edges before it have `used` instructions
 pub record FitsAfter (bs : Option (List (List BodyInstr))) (used : ℕ) (x : Edge) : Type 0 where
   pub fits : EdgeFits x
   pub waits : AscendsFrom 0 x.waits

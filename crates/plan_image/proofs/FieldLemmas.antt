@@ -1,4 +1,4 @@
--- A field that is read is the field that was written, and what was written is read again.
+-- Fields are read as they were written, and everything that is written can be read.
 use Rattle.std.proofs.Common.{◌≡◌, ℕ, zero, suc, ◌+◌, ◌^◌, ◌<◌, ◌≤◌, Bool, true, false, cond, ltb, eqb, List, [], ◌∷◌, ◌++◌, length, take, drop, Result, Ok, Err, refl, sym, ap, subst, ◌∙◌, append_assoc, arith, inl, inr}
 use Rattle.std.specs.Int.{Width, w16, w32, byte_len, from_be_bytes, to_be_bytes}
 use Rattle.std.specs.List.{flat_map, AllByRecursion}
@@ -26,7 +26,7 @@ pub record IsReader {X : Type 0} (item : List ℕ → Read X) (spell : X → Lis
   pub takes : (bytes : List ℕ) (x : X × List ℕ) → IsBytes bytes → item bytes ≡ Ok x → Takes bytes (spell x.0) x.1 × Fits x.0
   pub again : (x : X) (rest : List ℕ) → Fits x → item (spell x ++ rest) ≡ Ok (x, rest)
 
--- what a first step took, where the whole didn't fail
+-- the bytes that a first step took, if the whole didn't fail
 pub opens : {X Y : Type 0} {item : List ℕ → Read X} {spell : X → List ℕ} {Fits : X → Type 0} → IsReader item spell Fits
     → (f : X × List ℕ → Result Y Stop) (bytes : List ℕ) (y : Y) → IsBytes bytes → (item bytes >>= f) ≡ Ok y
     → (x : X × List ℕ) × Takes bytes (spell x.0) x.1 × Fits x.0 × (f x ≡ Ok y)

@@ -1,4 +1,4 @@
--- Why tables are no image.
+-- The reasons why tables are no image.
 use Rattle.std.proofs.Common.{◌≡◌, ◌↔◌, IsTrue, Bool, true, false, refl}
 use Rattle.plan_image.specs.declared.fault.ImageFault.TheVariants as fault
 use Rattle.plan_image.specs.declared.image.Parts.{Parts}

@@ -1,4 +1,5 @@
--- Items that are read one after the other are those that were written, and what was written is read again.
+-- Items that are read one after another are read as they were written, and everything that is written can be
+-- read.
 use Rattle.std.proofs.Common.{◌≡◌, ℕ, zero, suc, ◌<◌, List, [], ◌∷◌, ◌++◌, length, get_or, Result, Ok, Err, refl, sym, ap, subst, ◌∙◌, append_assoc}
 use Rattle.std.specs.List.{flat_map}
 use Rattle.std.proofs.lemmas.List.Concat.{flat_map-cons}
@@ -8,7 +9,7 @@ use Rattle.plan_image.specs.Reading.{◌>>=◌, Read, items_at}
 abbrev pub IsBytes : List ℕ → Type 0
 IsBytes bytes = (i : ℕ) → get_or bytes i 0 < 256
 
--- what a reader took from the front
+-- the bytes that a reader took from the front
 pub record Takes (bytes text rest : List ℕ) : Type 0 where
   pub parts : bytes ≡ text ++ rest
   pub rest_fits : IsBytes rest
@@ -27,7 +28,7 @@ pub ok_is : {A : Type 0} (x y : A) → done x ≡ done y → x ≡ y
 ok_is x y e = cc
 
 module _ {S X : Type 0} (item : S → List ℕ → Read X) (next : S → X → S) (spell : X → List ℕ) (Fits : S → X → Type 0) where
-  -- each item fits what stands before it
+  -- each item fits the state that the items before it lead to
   abbrev pub AllFrom : S → List X → Type 0
   AllFrom s [] = Unit {0}
   AllFrom s (x ∷ xs) = Fits s x × AllFrom (next s x) xs

@@ -1,11 +1,11 @@
--- Reading items one after the other, as a loop does.
+-- Reading items one after another, as a loop does.
 use Rattle.std.proofs.Common.{◌≡◌, ℕ, suc, ◌-◌, ◌+◌, ◌≤◌, ◌<◌, List, [], ◌∷◌, ◌++◌, Ok, Err, refl, sym, ap, ◌∙◌, append_assoc, arith}
 use Rattle.std.proofs.lemmas.List.{append-nil}
 use Rattle.plan_image.specs.declared.reading.stop.ReadFault.{ReadFault}
 use Rattle.plan_image.specs.declared.reading.stop.ReadFault.TheVariants as errors
 use Rattle.plan_image.specs.Reading.{◌>>=◌, Fails, Read, items_at}
 
--- what was read before, and what is still read
+-- the items that were read before those that remain to be read
 abbrev pub with_front : {X : Type 0} → List X → Read (List X) → Read (List X)
 with_front front read = read >>= λ x. Ok (front ++ x.0, x.1)
 

@@ -91,7 +91,7 @@ shown = refl
 
 -- ---- version 2
 
--- the empty image, 36 bytes
+-- the empty image has 36 bytes
 pub empty_spelled : spelling (record { texts = []; files = []; pools = []; slots = []; bodies = Some []; edges = []; defaults = [] }) ≡ (80 ∷ 76 ∷ 65 ∷ 78 ∷ 73 ∷ 77 ∷ 71 ∷ 2 ∷ []) ++ zeros ++ zeros ++ zeros ++ zeros ++ zeros ++ zeros ++ zeros
 unfolding spelling
 empty_spelled = refl
@@ -173,12 +173,12 @@ operands_shown = refl
 abbrev heads : List Head
 heads = record { sort = sort.Phony; pool = Some 4; rank = 8; label = 9; body = Some 0 } ∷ record { sort = sort.Command; pool = None; rank = 0; label = 0; body = None } ∷ []
 
--- the rows of two edges: the first has a body and operands, the second instructions of its own
+-- the rows of two edges: the first has a body and operands, the second has its own instructions
 pub in_columns : by_place (edge_with ((5 ∷ 6 ∷ []) ∷ (0 ∷ []) ∷ []) ((1 ∷ []) ∷ [] ∷ []) ([] ∷ (12 ∷ 1 ∷ 0 ∷ []) ∷ []) ((2 ∷ 3 ∷ []) ∷ (1 ∷ 7 ∷ 0 ∷ []) ∷ [])) 0 heads
     ≡ record { sort = sort.Phony; pool = Some 4; rank = 8; label = 9; outputs = 5 ∷ 6 ∷ []; waits = 1 ∷ []; code = code_form.Shared 0 (2 ∷ 3 ∷ []) }
     ∷ record { sort = sort.Command; pool = None; rank = 0; label = 0; outputs = 0 ∷ []; waits = []; code = code_form.Own (op.Flag true ∷ op.Stat 7 ∷ op.End ∷ []) } ∷ []
 in_columns = refl
 
--- a row behind those of the last edge changes nothing
+-- a row after those of the last edge changes nothing
 pub row_left_over : by_place (edge_with ((0 ∷ []) ∷ (9 ∷ []) ∷ []) ([] ∷ []) ((0 ∷ []) ∷ []) ((0 ∷ []) ∷ [])) 0 (record { sort = sort.Command; pool = None; rank = 0; label = 0; body = None } ∷ []) ≡ one_edge ∷ []
 row_left_over = refl

@@ -1,4 +1,4 @@
--- An image that is read is spelled so, and what is spelled so is read.
+-- Images are read as they were spelled, and each spelling can be read.
 use Rattle.std.proofs.Common.{◌≡◌, ◌≢◌, ◌&&◌, ℕ, ◌^◌, ◌≤◌, Bool, true, false, cond, ltb, eqb, List, [], ◌∷◌, ◌++◌, length, drop, Option, Some, None, Result, Ok, Err, refl, sym, ap, subst, ◌∙◌, append_assoc, arith}
 use Rattle.std.specs.Prelude.{IfSome, not, nat_eq}
 use Rattle.std.specs.Int.{w16, w32, to_be_bytes}
@@ -110,7 +110,7 @@ head_law = record { takes = λ bytes x fits e. (head_takes bytes x fits e, tt); 
 
 -- ---- the whole
 
--- all but the limit on bytes
+-- the tables are within all limits, except that on bytes
 pub record PartsFit (p : Parts) : Type 0 where
   pub texts : (length p.texts ≤ 2 ^ 22) × AllByRecursion IsText p.texts
   pub files : (length p.files ≤ 2 ^ 22) × AllByRecursion IsFileName p.files
@@ -135,7 +135,7 @@ slots_law = table_law slot_law (2 ^ 24) (omega arith)
 abbrev made : Parts × List ℕ → Result (Parts × List ℕ) Stop
 made x = Ok x
 
--- all tables one after the other
+-- all tables one after another
 joined : (bytes r1 r2 r3 r4 r5 r6 r7 r8 : List ℕ) (ts fs : List (List ℕ)) (ps : List Pool) (ss : List Slot) (bs : Option (List (List BodyInstr))) (es : List Edge) (ds : List ℕ) (v : Version) (x : Parts × List ℕ)
     → Takes bytes (head v) r1 → Takes r1 (counted long_text ts) r2 → Takes r2 (counted short_text fs) r3 → Takes r3 (counted pool ps) r4 → Takes r4 (counted slot ss) r5 → Takes r5 (bodies bs) r6 → Takes r6 (counted edge es) r7 → Takes r7 (counted number ds) r8
     → version_of bs ≡ v → PartsFit (record { texts = ts; files = fs; pools = ps; slots = ss; bodies = bs; edges = es; defaults = ds })
@@ -146,7 +146,7 @@ joined bytes r1 r2 r3 r4 r5 r6 r7 r8 ts fs ps ss bs es ds v x th tt1 tf tp ts1 t
     subst (λ (p : Parts × List ℕ). Takes bytes (spelling p.0) p.1 × PartsFit p.0) (ok_is _ x e)
     (Takes8 bytes (head (version_of bs)) r1 (counted long_text ts) r2 (counted short_text fs) r3 (counted pool ps) r4 (counted slot ss) r5 (bodies bs) r6 (counted edge es) r7 (counted number ds) r8 h tt1 tf tp ts1 tb te td, fit)
 
--- what stands behind the slots
+-- the tables after the slots
 abbrev tail_at : List (List ℕ) → List (List ℕ) → List Pool → List Slot → Version → List ℕ → Read Parts
 tail_at ts fs ps ss v bytes =
     bodies_at v bytes >>= λ bodies. edges_at bodies.0 bodies.1 >>= λ edges. ascending_at edges.1 >>= λ defaults. Ok (record { texts = ts; files = fs; pools = ps; slots = ss; bodies = bodies.0; edges = edges.0; defaults = defaults.0 }, defaults.1)
@@ -217,7 +217,7 @@ has_spelling p f le = record {
   filled = f.edges.filled;
 }
 
--- what is read is spelled so
+-- the bytes that are read are the spelling
 located_ok : (whole : ℕ) (r : Result Parts Stop) (p : Parts) → located whole r ≡ Ok p → r ≡ Ok p
 located_ok whole (Ok q) p e = cc
 located_ok whole (Err d) p e = absurd cc
@@ -246,7 +246,7 @@ read_again p h =
     let one : parts_at (spelling p) ≡ Ok (p, []) = ap parts_at (sym (append-nil (spelling p))) ∙ parts_law.again p [] (parts_fit p h) in
     rw (le-ltb _ _ h.limits.bytes, one) refl
 
--- no spelling begins another
+-- no spelling is a prefix of another
 pub prefix_free : IsPrefixFree
 prefix_free p q rest hp hq e =
     let one : parts_at (spelling q) ≡ Ok (p, rest) = ap parts_at (sym e) ∙ parts_law.again p rest (parts_fit p hp) in

@@ -1,4 +1,4 @@
--- Bodies that edges share, and the numbers that an edge puts in.
+-- Bodies that edges share, and the operands that an edge fills in.
 use Rattle.std.specs.Prelude.{◌≡◌, ℕ, suc, ◌+◌, List, [], ◌∷◌, ◌++◌, length, get_or, drop, Option, Some, None}
 use Rattle.plan_image.specs.declared.instr.Instr.{Instr}
 use Rattle.plan_image.specs.declared.instr.Instr.TheVariants as op
@@ -7,7 +7,7 @@ use Rattle.plan_image.specs.declared.instr.Opening.TheVariants as opening
 use Rattle.plan_image.specs.declared.instr.BodyInstr.{BodyInstr}
 use Rattle.plan_image.specs.declared.instr.BodyInstr.TheVariants as member
 
--- how many instructions are open
+-- the number of open instructions
 abbrev pub opens : List BodyInstr → ℕ
 opens [] = 0
 opens (member.Fixed i ∷ is) = opens is
@@ -21,25 +21,25 @@ put opening.Load n = op.Load n
 put opening.Store n = op.Store n
 put opening.Text n = op.Text n
 
--- the body with these numbers put in, in order; 0 where there are too few
+-- the body with these numbers filled in, in order; a missing number counts as 0
 abbrev pub with_operands : List BodyInstr → List ℕ → List Instr
 with_operands [] ns = []
 with_operands (member.Fixed i ∷ is) ns = i ∷ with_operands is ns
 with_operands (member.Open o ∷ is) ns = put o (get_or ns 0 0) ∷ with_operands is (drop 1 ns)
 
--- how many open instructions stand before each one, and n more
+-- the number of open instructions before each instruction, plus n
 abbrev pub ranks_from : ℕ → List BodyInstr → List ℕ
 ranks_from n [] = []
 ranks_from n (member.Fixed i ∷ is) = n ∷ ranks_from n is
 ranks_from n (member.Open o ∷ is) = n ∷ ranks_from (n + 1) is
 
--- an instruction of a body, with the number of that rank
+-- an instruction of a body, with the number of this rank filled in
 abbrev pub instr_with_rank : List ℕ → Option BodyInstr → ℕ → Option Instr
 instr_with_rank ns None rank = None
 instr_with_rank ns (Some (member.Fixed i)) rank = Some i
 instr_with_rank ns (Some (member.Open o)) rank = Some (put o (get_or ns rank 0))
 
--- what an instruction is where its number is left open
+-- the kind of an instruction if its number is left open
 abbrev pub opening_of : Instr → Option Opening
 opening_of (op.Stat n) = Some opening.Stat
 opening_of (op.Need n) = Some opening.Need
@@ -65,7 +65,7 @@ open_operand (op.Store n) = n ∷ []
 open_operand (op.Text n) = n ∷ []
 open_operand i = []
 
--- the body of a code, and its numbers
+-- the body of a code
 abbrev pub body_of : List Instr → List BodyInstr
 body_of [] = []
 body_of (i ∷ is) = leave_open i ∷ body_of is
@@ -74,6 +74,6 @@ abbrev pub operands_of : List Instr → List ℕ
 operands_of [] = []
 operands_of (i ∷ is) = open_operand i ++ operands_of is
 
--- each code is its body with its numbers put in, one for each open instruction
+-- each code is its body with its numbers filled in, one for each open instruction
 abbrev pub IsSplit : Type 0
 IsSplit = (is : List Instr) → (with_operands (body_of is) (operands_of is) ≡ is) × (length (operands_of is) ≡ opens (body_of is))

@@ -1,4 +1,4 @@
--- What the crates above read of an image: its tables, and the code of each edge.
+-- The part of an image that the crates above read: its tables, and the code of each edge.
 use Rattle.std.specs.Prelude.{◌≡◌, ◌<◌, ℕ, List, [], length, Option, Some, None, slice_get}
 use Rattle.plan_image.specs.declared.instr.Instr.{Instr}
 use Rattle.plan_image.specs.declared.instr.BodyInstr.{BodyInstr}
@@ -12,12 +12,12 @@ abbrev or_empty : Option (List BodyInstr) → List BodyInstr
 or_empty (Some is) = is
 or_empty None = []
 
--- the body of that number, none where it is outside
+-- the body with this number; empty if there is none
 abbrev pub body : Option (List (List BodyInstr)) → ℕ → List BodyInstr
 body None n = []
 body (Some bs) n = or_empty (slice_get bs n)
 
--- the instructions that an edge's code stands for
+-- the instructions of an edge's code
 abbrev pub instrs_of : Option (List (List BodyInstr)) → EdgeCode → List Instr
 instrs_of bodies (code_form.Own is) = is
 instrs_of bodies (code_form.Shared n ns) = with_operands (body bodies n) ns
@@ -26,7 +26,7 @@ abbrev pub edge_code : Option (List (List BodyInstr)) → Option Edge → List I
 edge_code bodies (Some edge) = instrs_of bodies edge.code
 edge_code bodies None = []
 
--- the instructions of an edge, none where the number is outside
+-- the instructions of an edge; empty if there is no such edge
 abbrev pub code : Parts → ℕ → List Instr
 code parts e = edge_code parts.bodies (slice_get parts.edges e)
 

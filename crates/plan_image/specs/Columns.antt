@@ -1,4 +1,5 @@
--- Edges and instructions in columns: what stands at one place of each column makes one edge or one instruction.
+-- Edges and instructions in columns: the items with the same index in each column form one edge or one
+-- instruction.
 use Rattle.std.specs.Prelude.{◌≡◌, ◌<◌, ℕ, ◌+◌, List, [], ◌∷◌, Option, Some, None, get_or, option_map, slice_get, ◌==◌, if◌then◌else◌}
 use Rattle.plan_image.specs.declared.instr.Instr.{Instr}
 use Rattle.plan_image.specs.declared.instr.Instr.TheVariants as op
@@ -11,14 +12,14 @@ use Rattle.plan_image.specs.declared.edge_ref.CodeRef.{CodeRef}
 use Rattle.plan_image.specs.declared.edge_ref.CodeRef.TheVariants as lent_form
 use Rattle.plan_image.specs.declared.edge_ref.EdgeRef.{EdgeRef}
 
--- f of each item and its place, where the first one stands at n
+-- f applied to the index and the value of each item, the indices counted from n
 abbrev pub by_place : {X Y : Type 0} → (ℕ → X → Y) → ℕ → List X → List Y
 by_place f n [] = []
 by_place f n (x ∷ xs) = f n x ∷ by_place f (n + 1) xs
 
 -- ---- instructions
 
--- the instruction of an opcode, with this operand; of Flag it is 1 for true
+-- the instruction of an opcode with this operand; the operand of Flag is 1 for true
 abbrev pub instr_by : ℕ → ℕ → Instr
 instr_by o n =
     if o == 1 then op.Stat n
@@ -51,7 +52,7 @@ instr_by o n =
     else if o == 28 then op.Swap
     else op.End
 
--- the instruction of an opcode at this place, where these are the operands
+-- the instruction of an opcode at this place, given the operands
 abbrev pub instr_with : List ℕ → ℕ → ℕ → Instr
 instr_with ns place o = instr_by o (get_or ns place 0)
 
@@ -61,12 +62,12 @@ instrs_by os ns = by_place (instr_with ns) 0 os
 
 -- ---- edges
 
--- with a body its number and the operands, else its own instructions
+-- a body's number and the operands, or else the edge's own instructions
 abbrev pub code_by : Option ℕ → List ℕ → List ℕ → EdgeCode
 code_by None os ns = code_form.Own (instrs_by os ns)
 code_by (Some b) os ns = code_form.Shared b ns
 
--- the code of the edge of this number, where there are as many
+-- the code of the edge with this number, if there is one
 abbrev pub code_at : List Edge → ℕ → Option EdgeCode
 code_at es e = option_map (λ (edge : Edge). edge.code) (slice_get es e)
 
@@ -75,7 +76,7 @@ abbrev pub shared_body : Option EdgeCode → Option ℕ
 shared_body (Some (code_form.Shared b ns)) = Some b
 shared_body code = None
 
--- the operands that it puts in
+-- the operands that an edge fills in
 abbrev pub shared_operands : Option EdgeCode → List ℕ
 shared_operands (Some (code_form.Shared b ns)) = ns
 shared_operands code = []
@@ -84,7 +85,7 @@ abbrev pub edge_by : Head → List ℕ → List ℕ → List ℕ → List ℕ �
 edge_by h outputs waits os ns =
     record { sort = h.sort; pool = h.pool; rank = h.rank; label = h.label; outputs = outputs; waits = waits; code = code_by h.body os ns }
 
--- the edge of this number, where these are the columns
+-- the edge with this number, given the columns
 abbrev pub edge_with : List (List ℕ) → List (List ℕ) → List (List ℕ) → List (List ℕ) → ℕ → Head → Edge
 edge_with outputs waits opcodes operands e h =
     edge_by h (get_or outputs e []) (get_or waits e []) (get_or opcodes e []) (get_or operands e [])
@@ -102,7 +103,7 @@ abbrev pub lent_code : CodeRef → EdgeCode
 lent_code (lent_form.Own is) = code_form.Own (lent_instrs is)
 lent_code (lent_form.Shared b ns) = code_form.Shared b ns.now
 
--- the edge that a lent one shows
+-- the edge that a borrowed edge represents
 abbrev pub lent : EdgeRef → Edge
 lent x =
     record { sort = x.sort; pool = x.pool; rank = x.rank; label = x.label; outputs = x.outputs.now; waits = x.waits.now; code = lent_code x.code }

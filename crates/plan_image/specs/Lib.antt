@@ -1,6 +1,7 @@
 pub mod Bodies
 pub mod Code
 pub mod Columns
+pub mod Views
 pub mod Spelling
 pub mod Printing
 pub mod Reading

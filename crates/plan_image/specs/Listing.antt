@@ -21,19 +21,19 @@ use Rattle.plan_image.specs.declared.instr.BodyInstr.TheVariants as member
 use Rattle.plan_image.specs.Bodies.{put}
 use Rattle.plan_image.specs.Spelling.{operand, flag_byte}
 
--- words with a space between each two, and the end of the line
+-- words, separated by spaces, and the end of the line
 abbrev pub line : List (List ℕ) → List ℕ
 line words = join_with_byte 32 words ++ 10 ∷ []
 
 abbrev pub hex_byte : ℕ → List ℕ
 hex_byte b = digit_glyph false (b / 16) ∷ digit_glyph false (b % 16) ∷ []
 
--- bytes in hexadecimal digits; a dash where there is none
+-- bytes in hexadecimal digits, or a dash if there are none
 abbrev pub hex : List ℕ → List ℕ
 hex [] = codes "-"
 hex (b ∷ bytes) = concat (map hex_byte (b ∷ bytes))
 
--- numbers with a space between each two; a dash where there is none
+-- numbers, separated by spaces, or a dash if there are none
 abbrev pub members : List ℕ → List ℕ
 members [] = codes "-"
 members (n ∷ ns) = join_with_byte 32 (map decimal (n ∷ ns))
@@ -80,12 +80,12 @@ name op.Keep = codes "Keep"
 name op.Drop = codes "Drop"
 name op.Swap = codes "Swap"
 
--- the number behind a name
+-- the number after a name
 abbrev pub operand_number : Instr → Option ℕ
 operand_number (op.Flag b) = Some (flag_byte b)
 operand_number i = operand i
 
--- with a space before it, where there is one
+-- the number after a space, if there is one
 abbrev pub operand_words : Option ℕ → List ℕ
 operand_words None = []
 operand_words (Some n) = 32 ∷ decimal n
@@ -94,12 +94,12 @@ abbrev pub pool_words : Option ℕ → List ℕ
 pool_words None = codes "-"
 pool_words (Some n) = decimal n
 
--- the lines of each item, in order, by its number
+-- the lines of each item, in order, given its number
 abbrev pub numbered : {X : Type 0} → (ℕ → X → List ℕ) → ℕ → List X → List ℕ
 numbered lines n [] = []
 numbered lines n (x ∷ xs) = lines n x ++ numbered lines (n + 1) xs
 
--- a word, the number, the bytes
+-- a word, the number, and the bytes
 abbrev pub bytes_line : List ℕ → ℕ → List ℕ → List ℕ
 bytes_line word n bytes = line (word ∷ decimal n ∷ hex bytes ∷ [])
 
@@ -109,7 +109,7 @@ pool_line n q = line (codes "pool" ∷ decimal n ∷ hex q.name ∷ codes "depth
 abbrev pub slot_line : ℕ → Slot → List ℕ
 slot_line n s = line (codes "slot" ∷ decimal n ∷ codes "owner" ∷ decimal s.owner ∷ codes "kind" ∷ kind_letter s.kind ∷ [])
 
--- two spaces, the place, the name and the operand
+-- two spaces, the place, the name, and the operand
 abbrev pub instr_line : ℕ → Instr → List ℕ
 instr_line place i = codes "  " ++ line (decimal place ∷ (name i ++ operand_words (operand_number i)) ∷ [])
 
@@ -130,7 +130,7 @@ bodies_lines (Some bs) = numbered body_lines 0 bs
 abbrev pub shared_words : ℕ → List ℕ → List ℕ
 shared_words n ns = 32 ∷ line (codes "body" ∷ decimal n ∷ codes "operands" ∷ members ns ∷ [])
 
--- what an edge line ends with, and the lines below it: its own instructions, or its body and its operands
+-- the end of an edge's line, and the lines below it: its own instructions, or its body and its operands
 abbrev pub code_words : EdgeCode → List ℕ
 code_words (code_form.Own is) = 10 ∷ numbered instr_line 0 is
 code_words (code_form.Shared n ns) = shared_words n ns

@@ -1,4 +1,4 @@
--- Reading an image from left to right, with the first fault that is met.
+-- Reading an image from left to right, up to the first fault.
 use Rattle.std.specs.Prelude.{◌≡◌, ℕ, zero, suc, ◌+◌, ◌-◌, ◌^◌, Bool, true, false, List, [], ◌∷◌, length, take, drop, Option, Some, None, Result, Ok, Err, nat_lt, ◌==◌, not, if◌then◌else◌, nat_eq, slice_get}
 use Rattle.std.specs.List.{starts_with}
 use Rattle.std.specs.Int.{Width, w16, w32, byte_len, from_be_bytes}
@@ -32,7 +32,7 @@ use Rattle.plan_image.specs.Faults.{fault_at}
 use Rattle.plan_image.specs.Code.{instrs_of}
 use Rattle.plan_image.specs.Spelling.{magic}
 
--- a value and the bytes after it, or where it stops
+-- a value and the bytes after it, or the place at which reading stops
 abbrev pub Read : Type 0 → Type 0
 Read X = Result (X × List ℕ) Stop
 
@@ -44,16 +44,17 @@ abbrev pub ◌>>=◌ : {A B : Type 0} → Result A Stop → (A → Result B Stop
 (Ok x) >>= f = f x
 (Err e) >>= f = Err e
 
--- What a function returned, instr_with_rank by view, is what reading gives, unless memory ran out.
+-- a fault that a function returned is the one at which reading stops, unless memory ran out
 abbrev pub Fails : {Y : Type 0} → ReadFault → Result Y Stop → Type 0
 Fails errors.Memory read = Unit {0}
 Fails (errors.Stop f) read = read ≡ Err f
 
+-- a function's result, seen by view, is the result of reading, unless memory ran out
 abbrev pub Gives : {X Y : Type 0} → (X → Y) → Result X ReadFault → Result Y Stop → Type 0
 Gives view (Ok x) read = read ≡ Ok (view x)
 Gives view (Err e) read = Fails e read
 
--- a refused length or number stands where its field begins
+-- a refused length or number is reported at the start of its field
 abbrev pub refuse : Bool → Cause → List ℕ → Result (Unit {0}) Stop
 refuse true cause bytes = stop cause bytes
 refuse false cause bytes = Ok tt
@@ -61,7 +62,7 @@ refuse false cause bytes = Ok tt
 unfoldable pub number_at : Width → List ℕ → Read ℕ
 number_at w bytes = if nat_lt (length bytes) (byte_len w) then stop Truncated [] else Ok (from_be_bytes w (take (byte_len w) bytes), drop (byte_len w) bytes)
 
--- a number of at most that
+-- a number of at most this value
 unfoldable pub number_up_to : Width → ℕ → List ℕ → Read ℕ
 number_up_to w most bytes = do
   n ← number_at w bytes
@@ -83,7 +84,7 @@ file_at bytes = do
   _ ← refuse (n.0 == 0) Limit bytes
   bytes_at n.0 n.1
 
--- items one after another; what is read next may depend on those before it
+-- items one after another; reading an item may depend on those before it
 unfoldable pub items_at : {S X : Type 0} → (S → List ℕ → Read X) → (S → X → S) → S → ℕ → List ℕ → Read (List X)
 items_at item next s zero bytes = Ok ([], bytes)
 items_at item next s (suc n) bytes = do
@@ -96,7 +97,7 @@ table_at item most bytes = do
   n ← number_up_to w32 most bytes
   items_at (λ (s : Unit {0}). item) (λ s x. s) tt n.0 n.1
 
--- a number that isn't below the least
+-- a number that is at least this value
 unfoldable pub next_at : ℕ → List ℕ → Read ℕ
 next_at least bytes = do
   n ← number_at w32 bytes
@@ -108,7 +109,7 @@ ascending_at bytes = do
   n ← number_at w32 bytes
   items_at next_at (λ least n. n + 1) 0 n.0 n.1
 
--- any numbers
+-- a count and that many numbers, in any order
 unfoldable pub numbers_at : List ℕ → Read (List ℕ)
 numbers_at bytes = do
   n ← number_at w32 bytes
@@ -155,7 +156,7 @@ sort_of b = if b == 0 then Some sort.Command else if b == 1 then Some sort.Phony
 abbrev pub flag_of : ℕ → Option Bool
 flag_of b = if b == 0 then Some false else if b == 1 then Some true else None
 
--- an instruction without operand by its opcode
+-- an instruction without operand, given its opcode
 abbrev pub bare_of : ℕ → Option Instr
 bare_of b =
     if b == 0 then Some op.End
@@ -181,7 +182,7 @@ bare_of b =
     else if b == 28 then Some op.Swap
     else None
 
--- an instruction with a number behind its opcode
+-- an instruction with a number after its opcode
 abbrev pub numbered_of : ℕ → Option (ℕ → Instr)
 numbered_of b =
     if b == 1 then Some (λ n. op.Stat n)
@@ -219,14 +220,14 @@ abbrev pub pool_of : ℕ → Option ℕ
 pool_of zero = None
 pool_of (suc n) = Some n
 
--- instructions in all, of which used stand in the edges above
+-- the edge's own instructions, if the edges before it have `used` instructions
 unfoldable pub own_code_at : ℕ → List ℕ → Read EdgeCode
 own_code_at used bytes = do
   n ← number_up_to w32 (2 ^ 24 - used) bytes
   is ← items_at (λ (s : Unit {0}). instr_at) (λ s x. s) tt n.0 n.1
   Ok (code_form.Own is.0, is.1)
 
--- the numbers for the open instructions of a body, where the edges above have so many instructions
+-- the numbers for the open instructions of a body, if the edges before have `used` instructions
 abbrev pub numbers_for : ℕ → ℕ → ℕ → ℕ → List ℕ → List ℕ → Read EdgeCode
 numbers_for used n len count bytes rest = do
   _ ← refuse (nat_lt (2 ^ 26 - used) len) Limit bytes
@@ -242,7 +243,7 @@ shared_code_at bs used bytes = do
   n ← number_at w32 bytes
   filling_at used n.0 (slice_get bs n.0) bytes n.1
 
--- the code of an edge, as the version says
+-- the code of an edge, in the form of the version
 abbrev pub code_at : Option (List (List BodyInstr)) → ℕ → List ℕ → Read EdgeCode
 code_at None = own_code_at
 code_at (Some bs) = shared_code_at bs
@@ -258,7 +259,7 @@ edge_at bodies used bytes = do
   code ← code_at bodies used waits.1
   Ok (record { sort = sort.0; pool = pool_of pool.0; rank = rank.0; label = label.0; outputs = outputs.0; waits = waits.0; code = code.0 }, code.1)
 
--- the instructions of an edge and of those above it
+-- the number of instructions of an edge and of those before it
 abbrev pub used_after : Option (List (List BodyInstr)) → ℕ → Edge → ℕ
 used_after bodies used x = used + length (instrs_of bodies x.code)
 
@@ -267,7 +268,7 @@ edges_at bodies bytes = do
   n ← number_up_to w32 (2 ^ 20) bytes
   items_at (edge_at bodies) (used_after bodies) 0 n.0 n.1
 
--- what an open instruction is, by its opcode
+-- the kind of an open instruction, given its opcode
 abbrev pub opening_by : ℕ → Option Opening
 opening_by b =
     if b == 1 then Some opening.Stat
@@ -291,7 +292,7 @@ body_instr_at bytes = do
   b ← byte_at bytes
   open_at (opening_by b.0) bytes b.1
 
--- a body, where the bodies above have so many instructions
+-- a body, if the bodies before it have `used` instructions
 unfoldable pub body_at : ℕ → List ℕ → Read (List BodyInstr)
 body_at used bytes = do
   n ← number_up_to w32 65536 bytes
@@ -303,7 +304,7 @@ body_table_at bytes = do
   n ← number_up_to w32 (2 ^ 20) bytes
   items_at body_at (λ used b. used + length b) 0 n.0 n.1
 
--- the table of bodies, where the version has one
+-- the table of bodies, if the version has one
 unfoldable pub bodies_at : Version → List ℕ → Read (Option (List (List BodyInstr)))
 bodies_at version.One bytes = Ok (None, bytes)
 bodies_at version.Two bytes = do
@@ -352,6 +353,6 @@ abbrev pub located : ℕ → Result Parts Stop → Result Parts ImageFault
 located whole (Ok parts) = Ok parts
 located whole (Err e) = Err (fault_at e.cause (whole - e.left))
 
--- what the bytes say, or the first fault with its offset
+-- the tables that the bytes represent, or the first fault with its offset
 unfoldable pub read_of : List ℕ → Result Parts ImageFault
 read_of bytes = if nat_lt 268435456 (length bytes) then Err (fault.Limit 0) else located (length bytes) (tables_at bytes)

@@ -1,10 +1,10 @@
--- Why tables are no image.
+-- The reasons why tables are no image.
 use Rattle.plan_image.specs.declared.fault.ImageFault.{ImageFault}
 use Rattle.plan_image.specs.declared.fault.ImageFault.TheVariants as fault
 use Rattle.plan_image.specs.declared.image.Parts.{Parts}
 use Rattle.plan_image.specs.Spelling.{IsWithinLimits, IsInOrder, IsFilled}
 
--- a limit before an order before a body, all at 0
+-- a limit comes before an order, and an order before a body; the offset is always 0
 pub data IsPartsFault (p : Parts) : ImageFault → Type 0 where
   over_limit : (IsWithinLimits p → ⊥) → IsPartsFault p (fault.Limit 0)
   out_of_order : IsWithinLimits p → (IsInOrder p → ⊥) → IsPartsFault p (fault.BadOrder 0)

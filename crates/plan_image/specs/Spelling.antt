@@ -1,4 +1,4 @@
--- The one spelling of an image, and which images have it.
+-- The one spelling of an image, and the condition for having one.
 use Rattle.std.specs.Prelude.{◌≡◌, ◌≢◌, ℕ, ◌+◌, ◌<◌, ◌≤◌, ◌^◌, Bool, true, false, List, [], ◌∷◌, ◌++◌, length, Option, Some, None, IfSome}
 use Rattle.std.specs.List.{flat_map, AllByRecursion}
 use Rattle.std.specs.Int.{w16, w32, to_be_bytes}
@@ -35,7 +35,7 @@ long_text bytes = to_be_bytes w32 (length bytes) ++ bytes
 abbrev pub short_text : List ℕ → List ℕ
 short_text bytes = to_be_bytes w16 (length bytes) ++ bytes
 
--- a count and each item
+-- the number of items, and each item
 abbrev pub counted : {X : Type 0} → (X → List ℕ) → List X → List ℕ
 counted spell xs = number (length xs) ++ flat_map spell xs
 
@@ -56,7 +56,7 @@ abbrev pub flag_byte : Bool → ℕ
 flag_byte false = 0
 flag_byte true = 1
 
--- none is 0, a pool is its number and 1
+-- 0 for no pool, and else the number of the pool plus 1
 abbrev pub pool_number : Option ℕ → ℕ
 pool_number None = 0
 pool_number (Some n) = n + 1
@@ -98,11 +98,11 @@ pool p = short_text p.name ++ number p.depth
 abbrev pub slot : Slot → List ℕ
 slot s = number s.owner ++ kind_byte s.kind ∷ []
 
--- what stands before the lists of an edge
+-- the fields before the lists of an edge
 abbrev pub edge_head : Edge → List ℕ
 edge_head x = sort_byte x.sort ∷ number (pool_number x.pool) ++ number x.rank ++ number x.label
 
--- its own instructions; else the number of a body, and as many numbers as it has open instructions
+-- the edge's own instructions, or the number of a body and as many numbers as it has open instructions
 abbrev pub edge_code : EdgeCode → List ℕ
 edge_code (code_form.Own is) = counted instr is
 edge_code (code_form.Shared n ns) = number n ++ flat_map number ns
@@ -125,7 +125,7 @@ body_instr (member.Open o) = opening_byte o ∷ []
 abbrev pub body : List BodyInstr → List ℕ
 body is = counted body_instr is
 
--- the table of bodies, where there is one
+-- the table of bodies, if there is one
 abbrev pub bodies : Option (List (List BodyInstr)) → List ℕ
 bodies None = []
 bodies (Some bs) = counted body bs
@@ -154,7 +154,7 @@ abbrev pub AscendsFrom : ℕ → List ℕ → Type 0
 AscendsFrom least [] = Unit {0}
 AscendsFrom least (n ∷ ns) = (least ≤ n) × AscendsFrom (n + 1) ns
 
--- a number of four bytes
+-- a number that fits into four bytes
 abbrev pub IsWord : ℕ → Type 0
 IsWord n = n < 2 ^ 32
 
@@ -174,7 +174,7 @@ pub record PoolFits (p : Pool) : Type 0 where
 abbrev pub SlotFits : Slot → Type 0
 SlotFits s = IsWord s.owner
 
--- the number behind an opcode
+-- the number after an opcode
 abbrev pub operand : Instr → Option ℕ
 operand (op.Stat f) = Some f
 operand (op.Need f) = Some f
@@ -192,7 +192,7 @@ abbrev pub CodeFits : EdgeCode → Type 0
 CodeFits (code_form.Own is) = (length is < 2 ^ 32) × AllByRecursion InstrFits is
 CodeFits (code_form.Shared n ns) = IsWord n × AllByRecursion IsWord ns
 
--- what could be open is
+-- each instruction that can be open is open
 abbrev pub BodyInstrFits : BodyInstr → Type 0
 BodyInstrFits (member.Fixed i) = (opening_of i ≡ None) × InstrFits i
 BodyInstrFits (member.Open o) = Unit {0}
@@ -200,7 +200,7 @@ BodyInstrFits (member.Open o) = Unit {0}
 abbrev pub BodyFits : List BodyInstr → Type 0
 BodyFits is = (length is ≤ 65536) × AllByRecursion BodyInstrFits is
 
--- the body of a code whose numbers fit their fields has a spelling, as far as its instructions go
+-- if the numbers of a code fit their fields, its body has a spelling
 abbrev pub BodiesHaveSpelling : Type 0
 BodiesHaveSpelling = (is : List Instr) → AllByRecursion InstrFits is → AllByRecursion BodyInstrFits (body_of is)
 
@@ -212,17 +212,17 @@ pub record EdgeFits (x : Edge) : Type 0 where
   pub waits : AreWords x.waits
   pub code : CodeFits x.code
 
--- instructions in all
+-- the number of instructions of all edges
 abbrev pub instructions : Option (List (List BodyInstr)) → List Edge → ℕ
 instructions bs [] = 0
 instructions bs (x ∷ xs) = length (instrs_of bs x.code) + instructions bs xs
 
--- how many there may be
+-- the most instructions of all edges
 abbrev pub most_code : Option (List (List BodyInstr)) → ℕ
 most_code None = 2 ^ 24
 most_code (Some bs) = 2 ^ 26
 
--- instructions in all bodies
+-- the number of instructions of all bodies
 abbrev pub body_instructions : List (List BodyInstr) → ℕ
 body_instructions [] = 0
 body_instructions (b ∷ bs) = length b + body_instructions bs
@@ -232,7 +232,7 @@ pub record BodiesFit (bs : List (List BodyInstr)) : Type 0 where
   pub each : AllByRecursion BodyFits bs
   pub instructions : body_instructions bs ≤ 2 ^ 24
 
--- no table has more items than it may have
+-- no table has more items than its limit
 pub record CountsFit (p : Parts) : Type 0 where
   pub texts : length p.texts ≤ 2 ^ 22
   pub files : length p.files ≤ 2 ^ 22
@@ -249,7 +249,7 @@ pub record ItemsFit (p : Parts) : Type 0 where
   pub edges : AllByRecursion EdgeFits p.edges
   pub defaults : AreWords p.defaults
 
--- no limit is passed
+-- the tables are within all limits
 pub record IsWithinLimits (p : Parts) : Type 0 where
   pub counts : CountsFit p
   pub items : ItemsFit p
@@ -262,7 +262,7 @@ pub record IsInOrder (p : Parts) : Type 0 where
   pub waits : AllByRecursion (λ x. AscendsFrom 0 x.waits) p.edges
   pub defaults : AscendsFrom 0 p.defaults
 
--- each edge's code is of the version and has its numbers
+-- each edge's code has the form of the version and the right number of operands
 abbrev pub IsFilled : Parts → Type 0
 IsFilled p = AllByRecursion (λ x. HasBody p.bodies x.code) p.edges
 
@@ -271,15 +271,15 @@ pub record HasSpelling (p : Parts) : Type 0 where
   pub order : IsInOrder p
   pub filled : IsFilled p
 
--- what room is left behind so many bytes, none where they don't fit
+-- the room that is left after len bytes, or none if they don't fit
 abbrev pub RoomAfter : Option ℕ → ℕ → ℕ → Type 0
 RoomAfter (Some left) len room = left + len ≡ room
 RoomAfter None len room = room < len
 
--- no image is spelled so
+-- the bytes are the spelling of no image
 abbrev pub IsNoSpelling : List ℕ → Type 0
 IsNoSpelling bytes = (p : Parts) → HasSpelling p → spelling p ≢ bytes
 
--- No spelling of an image begins another one.
+-- No spelling of an image is a prefix of another one.
 abbrev pub IsPrefixFree : Type 0
 IsPrefixFree = (p q : Parts) (rest : List ℕ) → HasSpelling p → HasSpelling q → spelling p ++ rest ≡ spelling q → (p ≡ q) × (rest ≡ [])

@@ -1,4 +1,4 @@
-//! Bodies that edges share.
+//! Bodies: lists of instructions that edges share.
 
 ghost use Rattle.std.specs.Prelude.{◌≡◌, ◌+◌, ◌<◌, ◌≤◌, ◌^◌, ◌∷◌, ◌++◌, [], length, List, IfOk, OnOk, slice_get, get_or};
 ghost use Rattle.plan_image.specs.declared.instr.BodyInstr.{BodyInstr};
@@ -10,9 +10,10 @@ use plan_text::{Items, Memory};
 use std::alloc::{AllocError, Global};
 use std::marker::Model;
 
-/// A list of instructions that edges share, some of them open. A contract sees the list.
+/// A list of instructions that edges share. Some of them may be open. A contract sees the list.
 ///
-/// Beside each instruction stands how many open ones are before it, so that the operand of an open one costs one look.
+/// The rank of each instruction, which is the number of open instructions before it, is stored with it. The
+/// operand of an open instruction is then found in one access.
 #[derive(Debug, Drop)]
 pub struct Body {
     instrs: Vec<BodyInstr>,
@@ -32,7 +33,7 @@ impl Model for Body {
     ghost invariant = { λ b. (b.ranks.items ≡ ranks_from 0 b.instrs.items) × (b.open_count ≡ opens b.instrs.items) };
 }
 
-/// One more where the instruction is open.
+/// Returns the rank of the instruction after this one: `rank` plus one if this one is open.
 fn next_rank(rank: usize, instr: BodyInstr) -> usize
     requires { rank < 2 ^ 63 }
     ensures ranks { (is : List BodyInstr) → ranks_from rank (instr ∷ is) ≡ rank ∷ ranks_from result is }
@@ -45,7 +46,7 @@ fn next_rank(rank: usize, instr: BodyInstr) -> usize
     }
 }
 
-/// An open instruction with its number.
+/// Returns the open instruction with this number as its operand.
 pub(crate) const fn with_number(opening: Opening, number: u32) -> Instr
     ensures { result ≡ put opening number }
 {
@@ -62,7 +63,7 @@ impl Body {
     ghost use Rattle.std.specs.Prelude.{◌≡◌, ℕ, List, length, IfOk, slice_get};
     ghost use Rattle.plan_image.specs.Bodies.{opens, with_operands};
 
-    /// The body of these instructions, in their order.
+    /// Creates the body of these instructions, in their order.
     pub fn new(alloc: Global, instrs: Vec<BodyInstr>) -> Result<Body, Memory>
         ensures { IfOk result (λ b. b ≡ instrs.items) }
     {
@@ -79,64 +80,57 @@ impl Body {
         })
     }
 
-    /// How many instructions there are.
+    /// Returns the number of instructions.
     pub fn len(&self) -> usize
         ensures { result ≡ length self.now }
     {
         self.instrs.len()
     }
 
-    /// The instructions, lent.
+    /// Borrows the instructions.
     pub fn as_slice(&self) -> &[BodyInstr]
         ensures { result.now ≡ self.now }
     {
         self.instrs.as_slice()
     }
 
-    /// How many instructions are open.
+    /// Returns the number of open instructions.
     pub fn open_count(&self) -> usize
         ensures { result ≡ opens self.now }
     {
         self.open_count
     }
 
-    /// How many instructions there are, with the operands of an edge put in: as many as before.
+    /// Returns the number of instructions after the operands of an edge are filled in. It is the same as
+    /// before.
     pub fn filled_len(&self, _numbers: &[u32]) -> usize
         ensures { result ≡ length (with_operands self.now _numbers.now) }
     {
         self.len()
     }
 
-    /// How many open instructions are before a place: the operand of an open one there is that of this rank.
+    /// Returns the number of open instructions before a place. If the instruction at the place is open, this is
+    /// the index of its operand.
     pub(crate) fn rank(&self, place: usize) -> usize
         ensures { (numbers : List ℕ) → Rattle.plan_image.specs.Bodies.instr_with_rank numbers (slice_get self.now place) result ≡ slice_get (with_operands self.now numbers) place }
     {
         rank_at(self.ranks.as_slice(), place)
     }
 
-    /// The instruction at a place, counted from 0, with the operands of an edge put in; 0 for one that is missing.
+    /// Returns the instruction at a place, counted from 0, with the operands of an edge filled in. A missing
+    /// operand counts as 0. The operands are read only if the instruction is open.
     pub fn instr(&self, numbers: &[u32], place: usize) -> Option<Instr>
         ensures { result ≡ slice_get (with_operands self.now numbers.now) place }
     {
-        instr_with_rank(numbers, instr_at(self.as_slice(), place), self.rank(place))
+        let rank = self.rank(place);
+        match self.as_slice().get(place) {
+            None => None,
+            Some(BodyInstr::Fixed(instr)) => Some(*instr),
+            Some(BodyInstr::Open(opening)) => {
+                Some(with_number(*opening, number_at(numbers, rank)))
+            }
+        }
     }
-}
-
-/// An instruction of a body, with the number of that rank.
-fn instr_with_rank(numbers: &[u32], instr: Option<BodyInstr>, rank: usize) -> Option<Instr>
-    ensures { result ≡ Rattle.plan_image.specs.Bodies.instr_with_rank numbers.now instr rank }
-{
-    match instr {
-        None => None,
-        Some(BodyInstr::Fixed(instr)) => Some(instr),
-        Some(BodyInstr::Open(opening)) => Some(with_number(opening, number_at(numbers, rank))),
-    }
-}
-
-fn instr_at(instrs: &[BodyInstr], place: usize) -> Option<BodyInstr>
-    ensures { result ≡ slice_get instrs.now place }
-{
-    instrs.get(place).copied()
 }
 
 fn rank_at(ranks: &[usize], place: usize) -> usize
@@ -148,7 +142,7 @@ fn rank_at(ranks: &[usize], place: usize) -> usize
     }
 }
 
-/// The number of that rank, 0 where there are too few.
+/// Returns the number with this rank, or 0 if there are too few numbers.
 pub(crate) fn number_at(numbers: &[u32], rank: usize) -> u32
     ensures { result ≡ get_or numbers.now rank 0 }
 {
@@ -158,7 +152,7 @@ pub(crate) fn number_at(numbers: &[u32], rank: usize) -> u32
     }
 }
 
-/// An instruction whose number is left open, where it can be.
+/// Returns the instruction with its number left open, if it is of a kind that can be open.
 const fn leave_open(instr: Instr) -> BodyInstr
     ensures { result ≡ Rattle.plan_image.specs.Bodies.leave_open instr }
 {
@@ -179,7 +173,7 @@ fn push_number(numbers: &mut Vec<u32>, number: u32) -> Result<(), AllocError>
     Ok(())
 }
 
-/// The number that is left open behind the others.
+/// Appends the number of an instruction that can be open. Appends nothing for another instruction.
 fn push_open(numbers: &mut Vec<u32>, instr: Instr) -> Result<(), AllocError>
     ensures { OnOk result (numbers.new.items ≡ numbers.old.items ++ open_operand instr) }
 {
@@ -193,7 +187,7 @@ fn push_open(numbers: &mut Vec<u32>, instr: Instr) -> Result<(), AllocError>
     }
 }
 
-/// The body of a code, and the operands of its open instructions, in order.
+/// Splits a code into its body and the operands of its open instructions, in order.
 pub fn split(alloc: Global, code: &[Instr]) -> Result<(Body, Items<u32>), Memory>
     ensures body { IfOk result (λ x. x.0 ≡ body_of code.now) }
     ensures numbers { IfOk result (λ x. x.1 ≡ operands_of code.now) }
@@ -208,8 +202,8 @@ pub fn split(alloc: Global, code: &[Instr]) -> Result<(Body, Items<u32>), Memory
     Ok((body, Items::new(numbers)))
 }
 
-/// Each code is its body with its operands put in, as many as it has open instructions; and its body has a spelling, as
-/// far as its instructions go.
+/// States that each code is its body with its operands filled in, that it has one operand for each open
+/// instruction, and that its body has a spelling if the code's instructions have one.
 pub fn split_law()
     ensures split { IsSplit }
     ensures spelling { BodiesHaveSpelling }

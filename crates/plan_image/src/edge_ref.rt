@@ -1,4 +1,4 @@
-//! Edges that are lent, and the heads of edges.
+//! Borrowed edges, and the fixed-size part of an edge.
 
 ghost use Rattle.std.specs.Prelude.{◌≡◌, ◌∷◌, ◌<◌, ◌+◌, Some, drop, length, slice_get};
 ghost use Rattle.plan_image.specs.Columns.{lent_instrs};
@@ -7,7 +7,8 @@ use crate::image::Sort;
 use crate::instr::Instr;
 use crate::opcode::instr_by;
 
-/// What an edge has beside its lists: with a body it has operands, else instructions of its own.
+/// The part of an edge that is not a list. If it names a body, the edge has operands, and otherwise the edge
+/// has its own instructions.
 #[derive(Clone, Copy, Debug)]
 pub(crate) struct Head {
     pub sort: Sort,
@@ -17,7 +18,7 @@ pub(crate) struct Head {
     pub body: Option<u32>,
 }
 
-/// Instructions, lent: their opcodes and, at the same places, their operands.
+/// Borrowed instructions: their opcodes and, at the same indices, their operands.
 #[derive(Clone, Copy, Debug)]
 pub struct InstrsRef<'a> {
     pub(crate) opcodes: &'a [u8],
@@ -28,14 +29,14 @@ impl<'a> InstrsRef<'a> {
     ghost use Rattle.std.specs.Prelude.{◌≡◌, ◌∷◌, ◌<◌, ◌+◌, Some, drop, length, slice_get};
     ghost use Rattle.plan_image.specs.Columns.{lent_instrs};
 
-    /// How many there are.
+    /// Returns the number of instructions.
     pub fn len(&self) -> usize
         ensures { result ≡ length (lent_instrs self.now) }
     {
         self.opcodes.len()
     }
 
-    /// The instruction at a place, counted from 0, where there is one.
+    /// Returns the instruction at a place, counted from 0. Returns None if there is no such instruction.
     pub fn get(&self, place: usize) -> Option<Instr>
         ensures { result ≡ slice_get (lent_instrs self.now) place }
     {
@@ -45,7 +46,7 @@ impl<'a> InstrsRef<'a> {
         Some(self.instr(place))
     }
 
-    /// The instruction at a place.
+    /// Returns the instruction at a place, which must exist.
     pub fn instr(&self, place: usize) -> Instr
         requires { place < length (lent_instrs self.now) }
         ensures found { slice_get (lent_instrs self.now) place ≡ Some result }
@@ -55,7 +56,7 @@ impl<'a> InstrsRef<'a> {
     }
 }
 
-/// The operand at a place, 0 where there is none.
+/// Returns the operand at a place, or 0 if there is none.
 fn operand_at(operands: &[u32], place: usize) -> u32
     ensures { result ≡ Rattle.std.specs.Prelude.get_or operands.now place 0 }
 {
@@ -65,16 +66,16 @@ fn operand_at(operands: &[u32], place: usize) -> u32
     }
 }
 
-/// The code of an edge, lent.
+/// The borrowed code of an edge.
 #[derive(Clone, Copy, Debug)]
 pub enum CodeRef<'a> {
-    /// Version 1: its own instructions.
+    /// Version 1: the edge's own instructions.
     Own(InstrsRef<'a>),
-    /// Version 2: a body by its number, and an operand for each open instruction of it.
+    /// Version 2: the number of a body, and an operand for each of its open instructions.
     Shared(u32, &'a [u32]),
 }
 
-/// An edge, lent: as `Edge`.
+/// A borrowed edge, with the same fields as `Edge`.
 #[derive(Clone, Copy, Debug)]
 pub struct EdgeRef<'a> {
     pub sort: Sort,

@@ -1,4 +1,4 @@
-//! The table of edges.
+//! The table of edges, stored in columns.
 
 ghost use Rattle.std.specs.Prelude.{◌≡◌, ◌≤◌, ◌<◌, ◌+◌, ◌++◌, ◌∷◌, [], OnOk, OnErr, IfOk, Some, drop, get_or, is_some, length, option_map, slice_get, true};
 ghost use Rattle.plan_image.specs.Columns.{AreSameBelow, code_at, code_by, instrs_by, lent, lent_code, shared_body, shared_operands};
@@ -12,8 +12,8 @@ use plan_text::RowList;
 use std::alloc::{AllocError, Global};
 use std::marker::Model;
 
-/// The edges of an image. A contract sees a list of `Edge`. They are held in columns: an edge takes 44 bytes, four for
-/// each output, wait and operand, and five for each instruction of its own.
+/// The edges of an image. A contract sees a list of `Edge`. They are stored in columns: an edge takes 44 bytes,
+/// four for each output, wait and operand, and five for each instruction of its own.
 #[derive(Debug, Drop)]
 pub struct Edges {
     heads: Vec<Head>,
@@ -32,11 +32,11 @@ impl Model for Edges {
 
     ghost view = { λ e. by_place (edge_with e.outputs e.waits e.opcodes e.operands) 0 e.heads.items };
 
-    // A push that was refused may have left rows behind those of the last edge.
+    // A refused push may have left rows after those of the last edge.
     ghost invariant = { λ e. (length e.heads.items ≤ length e.outputs) × (length e.heads.items ≤ length e.waits) × (length e.heads.items ≤ length e.opcodes) × (length e.heads.items ≤ length e.operands) };
 }
 
-/// Makes this the row of that number, and the last one. A refusal keeps the rows before it.
+/// Stores a row as row `number` and drops the rows after it. An error keeps the rows before it.
 fn put_row<T: Copy>(rows: &mut RowList<T>, number: usize, row: &[T]) -> Result<(), AllocError>
     requires { number ≤ length rows.old }
     ensures put { OnOk result (get_or rows.new number [] ≡ row.now) }
@@ -48,7 +48,7 @@ fn put_row<T: Copy>(rows: &mut RowList<T>, number: usize, row: &[T]) -> Result<(
     rows.push(row)
 }
 
-/// The body of a code, its opcodes and its operands, as the columns hold them.
+/// Returns the body of a code, its opcodes and its operands, as the columns store them.
 fn columns_of(code: CodeRef<'_>) -> (Option<u32>, &[u8], &[u32])
     ensures { code_by result.0 result.1.now result.2.now ≡ lent_code code.entry }
 {
@@ -58,7 +58,7 @@ fn columns_of(code: CodeRef<'_>) -> (Option<u32>, &[u8], &[u32])
     }
 }
 
-/// The code of the edge of this number, which has this body or none, lent.
+/// Borrows the code of edge `number`, which has this body, or none.
 fn code_in<'a>(
     body: Option<u32>,
     opcodes: &'a RowList<u8>,
@@ -77,7 +77,7 @@ fn code_in<'a>(
     }
 }
 
-/// Instructions as opcodes and operands.
+/// Splits instructions into opcodes and operands.
 fn split_instrs(alloc: Global, instrs: &[Instr]) -> Result<(Vec<u8>, Vec<u32>), AllocError>
     ensures { IfOk result (λ x. instrs_by x.0.items x.1.items ≡ instrs.now) }
 {
@@ -89,7 +89,7 @@ fn split_instrs(alloc: Global, instrs: &[Instr]) -> Result<(Vec<u8>, Vec<u32>), 
     Ok((opcodes, operands))
 }
 
-/// An edge, lent, with this code in place of its own.
+/// Borrows an edge, with this code instead of its own.
 fn with_code<'a>(edge: &'a Edge, code: CodeRef<'a>) -> EdgeRef<'a>
     requires { lent_code code ≡ edge.now.code }
     ensures { lent result ≡ edge.now }
@@ -110,7 +110,7 @@ impl Edges {
     ghost use Rattle.plan_image.specs.declared.image.Edge.{Edge};
     ghost use Rattle.plan_image.specs.Columns.{code_at, lent, lent_code, shared_body, shared_operands};
 
-    /// No edge.
+    /// Creates an empty table.
     pub fn new(alloc: Global) -> Edges
         ensures { result ≡ [] }
     {
@@ -123,7 +123,7 @@ impl Edges {
         }
     }
 
-    /// Makes room for so many edges more, but not for their lists. A refusal changes nothing.
+    /// Reserves room for `edges` further edges, but not for their lists. An error changes nothing.
     pub fn reserve(&mut self, edges: usize) -> Result<(), AllocError>
         ensures { self.new ≡ self.old }
     {
@@ -134,7 +134,7 @@ impl Edges {
         self.operands.reserve(edges)
     }
 
-    /// Appends an edge. A refusal changes nothing.
+    /// Appends an edge. An error changes nothing.
     pub fn push(&mut self, alloc: Global, edge: &Edge) -> Result<(), AllocError>
         ensures more { OnOk result (self.new ≡ self.old ++ edge.now ∷ []) }
         ensures refused { OnErr result (self.new ≡ self.old) }
@@ -161,7 +161,7 @@ impl Edges {
         self.push_ref(with_code(edge, CodeRef::Own(own)))
     }
 
-    /// Appends an edge that is lent. A refusal changes nothing.
+    /// Appends a borrowed edge. An error changes nothing.
     pub fn push_ref(&mut self, edge: EdgeRef<'_>) -> Result<(), AllocError>
         ensures more { OnOk result (self.new ≡ self.old ++ lent edge.entry ∷ []) }
         ensures refused { OnErr result (self.new ≡ self.old) }
@@ -182,14 +182,14 @@ impl Edges {
         Ok(())
     }
 
-    /// How many edges there are.
+    /// Returns the number of edges.
     pub fn len(&self) -> usize
         ensures { result ≡ length self.now }
     {
         self.heads.len()
     }
 
-    /// The edge of this number, counted from 0, where there are as many.
+    /// Returns edge `number`, counted from 0. Returns None if there is no such edge.
     pub fn get(&self, number: usize) -> Option<EdgeRef<'_>>
         ensures { option_map lent result ≡ slice_get self.now number }
     {
@@ -199,7 +199,7 @@ impl Edges {
         Some(self.edge(number))
     }
 
-    /// The edge of this number.
+    /// Returns edge `number`, which must exist.
     #[inline(always)]
     pub fn edge(&self, number: usize) -> EdgeRef<'_>
         requires { number < length self.now }
@@ -218,7 +218,7 @@ impl Edges {
         }
     }
 
-    /// The code of the edge of this number, where there are as many.
+    /// Returns the code of edge `number`. Returns None if there is no such edge.
     pub fn code(&self, number: usize) -> Option<CodeRef<'_>>
         ensures { option_map lent_code result ≡ option_map (λ (e : Edge). e.code) (slice_get self.now number) }
     {
@@ -229,7 +229,8 @@ impl Edges {
         Some(code_in(body, &self.opcodes, &self.operands, number))
     }
 
-    /// The body that the edge of this number shares, where it does.
+    /// Returns the number of the body that edge `number` shares. Returns None if it shares none or does not
+    /// exist.
     pub(crate) fn shared_body(&self, number: usize) -> Option<u32>
         ensures { result ≡ shared_body (code_at self.now number) }
     {
@@ -239,7 +240,7 @@ impl Edges {
         self.heads[number].body
     }
 
-    /// The operand of this rank of an edge that shares a body, 0 where it has fewer.
+    /// Returns the operand with this rank of an edge that shares a body, or 0 if it has fewer operands.
     pub(crate) fn operand(&self, number: usize, rank: usize) -> u32
         requires { is_some (shared_body (code_at self.now number)) ≡ true }
         ensures { result ≡ get_or (shared_operands (code_at self.now number)) rank 0 }
@@ -247,7 +248,7 @@ impl Edges {
         number_at(self.operands.row(number), rank)
     }
 
-    /// The rank of the edge of this number, where there are as many.
+    /// Returns the rank of edge `number`. Returns None if there is no such edge.
     pub fn rank(&self, number: usize) -> Option<u32>
         ensures { result ≡ option_map (λ (e : Edge). e.rank) (slice_get self.now number) }
     {
@@ -257,7 +258,7 @@ impl Edges {
         Some(self.heads[number].rank)
     }
 
-    /// The edges that the edge of this number waits for, where there are as many.
+    /// Returns the edges that edge `number` waits for. Returns None if there is no such edge.
     pub fn waits(&self, number: usize) -> Option<&[u32]>
         ensures { option_map (λ w. w.now) result ≡ option_map (λ (e : Edge). e.waits) (slice_get self.now number) }
     {

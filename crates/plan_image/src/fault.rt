@@ -1,4 +1,4 @@
-//! Why an image is refused.
+//! The reasons why an image is refused.
 
 ghost use Rattle.std.specs.Prelude.{◌≡◌};
 ghost use Rattle.plan_image.specs.declared.fault.ImageFault.TheVariants.{Memory};
@@ -7,34 +7,37 @@ ghost use Rattle.plan_image.specs.Faults.{number_of, offset_of};
 use plan_text::Memory;
 use std::alloc::AllocError;
 
-/// Why bytes or tables are refused. An offset counts bytes from 0. Of several faults the one that a reader from left to
-/// right meets first is answered. Tables that were not read have no bytes: there the offset is 0.
+/// The reason why bytes or tables are refused. An offset counts bytes from 0. If there are several faults, the
+/// first one that a reader meets from left to right is returned. If tables are refused that were not read from
+/// bytes, the offset is 0.
 #[derive(Clone, Copy, Debug, PartialEq, Eq)]
 pub enum ImageFault {
-    /// The bytes don't begin with `PLANIMG`. At 0.
+    /// The bytes don't begin with `PLANIMG`. The offset is 0.
     BadMagic(u64),
-    /// The version is neither 1 nor 2. The offset of its byte, 7.
+    /// The version is neither 1 nor 2. Holds the offset of its byte, 7.
     BadVersion(u64),
-    /// The bytes end early. Their length.
+    /// The bytes end too early. Holds their length.
     Truncated(u64),
-    /// Bytes behind the last default. The offset of the first.
+    /// Bytes follow the last default. Holds the offset of the first of them.
     Trailing(u64),
-    /// A byte that is no sort, kind, opcode or flag. Its offset.
+    /// A byte is not a valid sort, kind, opcode or flag. Holds its offset.
     BadTag(u64),
-    /// A count, length, depth or number above its limit. The offset of its field; 0 for more than 268,435,456 bytes.
+    /// A count, length, depth or number is above its limit. Holds the offset of its field, or 0 if there are
+    /// more than 268,435,456 bytes.
     Limit(u64),
-    /// Memory ran out. It says nothing of the image.
+    /// Memory ran out. This fault does not depend on the image.
     Memory,
-    /// A wait or a default that isn't above the one before it. Its offset.
+    /// A wait or a default is not greater than the one before it. Holds its offset.
     BadOrder(u64),
-    /// An edge names a body that is not there. The offset of its number. Of tables: also code of the other version's
-    /// form, and more or fewer operands than the body has open instructions.
+    /// An edge names a body that doesn't exist. Holds the offset of the body's number. If tables are refused,
+    /// this also means code in the form of the other version, or a different number of operands than the body
+    /// has open instructions.
     BadBody(u64),
 }
 
 impl ImageFault {
-    /// The number under which a program prints the fault, 60 to 68 in the order of the variants. This project's own
-    /// choice.
+    /// Returns the number that a program prints for the fault, from 60 to 68 in the order of the variants. The
+    /// numbers are this project's own choice.
     pub fn number(&self) -> u8
         ensures { result ≡ number_of self.now }
     {
@@ -51,7 +54,7 @@ impl ImageFault {
         }
     }
 
-    /// The offset at fault; none for want of memory.
+    /// Returns the offset of the fault. Returns None for `Memory`.
     pub fn offset(&self) -> Option<u64>
         ensures { result ≡ offset_of self.now }
     {
@@ -85,7 +88,7 @@ impl From<AllocError> for ImageFault {
     }
 }
 
-/// What is wrong with bytes, wherever it stands.
+/// The kind of a fault, without its offset.
 #[derive(Clone, Copy, Debug, PartialEq, Eq)]
 pub(crate) enum Cause {
     BadMagic,
@@ -99,7 +102,7 @@ pub(crate) enum Cause {
 }
 
 impl Cause {
-    /// The fault with this cause at an offset.
+    /// Returns the fault with this cause at an offset.
     pub(crate) fn at(self, offset: u64) -> ImageFault
         ensures { result ≡ Rattle.plan_image.specs.Faults.fault_at self offset }
     {

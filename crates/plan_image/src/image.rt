@@ -8,7 +8,8 @@ ghost use Rattle.plan_image.specs.Columns.{code_at, lent_code, shared_body};
 ghost use Rattle.plan_image.specs.Spelling.{HasSpelling, IsPrefixFree};
 
 use crate::body::{Body, with_number};
-use crate::edge_ref::CodeRef;
+use crate::code_view::{CodeView, Members};
+use crate::edge_ref::{CodeRef, InstrsRef};
 use crate::edges::Edges;
 use crate::fault::ImageFault;
 use crate::instr::{BodyInstr, Instr, Kind};
@@ -19,16 +20,17 @@ use std::marker::Model;
 /// The most bytes of an image: 256 MiB.
 pub const MAX_IMAGE: usize = 268_435_456;
 
-/// What an edge is.
+/// The sort of an edge.
 #[derive(Clone, Copy, Debug, PartialEq, Eq)]
 pub enum Sort {
-    /// It has a command.
+    /// An edge that has a command.
     Command,
-    /// It only waits.
+    /// An edge that only waits for others.
     Phony,
 }
 
-/// A pool: its name, at most 65,535 bytes, and how many edges may hold a place of it, at most 1,000,000.
+/// A pool: its name of at most 65,535 bytes, and its depth, which is the number of edges that may run in it at
+/// once, at most 1,000,000.
 #[derive(Debug, Drop)]
 pub struct Pool {
     pub name: Items<u8>,
@@ -42,8 +44,9 @@ pub struct Slot {
     pub kind: Kind,
 }
 
-/// An edge: its pool's number, its rank, its label (a text's number), the files that it makes (its name first), the
-/// edges that it waits for (ascending), and its code. An image says nothing of what the numbers lead to.
+/// An edge: the number of its pool, its rank, its label (the number of a text), the files that it creates (the
+/// first one gives the edge its name), the edges that it waits for (in ascending order), and its code. An image
+/// does not guarantee that the numbers exist in their tables.
 #[derive(Debug, Drop)]
 pub struct Edge {
     pub sort: Sort,
@@ -58,9 +61,9 @@ pub struct Edge {
 /// The instructions of an edge, in the form of the image's version.
 #[derive(Debug, Drop)]
 pub enum EdgeCode {
-    /// Version 1: its own.
+    /// Version 1: its own instructions.
     Own(Items<Instr>),
-    /// Version 2: a body by its number, and an operand for each open instruction of it.
+    /// Version 2: the number of a body, and an operand for each of its open instructions.
     Shared(u32, Items<u32>),
 }
 
@@ -73,14 +76,14 @@ pub enum Version {
     Two,
 }
 
-/// The tables of an image; items are named by their places, from 0. docs/rules/image.md has their limits.
+/// The tables of an image. Items are numbered by their index, from 0. docs/rules/image.md lists their limits.
 #[derive(Debug, Drop)]
 pub struct Parts {
     pub texts: RowList<u8>,
     pub files: RowList<u8>,
     pub pools: Items<Pool>,
     pub slots: Items<Slot>,
-    /// The bodies that edges share, where the version is two.
+    /// The bodies that edges share, if the version is two.
     pub bodies: Option<Items<Body>>,
     pub edges: Edges,
     pub defaults: Items<u32>,
@@ -90,7 +93,7 @@ impl Parts {
     ghost use Rattle.std.specs.Prelude.{◌≡◌};
     ghost use Rattle.plan_image.specs.Spelling.{version_of};
 
-    /// The version: two where there is a table of bodies.
+    /// Returns the version: two if there is a table of bodies, and else one.
     pub fn version(&self) -> Version
         ensures { result ≡ version_of self.now.bodies }
     {
@@ -101,7 +104,7 @@ impl Parts {
     }
 }
 
-/// The number of instructions that an edge's code stands for.
+/// Returns the number of instructions of an edge's code, after a body is filled in.
 pub(crate) fn instr_count(bodies: &Option<Items<Body>>, code: CodeRef<'_>) -> usize
     ensures { result ≡ length (instrs_of bodies.now (lent_code code.entry)) }
 {
@@ -123,7 +126,7 @@ fn filled_len(bodies: &Option<Items<Body>>, number: u32, numbers: &[u32]) -> usi
     }
 }
 
-/// The instruction at a place of a code of its own.
+/// Returns the instruction at a place of a code that shares no body.
 fn own_instr(code: CodeRef<'_>, place: usize) -> Option<Instr>
     requires { shared_body (Some (lent_code code)) ≡ None }
     ensures { (bodies : Option (List (List BodyInstr))) → result ≡ slice_get (instrs_of bodies (lent_code code.entry)) place }
@@ -134,7 +137,7 @@ fn own_instr(code: CodeRef<'_>, place: usize) -> Option<Instr>
     }
 }
 
-/// The body of this number, where there are as many.
+/// Returns body `number`. Returns None if there is no such body.
 fn body_at(bodies: &Option<Items<Body>>, number: u32) -> Option<&Body>
     ensures there { IfSome result (λ b. b.now ≡ body bodies.now number) }
     ensures none { IfNone result (body bodies.now number ≡ []) }
@@ -145,8 +148,42 @@ fn body_at(bodies: &Option<Items<Body>>, number: u32) -> Option<&Body>
     }
 }
 
-/// Tables that have a spelling: within all limits, in order, each code of the version's form. A contract sees the
-/// tables.
+/// Returns a view of the instructions of an edge's code.
+fn view_of<'a>(bodies: &'a Option<Items<Body>>, code: CodeRef<'a>) -> CodeView<'a>
+    ensures { result ≡ instrs_of bodies.now (lent_code code.entry) }
+{
+    match code {
+        CodeRef::Own(instrs) => CodeView::new(Members::Own(instrs)),
+        CodeRef::Shared(number, operands) => shared_view(bodies, number, operands),
+    }
+}
+
+/// Returns a view of the instructions of an edge that shares a body.
+fn shared_view<'a>(
+    bodies: &'a Option<Items<Body>>,
+    number: u32,
+    operands: &'a [u32],
+) -> CodeView<'a>
+    ensures { result ≡ with_operands (body bodies.now number) operands.now }
+{
+    match body_at(bodies, number) {
+        None => no_code(),
+        Some(body) => CodeView::new(Members::Shared(body, operands)),
+    }
+}
+
+/// Returns a view without instructions.
+fn no_code<'a>() -> CodeView<'a>
+    ensures { result ≡ [] }
+{
+    CodeView::new(Members::Own(InstrsRef {
+        opcodes: &[],
+        operands: &[],
+    }))
+}
+
+/// Tables that have a spelling: they are within all limits and in order, and each code has the form of the
+/// version. A contract sees the tables.
 #[derive(Debug, Drop)]
 pub struct Image {
     parts: Parts,
@@ -165,14 +202,18 @@ impl Model for Image {
 }
 
 impl Image {
-    ghost use Rattle.std.specs.Prelude.{◌≡◌, IsTrue, ◌↔◌, IfOk, IfErr, Some, length, slice_get};
+    ghost use Rattle.std.specs.Prelude.{◌≡◌, IsTrue, ◌↔◌, IfOk, IfErr, Some, slice_get};
     ghost use Rattle.plan_image.specs.Refusal.{IsPartsFault};
     ghost use Rattle.plan_image.specs.Spelling.{HasSpelling, IsWithinLimits, spelling};
     ghost use Rattle.plan_image.specs.Code.{code};
     ghost use Rattle.plan_image.specs.Columns.{code_at, shared_body};
 
-    /// The image of these tables; else the tables back, and why: `Limit` before `BadOrder` before `BadBody`, all at 0.
-    /// It takes no memory.
+    /// Creates an image from tables. It takes no memory.
+    ///
+    /// # Errors
+    ///
+    /// Returns the tables and a fault with offset 0. `Limit` comes before `BadOrder`, and `BadOrder` before
+    /// `BadBody`.
     pub fn new(parts: Parts) -> Result<Image, (Parts, ImageFault)>
         ensures made { IfOk result (λ i. i ≡ parts) }
         ensures back { IfErr result (λ e. e.0 ≡ parts) }
@@ -190,7 +231,7 @@ impl Image {
         Ok(Image::with_spelling(parts))
     }
 
-    /// The tables.
+    /// Borrows the tables.
     pub fn parts(&self) -> &Parts
         ensures tables { result.now ≡ self.now }
         ensures spelled { HasSpelling self.now }
@@ -198,7 +239,7 @@ impl Image {
         &self.parts
     }
 
-    /// The tables, given back.
+    /// Returns the tables.
     pub fn into_parts(self) -> Parts
         ensures tables { result ≡ self }
         ensures spelled { HasSpelling self }
@@ -206,18 +247,20 @@ impl Image {
         self.parts
     }
 
-    /// The number of instructions of an edge, 0 where the edge is outside.
-    pub fn code_len(&self, edge: u32) -> usize
-        ensures { result ≡ length (code self.now edge) }
+    /// Returns a view of the code of an edge, for reading its instructions one by one. If there is no such
+    /// edge, the view is empty.
+    pub fn edge_code(&self, edge: u32) -> CodeView<'_>
+        ensures { result ≡ code self.now edge }
     {
         match self.parts.edges.code(edge as usize) {
-            Some(code) => instr_count(&self.parts.bodies, code),
-            None => 0,
+            Some(code) => view_of(&self.parts.bodies, code),
+            None => no_code(),
         }
     }
 
-    /// The instruction at a place of an edge's code, where there is one. Only an open instruction of a body costs a look at
-    /// the edge's operands.
+    /// Returns the instruction at a place of an edge's code. Returns None if there is no such instruction. The
+    /// operands of the edge are read only if the instruction is an open one of a body. To read several
+    /// instructions of one edge, use `edge_code`.
     pub fn instr(&self, edge: u32, place: u32) -> Option<Instr>
         ensures { result ≡ slice_get (code self.now edge) place }
     {
@@ -230,7 +273,7 @@ impl Image {
         }
     }
 
-    /// The instruction at a place of an edge that shares this body.
+    /// Returns the instruction at a place of an edge that shares this body.
     fn shared_instr(&self, edge: u32, body: u32, place: u32) -> Option<Instr>
         requires { shared_body (code_at self.now.edges edge) ≡ Some body }
         ensures { result ≡ slice_get (code self.now edge) place }
@@ -247,7 +290,7 @@ impl Image {
         }
     }
 
-    /// The image of these tables.
+    /// Creates an image from tables that have a spelling.
     pub(crate) fn with_spelling(parts: Parts) -> Image
         requires { HasSpelling parts }
         ensures { result ≡ parts }
@@ -256,7 +299,7 @@ impl Image {
     }
 }
 
-/// No spelling of an image begins another.
+/// States that no spelling of an image is a prefix of another one.
 pub fn image_law()
     ensures { IsPrefixFree }
 {}

@@ -1,18 +1,23 @@
-//! Images: the tables of a build plan and the code of its edges, in bytes and as text.
+//! Images: the tables of a build plan and the code of its edges, as bytes and as text.
 //!
-//! - `read_image`: the image that bytes spell, or their first fault; `print_image`: its bytes, printed; `listing`: its text.
-//! - `Image`: tables that have a spelling; `Parts`, `Edge`, `EdgeCode`, `Pool`, `Slot`, `Sort`, `Version`: the tables.
-//!   `MAX_IMAGE`: the most bytes of an image. `Edges`: the table of edges, in columns; `EdgeRef`, `CodeRef`, `InstrsRef`: what it lends.
-//! - `Instr`, `Kind`: the instructions of an edge, and the kinds of their values. `Body`, `BodyInstr`, `Opening`:
-//!   bodies that edges share; `split`: the body of a code, and its operands.
-//! - `edge_of`: the edge that makes a path.
-//! - `ImageFault`: why bytes or tables are refused, with the offset; `WriteFault`: a write failed.
-//! - `image_law`, `split_law`: what holds of all images and bodies, for the proofs of the crates above.
+//! - `read_image` reads an image from bytes or returns their first fault. `print_image` writes the bytes of an
+//!   image, and `listing` writes its text.
+//! - `Image` holds tables that have a spelling. `Parts`, `Edge`, `EdgeCode`, `Pool`, `Slot`, `Sort` and
+//!   `Version` are the tables and their items. `MAX_IMAGE` is the most bytes of an image. `Edges` is the table
+//!   of edges, stored in columns, from which `EdgeRef`, `CodeRef` and `InstrsRef` borrow. `CodeView` is the
+//!   code of one edge, in either version.
+//! - `Instr` and `Kind` are the instructions of an edge and the kinds of their values. `Body`, `BodyInstr` and
+//!   `Opening` are bodies that edges share. `split` returns the body of a code and its operands.
+//! - `edge_of` finds the edge that creates a path.
+//! - `ImageFault` is the reason why bytes or tables are refused, with the offset. `WriteFault` is a failed
+//!   write.
+//! - `image_law` and `split_law` are laws about all images and bodies, for the proofs of the crates above.
 //!
-//! The format is this project's own choice; docs/rules/image.md has it rule by rule.
+//! The format is this project's own choice. docs/rules/image.md lists its rules.
 #![tactic(auto)]
 
 mod body;
+mod code_view;
 mod edge_ref;
 mod edges;
 mod fault;
@@ -27,6 +32,7 @@ mod sizes;
 mod writing;
 
 pub use body::{Body, split, split_law};
+pub use code_view::CodeView;
 pub use edge_ref::{CodeRef, EdgeRef, InstrsRef};
 pub use edges::Edges;
 pub use fault::ImageFault;

@@ -1,4 +1,4 @@
-//! Whether tables have a spelling.
+//! Tests whether tables have a spelling.
 
 ghost use Rattle.std.specs.Prelude.{◌≡◌, ◌<◌, ◌≤◌, ◌^◌, ◌+◌, ◌↔◌, IsTrue, length};
 ghost use Rattle.std.specs.Prelude.{Option, Some, None, IfSome, IsSome};
@@ -16,7 +16,7 @@ use crate::instr::{BodyInstr, Instr};
 use crate::sizes::parts_room;
 use plan_text::{Items, RowList};
 
-/// What must hold of each item of a list.
+/// A condition on each item of a list.
 trait Test {
     ghost use Rattle.std.specs.Prelude.{IsTrue, ◌↔◌};
 
@@ -54,7 +54,7 @@ impl Test for WordTest {
     }
 }
 
-/// What must hold of each text of a table.
+/// A condition on each text of a table.
 trait RowTest {
     ghost use Rattle.std.specs.Prelude.{List, ℕ, IsTrue, ◌↔◌};
 
@@ -183,7 +183,7 @@ fn shared_fits(_number: u32, numbers: &[u32]) -> bool
     all::<WordTest>(numbers)
 }
 
-/// Whether the number of an instruction can't be left open.
+/// Returns whether the number of an instruction can't be left open.
 fn is_closed(instr: Instr) -> bool
     ensures { IsTrue result ↔ (opening_of instr ≡ None) }
 {
@@ -225,7 +225,7 @@ impl Test for BodyTest {
     }
 }
 
-/// Whether the bodies have at most so many instructions.
+/// Returns whether the bodies have at most `most` instructions in all.
 fn bodies_within(bodies: &[Body], most: u64) -> bool
     ensures { IsTrue result ↔ (body_instructions bodies.now ≤ most) }
 {
@@ -256,7 +256,7 @@ fn bodies_fit(bodies: &Option<Items<Body>>) -> bool
     }
 }
 
-/// How many instructions the edges may have.
+/// Returns the most instructions that the edges may have in all.
 pub(crate) fn most_code(bodies: &Option<Items<Body>>) -> u64
     ensures { result ≡ Rattle.plan_image.specs.Spelling.most_code bodies.now }
 {
@@ -266,7 +266,7 @@ pub(crate) fn most_code(bodies: &Option<Items<Body>>) -> u64
     }
 }
 
-/// Whether the code has the form of the version, and a number for each open instruction.
+/// Returns whether the code has the form of the version, and a number for each open instruction.
 fn has_body(bodies: &Option<Items<Body>>, code: CodeRef<'_>) -> bool
     ensures { IsTrue result ↔ HasBody bodies.now (lent_code code.entry) }
 {
@@ -317,7 +317,7 @@ fn pool_fits(pool: Option<u32>) -> bool
     }
 }
 
-/// What must hold of each edge.
+/// A condition on each edge.
 trait EdgeTest {
     ghost use Rattle.std.specs.Prelude.{IsTrue, ◌↔◌};
     ghost use Rattle.plan_image.specs.declared.image.Edge.{Edge};
@@ -357,7 +357,7 @@ impl EdgeTest for FitTest {
     }
 }
 
-/// Whether so many numbers stand each above the one before.
+/// Returns whether each number is greater than the one before it.
 fn ascends(items: &[u32]) -> bool
     ensures { IsTrue result ↔ AscendsFrom 0 items.now }
 {
@@ -389,7 +389,7 @@ pub(crate) fn is_in_order(parts: &Parts) -> bool
     all_edges::<OrderTest>(&parts.edges) && ascends(parts.defaults.as_slice())
 }
 
-/// Whether the edges have at most so many instructions.
+/// Returns whether the edges have at most `most` instructions in all.
 fn instructions_within(bodies: &Option<Items<Body>>, edges: &Edges, most: u64) -> bool
     ensures { IsTrue result ↔ (instructions bodies.now edges.now ≤ most) }
 {
@@ -403,7 +403,7 @@ fn instructions_within(bodies: &Option<Items<Body>>, edges: &Edges, most: u64) -
     true
 }
 
-/// Whether each table has no more items than it may have.
+/// Returns whether no table has more items than its limit.
 fn counts_fit(parts: &Parts) -> bool
     ensures { IsTrue result ↔ CountsFit parts.now }
 {
@@ -414,7 +414,7 @@ fn counts_fit(parts: &Parts) -> bool
         && parts.edges.len() <= 1_048_576
 }
 
-/// Whether each item fits.
+/// Returns whether the lengths and numbers of each item fit their fields and limits.
 fn items_fit(parts: &Parts) -> bool
     ensures { IsTrue result ↔ ItemsFit parts.now }
 {
@@ -426,14 +426,14 @@ fn items_fit(parts: &Parts) -> bool
         && are_words(parts.defaults.as_slice())
 }
 
-/// Whether the spelling has no more bytes than an image may have.
+/// Returns whether the spelling has at most as many bytes as an image may have.
 fn is_spelling_within(parts: &Parts) -> bool
     ensures { IsTrue result ↔ (length (spelling parts.now) ≤ 268435456) }
 {
     parts_room(parts, MAX_IMAGE as u64).is_some()
 }
 
-/// Whether no limit is passed but that of the bytes.
+/// Returns whether the tables are within all limits except that on the bytes of the spelling.
 fn are_tables_within(parts: &Parts) -> bool
     ensures { IsTrue result ↔ CountsFit parts.now × ItemsFit parts.now × IfSome parts.now.bodies BodiesFit × (instructions parts.now.bodies parts.now.edges ≤ Rattle.plan_image.specs.Spelling.most_code parts.now.bodies) }
 {
@@ -443,7 +443,7 @@ fn are_tables_within(parts: &Parts) -> bool
         && instructions_within(&parts.bodies, &parts.edges, most_code(&parts.bodies))
 }
 
-/// Whether no limit is passed.
+/// Returns whether the tables are within all limits.
 pub(crate) fn is_within_limits(parts: &Parts) -> bool
     ensures { IsTrue result ↔ IsWithinLimits parts.now }
 {

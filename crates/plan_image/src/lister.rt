@@ -1,4 +1,4 @@
-//! An image as text.
+//! Writes an image as text.
 
 ghost use Rattle.std.specs.Prelude.{is_ok};
 ghost use Rattle.plan_text.specs.Sinks.{Writes};
@@ -19,7 +19,7 @@ use crate::lister::value::Members;
 pub use part::WriteFault;
 use plan_text::{Items, RowList, Sink};
 
-/// The texts of a table behind their word.
+/// A word and a table of texts, one line for each text.
 #[derive(Drop)]
 struct Texts<'a>(&'a [u8], &'a RowList<u8>);
 
@@ -33,7 +33,7 @@ impl<'a> Part for Texts<'a> {
     }
 }
 
-/// The bodies, where there is a table of them.
+/// The bodies, if there is a table of them.
 #[derive(Drop)]
 struct Bodies<'a>(&'a Option<Items<Body>>);
 
@@ -50,7 +50,7 @@ impl<'a> Part for Bodies<'a> {
     }
 }
 
-/// The edges.
+/// All edges.
 #[derive(Drop)]
 struct EachEdge<'a>(&'a Edges);
 
@@ -64,8 +64,12 @@ impl<'a> Part for EachEdge<'a> {
     }
 }
 
-/// Writes an image as text, one line an item, in the order of the image. At the first failed write it stops, and the
-/// sink took the bytes in front of it. It holds no more of the text than a number.
+/// Writes an image as text, one line for each item, in the order of the image. Takes no memory for the text
+/// except the digits of one number.
+///
+/// # Errors
+///
+/// Stops at the first failed write. The sink then has taken the bytes before it.
 pub fn listing<W: Sink>(image: &Image, out: &mut W) -> Result<(), WriteFault>
     ensures { Writes (is_ok result) (W.failures out.old, W.taken out.old) (W.failures out.new, W.taken out.new) (listing_of image.now) }
 {

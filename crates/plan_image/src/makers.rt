@@ -1,4 +1,4 @@
-//! Which edge makes a path.
+//! Finds the edge that creates a path.
 
 ghost use Rattle.std.specs.Prelude.{◌≡◌};
 ghost use Rattle.plan_image.specs.Columns.{lent};
@@ -27,7 +27,7 @@ fn makes(parts: &Parts, path: &[u8], edge: EdgeRef<'_>) -> bool
     false
 }
 
-/// The least edge that has this path among its outputs, by one look at each output.
+/// Returns the first edge that has this path among its outputs. Compares the path with each output in turn.
 pub fn edge_of(image: &Image, path: &[u8]) -> Option<u32>
     ensures { result ≡ first_maker image.now path.now 0 image.now.edges }
 {

@@ -1,4 +1,4 @@
-//! An instruction as two numbers: its opcode and its operand.
+//! Converts instructions to pairs of an opcode and an operand.
 
 ghost use Rattle.std.specs.Prelude.{◌≡◌, ◌+◌, ◌++◌, ◌∷◌, [], OnOk, length};
 ghost use Rattle.plan_image.specs.Columns;
@@ -6,7 +6,7 @@ ghost use Rattle.plan_image.specs.Columns;
 use crate::instr::Instr;
 use std::alloc::AllocError;
 
-/// The instruction of an opcode, with this operand; of `Flag` it is 1 for true.
+/// Returns the instruction of an opcode with this operand. The operand of `Flag` is 1 for true.
 pub(crate) const fn instr_by(opcode: u8, operand: u32) -> Instr
     ensures { result ≡ Columns.instr_by opcode operand }
 {
@@ -43,7 +43,7 @@ pub(crate) const fn instr_by(opcode: u8, operand: u32) -> Instr
     }
 }
 
-/// The opcode of an instruction, and its operand; 0 where it has none.
+/// Returns the opcode of an instruction, and its operand, or 0 if it has none.
 pub(crate) const fn opcode_and_operand(instr: Instr) -> (u8, u32)
     ensures { Columns.instr_by result.0 result.1 ≡ instr }
 {
@@ -81,7 +81,7 @@ pub(crate) const fn opcode_and_operand(instr: Instr) -> (u8, u32)
     }
 }
 
-/// Appends an instruction to two columns.
+/// Appends an instruction to the two columns.
 pub(crate) fn push_instr(
     opcodes: &mut Vec<u8>,
     operands: &mut Vec<u32>,

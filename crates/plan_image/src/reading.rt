@@ -1,4 +1,4 @@
-//! Images, read from their bytes.
+//! Reads images from their bytes.
 
 ghost use Rattle.plan_image.specs.Reading.{read_of};
 ghost use Rattle.plan_image.specs.Spelling.{spelling, IsNoSpelling};
@@ -36,14 +36,18 @@ fn read_within_limit(alloc: Global, bytes: &[u8]) -> Result<Parts, ImageFault>
     }
 }
 
-/// The image whose spelling the bytes are, all of them, of either version; else the first fault from left to right,
-/// with its offset. However large a count is, no more is reserved than the bytes behind it can fill.
+/// Reads the image whose spelling the bytes are, in either version. The spelling must take all bytes. The
+/// reserved memory never exceeds what the bytes can fill, however large a count is.
+///
+/// # Errors
+///
+/// Returns the first fault from left to right, with its offset.
 pub fn read_image(alloc: Global, bytes: &[u8]) -> Result<Image, ImageFault>
-    // What is read is spelled so.
+    // The bytes are the spelling of the image that is returned.
     ensures read { IfOk result (λ i. spelling i ≡ bytes.now) }
-    // No image is spelled so where the bytes are refused.
+    // If the bytes are refused, they are the spelling of no image.
     ensures refused { IfErr result (λ e. e ≢ ImageFault.Memory → IsNoSpelling bytes.now) }
-    // It is the first fault, at its place.
+    // The fault is the first one, with its offset.
     ensures fault { Meets ImageFault.Memory (λ i. i) result (read_of bytes.now) }
 {
     let parts = read_within_limit(alloc, bytes)?;

@@ -1,4 +1,4 @@
-//! How much room a spelling takes.
+//! Computes the size of a spelling.
 
 ghost use Rattle.std.specs.Prelude.{◌≡◌, ◌++◌, ℕ, length};
 ghost use Rattle.std.specs.List.{flat_map};
@@ -12,7 +12,7 @@ use crate::image::{Parts, Pool, Slot};
 use crate::instr::{BodyInstr, Instr};
 use plan_text::{Items, RowList};
 
-/// What room is left behind an item.
+/// The size of an item's spelling, subtracted from the room that is left.
 trait Measured {
     ghost use Rattle.std.specs.Prelude.{List, ℕ, length};
     ghost use Rattle.plan_image.specs.Spelling.{RoomAfter};
@@ -59,7 +59,7 @@ impl Measured for Word {
     }
 }
 
-/// What room is left behind a text.
+/// The size of a text's spelling, subtracted from the room that is left.
 trait TextMeasure {
     ghost use Rattle.std.specs.Prelude.{List, ℕ, length};
     ghost use Rattle.plan_image.specs.Spelling.{RoomAfter};
@@ -202,7 +202,7 @@ fn bodies_room(bodies: &Option<Items<Body>>, room: u64) -> Option<u64>
     }
 }
 
-/// What room is left behind instructions.
+/// Returns the room that is left after instructions. Returns None if they don't fit.
 fn instrs_room(instrs: InstrsRef<'_>, room: u64) -> Option<u64>
     ensures { RoomAfter result (length (flat_map instr (lent_instrs instrs.entry))) room }
 {
@@ -248,7 +248,7 @@ fn edge_room(x: EdgeRef<'_>, room: u64) -> Option<u64>
     code_room(x.code, room)
 }
 
-/// What room is left behind edges.
+/// Returns the room that is left after edges. Returns None if they don't fit.
 fn each_edge_room(edges: &Edges, room: u64) -> Option<u64>
     ensures { RoomAfter result (length (flat_map edge edges.now)) room }
 {

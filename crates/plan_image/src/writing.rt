@@ -1,4 +1,4 @@
-//! Images, printed as their bytes.
+//! Writes images as bytes.
 
 ghost use Rattle.std.specs.Prelude.{is_ok};
 ghost use Rattle.plan_text.specs.Sinks.{Writes};
@@ -20,7 +20,7 @@ use crate::writing::part::{Bytes, Spelled, Table};
 use crate::writing::text::{Long, Short, Texts};
 use plan_text::{Sink, writes_join};
 
-/// Prints the tables in their order.
+/// Writes the tables in their order.
 fn print_parts<W: Sink>(parts: &Parts, held: &mut Vec<u8>, out: &mut W) -> Result<(), WriteFault>
     requires { HasSpelling parts.now }
     ensures { Prints (is_ok result) (held.old.items, (W.failures out.old, W.taken out.old)) (held.new.items, (W.failures out.new, W.taken out.new)) (spelling parts.now) }
@@ -35,9 +35,13 @@ fn print_parts<W: Sink>(parts: &Parts, held: &mut Vec<u8>, out: &mut W) -> Resul
     (edges, Table(parts.defaults.as_slice())).print(held, out)
 }
 
-/// Writes the one spelling of an image, in the bytes of its version. As many bytes as fit in `room` are held back in it,
-/// so that the sink gets them at once, longer texts by themselves; what stood in it is forgotten. No memory is taken. At
-/// the first failed write it stops, and the sink took the bytes in front of it.
+/// Writes the one spelling of an image, in the bytes of its version. Bytes are collected in `room` up to its
+/// capacity, so that the sink gets them in few writes. Longer texts are written by themselves. The former
+/// contents of `room` are dropped. It takes no memory.
+///
+/// # Errors
+///
+/// Stops at the first failed write. The sink then has taken the bytes before it.
 pub fn print_image<W: Sink>(
     image: &Image,
     room: &mut Vec<u8>,

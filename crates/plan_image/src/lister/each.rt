@@ -1,4 +1,4 @@
-//! What is written of each item of a list, one behind the other.
+//! Writes each item of a list.
 
 ghost use Rattle.std.specs.Prelude.{is_ok};
 ghost use Rattle.plan_text.specs.Sinks.{Writes};
@@ -8,7 +8,7 @@ use crate::lister::part::{Line, Number, Part, Spaced, Word, WriteFault};
 use crate::lister::value::Hex;
 use plan_text::{RowList, Sink, writes_join};
 
-/// What is written of an item of a list, by its number.
+/// An item of a list that can be written, given its number.
 pub(crate) trait Listed {
     ghost use Rattle.std.specs.Prelude.{List, ℕ, is_ok};
     ghost use Rattle.plan_text.specs.Sinks.{Writes};
@@ -19,7 +19,7 @@ pub(crate) trait Listed {
         ensures { Writes (is_ok result) (W.failures out.old, W.taken out.old) (W.failures out.new, W.taken out.new) (lines number self.now) };
 }
 
-/// All items, by their numbers from 0.
+/// All items of a list, numbered from 0.
 #[derive(Drop)]
 pub(crate) struct Each<'a, T>(pub &'a [T]);
 
@@ -43,7 +43,7 @@ fn write_items<T: Listed, W: Sink>(items: &[T], out: &mut W) -> Result<(), Write
     Ok(())
 }
 
-/// Writes a line for each text of a table: a word, the number, the bytes.
+/// Writes a line for each text of a table: a word, the number, and the bytes.
 pub(crate) fn write_texts<W: Sink>(
     word: &[u8],
     texts: &RowList<u8>,

@@ -1,4 +1,4 @@
-//! The lines of a listing.
+//! Writes the lines of a listing.
 
 ghost use Rattle.std.specs.Prelude.{is_ok};
 ghost use Rattle.plan_text.specs.Sinks.{Writes};
@@ -43,7 +43,7 @@ impl Listed for Slot {
     }
 }
 
-/// Writes an instruction's place, name and operand.
+/// Writes the place, the name and the operand of an instruction.
 fn write_instr<W: Sink>(place: usize, instr: Instr, out: &mut W) -> Result<(), WriteFault>
     ensures { Writes (is_ok result) (W.failures out.old, W.taken out.old) (W.failures out.new, W.taken out.new) (instr_line place instr) }
 {
@@ -58,7 +58,7 @@ fn write_open<W: Sink>(place: usize, opening: Opening, out: &mut W) -> Result<()
     (Word(b"  "), Line(Spaced(Number(place as u64), name))).write(out)
 }
 
-/// The same of an instruction of a body, `_` for an open operand.
+/// An instruction of a body: its place, its name and its operand, or `_` if the operand is open.
 impl Listed for BodyInstr {
     ghost use Rattle.plan_image.specs.Listing.{body_instr_line};
 
@@ -105,7 +105,7 @@ pub(crate) fn write_edge<W: Sink>(
     (head, Code(edge.code)).write(out)
 }
 
-/// What an edge line ends with, and the lines below it.
+/// The end of an edge's line, and the lines below it.
 #[derive(Drop)]
 struct Code<'a>(CodeRef<'a>);
 

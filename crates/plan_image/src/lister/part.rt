@@ -1,11 +1,11 @@
-//! Parts of a text, written to a sink one behind the other.
+//! Parts of a text that are written to a sink.
 
 ghost use Rattle.std.specs.Prelude.{◌∷◌, is_ok};
 ghost use Rattle.plan_text.specs.Sinks.{Writes};
 
 use plan_text::{Sink, SinkFault, write_all, writes_join};
 
-/// A write failed.
+/// A failed write.
 #[derive(Clone, Copy, Debug, PartialEq, Eq)]
 pub struct WriteFault;
 
@@ -15,19 +15,19 @@ impl From<SinkFault> for WriteFault {
     }
 }
 
-/// What has a text.
+/// A part that has a text.
 pub(crate) trait Part {
     ghost use Rattle.std.specs.Prelude.{List, ℕ, is_ok};
     ghost use Rattle.plan_text.specs.Sinks.{Writes};
 
     ghost text: { Self → List ℕ };
 
-    /// Writes the text. At the first failed write it stops, and the sink took the bytes in front of it.
+    /// Writes the text. Stops at the first failed write, and the sink then has taken the bytes before it.
     fn write<W: Sink>(&self, out: &mut W) -> Result<(), WriteFault>
         ensures { Writes (is_ok result) (W.failures out.old, W.taken out.old) (W.failures out.new, W.taken out.new) (text self.now) };
 }
 
-/// Bytes as they stand.
+/// Bytes that are written unchanged.
 #[derive(Drop)]
 pub(crate) struct Word<'a>(pub &'a [u8]);
 
@@ -56,7 +56,7 @@ impl Part for Number {
     }
 }
 
-/// A part behind another.
+/// One part followed by another.
 impl<A: Part, B: Part> Part for (A, B) {
     ghost use Rattle.std.specs.Prelude.{◌++◌};
 
@@ -69,7 +69,7 @@ impl<A: Part, B: Part> Part for (A, B) {
     }
 }
 
-/// A part behind another, with a space between.
+/// Two parts, separated by a space.
 #[derive(Drop)]
 pub(crate) struct Spaced<A, B>(pub A, pub B);
 
@@ -85,7 +85,7 @@ impl<A: Part, B: Part> Part for Spaced<A, B> {
     }
 }
 
-/// Writes a space and a part.
+/// Writes a space and then a part.
 pub(crate) fn write_behind_space<A: Part, W: Sink>(part: &A, out: &mut W) -> Result<(), WriteFault>
     ensures { Writes (is_ok result) (W.failures out.old, W.taken out.old) (W.failures out.new, W.taken out.new) (32 ∷ A.text part.now) }
 {

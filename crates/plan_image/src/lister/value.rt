@@ -1,4 +1,4 @@
-//! Parts of a listing: bytes, numbers, names.
+//! Parts of a listing: bytes, numbers and names.
 
 ghost use Rattle.std.specs.Prelude.{◌≡◌, ◌<◌, ◌∷◌, false, is_ok};
 ghost use Rattle.std.specs.Fmt.{digit_glyph};
@@ -11,7 +11,7 @@ use crate::lister::each::{Each, Listed};
 use crate::lister::part::{Number, Part, Word, WriteFault, write_behind_space};
 use plan_text::{Sink, write_all};
 
-/// Bytes in hexadecimal digits; a dash where there is none.
+/// Bytes in hexadecimal digits, or a dash if there are none.
 #[derive(Drop)]
 pub(crate) struct Hex<'a>(pub &'a [u8]);
 
@@ -28,14 +28,14 @@ impl<'a> Part for Hex<'a> {
     }
 }
 
-/// Writes the digits of a byte, and of the others.
+/// Writes the digits of a byte, and then those of the others.
 fn write_hex<W: Sink>(first: u8, rest: &[u8], out: &mut W) -> Result<(), WriteFault>
     ensures { Writes (is_ok result) (W.failures out.old, W.taken out.old) (W.failures out.new, W.taken out.new) (Rattle.plan_image.specs.Listing.hex (first ∷ rest.now)) }
 {
     (Digits(first), Each(rest)).write(out)
 }
 
-/// The digits of one byte.
+/// The two digits of one byte.
 #[derive(Drop)]
 struct Digits(u8);
 
@@ -50,7 +50,7 @@ impl Part for Digits {
     }
 }
 
-/// The digits of a byte.
+/// The two digits of a byte.
 impl Listed for u8 {
     ghost use Rattle.plan_image.specs.Listing.{hex_byte};
 
@@ -61,7 +61,7 @@ impl Listed for u8 {
     }
 }
 
-/// A digit below 16.
+/// Returns the hexadecimal digit of a number below 16.
 const fn digit(n: u8) -> u8
     requires { n < 16 }
     ensures { result ≡ digit_glyph false n }
@@ -69,7 +69,7 @@ const fn digit(n: u8) -> u8
     if n < 10 { 48 + n } else { 87 + n }
 }
 
-/// Numbers with a space between each two; a dash where there is none.
+/// Numbers, separated by spaces, or a dash if there are none.
 #[derive(Drop)]
 pub(crate) struct Members<'a>(pub &'a [u32]);
 
@@ -86,14 +86,14 @@ impl<'a> Part for Members<'a> {
     }
 }
 
-/// Writes a number, and the others, each behind a space.
+/// Writes a number, and then the others, each after a space.
 fn write_members<W: Sink>(first: u32, rest: &[u32], out: &mut W) -> Result<(), WriteFault>
     ensures { Writes (is_ok result) (W.failures out.old, W.taken out.old) (W.failures out.new, W.taken out.new) (Rattle.plan_image.specs.Listing.members (first ∷ rest.now)) }
 {
     (Number(u64::from(first)), Each(rest)).write(out)
 }
 
-/// A number behind a space.
+/// A number after a space.
 impl Listed for u32 {
     ghost use Rattle.std.specs.Prelude.{◌∷◌};
     ghost use Rattle.std.specs.Fmt.{decimal};
@@ -105,7 +105,7 @@ impl Listed for u32 {
     }
 }
 
-/// A pool's number; a dash where there is none.
+/// The number of a pool, or a dash if there is none.
 #[derive(Drop)]
 pub(crate) struct PoolNumber(pub Option<u32>);
 
@@ -122,7 +122,7 @@ impl Part for PoolNumber {
     }
 }
 
-/// An operand behind a space, where there is one.
+/// An operand after a space, or nothing if there is none.
 #[derive(Drop)]
 pub(crate) struct Operand(pub Option<u32>);
 
@@ -139,7 +139,7 @@ impl Part for Operand {
     }
 }
 
-/// The number behind an instruction's name.
+/// Returns the number after an instruction's name. Returns None if the instruction has none.
 pub(crate) const fn operand_of(instr: Instr) -> Option<u32>
     ensures { result ≡ operand_number instr }
 {
@@ -157,7 +157,7 @@ pub(crate) const fn operand_of(instr: Instr) -> Option<u32>
     }
 }
 
-/// The name of an instruction.
+/// Returns the name of an instruction.
 pub(crate) fn name_of(instr: Instr) -> &'static [u8]
     ensures { result.now ≡ name instr }
 {
@@ -194,7 +194,7 @@ pub(crate) fn name_of(instr: Instr) -> &'static [u8]
     }
 }
 
-/// The word for a sort of edges.
+/// Returns the word for a sort of edges.
 pub(crate) fn word_of(sort: Sort) -> &'static [u8]
     ensures { result.now ≡ sort_word sort }
 {
@@ -204,7 +204,7 @@ pub(crate) fn word_of(sort: Sort) -> &'static [u8]
     }
 }
 
-/// The letter of a kind.
+/// Returns the letter for a kind.
 pub(crate) fn letter_of(kind: Kind) -> &'static [u8]
     ensures { result.now ≡ kind_letter kind }
 {

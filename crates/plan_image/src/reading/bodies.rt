@@ -1,4 +1,4 @@
-//! Bodies that edges share, read.
+//! Reads the bodies that edges share.
 
 ghost use Rattle.plan_image.specs.Reading.{Gives, body_table_at, bodies_at};
 ghost use Rattle.std.specs.Prelude.{◌+◌, ◌^◌};
@@ -12,7 +12,7 @@ use crate::reading::stop::{ReadFault, stop_at};
 use plan_text::Items;
 use std::alloc::Global;
 
-/// Bodies, with a limit on their instructions in all.
+/// A reader of bodies, which limits the number of their instructions in all.
 pub(crate) struct Bodies;
 
 impl InTurn for Bodies {

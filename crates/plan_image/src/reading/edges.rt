@@ -1,4 +1,4 @@
-//! Edges and their code, read.
+//! Reads edges and their code.
 
 ghost use Rattle.plan_image.specs.Code.{body, instrs_of};
 ghost use Rattle.plan_image.specs.Columns.{code_by, edge_by, instrs_by, lent};
@@ -19,7 +19,7 @@ use crate::reading::stop::{ReadFault, stop_at};
 use plan_text::Items;
 use std::alloc::Global;
 
-/// The lists of one edge, that of the edge before it overwritten.
+/// The lists of the edge that is being read. Each edge overwrites those of the edge before it.
 #[derive(Drop)]
 struct Lists {
     outputs: Vec<u32>,
@@ -41,7 +41,7 @@ impl Lists {
         }
     }
 
-    /// The edge with this head and these lists.
+    /// Borrows the edge with this head and these lists.
     fn edge(&self, head: Head) -> EdgeRef<'_>
         ensures { lent result ≡ edge_by head self.now.outputs.items self.now.waits.items self.now.opcodes.items self.now.operands.items }
     {
@@ -64,7 +64,7 @@ impl Lists {
     }
 }
 
-/// So many instructions, as opcodes and operands, in place of those that were there.
+/// Reads `count` instructions, as opcodes and operands, and overwrites the former ones.
 fn fill_instrs<'a>(
     count: usize,
     opcodes: &mut Vec<u8>,
@@ -87,7 +87,7 @@ fn fill_instrs<'a>(
     Ok(rest)
 }
 
-/// Instructions that stand in the edge itself.
+/// Reads instructions that are stored in the edge itself.
 #[tactic(auto, unfolding(crate::specs::Reading::own_code_at))]
 fn read_own_code<'a>(
     used: u64,
@@ -104,7 +104,7 @@ fn read_own_code<'a>(
     fill_instrs(count as usize, opcodes, operands, rest)
 }
 
-/// The numbers for the open instructions of a body.
+/// Reads the operands of the open instructions of a body.
 fn read_operands<'a>(
     alloc: Global,
     used: u64,
@@ -128,7 +128,7 @@ fn read_operands<'a>(
     Ok((number, rest))
 }
 
-/// The number of a body, and the numbers for its open instructions.
+/// Reads the number of a body, and the operands of its open instructions.
 #[tactic(auto, unfolding(crate::specs::Reading::shared_code_at))]
 fn read_shared_code<'a>(
     alloc: Global,
@@ -157,7 +157,7 @@ fn read_shared_code<'a>(
     }
 }
 
-/// The code of an edge, as the version says.
+/// Reads the code of an edge, in the form of the version.
 fn read_code<'a>(
     alloc: Global,
     bodies: &Option<Items<Body>>,
@@ -221,7 +221,7 @@ fn read_edge<'a>(
     ))
 }
 
-/// So many edges, whose code may stand in these bodies.
+/// Reads `count` edges, whose code may share these bodies.
 fn read_each_edge<'a>(
     alloc: Global,
     bodies: &Option<Items<Body>>,

@@ -1,4 +1,4 @@
-//! Numbers, bytes and tags, read from the front.
+//! Reads numbers, bytes and tags from the front.
 
 ghost use Rattle.plan_image.specs.Reading.{Gives, number_at, number_up_to, bytes_at, byte_at, kind_at, flagged_at, sort_at};
 ghost use Rattle.std.specs.Int.{w16, w32};
@@ -56,7 +56,7 @@ pub(crate) fn read_u16_up_to(most: u16, bytes: &[u8]) -> Result<(u16, &[u8]), Re
     Ok((number, rest))
 }
 
-/// So many bytes, lent.
+/// Borrows `len` bytes.
 #[tactic(auto, unfolding(crate::specs::Reading::bytes_at))]
 pub(crate) fn read_bytes(len: usize, bytes: &[u8]) -> Result<(&[u8], &[u8]), ReadFault>
     ensures { Gives (λ x. (x.0.now, x.1.now)) result (bytes_at len bytes.now) }

@@ -1,4 +1,4 @@
-//! Instructions, read.
+//! Reads instructions.
 
 ghost use Rattle.plan_image.specs.Reading.{Gives, operand_at, bare_of, numbered_of, instr_at, fixed_at, body_instr_at};
 ghost use Rattle.std.specs.Prelude.{ℕ, List, IsSome};

@@ -1,4 +1,4 @@
-//! Items of one kind, read one after the other.
+//! Reads items of one kind, one after another.
 
 ghost use Rattle.plan_image.specs.Reading.{Gives, items_at, table_at, ascending_at, numbers_at};
 ghost use Rattle.std.specs.Prelude.{◌≡◌, ◌+◌, ◌*◌, ◌^◌, ◌<◌, ◌≤◌, length, IfOk, OnOk};
@@ -9,14 +9,14 @@ use crate::reading::stop::{ReadFault, stop_at};
 use plan_text::Items;
 use std::alloc::Global;
 
-/// What can stand in a table of its own.
+/// An item that a table can consist of.
 pub(crate) trait Spelled: Drop {
     ghost use Rattle.std.specs.Prelude.{List, ℕ};
     ghost use Rattle.plan_image.specs.Reading.{Read, Gives};
 
     ghost read_at: { List ℕ → Read Self };
 
-    /// The length of the shortest one.
+    /// Returns the length of the shortest item, in bytes.
     fn shortest() -> usize
         ensures { 0 < result };
 
@@ -24,7 +24,7 @@ pub(crate) trait Spelled: Drop {
         ensures { Gives (λ x. (x.0, x.1.now)) result (read_at bytes.now) };
 }
 
-/// How the items of a list are read one after the other, where what is read next may depend on those before.
+/// A reader of the items of a list, one after another. Reading an item may depend on the items before it.
 pub(crate) trait InTurn {
     ghost use Rattle.std.specs.Prelude.{List, ℕ, IfOk, ◌≡◌, ◌≤◌};
     ghost use Rattle.plan_image.specs.Reading.{Read, Gives};
@@ -34,10 +34,10 @@ pub(crate) trait InTurn {
     ghost item_at: { Self → ℕ → List ℕ → Read Self.Item };
 
     ghost next: { Self → ℕ → Self.Item → ℕ };
-    /// No state is above.
+    /// The upper limit of each state.
     ghost most: { Self → ℕ };
 
-    /// The length of the shortest item.
+    /// Returns the length of the shortest item, in bytes.
     fn shortest(&self) -> usize
         ensures { 0 < result };
 
@@ -53,7 +53,7 @@ pub(crate) trait InTurn {
         ensures most { IfOk result (λ x. x.1 ≤ most self.now) };
 }
 
-/// Items<u32> that ascend.
+/// A reader of numbers in ascending order.
 pub(crate) struct Ascending;
 
 impl InTurn for Ascending {
@@ -87,7 +87,7 @@ impl InTurn for Ascending {
     }
 }
 
-/// So many items as the count says, but no more room than the bytes can fill.
+/// Returns the number of items to reserve room for: at most `count`, and at most as many as the bytes can hold.
 pub(crate) fn room(count: usize, rest: &[u8], shortest: usize) -> usize
     requires { 0 < shortest }
     ensures fits { result * shortest ≤ length rest.now }
@@ -95,7 +95,7 @@ pub(crate) fn room(count: usize, rest: &[u8], shortest: usize) -> usize
     count.min(rest.len() / shortest)
 }
 
-/// So many items, in place of those that were there.
+/// Reads `count` items and overwrites the former ones.
 pub(crate) fn fill_items<'a, T: Spelled>(
     alloc: Global,
     count: usize,
@@ -129,7 +129,7 @@ pub(crate) fn read_items<T: Spelled>(
     Ok((Items::new(items), rest))
 }
 
-/// So many items in turn, in place of those that were there.
+/// Reads `count` items in turn and overwrites the former ones.
 pub(crate) fn fill_in_turn<'a, R: InTurn>(
     alloc: Global,
     reader: &R,
@@ -196,7 +196,7 @@ impl Spelled for u32 {
     }
 }
 
-/// Any numbers, in place of those that were there.
+/// Reads a count and that many numbers, in any order, and overwrites the former ones.
 #[tactic(auto, unfolding(crate::specs::Reading::numbers_at))]
 pub(crate) fn fill_numbers<'a>(
     alloc: Global,
@@ -209,7 +209,7 @@ pub(crate) fn fill_numbers<'a>(
     fill_items(alloc, count as usize, numbers, rest)
 }
 
-/// Numbers that ascend, in place of those that were there.
+/// Reads a count and that many numbers, in ascending order, and overwrites the former ones.
 #[tactic(auto, unfolding(crate::specs::Reading::ascending_at))]
 pub(crate) fn fill_ascending<'a>(
     alloc: Global,

@@ -1,4 +1,4 @@
-//! Why a reader of a part gives none.
+//! The reasons why reading a part fails.
 
 ghost use Rattle.std.specs.Prelude.{◌≡◌, length};
 ghost use Rattle.plan_image.specs.declared.reading.stop.ReadFault.TheVariants.{Memory};
@@ -6,14 +6,14 @@ ghost use Rattle.plan_image.specs.declared.reading.stop.ReadFault.TheVariants.{M
 use crate::fault::Cause;
 use std::alloc::{AllocError, AllocFailed};
 
-/// Where a reader stops: the cause, and how many bytes are left there.
+/// The place at which a reader stops: the cause, and the number of bytes that are left.
 #[derive(Clone, Copy, Debug, PartialEq, Eq)]
 pub(crate) struct Stop {
     pub cause: Cause,
     pub left: usize,
 }
 
-/// Why a reader of a part gives none.
+/// The reason why reading a part fails.
 #[derive(Debug, Drop)]
 pub(crate) enum ReadFault {
     Memory,
@@ -44,7 +44,7 @@ impl<T: Drop> From<AllocFailed<T>> for ReadFault {
     }
 }
 
-/// A reader stops where these bytes are left.
+/// Returns the fault of a reader that stops when these bytes are left.
 pub(crate) fn stop_at(cause: Cause, rest: &[u8]) -> ReadFault
     ensures { result ≡ ReadFault.Stop (record { cause = cause; left = length rest.now }) }
 {

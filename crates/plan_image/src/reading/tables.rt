@@ -1,4 +1,4 @@
-//! All tables of an image, read.
+//! Reads all tables of an image.
 
 ghost use Rattle.plan_image.specs.Reading.{Gives, pool_at, version_at, head_at, parts_at, tables_at};
 
@@ -15,7 +15,7 @@ use crate::reading::texts::{FileName, Text, read_texts};
 use plan_text::Items;
 use std::alloc::Global;
 
-/// "PLANIMG"
+/// The bytes of "PLANIMG".
 const MAGIC: [u8; 7] = [80, 76, 65, 78, 73, 77, 71];
 
 impl Spelled for Slot {

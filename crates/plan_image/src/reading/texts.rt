@@ -1,4 +1,4 @@
-//! Texts and file names, read.
+//! Reads texts and file names.
 
 ghost use Rattle.plan_image.specs.Reading.{Gives, items_at, table_at};
 ghost use Rattle.std.specs.Prelude.{◌<◌};
@@ -10,18 +10,18 @@ use crate::reading::stop::{ReadFault, stop_at};
 use plan_text::RowList;
 use std::alloc::Global;
 
-/// A text that stands in a table behind its length.
+/// A text of a table, stored after its length.
 pub(crate) trait TextField {
     ghost use Rattle.std.specs.Prelude.{List, ℕ, ◌<◌};
     ghost use Rattle.plan_image.specs.Reading.{Read, Gives};
 
     ghost read_at: { List ℕ → Read (List ℕ) };
 
-    /// The length of the shortest one, that of its length included.
+    /// Returns the size of the shortest text with its length field, in bytes.
     fn shortest() -> usize
         ensures { 0 < result };
 
-    /// The text, lent from the bytes, and what is behind it.
+    /// Borrows the text from the bytes, and returns it with the bytes after it.
     fn read(bytes: &[u8]) -> Result<(&[u8], &[u8]), ReadFault>
         ensures { Gives (λ x. (x.0.now, x.1.now)) result (read_at bytes.now) };
 }
@@ -67,7 +67,7 @@ impl TextField for FileName {
     }
 }
 
-/// So many texts, one behind the other.
+/// Reads `count` texts, one after another.
 fn read_rows<F: TextField>(
     alloc: Global,
     count: usize,
@@ -86,7 +86,7 @@ fn read_rows<F: TextField>(
     Ok((rows, rest))
 }
 
-/// A table of at most so many texts.
+/// Reads a table of at most `most` texts.
 #[tactic(auto, unfolding(crate::specs::Reading::table_at))]
 pub(crate) fn read_texts<F: TextField>(
     alloc: Global,

@@ -1,4 +1,4 @@
-//! What edges are spelled as.
+//! Writes the spelling of edges.
 
 ghost use Rattle.std.specs.Prelude.{◌≡◌, is_ok};
 ghost use Rattle.std.specs.List.{AllByRecursion, flat_map};
@@ -14,7 +14,7 @@ use crate::writing::held::prints_join;
 use crate::writing::part::{Each, Spelled, Table};
 use plan_text::Sink;
 
-/// Instructions, one behind the other.
+/// Instructions, one after another.
 #[derive(Drop)]
 struct EachInstr<'a>(InstrsRef<'a>);
 
@@ -46,7 +46,7 @@ fn print_instrs<W: Sink>(
     Ok(())
 }
 
-/// Own instructions, or the number of a body, and a number for each open instruction.
+/// The edge's own instructions, or the number of a body and a number for each open instruction.
 impl<'a> Spelled for CodeRef<'a> {
     ghost use Rattle.plan_image.specs.Columns.{lent_code};
     ghost use Rattle.plan_image.specs.Spelling.{edge_code, CodeFits};
@@ -98,7 +98,7 @@ impl<'a> Spelled for EdgeRef<'a> {
     }
 }
 
-/// A count and each edge.
+/// The number of edges, and then each edge.
 #[derive(Drop)]
 pub(crate) struct EdgeTable<'a>(pub &'a Edges);
 
@@ -116,7 +116,7 @@ impl<'a> Spelled for EdgeTable<'a> {
     }
 }
 
-/// Edges, one behind the other.
+/// Edges, one after another.
 #[derive(Drop)]
 struct EachEdge<'a>(&'a Edges);
 

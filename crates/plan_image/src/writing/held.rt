@@ -1,4 +1,4 @@
-//! Bytes that are held back in front of a sink.
+//! A buffer of bytes before a sink.
 
 ghost use Rattle.std.specs.Prelude.{◌≡◌, ◌+◌, ◌≤◌, ◌++◌, [], length, OnOk, is_ok, vec_capacity, vec_len};
 ghost use Rattle.plan_text.specs.Sinks.{Writes};
@@ -7,7 +7,8 @@ ghost use Rattle.plan_image.specs.Printing.{FailedPrintStays, Prints, PrintsJoin
 use crate::lister::WriteFault;
 use plan_text::{Sink, write_all, writes_join};
 
-/// Two prints make one, and a print that failed is one of more bytes that failed.
+/// States how consecutive prints combine. A complete print followed by another one counts as one print of all
+/// bytes. A failed print of some bytes also counts as a failed print of more bytes.
 pub(crate) fn prints_join()
     ensures join { PrintsJoin }
     ensures failed { FailedPrintStays }
@@ -15,7 +16,7 @@ pub(crate) fn prints_join()
     writes_join();
 }
 
-/// Writes what is held back.
+/// Writes the buffered bytes and empties the buffer.
 pub(crate) fn hand_on<W: Sink>(held: &mut Vec<u8>, out: &mut W) -> Result<(), WriteFault>
     ensures written { Writes (is_ok result) (W.failures out.old, W.taken out.old) (W.failures out.new, W.taken out.new) held.old.items }
     ensures emptied { OnOk result (held.new.items ≡ []) }
@@ -25,7 +26,7 @@ pub(crate) fn hand_on<W: Sink>(held: &mut Vec<u8>, out: &mut W) -> Result<(), Wr
     Ok(())
 }
 
-/// Holds back bytes for which there is room.
+/// Appends bytes to the buffer, in which they must fit.
 #[inline(always)]
 fn append(held: &mut Vec<u8>, bytes: &[u8])
     requires { vec_len held.old + length bytes.now ≤ vec_capacity held.old }
@@ -36,7 +37,7 @@ fn append(held: &mut Vec<u8>, bytes: &[u8])
     };
 }
 
-/// Prints bytes for which no room is left.
+/// Prints bytes that do not fit into the buffer. Writes the buffered bytes first.
 fn print_behind<W: Sink>(bytes: &[u8], held: &mut Vec<u8>, out: &mut W) -> Result<(), WriteFault>
     ensures { Prints (is_ok result) (held.old.items, (W.failures out.old, W.taken out.old)) (held.new.items, (W.failures out.new, W.taken out.new)) bytes.now }
 {
@@ -50,7 +51,7 @@ fn print_behind<W: Sink>(bytes: &[u8], held: &mut Vec<u8>, out: &mut W) -> Resul
     Ok(())
 }
 
-/// Prints bytes: they are held back where there is room.
+/// Prints bytes. They are buffered if they fit.
 #[inline(always)]
 pub(crate) fn print_bytes<W: Sink>(
     bytes: &[u8],

@@ -1,4 +1,4 @@
-//! What the items of the tables in front of the edges are spelled as.
+//! Writes the spelling of the items of all tables before the edges.
 
 ghost use Rattle.std.specs.Prelude.{◌≡◌};
 ghost use Rattle.plan_image.specs.Spelling;
@@ -137,7 +137,7 @@ impl Spelled for Body {
     }
 }
 
-/// The table of bodies, where there is one.
+/// The table of bodies, if there is one.
 #[derive(Drop)]
 pub(crate) struct Bodies<'a>(pub &'a Option<Items<Body>>);
 

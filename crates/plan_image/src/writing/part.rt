@@ -1,4 +1,4 @@
-//! What has a spelling, printed one behind the other.
+//! Parts that have a spelling, printed one after another.
 
 ghost use Rattle.std.specs.Prelude.{is_ok};
 ghost use Rattle.std.specs.List.{AllByRecursion, flat_map};
@@ -8,23 +8,23 @@ use crate::lister::WriteFault;
 use crate::writing::held::{print_bytes, prints_join};
 use plan_text::Sink;
 
-/// What has a spelling.
+/// A part that has a spelling.
 pub(crate) trait Spelled {
     ghost use Rattle.std.specs.Prelude.{List, ℕ, is_ok};
     ghost use Rattle.plan_image.specs.Printing.{Prints};
 
     ghost spell: { Self → List ℕ };
 
-    /// Its numbers and lengths fit their fields.
+    /// The numbers and lengths fit their fields.
     ghost fits: { Self → Type 0 };
 
-    /// Prints the spelling. At the first failed write it stops.
+    /// Prints the spelling. Stops at the first failed write.
     fn print<W: Sink>(&self, held: &mut Vec<u8>, out: &mut W) -> Result<(), WriteFault>
         requires { fits self.now }
         ensures { Prints (is_ok result) (held.old.items, (W.failures out.old, W.taken out.old)) (held.new.items, (W.failures out.new, W.taken out.new)) (spell self.now) };
 }
 
-/// Bytes as they stand.
+/// Bytes that are printed unchanged.
 #[derive(Drop)]
 pub(crate) struct Bytes<'a>(pub &'a [u8]);
 
@@ -51,7 +51,7 @@ impl Spelled for u8 {
     }
 }
 
-/// Two bytes.
+/// Two bytes, the most significant one first.
 impl Spelled for u16 {
     ghost use Rattle.std.specs.Int.{to_be_bytes, w16};
 
@@ -64,7 +64,7 @@ impl Spelled for u16 {
     }
 }
 
-/// Four bytes.
+/// Four bytes, the most significant one first.
 impl Spelled for u32 {
     ghost use Rattle.plan_image.specs.Spelling.{number};
 
@@ -77,7 +77,7 @@ impl Spelled for u32 {
     }
 }
 
-/// One behind another.
+/// One part followed by another.
 impl<A: Spelled, B: Spelled> Spelled for (A, B) {
     ghost use Rattle.std.specs.Prelude.{◌++◌};
 
@@ -92,7 +92,7 @@ impl<A: Spelled, B: Spelled> Spelled for (A, B) {
     }
 }
 
-/// Each item, one behind the other.
+/// Each item, one after another.
 #[derive(Drop)]
 pub(crate) struct Each<'a, T>(pub &'a [T]);
 
@@ -123,7 +123,7 @@ fn print_items<T: Spelled, W: Sink>(
     Ok(())
 }
 
-/// A count and each item.
+/// The number of items, and then each item.
 #[derive(Drop)]
 pub(crate) struct Table<'a, T>(pub &'a [T]);
 

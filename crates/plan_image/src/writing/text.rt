@@ -1,4 +1,4 @@
-//! Texts behind their lengths.
+//! Texts that are printed after their lengths.
 
 ghost use Rattle.std.specs.Prelude.{is_ok};
 ghost use Rattle.std.specs.List.{AllByRecursion, flat_map};
@@ -9,14 +9,14 @@ use crate::writing::held::prints_join;
 use crate::writing::part::{Bytes, Spelled};
 use plan_text::{RowList, Sink};
 
-/// How a text of a table is spelled.
+/// A way to spell the texts of a table.
 pub(crate) trait TextSpeller {
     ghost use Rattle.std.specs.Prelude.{List, ℕ, is_ok};
     ghost use Rattle.plan_image.specs.Printing.{Prints};
 
     ghost spell: { List ℕ → List ℕ };
 
-    /// Its length fits its field.
+    /// The length fits its field.
     ghost fits: { List ℕ → Type 0 };
 
     fn print<W: Sink>(text: &[u8], held: &mut Vec<u8>, out: &mut W) -> Result<(), WriteFault>
@@ -24,7 +24,7 @@ pub(crate) trait TextSpeller {
         ensures { Prints (is_ok result) (held.old.items, (W.failures out.old, W.taken out.old)) (held.new.items, (W.failures out.new, W.taken out.new)) (spell text.now) };
 }
 
-/// Behind a length of four bytes.
+/// Spells a text after a length of four bytes.
 #[derive(Drop)]
 pub(crate) struct Long;
 
@@ -41,7 +41,7 @@ impl TextSpeller for Long {
     }
 }
 
-/// Behind a length of two bytes.
+/// Spells a text after a length of two bytes.
 #[derive(Drop)]
 pub(crate) struct Short;
 
@@ -58,7 +58,7 @@ impl TextSpeller for Short {
     }
 }
 
-/// A text that is spelled so.
+/// A text, with the way to spell it.
 #[derive(Drop)]
 pub(crate) struct Text<'a, S>(pub &'a [u8], pub S);
 
@@ -72,7 +72,7 @@ impl<'a, S: TextSpeller> Spelled for Text<'a, S> {
     }
 }
 
-/// A count and each text, each of which is spelled so.
+/// The number of texts, and then each text, with the way to spell them.
 #[derive(Drop)]
 pub(crate) struct Texts<'a, S>(pub &'a RowList<u8>, pub S);
 

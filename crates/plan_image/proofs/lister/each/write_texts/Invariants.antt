@@ -3,7 +3,7 @@ use Rattle.plan_text.specs.Sinks.{Writes}
 use Rattle.plan_image.specs.Listing.{bytes_line, numbered}
 use Rattle.plan_image.proofs.lister.each.write_texts.Given as goal
 
--- what was written, and what is still written behind it
+-- the text that was written, followed by the text that is still to be written
 abbrev pub invariant-loop-number : goal.invariant-loop-number
 invariant-loop-number g l =
     (done : List ℕ) × (done ++ numbered (bytes_line l.word) l.number (drop l.number l.texts) ≡ numbered (bytes_line l.word) 0 l.texts)

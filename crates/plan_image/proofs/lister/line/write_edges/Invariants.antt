@@ -3,7 +3,7 @@ use Rattle.plan_text.specs.Sinks.{Writes}
 use Rattle.plan_image.specs.Listing.{edge_lines, numbered}
 use Rattle.plan_image.proofs.lister.line.write_edges.Given as goal
 
--- what was written, and what is still written behind it
+-- the text that was written, followed by the text that is still to be written
 abbrev pub invariant-loop-number : goal.invariant-loop-number
 invariant-loop-number g l =
     (done : List ℕ) × (done ++ numbered edge_lines l.number (drop l.number l.edges) ≡ numbered edge_lines 0 l.edges)

@@ -4,7 +4,7 @@ use Rattle.plan_image.specs.Columns.{lent_instrs}
 use Rattle.plan_image.specs.Listing.{instr_line, numbered}
 use Rattle.plan_image.proofs.lister.line.write_instrs.Given as goal
 
--- what was written, and what is still written behind it
+-- the text that was written, followed by the text that is still to be written
 abbrev pub invariant-loop-place : goal.invariant-loop-place
 invariant-loop-place g l =
     (done : List ℕ) × (done ++ numbered instr_line l.place (drop l.place (lent_instrs l.instrs)) ≡ numbered instr_line 0 (lent_instrs l.instrs))

@@ -4,7 +4,7 @@ use Rattle.plan_image.specs.Printing.{Prints}
 use Rattle.plan_image.specs.Spelling.{edge, EdgeFits}
 use Rattle.plan_image.proofs.writing.edge.print_edges.Given as goal
 
--- what was printed, what is still printed behind it, and that this fits
+-- the bytes that were printed, followed by those that are still to be printed, which fit
 abbrev pub invariant-loop-number : goal.invariant-loop-number
 invariant-loop-number g l =
     (done : List ℕ) × (done ++ flat_map edge (drop l.number l.edges) ≡ flat_map edge l.edges)

@@ -5,7 +5,7 @@ use Rattle.plan_image.specs.Printing.{Prints}
 use Rattle.plan_image.specs.Spelling.{instr}
 use Rattle.plan_image.proofs.writing.edge.print_instrs.Given as goal
 
--- what was printed, and what is still printed behind it
+-- the bytes that were printed, followed by those that are still to be printed
 abbrev pub invariant-loop-place : goal.invariant-loop-place
 invariant-loop-place g l =
     (done : List ℕ) × (done ++ flat_map instr (drop l.place (lent_instrs l.instrs)) ≡ flat_map instr (lent_instrs l.instrs))

@@ -3,7 +3,7 @@ use Rattle.std.specs.List.{flat_map}
 use Rattle.plan_image.specs.Printing.{Prints}
 use Rattle.plan_image.proofs.writing.text.print_rows.Given as goal
 
--- what was printed, and what is still printed behind it
+-- the bytes that were printed, followed by those that are still to be printed
 abbrev pub invariant-loop-number : goal.invariant-loop-number
 invariant-loop-number g l =
     (done : List ℕ) × (done ++ flat_map g.S.TextSpeller.spell (drop l.number l.rows) ≡ flat_map g.S.TextSpeller.spell l.rows)
