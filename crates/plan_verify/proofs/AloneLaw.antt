@@ -17,7 +17,7 @@ use Rattle.plan_verify.proofs.FitsLaw.{first_shape}
 use Rattle.plan_verify.proofs.QuestionsLaw.{hears_what_suits}
 use Rattle.plan_verify.proofs.StepsLaw.{steps_are_safe, replies_are_safe, owned_is, set_stays}
 
--- what an own slot is set to leaves the slots typed
+-- setting an own slot leaves the slots typed
 pub still_typed : (p : Parts) (e : ℕ) (slots : Slots) (s : ℕ) (v : Value) → AreTyped p slots → owns p e s ≡ true → kind_of v ≡ slot_kind p s → AreTyped p (slice_set slots s (Some v))
 still_typed p e slots s v good own kind =
     let o = owned_is e (slice_get p.slots s) own in

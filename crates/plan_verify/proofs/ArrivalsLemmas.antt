@@ -1,4 +1,4 @@
--- One shape more among those that arrive.
+-- Adding a shape to those that arrive.
 use Rattle.std.proofs.Common.{◌≢◌, List, [], ◌∷◌, ◌++◌, refl, arith}
 use Rattle.std.specs.Prelude.{Contains}
 use Rattle.std.proofs.lemmas.List.Elements.{Contains-append_left, Contains-append_right}

@@ -1,4 +1,4 @@
--- An edge run alone has no more events than its budget and the bytes that came in.
+-- An edge run alone has no more events than its budget and the number of bytes in the replies together.
 use Rattle.std.proofs.Common.{◌≡◌, ℕ, zero, suc, ◌+◌, ◌-◌, ◌*◌, ◌<◌, ◌≤◌, Bool, true, false, eqb, List, [], ◌∷◌, ◌++◌, length, drop, map, Option, Some, None, refl, sym, ap, subst, ◌∙◌, arith, add-one, inl, inr}
 use Rattle.std.specs.Prelude.{◌||◌, not, IfSome, nat_lt, nat_le, if◌then◌else◌, slice_get, ◌==◌, Result, Ok, Err}
 use Rattle.std.specs.List.{list_all, list_any}
@@ -301,7 +301,7 @@ abbrev one_if : Bool → ℕ
 one_if true = 1
 one_if false = 0
 
--- what an edge may still cost
+-- the remaining cost of an edge
 abbrev load : Parts → ℕ → Stage → ℕ
 load p e (Runs l) = worth p e l - one_if l.asked
 load p e (Ended ran) = 0
@@ -309,7 +309,7 @@ load p e (Failed cause) = 0
 load p e (WentWrong flaw) = 0
 
 module _ (p : Parts) (e : ℕ) (shaped : IsWellShaped p) (shapes : List Shape) (all : AreAllShapes p e shapes) where
-  -- a turn that is paid leaves less
+  -- a turn that is paid for leaves a lower cost
   paid : (slots : Slots) (l : Local) (m : ℕ) (t : Turn) → Pays p e l m t → Good p e shapes all (after l slots t) → load p e (after l slots t).stage + 1 ≤ m
   paid slots l m (Goes did k) h g = omega (arith, h)
   paid slots l m (Sets s v k) h g = omega (arith, h)

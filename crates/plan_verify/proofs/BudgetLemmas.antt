@@ -1,4 +1,4 @@
--- Budgets, and how long code is.
+-- Budgets, and the length of code.
 use Rattle.std.proofs.Common.{◌≡◌, ℕ, zero, suc, ◌+◌, ◌^◌, ◌≤◌, List, [], ◌∷◌, length, drop, Option, Some, None, refl, ap, arith, add-one}
 use Rattle.std.specs.Prelude.{slice_get}
 use Rattle.plan_image.specs.declared.instr.Instr.{Instr}
@@ -10,7 +10,7 @@ use Rattle.plan_image.specs.Spelling.{HasSpelling, instructions, most_code}
 use Rattle.plan_verify.specs.Budget.{cost, costs, edge_budget, budget_of_first}
 use Rattle.plan_verify.proofs.OwnSlotsLemmas.{rest_at}
 
--- what is still to spend at a place
+-- the cost of one instruction and of the code after it
 pub spend_one : (is : List Instr) (place : ℕ) (i : Instr) → slice_get is place ≡ Some i → costs (drop place is) ≡ cost i + costs (drop (place + 1) is)
 spend_one is place i here = ap costs (rest_at place is i here)
 
@@ -31,6 +31,6 @@ code_short p e spelled =
     let one = code_within p.bodies p.edges e in
     omega (arith, most, few, one)
 
--- the budget of one edge more
+-- the budget of one more edge
 pub budget_more : (p : Parts) (n : ℕ) → budget_of_first p (n + 1) ≡ budget_of_first p n + edge_budget p n
 budget_more p n = rw add-one refl

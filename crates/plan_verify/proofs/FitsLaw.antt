@@ -22,7 +22,7 @@ use Rattle.plan_verify.specs.Fits.{Leads, Turns, Fits, with_kinds}
 use Rattle.plan_verify.specs.Sound.{InstructionsFit}
 use Rattle.plan_verify.proofs.ListLemmas.{some_is, get_inside, or_false, not_false}
 
--- ---- what an instruction leaves arrives where it goes on to
+-- ---- the shape that an instruction leaves arrives at its targets
 
 toward_has : (m : ℕ) (ts : List ℕ) (s : Shape) → Contains ts m → Contains (toward m ts s) s
 toward_has m [] s there = absurd (let lt = there.1 in omega (arith, lt))
@@ -70,7 +70,7 @@ first_shape p e shapes all =
 
 -- ---- the checks that passed, by name
 
--- a place is behind another and inside the code
+-- a place is after another one and inside the code
 abbrev pub IsOnwards : ℕ → ℕ → ℕ → Type 0
 IsOnwards n len t = (n < t) × (t < len)
 
@@ -91,7 +91,7 @@ all_pass [] e = tt
 all_pass ((true, r) ∷ cs) e = absurd cc
 all_pass ((false, r) ∷ cs) e = (refl, all_pass cs e)
 
--- the checks of an instruction that passed, by name
+-- the checks that an instruction passed, by name
 pub record Passed (p : Parts) (e n : ℕ) (i : Instr) (s : Shape) : Type 0 where
   pub slot : bad_slot p e i ≡ false
   pub file : bad_file p i ≡ false
@@ -225,7 +225,7 @@ module _ (p : Parts) (e : ℕ) (shapes : List Shape) (all : AreAllShapes p e sha
   unfolding left
   to i m here ok there inside = record { inside = inside; exact = exact p e shapes n i s m all here shape there inside; shallow = ltb-false 64 (length (kinds_after p i s.kinds)) ok.deep }
 
-  -- at the next place is what the instruction leaves
+  -- the next place has the shape that the instruction leaves
   on : (i : Instr) → slice_get (code p e) n ≡ Some i → Passed p e n i s → targets n i ≡ (n + 1) ∷ [] → Leads p e shapes (n + 1) (left p i s)
   on i here ok is =
       let there : Contains (targets n i) (n + 1) = rw is (0, omega arith, refl) in
@@ -241,7 +241,7 @@ module _ (p : Parts) (e : ℕ) (shapes : List Shape) (all : AreAllShapes p e sha
   three : (i : Instr) (j k m : Kind) → Passed p e n i s → takes p i ≡ Some j ∷ Some k ∷ Some m ∷ [] → s.kinds ≡ j ∷ k ∷ m ∷ drop 3 s.kinds
   three i j k m ok is = took_three j k m s.kinds (subst (λ ts. ltb (length s.kinds) (length ts) ≡ false) is ok.few) (subst (λ ts. wrong_kind ts s.kinds ≡ false) is ok.kinds)
 
-  -- puts only
+  -- an instruction that only pushes
   puts : (i : Instr) (given : List Kind) → slice_get (code p e) n ≡ Some i → Passed p e n i s → targets n i ≡ (n + 1) ∷ [] → left p i s ≡ with_kinds s (given ++ s.kinds) → Turns p e shapes n s [] given
   puts i given here ok is same = (s.kinds, refl, subst (λ (x : Shape). Leads p e shapes (n + 1) x) same (on i here ok is))
 

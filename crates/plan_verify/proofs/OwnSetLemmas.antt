@@ -1,4 +1,4 @@
--- Sets of an edge's own slots: all are set exactly where they are as many.
+-- Sets of an edge's own slots: all own slots are set if and only if the set has as many members.
 use Rattle.std.proofs.Common.{◌≡◌, ℕ, suc, ◌+◌, ◌<◌, ◌≤◌, Bool, true, false, cond, eqb, List, [], ◌∷◌, length, drop, Option, Some, None, refl, sym, ap, subst, ◌∙◌, arith, inl, inr}
 use Rattle.std.specs.Prelude.{◌&&◌, slice_get}
 use Rattle.std.specs.List.{list_all, AllByRecursion}
@@ -33,7 +33,7 @@ with_ascends least n (m ∷ ms) le up =
           | inr le ↦ absurd (differ (omega (arith, ge, le)))
         ]
 
-with_all : (P : ℕ → Type 0) (n : ℕ) (set : List ℕ) → P n → AllByRecursion P set → AllByRecursion P (with_member n set)
+pub with_all : (P : ℕ → Type 0) (n : ℕ) (set : List ℕ) → P n → AllByRecursion P set → AllByRecursion P (with_member n set)
 with_all P n [] one all = (one, tt)
 with_all P n (m ∷ ms) one all =
     elim (cases_lt n m) [
@@ -52,13 +52,13 @@ none_own p e = record { ascends = tt; own = tt }
 
 -- ---- all of them
 
-below_least : (n least : ℕ) (set : List ℕ) → n < least → AscendsFrom least set → is_member n set ≡ false
+pub below_least : (n least : ℕ) (set : List ℕ) → n < least → AscendsFrom least set → is_member n set ≡ false
 below_least n least [] lt up = refl
 below_least n least (m ∷ ms) lt up =
     let le = up.0 in
     rw (ne_eqb m n (λ e. omega (arith, e, lt, le))) (below_least n (m + 1) ms (omega (arith, lt, le)) up.1)
 
--- a member less than all that are asked for may go
+-- a member that is less than all tested slots can be left out
 skip_head : (e m : ℕ) (ms : List ℕ) (k : ℕ) (slots : List Slot) → m < k → list_all (λ s. is_member s (m ∷ ms)) (own_from e k slots) ≡ list_all (λ s. is_member s ms) (own_from e k slots)
 skip_head e m ms k [] lt = refl
 skip_head e m ms k (slot ∷ slots) lt = by (eqb slot.owner e) (skip_head e m ms (k + 1) slots (omega (arith, lt)))
@@ -86,7 +86,7 @@ module _ (p : Parts) (e : ℕ) where
   within : (m : ℕ) → Own m → m < length p.slots
   within m own = within_by m (slice_get p.slots m) refl own
 
-  -- past the table there is no own slot
+  -- beyond the table there is no own slot
   none_past : (n : ℕ) (set : List ℕ) → drop n p.slots ≡ [] → AscendsFrom n set → AllByRecursion Own set → set ≡ []
   none_past n [] is up own = refl
   none_past n (m ∷ ms) is up own =
@@ -150,6 +150,6 @@ module _ (p : Parts) (e : ℕ) where
       let next = tail_of_rest n p.slots slot slots is in
       same_by n (eqb slot.owner e) slots set (owner_of n slot slots is) next up own (λ ms u o. same_len (n + 1) slots ms next u o)
 
--- all own slots are in a set of own slots exactly where these are as many
+-- all own slots are in a set of own slots if and only if the set has as many members
 pub all_set : (p : Parts) (e : ℕ) (set : List ℕ) → IsOwnSet p e set → list_all (λ s. is_member s set) (own_slots p e) ≡ eqb (length set) (length (own_slots p e))
 all_set p e set is = same_len p e 0 p.slots set refl is.ascends is.own

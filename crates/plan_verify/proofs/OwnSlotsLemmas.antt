@@ -1,4 +1,4 @@
--- What is counted in one pass over the slots is what the table says of each edge.
+-- The values counted in one pass over the slots are those of each edge's own slots.
 use Rattle.std.proofs.Common.{◌≡◌, ℕ, zero, suc, ◌+◌, ◌≤◌, Bool, true, false, cond, eqb, List, [], ◌∷◌, length, drop, Some, refl, sym, ap, ◌∙◌, arith, add-one}
 use Rattle.std.specs.Prelude.{◌||◌, replicate, slice_get}
 use Rattle.std.specs.List.{list_any}
@@ -57,7 +57,7 @@ module _ (p : Parts) (place : ℕ) (slot : Slot) (old new : List OwnSlots) where
   next_by e before true rest is few same = (omega (arith, few), (let step : counted e before (slot ∷ rest) ≡ counted e (more before slot) rest = rw is refl in sym step) ∙ same)
   next_by e before false rest is few same = (omega (arith, few), (let step : counted e before (slot ∷ rest) ≡ counted e before rest = rw is refl in sym step) ∙ same)
 
-  -- one slot more
+  -- counts one more slot
   pub next_counted : slice_get p.slots place ≡ Some slot → CountsMore old slot new → AreCounted p place old → AreCounted p (place + 1) new
   next_counted here step before = record {
     long = step.long ∙ before.long;
@@ -67,7 +67,7 @@ module _ (p : Parts) (place : ℕ) (slot : Slot) (old new : List OwnSlots) where
         rw from.2 (next_by e from.0 (eqb slot.owner e) (drop (place + 1) p.slots) refl then.0 (ap (λ (xs : List Slot). counted e from.0 xs) (sym (rest_at place p.slots slot here)) ∙ then.1));
   }
 
--- ---- what is counted
+-- ---- the counted values
 
 or_assoc : (a b c : Bool) → ((a || b) || c) ≡ (a || (b || c))
 or_assoc true b c = refl

@@ -1,4 +1,4 @@
--- The pass: what is kept from place to place.
+-- The pass: the invariant from place to place.
 use Rattle.std.proofs.Common.{◌≡◌, ℕ, zero, suc, ◌+◌, ◌<◌, ◌≤◌, Bool, true, false, cond, eqb, List, [], ◌∷◌, ◌++◌, length, get_or, Option, Some, None, All, set, refl, sym, ap, subst, ◌∙◌, append_assoc, arith, inl, inr}
 use Rattle.std.specs.Prelude.{replicate, slice_get}
 use Rattle.std.specs.List.{AllByRecursion}
@@ -24,7 +24,7 @@ use Rattle.plan_verify.proofs.ListLemmas.{some_is, get_inside}
 use Rattle.plan_verify.proofs.FitsLaw.{IsOnwards, passed_from}
 use Rattle.plan_verify.proofs.ShapesLemmas.{arriving_none, arriving-push, AreShapes-push, shape_own}
 
--- ---- what goes along, and what jumps
+-- ---- shapes that are carried along, and those that jumps bring
 
 nothing : (b : Bool) → ◌≡◌ {A = List Shape} (cond b [] []) []
 nothing true = refl
@@ -39,7 +39,7 @@ either false false s = refl
 along : Instr → Shape → Flow
 along i s = record { shape = s; falls = goes_on i }
 
--- what an instruction leaves jumps, or goes along
+-- the shape that an instruction leaves is carried by jumps or along
 split_targets : (n m : ℕ) (i : Instr) (s : Shape) → toward m (targets n i) s ≡ toward m (jumps_to i) s ++ brought_to (along i s) (n + 1) m
 unfolding along
 split_targets n m op.End s = sym (nothing (eqb (n + 1) m))
@@ -90,7 +90,7 @@ unfolding arriving
 first_arrives p e zero flow is falls = rw (arriving_none p 0 (code p e) 0, falls, is) refl
 first_arrives p e (suc m) flow is falls = rw (arriving_none p 0 (code p e) (suc m), ne_eqb 0 (suc m) (λ e. omega (arith, e))) refl
 
--- before the first place
+-- the invariant before the first place
 pub starts : (p : Parts) (e n : ℕ) (arrivals : List Arrival) (flow : Flow) → arrivals ≡ replicate n arrival.Nothing → flow.shape ≡ at_start → flow.falls ≡ true → Reached p e 0 arrivals flow
 starts p e n arrivals flow is shape falls = record {
   shapes = [];
@@ -109,7 +109,7 @@ module _ (p : Parts) (e place : ℕ) (old : List Arrival) (flow : Flow) (r : Rea
   here_count : eqb (length r.shapes) (length r.shapes) ≡ true
   here_count = eq-eqb (length r.shapes) (length r.shapes) refl
 
-  -- what arrives at the place
+  -- the shapes that arrive at the place
   pub met : (a : Arrival) (next : Flow) (result : Option Refusal) → slice_get old place ≡ Some a → MeetsAs a flow next result → IsMet (arriving p e r.shapes (length r.shapes)) next.shape result
   met a next result got meets =
       let there = r.kept.each (length r.shapes) a (omega arith) (ap (λ (k : ℕ). slice_get old k) r.count ∙ got) in
@@ -129,7 +129,7 @@ module _ (p : Parts) (e place : ℕ) (old : List Arrival) (flow : Flow) (r : Rea
   no_shape_by s f (inl h) = rw h.0 (not_reached h.1)
   no_shape_by s f (inr h) = rw h.0 (shapes_differ h.1)
 
-  -- no shape arrives, or several do
+  -- no shape arrives, or several that differ do
   pub no_shape : (s : Shape) (f : Refusal) (i : Instr) → table_refusal p e ≡ None → slice_get (code p e) place ≡ Some i → IsMet (arriving p e r.shapes (length r.shapes)) s (Some f) → IsFirstRefusal p e place f
   no_shape s f i tables here met = refused_at f i tables here (no_shape_by s f met)
 
@@ -175,7 +175,7 @@ module _ (p : Parts) (e place : ℕ) (old : List Arrival) (flow : Flow) (r : Rea
           kept = record { each = kept_next gone new joins };
         })
 
-    -- what an instruction that passed leaves is shallow
+    -- the stack after an instruction that passed is at most 64 deep
     pub shallow : length (kinds_after p i s.kinds) ≤ 64
     shallow = ltb-false 64 (length (kinds_after p i s.kinds)) (passed_from p e place i s fits).deep
 
@@ -185,12 +185,12 @@ weaker n len (op.JumpIf d) h = (h.1.0.1, tt)
 weaker n len op.End h = tt
 weaker n len _ h = tt
 
--- where an instruction that passed jumps to is inside the code
+-- an instruction that passed jumps to a place inside the code
 pub jumps_within : (p : Parts) (e n : ℕ) (i : Instr) (s : Shape) (old : List Arrival) (gone : Arrival) → length old ≡ length (code p e) → refused p e n i s ≡ None
     → All (λ t. t < length (set old n gone)) (jumps_to i)
 jumps_within p e n i s old gone long fits =
     rw (length-set old n gone, long) (All-from_recursion (λ t. t < length (code p e)) (jumps_to i) (weaker n (length (code p e)) i (passed_from p e n i s fits).onwards))
 
--- what was read from a place, and moved on
+-- a value that was read from a place and moved
 pub moved_at : {A : Type 0} (xs : List A) (i n : ℕ) (x y : A) → i < n → n ≡ length xs → y ≡ get_or xs i y → x ≡ y → slice_get xs i ≡ Some x
 moved_at xs i n x y lt len read moved = slice_get_read xs n i y len lt read ∙ ap (λ z. Some z) (sym moved)

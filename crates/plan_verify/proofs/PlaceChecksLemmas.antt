@@ -1,4 +1,4 @@
--- The kinds that an instruction takes, compared one after the other with those on the stack.
+-- The kinds that an instruction takes, compared in turn with those on the stack.
 use Rattle.std.proofs.Common.{◌≡◌, ℕ, zero, suc, ◌+◌, ◌<◌, Bool, true, false, List, [], ◌∷◌, length, drop, get_or, Option, Some, None, refl, sym, ap, ◌∙◌}
 use Rattle.std.specs.List.{slice_get}
 use Rattle.std.specs.Prelude.{not, ◌||◌}

@@ -1,4 +1,4 @@
--- What an edge asks, and what it hears.
+-- The questions of an edge, and the replies that it accepts.
 use Rattle.std.proofs.Common.{◌≡◌, ℕ, zero, suc, ◌+◌, eqb, List, [], ◌∷◌, length, Option, Some, None, refl, sym, subst, ◌∙◌}
 use Rattle.std.specs.Prelude.{not, is_some, IsSome, nat_lt, nat_le, slice_get}
 use Rattle.std.specs.List.{list_all}
@@ -83,7 +83,7 @@ branches_silent l len to (Text t ∷ below) = refl
 branches_silent l len to (Paths n a ∷ below) = refl
 branches_silent l len to (Swept a ∷ below) = refl
 
--- an instruction that asks nothing hears nothing
+-- an instruction that asks nothing accepts no reply
 abbrev Fits : Meaning → Local → Instr → Option Request → Type 0
 Fits meaning l i (Some q) = (r : Reply) → is_some (replied meaning l i r) ≡ suits q r
 Fits meaning l i None = Unit {0}

@@ -18,7 +18,7 @@ use Rattle.plan_verify.specs.WellShaped.{at_start, arriving}
 use Rattle.plan_verify.specs.Alone.{Failed, Ended, at_begin, RunsAlone, rests, steps, hears}
 use Rattle.plan_verify.specs.Budget.{edge_budget}
 
--- text 0 is x, file 0 is a; one edge makes it
+-- text 0 is x, file 0 is a, and one edge creates it
 one : List Slot → List Instr → Parts
 one slots is = record {
   texts = (120 ∷ []) ∷ [];
@@ -88,7 +88,7 @@ sweeping = op.Zero ∷ op.Flag false ∷ op.Text 0 ∷ op.Deps ∷ op.Sweep ∷ 
 finds : Meaning
 finds bytes = Ok ((98 ∷ []) ∷ [])
 
--- twelve events after the start, one path swept
+-- twelve events after the start, with one path swept
 sweeps_one : RunsAlone finds (one [] sweeping) 0 12 (at_begin []) ((Deps (120 ∷ []), Bytes (97 ∷ 58 ∷ 98 ∷ [])) ∷ (Stat (98 ∷ []), StampIs 7) ∷ []) (record { stage = Ended false; slots = [] })
 unfolding turn heard one sweeping finds
 sweeps_one = steps refl (steps refl (steps refl (steps refl (hears refl refl (steps refl (hears refl refl (steps refl (steps refl (steps refl (steps refl (steps refl rests)))))))))))

@@ -1,4 +1,4 @@
--- Shapes of the first places: one more, one less, and that they are the only ones.
+-- Shapes of the first places: adding one, removing one, and that they are unique.
 use Rattle.std.proofs.Common.{◌≡◌, ℕ, zero, suc, ◌+◌, ◌-◌, ◌<◌, ◌≤◌, Bool, true, false, cond, eqb, List, [], ◌∷◌, ◌++◌, length, get_or, Option, Some, None, All, refl, sym, ap, subst, ◌∙◌, append_assoc, arith, inl, inr, add-zero}
 use Rattle.std.specs.Prelude.{Contains, slice_get}
 use Rattle.std.specs.List.{AllByRecursion}
@@ -31,7 +31,7 @@ pub last_at : {A : Type 0} (xs : List A) (y : A) → slice_get (xs ++ y ∷ []) 
 last_at [] y = refl
 last_at (x ∷ xs) y = last_at xs y
 
--- ---- what arrives from one place more
+-- ---- the shapes that arrive from one more place
 
 pub arriving_none : (p : Parts) (at : ℕ) (is : List Instr) (m : ℕ) → arriving_from p at is [] m ≡ []
 arriving_none p at [] m = refl
@@ -50,7 +50,7 @@ arriving_from-push p at (j ∷ js) (t ∷ ts) i s m e =
     let step : arriving_from p (at + 1) js (ts ++ s ∷ []) m ≡ arriving_from p (at + 1) js ts m ++ toward m (targets (at + suc (length ts)) i) (left p i s) = rw (← k) (arriving_from-push p (at + 1) js ts i s m e) in
     ap (λ (xs : List Shape). toward m (targets at j) (left p j t) ++ xs) step ∙ sym (append_assoc (toward m (targets at j) (left p j t)) (arriving_from p (at + 1) js ts m) (toward m (targets (at + suc (length ts)) i) (left p i s)))
 
--- what arrives where one place more has a shape
+-- the shapes that arrive if one more place has a shape
 pub arriving-push : (p : Parts) (e : ℕ) (shapes : List Shape) (i : Instr) (s : Shape) (m : ℕ) → slice_get (code p e) (length shapes) ≡ Some i
     → arriving p e (shapes ++ s ∷ []) m ≡ arriving p e shapes m ++ toward m (targets (length shapes) i) (left p i s)
 unfolding arriving
@@ -59,7 +59,7 @@ arriving-push p e shapes i s m h =
     let step : arriving_from p 0 (code p e) (shapes ++ s ∷ []) m ≡ arriving_from p 0 (code p e) shapes m ++ toward m (targets (length shapes) i) (left p i s) = rw (← k) (arriving_from-push p 0 (code p e) shapes i s m h) in
     ap (λ (xs : List Shape). begins m ++ xs) step ∙ sym (append_assoc (begins m) (arriving_from p 0 (code p e) shapes m) (toward m (targets (length shapes) i) (left p i s)))
 
--- nothing goes back
+-- no jump goes backwards
 toward_none : (n len k : ℕ) (ts : List ℕ) (s : Shape) → k ≤ n → AllByRecursion (IsOnwards n len) ts → toward k ts s ≡ []
 toward_none n len k [] s le h = refl
 toward_none n len k (t ∷ ts) s le h =
@@ -67,14 +67,14 @@ toward_none n len k (t ∷ ts) s le h =
     rw differ (toward_none n len k ts s le h.1)
 
 module _ (p : Parts) (e : ℕ) where
-  -- what arrives at the places that have shapes, and at the next one, stays
+  -- the shapes that arrive at the places that have shapes, and at the next one, stay the same
   same_before : (shapes : List Shape) (i : Instr) (s : Shape) → slice_get (code p e) (length shapes) ≡ Some i → refused p e (length shapes) i s ≡ None
       → (k : ℕ) → k ≤ length shapes → arriving p e (shapes ++ s ∷ []) k ≡ arriving p e shapes k
   same_before shapes i s here fits k le =
       let onwards = (passed_from p e (length shapes) i s fits).onwards in
       arriving-push p e shapes i s k here ∙ rw (toward_none (length shapes) (length (code p e)) k (targets (length shapes) i) (left p i s) le onwards) (append-nil (arriving p e shapes k))
 
-  -- one shape more
+  -- adds a shape
   pub AreShapes-push : (shapes : List Shape) (i : Instr) (s : Shape) → slice_get (code p e) (length shapes) ≡ Some i → IsShapeAmong s (arriving p e shapes (length shapes))
       → refused p e (length shapes) i s ≡ None → AreShapes p e shapes → AreShapes p e (shapes ++ s ∷ [])
   AreShapes-push shapes i s here among fits are =
@@ -96,7 +96,7 @@ module _ (p : Parts) (e : ℕ) where
             ];
       }
 
--- ---- one shape less
+-- ---- one shape fewer
 
 among_is : (s t : Shape) (xs : List Shape) → IsShapeAmong s xs → Contains xs t → t ≡ s
 among_is s t xs among there = sym there.2 ∙ among.alone there.0 t there.1
@@ -104,7 +104,7 @@ among_is s t xs among there = sym there.2 ∙ among.alone there.0 t there.1
 none_among : (s : Shape) (xs : List Shape) → xs ≡ [] → IsShapeAmong s xs → ⊥
 none_among s xs e among = let lt = among.arrives.1 in omega (arith, lt, ap length e)
 
--- the place behind some has a shape and passes
+-- the place after some places has a shape and passes
 record IsPassed (p : Parts) (e : ℕ) (shapes : List Shape) (s : Shape) : Type 0 where
   instr : Instr
   here : slice_get (code p e) (length shapes) ≡ Some instr
@@ -175,7 +175,7 @@ module _ (p : Parts) (e : ℕ) where
       let same : refused p e (length shapes) i t ≡ None = rw (t-is, i-is) passed.fits in
       some_or_none (sym fails ∙ same)
 
-  -- an edge that is refused has no shapes
+  -- a refused edge has no shapes
   pub refused_has_none : (place : ℕ) (r : Refusal) → IsFirstRefusal p e place r → IsShapedEdge p e → ⊥
   refused_has_none _ r (tables_fail fails) shaped = some_or_none (sym fails ∙ shaped.1.tables)
   refused_has_none _ r (no_code tables none) shaped = let lt = shaped.1.some in omega (arith, lt, ap length none)
@@ -234,7 +234,7 @@ module _ (p : Parts) (e : ℕ) where
       (subst (λ (xs : List Shape). All HasOwnSet xs) (sym (arriving-push p e l.0 passed.instr l.1 m passed.here))
       (All-append HasOwnSet (arriving p e l.0 m) (toward m (targets (length l.0) passed.instr) (left p passed.instr l.1)) (before m) leaves))
 
-  -- the own slots of the shape that arrives at the next place are a set of own ones
+  -- the set slots of the shape that arrives at the next place are own slots
   pub shape_own : (shapes : List Shape) (s : Shape) → AreShapes p e shapes → IsShapeAmong s (arriving p e shapes (length shapes)) → HasOwnSet s
   shape_own shapes s are among =
       let at = among.arrives in

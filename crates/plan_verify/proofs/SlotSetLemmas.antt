@@ -1,4 +1,4 @@
--- Ascending numbers: which are among them, and with one more.
+-- Ascending numbers: membership and insertion.
 use Rattle.std.proofs.Common.{◌≡◌, ℕ, zero, suc, ◌+◌, ◌<◌, ◌≤◌, Bool, true, false, eqb, List, [], ◌∷◌, length, get_or, refl, sym, ap, arith}
 use Rattle.std.specs.Prelude.{◌||◌}
 use Rattle.std.specs.List.{insert}
@@ -13,7 +13,7 @@ above_least least [] j up lt = absurd (omega arith)
 above_least least (x ∷ xs) zero up lt = up.0
 above_least least (x ∷ xs) (suc j) up lt = let rest = above_least (x + 1) xs j up.1 (omega arith) in let first = up.0 in omega (arith, rest, first)
 
--- a later one is no less
+-- a later number is not less
 pub rises : (least : ℕ) (xs : List ℕ) → AscendsFrom least xs → (i j : ℕ) → i ≤ j → j < length xs → get_or xs i 0 ≤ get_or xs j 0
 rises least [] up i j le lt = absurd (omega arith)
 rises least (x ∷ xs) up zero zero le lt = omega arith
@@ -32,7 +32,7 @@ member_at n (x ∷ xs) (suc i) lt at = or_true (eqb x n) (is_member n xs) (membe
     or_true true b e = refl
     or_true false b e = e
 
--- none of the first is the number, nor of the others
+-- a number is no member if those before a place are less and those after it are greater
 pub not_member_at : (n : ℕ) (xs : List ℕ) (at : ℕ) → ((k : ℕ) → k < at → get_or xs k 0 < n) → ((k : ℕ) → at ≤ k → k < length xs → n < get_or xs k 0) → is_member n xs ≡ false
 not_member_at n [] at low high = refl
 not_member_at n (x ∷ xs) zero low high =
@@ -44,7 +44,7 @@ not_member_at n (x ∷ xs) (suc at) low high =
 
 -- ---- one more
 
--- a number that is there already
+-- inserting a number that is a member
 pub with_member_at : (least n : ℕ) (xs : List ℕ) (i : ℕ) → AscendsFrom least xs → i < length xs → get_or xs i 0 ≡ n → with_member n xs ≡ xs
 with_member_at least n [] i up lt at = absurd (omega arith)
 with_member_at least n (x ∷ xs) zero up lt at = rw (le-ltb n x (omega (arith, at)), eq-eqb n x (sym at)) refl
@@ -52,7 +52,7 @@ with_member_at least n (x ∷ xs) (suc i) up lt at =
     let rest = above_least (x + 1) xs i up.1 (omega arith) in
     rw (le-ltb n x (omega (arith, at, rest)), ne_eqb n x (λ e. omega (arith, at, rest, e))) (ap (λ (ys : List ℕ). x ∷ ys) (with_member_at (x + 1) n xs i up.1 (omega arith) at))
 
--- one that isn't, put in behind the lesser ones
+-- inserting a number that is not a member, after the lesser ones
 pub inserted : (n : ℕ) (xs : List ℕ) (at : ℕ) → at ≤ length xs → ((k : ℕ) → k < at → get_or xs k 0 < n) → ((k : ℕ) → at ≤ k → k < length xs → n < get_or xs k 0) → insert xs at n ≡ with_member n xs
 inserted n [] zero le low high = refl
 inserted n [] (suc at) le low high = absurd (omega arith)

@@ -1,4 +1,4 @@
--- A step of a typed edge is safe, and so is what it does by a reply.
+-- A step of a typed edge is safe, and so is the effect of a reply.
 use Rattle.std.proofs.Common.{◌≡◌, ℕ, zero, suc, ◌+◌, ◌<◌, ◌≤◌, Bool, true, false, cond, eqb, ltb, List, [], ◌∷◌, ◌++◌, length, drop, map, Option, Some, None, refl, sym, ap, subst, ◌∙◌, arith, inl, inr}
 use Rattle.std.specs.Prelude.{◌||◌, ◌⊎◌, not, IsSome, IfSome, nat_lt, nat_le, if◌then◌else◌, slice_get, slice_set, ◌==◌, Result, Ok, Err}
 use Rattle.std.specs.List.{list_all}
@@ -23,9 +23,9 @@ use Rattle.plan_verify.specs.Sound.{AreTyped, AreLentSet, IsTyped, asking, IsSaf
 use Rattle.plan_verify.proofs.ListLemmas.{get_inside, get_same, get_other, map_length, when_true, when_false, when_either, or_cases, or_right, and_both, is_some_of}
 use Rattle.plan_verify.proofs.FitsLaw.{instructions_fit}
 
--- ---- stacks of the kinds that are wanted
+-- ---- stacks with the wanted kinds
 
--- the value on top
+-- the top value
 pub top_any : (stack : List Value) (k : Kind) (ks : List Kind) → map kind_of stack ≡ k ∷ ks → (v : Value) × (below : List Value) × (stack ≡ v ∷ below) × (kind_of v ≡ k) × (map kind_of below ≡ ks)
 top_any [] k ks e = absurd cc
 top_any (v ∷ below) k ks e = (v, below, refl, (cc), (cc))
@@ -153,7 +153,7 @@ module _ (p : Parts) (e : ℕ) (shapes : List Shape) (slots : Slots) (l : Local)
   Safe : Turn → Type 0
   Safe t = IsSafe p e shapes slots l t
 
-  -- the edge is typed at a place that has that shape
+  -- the edge is typed at a place that has this shape
   at_place : (new : Slots) (m : Local) (shape : Shape) → Leads p e shapes m.place shape → map kind_of m.stack ≡ shape.kinds → m.holding ≡ shape.holding
       → ((s : ℕ) → is_member s shape.set ≡ true → is_set new s ≡ true) → m.asked ≡ false → IsTyped p e shapes new m
   at_place new m shape leads kinds held set quiet =
@@ -198,7 +198,7 @@ module _ (p : Parts) (e : ℕ) (shapes : List Shape) (slots : Slots) (l : Local)
         awaits = λ loud. rw (here, is) refl;
       }
 
-  -- the file whose stamp is asked for
+  -- the file whose stamp is requested
   stat_safe : (i : Instr) (f : ℕ) → slice_get (code p e) l.place ≡ Some i → act p e slots (asking l) i ≡ asks_of (path_of p f) Stat → IsSome (path_of p f) → Safe (asks_of (path_of p f) Stat)
   stat_safe i f here is some =
       let x = is_some_of (path_of p f) some in

@@ -13,12 +13,12 @@ use Rattle.plan_verify.specs.Verdict.{AreGood, AreShapedBetween, IsEdgeFault, Is
 use Rattle.plan_verify.specs.Budget.{budget_of_first}
 use Rattle.plan_verify.proofs.ShapesLemmas.{refused_has_none}
 
--- the refusal of the tables of an edge that is there
+-- the refusal of the tables of an edge that exists
 pub table_refusal_is : (p : Parts) (e : ℕ) (x : Edge) → slice_get p.edges e ≡ Some x → table_refusal p e ≡ table_refusal_of p e (Some x)
 unfolding table_refusal
 table_refusal_is p e x here = ap (λ (o : Option Edge). table_refusal_of p e o) here
 
--- an image that is refused isn't well shaped
+-- a refused image isn't well shaped
 pub refused_is_not : (p : Parts) (e place : ℕ) (r : Refusal) → IsRefused p e place r → IsWellShaped p → ⊥
 refused_is_not p e place r (edge_fails lt before first) shaped = refused_has_none p e place r first (shaped.edges e lt)
 refused_is_not p _ _ r (all_fail before fails) shaped = differ (sym fails ∙ shaped.tables)
@@ -37,7 +37,7 @@ pub part_fault : (p : Parts) (from to e : ℕ) (f : VerifyFault) → from ≤ e 
 part_fault p from to e fault.Memory le lt before is = tt
 part_fault p from to e (fault.Refused r d place) le lt before is = rw is.0 (le, lt, before, is.1)
 
--- all of them were looked at
+-- all of these edges were checked
 pub part_done : (p : Parts) (from to n b : ℕ) → n ≤ to → to ≤ n → AreShapedBetween p from n → b + budget_of_first p from ≡ budget_of_first p n → b + from * 268435456 ≤ n * 268435456 → AreGood p from to b
 part_done p from to n b below above shaped known small =
     let same : n ≡ to = omega (arith, below, above) in
@@ -59,13 +59,13 @@ both_shaped p from middle to low high e lt le = by (cases_lt e middle)
     by (inl h) = low e h le
     by (inr h) = high e lt h
 
--- a fault of the second, behind a first that is good
+-- a fault of the second half, after a good first half
 pub high_fault : (p : Parts) (from middle to b : ℕ) (f : VerifyFault) → from ≤ middle → AreGood p from middle b → IsPartFault p middle to f → IsPartFault p from to f
 high_fault p from middle to b fault.Memory le good is = tt
 high_fault p from middle to b (fault.Refused r e place) le good is =
     let above = is.0 in (omega (arith, le, above), is.1, both_shaped p from middle e good.shaped is.2, is.3)
 
--- both are good
+-- both halves are good
 pub both_good : (p : Parts) (from middle to a b : ℕ) → AreGood p from middle a → AreGood p middle to b → AreGood p from to (a + b)
 both_good p from middle to a b low high =
     let known_low = low.known in

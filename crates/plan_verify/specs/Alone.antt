@@ -1,4 +1,4 @@
--- One edge run alone: places are always free, and the replies are a list.
+-- One edge run alone: job tokens are always free, and the replies are a list.
 use Rattle.std.specs.Prelude.{◌≡◌, ℕ, suc, Bool, true, false, List, [], ◌∷◌, Some, IsSome, slice_set}
 use Rattle.plan_image.specs.declared.image.Parts.{Parts}
 use Rattle.plan_verify.specs.declared.value.Cause.{Cause}
@@ -17,7 +17,7 @@ pub record Alone : Type 0 where
   pub stage : Stage
   pub slots : Slots
 
--- where a turn leaves an edge
+-- the state of an edge after a turn
 abbrev pub after : Local → Slots → Turn → Alone
 after l slots (Goes did m) = record { stage = Runs m; slots = slots }
 after l slots (Sets s v m) = record { stage = Runs m; slots = slice_set slots s (Some v) }
@@ -29,7 +29,7 @@ after l slots (Wrong flaw) = record { stage = WentWrong flaw; slots = slots }
 abbrev pub at_begin : Slots → Alone
 at_begin slots = record { stage = Runs begun; slots = slots }
 
--- so many events lead from one state to another; told are the questions and their replies, in order
+-- n events lead from one state to another; `told` is the list of the questions and their replies, in order
 pub data RunsAlone (meaning : Meaning) (p : Parts) (e : ℕ) : ℕ → Alone → List (Request × Reply) → Alone → Type 0 where
   rests : {x : Alone} → RunsAlone meaning p e 0 x [] x
   steps : {n : ℕ} {l : Local} {slots : Slots} {told : List (Request × Reply)} {x : Alone} → l.asked ≡ false
@@ -40,20 +40,20 @@ pub data RunsAlone (meaning : Meaning) (p : Parts) (e : ℕ) : ℕ → Alone →
       → RunsAlone meaning p e n (after l slots t) told x
       → RunsAlone meaning p e (suc n) (record { stage = Runs l; slots = slots }) ((q, r) ∷ told) x
 
--- it didn't go wrong, and where it ended its slots are set
+-- it didn't go wrong, and if it ended, its slots are set
 abbrev pub IsFine : Parts → ℕ → Slots → Stage → Type 0
 IsFine p e slots (Runs l) = Unit {0}
 IsFine p e slots (Ended ran) = AreOwnSet p e slots
 IsFine p e slots (Failed cause) = Unit {0}
 IsFine p e slots (WentWrong flaw) = ⊥
 
--- an edge with shapes, run alone from slots that fit, never goes wrong, and where it ends its slots are set
+-- an edge with shapes, run alone from slots that fit, never goes wrong, and when it ends, its slots are set
 abbrev pub NeverWrongAlone : Type 0
 NeverWrongAlone =
     (p : Parts) (e : ℕ) → IsShapedEdge p e → (slots : Slots) → AreTyped p slots → AreLentSet p e slots
     → (meaning : Meaning) (n : ℕ) (told : List (Request × Reply)) (x : Alone) → RunsAlone meaning p e n (at_begin slots) told x → AreTyped p x.slots × IsFine p e x.slots x.stage
 
--- an edge run alone that still runs can go on: by a step, or by each reply that suits what it asked
+-- an edge run alone that has a pending question can go on with each reply that matches it
 abbrev pub GoesOnAlone : Type 0
 GoesOnAlone =
     (p : Parts) (e : ℕ) → IsShapedEdge p e → (slots : Slots) → AreTyped p slots → AreLentSet p e slots

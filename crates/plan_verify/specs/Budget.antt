@@ -1,4 +1,4 @@
--- How many events an edge may have.
+-- The event budget of an edge.
 use Rattle.std.specs.Prelude.{◌≡◌, ℕ, zero, suc, ◌+◌, ◌*◌, ◌<◌, ◌≤◌, Bool, true, false, if◌then◌else◌, List, [], ◌∷◌, length, Ok}
 use Rattle.plan_image.specs.declared.instr.Instr.{Instr}
 use Rattle.plan_image.specs.declared.instr.Instr.TheVariants as op
@@ -9,7 +9,8 @@ use Rattle.plan_verify.specs.WellShaped.{IsWellShaped}
 use Rattle.plan_verify.specs.Sound.{AreTyped, AreLentSet}
 use Rattle.plan_verify.specs.Alone.{Alone, at_begin, RunsAlone}
 
--- whether an instruction asks one question; a Sweep asks one for each path, which the bytes that brought it pay
+-- whether an instruction asks one question; a Sweep asks one for each path, and the bytes that brought the path
+-- pay for it
 abbrev pub asks_once : Instr → Bool
 asks_once (op.Stat f) = true
 asks_once (op.Need f) = true
@@ -41,7 +42,7 @@ asks_once op.Release = false
 asks_once op.Drop = false
 asks_once op.Swap = false
 
--- two for an instruction that asks once, one for each other
+-- two for an instruction that asks one question, and one for each other instruction
 abbrev pub cost : Instr → ℕ
 cost i = if asks_once i then 2 else 1
 
@@ -49,16 +50,16 @@ abbrev pub costs : List Instr → ℕ
 costs [] = 0
 costs (i ∷ is) = cost i + costs is
 
--- one for its start
+-- one for the start, and the costs of the code
 abbrev pub edge_budget : Parts → ℕ → ℕ
 edge_budget p e = 1 + costs (code p e)
 
--- of the first edges together
+-- the budget of the first edges together
 abbrev pub budget_of_first : Parts → ℕ → ℕ
 budget_of_first p zero = 0
 budget_of_first p (suc n) = budget_of_first p n + edge_budget p n
 
--- of all edges together
+-- the budget of all edges together
 abbrev pub image_budget : Parts → ℕ
 image_budget p = budget_of_first p (length p.edges)
 
@@ -66,7 +67,7 @@ abbrev pub path_bytes : List (List ℕ) → ℕ
 path_bytes [] = 0
 path_bytes (path ∷ paths) = 4 + length path + path_bytes paths
 
--- the dependency bytes that a reply brings
+-- the number of dependency bytes in a reply
 abbrev pub brought : Reply → ℕ
 brought (Bytes bytes) = length bytes
 brought (Entry command basis paths) = path_bytes paths
@@ -76,11 +77,11 @@ abbrev pub all_brought : List (Request × Reply) → ℕ
 all_brought [] = 0
 all_brought (t ∷ told) = brought t.1 + all_brought told
 
--- a path takes two bytes of a depfile at least
+-- each path takes at least two bytes of a depfile
 abbrev pub IsFrugal : Meaning → Type 0
 IsFrugal meaning = (bytes : List ℕ) (paths : List (List ℕ)) → meaning bytes ≡ Ok paths → 2 * length paths ≤ length bytes
 
--- an edge run alone has no more events than its budget and the bytes that came in
+-- an edge run alone has no more events than its budget and the number of bytes in the replies together
 abbrev pub StaysInBudgetAlone : Type 0
 StaysInBudgetAlone =
     (p : Parts) (e : ℕ) → IsWellShaped p → e < length p.edges → (slots : Slots) → AreTyped p slots → AreLentSet p e slots

@@ -1,4 +1,4 @@
--- What the crates above take from a well-shaped image.
+-- The facts that the crates above take from a well-shaped image.
 use Rattle.std.specs.Prelude.{◌≡◌, ℕ, ◌<◌, ◌^◌, false, List, length, Some, slice_get, Contains, All}
 use Rattle.plan_image.specs.declared.image.Slot.{Slot}
 use Rattle.plan_image.specs.declared.image.Edge.{Edge}
@@ -20,7 +20,7 @@ pub record IsEdgeInRange (p : Parts) (x : Edge) : Type 0 where
   pub some_output : 0 < length x.outputs
   pub outputs : All (λ f. f < length p.files) x.outputs
 
--- a slot's owner is an edge, and what it holds is no list of paths
+-- a slot's owner is an edge, and the slot holds no list of paths
 pub record IsSlotInRange (p : Parts) (slot : Slot) : Type 0 where
   pub owner : slot.owner < length p.edges
   pub kind : is_paths slot.kind ≡ false
@@ -36,17 +36,18 @@ pub record AreInRange (p : Parts) : Type 0 where
 abbrev pub TablesAreInRange : Type 0
 TablesAreInRange = (p : Parts) → IsWellShaped p → AreInRange p
 
--- the place of an instruction fits four bytes
+-- the place of an instruction fits into four bytes
 abbrev pub CodesAreShort : Type 0
 CodesAreShort = (p : Parts) (e : ℕ) → HasSpelling p → length (code p e) < 2 ^ 32
 
--- an edge of a well-shaped image, run alone from slots that fit, never goes wrong, and where it ends its slots are set
+-- an edge of a well-shaped image, run alone from slots that fit, never goes wrong, and when it ends, its slots
+-- are set
 abbrev pub VerifiedNeverGoesWrong : Type 0
 VerifiedNeverGoesWrong =
     (p : Parts) (e : ℕ) → IsWellShaped p → e < length p.edges → (slots : Slots) → AreTyped p slots → AreLentSet p e slots
     → (meaning : Meaning) (n : ℕ) (told : List (Request × Reply)) (x : Alone) → RunsAlone meaning p e n (at_begin slots) told x → AreTyped p x.slots × IsFine p e x.slots x.stage
 
--- an edge that is refused has no shapes, and an image that is refused isn't well shaped
+-- a refused edge has no shapes, and a refused image isn't well shaped
 pub record RefusalsAreTrue : Type 0 where
   pub edge : (p : Parts) (e place : ℕ) (r : Refusal) → IsFirstRefusal p e place r → IsShapedEdge p e → ⊥
   pub image : (p : Parts) (e place : ℕ) (r : Refusal) → IsRefused p e place r → IsWellShaped p → ⊥

@@ -1,4 +1,4 @@
--- The numbers of refusals, and where they stand.
+-- The numbers of refusals, and the edges and places of faults.
 use Rattle.std.specs.Prelude.{ℕ, Option, Some, None}
 use Rattle.plan_verify.specs.declared.fault.Refusal.{Refusal}
 use Rattle.plan_verify.specs.declared.fault.Refusal.TheVariants as refusal

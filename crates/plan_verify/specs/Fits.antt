@@ -1,4 +1,5 @@
--- An instruction fits its place: the shape there has what it takes, and each place that it goes on to has exactly what it leaves.
+-- An instruction fits its place: the shape there has the values that the instruction takes, and each place that
+-- it continues to has exactly the shape that it leaves.
 use Rattle.std.specs.Prelude.{◌≡◌, ℕ, ◌+◌, ◌<◌, ◌≤◌, true, false, ◌⊎◌, List, [], ◌∷◌, ◌++◌, length, Some, IsSome, slice_get}
 use Rattle.std.specs.List.{list_all}
 use Rattle.plan_image.specs.declared.instr.Kind.{Kind}
@@ -25,11 +26,11 @@ with_kinds s kinds = record { kinds = kinds; holding = s.holding; set = s.set }
 abbrev pub GoesOn : Parts → ℕ → List Shape → ℕ → Shape → List Kind → Type 0
 GoesOn p e shapes n s kinds = Leads p e shapes (n + 1) (with_kinds s kinds)
 
--- takes those kinds from the top of the stack, and goes on with others in their place
+-- takes these kinds from the top of the stack, and continues with others instead
 abbrev pub Turns : Parts → ℕ → List Shape → ℕ → Shape → (taken given : List Kind) → Type 0
 Turns p e shapes n s taken given = (rest : List Kind) × (s.kinds ≡ taken ++ rest) × GoesOn p e shapes n s (given ++ rest)
 
--- a slot that may be loaded: an own one that is set, or one of an edge waited for
+-- a slot that may be loaded: an own slot that is set, or a slot of an edge that is waited for
 abbrev pub IsLoadable : Parts → ℕ → Shape → ℕ → Type 0
 IsLoadable p e s k = (is_member k s.set ≡ true) ⊎ ((owns p e k ≡ false) × (is_lent p e k ≡ true))
 

@@ -13,6 +13,8 @@ pub mod Seam
 pub mod Pass
 pub mod Arrivals
 pub mod OwnSet
+pub mod PathRows
+pub mod SlotTree
 pub mod Wanted
 pub mod OwnSlots
 pub mod Faults

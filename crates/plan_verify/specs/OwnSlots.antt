@@ -10,16 +10,16 @@ use Rattle.plan_verify.specs.Shape.{is_paths}
 abbrev pub none : OwnSlots
 none = record { count = 0; has_paths = false }
 
--- with one slot more
+-- counts one more slot
 abbrev pub more : OwnSlots → Slot → OwnSlots
 more own slot = record { count = own.count + 1; has_paths = own.has_paths || is_paths slot.kind }
 
--- the own slots of an edge among these, and some counted before
+-- the own slots of an edge among these, added to those counted before
 abbrev pub counted : ℕ → OwnSlots → List Slot → OwnSlots
 counted e own [] = own
 counted e own (slot ∷ slots) = counted e (if slot.owner == e then more own slot else own) slots
 
--- one slot more for its owner
+-- counts one more slot for its owner
 pub record CountsMore (old : List OwnSlots) (slot : Slot) (new : List OwnSlots) : Type 0 where
   pub long : length new ≡ length old
   pub each : (e : ℕ) (own : OwnSlots) → slice_get new e ≡ Some own
@@ -30,7 +30,7 @@ pub record AreCounted (p : Parts) (place : ℕ) (all : List OwnSlots) : Type 0 w
   pub long : length all ≡ length p.edges
   pub each : (e : ℕ) (own : OwnSlots) → slice_get all e ≡ Some own → (own.count ≤ place) × (counted e own (drop place p.slots) ≡ counted e none p.slots)
 
--- what is counted is what the table says of an edge
+-- the counted values are those of the edge's own slots in the table
 pub record IsOwn (p : Parts) (e : ℕ) (own : OwnSlots) : Type 0 where
   pub count : own.count ≡ length (own_slots p e)
   pub paths : own.has_paths ≡ list_any (λ s. is_paths (slot_kind p s)) (own_slots p e)

@@ -1,11 +1,11 @@
--- What a machine of many edges takes from one edge's step.
+-- The facts that a machine of many edges takes from one edge's step.
 use Rattle.std.specs.Prelude.{◌≡◌, ℕ, Bool, true, false, List, Some, is_some}
 use Rattle.plan_image.specs.declared.image.Parts.{Parts}
 use Rattle.plan_verify.specs.declared.shape.Shape.{Shape}
 use Rattle.plan_verify.specs.Turn.{Slots, is_set, Local, Request, Stat, Recall, Run, Deps, Keep, Reply, StampIs, Entry, Nothing, Exit, Signal, NotStarted, Bytes, Kept, Fault, Meaning, question, heard}
 use Rattle.plan_verify.specs.Sound.{IsTyped}
 
--- what an edge asks doesn't hang on the slots
+-- an edge's question doesn't depend on the slots
 abbrev pub QuestionsIgnoreSlots : Type 0
 QuestionsIgnoreSlots = (p : Parts) (e : ℕ) (slots other : Slots) (l : Local) → question p e slots l ≡ question p e other l
 
@@ -15,7 +15,7 @@ StaysTyped =
     (p : Parts) (e : ℕ) (shapes : List Shape) (slots new : Slots) (l : Local) → ((s : ℕ) → is_set slots s ≡ true → is_set new s ≡ true)
     → IsTyped p e shapes slots l → IsTyped p e shapes new l
 
--- which replies suit a question
+-- whether a reply matches a question
 abbrev pub suits : Request → Reply → Bool
 suits (Stat path) (StampIs n) = true
 suits (Stat path) Fault = true
@@ -32,7 +32,7 @@ suits (Keep output command basis paths) Kept = true
 suits (Keep output command basis paths) Fault = true
 suits q r = false
 
--- an edge that asked hears just the replies that suit its question
+-- an edge with a pending question accepts a reply if and only if it matches the question
 abbrev pub HearsWhatSuits : Type 0
 HearsWhatSuits =
     (p : Parts) (e : ℕ) (slots : Slots) (l : Local) (meaning : Meaning) (q : Request) (r : Reply) → l.asked ≡ true → question p e slots l ≡ Some q

@@ -1,4 +1,4 @@
--- What is known of an edge at a place, and what is refused there.
+-- What is known about an edge at a place, and what is refused there.
 use Rattle.std.specs.Prelude.{ℕ, ◌+◌, Bool, true, false, not, ◌||◌, ◌&&◌, List, [], ◌∷◌, ◌++◌, length, drop, take, Option, Some, None, nat_lt, nat_le, ◌==◌, if◌then◌else◌, slice_get}
 use Rattle.std.specs.List.{list_all, list_any}
 use Rattle.plan_image.specs.declared.instr.Kind.{Kind}
@@ -16,9 +16,9 @@ use Rattle.plan_verify.specs.Members.{is_member, with_member}
 use Rattle.plan_verify.specs.Stack.{swapped}
 use Rattle.plan_verify.specs.Tables.{owns, is_lent, own_slots, slot_kind, is_outside}
 
--- ---- what an instruction does to the shape
+-- ---- the effect of an instruction on the shape
 
--- what it takes from the stack, the top first; none for any kind
+-- the kinds that it takes from the stack, the top first; None accepts any kind
 abbrev pub takes : Parts → Instr → List (Option Kind)
 takes p (op.Store s) = Some (slot_kind p s) ∷ []
 takes p op.Older = Some Stamp ∷ Some Stamp ∷ []
@@ -39,7 +39,7 @@ takes p op.Drop = None ∷ []
 takes p op.Swap = None ∷ None ∷ []
 takes p _ = []
 
--- what it puts there, the top first, for the kinds that it took
+-- the kinds that it pushes, the top first, given the kinds that it took
 abbrev pub gives : Parts → Instr → List Kind → List Kind
 gives p (op.Stat f) taken = Stamp ∷ []
 gives p (op.Need f) taken = Stamp ∷ []
@@ -79,14 +79,14 @@ set_after _ set = set
 unfoldable pub left : Parts → Instr → Shape → Shape
 left p i s = record { kinds = kinds_after p i s.kinds; holding = holding_after i s.holding; set = set_after i s.set }
 
--- the places that an instruction goes on to
+-- the places that an instruction can continue to
 abbrev pub targets : ℕ → Instr → List ℕ
 targets place op.End = []
 targets place (op.Jump d) = d ∷ []
 targets place (op.JumpIf d) = (place + 1) ∷ d ∷ []
 targets place _ = (place + 1) ∷ []
 
--- ---- what is refused at a place, each by a test
+-- ---- the refusals at a place, each with a test
 
 abbrev pub bad_slot : Parts → ℕ → Instr → Bool
 bad_slot p e (op.Load s) = not (owns p e s || is_lent p e s)
@@ -131,7 +131,7 @@ abbrev pub is_wanted : Option Kind → Kind → Bool
 is_wanted (Some a) b = same_kind a b
 is_wanted None b = true
 
--- of another kind, as far as there are kinds
+-- one of the kinds on the stack differs from the one that is taken
 abbrev pub wrong_kind : List (Option Kind) → List Kind → Bool
 wrong_kind [] kinds = false
 wrong_kind (w ∷ ws) [] = false
@@ -177,7 +177,7 @@ checks p e place i s =
 unfoldable pub refused : Parts → ℕ → ℕ → Instr → Shape → Option Refusal
 refused p e place i s = first_of (checks p e place i s)
 
--- ---- what is refused of an edge's tables
+-- ---- the refusals about an edge's tables
 
 abbrev pub ranks_below : Option Edge → ℕ → Bool
 ranks_below (Some maker) rank = nat_lt maker.rank rank
@@ -201,7 +201,7 @@ table_checks p e x =
     ∷ (list_any (λ s. is_paths (slot_kind p s)) (own_slots p e), refusal.PathsInSlot)
     ∷ []
 
--- the first check of its tables that fails
+-- the first check of an edge's tables that fails
 abbrev pub table_refusal_of : Parts → ℕ → Option Edge → Option Refusal
 table_refusal_of p e (Some x) = first_of (table_checks p e x)
 table_refusal_of p e None = None
@@ -209,13 +209,13 @@ table_refusal_of p e None = None
 unfoldable pub table_refusal : Parts → ℕ → Option Refusal
 table_refusal p e = table_refusal_of p e (slice_get p.edges e)
 
--- of all edges' tables together
+-- the checks of all edges together
 abbrev pub image_checks : Parts → List (Bool × Refusal)
 image_checks p =
     (list_any (λ e. nat_le (length p.edges) e) p.defaults, refusal.BadWait)
     ∷ (list_any (λ (s : Slot). nat_le (length p.edges) s.owner) p.slots, refusal.BadSlot)
     ∷ []
 
--- the first of these that fails
+-- the first check of all edges together that fails
 unfoldable pub image_refusal : Parts → Option Refusal
 image_refusal p = first_of (image_checks p)

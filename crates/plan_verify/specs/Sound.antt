@@ -1,4 +1,4 @@
--- An edge whose values are those that the shape at its place says.
+-- An edge whose values have the kinds of the shape at its place.
 use Rattle.std.specs.Prelude.{◌≡◌, ℕ, true, false, List, [], length, map, Some, IsSome, IfSome, slice_get, slice_set}
 use Rattle.std.specs.List.{list_all}
 use Rattle.plan_image.specs.declared.instr.Instr.{Instr}
@@ -25,7 +25,7 @@ AreLentSet p e slots = (s : ℕ) → is_lent p e s ≡ true → is_set slots s �
 abbrev pub AreOwnSet : Parts → ℕ → Slots → Type 0
 AreOwnSet p e slots = list_all (is_set slots) (own_slots p e) ≡ true
 
--- the edge is as the shape at its place says, and if it asked, there is a question
+-- the edge is as the shape at its place describes, and if it has asked, there is a question
 pub record IsTyped (p : Parts) (e : ℕ) (shapes : List Shape) (slots : Slots) (l : Local) : Type 0 where
   pub shape : Shape
   pub here : slice_get shapes l.place ≡ Some shape
@@ -38,8 +38,8 @@ pub record IsTyped (p : Parts) (e : ℕ) (shapes : List Shape) (slots : Slots) (
 abbrev pub asking : Local → Local
 asking l = record { place = l.place; stack = l.stack; holding = l.holding; ran = l.ran; asked = true }
 
--- A turn of this edge isn't wrong. Where it goes on, the edge is typed again; a slot that it sets is its own and gets
--- a value of its kind; where it ends, nothing is left or held and all its slots are set.
+-- A turn of this edge isn't wrong. If it goes on, the edge is typed again. If it sets a slot, the slot is its
+-- own and gets a value of its kind. If it ends, nothing is left or held and all its slots are set.
 abbrev pub IsSafe : Parts → ℕ → List Shape → Slots → Local → Turn → Type 0
 IsSafe p e shapes slots l (Goes did m) = IsTyped p e shapes slots m
 IsSafe p e shapes slots l (Sets s v m) = (owns p e s ≡ true) × (kind_of v ≡ slot_kind p s) × IsTyped p e shapes (slice_set slots s (Some v)) m
@@ -62,7 +62,7 @@ StepsAreSafe =
     (p : Parts) (e : ℕ) (shapes : List Shape) → AreAllShapes p e shapes
     → (slots : Slots) (l : Local) → AreTyped p slots → AreLentSet p e slots → IsTyped p e shapes slots l → IsSafe p e shapes slots l (turn p e slots l)
 
--- so is what it does by a reply that fits
+-- the effect of a matching reply on a typed edge is safe
 abbrev pub RepliesAreSafe : Type 0
 RepliesAreSafe =
     (p : Parts) (e : ℕ) (shapes : List Shape) → AreAllShapes p e shapes

@@ -2,7 +2,7 @@
 use Rattle.std.specs.Prelude.{List, ◌∷◌}
 use Rattle.plan_image.specs.declared.instr.Kind.{Kind}
 
--- the two at the top, turned round
+-- the two top kinds, swapped
 abbrev pub swapped : List Kind → List Kind
 swapped (x ∷ y ∷ kinds) = y ∷ x ∷ kinds
 swapped kinds = kinds

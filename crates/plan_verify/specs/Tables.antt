@@ -1,4 +1,4 @@
--- What an edge's instructions read of the tables.
+-- The parts of the tables that an edge's instructions read.
 use Rattle.std.specs.Prelude.{ℕ, ◌+◌, Bool, false, List, [], ◌∷◌, length, Option, Some, None, nat_le, ◌==◌, if◌then◌else◌, slice_get}
 use Rattle.plan_image.specs.declared.instr.Kind.{Kind}
 use Rattle.plan_image.specs.declared.instr.Kind.TheVariants as kind
@@ -32,7 +32,7 @@ abbrev pub first_path : Parts → List ℕ → Option (List ℕ)
 first_path p [] = None
 first_path p (f ∷ fs) = path_of p f
 
--- the path of an edge's first output, none where it has none inside the file table
+-- the path of an edge's first output, or None if it has none inside the file table
 abbrev pub first_output : Parts → ℕ → Option (List ℕ)
 first_output p e = first_path p (outputs_of p e)
 
@@ -40,7 +40,7 @@ abbrev pub with_path : Option (List ℕ) → Option (List (List ℕ)) → Option
 with_path (Some path) (Some paths) = Some (path ∷ paths)
 with_path _ _ = None
 
--- the paths of files, none where one is outside the table
+-- the paths of files, or None if one of them is outside the table
 abbrev pub paths_of : Parts → List ℕ → Option (List (List ℕ))
 paths_of p [] = Some []
 paths_of p (f ∷ fs) = with_path (path_of p f) (paths_of p fs)
@@ -66,7 +66,7 @@ abbrev pub kind_in : Option Slot → Kind
 kind_in (Some slot) = slot.kind
 kind_in None = kind.Stamp
 
--- the kind of a slot; the number is inside the table wherever this is asked
+-- the kind of a slot; it is only used if the number is inside the table
 abbrev pub slot_kind : Parts → ℕ → Kind
 slot_kind p s = kind_in (slice_get p.slots s)
 
@@ -82,7 +82,7 @@ abbrev pub lent_by : List ℕ → Option Slot → Bool
 lent_by waits (Some slot) = is_member slot.owner waits
 lent_by waits None = false
 
--- whether a slot is of an edge that this one waits for
+-- whether a slot belongs to an edge that this one waits for
 abbrev pub is_lent : Parts → ℕ → ℕ → Bool
 is_lent p e s = lent_by (waits_of p e) (slice_get p.slots s)
 
@@ -90,6 +90,6 @@ abbrev pub own_from : ℕ → ℕ → List Slot → List ℕ
 own_from e n [] = []
 own_from e n (slot ∷ slots) = if slot.owner == e then n ∷ own_from e (n + 1) slots else own_from e (n + 1) slots
 
--- an edge's own slots, ascending
+-- an edge's own slots, in ascending order
 abbrev pub own_slots : Parts → ℕ → List ℕ
 own_slots p e = own_from e 0 p.slots

@@ -1,4 +1,4 @@
--- One edge, with any values in any place: what it does next, and how that can be wrong.
+-- One edge, with any values in any slot: its next turn, and how the turn can be wrong.
 use Rattle.std.specs.Prelude.{ℕ, zero, suc, ◌+◌, Bool, true, false, not, ◌||◌, ◌&&◌, Result, Ok, Err, List, [], ◌∷◌, ◌++◌, length, drop, Option, Some, None, nat_lt, nat_le, ◌==◌, if◌then◌else◌, slice_get}
 use Rattle.std.specs.List.{list_all}
 use Rattle.plan_image.specs.declared.instr.Kind.{Kind}
@@ -24,7 +24,7 @@ kind_of (Text t) = kind.Text
 kind_of (Paths swept all) = kind.Paths
 kind_of (Swept all) = kind.Swept
 
--- what each slot of the table has, none where it isn't set
+-- the value of each slot of the table, or None if it isn't set
 abbrev pub Slots : Type 0
 Slots = List (Option Value)
 
@@ -53,7 +53,7 @@ pub data Reply : Type 0 where
   Kept : Reply
   Fault : Reply
 
--- what a depfile's bytes say: the paths, or a fault's number and offset
+-- the meaning of a depfile's bytes: the paths, or the number and offset of a fault
 abbrev pub Meaning : Type 0
 Meaning = List ℕ → Result (List (List ℕ)) (ℕ × ℕ)
 
@@ -70,7 +70,7 @@ pub record Local : Type 0 where
 abbrev pub begun : Local
 begun = record { place = 0; stack = []; holding = false; ran = false; asked = false }
 
--- how it can be wrong
+-- the ways in which a turn can be wrong
 pub data Flaw : Type 0 where
   TooFew : Flaw
   OtherKind : Flaw
@@ -93,7 +93,7 @@ pub data Did : Type 0 where
   Took : Did
   Released : Did
 
--- what an edge does in one step, or by one reply
+-- the effect of one step or one reply on an edge
 pub data Turn : Type 0 where
   Goes : Did → Local → Turn
   Sets : (slot : ℕ) (value : Value) → Local → Turn
@@ -102,14 +102,14 @@ pub data Turn : Type 0 where
   Fails : Cause → Turn
   Wrong : Flaw → Turn
 
--- ---- calculations: instructions that read and leave the stack alone
+-- ---- calculations: instructions that read and change only the stack
 
 pub data Calculated : Type 0 where
   On : (stack : List Value) → Calculated
   TooLong : Calculated
   Off : Flaw → Calculated
 
--- of a stack on which an instruction that takes so many values doesn't find them
+-- the flaw if an instruction that takes n values doesn't find them on this stack
 abbrev pub lacks : ℕ → List Value → Flaw
 lacks n stack = if nat_lt (length stack) n then TooFew else OtherKind
 
@@ -124,11 +124,11 @@ same_text [] [] = true
 same_text (a ∷ as') (b ∷ bs) = (a == b) && same_text as' bs
 same_text _ _ = false
 
--- first then second, where that isn't too long for a text
+-- the first text and then the second, if the result isn't too long for a text
 abbrev pub joined : List ℕ → List ℕ → List Value → Calculated
 joined a b below = if nat_lt 1048576 (length a + length b) then TooLong else On (Text (a ++ b) ∷ below)
 
--- an instruction that calculates nothing leaves the stack as it is
+-- an instruction that calculates nothing leaves the stack unchanged
 abbrev pub calculate : Instr → List Value → Calculated
 calculate op.Older (Stamp b ∷ Stamp a ∷ below) = On (Stamp (earlier a b) ∷ below)
 calculate op.Older stack = Off (lacks 2 stack)
@@ -159,21 +159,21 @@ calculate i stack = On stack
 
 -- ---- going on
 
--- at a place, with that stack
+-- continues at a place, with this stack
 abbrev pub goes : Local → ℕ → List Value → Turn
 goes l to stack =
     if nat_lt 64 (length stack) then Wrong TooDeep
     else Goes Moved (record { place = to; stack = stack; holding = l.holding; ran = l.ran; asked = false })
 
--- at the next place
+-- continues at the next place
 abbrev pub next : Local → List Value → Turn
 next l stack = goes l (l.place + 1) stack
 
--- at the next place, with or without a place of the pool
+-- continues at the next place, with or without a job token
 abbrev pub holds : Did → Local → Bool → Turn
 holds did l held = Goes did (record { place = l.place + 1; stack = l.stack; holding = held; ran = l.ran; asked = false })
 
--- forwards, inside code of that length
+-- continues forwards, inside code of this length
 abbrev pub jumps : Local → ℕ → ℕ → List Value → Turn
 jumps l len to stack =
     if nat_le to l.place then Wrong JumpBack else if nat_le len to then Wrong PlaceOutside else goes l to stack
@@ -213,7 +213,7 @@ abbrev pub writes : Local → Option (List ℕ) → Turn
 writes l (Some t) = next l (Text t ∷ l.stack)
 writes l None = Wrong TextOutside
 
--- asks for the first path not yet swept; has swept them where none is left
+-- asks for the first path that is not yet swept; if none is left, the paths are swept
 abbrev pub sweeps : Local → List (List ℕ) → List Value → Option (List ℕ) → Turn
 sweeps l all below (Some path) = Asks (Stat path)
 sweeps l all below None = next l (Swept all ∷ below)
@@ -240,7 +240,7 @@ keeps (Some output) (Swept paths ∷ Stamp basis ∷ Text command ∷ below) = A
 keeps (Some output) stack = Wrong (lacks 3 stack)
 keeps None stack = Wrong FileOutside
 
--- What one instruction does. A question leaves its operands where they are: the reply does the whole effect.
+-- The effect of one instruction. A question leaves its operands on the stack. The reply has the whole effect.
 abbrev pub act : Parts → ℕ → Slots → Local → Instr → Turn
 act p e slots l op.End = ends p e slots l
 act p e slots l (op.Stat f) = asks_of (path_of p f) Stat
@@ -263,7 +263,7 @@ abbrev pub act_at : Parts → ℕ → Slots → Local → Option Instr → Turn
 act_at p e slots l (Some i) = act p e slots l i
 act_at p e slots l None = Wrong PlaceOutside
 
--- What an edge does in a step. Whether a Take is admitted is not its to say.
+-- The effect of a step on an edge. Whether a Take is admitted is decided elsewhere.
 unfoldable pub turn : Parts → ℕ → Slots → Local → Turn
 turn p e slots l = act_at p e slots l (slice_get (code p e) l.place)
 
@@ -271,13 +271,13 @@ abbrev pub request_of : Turn → Option Request
 request_of (Asks q) = Some q
 request_of _ = None
 
--- what an edge asks in a step, and is asking after it
+-- the question that an edge asks in a step, and that is pending after it
 abbrev pub question : Parts → ℕ → Slots → Local → Option Request
 question p e slots l = request_of (turn p e slots l)
 
 -- ---- replies
 
--- a swept path's stamp is merged
+-- merges the stamp of a swept path
 abbrev pub merged : ℕ → List Value → List Value
 merged stamp (Paths swept all ∷ Flag b ∷ Stamp n ∷ below) = Paths (swept + 1) all ∷ Flag (b || (stamp == 0)) ∷ Stamp (later n stamp) ∷ below
 merged stamp stack = stack
@@ -289,7 +289,7 @@ found l (Err fault) = Fails (DepfileMalformed fault.0 fault.1)
 abbrev pub ran : Local → Local
 ran l = record { place = l.place; stack = l.stack; holding = l.holding; ran = true; asked = l.asked }
 
--- what a reply does at an instruction, none where it doesn't fit the question
+-- the effect of a reply at an instruction, or None if it doesn't match the question
 abbrev pub replied : Meaning → Local → Instr → Reply → Option Turn
 replied meaning l (op.Stat f) (StampIs n) = Some (next l (Stamp n ∷ l.stack))
 replied meaning l (op.Stat f) Fault = Some (Fails StatFault)
@@ -316,6 +316,7 @@ abbrev pub replied_at : Meaning → Local → Option Instr → Reply → Option 
 replied_at meaning l (Some i) r = replied meaning l i r
 replied_at meaning l None r = None
 
--- What a reply does to an edge that has asked, none where it has asked nothing or the reply doesn't fit.
+-- The effect of a reply on an edge that has asked. It is None if the edge has asked nothing or the reply
+-- doesn't match.
 unfoldable pub heard : Meaning → Parts → ℕ → Local → Reply → Option Turn
 heard meaning p e l r = if l.asked then replied_at meaning l (slice_get (code p e) l.place) r else None

@@ -1,7 +1,7 @@
 -- The values that an instruction takes, as a list with gaps.
 use Rattle.std.specs.Prelude.{List, [], ◌∷◌, Option, Some, None}
 
--- what stands in a list of options
+-- the values in a list of options
 abbrev pub options : {X : Type 0} → List (Option X) → List X
 options [] = []
 options (None ∷ os) = options os

@@ -1,4 +1,4 @@
--- What an edge under way may still cost, and that each of its turns pays for itself.
+-- The remaining cost of a running edge, which pays for each of its turns.
 use Rattle.std.specs.Prelude.{◌≡◌, ℕ, ◌+◌, ◌-◌, ◌*◌, ◌≤◌, List, [], ◌∷◌, length, drop, Some}
 use Rattle.plan_image.specs.declared.instr.Instr.{Instr}
 use Rattle.plan_image.specs.declared.image.Parts.{Parts}
@@ -23,15 +23,15 @@ abbrev pub unswept : List Value → ℕ
 unswept [] = 0
 unswept (v ∷ vs) = paths_left v + unswept vs
 
--- what the code from a place on may cost
+-- the cost of the code from a place on
 abbrev pub rest_of : List Instr → ℕ → ℕ
 rest_of is n = costs (drop n is)
 
--- what an edge may still cost: by the code ahead of it, and the paths on its stack
+-- the remaining cost of an edge: that of the code from its place on, and that of the paths on its stack
 abbrev pub worth : Parts → ℕ → Local → ℕ
 worth p e l = rest_of (code p e) l.place + unswept l.stack
 
--- what a turn leaves, and one more for the event, is within m
+-- the remaining cost after a turn, plus one for the event, is at most m
 abbrev pub Pays : Parts → ℕ → Local → ℕ → Turn → Type 0
 Pays p e l m (Goes did k) = worth p e k + 1 ≤ m
 Pays p e l m (Sets s v k) = worth p e k + 1 ≤ m
@@ -42,8 +42,9 @@ Pays p e l m (Wrong flaw) = Unit {0}
 
 -- ---- laws
 
--- In a well-shaped image an edge that is as its shape says has something left; a step is paid by what is left, and a
--- reply by that and the bytes which it brings, where one is kept back for each question.
+-- In a well-shaped image, an edge that is as its shape describes has a positive remaining cost. This cost pays
+-- for a step. A reply is paid for by the remaining cost and the bytes in the reply, of which one is reserved
+-- for each question.
 pub record TurnsPay (p : Parts) (e : ℕ) (slots : Slots) (l : Local) : Type 0 where
   pub some : 1 ≤ worth p e l
   pub step : Pays p e l (worth p e l) (turn p e slots l)

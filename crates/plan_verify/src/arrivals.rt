@@ -1,4 +1,4 @@
-//! What arrives at the places of a code by jumps.
+//! The shapes that jumps bring to the places of a code.
 
 ghost use Rattle.std.specs.Prelude.{◌≡◌, ◌<◌, IfOk, OnOk, length, replicate, All};
 ghost use Rattle.plan_verify.specs.Arrivals.{Joins, JoinsAt, JoinsEach, jumps_to};
@@ -25,7 +25,7 @@ impl Model for KeptShape {
 }
 
 impl KeptShape {
-    /// A copy.
+    /// Copies a shape to the heap.
     fn of(alloc: Global, shape: &Shape) -> Result<KeptShape, AllocError>
         ensures { IfOk result (λ k. k ≡ shape.now) }
     {
@@ -33,14 +33,14 @@ impl KeptShape {
         Ok(KeptShape { held })
     }
 
-    /// The shape, lent.
+    /// Borrows the shape.
     pub(crate) fn shape(&self) -> &Shape
         ensures { result.now ≡ self.now }
     {
         &self.held
     }
 
-    /// The shape.
+    /// Returns the shape.
     pub(crate) fn into_shape(self) -> Shape
         ensures { result ≡ self }
     {
@@ -49,7 +49,7 @@ impl KeptShape {
     }
 }
 
-/// What arrives at a place by jumps: nothing, one shape, or several that differ.
+/// The shapes that jumps bring to a place: none, one shape, or several that differ.
 #[derive(Drop)]
 pub(crate) enum Arrival {
     Nothing,
@@ -57,7 +57,7 @@ pub(crate) enum Arrival {
     Differ,
 }
 
-/// Nothing at so many places.
+/// Returns a list with no shape at each of `len` places.
 pub(crate) fn no_arrivals(alloc: Global, len: usize) -> Result<Vec<Arrival>, AllocError>
     ensures { IfOk result (λ all. all.items ≡ replicate len arrival.Nothing) }
 {
@@ -68,7 +68,7 @@ pub(crate) fn no_arrivals(alloc: Global, len: usize) -> Result<Vec<Arrival>, All
     Ok(all)
 }
 
-/// With one shape more.
+/// Adds a shape to those of a place.
 fn with_shape(alloc: Global, before: Arrival, shape: &Shape) -> Result<Arrival, AllocError>
     ensures { IfOk result (λ a. Joins before a shape.now) }
 {
@@ -85,7 +85,7 @@ fn with_shape(alloc: Global, before: Arrival, shape: &Shape) -> Result<Arrival, 
     }
 }
 
-/// One shape more at a place.
+/// Adds a shape to the place `to`.
 fn arrive(alloc: Global, all: &mut Vec<Arrival>, to: usize, shape: &Shape) -> Result<(), AllocError>
     requires { to < length all.old.items }
     ensures { OnOk result (JoinsAt all.old.items all.new.items to shape.now) }
@@ -96,7 +96,7 @@ fn arrive(alloc: Global, all: &mut Vec<Arrival>, to: usize, shape: &Shape) -> Re
     Ok(())
 }
 
-/// The shape goes where the instruction jumps to.
+/// Adds the shape to the place that the instruction jumps to, if it can jump.
 pub(crate) fn jump(
     alloc: Global,
     all: &mut Vec<Arrival>,

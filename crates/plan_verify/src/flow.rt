@@ -1,4 +1,4 @@
-//! The shape that goes along from place to place.
+//! The shape that is carried from place to place.
 
 ghost use Rattle.std.specs.Prelude.{◌≡◌, true, false};
 ghost use Rattle.plan_verify.specs.Pass.{MeetsAs, goes_on};
@@ -10,14 +10,15 @@ use crate::shape::Shape;
 use plan_image::Instr;
 use std::alloc::Global;
 
-/// The shape that the place before leaves, and whether that goes on to this place.
+/// The shape that the instruction before this place leaves, and whether that instruction continues to this
+/// place.
 #[derive(Drop)]
 pub(crate) struct Flow {
     pub shape: Shape,
     pub falls: bool,
 }
 
-/// At the first place.
+/// Returns the flow at the first place.
 pub(crate) fn flow_at_start(alloc: Global) -> Flow
     ensures shape { result.shape ≡ at_start }
     ensures falls { result.falls ≡ true }
@@ -28,7 +29,8 @@ pub(crate) fn flow_at_start(alloc: Global) -> Flow
     }
 }
 
-/// The one shape of a place to which jumps bring this, or why there is none.
+/// Merges the shapes that jumps bring to a place into the flow. Returns a refusal if no shape arrives, or if
+/// two that differ do.
 pub(crate) fn meet(arrival: Arrival, flow: &mut Flow) -> Option<Refusal>
     ensures { MeetsAs arrival flow.old flow.new result }
 {
@@ -56,7 +58,7 @@ pub(crate) fn meet(arrival: Arrival, flow: &mut Flow) -> Option<Refusal>
     }
 }
 
-/// Whether the next place is one that an instruction goes on to.
+/// Returns whether an instruction can continue to the next place.
 pub(crate) fn falls_through(instr: Instr) -> bool
     ensures { result ≡ goes_on instr }
 {

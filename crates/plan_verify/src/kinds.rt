@@ -7,7 +7,7 @@ use arrayvec::ArrayVec;
 use plan_image::Kind;
 use std::marker::Model;
 
-/// The kinds of at most 64 values, the top first.
+/// The kinds of at most 64 values, the top of the stack first.
 #[derive(Drop)]
 pub struct Kinds {
     held: ArrayVec<Kind, 64>,
@@ -25,7 +25,7 @@ impl Model for Kinds {
 }
 
 impl Kinds {
-    /// No kind.
+    /// Creates an empty stack.
     pub(crate) fn new() -> Self
         ensures { result ≡ [] }
     {
@@ -34,7 +34,7 @@ impl Kinds {
         }
     }
 
-    /// How many there are.
+    /// Returns the number of kinds.
     pub(crate) fn len(&self) -> usize
         ensures value { result ≡ length self.now }
         ensures fits { result ≤ 64 }
@@ -42,7 +42,7 @@ impl Kinds {
         self.held.len()
     }
 
-    /// One more at the top.
+    /// Pushes a kind, which must fit.
     pub(crate) fn push(&mut self, kind: Kind)
         requires { length self.old < 64 }
         ensures { self.new ≡ kind ∷ self.old }
@@ -50,14 +50,14 @@ impl Kinds {
         self.held.push(kind);
     }
 
-    /// Takes the topmost off, where there is one.
+    /// Pops the top kind, if there is one.
     fn pop(&mut self)
         ensures { self.new ≡ drop 1 self.old }
     {
         let _ = self.held.pop();
     }
 
-    /// Takes some off.
+    /// Pops up to `count` kinds.
     pub(crate) fn cut(&mut self, count: usize)
         ensures { self.new ≡ drop count self.old }
     {
@@ -66,7 +66,7 @@ impl Kinds {
         }
     }
 
-    /// The kind at a depth, the top at 0.
+    /// Returns the kind at a depth, counted from 0 at the top. Returns None if the stack is not that deep.
     pub(crate) fn peek(&self, depth: usize) -> Option<Kind>
         ensures { result ≡ slice_get self.now depth }
     {
@@ -78,7 +78,7 @@ impl Kinds {
         }
     }
 
-    /// Turns the two at the top round, where there are two.
+    /// Swaps the two top kinds, if there are two.
     #[tactic(auto, using(crate::proofs::KindsLemmas::lengths))]
     pub(crate) fn swap(&mut self)
         ensures { self.new ≡ swapped (take 2 self.old) ++ drop 2 self.old }
@@ -93,14 +93,14 @@ impl Kinds {
         }
     }
 
-    /// Whether these are the others.
+    /// Returns whether two stacks have the same kinds.
     pub(crate) fn is_same(&self, other: &Kinds) -> bool
         ensures { IsTrue result ↔ (self.now ≡ other.now) }
     {
         are_same(self.held.as_slice(), other.held.as_slice())
     }
 
-    /// The same once more.
+    /// Returns a copy.
     pub(crate) fn copy(&self) -> Kinds
         ensures { result ≡ self.now }
     {

@@ -1,15 +1,18 @@
-//! Which images are well shaped, and what one edge of them does.
+//! Verifies that images are well shaped, and defines the behaviour of one edge.
 //!
-//! - `verify`: an image as a `Verified` one with its budget, or the image back with a `VerifyFault`: the first check that
-//!   fails, a `Refusal`, with edge and place. `verify_by`: the same by several threads.
-//! - `Value`, `Cause`: what stands on an edge's stack, and why an edge fails. `Shape`: what is known of an edge at a place.
-//! - The laws say what holds of each edge of a verified image, for the proofs of the crates above: run alone it never
-//!   goes wrong and stays in its budget, its tables are in range.
+//! - `verify` turns an image into a `Verified` one with its budget. If the image is refused, it returns the
+//!   image and a `VerifyFault`: the first check that fails, as a `Refusal`, with its edge and place.
+//!   `verify_by` does the same in several threads.
+//! - `Value` is a value on an edge's stack or in a slot. `Cause` is the reason why an edge fails. `Shape` is
+//!   what the verifier knows about an edge at a place.
+//! - The laws are about each edge of a verified image, for the proofs of the crates above. An edge that is run
+//!   alone never goes wrong and stays within its budget, and its tables are in range.
 //!
-//! docs/rules/verifier.md has the rules one by one.
+//! docs/rules/verifier.md lists the rules.
 #![tactic(auto)]
 
 mod arrivals;
+mod budget;
 mod fault;
 mod flow;
 mod kinds;
@@ -21,6 +24,7 @@ mod place_checks;
 mod shape;
 mod shape_change;
 mod slot_set;
+mod slot_tree;
 mod table_checks;
 mod value;
 mod verified;

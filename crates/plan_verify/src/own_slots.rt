@@ -7,7 +7,7 @@ ghost use Rattle.plan_verify.specs.Shape.{is_paths};
 use plan_image::{Kind, Parts, Slot};
 use std::alloc::{AllocError, Global};
 
-/// How many slots are an edge's own, and whether one of them has a kind of paths.
+/// The number of an edge's own slots, and whether one of them has a kind of paths.
 #[derive(Clone, Copy, Debug)]
 pub(crate) struct OwnSlots {
     pub count: usize,
@@ -23,7 +23,7 @@ fn has_paths(kind: Kind) -> bool
     }
 }
 
-/// With one slot more.
+/// Counts one more slot.
 fn with_slot(own: OwnSlots, slot: Slot) -> OwnSlots
     requires { own.count < 2 ^ 32 }
     ensures { result ≡ more own slot }
@@ -34,7 +34,7 @@ fn with_slot(own: OwnSlots, slot: Slot) -> OwnSlots
     }
 }
 
-/// One slot more for its owner, where that is in the table.
+/// Counts a slot for its owner, if the owner is in the table.
 fn count_slot(edges: &mut Vec<OwnSlots>, slot: Slot)
     requires { (e : Rattle.std.specs.Prelude.ℕ) → (own : OwnSlots) → slice_get edges.old.items e ≡ Some own → own.count < 2 ^ 32 }
     ensures { CountsMore edges.old.items slot edges.new.items }
@@ -45,7 +45,7 @@ fn count_slot(edges: &mut Vec<OwnSlots>, slot: Slot)
     }
 }
 
-/// The own slots of each edge.
+/// Counts the own slots of each edge.
 pub(crate) fn own_slots_of_all(alloc: Global, parts: &Parts) -> Result<Vec<OwnSlots>, AllocError>
     requires { length parts.now.slots < 2 ^ 32 }
     ensures { IfOk result (λ owns. AreOwnSlots parts.now owns.items) }
@@ -57,7 +57,7 @@ pub(crate) fn own_slots_of_all(alloc: Global, parts: &Parts) -> Result<Vec<OwnSl
     Ok(edges)
 }
 
-/// None for so many edges.
+/// Returns counts of zero for `len` edges.
 fn no_slots(alloc: Global, len: usize) -> Result<Vec<OwnSlots>, AllocError>
     ensures { IfOk result (λ owns. owns.items ≡ Rattle.std.specs.Prelude.replicate len none) }
 {

@@ -1,4 +1,4 @@
-//! The verdict on some edges, by one thread or by several.
+//! The verdict on a range of edges, in one thread or in several.
 
 ghost use Rattle.std.specs.Prelude.{◌≡◌, ◌+◌, ◌*◌, ◌<◌, ◌≤◌, ◌^◌, IfErr, IfOk, OnOk, Some, length, slice_get};
 ghost use Rattle.std.specs.Thread.{IsSync};
@@ -16,10 +16,10 @@ use plan_image::{EdgeRef, Image};
 use std::alloc::Global;
 use std::thread::{Threads, join};
 
-/// How many edges at least are halved.
+/// The least number of edges that is split in halves.
 const FEW: usize = 128;
 
-/// A fault of an edge's places as one of the image.
+/// Converts a fault in an edge's code to one of the image.
 fn fault_at(edge: u32, fault: CodeFault) -> VerifyFault
     ensures { result ≡ Rattle.plan_verify.specs.Verdict.fault_at edge fault }
 {
@@ -29,7 +29,7 @@ fn fault_at(edge: u32, fault: CodeFault) -> VerifyFault
     }
 }
 
-/// The budget of an edge that has shapes, or its first check that fails.
+/// Returns the budget of an edge that has shapes, or its first check that fails.
 fn verify_edge(
     alloc: Global,
     image: &Image,
@@ -53,7 +53,8 @@ fn verify_edge(
     }
 }
 
-/// The budget of some edges that have shapes, from one on before another, or the first check of them that fails.
+/// Returns the budget of the edges in `from..to` if all of them have shapes, or else the first check that
+/// fails.
 pub(crate) fn verify_part(
     alloc: Global,
     image: &Image,
@@ -78,7 +79,8 @@ pub(crate) fn verify_part(
     Ok(budget)
 }
 
-/// The same, where these edges are halved so many times, and the halves are verified at once.
+/// Returns the same verdict as `verify_part`. The edges are split in halves `halvings` times, unless a part has
+/// fewer than `FEW` edges, and the halves are verified in parallel.
 pub(crate) fn verify_halves<R: Threads + Sync>(
     rt: &R,
     alloc: Global,
@@ -117,7 +119,7 @@ pub(crate) fn verify_halves<R: Threads + Sync>(
     }
 }
 
-/// How often edges are halved for so many threads.
+/// Returns how often edges are split in halves for this number of threads.
 pub(crate) fn halvings(threads: u8) -> u32 {
     match threads {
         0 | 1 => 0,

@@ -14,11 +14,11 @@ use crate::fault::{CodeFault, Refusal};
 use crate::flow::{Flow, falls_through, flow_at_start, meet};
 use crate::place_checks::refusal_at;
 use crate::shape_change::change;
-use plan_image::{Image, Instr, Parts};
+use plan_image::{CodeView, Image, Instr, Parts};
 use std::alloc::Global;
 use std::mem;
 
-/// The checks of one place, and what it leaves for those that come.
+/// Checks one place, and updates the arrivals and the flow for the places after it.
 fn pass_place(
     alloc: Global,
     parts: &Parts,
@@ -48,26 +48,26 @@ fn pass_place(
     if let Some(refusal) = refusal_at(parts, edge, own_len, len, place, instr, &flow.shape) {
         return Err(CodeFault::Refused(refusal, place as u32));
     }
-    change(parts, instr, &mut flow.shape)?;
+    change(alloc, parts, instr, &mut flow.shape)?;
     jump(alloc, arrivals, instr, &flow.shape)?;
     flow.falls = falls_through(instr);
     Ok(())
 }
 
-/// The instruction at a place that is inside the code.
-fn instr_at(image: &Image, edge: u32, place: usize) -> Instr
-    requires place { place < length (code image.now edge) }
-    requires short { length (code image.now edge) < 2 ^ 32 }
-    ensures { slice_get (code image.now edge) place ≡ Some result }
+/// Returns the instruction at a place, which must be inside the code.
+pub(crate) fn instr_at(view: &CodeView<'_>, place: usize) -> Instr
+    requires place { place < length view.now }
+    requires short { length view.now < 2 ^ 32 }
+    ensures { slice_get view.now place ≡ Some result }
 {
-    match image.instr(edge, place as u32) {
+    match view.instr(place as u32) {
         Some(instr) => instr,
         None => unreachable!(),
     }
 }
 
-/// What an instruction costs of the budget.
-fn cost(instr: Instr) -> u64
+/// Returns the cost of an instruction, in events.
+pub(crate) fn cost(instr: Instr) -> u64
     ensures value { result ≡ Rattle.plan_verify.specs.Budget.cost instr }
     ensures small { result ≤ 2 }
 {
@@ -78,7 +78,7 @@ fn cost(instr: Instr) -> u64
     }
 }
 
-/// The budget of an edge whose code has shapes, or the first place that is refused.
+/// Returns the budget of an edge whose code has shapes, or the first place that is refused.
 pub(crate) fn pass_code(
     alloc: Global,
     image: &Image,
@@ -93,7 +93,8 @@ pub(crate) fn pass_code(
     ensures err { IfErr result (λ f. IsCodeFault image.now edge f) }
 {
     let parts = image.parts();
-    let len = image.code_len(edge);
+    let view = image.edge_code(edge);
+    let len = view.len();
     if len == 0 {
         return Err(CodeFault::Refused(Refusal::FallsOff, 0));
     }
@@ -101,7 +102,7 @@ pub(crate) fn pass_code(
     let mut flow = flow_at_start(alloc);
     let mut budget = 1u64;
     for place in 0..len {
-        let instr = instr_at(image, edge, place);
+        let instr = instr_at(&view, place);
         match pass_place(
             alloc,
             parts,

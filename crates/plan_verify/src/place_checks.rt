@@ -12,10 +12,11 @@ ghost use Rattle.plan_verify.specs.Wanted.{options};
 use crate::fault::Refusal;
 use crate::kinds::Kinds;
 use crate::shape::Shape;
-use crate::slot_set::{SlotSet, has_number};
+use crate::slot_set::SlotSet;
+use crate::slot_tree::has_number;
 use plan_image::{Instr, Kind, Parts};
 
-/// Whether a slot is an edge's own.
+/// Returns whether a slot is an edge's own.
 fn is_own(parts: &Parts, edge: u32, slot: u32) -> bool
     ensures { result ≡ owns parts.now edge slot }
 {
@@ -25,7 +26,7 @@ fn is_own(parts: &Parts, edge: u32, slot: u32) -> bool
     }
 }
 
-/// The edges that an edge waits for.
+/// Returns the edges that an edge waits for, in ascending order.
 fn waits(parts: &Parts, edge: u32) -> &[u32]
     requires { IsInOrder parts.now }
     ensures waits { result.now ≡ waits_of parts.now edge }
@@ -37,7 +38,7 @@ fn waits(parts: &Parts, edge: u32) -> &[u32]
     }
 }
 
-/// Whether a slot is of an edge that this one waits for.
+/// Returns whether a slot belongs to an edge that this one waits for.
 fn is_of_a_wait(parts: &Parts, edge: u32, slot: u32) -> bool
     requires { IsInOrder parts.now }
     ensures { result ≡ is_lent parts.now edge slot }
@@ -48,7 +49,7 @@ fn is_of_a_wait(parts: &Parts, edge: u32, slot: u32) -> bool
     }
 }
 
-/// Whether a slot may not be loaded or stored.
+/// Returns whether an instruction loads or stores a slot that it must not.
 fn has_bad_slot(parts: &Parts, edge: u32, instr: Instr) -> bool
     requires { IsInOrder parts.now }
     ensures { result ≡ bad_slot parts.now edge instr }
@@ -60,7 +61,7 @@ fn has_bad_slot(parts: &Parts, edge: u32, instr: Instr) -> bool
     }
 }
 
-/// Whether a jump goes back or past the code.
+/// Returns whether a jump goes to its own place, backwards, or beyond the code.
 fn has_bad_jump(len: usize, place: usize, instr: Instr) -> bool
     ensures { result ≡ bad_jump len place instr }
 {
@@ -70,7 +71,7 @@ fn has_bad_jump(len: usize, place: usize, instr: Instr) -> bool
     }
 }
 
-/// Whether a file is outside the table.
+/// Returns whether the instruction's file is outside the table.
 fn has_bad_file(parts: &Parts, instr: Instr) -> bool
     ensures { result ≡ bad_file parts.now instr }
 {
@@ -80,7 +81,7 @@ fn has_bad_file(parts: &Parts, instr: Instr) -> bool
     }
 }
 
-/// Whether a text is outside the table.
+/// Returns whether the instruction's text is outside the table.
 fn has_bad_text(parts: &Parts, instr: Instr) -> bool
     ensures { result ≡ bad_text parts.now instr }
 {
@@ -90,7 +91,7 @@ fn has_bad_text(parts: &Parts, instr: Instr) -> bool
     }
 }
 
-/// Whether a place would have to be held.
+/// Returns whether the instruction needs a job token and none is held.
 fn needs_a_place(instr: Instr, holding: bool) -> bool
     ensures { result ≡ lacks_place instr holding }
 {
@@ -100,7 +101,7 @@ fn needs_a_place(instr: Instr, holding: bool) -> bool
     }
 }
 
-/// Whether a place is held that may not be.
+/// Returns whether a job token is held although the instruction takes one or ends the edge.
 fn still_holds(instr: Instr, holding: bool) -> bool
     ensures { result ≡ keeps_place instr holding }
 {
@@ -110,7 +111,7 @@ fn still_holds(instr: Instr, holding: bool) -> bool
     }
 }
 
-/// Whether the code goes on past its last place.
+/// Returns whether the code continues beyond its last place.
 fn goes_past(len: usize, place: usize, instr: Instr) -> bool
     requires { place < len }
     ensures { result ≡ falls_off len place instr }
@@ -121,7 +122,7 @@ fn goes_past(len: usize, place: usize, instr: Instr) -> bool
     }
 }
 
-/// How many values an instruction takes.
+/// Returns the number of values that an instruction takes.
 pub(crate) fn taken_len(parts: &Parts, instr: Instr) -> usize
     ensures { result ≡ length (takes parts.now instr) }
 {
@@ -147,7 +148,7 @@ pub(crate) fn taken_len(parts: &Parts, instr: Instr) -> usize
     }
 }
 
-/// How many values stand on the stack after an instruction that found what it takes.
+/// Returns the number of values on the stack after an instruction that finds all values it takes.
 #[tactic(auto, using(crate::proofs::KindsLemmas::lengths, crate::proofs::KindsLemmas::turned_len))]
 fn len_after(parts: &Parts, instr: Instr, kinds: &Kinds) -> usize
     requires { length (takes parts.now instr) ≤ length kinds.now }
@@ -180,7 +181,7 @@ fn len_after(parts: &Parts, instr: Instr, kinds: &Kinds) -> usize
     }
 }
 
-/// The kind of a slot.
+/// Returns the kind of a slot.
 pub(crate) fn kind_of_slot(parts: &Parts, slot: u32) -> Kind
     ensures { result ≡ slot_kind parts.now slot }
 {
@@ -190,7 +191,7 @@ pub(crate) fn kind_of_slot(parts: &Parts, slot: u32) -> Kind
     }
 }
 
-/// Whether a kind is the one that is wanted; none wants any.
+/// Returns whether a kind is the wanted one. If none is wanted, each kind is accepted.
 fn is_kind(wanted: Option<Kind>, kind: Kind) -> bool
     ensures { result ≡ is_wanted wanted kind }
 {
@@ -206,7 +207,8 @@ const FLAG: Option<Option<Kind>> = Some(Some(Kind::Flag));
 
 const TEXT: Option<Option<Kind>> = Some(Some(Kind::Text));
 
-/// What an instruction takes, the top first; none behind the last.
+/// Returns the kinds that an instruction takes, the top of the stack first. The unused entries at the end are
+/// None.
 fn taken(parts: &Parts, instr: Instr) -> [Option<Option<Kind>>; 3]
     ensures { options result ≡ takes parts.now instr }
 {
@@ -226,7 +228,7 @@ fn taken(parts: &Parts, instr: Instr) -> [Option<Option<Kind>>; 3]
     }
 }
 
-/// Whether one of the values that are there is of another kind than is taken.
+/// Returns whether one of the values on the stack has another kind than the instruction takes.
 fn has_wrong_kind(parts: &Parts, instr: Instr, kinds: &Kinds) -> bool
     ensures { result ≡ wrong_kind (takes parts.now instr) kinds.now }
 {
@@ -253,7 +255,7 @@ fn clashes(wanted: &[Option<Option<Kind>>], kinds: &Kinds) -> bool
     false
 }
 
-/// Whether an own slot is loaded that may not be set, or one isn't set at the end.
+/// Returns whether an own slot is loaded that may be unset, or an own slot is unset at the end.
 fn has_unset_slot(parts: &Parts, edge: u32, own_len: usize, instr: Instr, set: &SlotSet) -> bool
     requires own { own_len ≡ length (own_slots parts.now edge) }
     requires set { IsOwnSet parts.now edge set.now }
@@ -266,7 +268,7 @@ fn has_unset_slot(parts: &Parts, edge: u32, own_len: usize, instr: Instr, set: &
     }
 }
 
-/// Whether values are left at the end.
+/// Returns whether values are left on the stack at the end.
 fn has_values_left(instr: Instr, kinds: &Kinds) -> bool
     ensures { result ≡ values_left instr kinds.now }
 {
@@ -276,7 +278,7 @@ fn has_values_left(instr: Instr, kinds: &Kinds) -> bool
     }
 }
 
-/// The first check of an instruction at a place that fails, where the shape is this one.
+/// Returns the first check that fails for an instruction at a place with this shape.
 #[tactic(auto, unfolding(crate::specs::Shape::refused))]
 pub(crate) fn refusal_at(
     parts: &Parts,

@@ -1,4 +1,4 @@
-//! What the verifier knows of an edge at a place.
+//! Shapes: the verifier's knowledge about an edge at a place.
 
 ghost use Rattle.std.specs.Prelude.{◌≡◌, ◌↔◌, IsTrue, IfOk};
 
@@ -6,7 +6,8 @@ use crate::kinds::Kinds;
 use crate::slot_set::SlotSet;
 use std::alloc::{AllocError, Global};
 
-/// The kinds on the stack, the top first; whether a place is held; which own slots are set, ascending.
+/// The kinds on the stack, the top first; whether a job token is held; and the own slots that are set, in
+/// ascending order.
 #[derive(Drop)]
 pub struct Shape {
     pub kinds: Kinds,
@@ -17,7 +18,7 @@ pub struct Shape {
 impl Shape {
     ghost use Rattle.plan_verify.specs.WellShaped.{at_start};
 
-    /// Nothing on the stack, no place held, no slot set.
+    /// Returns the shape at the first place: an empty stack, no job token, and no slot set.
     pub(crate) fn start(alloc: Global) -> Shape
         ensures { result ≡ at_start }
     {
@@ -28,7 +29,7 @@ impl Shape {
         }
     }
 
-    /// Whether this is the other.
+    /// Returns whether two shapes are the same.
     pub(crate) fn is_same(&self, other: &Shape) -> bool
         ensures { IsTrue result ↔ (self.now ≡ other.now) }
     {
@@ -37,7 +38,7 @@ impl Shape {
             && self.set.is_same(&other.set)
     }
 
-    /// The same once more.
+    /// Returns a copy.
     pub(crate) fn copy(&self, alloc: Global) -> Result<Shape, AllocError>
         ensures { IfOk result (λ s. s ≡ self.now) }
     {

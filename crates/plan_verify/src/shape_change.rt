@@ -1,7 +1,6 @@
-//! What an instruction does to the shape.
+//! The effect of an instruction on the shape.
 
 ghost use Rattle.std.specs.Prelude.{◌≡◌, ◌+◌, ◌<◌, ◌≤◌, ◌∷◌, OnOk, drop, length};
-ghost use Rattle.plan_image.specs.Spelling.{AscendsFrom};
 ghost use Rattle.plan_verify.specs.Shape.{kinds_after, holding_after, set_after, left};
 
 use crate::kinds::Kinds;
@@ -9,9 +8,9 @@ use crate::place_checks::kind_of_slot;
 use crate::shape::Shape;
 use crate::slot_set::SlotSet;
 use plan_image::{Instr, Kind, Parts};
-use std::alloc::AllocError;
+use std::alloc::{AllocError, Global};
 
-/// Puts a kind in place of some.
+/// Replaces the top `count` kinds by one kind.
 fn replace(kinds: &mut Kinds, count: usize, kind: Kind)
     requires { length (drop count kinds.old) < 64 }
     ensures { kinds.new ≡ kind ∷ drop count kinds.old }
@@ -20,7 +19,7 @@ fn replace(kinds: &mut Kinds, count: usize, kind: Kind)
     kinds.push(kind);
 }
 
-/// Puts there what an entry of the record brings.
+/// Pushes the kinds of an entry of the record.
 fn push_entry(kinds: &mut Kinds)
     requires { length kinds.old + 4 ≤ 64 }
     ensures { kinds.new ≡ Kind.Flag ∷ Kind.Text ∷ Kind.Stamp ∷ Kind.Paths ∷ kinds.old }
@@ -31,7 +30,7 @@ fn push_entry(kinds: &mut Kinds)
     kinds.push(Kind::Flag);
 }
 
-/// Puts swept paths in place of unswept ones.
+/// Replaces the kinds of unswept paths by those of swept paths.
 fn replace_swept(kinds: &mut Kinds)
     requires { length (drop 3 kinds.old) + 3 ≤ 64 }
     ensures { kinds.new ≡ Kind.Swept ∷ Kind.Flag ∷ Kind.Stamp ∷ drop 3 kinds.old }
@@ -42,7 +41,7 @@ fn replace_swept(kinds: &mut Kinds)
     kinds.push(Kind::Swept);
 }
 
-/// The kinds on the stack after an instruction.
+/// Changes the kinds on the stack as an instruction does.
 fn change_kinds(parts: &Parts, instr: Instr, kinds: &mut Kinds)
     requires { length (kinds_after parts.now instr kinds.old) ≤ 64 }
     ensures { kinds.new ≡ kinds_after parts.now instr kinds.old }
@@ -67,7 +66,7 @@ fn change_kinds(parts: &Parts, instr: Instr, kinds: &mut Kinds)
     }
 }
 
-/// Whether a place is held after an instruction.
+/// Returns whether a job token is held after an instruction.
 fn holds(instr: Instr, holding: bool) -> bool
     ensures { result ≡ holding_after instr holding }
 {
@@ -78,25 +77,28 @@ fn holds(instr: Instr, holding: bool) -> bool
     }
 }
 
-/// The own slots that are set after an instruction.
-fn change_set(instr: Instr, set: &mut SlotSet) -> Result<(), AllocError>
-    requires { AscendsFrom 0 set.old }
+/// Adds the slot that an instruction stores to the own slots that are set.
+fn change_set(alloc: Global, instr: Instr, set: &mut SlotSet) -> Result<(), AllocError>
     ensures { OnOk result (set.new ≡ set_after instr set.old) }
 {
     match instr {
-        Instr::Store(slot) => set.insert(slot),
+        Instr::Store(slot) => set.insert(alloc, slot),
         _ => Ok(()),
     }
 }
 
-/// The shape that an instruction leaves.
+/// Changes the shape as an instruction does.
 #[tactic(auto, unfolding(crate::specs::Shape::left))]
-pub(crate) fn change(parts: &Parts, instr: Instr, shape: &mut Shape) -> Result<(), AllocError>
-    requires deep { length (kinds_after parts.now instr shape.old.kinds) ≤ 64 }
-    requires set { AscendsFrom 0 shape.old.set }
+pub(crate) fn change(
+    alloc: Global,
+    parts: &Parts,
+    instr: Instr,
+    shape: &mut Shape,
+) -> Result<(), AllocError>
+    requires { length (kinds_after parts.now instr shape.old.kinds) ≤ 64 }
     ensures { OnOk result (shape.new ≡ left parts.now instr shape.old) }
 {
-    change_set(instr, &mut shape.set)?;
+    change_set(alloc, instr, &mut shape.set)?;
     change_kinds(parts, instr, &mut shape.kinds);
     shape.holding = holds(instr, shape.holding);
     Ok(())

@@ -1,101 +1,77 @@
-//! The own slots of an edge that are set.
+//! The set of an edge's own slots that are set.
 
 ghost use Rattle.std.specs.Prelude.{◌≡◌, ◌<◌, ◌↔◌, ◌^◌, IsTrue, OnOk, IfOk, [], length};
 ghost use Rattle.plan_image.specs.Spelling.{AscendsFrom};
 ghost use Rattle.plan_verify.specs.Members.{is_member, with_member};
 
+use crate::slot_tree::SlotTree;
 use std::alloc::{AllocError, Global};
 use std::marker::Model;
+use std::mem;
 
-/// Numbers of slots, ascending.
+/// A set of slot numbers, in ascending order. Copies of a large set share its parts. Inserting a number creates
+/// few new parts and shares the others.
 #[derive(Drop)]
 pub struct SlotSet {
-    held: Vec<u32>,
+    tree: SlotTree,
 }
 
 impl Model for SlotSet {
     ghost use Rattle.std.specs.Prelude.{List, ℕ};
+    ghost use Rattle.plan_verify.specs.SlotTree.{numbers, IsParted};
 
     ghost Value = { List ℕ };
 
-    ghost view = { λ s. s.held.items };
+    ghost view = { λ s. numbers s.tree };
+
+    ghost invariant = { λ s. IsParted s.tree };
 }
 
 impl SlotSet {
-    /// No slot.
+    /// Creates an empty set.
     pub(crate) fn new(alloc: Global) -> Self
         ensures { result ≡ [] }
     {
         Self {
-            held: Vec::new(alloc),
+            tree: SlotTree::Few(Vec::new(alloc)),
         }
     }
 
-    /// How many there are.
+    /// Returns the number of slots.
     pub(crate) fn len(&self) -> usize
         ensures { result ≡ length self.now }
     {
-        self.held.len()
+        self.tree.len()
     }
 
-    /// Whether a slot is among them.
+    /// Returns whether a slot is in the set.
     pub(crate) fn contains(&self, slot: u32) -> bool
-        requires { AscendsFrom 0 self.now }
         ensures { result ≡ is_member slot self.now }
     {
-        has_number(&self.held, slot)
+        self.tree.contains(slot)
     }
 
-    /// With one more.
-    pub(crate) fn insert(&mut self, slot: u32) -> Result<(), AllocError>
-        requires { AscendsFrom 0 self.old }
+    /// Inserts a slot.
+    pub(crate) fn insert(&mut self, alloc: Global, slot: u32) -> Result<(), AllocError>
         ensures { OnOk result (self.new ≡ with_member slot self.old) }
     {
-        match self.held.binary_search(&slot) {
-            Ok(_) => Ok(()),
-            Err(at) => {
-                self.held.insert(at, slot)?;
-                Ok(())
-            }
-        }
+        let tree = mem::replace(&mut self.tree, SlotTree::Few(Vec::new(alloc)));
+        self.tree = tree.into_with(alloc, slot)?;
+        Ok(())
     }
 
-    /// Takes all out.
-    pub(crate) fn clear(&mut self)
-        ensures { self.new ≡ [] }
-    {
-        self.held.clear();
-    }
-
-    /// Whether these are the others.
+    /// Returns whether two sets have the same slots.
     pub(crate) fn is_same(&self, other: &SlotSet) -> bool
         ensures { IsTrue result ↔ (self.now ≡ other.now) }
     {
-        are_same(self.held.as_slice(), other.held.as_slice())
+        self.tree.is_same(&other.tree)
     }
 
-    /// The same once more.
+    /// Returns a copy, which shares the parts of a large set.
     pub(crate) fn copy(&self, alloc: Global) -> Result<SlotSet, AllocError>
         ensures { IfOk result (λ s. s ≡ self.now) }
     {
-        let held = Vec::from_slice(alloc, self.held.as_slice())?;
-        Ok(SlotSet { held })
-    }
-}
-
-fn are_same(a: &[u32], b: &[u32]) -> bool
-    ensures { IsTrue result ↔ (a.now ≡ b.now) }
-{
-    a == b
-}
-
-/// Whether a number is among ascending ones.
-pub(crate) fn has_number(numbers: &[u32], number: u32) -> bool
-    requires { AscendsFrom 0 numbers.now }
-    ensures { result ≡ is_member number numbers.now }
-{
-    match numbers.binary_search(&number) {
-        Ok(_) => true,
-        Err(_) => false,
+        let tree = self.tree.copy(alloc)?;
+        Ok(SlotSet { tree })
     }
 }

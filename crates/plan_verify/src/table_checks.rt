@@ -1,4 +1,4 @@
-//! The checks of an edge's tables, and of all edges' together.
+//! The checks of an edge's tables, and of all edges together.
 
 ghost use Rattle.std.specs.Prelude.{◌≡◌, length, nat_le, Some, slice_get};
 ghost use Rattle.std.specs.List.{list_all, list_any};
@@ -11,7 +11,7 @@ use crate::fault::Refusal;
 use crate::own_slots::OwnSlots;
 use plan_image::{EdgeRef, Parts};
 
-/// Whether an edge is in the table and has a lesser rank.
+/// Returns whether an edge is in the table and its rank is less than this one.
 fn is_ranked_below(parts: &Parts, edge: u32, rank: u32) -> bool
     ensures { result ≡ ranks_below (slice_get parts.now.edges edge) rank }
 {
@@ -21,14 +21,14 @@ fn is_ranked_below(parts: &Parts, edge: u32, rank: u32) -> bool
     }
 }
 
-/// Whether all edges that one waits for have lesser ranks.
+/// Returns whether all edges that are waited for are in the table and have lesser ranks.
 fn are_ranked_below(parts: &Parts, waits: &[u32], rank: u32) -> bool
     ensures { result ≡ list_all (λ w. ranks_below (slice_get parts.now.edges w) rank) waits.now }
 {
     waits.iter().all(|wait| is_ranked_below(parts, *wait, rank))
 }
 
-/// Whether a pool is outside the table.
+/// Returns whether a pool is outside the table.
 fn is_pool_outside(parts: &Parts, pool: Option<u32>) -> bool
     ensures { result ≡ is_outside parts.now pool }
 {
@@ -38,7 +38,7 @@ fn is_pool_outside(parts: &Parts, pool: Option<u32>) -> bool
     }
 }
 
-/// Whether there is no output, or one outside the table.
+/// Returns whether there is no output, or one of them is outside the table.
 fn has_bad_outputs(parts: &Parts, outputs: &[u32]) -> bool
     ensures { result ≡ lacks_outputs parts.now outputs.now }
 {
@@ -48,14 +48,14 @@ fn has_bad_outputs(parts: &Parts, outputs: &[u32]) -> bool
     }
 }
 
-/// Whether a file is outside the table.
+/// Returns whether one of the files is outside the table.
 fn has_file_outside(parts: &Parts, files: &[u32]) -> bool
     ensures { result ≡ list_any (λ f. nat_le (length parts.now.files) f) files.now }
 {
     files.iter().any(|file| parts.files.len() <= *file as usize)
 }
 
-/// The first check of an edge's tables that fails.
+/// Returns the first check of an edge's tables that fails.
 pub(crate) fn table_refusal(
     parts: &Parts,
     edge: u32,
@@ -84,14 +84,14 @@ pub(crate) fn table_refusal(
     None
 }
 
-/// Whether an edge is outside the table.
+/// Returns whether one of the edges is outside the table.
 fn has_outside(parts: &Parts, edges: &[u32]) -> bool
     ensures { result ≡ list_any (λ e. nat_le (length parts.now.edges) e) edges.now }
 {
     edges.iter().any(|edge| parts.edges.len() <= *edge as usize)
 }
 
-/// Whether the owner of a slot is outside the table of edges.
+/// Returns whether the owner of a slot is outside the table of edges.
 fn has_owner_outside(parts: &Parts) -> bool
     ensures { result ≡ list_any (λ (s : Slot). nat_le (length parts.now.edges) s.owner) parts.now.slots }
 {
@@ -102,7 +102,7 @@ fn has_owner_outside(parts: &Parts) -> bool
         .any(|slot| parts.edges.len() <= slot.owner as usize)
 }
 
-/// The first check of all edges' tables together that fails.
+/// Returns the first check of all edges together that fails.
 #[tactic(auto, unfolding(crate::specs::Shape::image_refusal))]
 pub(crate) fn refusal_of_all(parts: &Parts) -> Option<Refusal>
     ensures { result ≡ image_refusal parts.now }

@@ -5,6 +5,7 @@ ghost use Rattle.plan_verify.specs.WellShaped.{IsWellShaped};
 ghost use Rattle.plan_verify.specs.Budget.{image_budget};
 ghost use Rattle.plan_verify.specs.Verdict.{IsPart, IsVerifyFault};
 
+use crate::budget::image_budget as count_budget;
 use crate::fault::VerifyFault;
 use crate::own_slots::own_slots_of_all;
 use crate::parts::{halvings, verify_halves, verify_part};
@@ -14,11 +15,12 @@ use std::alloc::Global;
 use std::marker::Model;
 use std::thread::Threads;
 
-/// An image that is well shaped, with its budget.
+/// An image that is well shaped.
 #[derive(Debug, Drop)]
 pub struct Verified {
     image: Image,
-    budget: u64,
+    /// The budget, if the verifier computed it.
+    budget: Option<u64>,
 }
 
 impl Model for Verified {
@@ -34,7 +36,30 @@ impl Model for Verified {
 }
 
 impl Verified {
-    /// The image. It is well shaped: what that gives the crates above is said by this crate's laws.
+    /// Wraps an image that is known to be well shaped, for example by a law of the compiler. The image isn't
+    /// checked.
+    pub fn of_shaped(image: Image) -> Verified
+        requires { IsWellShaped image }
+        ensures { result ≡ image }
+    {
+        Verified {
+            image,
+            budget: None,
+        }
+    }
+
+    /// Wraps an image that was verified, with its budget.
+    fn counted(image: Image, budget: u64) -> Verified
+        requires { IsWellShaped image × (budget ≡ image_budget image) }
+        ensures { result ≡ image }
+    {
+        Verified {
+            image,
+            budget: Some(budget),
+        }
+    }
+
+    /// Borrows the image, which is well shaped. The laws of this crate state what follows for the crates above.
     pub fn image(&self) -> &Image
         ensures same { result.now ≡ self.now }
         ensures shaped { IsWellShaped self.now }
@@ -42,16 +67,20 @@ impl Verified {
         &self.image
     }
 
-    /// How many events all edges together may have, beside those that pay for recorded and found paths: for each edge 1,
-    /// 2 for each instruction that asks once, and 1 for each other one.
+    /// Returns the most events that all edges together may have, not counting those paid for by recorded and
+    /// found paths. Each edge counts 1, each instruction that asks one question counts 2, and each other
+    /// instruction counts 1.
     pub fn budget(&self) -> u64
         ensures { result ≡ image_budget self.now }
     {
-        self.budget
+        match self.budget {
+            Some(budget) => budget,
+            None => count_budget(&self.image),
+        }
     }
 }
 
-/// What tables of all edges together leave of a verdict on each edge.
+/// Completes the verdict on each edge by the checks of all edges together.
 fn with_tables(image: &Image, budget: Result<u64, VerifyFault>) -> Result<u64, VerifyFault>
     requires { IsPart image.now 0 (length image.now.edges) budget }
     ensures ok { OnOk result (IsWellShaped image.now) }
@@ -67,7 +96,7 @@ fn with_tables(image: &Image, budget: Result<u64, VerifyFault>) -> Result<u64, V
     }
 }
 
-/// The budget of an image that is well shaped, or its first check that fails.
+/// Returns the budget of an image that is well shaped, or the first check that fails.
 fn verify_all(alloc: Global, image: &Image) -> Result<u64, VerifyFault>
     ensures ok { OnOk result (IsWellShaped image.now) }
     ensures budget { IfOk result (λ b. b ≡ image_budget image.now) }
@@ -78,7 +107,7 @@ fn verify_all(alloc: Global, image: &Image) -> Result<u64, VerifyFault>
     with_tables(image, verify_part(alloc, image, &owns, 0, len))
 }
 
-/// The same by several threads.
+/// Returns the same verdict as `verify_all`, in several threads.
 fn verify_all_by<R: Threads + Sync>(
     rt: &R,
     alloc: Global,
@@ -97,7 +126,7 @@ fn verify_all_by<R: Threads + Sync>(
     )
 }
 
-/// The image with its budget, or back with its fault.
+/// Returns the image with its budget, or the image and its fault.
 fn judged(image: Image, verdict: Result<u64, VerifyFault>) -> Result<Verified, (Image, VerifyFault)>
     requires ok { OnOk verdict (IsWellShaped image) }
     requires budget { IfOk verdict (λ b. b ≡ image_budget image) }
@@ -109,14 +138,18 @@ fn judged(image: Image, verdict: Result<u64, VerifyFault>) -> Result<Verified, (
     ensures only { IfErr result (λ e. e.1 ≢ VerifyFault.Memory → IsWellShaped image → ⊥) }
 {
     match verdict {
-        Ok(budget) => Ok(Verified { image, budget }),
+        Ok(budget) => Ok(Verified::counted(image, budget)),
         Err(fault) => Err((image, fault)),
     }
 }
 
-/// The image as one that is well shaped; or the image back, with the first check that fails: edges ascend, in an edge
-/// its tables come before its places, and all edges' tables together come last. Want of memory may come in place of any
-/// answer. One pass over the slots, the edges and their code.
+/// Verifies that an image is well shaped, in one pass over the slots, the edges and their code.
+///
+/// # Errors
+///
+/// Returns the image and the first check that fails: edges in ascending order, in each edge its tables before
+/// its places, and the checks of all edges together last. Returns `Memory` if memory runs out, whatever the
+/// image is.
 pub fn verify(alloc: Global, image: Image) -> Result<Verified, (Image, VerifyFault)>
     ensures same { IfOk result (λ v. v ≡ image) }
     ensures shaped { IsOk result → IsWellShaped image }
@@ -128,8 +161,8 @@ pub fn verify(alloc: Global, image: Image) -> Result<Verified, (Image, VerifyFau
     judged(image, verdict)
 }
 
-/// The image as `verify` gives it, and with the same faults. Its edges are halved, the halves again, and verified at once,
-/// as long as there are so many threads for it and enough edges.
+/// Verifies an image with the same result as `verify`. The edges are repeatedly split in halves, which are
+/// verified in parallel, as long as there are enough threads and edges.
 pub fn verify_by<R: Threads + Sync>(
     rt: &R,
     alloc: Global,

@@ -1,4 +1,5 @@
 use Rattle.std.proofs.Common.{◌≡◌, ◌+◌, drop, length, refl, sym, ap, subst, ◌∙◌, arith}
+use Rattle.std.specs.Prelude.{slice_get}
 use Rattle.std.proofs.lemmas.List.{nil_from_length, length-replicate}
 use Rattle.plan_image.specs.declared.image.Parts.{Parts}
 use Rattle.plan_image.specs.Code.{code}
@@ -11,18 +12,20 @@ use Rattle.plan_verify.proofs.BudgetLemmas.{spend_one, code_short}
 use Rattle.plan_verify.proofs.pass.pass_code.Goals as goal
 
 pub returns-then-len-eq0-clause-err : goal.returns-then-len-eq0-clause-err
-returns-then-len-eq0-clause-err c = no_code c.requires.tables (nil_from_length (code c.args.image.now c.args.edge) (sym c.code_len-len.ensures ∙ c.if-len-eq0.true))
+returns-then-len-eq0-clause-err c = no_code c.requires.tables (nil_from_length (code c.args.image.now c.args.edge) (sym (c.len-len.ensures ∙ ap length c.edge_code-view.ensures) ∙ c.if-len-eq0.true))
 
 pub loop-place-init : goal.loop-place-init
 loop-place-init c = record {
-  long = ap length c.in_ok-arrivals.ensures ∙ length-replicate c.code_len-len.result arrival.Nothing ∙ c.code_len-len.ensures;
-  reached = starts c.args.image.now c.args.edge c.code_len-len.result c.in_ok-arrivals.arrivals.items c.flow_at_start-flow.result c.in_ok-arrivals.ensures c.flow_at_start-flow.ensures.shape c.flow_at_start-flow.ensures.falls;
+  long = ap length c.in_ok-arrivals.ensures ∙ length-replicate c.len-len.result arrival.Nothing ∙ (c.len-len.ensures ∙ ap length c.edge_code-view.ensures);
+  reached = starts c.args.image.now c.args.edge c.len-len.result c.in_ok-arrivals.arrivals.items c.flow_at_start-flow.result c.in_ok-arrivals.ensures c.flow_at_start-flow.ensures.shape c.flow_at_start-flow.ensures.falls;
   spent = refl;
   small = omega arith;
 }
 
 pub instr_at-instr-requires-clause-short : goal.instr_at-instr-requires-clause-short
-instr_at-instr-requires-clause-short c = let short = code_short c.args.image.now c.args.edge c.parts-parts.ensures.spelled in omega (arith, short)
+instr_at-instr-requires-clause-short c =
+    let short = code_short c.args.image.now c.args.edge c.parts-parts.ensures.spelled in
+    omega (arith, short, ap length c.edge_code-view.ensures)
 
 pub pass_place-requires-clause-short : goal.pass_place-requires-clause-short
 pass_place-requires-clause-short c =
@@ -30,7 +33,8 @@ pass_place-requires-clause-short c =
 
 pub loop-place-preserved : goal.loop-place-preserved
 loop-place-preserved c =
-    let one = spend_one (code c.args.image.now c.args.edge) c.loop-place.place c.instr_at-instr.result c.instr_at-instr.ensures in
+    let here = ap (λ is. slice_get is c.loop-place.place) (sym c.edge_code-view.ensures) ∙ c.instr_at-instr.ensures in
+    let one = spend_one (code c.args.image.now c.args.edge) c.loop-place.place c.instr_at-instr.result here in
     let value : c.cost-budget.result ≡ cost c.instr_at-instr.result = c.cost-budget.ensures.value in
     let spent = c.loop-place.invariant.spent in
     let small = c.loop-place.invariant.small in
@@ -47,4 +51,4 @@ returns-clause-small c =
     let short = code_short c.args.image.now c.args.edge c.parts-parts.ensures.spelled in
     let small = c.loop-place.invariant.small in
     let end = c.loop-place.auto.place-end in
-    omega (arith, short, small, end, c.code_len-len.ensures)
+    omega (arith, short, small, end, c.len-len.ensures, ap length c.edge_code-view.ensures)

@@ -32,20 +32,13 @@ returns-in-Some-refusal_at-clause-err c =
     (met c.args.parts.now c.args.edge c.args.place c.args.arrivals.now.items c.args.flow.now c.requires.reached c.replace-arrival.result c.meet.new.flow _ got c.in_default.ensures)
     (sym c.in-Some-refusal_at.ensures)
 
-pub change-requires-clause-deep : goal.change-requires-clause-deep
-change-requires-clause-deep c =
+pub change-requires : goal.change-requires
+change-requires c =
     let lt = slice_get_within (code c.args.parts.now c.args.edge) c.args.place c.args.instr c.requires.here in
     let got = moved_at c.args.arrivals.now.items c.args.place _ c.replace-arrival.result _ lt (sym c.requires.long) c.index_mut.ensures.value c.replace-arrival.ensures.value in
     shallow c.args.parts.now c.args.edge c.args.place c.args.arrivals.now.items c.args.flow.now c.requires.reached c.meet.new.flow.shape c.args.instr c.requires.here
     (met c.args.parts.now c.args.edge c.args.place c.args.arrivals.now.items c.args.flow.now c.requires.reached c.replace-arrival.result c.meet.new.flow _ got c.in_default.ensures)
     (sym c.in_default-refusal_at.ensures)
-
-pub change-requires-clause-set : goal.change-requires-clause-set
-change-requires-clause-set c =
-    let lt = slice_get_within (code c.args.parts.now c.args.edge) c.args.place c.args.instr c.requires.here in
-    let got = moved_at c.args.arrivals.now.items c.args.place _ c.replace-arrival.result _ lt (sym c.requires.long) c.index_mut.ensures.value c.replace-arrival.ensures.value in
-    (set_own c.args.parts.now c.args.edge c.args.place c.args.arrivals.now.items c.args.flow.now c.requires.reached c.meet.new.flow.shape
-    (met c.args.parts.now c.args.edge c.args.place c.args.arrivals.now.items c.args.flow.now c.requires.reached c.replace-arrival.result c.meet.new.flow _ got c.in_default.ensures)).ascends
 
 pub jump-requires : goal.jump-requires
 jump-requires c =

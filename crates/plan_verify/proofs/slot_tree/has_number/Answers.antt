@@ -2,7 +2,7 @@ use Rattle.std.proofs.Common.{sym}
 use Rattle.std.specs.Prelude.{Err}
 use Rattle.std.proofs.lemmas.List.Sorted.{searched}
 use Rattle.plan_verify.proofs.SlotSetLemmas.{rises, not_member_at}
-use Rattle.plan_verify.proofs.slot_set.has_number.Goals as goal
+use Rattle.plan_verify.proofs.slot_tree.has_number.Goals as goal
 
 pub returns-in-Err : goal.returns-in-Err
 returns-in-Err c =
