@@ -1,4 +1,4 @@
--- Numbers in ascending order, each once.
+-- Numbers in ascending order, without repetitions.
 use Rattle.std.proofs.Common.{◌≡◌, ◌<◌, ◌≤◌, ◌+◌, ℕ, zero, suc, Bool, true, false, List, [], ◌∷◌, length, get_or, refl, sym, ap, subst, ◌∙◌, arith, inl, inr}
 use Rattle.std.specs.Prelude.{◌||◌, ◌==◌, nat_lt, Contains, slice_index, if◌then◌else◌}
 use Rattle.std.specs.List.Sorted.{IsStrictlyIncreasing}
@@ -13,7 +13,7 @@ use Rattle.plan_compile.proofs.ListLemmas.{bool_cases}
 use Rattle.plan_compile.proofs.MemberLemmas.{In, in_list, contained, member_in, in_member}
 use Rattle.plan_compile.proofs.WiringLemmas.{with_member_has}
 
--- numbers that rise from a bound rise from a lower one
+-- numbers that ascend from a bound ascend from a lower one
 pub rises_lower : (m n : ℕ) (xs : List ℕ) → m ≤ n → AscendsFrom n xs → AscendsFrom m xs
 rises_lower m n [] h r = tt
 rises_lower m n (x ∷ xs) h r = (omega (arith, h, r.0), r.1)
@@ -23,7 +23,7 @@ rises_rest x xs r k h =
     let next : suc k + 1 ≡ suc (k + 1) = omega arith in
     subst (λ j. slice_index (x ∷ xs) (suc k) < slice_index (x ∷ xs) j) next (r (suc k) (omega (arith, h)))
 
--- strictly increasing numbers rise from the first
+-- strictly increasing numbers ascend from the first
 pub rises_from : (n : ℕ) (xs : List ℕ) → (0 < length xs → n ≤ slice_index xs 0) → IsStrictlyIncreasing xs → AscendsFrom n xs
 rises_from n [] low r = tt
 rises_from n (x ∷ xs) low r = (low (omega arith), rises_from (x + 1) xs (λ h. let lt : x < slice_index xs 0 = r 0 (omega (arith, h)) in omega (arith, lt)) (rises_rest x xs r))
@@ -45,7 +45,7 @@ rest_in x y k xs ys e r f i =
     let after : x + 1 ≤ k = rises_bound (x + 1) k xs r i in
     elim (f k (inr i)) [ inl same ↦ absurd (omega (arith, e, same, after)) | inr j ↦ j ]
 
--- a list that rises is known by its members
+-- an ascending list is determined by its members
 pub same_members : (n : ℕ) (xs ys : List ℕ) → AscendsFrom n xs → AscendsFrom n ys → ((k : ℕ) → In k xs → In k ys) → ((k : ℕ) → In k ys → In k xs) → xs ≡ ys
 same_members n [] [] r s f g = refl
 same_members n [] (y ∷ ys) r s f g = absurd (g y (inl refl))
@@ -56,7 +56,7 @@ same_members n (x ∷ xs) (y ∷ ys) r s f g =
     (λ k. rest_in x y k xs ys e r.1 f) (λ k. rest_in y x k ys xs (sym e) s.1 g) in
     ap (λ (v : ℕ). v ∷ xs) e ∙ ap (λ (v : List ℕ). y ∷ v) rest
 
--- ---- with one member more
+-- ---- with one more member
 
 with_ascends : (least n : ℕ) (ms : List ℕ) → least ≤ n → AscendsFrom least ms → AscendsFrom least (with_member n ms)
 with_ascends least n [] le up = (le, tt)
@@ -96,7 +96,7 @@ or_none : (a : Bool) → (a || false) ≡ a
 or_none true = refl
 or_none false = refl
 
--- the members are those that were there, and those that came
+-- the members are those that were there, and those that were added
 pub members_are : (s : ℕ) (ms ns : List ℕ) → is_member s (members_from ms ns) ≡ (is_member s ms || is_member s ns)
 members_are s ms [] = sym (or_none (is_member s ms))
 members_are s ms (n ∷ ns) =
@@ -107,7 +107,7 @@ flags_members flags [] = refl
 flags_members flags (File f ∷ is) = flags_members flags is
 flags_members flags (Made stamp changed ∷ is) = flags_members (with_member changed flags) is
 
--- a row that ascends and has the same members is these members
+-- an ascending row with the same members is the list of these members
 pub ascending_is : (ns row : List ℕ) → IsStrictlyIncreasing row → ((n : ℕ) → Contains ns n → Contains row n) → ((n : ℕ) → Contains row n → Contains ns n) → row ≡ members_from [] ns
 ascending_is ns row order kept given =
     same_members 0 row (members_from [] ns) (rises_from 0 row (λ h. omega arith) order) (members_ascend [] ns tt)
@@ -121,7 +121,7 @@ above_least least [] j up lt = absurd (omega arith)
 above_least least (x ∷ xs) zero up lt = up.0
 above_least least (x ∷ xs) (suc j) up lt = let rest = above_least (x + 1) xs j up.1 (omega arith) in let first = up.0 in omega (arith, rest, first)
 
--- a later one is no less
+-- a later number is not less
 pub rises : (least : ℕ) (xs : List ℕ) → AscendsFrom least xs → (i j : ℕ) → i ≤ j → j < length xs → get_or xs i 0 ≤ get_or xs j 0
 rises least [] up i j le lt = absurd (omega arith)
 rises least (x ∷ xs) up zero zero le lt = omega arith
@@ -129,7 +129,7 @@ rises least (x ∷ xs) up zero (suc j) le lt = let rest = above_least (x + 1) xs
 rises least (x ∷ xs) up (suc i) zero le lt = absurd (omega arith)
 rises least (x ∷ xs) up (suc i) (suc j) le lt = rises (x + 1) xs up.1 i j (omega arith) (omega arith)
 
--- none of the first is the number, nor of the others
+-- a number is no member if those before a place are less and those after it are greater
 pub not_member_at : (n : ℕ) (xs : List ℕ) (at : ℕ) → ((k : ℕ) → k < at → get_or xs k 0 < n) → ((k : ℕ) → at ≤ k → k < length xs → n < get_or xs k 0) → is_member n xs ≡ false
 not_member_at n [] at low high = refl
 not_member_at n (x ∷ xs) zero low high =

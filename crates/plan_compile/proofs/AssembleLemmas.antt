@@ -1,4 +1,4 @@
--- The edges and the bodies of an image, as the code makes them, are what is meant.
+-- The edges and the bodies of an image that the code builds are those of the specification.
 use Rattle.std.proofs.Common.{◌≡◌, ℕ, zero, suc, ◌+◌, Bool, true, false, List, [], ◌∷◌, ◌++◌, length, drop, map, Some, refl, sym, ap, subst, ◌∙◌, arith, inl, inr}
 use Rattle.std.specs.Prelude.{◌||◌, ◌&&◌, ◌==◌, Ok, Err, if◌then◌else◌, slice_get, nat_le, nat_lt}
 use Rattle.std.proofs.lemmas.Bool.{eqb-true}
@@ -85,7 +85,7 @@ module _ (table : Table) where
       ∙ ap (λ (cs : List (List Instr)). some ++ edges_in final (drop n ks) cs (drop n xs)) (sym (left_here ks ns xs n slot k x named at here))
       ∙ h
 
-  -- a code that is too long is one of all
+  -- a code that is too long is one of all codes
   pub long_there : (ks : List Numbers) (ns : List ℕ) (xs : List Build) (n slot : ℕ) (k : Numbers) (x : Build) → slice_get ks n ≡ Some k → slice_get ns n ≡ Some slot → slice_get xs n ≡ Some x
       → is_too_long (code_of (wire_in (form_of x) k table slot x)) ≡ true → list_any is_too_long (codes_in table ks ns xs) ≡ true
   long_there [] ns xs n slot k x named at here long = absurd cc
@@ -101,9 +101,9 @@ module _ (table : Table) where
   long_there (j ∷ ks) (m ∷ ns) (y ∷ xs) (suc n) slot k x named at here long =
       or_right (is_too_long (code_of (wire_in (form_of y) j table m y))) _ (long_there ks ns xs n slot k x named at here long)
 
--- ---- what is refused
+-- ---- refused codes
 
--- code is refused only where it is too long
+-- code is refused only if it is too long
 pub emitted_long : (is : List Instr) → emitted is ≡ Err Limit → is_too_long is ≡ true
 emitted_long is = by_test (nat_lt 65536 (length is))
   where
@@ -111,7 +111,7 @@ emitted_long is = by_test (nat_lt 65536 (length is))
     by_test true h = refl
     by_test false h = absurd cc
 
--- else it is what was to be emitted
+-- otherwise it is the code that was to be emitted
 pub emitted_is : (is js : List Instr) → emitted is ≡ Ok js → js ≡ is
 emitted_is is js = by_test (nat_lt 65536 (length is))
   where

@@ -45,7 +45,7 @@ module _ {K : Type 0} (items : K → List ℕ) where
   pub place : (k : K) (ks : List K) (b : Body) (bs : List Body) → items k ≡ key_of b → map items ks ≡ map key_of bs → position_or_len (same_key k) ks ≡ number same_body b (with_item same_body bs b)
   place k ks b bs is all = (same_keys k ks b bs is all).1 ∙ number_put same_body bodies_decide bs b
 
--- a new body comes last, one that is there changes nothing
+-- a new body is appended, and one that is there changes nothing
 pub is_last : (bs : List Body) (b : Body) → has same_body bs b ≡ false → bs ++ b ∷ [] ≡ with_item same_body bs b
 is_last bs b h = ap (λ (e : Bool). if e then bs else bs ++ b ∷ []) (sym h)
 

@@ -1,4 +1,4 @@
--- An edge with its numbers, put together.
+-- Building an edge with its numbers.
 use Rattle.std.proofs.Common.{◌≡◌, ◌++◌, ◌∷◌, [], ℕ, zero, suc, ◌+◌, ◌-◌, ◌<◌, List, length, take, drop, map, Some, refl, sym, ap, ◌∙◌, arith}
 use Rattle.std.specs.Prelude.{slice_get, slice_range}
 use Rattle.std.proofs.lemmas.List.{append_assoc, length-append}
@@ -34,13 +34,13 @@ builds_step rule g es n e old new whole at pushed h =
     ∙ ap (λ (xs : List ManifestEdge). old ++ builds_from rule g n xs) (sym (drop_here es n e at))
     ∙ h
 
--- one item more of a list that is copied
+-- one more item of a list that is copied
 pub copied_step : {A : Type 0} (xs : List A) (n : ℕ) (x : A) (old new whole : List A) → slice_get xs n ≡ Some x → new ≡ old ++ x ∷ [] → old ++ drop n xs ≡ whole
     → new ++ drop (n + 1) xs ≡ whole
 copied_step {A = A} xs n x old new whole at pushed h =
     ap (λ (ys : List A). ys ++ drop (n + 1) xs) pushed ∙ append_assoc old (x ∷ []) (drop (n + 1) xs) ∙ ap (λ (ys : List A). old ++ ys) (sym (drop_here xs n x at)) ∙ h
 
--- the same of what a function gives of each item
+-- one more item of a list to which a function is applied
 pub mapped_step : {A B : Type 0} (f : A → B) (xs : List A) (n : ℕ) (x : A) (old new whole : List B) → slice_get xs n ≡ Some x → new ≡ old ++ f x ∷ [] → old ++ map f (drop n xs) ≡ whole
     → new ++ map f (drop (n + 1) xs) ≡ whole
 mapped_step {A = A} {B = B} f xs n x old new whole at pushed h =
@@ -50,14 +50,14 @@ pub map_long : {A B : Type 0} (f : A → B) (xs : List A) → length (map f xs) 
 map_long f [] = refl
 map_long f (x ∷ xs) = ap suc (map_long f xs)
 
--- a list that stands behind another and in front of a third
+-- a list between two others
 between : (xs ys zs all : List ℕ) (a b : ℕ) → all ≡ (xs ++ ys) ++ zs → a ≡ length xs → b ≡ length (xs ++ ys) → slice_range all a b ≡ ys
 between xs ys zs all a b is ha hb =
     let long : length (xs ++ ys) - length xs ≡ length ys = let l = length-append xs ys in omega (arith, l) in
     ap (λ (ns : List ℕ). slice_range ns a b) (is ∙ append_assoc xs ys zs) ∙ ap (λ (i : ℕ). slice_range (xs ++ (ys ++ zs)) i b) ha ∙ ap (λ (j : ℕ). slice_range (xs ++ (ys ++ zs)) (length xs) j) hb
     ∙ ap (λ (n : ℕ). take n (drop (length xs) (xs ++ (ys ++ zs)))) long ∙ ap (λ (ns : List ℕ). take (length ys) ns) (drop-append_seam xs (ys ++ zs)) ∙ take-append_seam ys zs
 
--- four lists that were appended, as they are cut out
+-- four appended lists, cut out again
 pub record AreCut (all o n d w : List ℕ) (a b c : ℕ) : Type 0 where
   pub outputs : slice_range all 0 a ≡ o
   pub named : slice_range all a b ≡ n

@@ -26,7 +26,7 @@ module _ (split : IsSplit) where
       ap (λ (xs : List ℕ). code_at xs operands) k ∙ ap (λ (ns : List ℕ). code_at (key_of (body_of code)) ns) o
       ∙ ap (λ (b : Body). with_operands b (operands_of code)) (body_back (body_of code)) ∙ (split code).0
 
-  -- an instruction more
+  -- one more instruction
   module _ (key operands new_key new_operands : List ℕ) (i : Instr) (are : AreOf key operands (code_at key operands))
       (k : new_key ≡ key ++ member_number (leave_open i) ∷ []) (o : new_operands ≡ operands ++ open_operand i) where
     abbrev code : List Instr

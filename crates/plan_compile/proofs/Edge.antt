@@ -64,7 +64,7 @@ module _ (meaning : Meaning) (p : Parts) (e : ℕ) (w : CommandWiring) (start : 
   abbrev pub under : Bool → List ℕ → ℕ → List Value
   under r old n = below meaning p e w start order_only wired r old n
 
-  -- what is left of the talk once the entry is known
+  -- the rest of the talk when the entry is known
   abbrev pub talk_after : List ℕ → List ℕ → Option Recorded → Talk
   talk_after named old o = stamps (paths_in o) (λ swept. ends_as meaning p e w start order_only wired named old (is_dirty d named old o swept))
 
@@ -120,7 +120,7 @@ module _ (meaning : Meaning) (p : Parts) (e : ℕ) (w : CommandWiring) (start : 
       (weighs meaning p e w start order_only wired w.baseline (has_source_file w.named) refl refl named old o m (hold_some slots w.outputs old hold wired.some) same positive baseline_is)
       (dirty_stands (code p e) w place judge) (run_stands (code p e) w place judge)
 
-  -- a command that isn't another was recorded
+  -- a command that doesn't differ was recorded
   pub baseline_known : (b : Baseline) (old : List ℕ) (o : Option Recorded) → is_new d.command o ≡ false → Gives meaning p e w start order_only wired b (basis_in o) old o
   baseline_known Outputs old o same = tt
   baseline_known Basis old (Some y) same = refl
@@ -128,13 +128,13 @@ module _ (meaning : Meaning) (p : Parts) (e : ℕ) (w : CommandWiring) (start : 
   baseline_known OutputsAndBasis old (Some y) same = refl
   baseline_known OutputsAndBasis old None same = absurd cc
 
-  -- so does the basis of an entry
+  -- the basis of an entry gives the baseline
   pub entry_gives : (b : Baseline) (old : List ℕ) (y : Recorded) → Gives meaning p e w start order_only wired b y.basis old (Some y)
   entry_gives Outputs old y = tt
   entry_gives Basis old y = refl
   entry_gives OutputsAndBasis old y = refl
 
-  -- without an entry so does the stamp of the oldest output
+  -- without an entry, the stamp of the oldest output gives the baseline
   pub none_gives : (b : Baseline) (old : List ℕ) → Gives meaning p e w start order_only wired b (least old) old None
   none_gives Outputs old = tt
   none_gives Basis old = refl
@@ -165,7 +165,7 @@ module _ (meaning : Meaning) (p : Parts) (e : ℕ) (w : CommandWiring) (start : 
       low true old n b ps = refl
       low false old n b ps = refl
 
-  -- a generator that compares the basis, once a stamp that gives its baseline is over the paths
+  -- a generator that compares the basis, when a stamp that gives its baseline is above the paths
   pub by_baseline : (at : ℕ) → drop at (code p e) ≡ judged_code w at → (slots : Slots) (named old : List ℕ) (o : Option Recorded) (b : ℕ) → IsPositive w.named (greatest named) → Settled slots named → Hold slots w.outputs old
       → compares_basis w.baseline ≡ true → w.generator ≡ true → Gives meaning p e w start order_only wired w.baseline b old o
       → From meaning p e M (judged_code w at) (Stamp b ∷ Paths 0 (paths_in o) ∷ []) slots false false (talk_after named old o)

@@ -1,4 +1,4 @@
--- The edges of an image, and what it says of them.
+-- The edges of an image, and the facts in it about them.
 use Rattle.std.proofs.Common.{◌≡◌, ℕ, zero, suc, ◌+◌, ◌≤◌, Bool, true, false, List, [], ◌∷◌, length, map, Option, Some, None, refl, ap, ◌∙◌, arith}
 use Rattle.std.specs.Prelude.{slice_get, option_map, flat_map, bytes_eq}
 use Rattle.std.specs.List.{range_with_len}
@@ -24,7 +24,7 @@ use Rattle.plan_compile.proofs.NumberingLemmas.{texts_decide, found}
 use Rattle.plan_compile.proofs.BodyKeyLemmas.{bodies_decide}
 use Rattle.plan_compile.proofs.UseLemmas.{all_apart, each_used, numbers_count, same_number}
 
--- ---- what each edge has of all
+-- ---- the part of each edge in a concatenated list
 
 pub flat_at : {A B : Type 0} (f : A → List B) (xs : List A) (e : ℕ) (x : A) → slice_get xs e ≡ Some x → (k : ℕ) (y : B) → slice_get (f x) k ≡ Some y
     → (n : ℕ) × (slice_get (flat_map f xs) n ≡ Some y)
@@ -54,7 +54,7 @@ code_at texts outputs b (y ∷ xs) (suc e) x c is h =
     let deep : c ≡ b + own_len y + base xs e = omega (arith, is) in
     code_at texts outputs (b + own_len y) xs e x c deep h
 
--- the code of the edge of this number
+-- the code of the edge with this number
 abbrev pub code_in : Builds → ℕ → Build → List Instr
 code_in t e x = code_of (wire (all_texts t.edges) (all_made zero t.edges) (base t.edges e) x)
 
@@ -82,7 +82,7 @@ edges_length texts pools bodies [] (x ∷ xs) h = absurd (omega (arith, h))
 edges_length texts pools bodies (is ∷ all) [] h = absurd (omega (arith, h))
 edges_length texts pools bodies (is ∷ all) (x ∷ xs) h = ap suc (edges_length texts pools bodies all xs (omega (arith, h)))
 
--- the image's edge of this number
+-- the image's edge with this number
 abbrev pub edge_in : Builds → ℕ → Build → Edge
 edge_in t e x = edge_of (all_texts t.edges) (used_pools t.edges) (used_bodies (codes t.edges)) (code_in t e x) x
 
@@ -90,7 +90,7 @@ pub image_edge : (t : Builds) (e : ℕ) (x : Build) → IsEdge t e x → slice_g
 image_edge t e x at =
     edge_at (all_texts t.edges) (used_pools t.edges) (used_bodies (codes t.edges)) (codes t.edges) t.edges e (code_in t e x) x (code_stands t e x at) at
 
--- ---- the image says what the manifest says
+-- ---- the image has the facts of the manifest
 
 pool_named : (pools : List ManifestPool) (names own : List Text) → ((k : ℕ) (name : Text) → slice_get own k ≡ Some name → slice_get names (text_number names name) ≡ Some name)
     → (few : length own ≤ 1) → (p : Parts) → p.pools ≡ map (declared pools) names → HasPool p (pool_number names own) own
@@ -120,7 +120,7 @@ image_count t =
     edges_length (all_texts t.edges) (used_pools t.edges) (used_bodies (codes t.edges)) (codes t.edges) t.edges
     (codes_length (all_texts t.edges) (all_made zero t.edges) zero t.edges)
 
--- the numbers of edges' bodies, by their codes
+-- the body numbers of edges, by their codes
 numbers_of : (texts pools : List Text) (bodies : List Body) (all : List (List Instr)) (xs : List Build) → length all ≡ length xs
     → body_numbers (edges_of texts pools bodies all xs) ≡ map (λ b. number same_body b bodies) (map body_of all)
 numbers_of texts pools bodies [] [] h = refl

@@ -128,7 +128,7 @@ pub has_with : (m : ℕ) (set : List ℕ) (os : List Output) → HasStamps set o
 has_with m set [] h = tt
 has_with m set (o ∷ os) h = (mem_stays o.stamp m set h.0, has_with m set os h.1)
 
--- with a flag for each output that holds one
+-- with a flag for each output that has one
 pub all_held : (restat : Bool) (s : ℕ) (set : List ℕ) (os : List Output) → HaveFlagSlots restat os → HasStamps set os → is_member s (slots_of os) ≡ true → is_member s (flags_set set (holders restat os)) ≡ true
 all_held true s set os have has h = all_have s set os has h
 all_held false s set [] have has h = absurd cc
@@ -146,7 +146,7 @@ some_app [] rest h = h
 some_app (x ∷ xs) rest h = omega arith
 
 module _ (p : Parts) (e : ℕ) where
-  -- one instruction that goes on
+  -- an instruction that continues to the next place
   pub go_on : {rest : List Instr} {due : List (ℕ × Shape)} (i : Instr) (s t : Shape) → ((at : ℕ) → targets at i ≡ (at + 1) ∷ []) → ((at : ℕ) → bad_jump (length (code p e)) at i ≡ false)
       → ((at : ℕ) → falls_off (length (code p e)) at i ≡ nat_le (length (code p e)) (at + 1)) → left p i s ≡ t → IsEasy p e i s → AreAhead p e due rest → 0 < length rest
       → Fit p e rest t due → Fit p e (i ∷ rest) s due
@@ -183,7 +183,7 @@ module _ (p : Parts) (e : ℕ) where
       go_on (op.Store s) (sh (k ∷ []) held set) (sh [] held (with_member s set)) (λ at. refl) (λ at. refl) (λ at. refl) refl
       (ap not own.0, refl, refl, refl, refl, refl, (ap (λ (x : Kind). not (is_wanted (Some x) k) || false) own.1 ∙ ap (λ (b : Bool). b || false) same), refl, refl, refl) ahead some f
 
-  -- over one stamp
+  -- a store with one stamp below
   pub store_over : {rest : List Instr} {held : Bool} {set : List ℕ} {due : List (ℕ × Shape)} (s : ℕ) (k : Kind) → IsOwnOf p e k s → not (is_wanted (Some k) k) ≡ false
       → AreAhead p e due rest → 0 < length rest → Fit p e rest (sh (Stamp ∷ []) held (with_member s set)) due → Fit p e (op.Store s ∷ rest) (sh (k ∷ Stamp ∷ []) held set) due
   unfolding left
@@ -347,7 +347,7 @@ module _ (p : Parts) (e : ℕ) where
   has_again set os [] h = tt
   has_again set os (x ∷ xs) h = (stamps_stay x.stamp set os h.0, has_again set os xs h.1)
 
-  -- what stands below the recorded paths
+  -- the values below the recorded paths
   abbrev pub under : Bool → List Kind
   under true = []
   under false = Flag ∷ Stamp ∷ Stamp ∷ []
@@ -357,7 +357,7 @@ module _ (p : Parts) (e : ℕ) where
   under_roomy false = refl
 
   module _ (w : CommandWiring) (right : IsCommand p e w) where
-    -- the slots that are set once the outputs were asked for
+    -- the slots that are set after the outputs were asked for
     abbrev pub IsReady : List ℕ → Type 0
     IsReady set = (is_member w.newest set ≡ true) × HasStamps set w.outputs
 
@@ -414,7 +414,7 @@ module _ (p : Parts) (e : ℕ) where
         (join p e op.Drop r (run_code w) (sh (Stamp ∷ []) false set) (sh [] false set) refl (λ at. refl) stands (omega arith)
         (λ at off. none_refused p e at op.Drop (sh (Stamp ∷ []) false set) (refl, refl, refl, refl, refl, refl, refl, refl, refl, refl) refl off) (run_fit set ready))
 
-    -- a clean edge's end
+    -- the end of a clean edge
     pub clean_fine : (set : List ℕ) → IsReady set → (at : ℕ) → refused p e at op.End (sh [] false (flags_set set (holders w.restat w.outputs))) ≡ None
     clean_fine set ready =
         end_fine (flags_set set (holders w.restat w.outputs)) (flags_stay w.newest set (holders w.restat w.outputs) ready.0) (λ s h. all_held w.restat s set w.outputs right.changed ready.1 h)
@@ -423,7 +423,7 @@ module _ (p : Parts) (e : ℕ) where
     ahead_more [] d s rest ahead lt = (lt, tt)
     ahead_more (x ∷ xs) d s rest ahead lt = (ahead.0, ahead_more xs d s rest ahead.1 lt)
 
-    -- from the sweep on, with the jumps still to land and what the end leaves to show
+    -- from the sweep on, with the jumps still to land, given that the code after the end fits
     pub judge_fit : (at d r : ℕ) (set : List ℕ) (due : List (ℕ × Shape)) → IsReady set → d ≡ at + 6 + clean_len w → r ≡ at + 8 + clean_len w
         → drop d (code p e) ≡ dirty_code w → drop r (code p e) ≡ run_code w → IsAhead due (op.End ∷ dirty_code w)
         → Fit p e (op.End ∷ dirty_code w) (sh [] false (flags_set set (holders w.restat w.outputs))) ((due ++ ((d, sh (Stamp ∷ Stamp ∷ []) false set) ∷ [])) ++ ((r, sh [] false set) ∷ []))
@@ -453,7 +453,7 @@ module _ (p : Parts) (e : ℕ) where
         ahead_more (due ++ ((d, sd) ∷ [])) r (sh [] false set) (xs ++ (op.End ∷ dirty_code w))
         (ahead_more due d sd (xs ++ (op.End ∷ dirty_code w)) (ahead (xs ++ (op.End ∷ dirty_code w)) l2) (omega (arith, d_long, l2))) (omega (arith, r_long, l2))) (omega arith) f)))))))
 
-    -- from a baseline over the paths
+    -- from a baseline above the paths
     pub under_fit : (looks : Bool) (rest : List Instr) (set : List ℕ) (due : List (ℕ × Shape)) → IsReady set → IsAhead due rest → 0 < length rest
         → Fit p e rest (sh (Paths ∷ Flag ∷ Stamp ∷ Stamp ∷ []) false set) due → Fit p e (under_code looks w rest) (sh (Stamp ∷ Paths ∷ []) false set) due
     unfolding left
@@ -511,7 +511,7 @@ module _ (p : Parts) (e : ℕ) where
         (go_on (op.Text w.command) (sh (Text ∷ Stamp ∷ Paths ∷ deep) false set) (sh (Text ∷ Text ∷ Stamp ∷ Paths ∷ deep) false set) (λ at. refl) (λ at. refl) (λ at. refl) refl (refl, refl, right.command.0, refl, refl, enough (suc two), refl, refl, refl, less (omega arith) low) tt (omega arith)
         (go_on op.Equal (sh (Text ∷ Text ∷ Stamp ∷ Paths ∷ deep) false set) (sh (Flag ∷ Stamp ∷ Paths ∷ deep) false set) (λ at. refl) (λ at. refl) (λ at. refl) refl (refl, refl, refl, refl, refl, enough_two two, refl, refl, refl, less (omega arith) low) tt some f))
 
-    -- the judging, where no jump is still to land
+    -- the code that decides whether the edge is dirty, if no jump is still to land
     pub judged_fit : (r : Bool) → compares_basis w.baseline ≡ r → (at : ℕ) (set : List ℕ) → IsReady set → drop at (code p e) ≡ judged_code w at → Fit p e (judged_code w at) (sh (Stamp ∷ Paths ∷ under r) false set) []
     judged_fit r is at set ready stands =
         let place : ℕ = at + ready_len w in
@@ -606,7 +606,7 @@ module _ (p : Parts) (e : ℕ) where
         (λ here off. none_refused p e here op.Drop sk (refl, refl, refl, refl, refl, refl, refl, refl, refl, refl) refl off)
         (judged_fit true is (place + 1) set ready based))))))
 
-    -- what follows the entry
+    -- the code after the entry
     pub recalled_fit : (g : Bool) (at : ℕ) (set : List ℕ) → IsReady set → drop at (code p e) ≡ recalled_code g w at → Fit p e (recalled_code g w at) (sh (Flag ∷ Text ∷ Stamp ∷ Paths ∷ under (compares_basis w.baseline)) false set) []
     recalled_fit true at set ready stands = pass_fit (compares_basis w.baseline) refl at set ready stands
     recalled_fit false at set ready stands = compare_fit at set ready stands

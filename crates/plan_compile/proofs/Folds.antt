@@ -1,4 +1,4 @@
--- Fragments that go over a list.
+-- Fragments that iterate over a list.
 use Rattle.std.proofs.Common.{◌≡◌, ℕ, suc, ◌<◌, ◌≤◌, Bool, true, false, List, [], ◌∷◌, ◌++◌, length, map, Option, Some, None, refl, sym, ap, subst, ◌∙◌, arith, inl, inr, append_assoc}
 use Rattle.std.specs.Prelude.{◌||◌, ◌⊎◌, nat_lt, nat_le, if◌then◌else◌, slice_get, slice_set, ◌==◌}
 use Rattle.std.proofs.Math.Dec.{leb-zero}
@@ -21,7 +21,7 @@ use Rattle.plan_compile.specs.Means.{path_at, stamp_at, flag_at, given, source_f
 use Rattle.plan_compile.proofs.Wired.{AreReadable, AreFlags, AreFiles, AreWritable, some_flag}
 use Rattle.plan_compile.proofs.Machine.{From, need, stat, load, store, plain}
 
--- a stack with room for a few more
+-- a stack with room for a few more values
 abbrev pub IsLow : List Value → Type 0
 IsLow stack = nat_lt 64 (suc (suc (suc (length stack)))) ≡ false
 
@@ -34,7 +34,7 @@ shallow_one below low = le-ltb 64 (suc (length below)) (let h : suc (suc (suc (l
 pub later_zero : (n : ℕ) → later 0 n ≡ n
 later_zero n = ap (λ (b : Bool). if b then n else 0) (leb-zero n)
 
--- the later of two is neither's earlier
+-- the later of two stamps is not earlier than either
 pub later_left : (a b : ℕ) → a ≤ later a b
 later_left a b = by_test (nat_le a b) refl where
   by_test : (t : Bool) → nat_le a b ≡ t → a ≤ (if t then b else a)
@@ -63,13 +63,13 @@ abbrev pub flagged : Slots → Bool → List Output → Slots
 flagged slots b [] = slots
 flagged slots b (o ∷ os) = flagged (slice_set slots o.changed (Some (Flag b))) b os
 
--- the stamps lie in the outputs' slots
+-- the stamps are in the outputs' slots
 abbrev pub Hold : Slots → List Output → List ℕ → Type 0
 Hold slots [] [] = Unit {0}
 Hold slots (o ∷ os) (t ∷ ts) = (slice_get slots o.stamp ≡ Some (Some (Stamp t))) × Hold slots os ts
 Hold slots _ _ = ⊥
 
--- a source file among the inputs has a stamp, and so their greatest isn't 0
+-- a source file among the inputs has a stamp, so their greatest isn't 0
 abbrev pub IsPositive : List Input → ℕ → Type 0
 IsPositive is n = has_source_file is ≡ true → 0 < n
 
@@ -163,7 +163,7 @@ module _ (meaning : Meaning) (p : Parts) (e : ℕ) (L : Slots → Left → Type 
   oldest_all (o ∷ os) [] below low hold h = absurd hold
   oldest_all (o ∷ os) (t ∷ ts) below low hold h = load meaning p e L o.stamp (Stamp t) hold.0 (shallow_one below low) (older_all os ts t below low hold.1 h)
 
-  -- the flags of the inputs that edges make; the slots of other edges are as they were at the start
+  -- the flags of the inputs that other edges produce; the slots of other edges are as at the start
   pub or_all : {rest : List Instr} {slots : Slots} {holding ran : Bool} {talk : Talk} (flags : List ℕ) (start : Slots) (a : Bool) (below : List Value) → IsLow below → AreFlags p e start flags
       → ((s : ℕ) → owned_by e (slice_get p.slots s) ≡ false → slice_get slots s ≡ slice_get start s)
       → From meaning p e L rest (Flag (a || some_flag start flags) ∷ below) slots holding ran talk → From meaning p e L (or_code flags ++ rest) (Flag a ∷ below) slots holding ran talk
@@ -182,7 +182,7 @@ module _ (meaning : Meaning) (p : Parts) (e : ℕ) (L : Slots → Left → Type 
   any_all (s ∷ ss) start below low readable same h =
       load meaning p e L s (Flag (flag_at start s)) (same s readable.0.1 ∙ readable.0.0) (shallow_one below low) (or_all ss start (flag_at start s) below low readable.1 same h)
 
-  -- what the alarm says
+  -- the value of the alarm
   abbrev pub alarm_of : (looks : Bool) → List ℕ → Bool → Bool
   alarm_of true ts changed = (least ts == 0) || changed
   alarm_of false ts changed = changed

@@ -1,4 +1,4 @@
--- What is compared, as the code compares it.
+-- The comparisons, as the code makes them.
 use Rattle.std.proofs.Common.{◌≡◌, ℕ, ◌<◌, ◌≤◌, Bool, true, false, List, [], ◌∷◌, ◌++◌, map, Option, Some, None, refl, sym, ap, ◌∙◌, arith}
 use Rattle.std.specs.Prelude.{◌||◌, ◌&&◌, not, nat_lt, nat_le, if◌then◌else◌, ◌==◌}
 use Rattle.std.proofs.lemmas.Bool.{eqb-true, eq-eqb, ne_eqb, lt-ltb, leb-true, leb-false}
@@ -67,7 +67,7 @@ pub least_missing : (t : ℕ) (ts : List ℕ) → (least_from t ts == 0) ≡ ((t
 least_missing t [] = sym (or_false_right (t == 0))
 least_missing t (u ∷ us) = least_missing (earlier t u) us ∙ (ap (λ (b : Bool). b || some_missing us) (earlier_missing t u) ∙ or_assoc (t == 0) (u == 0) (some_missing us))
 
--- the least stamp tells whether an output is missing
+-- an output is missing if and only if the least stamp is 0
 pub missing_least : (old : List ℕ) → (old ≡ [] → ⊥) → (least old == 0) ≡ some_missing old
 missing_least [] some = absurd (some refl)
 missing_least (t ∷ ts) some = least_missing t ts
@@ -101,7 +101,8 @@ module _ (c : Command) (named old : List ℕ) (entry : Option Recorded) where
   missing_is b [] = sym (or_false_right b)
   missing_is b (t ∷ ts) = missing_is (b || (t == 0)) ts ∙ or_assoc b (t == 0) (some_missing ts)
 
-  -- The edge is dirty by the alarm that the sweep goes on with, or by its baseline, where its command isn't another.
+  -- If its command doesn't differ, the edge is dirty by the alarm with which the sweep continues, or by its
+  -- baseline.
   pub dirty_is : (swept : List ℕ) → (not c.generator && is_new c.command entry) ≡ false
       → is_dirty c named old entry swept ≡ (missing_from (some_missing old || some_changed c.named) swept || nat_lt (baseline c.baseline old entry) (greatest_from (greatest named) swept))
   dirty_is swept same =
@@ -112,7 +113,7 @@ module _ (c : Command) (named old : List ℕ) (entry : Option Recorded) where
   pub dirty_new : (swept : List ℕ) → (not c.generator && is_new c.command entry) ≡ true → is_dirty c named old entry swept ≡ true
   dirty_new swept fresh = new_chain (some_missing old) (some_changed c.named) (not c.generator && is_new c.command entry) (some_missing swept) (nat_lt (baseline c.baseline old entry) (greatest (named ++ swept))) fresh
 
-  -- a missing output is older than any input that is there
+  -- a missing output is older than any input that exists
   pub dirty_later : (swept : List ℕ) → (c.baseline ≡ Basis → ⊥) → (old ≡ [] → ⊥) → 0 < greatest named → some_missing old ≡ true → nat_lt (baseline c.baseline old entry) (greatest_from (greatest named) swept) ≡ true
   dirty_later swept plain some positive missing =
       let zero_is : least old ≡ 0 = eqb-true (least old) 0 (missing_least old some ∙ missing) in
@@ -120,7 +121,7 @@ module _ (c : Command) (named old : List ℕ) (entry : Option Recorded) where
       let more : greatest named ≤ greatest_from (greatest named) swept = greatest_more (greatest named) swept in
       ap (λ (n : ℕ). nat_lt n (greatest_from (greatest named) swept)) baseline_is ∙ lt-ltb 0 (greatest_from (greatest named) swept) (omega (arith, more, positive))
 
-  -- the same without a look at the outputs
+  -- the same without a test of the outputs
   pub dirty_unlooked : (swept : List ℕ) → (not c.generator && is_new c.command entry) ≡ false → (c.baseline ≡ Basis → ⊥) → (old ≡ [] → ⊥) → 0 < greatest named
       → is_dirty c named old entry swept ≡ (missing_from (some_changed c.named) swept || nat_lt (baseline c.baseline old entry) (greatest_from (greatest named) swept))
   dirty_unlooked swept same plain some positive =

@@ -1,4 +1,4 @@
--- The image means the rule, and is well shaped, since the code of each edge does and is.
+-- The image means the rule and is well shaped, because the code of each edge does and is.
 use Rattle.std.proofs.Common.{◌≡◌, ℕ, zero, suc, ◌<◌, List, [], ◌∷◌, length, map, Some, refl, ap, subst, ◌∙◌, arith}
 use Rattle.std.specs.Prelude.{slice_get}
 use Rattle.plan_image.specs.Bodies.{IsSplit}

@@ -1,4 +1,4 @@
--- How long parts of the code are.
+-- The lengths of parts of the code.
 use Rattle.std.proofs.Common.{◌≡◌, ℕ, suc, ◌+◌, ◌*◌, ◌-◌, ◌<◌, ◌≤◌, Bool, true, false, List, [], ◌∷◌, ◌++◌, length, refl, sym, ap, subst, ◌∙◌, arith, length-append}
 use Rattle.std.specs.Prelude.{not, if◌then◌else◌, Ok, Err}
 use Rattle.std.proofs.lemmas.Bool.{lt-ltb}
@@ -41,7 +41,7 @@ pub shared_none : (b : Bool) (os : List Output) → length os ≡ 0 → length (
 shared_none b [] none = refl
 shared_none b (o ∷ os) none = absurd (omega (arith, none))
 
--- the flags of a clean edge, by whether it is restat
+-- the flags of a clean edge, restat or not
 pub clean_restat : (w : CommandWiring) → w.restat ≡ true → clean_len w ≡ 2 * length w.outputs
 clean_restat w is = ap (λ (r : Bool). length (flag_code false (holders r w.outputs))) is ∙ flag_length false w.outputs
 
@@ -51,7 +51,7 @@ clean_shared w is some = ap (λ (r : Bool). length (flag_code false (holders r w
 pub clean_none : (w : CommandWiring) → w.restat ≡ false → length w.outputs ≡ 0 → clean_len w ≡ 0
 clean_none w is none = ap (λ (r : Bool). length (flag_code false (holders r w.outputs))) is ∙ shared_none false w.outputs none
 
--- what looks for the alarm
+-- the code of the alarm
 pub alarm_looks : (os : List Output) (flags : List ℕ) → length (alarm_code true os flags) ≡ length (oldest_code os) + 1 + 2 * length flags
 alarm_looks os flags =
     let a : length (oldest_code os ++ (op.IsMissing ∷ or_code flags)) ≡ length (oldest_code os) + suc (length (or_code flags)) = length-append (oldest_code os) (op.IsMissing ∷ or_code flags) in
@@ -66,7 +66,7 @@ pub any_some : (flags : List ℕ) → (2 * length flags ≡ 0 → ⊥) → lengt
 any_some [] some = absurd (some refl)
 any_some (s ∷ ss) some = let h : length (or_code ss) ≡ 2 * length ss = or_length ss in omega (arith, h)
 
--- what makes ready for the sweep
+-- the code that prepares the sweep
 pub under_length : (looks : Bool) (w : CommandWiring) → length (under_code looks w []) ≡ length (alarm_code looks w.outputs w.flags) + 4
 under_length looks w =
     let alarm : List Instr = alarm_code looks w.outputs w.flags in
@@ -80,7 +80,7 @@ ready_both w is =
     let whole : length (ready_code OutputsAndBasis w []) ≡ length (oldest_code w.outputs) + 1 + length tail = omega (arith, a) in
     ap (λ (b : Baseline). length (ready_code b w [])) is ∙ whole
 
--- ---- what the whole code is longer than
+-- ---- lower bounds on the length of the code
 
 pub longer_front : (xs ys : List Instr) → length xs ≤ length (xs ++ ys)
 longer_front xs ys = let a : length (xs ++ ys) ≡ length xs + length ys = length-append xs ys in omega (arith, a)
@@ -128,7 +128,7 @@ module _ (w : CommandWiring) where
       let c : length (stat_code w.outputs ++ weighed_code (compares_basis w.baseline) w (op.Recall ∷ behind_front)) ≤ length (command_code w) = asked_within behind_front in
       omega (arith, a, b, c)
 
-  -- the flags are among what is weighed
+  -- the flags are in the code before the entry
   pub weighed_flags : (rest : List Instr) → length w.flags ≤ length (weighed_code false w rest)
   weighed_flags rest =
       let alarm : List Instr = alarm_code (not (has_source_file w.named)) w.outputs w.flags in
@@ -137,7 +137,7 @@ module _ (w : CommandWiring) where
       let c : length (op.Load w.newest ∷ (alarm ++ rest)) ≤ length (oldest_code w.outputs ++ (op.Load w.newest ∷ (alarm ++ rest))) = longer_back (oldest_code w.outputs) (op.Load w.newest ∷ (alarm ++ rest)) in
       omega (arith, a, b, c)
 
-  -- or among what makes ready for the sweep
+  -- or they are in the code that prepares the sweep
   pub under_flags : (looks : Bool) (rest : List Instr) → length w.flags ≤ length (under_code looks w rest)
   under_flags looks rest =
       let alarm : List Instr = alarm_code looks w.outputs w.flags in

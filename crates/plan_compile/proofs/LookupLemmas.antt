@@ -1,4 +1,4 @@
--- What is read of the table of outputs is what is meant.
+-- The results of look-ups in the table of outputs are those of the specification.
 use Rattle.std.proofs.Common.{◌≡◌, ℕ, zero, suc, ◌<◌, Bool, true, false, List, [], ◌∷◌, replicate, Option, Some, None, refl, sym, ap, ◌∙◌, arith, inl, inr}
 use Rattle.std.specs.Prelude.{◌||◌, ◌==◌, slice_get, slice_set, if◌then◌else◌, nat_le, is_some}
 use Rattle.std.specs.List.{list_any}
@@ -23,7 +23,7 @@ sources_same table a b (f ∷ fs) h =
 
 -- ---- the filled table shows the first output that is a file
 
--- what is there, or else what comes
+-- the present output, or else the new one
 abbrev or_find : Option Output → Option Output → Option Output
 or_find (Some o) other = Some o
 or_find None other = other
@@ -69,7 +69,7 @@ empty_at zero f lt = absurd (omega arith)
 empty_at (suc n) zero lt = refl
 empty_at (suc n) (suc f) lt = empty_at n f (omega (arith, lt))
 
--- the table of so many files
+-- the table of n files
 abbrev pub table_of : ℕ → List Output → Table
 table_of n os = filled (replicate n none) os
 

@@ -1,4 +1,4 @@
--- One instruction of the code that is left: what it leaves to show.
+-- The effect of one instruction, given the rest of the code.
 use Rattle.std.proofs.Common.{◌≡◌, ℕ, zero, suc, ◌+◌, ◌-◌, ◌<◌, ◌≤◌, Bool, true, false, List, [], ◌∷◌, length, drop, Option, Some, None, refl, sym, ap, subst, ◌∙◌, arith}
 use Rattle.std.specs.Prelude.{◌||◌, not, Result, Ok, Err, nat_lt, nat_le, if◌then◌else◌, slice_get, slice_set, ◌==◌}
 use Rattle.std.specs.List.{list_all}
@@ -18,7 +18,7 @@ use Rattle.plan_verify.specs.Alone.{Runs, after}
 use Rattle.plan_compile.specs.Talk.{Left, Talk, Ask, Over, Fail, Obeys, is_over, has_failed, moves, asks}
 use Rattle.plan_compile.specs.Rule.{Path, Recorded, needed, stamped, recalled, exited, told_paths, read, kept, stamps, greatest_from}
 
--- ---- code that is left
+-- ---- the rest of the code
 
 pub some_is : {A : Type 0} (x y : A) → ◌≡◌ {A = Option A} (Some x) (Some y) → x ≡ y
 some_is x y e = cc
@@ -47,12 +47,12 @@ drop_length [] (suc n) = omega arith
 drop_length (x ∷ xs) zero = omega arith
 drop_length (x ∷ xs) (suc n) = let h : length (drop n xs) ≡ length xs - n = drop_length xs n in omega (arith, h)
 
--- ---- one edge, from the code that is left
+-- ---- one edge, from the rest of the code
 
 abbrev pub local : ℕ → List Value → Bool → Bool → Local
 local place stack holding ran = record { place = place; stack = stack; holding = holding; ran = ran; asked = false }
 
--- what a reply to Recall leaves on the stack
+-- the values that a reply to Recall leaves on the stack
 abbrev pub entry_values : Option Recorded → List Value → List Value
 entry_values (Some entry) stack = Flag true ∷ Text entry.command ∷ Stamp entry.basis ∷ Paths 0 entry.paths ∷ stack
 entry_values None stack = Flag false ∷ Text [] ∷ Stamp 0 ∷ Paths 0 [] ∷ stack
@@ -66,7 +66,7 @@ module _ (meaning : Meaning) (p : Parts) (e : ℕ) (Leaves : Slots → Left → 
   abbrev pub Keeps : Local → Slots → Turn → Talk → Type 0
   Keeps l slots t talk = Obeys meaning p e Leaves (after l slots t) talk
 
-  -- wherever this code stands, the edge keeps to the talk from there
+  -- wherever this code is, the edge follows the talk from there on
   pub record From (rest : List Instr) (stack : List Value) (slots : Slots) (holding ran : Bool) (talk : Talk) : Type 0 where
     pub go : (place : ℕ) → drop place (code p e) ≡ rest → Obeys meaning p e Leaves (record { stage = Runs (local place stack holding ran); slots = slots }) talk
 
@@ -343,7 +343,7 @@ module _ (meaning : Meaning) (p : Parts) (e : ℕ) (Leaves : Slots → Left → 
       ∙ ap (λ (r : Bool). Goes Moved (record { place = d; stack = stack; holding = holding; ran = r; asked = false })) c))) in
       subst (λ (t : Turn). Keeps m slots t talk) (sym e2) (f.go d lands)
 
-  -- code that ends later stands at a later place
+  -- code that ends later is at a later place
   pub is_later : (place d : ℕ) (i : Instr) (rest target : List Instr) → drop place (code p e) ≡ i ∷ rest → drop d (code p e) ≡ target → length target ≤ length rest → place < d
   is_later place d i rest target at lands le =
       let a : suc (length rest) ≡ length (code p e) - place = sym (ap length at) ∙ drop_length (code p e) place in

@@ -1,4 +1,4 @@
--- A body that is there already.
+-- A body that is already in the table.
 use Rattle.std.proofs.Common.{◌≡◌, ◌↔◌, ℕ, zero, suc, Bool, true, false, List, [], ◌∷◌, ◌++◌, map, Option, Some, None, refl, sym, ap, ◌∙◌}
 use Rattle.std.specs.List.{AllByRecursion, IsDistinct}
 use Rattle.std.specs.Prelude.{bytes_eq, slice_get, option_map, if◌then◌else◌}
@@ -38,7 +38,7 @@ has_there [] n b h = absurd cc
 has_there (c ∷ bodies) zero b h = or_left (same_body b c) (has same_body bodies b) (ap (λ (x : Body). same_body b x) (some_is c b h) ∙ bodies_decide.self b)
 has_there (c ∷ bodies) (suc n) b h = or_right (same_body b c) (has same_body bodies b) (has_there bodies n b h)
 
--- a body that is there isn't put again
+-- a body that is in the table isn't added again
 pub stays : (bodies : List Body) (n : ℕ) (b : Body) → slice_get bodies n ≡ Some b → bodies ≡ with_item same_body bodies b
 stays bodies n b h = ap (λ (t : Bool). if t then bodies else bodies ++ b ∷ []) (sym (has_there bodies n b h))
 
@@ -46,7 +46,7 @@ off : (t : Bool) → (t ≡ true → ⊥) → t ≡ false
 off true h = absurd (h refl)
 off false h = refl
 
--- a body that is there has the number of its place, since no key comes twice
+-- a body that is in the table has the number of its place, because no key is repeated
 module _ {K : Type 0} (items : K → List ℕ) where
   apart : (k : K) (keys : List K) (bodies : List Body) (n : ℕ) (b : Body) → AllByRecursion (λ l. same_key items k l ≡ false) keys → map items keys ≡ map key_of bodies
       → slice_get bodies n ≡ Some b → bytes_eq (items k) (key_of b) ≡ false

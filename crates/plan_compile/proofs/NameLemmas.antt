@@ -1,4 +1,4 @@
--- The numbers of texts and pools, as the code keeps them, are those of the whole tables.
+-- The numbers of texts and pools, as the code stores them, are those of the whole tables.
 use Rattle.std.proofs.Common.{◌≡◌, ℕ, zero, suc, ◌+◌, Bool, true, false, List, [], ◌∷◌, ◌++◌, drop, length, map, Option, Some, None, refl, sym, ap, subst, ◌∙◌, bytes_eq, arith, cond}
 use Rattle.std.specs.Prelude.{◌==◌, flat_map, slice_get, if◌then◌else◌}
 use Rattle.std.proofs.lemmas.Bool.{eqb-true}
@@ -14,11 +14,11 @@ use Rattle.plan_compile.specs.PoolDepths.{or_zero}
 use Rattle.plan_compile.proofs.BuildLemmas.{drop_here, mapped_step}
 use Rattle.plan_compile.proofs.NumberingLemmas.{item_has, items_have, items_join, items_keep, texts_decide}
 
--- a text that is there keeps its number
+-- a text that is in the list keeps its number
 pub text_stays : (ts us : List Text) (t : Text) → has bytes_eq ts t ≡ true → text_number ts t ≡ text_number (with_items bytes_eq ts us) t
 text_stays ts us t h = sym (items_keep bytes_eq texts_decide ts us t h).stays
 
--- one of the texts that were put is there
+-- each of the texts that were added is in the list
 pub text_there : (old ts us : List Text) (k : ℕ) (t : Text) → ts ≡ with_items bytes_eq old us → slice_get us k ≡ Some t → has bytes_eq ts t ≡ true
 text_there old ts us k t put at = subst (λ (xs : List Text). has bytes_eq xs t ≡ true) (sym put) (items_have bytes_eq texts_decide old us k t at)
 
@@ -26,7 +26,7 @@ pub depfile_stays : (ts us : List Text) (t : Text) → ((c : ℕ) (cs : Text) �
 depfile_stays ts us [] h = refl
 depfile_stays ts us (c ∷ cs) h = ap (λ (n : ℕ). Some n) (text_stays ts us (c ∷ cs) (h c cs refl))
 
--- a text that is put twice is there once
+-- a text that is added twice is in the list once
 pub put_twice : (ts : List Text) (t : Text) → with_item bytes_eq ts t ≡ with_item bytes_eq (with_item bytes_eq ts t) t
 put_twice ts t = ap (λ (b : Bool). if b then with_item bytes_eq ts t else with_item bytes_eq ts t ++ t ∷ []) (sym (item_has bytes_eq texts_decide ts t))
 
@@ -34,7 +34,7 @@ same_numbers : (a b c d : ℕ) (v w x y : Option ℕ) → a ≡ b → c ≡ d �
     → ◌≡◌ {A = Numbers} (record { label = a; command = c; depfile = v; pool = x }) (record { label = b; command = d; depfile = w; pool = y })
 same_numbers a b c d v w x y ha hc hv hx = cc
 
--- what comes behind an edge's texts and pool leaves its numbers
+-- texts and pools added after those of an edge leave its numbers unchanged
 pub numbers_stay : (x : Build) (old ts us names ps vs : List Text) → ts ≡ with_items bytes_eq old (texts_in x) → ps ≡ with_items bytes_eq names (pool_in x)
     → numbers_in ts ps x ≡ numbers_in (with_items bytes_eq ts us) (with_items bytes_eq ps vs) x
 numbers_stay x old ts us names ps vs = by_sort x.edge.phony
@@ -56,7 +56,7 @@ numbers_stay x old ts us names ps vs = by_sort x.edge.phony
         first_of [] c cs is = absurd cc
         first_of (d ∷ ds) c cs is = refl
 
--- one edge more
+-- one more edge
 pub names_step : (texts_of : Build → List Text) (xs : List Build) (n : ℕ) (x : Build) (old new whole : List Text) → slice_get xs n ≡ Some x → new ≡ with_items bytes_eq old (texts_of x)
     → with_items bytes_eq old (flat_map texts_of (drop n xs)) ≡ whole → with_items bytes_eq new (flat_map texts_of (drop (n + 1) xs)) ≡ whole
 names_step texts_of xs n x old new whole at put h =
@@ -74,13 +74,13 @@ numbers_step xs n x k old new names pools all used some more whole at put pool i
     ∙ ap (λ (ts : List Text). numbers_in ts (with_items bytes_eq pools (flat_map pool_in (drop (n + 1) xs))) x) ends ∙ ap (λ (ps : List Text). numbers_in all ps x) pools_end in
     mapped_step (numbers_in all used) xs n x some more whole at (pushed ∙ ap (λ (j : Numbers). some ++ j ∷ []) final) h
 
--- without a description the command is shown, and put once
+-- without a description the command is the label, and is added once
 pub shown_once : (ts : List Text) (description command : Text) → (length description == 0) ≡ true
     → with_item bytes_eq ts command ≡ with_items bytes_eq ts (or_command description command ∷ command ∷ [])
 shown_once ts [] command h = put_twice ts command
 shown_once ts (c ∷ cs) command h = let none : length (c ∷ cs) ≡ 0 = eqb-true (length (c ∷ cs)) 0 h in absurd (omega (arith, none))
 
--- a description keeps its number when the command is put
+-- a description keeps its number when the command is added
 pub label_stays : (old ts new : List Text) (description command : Text) (n : ℕ) → (length description == 0) ≡ false → ts ≡ with_item bytes_eq old description → n ≡ text_number ts description
     → new ≡ with_item bytes_eq ts command → n ≡ text_number new (or_command description command)
 label_stays old ts new [] command n h first is second = absurd cc
@@ -102,7 +102,7 @@ numbers_are old ts new pools e a b c q l k d p ha hb hc hq put hl hk more hd hp 
 
 -- ---- the depths of pools
 
--- texts are equal either way round
+-- equality of texts is symmetric
 texts_turned : (a b : Text) → bytes_eq a b ≡ bytes_eq b a
 texts_turned a b = by_test (bytes_eq a b) (bytes_eq b a) (λ h. (bytes_eq-Decides b a).1 (sym ((bytes_eq-Decides a b).0 h))) (λ h. (bytes_eq-Decides a b).1 (sym ((bytes_eq-Decides b a).0 h)))
   where
@@ -112,7 +112,7 @@ texts_turned a b = by_test (bytes_eq a b) (bytes_eq b a) (λ h. (bytes_eq-Decide
     by_test false true h g = g refl
     by_test false false h g = refl
 
--- one pool more, in front of those whose depths are known
+-- one more pool, before those whose depths are known
 pub depth_step : (pools : List ManifestPool) (n : ℕ) (p : ManifestPool) (key name : Text) (old new : Option ℕ) → slice_get pools n ≡ Some p → key ≡ p.name
     → new ≡ cond (bytes_eq key name) (Some p.depth) old → or_zero old ≡ depth_of (drop (n + 1) pools) name → or_zero new ≡ depth_of (drop n pools) name
 depth_step pools n p key name old new at named is h =

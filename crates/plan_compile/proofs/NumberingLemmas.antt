@@ -1,4 +1,4 @@
--- An item's number leads to it, and each item is kept once.
+-- An item's number leads to it, and no item is repeated.
 use Rattle.std.proofs.Common.{◌≡◌, ℕ, zero, suc, Bool, true, false, List, [], ◌∷◌, ◌++◌, Some, refl, sym, ap, subst, ◌∙◌}
 use Rattle.std.specs.Prelude.{◌||◌, slice_get, if◌then◌else◌, bytes_eq}
 use Rattle.std.proofs.lemmas.Slice.Eq.{bytes_eq-Decides}
@@ -22,7 +22,7 @@ module _ {A : Type 0} (same : A → A → Bool) (decides : Decides same) where
       elim (same x y) as (λ b. same x y ≡ b → (b || has same ys x) ≡ true → slice_get (y ∷ ys) (if b then zero else suc (number same x ys)) ≡ Some x)
       [ true ↦ λ e g. ap (λ (z : A). Some z) (sym (decides.tells x y e)) | false ↦ λ e g. leads x ys g ] refl h
 
-  -- ---- items that come behind
+  -- ---- appended items
 
   pub has_front : (xs ys : List A) (x : A) → has same xs x ≡ true → has same (xs ++ ys) x ≡ true
   has_front [] ys x h = absurd cc
@@ -39,7 +39,7 @@ module _ {A : Type 0} (same : A → A → Bool) (decides : Decides same) where
       elim (same x z) as (λ b. (b || has same xs x) ≡ true → (if b then zero else suc (number same x (xs ++ ys))) ≡ (if b then zero else suc (number same x xs)))
       [ true ↦ λ g. refl | false ↦ λ g. ap suc (number_front xs ys x g) ] h
 
-  -- what a list of items keeps
+  -- the properties of a list to which items are added
   pub record IsKept (xs ys : List A) (x : A) : Type 0 where
     pub there : has same ys x ≡ true
     pub stays : number same x ys ≡ number same x xs

@@ -1,4 +1,4 @@
--- An output's maker and its users read the same slots.
+-- An output's producer and its users access the same slots.
 use Rattle.std.proofs.Common.{◌≡◌, ℕ, zero, suc, ◌+◌, Bool, true, false, List, [], ◌∷◌, ◌++◌, Some, refl, sym, ap, subst, ◌∙◌, arith, inl, inr}
 use Rattle.std.specs.Prelude.{◌==◌, slice_get, option_map, if◌then◌else◌}
 use Rattle.std.proofs.lemmas.Bool.{eqb-true, eq-eqb}
@@ -11,7 +11,7 @@ use Rattle.plan_compile.proofs.ListLemmas.{some_is, bool_cases}
 use Rattle.plan_compile.proofs.OutputLemmas.{files_made}
 use Rattle.plan_compile.proofs.WiringLemmas.{IsMadeBy, maker}
 
--- no file stands twice
+-- no file is repeated
 abbrev pub AreOnce : List Output → Type 0
 AreOnce os = (i j : ℕ) (o q : Output) → slice_get os i ≡ Some o → slice_get os j ≡ Some q → o.file ≡ q.file → i ≡ j
 
@@ -55,7 +55,7 @@ all_some b (y ∷ xs) (suc e) x i o h g =
     let q = all_some (b + own_len y) xs e x i o h (ap (λ (n : ℕ). slice_get (made n x) i) same ∙ g) in
     find_past o.file (made b y) (all_made (b + own_len y) xs) q.0 q.1
 
--- where the output stands that was found
+-- the index of the output that was found
 find_is : (f : ℕ) (os : List Output) (q : Output) → find f os ≡ Some q → (j : ℕ) × (slice_get os j ≡ Some q) × (q.file ≡ f)
 find_is f [] q h = absurd cc
 find_is f (o ∷ os) q h =

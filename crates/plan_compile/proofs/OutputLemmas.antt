@@ -1,4 +1,4 @@
--- What lies in the slots of an edge's outputs.
+-- The values in the slots of an edge's outputs.
 use Rattle.std.proofs.Common.{◌≡◌, ℕ, zero, suc, ◌+◌, ◌<◌, Bool, true, false, List, [], ◌∷◌, ◌++◌, length, Some, refl, ap, subst, ◌∙◌, arith, inl, inr}
 use Rattle.std.specs.Prelude.{◌⊎◌, ◌==◌, slice_get, if◌then◌else◌, nat_le}
 use Rattle.std.specs.List.{list_any}
@@ -15,7 +15,7 @@ use Rattle.plan_compile.specs.Means.{IsNoStamp, IsNoFlag, AreApart, HaveOwnFlags
 use Rattle.plan_compile.specs.Slots.{stamps, pairs, kinds_by, outputs_flagged, outputs_apart, outputs_sharing, outputs_by, find}
 use Rattle.plan_compile.proofs.ListLemmas.{some_is, bool_cases, or_false, or_left, or_right}
 
--- ---- slots from b on are of an edge and these kinds
+-- ---- slots from b on belong to an edge and have these kinds
 
 abbrev pub Holds : Parts → ℕ → Kind → ℕ → Type 0
 Holds p e k s = slice_get p.slots s ≡ Some (record { owner = e; kind = k })
@@ -151,13 +151,13 @@ find_split f (q ∷ os) ps o h =
     elim (q.file == f) as (λ b. (if b then Some q else find f (os ++ ps)) ≡ Some o → ((if b then Some q else find f os) ≡ Some o) ⊎ (find f ps ≡ Some o))
     [ true ↦ λ g. inl g | false ↦ λ g. find_split f os ps o g ] h
 
--- the file is among those of an edge, and its slots are that edge's
+-- the file is among those of an edge, and its slots belong to that edge
 pub record IsOutput (p : Parts) (w f : ℕ) (fs : List ℕ) (o : Output) : Type 0 where
   pub member : is_member f fs ≡ true
   pub stamp : Holds p w Stamp o.stamp
   pub changed : Holds p w Flag o.changed
 
--- one found among these outputs, the first of which holds what it has to
+-- an output found among these, given the facts about the first one
 pub found_first : (p : Parts) (w f : ℕ) (fs : List ℕ) (first o : Output) (os : List Output) → Holds p w Stamp first.stamp → Holds p w Flag first.changed
     → (find f os ≡ Some o → IsOutput p w f fs o) → find f (first ∷ os) ≡ Some o → IsOutput p w f (first.file ∷ fs) o
 found_first p w f fs first o os stamp changed others h =

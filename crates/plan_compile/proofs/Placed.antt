@@ -1,4 +1,4 @@
--- Outputs with a flag each: a restat edge's after its command, and a phony's.
+-- Outputs with a flag each: those of a restat edge after its command, and those of a phony.
 use Rattle.std.proofs.Common.{◌≡◌, ℕ, Bool, true, false, List, [], ◌∷◌, ◌++◌, length, map, Some, refl, sym, ap, subst, ◌∙◌, inl, inr}
 use Rattle.std.specs.Prelude.{◌||◌, not, slice_get, slice_set, ◌==◌}
 use Rattle.std.specs.List.{list_all}
@@ -22,7 +22,7 @@ use Rattle.plan_compile.proofs.Machine.{From, plain, load, stat, store, finish}
 use Rattle.plan_compile.proofs.Folds.{Hold, own_slot, order_all, newest_all, any_all}
 use Rattle.plan_compile.proofs.SlotFacts.{get_same, get_other, set_length, own_within, hold_set, left_set, all_set, filled}
 
--- each output's stamp and flag, stored one after the other
+-- each output's stamp and flag, stored one after another
 abbrev pub placed : Slots → List Output → Left → Slots
 placed slots (o ∷ os) (x ∷ xs) = placed (slice_set (slice_set slots o.stamp (Some (Stamp x.0))) o.changed (Some (Flag x.1))) os xs
 placed slots _ _ = slots

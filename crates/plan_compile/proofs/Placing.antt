@@ -1,4 +1,4 @@
--- Where the parts of an edge's code stand.
+-- The places of the parts of an edge's code.
 use Rattle.std.proofs.Common.{◌≡◌, ℕ, zero, suc, ◌+◌, Bool, true, false, List, [], ◌∷◌, ◌++◌, length, drop, refl, sym, ap, ◌∙◌, arith, append_assoc}
 use Rattle.std.specs.Prelude.{not}
 use Rattle.plan_image.specs.declared.instr.Instr.{Instr}
@@ -18,7 +18,7 @@ pub drop_all : {I : Type 0} (xs ys : List I) → drop (length xs) (xs ++ ys) ≡
 drop_all [] ys = refl
 drop_all (x ∷ xs) ys = drop_all xs ys
 
--- what stands behind a part that stands there
+-- the code after a part
 pub behind : (code : List Instr) (at : ℕ) (xs ys : List Instr) → drop at code ≡ xs ++ ys → drop (at + length xs) code ≡ ys
 behind code at xs ys h = sym (drop_twice code (length xs) at) ∙ (ap (λ (zs : List Instr). drop (length xs) zs) h ∙ drop_all xs ys)
 
@@ -59,7 +59,7 @@ pub skip_app : (basis : Bool) (xs rest : List Instr) → skip_code basis (xs ++ 
 skip_app true xs rest = refl
 skip_app false xs rest = refl
 
--- how long a skip is doesn't hang on where it leads
+-- the length of a skip doesn't depend on its target
 pub skip_length : (basis : Bool) (a b : ℕ) → length (skip_code basis (op.Sweep ∷ op.Drop ∷ op.Drop ∷ op.Jump a ∷ [])) ≡ length (skip_code basis (op.Sweep ∷ op.Drop ∷ op.Drop ∷ op.Jump b ∷ []))
 skip_length true a b = refl
 skip_length false a b = refl
@@ -67,7 +67,7 @@ skip_length false a b = refl
 -- ---- places
 
 module _ (code : List Instr) (w : CommandWiring) where
-  -- past the flags of a clean edge
+  -- after the flags of a clean edge
   pub past_clean : (at : ℕ) → drop at code ≡ judge_code w at → drop (at + 5 + clean_len w) code ≡ op.End ∷ dirty_code w
   past_clean at h =
       behind code (at + 5) (clean_code w) (op.End ∷ dirty_code w)
@@ -86,7 +86,7 @@ module _ (code : List Instr) (w : CommandWiring) where
   pub judge_stands : (at : ℕ) → drop at code ≡ judged_code w at → drop (at + ready_len w) code ≡ judge_code w (at + ready_len w)
   judge_stands at h = behind code at (ready_code w.baseline w []) (judge_code w (at + ready_len w)) (h ∙ ready_app w.baseline w (judge_code w (at + ready_len w)))
 
-  -- behind the comparison
+  -- after the comparison
   pub same_stands : (at : ℕ) → drop at code ≡ compare_code w at → drop (same_place w at) code ≡ judged_code w (same_place w at)
   same_stands at h =
       let place : ℕ = same_place w at in
@@ -100,7 +100,7 @@ module _ (code : List Instr) (w : CommandWiring) where
       ∙ behind code (at + length same + 1) (other_code w dirty []) (judged_code w place)
       (other ∙ skip_app (compares_basis w.baseline) (op.Sweep ∷ op.Drop ∷ op.Drop ∷ op.Jump dirty ∷ []) (judged_code w place))
 
-  -- where the baseline of a generator that compares the basis is known
+  -- the place at which the baseline of a generator that compares the basis is known
   pub known_stands : (at : ℕ) → drop at code ≡ pass_code true w at → drop (known_place w at) code ≡ op.Drop ∷ judged_code w (known_place w at + 1)
   known_stands at h =
       let oldest : List Instr = oldest_code w.outputs in
@@ -117,7 +117,7 @@ module _ (code : List Instr) (w : CommandWiring) where
   pub passed_stands : (at : ℕ) → drop at code ≡ pass_code false w at → drop (at + 2) code ≡ judged_code w (at + 2)
   passed_stands at h = behind code at (op.Drop ∷ op.Drop ∷ []) (judged_code w (at + 2)) h
 
-  -- what stands behind the front
+  -- the code after the front
   pub recalled_stands : code ≡ command_code w → drop (length (front w [])) code ≡ recalled_code w.generator w (length (front w []))
   recalled_stands is =
       ap (λ (xs : List Instr). drop (length (front w [])) xs) (is ∙ front_app w (recalled_code w.generator w (length (front w []))))

@@ -1,4 +1,4 @@
--- The slots and the table of outputs, as the code makes them.
+-- The slots and the table of outputs, as the code builds them.
 use Rattle.std.proofs.Common.{◌≡◌, ℕ, suc, ◌+◌, ◌*◌, ◌≤◌, List, [], ◌∷◌, ◌++◌, length, drop, Some, refl, sym, ap, ◌∙◌, arith, length-append}
 use Rattle.std.specs.Prelude.{slice_get}
 use Rattle.std.proofs.lemmas.List.{append_assoc}
@@ -61,7 +61,7 @@ slots_length e [] = refl
 slots_length e (x ∷ xs) =
     length-append (owned e (own_kinds x)) (slots_from (suc e) xs) ∙ ap (λ (n : ℕ). n + length (slots_from (suc e) xs)) (owned_length e (own_kinds x)) ∙ ap (λ (n : ℕ). own_len x + n) (slots_length (suc e) xs)
 
--- slots with those that are still laid are as many as all
+-- the slots so far and those still to be added are as many as all
 pub room_left : (old new : List Slot) (e : ℕ) (ks ls : List Kind) → new ++ owned e ks ≡ old ++ owned e ls → length new + length ks ≡ length old + length ls
 room_left old new e ks ls h =
     let a : length (new ++ owned e ks) ≡ length new + length (owned e ks) = length-append new (owned e ks) in

@@ -1,4 +1,4 @@
--- Which limit an image passes.
+-- Which limit an image exceeds.
 use Rattle.std.proofs.Common.{◌≡◌, ℕ, zero, suc, ◌<◌, ◌≤◌, true, false, List, [], ◌∷◌, length, map, Some, refl, sym, ap, subst, ◌∙◌, arith, inl, inr}
 use Rattle.std.specs.Prelude.{◌||◌, slice_get}
 use Rattle.std.specs.List.{list_any, AllByRecursion}
@@ -28,9 +28,9 @@ use Rattle.plan_compile.proofs.ListLemmas.{some_is}
 use Rattle.plan_compile.proofs.NumberingLemmas.{found}
 use Rattle.plan_compile.proofs.PlanLemmas.{slots_length}
 
--- ---- what passes a limit
+-- ---- tables that exceed a limit
 
--- tables that are refused do, where else they have a spelling
+-- refused tables exceed a limit, if they have a spelling otherwise
 pub passes_limit : (p : Parts) (fault : ImageFault) → (IsWithinLimits p → HasSpelling p) → IsPartsFault p fault → IsWithinLimits p → ⊥
 passes_limit p fault spelled (over_limit h) within = h within
 passes_limit p fault spelled (out_of_order w h) within = h (spelled within).order

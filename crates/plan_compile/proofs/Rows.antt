@@ -40,7 +40,7 @@ use Rattle.plan_compile.specs.Means.{IsText, text_at, IsCommand, IsGather, IsAlo
 use Rattle.plan_compile.proofs.Edge.{command_means, phony_means}
 use Rattle.plan_compile.proofs.EdgeShapes.{command_shaped, phony_shaped}
 
--- depfiles that say no path
+-- depfiles without paths
 none_read : Meaning
 none_read bytes = Ok []
 
@@ -68,7 +68,7 @@ gen_clean : Follows (does none_read gen) ((Stat src, StampIs 50) ∷ (Stat mid, 
 unfolding gen none_read
 gen_clean = (refl, (refl, (refl, refl)))
 
--- its user, with what it made unchanged, is clean
+-- its user is clean if the input is unchanged
 chained : Command
 chained = record { named = MadeBy 30 false ∷ []; order_only = []; outputs = codes "out" ∷ []; command = codes "cp"; depfile = []; restat = false; generator = false; baseline = baseline.Outputs }
 
@@ -112,7 +112,7 @@ no_entry : Follows (does none_read compiles) ((Stat c_file, StampIs 5) ∷ (Stat
 unfolding compiles cc_command none_read
 no_entry = (refl, (refl, (refl, refl)))
 
--- the recorded command is another: the recorded paths are asked for all the same
+-- the recorded command differs: the recorded paths are asked for nevertheless
 other_command : Follows (does none_read compiles) ((Stat c_file, StampIs 5) ∷ (Stat object, StampIs 9) ∷ (Recall object, Entry (codes "cd") 5 (header ∷ [])) ∷ (Stat header, StampIs 9) ∷ []) (runs none_read compiles (5 ∷ []) (9 ∷ []))
 unfolding compiles cc_command none_read
 other_command = (refl, (refl, (refl, (refl, refl))))
@@ -127,7 +127,7 @@ path_later : Follows (does none_read compiles) ((Stat c_file, StampIs 5) ∷ (St
 unfolding compiles cc_command none_read
 path_later = (refl, (refl, (refl, (refl, refl))))
 
--- so is the source file
+-- the source file is later than the output
 source_later : Follows (does none_read compiles) ((Stat c_file, StampIs 10) ∷ (Stat object, StampIs 9) ∷ (Recall object, Entry cc_command 5 []) ∷ []) (runs none_read compiles (10 ∷ []) (9 ∷ []))
 unfolding compiles cc_command none_read
 source_later = (refl, (refl, (refl, refl)))
@@ -137,8 +137,8 @@ source_later = (refl, (refl, (refl, refl)))
 strictly : OutOfDateRule → Command
 strictly rule = record { named = SourceFile 1 c_file ∷ []; order_only = []; outputs = object ∷ []; command = cc_command; depfile = []; restat = false; generator = false; baseline = baseline_by false false rule }
 
--- The source file is later than the basis, and the output was touched after that: the edge is dirty by the stricter rule
--- only.
+-- The source file is later than the basis, and the output was touched after that: the edge is dirty only by the
+-- stricter rule.
 touched_dirty : Follows (does none_read (strictly Stricter)) ((Stat c_file, StampIs 7) ∷ (Stat object, StampIs 9) ∷ (Recall object, Entry cc_command 5 []) ∷ []) (runs none_read (strictly Stricter) (7 ∷ []) (9 ∷ []))
 unfolding strictly cc_command none_read
 touched_dirty = (refl, (refl, (refl, refl)))
@@ -152,7 +152,8 @@ unchanged_clean : Follows (does none_read (strictly Stricter)) ((Stat c_file, St
 unfolding strictly cc_command none_read
 unchanged_clean = (refl, (refl, (refl, refl)))
 
--- one that is later than the output makes it dirty by both rules, also if it is no later than the basis
+-- a source file that is later than the output makes it dirty by both rules, even if it is no later than the
+-- basis
 older_dirty : (rule : OutOfDateRule) → baseline (baseline_by false false rule) (6 ∷ []) (Some (record { command = cc_command; basis = 7; paths = [] })) ≡ 6
 unfolding cc_command
 older_dirty Specified = refl
@@ -170,7 +171,7 @@ input_changed : Follows (does none_read changes) ((Stat object, StampIs 9) ∷ (
 unfolding changes cc_command none_read
 input_changed = (refl, (refl, refl))
 
--- a generator looks at no command, and needs no entry
+-- a generator doesn't compare the command, and needs no entry
 generates : Command
 generates = record { named = SourceFile 1 c_file ∷ []; order_only = []; outputs = object ∷ []; command = cc_command; depfile = []; restat = false; generator = true; baseline = baseline.Outputs }
 
@@ -178,7 +179,7 @@ generator_clean : Follows (does none_read generates) ((Stat c_file, StampIs 5) �
 unfolding generates none_read
 generator_clean = (refl, (refl, (refl, refl)))
 
--- after the command the depfile's paths are asked for, and kept with the greatest stamp before the run
+-- after the command the depfile's paths are asked for, and recorded with the greatest stamp before the run
 says_header : Meaning
 says_header bytes = Ok (codes "a.h" ∷ [])
 
@@ -188,12 +189,12 @@ run_keeps : Follows (runs says_header compiles (5 ∷ []) (0 ∷ []))
 unfolding compiles cc_command says_header header
 run_keeps = (refl, (refl, (refl, (refl, (refl, refl)))))
 
--- a command that fails fails the edge
+-- a command that fails makes the edge fail
 run_fails : Follows (runs none_read compiles (5 ∷ []) (0 ∷ [])) ((Run cc_command (object ∷ []), Exit 3) ∷ []) (Fail (cause.Exit 3))
 unfolding compiles cc_command none_read
 run_fails = (refl, refl)
 
--- ---- order-only inputs: what an edge makes isn't asked for, nor is a source file that is named too
+-- ---- order-only inputs: outputs of edges aren't asked for, nor are source files that are also named
 
 ordered : Command
 ordered = record {
@@ -216,7 +217,7 @@ order_asks = (refl, (refl, (refl, (refl, refl))))
 always : Command
 always = record { named = []; order_only = []; outputs = codes "always" ∷ []; command = []; depfile = []; restat = false; generator = false; baseline = baseline.Outputs }
 
--- one without inputs whose file is missing is changed
+-- a phony without inputs whose file is missing is changed
 always_changed : Follows (does_phony always) ((Stat (codes "always"), StampIs 0) ∷ []) (Over false ((0, true) ∷ []))
 unfolding always
 always_changed = (refl, refl)
@@ -224,14 +225,14 @@ always_changed = (refl, refl)
 user : Command
 user = record { named = MadeBy 0 true ∷ []; order_only = []; outputs = codes "x" ∷ []; command = codes "true"; depfile = []; restat = false; generator = false; baseline = baseline.Outputs }
 
--- and so its user runs each time
+-- so its user runs each time
 user_runs : Follows (does none_read user)
     ((Stat (codes "x"), StampIs 9) ∷ (Recall (codes "x"), Entry (codes "true") 0 []) ∷ (Run (codes "true") (codes "x" ∷ []), Exit 0) ∷ (Keep (codes "x") (codes "true") 0 [], Kept) ∷ (Stat (codes "x"), StampIs 9) ∷ [])
     (Over true ((9, true) ∷ []))
 unfolding user none_read
 user_runs = (refl, (refl, (refl, (refl, (refl, refl)))))
 
--- one with inputs is as they are, and asks for none of its outputs
+-- a phony with inputs has their stamp and flag, and asks for none of its outputs
 gathers_both : Command
 gathers_both = record { named = MadeBy 8 true ∷ SourceFile 1 c_file ∷ []; order_only = []; outputs = codes "all" ∷ []; command = []; depfile = []; restat = false; generator = false; baseline = baseline.Outputs }
 
@@ -239,7 +240,7 @@ gathered : Follows (does_phony gathers_both) ((Stat c_file, StampIs 5) ∷ []) (
 unfolding gathers_both
 gathered = (refl, refl)
 
--- one whose only input is an order-only one that an edge makes has an input
+-- a phony whose only input is order-only and produced by an edge has an input
 only_ordered : Command
 only_ordered = record { named = []; order_only = MadeBy 8 true ∷ []; outputs = codes "all" ∷ []; command = []; depfile = []; restat = false; generator = false; baseline = baseline.Outputs }
 
@@ -275,7 +276,7 @@ compiled_code : command_code compiled ≡
 unfolding compiled
 compiled_code = refl
 
--- two inputs of one maker, two outputs, an order-only source file
+-- two inputs of one producer, two outputs, an order-only source file
 linked : CommandWiring
 linked = record {
   named = Made 0 1 ∷ Made 2 1 ∷ [];
@@ -328,7 +329,7 @@ restated_code : command_code restated ≡
 unfolding restated
 restated_code = refl
 
--- one that compares both, with two outputs, with no source file
+-- an edge that compares both, with two outputs and no source file
 joined : CommandWiring
 joined = record {
   named = Made 0 1 ∷ [];
@@ -381,7 +382,7 @@ regenerated_code : command_code regenerated ≡
 unfolding regenerated
 regenerated_code = refl
 
--- phonies of each sort
+-- phonies of each form
 alone_row : alone_code (record { file = 7; stamp = 0; changed = 1 } ∷ []) ≡ op.Stat 7 ∷ op.Store 0 ∷ op.Load 0 ∷ op.IsMissing ∷ op.Store 1 ∷ op.End ∷ []
 alone_row = refl
 
@@ -477,7 +478,7 @@ tables_right : (table_refusal image 0 ≡ None) × (table_refusal image 1 ≡ No
 unfolding table_refusal image slot_of
 tables_right = (refl, refl, refl)
 
--- so the verifier accepts it
+-- the verifier accepts it
 all_shaped : IsShapedEdge image 0 × IsShapedEdge image 1 × IsShapedEdge image 2
 all_shaped = (
   command_shaped image 0 compiled compiled_code_is compiled_wired tables_right.0,
@@ -485,14 +486,14 @@ all_shaped = (
   phony_shaped.gather image 2 gathers_all gather_code_is gather_wired tables_right.2,
 )
 
--- and its edges keep to the rule
+-- its edges follow the rule
 compiled_means : CodeMeans image 0 (wiring.Command compiled)
 compiled_means = command_means image 0 compiled compiled_code_is compiled_wired
 
 gathered_means : CodeMeans image 2 (wiring.Gather gathers_all)
 gathered_means = phony_means.gather image 2 gathers_all gather_code_is gather_wired
 
--- with no slot set, as at the first edge's begin
+-- with no slot set, as when the first edge begins
 abbrev unset : ℕ → Slots
 unset zero = []
 unset (suc n) = None ∷ unset n
@@ -543,7 +544,7 @@ asks_for f (op.Stat file) = file == f
 asks_for f (op.Need file) = file == f
 asks_for f _ = false
 
--- two edges of one rule, each with one source file; a phony of both
+-- two edges of one rule, each with one source file, and a phony of both
 two_of_a_rule : Builds
 two_of_a_rule = record {
   files = codes "a.o" ∷ codes "a.c" ∷ codes "b.o" ∷ codes "b.c" ∷ codes "all" ∷ [];
@@ -555,7 +556,7 @@ two_of_a_rule = record {
   defaults = 2 ∷ [];
 }
 
--- one body serves both; texts and pools stand in the order of first use, each once
+-- one body serves both; texts and pools are in the order of first use, without repetitions
 texts_of_two : (image_of two_of_a_rule).texts ≡ codes "CC a.o" ∷ codes "cc a.c" ∷ codes "cc b.c" ∷ [] ∷ []
 unfolding two_of_a_rule
 texts_of_two = refl
@@ -576,7 +577,7 @@ places_of_two : map (λ e. e.pool) (image_of two_of_a_rule).edges ≡ Some 0 ∷
 unfolding two_of_a_rule
 places_of_two = refl
 
--- an order-only input that edge 0 makes: the edge waits for it, and asks nothing of that file
+-- an order-only input that edge 0 produces: the edge waits for it, and asks nothing about that file
 waits_for_it : Builds
 waits_for_it = record {
   files = codes "gen.h" ∷ codes "a.o" ∷ codes "a.c" ∷ [];

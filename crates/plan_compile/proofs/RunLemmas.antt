@@ -1,4 +1,4 @@
--- The slots of an edge are one run of numbers.
+-- The slots of an edge are consecutive numbers.
 use Rattle.std.proofs.Common.{◌≡◌, ℕ, zero, suc, ◌+◌, Bool, true, false, List, [], ◌∷◌, ◌++◌, length, Some, refl, sym, ap, subst, ◌∙◌, arith, inl, inr}
 use Rattle.std.specs.Prelude.{◌||◌, ◌&&◌, ◌==◌, slice_get, if◌then◌else◌}
 use Rattle.std.specs.List.{list_all, list_any}
@@ -28,7 +28,7 @@ owned_is e (z ∷ ks) zero s h =
     (ap (λ (x : Slot). x.owner) (sym same), ap (λ (x : Slot). Some x.kind) same)
 owned_is e (z ∷ ks) (suc i) s h = owned_is e ks i s h
 
--- ---- all runs, the first of which is that of edge d
+-- ---- all runs, beginning with that of edge d
 
 pub slot_at : (d : ℕ) (xs : List Build) (e : ℕ) (x : Build) → slice_get xs e ≡ Some x → (i : ℕ) (k : Kind) → slice_get (own_kinds x) i ≡ Some k
     → slice_get (slots_from d xs) (base xs e + i) ≡ Some (record { owner = d + e; kind = k })
@@ -47,7 +47,7 @@ slot_at d (y ∷ xs) (suc e) x h i k g =
     ∙ slot_at (suc d) xs e x h i k g
     ∙ ap (λ (n : ℕ). Some (record { owner = n; kind = k })) owner
 
--- a slot is in the run of its owner
+-- a slot is among those of its owner
 pub record IsSlotOf (d : ℕ) (xs : List Build) (j : ℕ) (s : Slot) : Type 0 where
   pub edge : ℕ
   pub source : Build

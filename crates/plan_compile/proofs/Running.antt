@@ -1,4 +1,4 @@
--- An edge that keeps to a talk, run alone: what it was told leads along the talk.
+-- An edge that follows a talk, run alone: its questions and replies lead along the talk.
 use Rattle.std.proofs.Common.{◌≡◌, ℕ, suc, Bool, false, List, ◌∷◌, Option, Some, None, refl, sym, ap, subst, ◌∙◌}
 use Rattle.std.specs.Prelude.{if◌then◌else◌, slice_get}
 use Rattle.plan_image.specs.declared.image.Parts.{Parts}
@@ -52,7 +52,7 @@ module _ (meaning : Meaning) (p : Parts) (e : ℕ) (Leaves : Slots → Left → 
       let next = go (k r) (h2 r t is) in
       (next.0, (some_same q q2 (sym asked ∙ que2), next.1), next.2)
 
-  -- what an edge that keeps to a talk was told leads along the talk, and it keeps to what is left of it
+  -- the questions and replies of an edge that follows a talk lead along the talk, and the edge follows the rest
   pub leads : (n : ℕ) (x y : Alone) (told : List (Request × Reply)) (talk : Talk) → Obeys meaning p e Leaves x talk → RunsAlone meaning p e n x told y → Leads x talk told y
   leads n x y told talk o rests = (talk, refl, o)
   leads (suc n) x y told talk o (steps {l = l} {slots = slots} quiet run) = leads n (after l slots (turn p e slots l)) y told talk (by_step x talk o l slots refl refl quiet) run

@@ -1,4 +1,4 @@
--- Shapes of code, put together from left to right.
+-- Shapes of code, built from left to right.
 use Rattle.std.proofs.Common.{◌≡◌, ℕ, zero, suc, ◌+◌, ◌<◌, ◌≤◌, Bool, true, false, List, [], ◌∷◌, ◌++◌, length, Some, None, refl, sym, ap, subst, ◌∙◌, arith, append_assoc, append-nil}
 use Rattle.std.specs.Prelude.{◌||◌, nat_le, if◌then◌else◌, slice_get}
 use Rattle.std.specs.List.{AllByRecursion}
@@ -22,7 +22,7 @@ all_pass ((true, r) ∷ cs) e = absurd cc
 all_pass ((false, r) ∷ cs) e = (refl, all_pass cs e)
 
 module _ (p : Parts) (e : ℕ) where
-  -- code from a place on has these shapes; so_far says what arrives at each place from the code before
+  -- code from a place on has these shapes; so_far is the shapes that arrive at each place from the code before
   abbrev pub Good : ℕ → List Instr → List Shape → (ℕ → List Shape) → Type 0
   Good at [] [] so_far = Unit {0}
   Good at (i ∷ is) (s ∷ shapes) so_far = IsShapeAmong s (so_far at) × (refused p e at i s ≡ None) × Good (at + 1) is shapes (λ n. so_far n ++ toward n (targets at i) (left p i s))
@@ -35,7 +35,7 @@ module _ (p : Parts) (e : ℕ) where
   pub toward_one : (n d : ℕ) (s : Shape) → n < d → toward n (d ∷ []) s ≡ []
   toward_one n d s lt = ap (λ (b : Bool). if b then s ∷ [] else []) (ne_eqb d n (λ same. let x : n < n = subst (λ (m : ℕ). n < m) same lt in omega (arith, x)))
 
-  -- nothing goes back, nor stays
+  -- no jump goes backwards or to its own place
   pub none_back : (at n : ℕ) (i : Instr) (s : Shape) → n ≤ at → bad_jump (length (code p e)) at i ≡ false → toward n (targets at i) s ≡ []
   none_back at n op.End s le h = refl
   none_back at n (op.Jump d) s le h = let o = or_false (nat_le d at) (nat_le (length (code p e)) d) h in let lt : at < d = leb-false d at o.0 in toward_one n d s (omega (arith, lt, le))
@@ -77,7 +77,7 @@ module _ (p : Parts) (e : ℕ) where
   good_long at (i ∷ is) [] so_far good = absurd good
   good_long at (i ∷ is) (s ∷ shapes) so_far good = ap suc (good_long (at + 1) is shapes (λ m. so_far m ++ toward m (targets at i) (left p i s)) good.2)
 
-  -- what was put together from left to right are the edge's shapes
+  -- the shapes that were built from left to right are the edge's shapes
   pub are_shapes : (shapes : List Shape) → Good 0 (code p e) shapes begins → AreShapes p e shapes
   unfolding arriving
   are_shapes shapes good = record {

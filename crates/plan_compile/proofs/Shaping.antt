@@ -1,4 +1,4 @@
--- Fragments have shapes: what a fragment leaves to show is that what follows it has shapes.
+-- Fragments have shapes: a fragment has shapes if the code after it has.
 use Rattle.std.proofs.Common.{◌≡◌, ℕ, zero, suc, ◌+◌, ◌-◌, ◌<◌, Bool, true, false, List, [], ◌∷◌, ◌++◌, length, drop, None, refl, sym, ap, subst, ◌∙◌, arith, append-nil}
 use Rattle.std.specs.Prelude.{nat_le, nat_lt, ◌==◌, if◌then◌else◌, All}
 use Rattle.std.specs.List.{AllByRecursion}
@@ -20,16 +20,16 @@ module _ (p : Parts) (e : ℕ) where
   due_at n [] = []
   due_at n (x ∷ xs) = if x.0 == n then x.1 ∷ due_at n xs else due_at n xs
 
-  -- what arrives: one shape here, and at places ahead what jumps left there
+  -- the shapes that arrive: one here, and at places ahead those that jumps left there
   pub record Arrives (at : ℕ) (s : Shape) (due : List (ℕ × Shape)) (so_far : ℕ → List Shape) : Type 0 where
     pub here : IsShapeAmong s (so_far at)
     pub ahead : (n : ℕ) → at < n → so_far n ≡ due_at n due
 
-  -- wherever this code stands, with that shape and those jumps still to land, it has shapes
+  -- wherever this code is, with this shape and these jumps still to land, it has shapes
   pub record Fit (rest : List Instr) (s : Shape) (due : List (ℕ × Shape)) : Type 0 where
     pub go : (at : ℕ) → drop at (code p e) ≡ rest → (so_far : ℕ → List Shape) → Arrives at s due so_far → (shapes : List Shape) × Good p e at rest shapes so_far
 
-  -- each jump lands behind the first place of this code
+  -- each jump lands after the first place of this code
   abbrev pub AreAhead : List (ℕ × Shape) → List Instr → Type 0
   AreAhead [] rest = Unit {0}
   AreAhead (x ∷ xs) rest = (length (code p e) - x.0 < length rest) × AreAhead xs rest
@@ -46,7 +46,8 @@ module _ (p : Parts) (e : ℕ) where
     only zero t lt = refl
     only (suc n) t lt = absurd (omega (arith, lt))
 
-  -- An instruction: what arrives at the next place and ahead, by the jumps still to land and what this one leaves.
+  -- An instruction, with the shapes that arrive at the next place and ahead, from the jumps still to land and
+  -- from this one.
   pub step_fit : (i : Instr) (rest : List Instr) (s next : Shape) (due then_due : List (ℕ × Shape))
       → ((at : ℕ) → drop (at + 1) (code p e) ≡ rest → at < length (code p e) → length rest ≡ length (code p e) - (at + 1) → refused p e at i s ≡ None)
       → ((at : ℕ) → drop (at + 1) (code p e) ≡ rest → length rest ≡ length (code p e) - (at + 1) → IsShapeAmong next (due_at (at + 1) due ++ toward (at + 1) (targets at i) (left p i s)))
@@ -71,7 +72,7 @@ module _ (p : Parts) (e : ℕ) where
   pub toward_other : (n d : ℕ) (s : Shape) → (d ≡ n → ⊥) → toward n (d ∷ []) s ≡ []
   toward_other n d s ne = ap (λ (b : Bool). if b then s ∷ [] else []) (ne_eqb d n ne)
 
-  -- an instruction that goes on to the next place alone, where no jump lands
+  -- an instruction that only continues to the next place, at which no jump lands
   pub pass : (i : Instr) (rest : List Instr) (s : Shape) (due : List (ℕ × Shape)) → ((at : ℕ) → targets at i ≡ (at + 1) ∷ []) → AreAhead due rest → 0 < length rest
       → ((at : ℕ) → nat_le (length (code p e)) (at + 1) ≡ false → refused p e at i s ≡ None)
       → Fit rest (left p i s) due → Fit (i ∷ rest) s due
@@ -92,7 +93,7 @@ module _ (p : Parts) (e : ℕ) where
     by_test true h = ap (λ (zs : List Shape). x.1 ∷ zs) h
     by_test false h = h
 
-  -- a jump ahead where a flag is set, else on
+  -- jumps ahead if a flag is set, and otherwise continues
   pub branch : (d : ℕ) (rest : List Instr) (s : Shape) (due : List (ℕ × Shape)) → AreAhead due rest → length (code p e) - d < length rest → 0 < length (code p e) - d
       → ((at : ℕ) → nat_le d at ≡ false → nat_le (length (code p e)) d ≡ false → nat_le (length (code p e)) (at + 1) ≡ false → refused p e at (op.JumpIf d) s ≡ None)
       → Fit rest (left p (op.JumpIf d) s) (due ++ ((d, left p (op.JumpIf d) s) ∷ [])) → Fit (op.JumpIf d ∷ rest) s due
@@ -118,7 +119,7 @@ module _ (p : Parts) (e : ℕ) where
     only (suc zero) t lt = refl
     only (suc (suc n)) t lt = absurd (omega (arith, lt))
 
-  -- the place of what is left
+  -- the place of the rest of the code
   pub place_is : (d at : ℕ) (rest : List Instr) → drop d (code p e) ≡ rest → length rest ≡ length (code p e) - (at + 1) → 0 < length rest → d ≡ at + 1
   place_is d at rest stands long some = let h : length rest ≡ length (code p e) - d = sym (ap length stands) ∙ drop_length (code p e) d in omega (arith, h, long, some)
 
@@ -128,7 +129,7 @@ module _ (p : Parts) (e : ℕ) where
   pub due_past : (n d : ℕ) (s : Shape) (xs : List (ℕ × Shape)) → (d ≡ n → ⊥) → due_at n ((d, s) ∷ xs) ≡ due_at n xs
   due_past n d s xs ne = ap (λ (b : Bool). if b then s ∷ due_at n xs else due_at n xs) (ne_eqb d n ne)
 
-  -- a jump ahead, and behind it a place where another jump landed
+  -- a jump ahead, and after it a place at which another jump landed
   pub jump_land : (d l : ℕ) (rest : List Instr) (s t : Shape) → left p (op.Jump d) s ≡ s → drop l (code p e) ≡ rest → length (code p e) - d < length rest → 0 < length (code p e) - d
       → ((at : ℕ) → nat_le d at ≡ false → nat_le (length (code p e)) d ≡ false → refused p e at (op.Jump d) s ≡ None)
       → Fit rest t ((d, s) ∷ []) → Fit (op.Jump d ∷ rest) s ((l, t) ∷ [])
@@ -145,7 +146,7 @@ module _ (p : Parts) (e : ℕ) where
       ∙ ap (λ (xs : List Shape). xs ++ toward n (d ∷ []) s) (due_past n l t [] (λ eq. let x : at + 1 < n = lt in omega (arith, x, eq, l_is))))
       f
 
-  -- an end, and behind it a place where a jump landed, once or twice
+  -- an end, and after it a place at which a jump landed, once or twice
   pub end_land : (d r : ℕ) (rest : List Instr) (s t u : Shape) → drop d (code p e) ≡ rest → 0 < length rest → length (code p e) - r < length rest
       → ((at : ℕ) → refused p e at op.End s ≡ None) → Fit rest t ((r, u) ∷ []) → Fit (op.End ∷ rest) s ((d, t) ∷ (r, u) ∷ [])
   end_land d r rest s t u stands some lands fine f =
@@ -173,7 +174,7 @@ module _ (p : Parts) (e : ℕ) where
       append-nil (due_at n ((d, t) ∷ (d, t) ∷ (r, u) ∷ [])) ∙ (due_past n d t ((d, t) ∷ (r, u) ∷ []) far ∙ due_past n d t ((r, u) ∷ []) far))
       f
 
-  -- an instruction that goes on to a place where a jump landed too
+  -- an instruction that continues to a place at which a jump landed too
   pub join : (i : Instr) (r : ℕ) (rest : List Instr) (s t : Shape) → left p i s ≡ t → ((at : ℕ) → targets at i ≡ (at + 1) ∷ []) → drop r (code p e) ≡ rest → 0 < length rest
       → ((at : ℕ) → nat_le (length (code p e)) (at + 1) ≡ false → refused p e at i s ≡ None) → Fit rest t [] → Fit (i ∷ rest) s ((r, t) ∷ [])
   join i r rest s t is next stands some fine f =

@@ -1,4 +1,4 @@
--- What lies in the slots after stores.
+-- The values of the slots after stores.
 use Rattle.std.proofs.Common.{◌≡◌, ℕ, zero, suc, ◌<◌, Bool, true, false, List, [], ◌∷◌, length, map, Option, Some, refl, sym, ap, subst, ◌∙◌, arith, inl, inr}
 use Rattle.std.specs.Prelude.{◌||◌, ◌&&◌, slice_get, slice_set, ◌==◌}
 use Rattle.std.specs.List.{list_all}
@@ -48,7 +48,7 @@ pub flagged_other : (slots : Slots) (b : Bool) (os : List Output) (s : ℕ) → 
 flagged_other slots b [] s far = refl
 flagged_other slots b (o ∷ os) s far = flagged_other (slice_set slots o.changed (Some (Flag b))) b os s far.1 ∙ get_other slots o.changed s (Some (Flag b)) far.0
 
--- once a flag, it stays that flag
+-- a slot that has a flag keeps that flag
 pub flagged_stays : (slots : Slots) (b : Bool) (os : List Output) (s : ℕ) → s < length slots → slice_get slots s ≡ Some (Some (Flag b)) → slice_get (flagged slots b os) s ≡ Some (Some (Flag b))
 flagged_stays slots b [] s lt h = h
 flagged_stays slots b (o ∷ os) s lt h =
@@ -76,7 +76,7 @@ module _ (p : Parts) (e : ℕ) where
   hold_set slots (o ∷ os) [] s v far hold = hold
   hold_set slots (o ∷ os) (t ∷ ts) s v far hold = (get_other slots s o.stamp v (λ same. far.0 (sym same)) ∙ hold.0, hold_set slots os ts s v far.1 hold.1)
 
-  -- stored stamps lie there
+  -- stored stamps are in their slots
   pub stored_hold : (slots : Slots) (os : List Output) (ts : List ℕ) → length slots ≡ length p.slots → AreWritable p e os → AreApart os → AreMatched os ts → Hold (stored slots os ts) os ts
   stored_hold slots [] [] table writable apart matched = tt
   stored_hold slots [] (t ∷ ts) table writable apart matched = matched
@@ -87,7 +87,7 @@ module _ (p : Parts) (e : ℕ) where
         stored_hold after os ts (set_length slots o.stamp (Some (Stamp t)) ∙ table) writable.1 apart.1 matched,
       )
 
-  -- with the flags stored, the outputs are left so
+  -- after the flags are stored, the outputs have these values
   pub flagged_leaves : (slots : Slots) (b : Bool) (os : List Output) (ts : List ℕ) → length slots ≡ length p.slots → AreWritable p e os → AreOfTwoKinds os → Hold slots os ts
       → Leaves os (flagged slots b os) (map (λ t. (t, b)) ts)
   flagged_leaves slots b [] [] table writable kinds hold = tt
@@ -110,7 +110,7 @@ module _ (p : Parts) (e : ℕ) where
   shared_leaves slots b (o ∷ os) (t ∷ ts) changed share hold is =
       (hold.0, ap (λ (i : ℕ). slice_get slots i) share.0 ∙ is, shared_leaves slots b os ts changed share.1 hold.1 is)
 
-  -- with a flag for each of those that hold one
+  -- with a flag for each of those that have one
   pub holders_leave : (restat : Bool) (slots : Slots) (b : Bool) (os : List Output) (ts : List ℕ) → length slots ≡ length p.slots → AreWritable p e os → AreOfTwoKinds os → HaveFlagSlots restat os → Hold slots os ts
       → Leaves os (flagged slots b (holders restat os)) (map (λ t. (t, b)) ts)
   holders_leave true slots b os ts table writable kinds have hold = flagged_leaves slots b os ts table writable kinds hold

@@ -1,4 +1,5 @@
--- A manifest that has a graph is sound: its edges' files are in the table, ranks rise along waits, no file is made twice.
+-- A manifest that has a graph is sound: its edges' files are in the table, ranks ascend along waits, and no
+-- file is produced twice.
 use Rattle.std.proofs.Common.{◌≡◌, ℕ, zero, suc, ◌+◌, ◌<◌, Bool, true, false, List, [], ◌∷◌, ◌++◌, length, map, take, drop, Option, Some, None, refl, sym, ap, subst, ◌∙◌, arith, cond, inl, inr}
 use Rattle.std.specs.Prelude.{◌⊎◌, ◌||◌, not, slice_get, slice_index, get_or, nat_le, nat_lt, Contains, All, filter, flat_map, bytes_eq, if◌then◌else◌}
 use Rattle.std.specs.List.{list_any}
@@ -46,7 +47,7 @@ pub builds_length : (rule : OutOfDateRule) (g : Graph) (n : ℕ) (es : List Mani
 builds_length rule g n [] = refl
 builds_length rule g n (y ∷ es) = ap suc (builds_length rule g (suc n) es)
 
--- ---- no path is made twice in one edge
+-- ---- no path is an output of one edge twice
 
 else_none : {V : Type 0} (a b : Option V) → or_else a b ≡ None → (a ≡ None) × (b ≡ None)
 else_none (Some v) b h = absurd cc
@@ -75,7 +76,7 @@ among_here path (a ∷ above) more = or_true (bytes_eq path a) (is_among (above 
     or_true true b h = refl
     or_true false b h = h
 
--- a path that stands above is not among these
+-- a path that is above is not among these
 not_above : (path : Path) (above more os : List Path) (j : ℕ) → second_producer (above ++ path ∷ more) os ≡ None → slice_get os j ≡ Some path → ⊥
 not_above path above more [] j h at = absurd cc
 not_above path above more (o ∷ os) zero h at =
@@ -98,7 +99,7 @@ not_above path above more (o ∷ os) (suc j) h at =
     assoc [] = refl
     assoc (x ∷ xs) = ap (λ (ys : List Path). x ∷ ys) (assoc xs)
 
--- what no second producer says of the first path and of the others
+-- if there is no second producer, the first path is not among the others
 first_apart : (above os : List Path) (o : Path) → second_producer above (o ∷ os) ≡ None → second_producer (above ++ o ∷ []) os ≡ None
 first_apart above os o h = past (is_among above o) h
   where
@@ -109,7 +110,7 @@ first_apart above os o h = past (is_among above o) h
 first_once : (above os : List Path) (o path : Path) (j : ℕ) → second_producer above (o ∷ os) ≡ None → o ≡ path → slice_get os j ≡ Some path → ⊥
 first_once above os o path j h is at = not_above path above [] os j (subst (λ (p : Path). second_producer (above ++ p ∷ []) os ≡ None) is (first_apart above os o h)) at
 
--- two places of one path are one
+-- two indices of one path are equal
 one_place : (above os : List Path) (i j : ℕ) (path : Path) → second_producer above os ≡ None → slice_get os i ≡ Some path → slice_get os j ≡ Some path → i ≡ j
 one_place above [] i j path h a b = absurd cc
 one_place above (o ∷ os) zero zero path h a b = refl
@@ -117,7 +118,7 @@ one_place above (o ∷ os) zero (suc j) path h a b = absurd (first_once above os
 one_place above (o ∷ os) (suc i) zero path h a b = absurd (first_once above os o path i h (some_is o path b) a)
 one_place above (o ∷ os) (suc i) (suc j) path h a b = ap suc (one_place (above ++ o ∷ []) os i j path (first_apart above os o h) a b)
 
--- ---- what a graph says of each edge
+-- ---- the facts about each edge in a graph
 
 module _ (rule : OutOfDateRule) (m : Manifest) (g : Graph) (graph : IsGraph m g) (complete : FilesComplete) where
   abbrev table : List Path
@@ -134,7 +135,7 @@ module _ (rule : OutOfDateRule) (m : Manifest) (g : Graph) (graph : IsGraph m g)
   inputs_are n e at =
       ap (λ (rows : List (List ℕ)). get_or rows n []) graph.inputs ∙ row_of (λ (x : ManifestEdge). map (number_of table) (inputs_named x)) m.edges n e [] at
 
-  -- a path that an edge names stands at its number
+  -- a path that an edge names is at its number
   stands : (n : ℕ) (e : ManifestEdge) (path : Path) → slice_get m.edges n ≡ Some e → In path (outputs_of e ++ inputs_named e) → slice_get table (number_of table path) ≡ Some path
   stands n e path at there = complete m.edges n e path at (contained (outputs_of e ++ inputs_named e) path there)
 
@@ -152,7 +153,7 @@ module _ (rule : OutOfDateRule) (m : Manifest) (g : Graph) (graph : IsGraph m g)
   output_path : (n : ℕ) (e : ManifestEdge) (f : ℕ) → slice_get m.edges n ≡ Some e → In f (build_at rule g n e).outputs → (path : Path) × In path (outputs_of e) × (number_of table path ≡ f)
   output_path n e f at there = in_map (number_of table) (outputs_of e) f (subst (λ (fs : List ℕ). In f fs) (outputs_are n e at) there)
 
-  -- an input that is kept is one of the paths named, and for a phony no own output
+  -- an input that is kept is one of the named paths, and for a phony it is no own output
   kept_input : (n : ℕ) (e : ManifestEdge) (f : ℕ) (row : List ℕ) → slice_get m.edges n ≡ Some e → ((k : ℕ) → In k row → In k (get_or g.inputs n []))
       → In f (without_own e.phony (get_or g.outputs n []) row)
       → (path : Path) × In path (inputs_named e) × (number_of table path ≡ f) × (e.phony ≡ true → is_member f (get_or g.outputs n []) ≡ false)
@@ -219,7 +220,7 @@ module _ (rule : OutOfDateRule) (m : Manifest) (g : Graph) (graph : IsGraph m g)
       by_part (inl i) = named (append_left e.paths.inputs e.paths.implicit_inputs path i)
       by_part (inr i) = by_rest (in_append e.paths.implicit_inputs e.paths.order_only_inputs path i)
 
-  -- two paths of one number are one
+  -- two paths with one number are equal
   pub one_path : (n k : ℕ) (e d : ManifestEdge) (path other : Path) (f : ℕ) → slice_get m.edges n ≡ Some e → slice_get m.edges k ≡ Some d
       → In path (outputs_of e ++ inputs_named e) → In other (outputs_of d ++ inputs_named d) → number_of table path ≡ f → number_of table other ≡ f → path ≡ other
   one_path n k e d path other f at there i j h l =
@@ -245,7 +246,7 @@ module _ (rule : OutOfDateRule) (m : Manifest) (g : Graph) (graph : IsGraph m g)
   both_ways false true f h = h refl
   both_ways false false f h = refl
 
-  -- an edge makes exactly its outputs
+  -- an edge produces exactly its outputs
   pub own_made : ProducersNumbered → (n : ℕ) (e : ManifestEdge) (f : ℕ) → slice_get m.edges n ≡ Some e → In f (get_or g.inputs n [])
       → is_maker (producer_at g.files f) n ≡ is_member f (get_or g.outputs n [])
   own_made numbered n e f at there =
@@ -311,7 +312,7 @@ module _ (rule : OutOfDateRule) (m : Manifest) (g : Graph) (graph : IsGraph m g)
         get_edge (x ∷ es) zero h = (x, refl)
         get_edge (x ∷ es) (suc j) h = get_edge es j (omega (arith, h))
 
-    -- an edge of the manifest with its numbers, in place of an edge of the builds
+    -- an edge of the manifest with its numbers, instead of an edge of the builds
     at_edge : (P : ℕ → Build → Type 0) → ((n : ℕ) (e : ManifestEdge) → slice_get m.edges n ≡ Some e → P n (build_at rule g n e)) → (n : ℕ) (x : Build) → IsEdge (builds rule m g) n x → P n x
     at_edge P h n x at =
         let r = build_here rule g 0 m.edges n x at in

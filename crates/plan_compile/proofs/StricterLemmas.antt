@@ -1,4 +1,4 @@
--- The stricter out-of-date rule next to the specified one.
+-- The stricter out-of-date rule compared with the specified one.
 use Rattle.std.proofs.Common.{◌≡◌, ℕ, ◌<◌, ◌≤◌, Bool, true, false, List, [], ◌∷◌, ◌++◌, Option, Some, None, refl, sym, ap, ◌∙◌, arith}
 use Rattle.std.specs.Prelude.{◌||◌, ◌&&◌, not, nat_le, nat_lt, if◌then◌else◌, ◌==◌}
 use Rattle.std.proofs.lemmas.Bool.{eq-eqb, leb-false, leb-true, le-ltb, lt-ltb, ltb-true}
@@ -88,7 +88,7 @@ and_false : (b : Bool) → (b && false) ≡ false
 and_false true = refl
 and_false false = refl
 
--- no baseline is later than the basis and the oldest output
+-- no baseline is later than both the basis and the oldest output
 baseline_above : (b : Baseline) (outputs : List ℕ) (y : Recorded) (n : ℕ) → n ≤ y.basis → n ≤ least outputs → n ≤ baseline b outputs (Some y)
 baseline_above Outputs outputs y n h g = g
 baseline_above Basis outputs y n h g = h

@@ -1,4 +1,4 @@
--- What the numbers of an edge stand for is what the rule is told of it.
+-- The meaning of an edge's numbers is the facts that the rule is applied to.
 use Rattle.std.proofs.Common.{◌≡◌, ℕ, zero, Bool, true, false, List, [], ◌∷◌, map, Option, Some, None, refl, sym, ap, ◌∙◌, inl, inr}
 use Rattle.std.specs.Prelude.{◌||◌, ◌&&◌, ◌==◌, slice_get, if◌then◌else◌, is_some}
 use Rattle.std.proofs.lemmas.Bool.{eqb-true, eq-eqb}
@@ -37,7 +37,7 @@ module _ (t : Builds) (slots : Slots) where
 
   -- ---- order-only inputs
 
-  -- a file that no edge makes is among the named sources exactly where it is named
+  -- a file that no edge produces is among the named source files if and only if it is named
   among_by : (f g : ℕ) (o : Option Output) (rest : List Given) (more : Bool) → find f (all_made zero t.edges) ≡ None → find g (all_made zero t.edges) ≡ o → is_among f rest ≡ more
       → is_among f (told_by t slots g o ∷ rest) ≡ ((g == f) || more)
   among_by f g None rest more none is same = ap (λ (b : Bool). b || is_among f rest) (swap_eq f g) ∙ ap (λ (b : Bool). (g == f) || b) same
@@ -101,7 +101,7 @@ module _ (t : Builds) (slots : Slots) where
     abbrev order_only : List Given
     order_only = map (told t slots) x.order_only
 
-    -- a phony, by what is given
+    -- a phony with the given inputs
     abbrev phony_like : List Given → List Path → Command
     phony_like named outputs = record { named = named; order_only = order_only; outputs = outputs; command = []; depfile = []; restat = false; generator = false; baseline = baseline.Outputs }
 

@@ -1,4 +1,4 @@
--- Items that are kept once each have their numbers in the order of first use, and no two are equal.
+-- Items without repetitions have their numbers in the order of first use, and no two are equal.
 use Rattle.std.proofs.Common.{◌≡◌, ℕ, zero, suc, ◌+◌, ◌<◌, ◌≤◌, Bool, true, false, List, [], ◌∷◌, ◌++◌, length, map, refl, sym, ap, subst, ◌∙◌, arith, inl, inr}
 use Rattle.std.specs.Prelude.{◌≢◌, ◌==◌, ◌||◌, ◌⊎◌, AllPairs, Contains, if◌then◌else◌, slice_index_or}
 use Rattle.std.specs.List.{range_with_len}
@@ -21,7 +21,7 @@ numbers_more a (suc n) =
     let e : a + suc n ≡ a + 1 + n = omega arith in
     ap (λ (k : ℕ). a ∷ (range_with_len (a + 1) n ++ k ∷ [])) e ∙ ap (λ (ks : List ℕ). a ∷ ks) (numbers_more (a + 1) n)
 
--- a number of the run is in it, and one behind it isn't
+-- a number in the range is a member, and one after it isn't
 numbers_have : (a n k : ℕ) → k < n → has same_number (range_with_len a n) (a + k) ≡ true
 numbers_have a zero k h = absurd (omega (arith, h))
 numbers_have a (suc n) zero h =
@@ -40,7 +40,7 @@ numbers_end a (suc n) m h =
       | inr other ↦ ap (λ (b : Bool). b || has same_number (range_with_len (a + 1) n) m) other ∙ numbers_end (a + 1) n m (omega (arith, h))
     ]
 
--- ---- members of a list that keeps each item once
+-- ---- members of a list without repetitions
 
 module _ {A : Type 0} (same : A → A → Bool) where
   item_member : (xs : List A) (y x : A) → In x (with_item same xs y) → In x xs ⊎ (y ≡ x)
@@ -72,7 +72,7 @@ numbers_member a (suc n) (suc k) h =
     let e : a + 1 + k ≡ a + suc k = omega arith in
     inr (subst (λ (m : ℕ). In m (range_with_len (a + 1) n)) e (numbers_member (a + 1) n k (omega (arith, h))))
 
--- where the numbers of a list, each once, count up, each of them is in the list
+-- if the numbers of a list, without repetitions, count up, each of them is in the list
 pub each_used : (ns : List ℕ) (count n : ℕ) → once same_number ns ≡ range_with_len 0 count → n < count → Contains ns n
 each_used ns count n counts h =
     let e : 0 + n ≡ n = omega arith in
@@ -96,7 +96,7 @@ module _ {A : Type 0} (same : A → A → Bool) (decides : Decides same) where
   length_more [] x = refl
   length_more (y ∷ xs) x = ap suc (length_more xs x)
 
-  -- an item's number is there already, or counts on
+  -- an item's number is already there, or is the next one
   number_step : (xs : List A) (y : A)
       → with_item same_number (range_with_len 0 (length xs)) (number same y (with_item same xs y)) ≡ range_with_len 0 (length (with_item same xs y))
   number_step xs y =
@@ -134,7 +134,7 @@ module _ {A : Type 0} (same : A → A → Bool) (decides : Decides same) where
       ∙ ap (λ (ns : List ℕ). with_items same_number ns (map (λ z. number same z all) ys)) (number_step xs y)
       ∙ numbers_step next ys
 
-  -- the numbers of items, each once where it first stands, count up: each item is used, in the order of first use
+  -- the numbers of items, without repetitions, count up: each item is used, in the order of first use
   pub numbers_count : (ys : List A) → once same_number (map (λ y. number same y (once same ys)) ys) ≡ range_with_len 0 (length (once same ys))
   numbers_count ys = numbers_step [] ys
 

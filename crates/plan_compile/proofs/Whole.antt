@@ -27,7 +27,7 @@ use Rattle.plan_compile.proofs.SlotFacts.{stored_length, stored_other, stored_ho
 use Rattle.plan_compile.proofs.Judging.{greatest_app, changed_plain, depfile_asks, basis_in, missing_least, dirty_is, dirty_new, dirty_unlooked}
 use Rattle.plan_compile.proofs.Placed.{placed, placed_other, placed_leaves, restat_all}
 
--- a stack with room for six more
+-- a stack with room for six more values
 abbrev pub IsRoomy : List Value → Type 0
 IsRoomy stack = nat_lt 64 (suc (suc (suc (suc (suc (suc (length stack))))))) ≡ false
 
@@ -127,7 +127,7 @@ module _ (meaning : Meaning) (p : Parts) (e : ℕ) (w : CommandWiring) (start : 
       finish meaning p e L (all_own after (greatest named) (changed true old new)
       (placed_other slots w.outputs (changed true old new) w.newest wired.newest_stamp wired.newest_flag ∙ ready.newest) leaves) leaves
 
-  -- from the place of the pool on
+  -- from the request for a job token on
   pub runs_all : (slots : Slots) (named old : List ℕ) → Ready slots named → Hold slots w.outputs old → From meaning p e L (run_code w) [] slots false false (runs meaning c named old)
   runs_all slots named old ready hold =
       take_place meaning p e L wired.pool
@@ -168,7 +168,7 @@ module _ (meaning : Meaning) (p : Parts) (e : ℕ) (w : CommandWiring) (start : 
 
   -- ---- the sweep and the comparison
 
-  -- what makes the edge dirty once its entry was looked at: the alarm a, and the baseline m
+  -- the edge is dirty, when its entry is known, by the alarm a and the baseline m
   abbrev pub Weighs : List ℕ → List ℕ → Option Recorded → Bool → ℕ → Type 0
   Weighs named old entry a m = (ts : List ℕ) → is_dirty c named old entry ts ≡ (missing_from a ts || nat_lt m (greatest_from (greatest named) ts))
 
@@ -192,8 +192,8 @@ module _ (meaning : Meaning) (p : Parts) (e : ℕ) (w : CommandWiring) (start : 
       (λ late. subst (λ (d : Bool). From meaning p e L (run_code w) [] slots false false (ends_as named old d)) (sym (is ∙ (ap (λ (y : Bool). y || x) off ∙ late))) (runs_all slots named old ready hold))
       (λ early. clean_all slots named old (is_dirty c named old entry ts) (dirty_code w) ready hold (is ∙ (ap (λ (y : Bool). y || x) off ∙ early))))))
 
-  -- the alarm of the edge: the outputs are looked at if the baseline may be later than the oldest one, or if no source
-  -- file is named
+  -- the alarm of the edge: the outputs are tested if the baseline may be later than the oldest one, or if no
+  -- source file is named
   abbrev pub looks : Baseline → (has : Bool) → Bool
   looks Outputs has = not has
   looks Basis has = true
@@ -205,7 +205,7 @@ module _ (meaning : Meaning) (p : Parts) (e : ℕ) (w : CommandWiring) (start : 
   abbrev pub alarm : Baseline → List ℕ → Bool
   alarm b old = alarm_by (looks b (has_source_file w.named)) old
 
-  -- with a look at the outputs
+  -- with a test of the outputs
   pub weighs_looked : (named old : List ℕ) (entry : Option Recorded) (a : Bool) (m : ℕ) → (old ≡ [] → ⊥) → (not c.generator && is_new c.command entry) ≡ false
       → a ≡ ((least old == 0) || some_flag start w.flags) → m ≡ baseline c.baseline old entry → Weighs named old entry a m
   weighs_looked named old entry a m some same alarm_is baseline_is ts =
@@ -214,7 +214,7 @@ module _ (meaning : Meaning) (p : Parts) (e : ℕ) (w : CommandWiring) (start : 
       dirty_is c named old entry ts same
       ∙ (ap (λ (b : Bool). missing_from b ts || nat_lt (baseline c.baseline old entry) g) (sym full) ∙ ap (λ (n : ℕ). missing_from a ts || nat_lt n g) (sym baseline_is))
 
-  -- without one
+  -- without a test of the outputs
   pub weighs_unlooked : (named old : List ℕ) (entry : Option Recorded) (a : Bool) (m : ℕ) → (old ≡ [] → ⊥) → (not c.generator && is_new c.command entry) ≡ false
       → (w.baseline ≡ Basis → ⊥) → 0 < greatest named → a ≡ some_flag start w.flags → m ≡ baseline c.baseline old entry → Weighs named old entry a m
   weighs_unlooked named old entry a m some same plain positive alarm_is baseline_is ts =
@@ -230,7 +230,7 @@ module _ (meaning : Meaning) (p : Parts) (e : ℕ) (w : CommandWiring) (start : 
   weighs OutputsAndBasis true is has named old entry m some same positive baseline_is = weighs_unlooked named old entry _ m some same (λ other. absurd cc) (positive has) refl baseline_is
   weighs OutputsAndBasis false is has named old entry m some same positive baseline_is = weighs_looked named old entry _ m some same refl baseline_is
 
-  -- what stands below the recorded paths
+  -- the values below the recorded paths
   abbrev pub below : Bool → List ℕ → ℕ → List Value
   below true old n = []
   below false old n = Flag (alarm Outputs old) ∷ Stamp n ∷ Stamp (least old) ∷ []
@@ -239,13 +239,14 @@ module _ (meaning : Meaning) (p : Parts) (e : ℕ) (w : CommandWiring) (start : 
   below_roomy true old n = refl
   below_roomy false old n = refl
 
-  -- what is asked of the stamp over the paths: the baseline is that stamp, or the earlier of it and the oldest output
+  -- the condition on the stamp above the paths: the baseline is that stamp, or the earlier of it and the oldest
+  -- output
   abbrev pub Gives : Baseline → (over : ℕ) → List ℕ → Option Recorded → Type 0
   Gives Outputs over old entry = Unit {0}
   Gives Basis over old entry = over ≡ baseline Basis old entry
   Gives OutputsAndBasis over old entry = earlier over (least old) ≡ baseline OutputsAndBasis old entry
 
-  -- from a baseline over the paths
+  -- from a baseline above the paths
   pub under_all : (l : Bool) (rest : List Instr) (talk : Talk) (slots : Slots) (named old : List ℕ) (ps : List Path) (m : ℕ) → Ready slots named → Hold slots w.outputs old
       → From meaning p e L rest (Paths 0 ps ∷ Flag (alarm_by l old) ∷ Stamp (greatest named) ∷ Stamp m ∷ []) slots false false talk
       → From meaning p e L (under_code l w rest) (Stamp m ∷ Paths 0 ps ∷ []) slots false false talk
@@ -258,7 +259,7 @@ module _ (meaning : Meaning) (p : Parts) (e : ℕ) (w : CommandWiring) (start : 
       (alarm_all meaning p e L l w.outputs old w.flags start (Paths 0 ps ∷ Stamp n ∷ Stamp m ∷ []) refl hold wired.flags ready.foreign
       (plain meaning p e L op.Swap (Flag a ∷ Paths 0 ps ∷ Stamp n ∷ Stamp m ∷ []) (Paths 0 ps ∷ Flag a ∷ Stamp n ∷ Stamp m ∷ []) (λ l. refl) refl refl h))))
 
-  -- from where the stamp over the paths is known and the command isn't another
+  -- when the stamp above the paths is known and the command doesn't differ
   pub judged_by : (b : Baseline) → w.baseline ≡ b → (rest : List Instr) (talk : Talk) (slots : Slots) (named old : List ℕ) (entry : Option Recorded) (over : ℕ) → Ready slots named → Hold slots w.outputs old
       → Gives b over old entry
       → ((m : ℕ) → m ≡ baseline c.baseline old entry → From meaning p e L rest (Paths 0 (paths_in entry) ∷ Flag (alarm b old) ∷ Stamp (greatest named) ∷ Stamp m ∷ []) slots false false talk)
@@ -275,7 +276,7 @@ module _ (meaning : Meaning) (p : Parts) (e : ℕ) (w : CommandWiring) (start : 
       (plain meaning p e L op.Older (Stamp (least old) ∷ Stamp over ∷ Paths 0 ps ∷ []) (Stamp m ∷ Paths 0 ps ∷ []) (λ l. refl) refl refl
       (under_all (not (has_source_file w.named)) rest talk slots named old ps m ready hold (h m (known ∙ sym (ap (λ (b : Baseline). baseline b old entry) is)))))
 
-  -- where the recorded command is another, the paths are swept all the same
+  -- if the recorded command differs, the paths are swept nevertheless
   pub skip_all : (r : Bool) (rest : List Instr) (talk : Talk) (slots : Slots) (old : List ℕ) (ps : List Path) (b n : ℕ)
       → ((a : Bool) (x y : ℕ) → From meaning p e L rest (Paths 0 ps ∷ Flag a ∷ Stamp x ∷ Stamp y ∷ []) slots false false talk)
       → From meaning p e L (skip_code r rest) (Stamp b ∷ Paths 0 ps ∷ below r old n) slots false false talk

@@ -1,4 +1,5 @@
--- An edge whose numbers are right, with slots that are typed and set where they are lent: what it may load and store.
+-- An edge whose numbers are right, with slots that are typed and, if they belong to its waits, set: what it may
+-- load and store.
 use Rattle.std.proofs.Common.{◌≡◌, ℕ, zero, suc, ◌<◌, Bool, true, false, List, [], ◌∷◌, length, map, Option, Some, None, refl, sym, ap, subst, ◌∙◌, arith, inl, inr}
 use Rattle.std.specs.Prelude.{◌||◌, ◌⊎◌, slice_get, ◌==◌}
 use Rattle.std.specs.List.{list_any}
@@ -18,7 +19,7 @@ use Rattle.plan_compile.specs.declared.wiring.CommandWiring.{CommandWiring}
 use Rattle.plan_compile.specs.Rule.{Path, some_changed, first}
 use Rattle.plan_compile.specs.Means.{text_in, path_at, text_at, stamp_in, stamp_at, flag_in, flag_at, given, output_path, IsFile, IsText, IsLentOf, AreInputs, AreSourceFiles, AreOutputs, flags_of, HaveFlags, IsNoStamp, IsNoFlag, AreApart, HaveFlagSlots, slots_of, files_of, AreAllOwn, IsCommand}
 
--- ---- what is known of numbers
+-- ---- the facts about numbers
 
 abbrev pub HasPath : Parts → ℕ → Type 0
 HasPath p f = path_of p f ≡ Some (path_at p f)
@@ -63,7 +64,7 @@ abbrev pub AreOfTwoKinds : List Output → Type 0
 AreOfTwoKinds [] = Unit {0}
 AreOfTwoKinds (o ∷ os) = (o.changed ≡ o.stamp → ⊥) × IsNoFlag o.stamp os × IsNoStamp o.changed os × AreOfTwoKinds os
 
--- whether a flag among these is set
+-- whether one of these flags is set
 abbrev pub some_flag : Slots → List ℕ → Bool
 some_flag slots flags = list_any (λ s. flag_at slots s) flags
 
@@ -125,7 +126,7 @@ pub or_right : (a b : Bool) → b ≡ true → (a || b) ≡ true
 or_right true b h = refl
 or_right false b h = h
 
--- what holds of a member holds of some
+-- if a member passes a test, one of the numbers does
 pub any_member : (test : ℕ → Bool) (s : ℕ) (xs : List ℕ) → is_member s xs ≡ true → test s ≡ true → list_any test xs ≡ true
 any_member test s [] h holds = absurd cc
 any_member test s (x ∷ xs) h holds = elim (or_cases (x == s) (is_member s xs) h) [
@@ -133,7 +134,7 @@ any_member test s (x ∷ xs) h holds = elim (or_cases (x == s) (is_member s xs) 
   | inr more ↦ or_right (test x) (list_any test xs) (any_member test s xs more holds)
 ]
 
--- what holds of some holds of a member
+-- if one of the numbers passes a test, some member does
 pub member_of_any : (test : ℕ → Bool) (xs : List ℕ) → list_any test xs ≡ true → (s : ℕ) × (is_member s xs ≡ true) × (test s ≡ true)
 member_of_any test [] h = absurd cc
 member_of_any test (x ∷ xs) h = elim (or_cases (test x) (list_any test xs) h) [
@@ -152,7 +153,7 @@ any_same test xs ys same =
     (λ h. let m = member_of_any test xs h in any_member test m.0 ys (sym (same m.0) ∙ m.1) m.2)
     (λ h. let m = member_of_any test ys h in any_member test m.0 xs (same m.0 ∙ m.1) m.2)
 
--- slots of two kinds are two
+-- slots of different kinds are different
 pub kinds_differ : (p : Parts) (a b : ℕ) → slot_kind p a ≡ kind.Flag → slot_kind p b ≡ kind.Stamp → a ≡ b → ⊥
 kinds_differ p a b flag stamp same = let both : kind.Flag ≡ kind.Stamp = sym flag ∙ (ap (λ (n : ℕ). slot_kind p n) same ∙ stamp) in absurd cc
 
@@ -198,7 +199,7 @@ module _ (p : Parts) (e : ℕ) where
   first_is [] some h = absurd (some refl)
   first_is (o ∷ os) some h = has_path o.file h.0.0
 
-  -- the flag slots of inputs are lent
+  -- the flag slots of inputs belong to edges that are waited for
   pub flag_lent : (is : List Input) (s : ℕ) → AreInputs p e is → is_member s (flags_of is) ≡ true → IsLentOf p e kind.Flag s
   flag_lent [] s h m = absurd cc
   flag_lent (File f ∷ is) s h m = flag_lent is s h.1 m

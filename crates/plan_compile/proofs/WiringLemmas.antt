@@ -27,7 +27,7 @@ use Rattle.plan_compile.proofs.RunLemmas.{slot_at, IsSlotOf, slot_of, all_own}
 use Rattle.plan_compile.proofs.OutputLemmas.{Holds, Runs, first_run, rest_run, own_of_held, flagged_own, apart_own, flagged_below, flagged_apart, flagged_share, apart_below_stamps, apart_apart, apart_flags, sharing_share, files_flagged, files_apart, in_stamps, flag_among, in_pairs, find_split, IsOutput, found_by}
 use Rattle.plan_compile.proofs.EdgeLemmas.{image_edge, text_found, has_pool}
 
--- ---- whose output it is
+-- ---- the edge of an output
 
 pub record IsMadeBy (b : ℕ) (xs : List Build) (f : ℕ) (o : Output) : Type 0 where
   pub edge : ℕ
@@ -49,7 +49,7 @@ maker b (x ∷ xs) f o h =
 pub own_run : (t : Builds) (e : ℕ) (x : Build) → IsEdge t e x → Runs (image_of t) e (base t.edges e) (own_kinds x)
 own_run t e x at i k g = let same : zero + e ≡ e = omega arith in slot_at zero t.edges e x at i k g ∙ ap (λ (n : ℕ). Some (record { owner = n; kind = k })) same
 
--- ---- what an edge makes is lent to its users
+-- ---- users of an edge's outputs may load their slots
 
 module _ (t : Builds) (sound : IsSound t) (e : ℕ) (x : Build) (at : IsEdge t e x) where
   pub apart : (w : ℕ) → is_member w x.waits ≡ true → (w == e) ≡ false
@@ -98,7 +98,7 @@ sources_right t outputs named (f ∷ fs) inside =
     elim (is_some (find f outputs) || is_member f named) as (λ b. AreSourceFiles (image_of t) (if b then sources outputs named fs else f ∷ sources outputs named fs))
     [ true ↦ sources_right t outputs named fs o.1 | false ↦ (o.0, sources_right t outputs named fs o.1) ]
 
--- ---- the flags of inputs, each once
+-- ---- the flags of inputs, without repetitions
 
 or_none : (a : Bool) → (a || false) ≡ a
 or_none true = refl
@@ -114,7 +114,7 @@ or_swap : (a b c d : Bool) → a ≡ (b || c) → (d || a) ≡ (b || (d || c))
 or_swap a b c true h = sym (or_right b true refl)
 or_swap a b c false h = h
 
--- an equal number is there already
+-- an equal number is already there
 or_there : (n m s : ℕ) (rest : Bool) → n ≡ m → ((m == s) || rest) ≡ ((n == s) || ((m == s) || rest))
 or_there n m s rest is = subst (λ (k : ℕ). ((m == s) || rest) ≡ ((k == s) || ((m == s) || rest))) (sym is) (twice (m == s))
   where
@@ -150,7 +150,7 @@ have_flags is s = flags_are s [] is
 
 -- ---- own slots
 
--- all own slots are among some, if each place of the edge's run is
+-- all own slots are among some, if each slot of the edge is
 all_among : (t : Builds) (e : ℕ) (x : Build) → IsEdge t e x → (slots : List ℕ)
     → ((i : ℕ) (k : Kind) → slice_get (own_kinds x) i ≡ Some k → is_member (base t.edges e + i) slots ≡ true) → AreAllOwn (image_of t) e slots
 all_among t e x at slots each =
@@ -260,7 +260,7 @@ module _ (t : Builds) (sound : IsSound t) (e : ℕ) (x : Build) (at : IsEdge t e
   abbrev none : Bool
   none = has_none x.named && has_none x.order_only
 
-  -- what holds of a command edge of either form
+  -- the facts about a command edge of either form
   command_right : (form : Form) → x.edge.phony ≡ false
       → AreOutputs (image_of t) e (outputs_by form (base t.edges e) x.outputs) → files_of (outputs_by form (base t.edges e) x.outputs) ≡ x.outputs
       → (outputs_by form (base t.edges e) x.outputs ≡ [] → ⊥) → Rattle.plan_compile.specs.Means.AreApart (outputs_by form (base t.edges e) x.outputs)

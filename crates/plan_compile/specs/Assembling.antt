@@ -1,4 +1,4 @@
--- An edge by its numbers, as the code makes it from the table of outputs.
+-- An edge by its numbers, as the code builds it from the table of outputs.
 use Rattle.std.specs.Prelude.{ℕ, zero, List, [], ◌∷◌}
 use Rattle.plan_compile.specs.declared.wiring.Output.{Output}
 use Rattle.plan_compile.specs.declared.wiring.CommandWiring.{CommandWiring}
@@ -52,7 +52,7 @@ wire_in Gathers numbers table newest x = wiring.Gather (gather_in table newest x
 wire_in Alone numbers table newest x = wiring.Alone (outputs_in table x.outputs)
 wire_in form numbers table newest x = wiring.Command (command_in numbers table newest x)
 
--- the codes of edges, each with its numbers and its newest input's slot
+-- the codes of edges, given the numbers and the newest input's slot of each
 abbrev pub codes_in : Table → List Numbers → List ℕ → List Build → List (List Instr)
 codes_in table (k ∷ ks) (n ∷ ns) (x ∷ xs) = code_of (wire_in (form_of x) k table n x) ∷ codes_in table ks ns xs
 codes_in table _ _ _ = []

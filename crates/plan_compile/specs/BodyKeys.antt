@@ -1,5 +1,6 @@
--- When two bodies are the same: instruction by instruction, each as one number of its sort and its operand. The sorts of
--- open instructions come behind the others. And what a code is by the key of its body and the operands left open.
+-- Equality of bodies, instruction by instruction, each as one number of its sort and its operand. The sorts of
+-- open instructions come after the others. A code is given by the key of its body and the operands that are
+-- left open.
 use Rattle.std.specs.Prelude.{◌≡◌, ◌<◌, ◌^◌, ◌+◌, ◌*◌, ◌/◌, ◌%◌, ◌==◌, ℕ, Bool, true, false, List, [], ◌∷◌, bytes_eq, All, if◌then◌else◌}
 use Rattle.plan_image.specs.Bodies.{body_of, operands_of, with_operands}
 use Rattle.plan_image.specs.Columns.{instr_by}
@@ -69,7 +70,7 @@ same_body a b = bytes_eq (key_of a) (key_of b)
 
 -- ---- back again
 
--- the instruction of a sort, with this operand
+-- the instruction of a sort with this operand
 abbrev pub member_by : ℕ → ℕ → BodyInstr
 member_by k n =
     if k == 29 then member.Open opening.Stat
@@ -88,11 +89,11 @@ abbrev pub body_at : List ℕ → Body
 body_at [] = []
 body_at (x ∷ xs) = member_at x ∷ body_at xs
 
--- the code of a key and the operands left open
+-- the code of a key and the operands that are left open
 abbrev pub code_at : List ℕ → List ℕ → List Instr
 code_at key operands = with_operands (body_at key) operands
 
--- an operand is a word
+-- the operand fits into 32 bits
 abbrev pub IsSmall : ℕ → Type 0
 IsSmall x = x < 2 ^ 38
 

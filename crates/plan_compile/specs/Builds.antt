@@ -1,4 +1,4 @@
--- The edges of a manifest, each with its files by their numbers.
+-- The edges of a manifest, with their files by number.
 use Rattle.std.specs.Prelude.{ℕ, suc, ◌-◌, ◌==◌, Bool, true, false, not, List, [], ◌∷◌, length, take, drop, filter, get_or, slice_index, Option, Some, None}
 use Rattle.plan_scope.specs.Edge.{Edge as ManifestEdge}
 use Rattle.plan_scope.specs.declared.manifest.Pool.{Pool as ManifestPool}
@@ -10,7 +10,7 @@ use Rattle.plan_compile.specs.declared.baseline.Baseline.{Baseline}
 use Rattle.plan_compile.specs.declared.baseline.OutOfDateRule.{OutOfDateRule}
 use Rattle.plan_compile.specs.Rule.{baseline_by}
 
--- an edge: what its manifest says of it, the numbers of its files, the edges that it waits for, its rank, and its
+-- an edge: its edge in the manifest, the numbers of its files, the edges that it waits for, its rank, and its
 -- baseline
 pub record Build : Type 0 where
   pub edge : ManifestEdge
@@ -22,7 +22,7 @@ pub record Build : Type 0 where
   pub rank : ℕ
   pub baseline : Baseline
 
--- no edge of a manifest
+-- a default for edges that don't exist
 abbrev pub no_edge : ManifestEdge
 no_edge = record {
   paths = record { outputs = []; implicit_outputs = []; inputs = []; implicit_inputs = []; order_only_inputs = [] };
@@ -35,16 +35,16 @@ no_edge = record {
   pool = [];
 }
 
--- a phony loses its own outputs from its inputs
+-- removes the outputs of a phony from its inputs
 abbrev pub without_own : Bool → (outputs inputs : List ℕ) → List ℕ
 without_own true outputs inputs = filter (λ f. not (is_member f outputs)) inputs
 without_own false outputs inputs = inputs
 
--- how many of an edge's inputs are explicit or implicit: the order-only ones stand last
+-- the number of an edge's inputs that are explicit or implicit: the order-only ones are last
 abbrev pub named_count : ManifestEdge → List ℕ → ℕ
 named_count e inputs = length inputs - length e.paths.order_only_inputs
 
--- an edge with these rows of a graph, by that rule
+-- an edge with these rows of a graph, for this rule
 abbrev pub build_of : OutOfDateRule → ManifestEdge → (outputs inputs waits : List ℕ) → (rank : ℕ) → Build
 build_of rule e outputs inputs waits rank = record {
   edge = e;
@@ -56,7 +56,7 @@ build_of rule e outputs inputs waits rank = record {
   baseline = baseline_by e.restat e.generator rule;
 }
 
--- the edge of that number
+-- the edge with this number
 abbrev pub build_at : OutOfDateRule → Graph → ℕ → ManifestEdge → Build
 build_at rule g n e = build_of rule e (get_or g.outputs n []) (get_or g.inputs n []) (get_or g.waits n []) (slice_index g.ranks n)
 
@@ -65,7 +65,7 @@ abbrev pub builds_from : OutOfDateRule → Graph → ℕ → List ManifestEdge �
 builds_from rule g n [] = []
 builds_from rule g n (e ∷ es) = build_at rule g n e ∷ builds_from rule g (suc n) es
 
--- what an image is made from: the edges have their baselines by the rule that it is compiled for
+-- the data from which an image is created: the edges have their baselines by the rule that it is compiled for
 pub record Builds : Type 0 where
   pub files : List (List ℕ)
   pub edges : List Build
@@ -75,12 +75,12 @@ pub record Builds : Type 0 where
 abbrev pub builds : OutOfDateRule → Manifest → Graph → Builds
 builds rule m g = record { files = paths_in g.files; edges = builds_from rule g 0 m.edges; pools = m.pools; defaults = g.defaults }
 
--- the edge is the one that makes a file
+-- the edge is the producer
 abbrev pub is_maker : Option ℕ → ℕ → Bool
 is_maker (Some producer) edge = producer == edge
 is_maker None edge = false
 
--- numbers of files without those of files that the edge of that number makes, where it is a phony
+-- the numbers of files, without the outputs of this edge if it is a phony
 abbrev pub without_made : Table → ℕ → Bool → List ℕ → List ℕ
 without_made files edge true numbers = filter (λ f. not (is_maker (producer_at files f) edge)) numbers
 without_made files edge false numbers = numbers

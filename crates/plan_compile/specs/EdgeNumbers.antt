@@ -5,7 +5,7 @@ use Rattle.plan_compile.specs.declared.numbers.Numbers.{Numbers}
 use Rattle.plan_compile.specs.Builds.{Build}
 use Rattle.plan_compile.specs.Names.{Text, text_number, depfile_number, or_command}
 
--- of an edge with a command
+-- the numbers of an edge with a command
 abbrev pub command_numbers : (texts pools : List Text) → ManifestEdge → Numbers
 command_numbers texts pools e = record {
   label = text_number texts (or_command e.description e.command);
@@ -14,7 +14,7 @@ command_numbers texts pools e = record {
   pool = depfile_number pools e.pool;
 }
 
--- a phony has a label alone, which is empty
+-- a phony only has a label, which is empty
 abbrev pub numbers_by : (phony : Bool) → (texts pools : List Text) → Build → Numbers
 numbers_by true texts pools x = record { label = text_number texts []; command = zero; depfile = None; pool = None }
 numbers_by false texts pools x = command_numbers texts pools x.edge

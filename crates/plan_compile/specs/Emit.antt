@@ -1,5 +1,5 @@
--- The code of an edge, from one fragment for each part of the rule. What follows a fragment is its last argument where a
--- jump leads past it.
+-- The code of an edge, from one fragment for each part of the rule. A fragment takes the code after it as its
+-- last argument if a jump leads past it.
 use Rattle.std.specs.Prelude.{ℕ, ◌+◌, Bool, true, false, not, ◌||◌, List, [], ◌∷◌, ◌++◌, length, Option, Some, None, Result, Ok, Err, nat_lt, if◌then◌else◌}
 use Rattle.plan_image.specs.declared.instr.Instr.{Instr}
 use Rattle.plan_image.specs.declared.instr.Instr.TheVariants as op
@@ -17,12 +17,12 @@ use Rattle.plan_compile.specs.declared.wiring.Wiring.TheVariants.{Command, Gathe
 
 -- ---- inputs
 
--- order-only source files have to be there, and no more
+-- order-only source files must exist
 abbrev pub order_code : List ℕ → List Instr
 order_code [] = []
 order_code (f ∷ fs) = op.Need f ∷ op.Drop ∷ order_code fs
 
--- a source file is asked for, what an edge makes has its stamp in a slot
+-- a source file is asked for; the output of an edge has its stamp in a slot
 abbrev pub input_code : Input → Instr
 input_code (File f) = op.Need f
 input_code (Made stamp changed) = op.Load stamp
@@ -37,7 +37,7 @@ abbrev pub newest_code : List Input → List Instr
 newest_code [] = op.Zero ∷ []
 newest_code (i ∷ is) = input_code i ∷ newer_code is
 
--- whether the flag on the stack is set, or one of these
+-- whether the flag on the stack or one of these is set
 abbrev pub or_code : List ℕ → List Instr
 or_code [] = []
 or_code (s ∷ ss) = op.Load s ∷ op.Or ∷ or_code ss
@@ -77,7 +77,7 @@ abbrev pub flag_code : Bool → List Output → List Instr
 flag_code b [] = []
 flag_code b (o ∷ os) = op.Flag b ∷ op.Store o.changed ∷ flag_code b os
 
--- the outputs whose flag slots are set: the outputs of an edge that isn't restat share one
+-- the outputs whose flag slots are set: the outputs of an edge that isn't restat share one slot
 abbrev pub holders : (restat : Bool) → List Output → List Output
 holders true os = os
 holders false [] = []
@@ -102,15 +102,15 @@ compares_basis Outputs = false
 compares_basis Basis = true
 compares_basis OutputsAndBasis = true
 
--- Whether an output is missing or an input changed. The least stamp tells whether one is missing. It isn't looked at
--- if the baseline is no later than the oldest output and a source file is named: that source file is newer than a
--- missing output.
+-- Whether an output is missing or an input changed. An output is missing if the least stamp is 0. This isn't
+-- tested if the baseline is no later than the oldest output and a source file is named: that source file is
+-- newer than a missing output.
 abbrev pub alarm_code : (looks : Bool) → List Output → (flags : List ℕ) → List Instr
 alarm_code true os flags = oldest_code os ++ (op.IsMissing ∷ or_code flags)
 alarm_code false os flags = any_code flags
 
--- What the sweep goes on from, if no basis is compared: the oldest output's stamp as the baseline, the newest input's
--- stamp, and the alarm.
+-- The values before the sweep, if no basis is compared: the oldest output's stamp as the baseline, the newest
+-- input's stamp, and the alarm.
 abbrev pub weighed_code : (basis : Bool) → CommandWiring → List Instr → List Instr
 weighed_code true w rest = rest
 weighed_code false w rest =
@@ -123,18 +123,18 @@ front w rest =
 
 -- ---- a command edge from its recorded entry on
 
--- Whether the recorded command is that text, from it and whether there is an entry. No entry gives the empty text,
--- which no other command is.
+-- Whether the recorded command is this text, given that command and whether there is an entry. Without an entry
+-- the recorded command is empty, and so differs from every other command.
 abbrev pub same_code : (blank : Bool) → ℕ → List Instr
 same_code true t = op.Not ∷ op.Swap ∷ op.Text t ∷ op.Equal ∷ op.Not ∷ op.Or ∷ op.Not ∷ []
 same_code false t = op.Drop ∷ op.Text t ∷ op.Equal ∷ []
 
--- from a baseline over the paths: the baseline, the newest input's stamp, the alarm and the paths
+-- from a baseline above the paths to the baseline, the newest input's stamp, the alarm and the paths
 abbrev pub under_code : (looks : Bool) → CommandWiring → List Instr → List Instr
 under_code looks w rest = op.Swap ∷ op.Load w.newest ∷ op.Swap ∷ (alarm_code looks w.outputs w.flags ++ (op.Swap ∷ rest))
 
--- Makes ready for the sweep. The recorded basis is over the paths. It is dropped if it isn't compared; it is the
--- baseline, or the earlier of it and the oldest output is.
+-- Prepares the sweep. The recorded basis is above the paths. It is dropped if it isn't compared. Otherwise it
+-- is the baseline, or the earlier of it and the oldest output is.
 abbrev pub ready_code : Baseline → CommandWiring → List Instr → List Instr
 ready_code Outputs w rest = op.Drop ∷ rest
 ready_code Basis w rest = under_code true w rest
@@ -143,7 +143,7 @@ ready_code OutputsAndBasis w rest = oldest_code w.outputs ++ (op.Older ∷ under
 abbrev pub ready_len : CommandWiring → ℕ
 ready_len w = length (ready_code w.baseline w [])
 
--- the same where the edge is known to be dirty, with any stamp and any flag
+-- the same if the edge is known to be dirty, with any stamp and any flag
 abbrev pub skip_code : (basis : Bool) → List Instr → List Instr
 skip_code true rest = op.Swap ∷ op.Zero ∷ op.Swap ∷ op.Flag false ∷ op.Swap ∷ rest
 skip_code false rest = op.Drop ∷ rest
@@ -153,13 +153,13 @@ abbrev pub deps_code : Option ℕ → List Instr
 deps_code (Some t) = op.Flag false ∷ op.Text t ∷ op.Deps ∷ op.Sweep ∷ op.Swap ∷ op.Drop ∷ []
 deps_code None = op.NoPaths ∷ []
 
--- from the place of the pool on
+-- from the request for a job token on
 abbrev pub run_code : CommandWiring → List Instr
 run_code w =
     op.Take ∷ op.Text w.command ∷ op.Run ∷ op.Release ∷ op.Text w.command ∷ op.Load w.newest
     ∷ (deps_code w.depfile ++ (op.Keep ∷ after_code w.restat w.outputs (op.End ∷ [])))
 
--- the same from two values on
+-- the same, with two values to drop first
 abbrev pub dirty_code : CommandWiring → List Instr
 dirty_code w = op.Drop ∷ op.Drop ∷ run_code w
 
@@ -170,25 +170,25 @@ clean_code w = flag_code false (holders w.restat w.outputs)
 abbrev pub clean_len : CommandWiring → ℕ
 clean_len w = length (clean_code w)
 
--- From the place at on: sweeps, compares, and ends where the edge is clean.
+-- From place `at` on: sweeps, compares, and ends if the edge is clean.
 abbrev pub judge_code : CommandWiring → (at : ℕ) → List Instr
 judge_code w at =
     op.Sweep ∷ op.Drop ∷ op.JumpIf (at + 6 + clean_len w) ∷ op.Before ∷ op.JumpIf (at + 8 + clean_len w)
     ∷ (clean_code w ++ (op.End ∷ dirty_code w))
 
--- the same once it is known that the command is the recorded one
+-- the same, if it is known that the command is the recorded one
 abbrev pub judged_code : CommandWiring → (at : ℕ) → List Instr
 judged_code w at = ready_code w.baseline w (judge_code w (at + ready_len w))
 
--- where the dirty code stands then
+-- the place of the dirty code after that
 abbrev pub dirty_place : CommandWiring → (at : ℕ) → ℕ
 dirty_place w at = at + ready_len w + 6 + clean_len w
 
--- where the recorded command is another, the paths are swept all the same
+-- if the recorded command differs, the paths are swept nevertheless
 abbrev pub other_code : CommandWiring → (dirty : ℕ) → List Instr → List Instr
 other_code w dirty rest = skip_code (compares_basis w.baseline) (op.Sweep ∷ op.Drop ∷ op.Drop ∷ op.Jump dirty ∷ rest)
 
--- where the judging stands behind the comparison
+-- the place of the code after the comparison that decides whether the edge is dirty
 abbrev pub same_place : CommandWiring → (at : ℕ) → ℕ
 same_place w at = at + length (same_code w.blank w.command) + 1 + length (other_code w 0 [])
 
@@ -197,11 +197,11 @@ compare_code w at =
     same_code w.blank w.command
     ++ (op.JumpIf (same_place w at) ∷ other_code w (dirty_place w (same_place w at)) (judged_code w (same_place w at)))
 
--- where the baseline of a generator that compares the basis of its entry is known
+-- the place at which the baseline of a generator that compares the basis of its entry is known
 abbrev pub known_place : CommandWiring → (at : ℕ) → ℕ
 known_place w at = at + 4 + length (oldest_code w.outputs)
 
--- a generator looks at no command; without an entry the baseline is the oldest output
+-- a generator doesn't compare the command; without an entry the baseline is the oldest output
 abbrev pub pass_code : (basis : Bool) → CommandWiring → (at : ℕ) → List Instr
 pass_code true w at =
     op.JumpIf (known_place w at) ∷ op.Drop ∷ op.Drop
@@ -217,12 +217,12 @@ command_code w = front w (recalled_code w.generator w (length (front w [])))
 
 -- ---- phonies
 
--- without inputs each output is as its file is
+-- without inputs, each output has the stamp of its file
 abbrev pub alone_code : List Output → List Instr
 alone_code [] = op.End ∷ []
 alone_code (o ∷ os) = op.Stat o.file ∷ op.Store o.stamp ∷ op.Load o.stamp ∷ op.IsMissing ∷ op.Store o.changed ∷ alone_code os
 
--- with inputs all outputs are as the named ones are
+-- with inputs, all outputs have the stamp and the flag of the named ones
 abbrev pub gather_code : GatherWiring → List Instr
 gather_code g =
     order_code g.order_only ++ (newest_code g.named ++ (op.Store g.stamp ∷ (any_code g.flags ++ (op.Store g.changed ∷ op.End ∷ []))))
@@ -234,6 +234,6 @@ code_of (Command w) = command_code w
 code_of (Gather g) = gather_code g
 code_of (Alone outputs) = alone_code outputs
 
--- code, unless it has more places than a body of an image may have
+-- the code, unless it has more places than a body of an image may have
 abbrev pub emitted : List Instr → Result (List Instr) CompileFault
 emitted is = if nat_lt 65536 (length is) then Err Limit else Ok is

@@ -1,4 +1,4 @@
--- What the image of a manifest says, and what is asked of the manifest.
+-- The facts of a manifest in its image, and the conditions on the manifest.
 use Rattle.std.specs.Prelude.{◌≡◌, ◌≢◌, ◌<◌, ◌==◌, ℕ, zero, true, false, List, [], ◌∷◌, length, map, flat_map, Option, Some, None, nat_lt, nat_le, slice_get, AllPairs, Contains}
 use Rattle.std.specs.List.{list_any, range_with_len}
 use Rattle.plan_scope.specs.declared.manifest.Manifest.{Manifest}
@@ -23,26 +23,26 @@ use Rattle.plan_compile.specs.Numbering.{once}
 abbrev pub IsEdge : Builds → ℕ → Build → Type 0
 IsEdge t e x = slice_get t.edges e ≡ Some x
 
--- numbers of files that are in the table
+-- the numbers of files are in the table
 abbrev pub AreInside : Builds → List ℕ → Type 0
 AreInside t fs = list_any (λ f. nat_le (length t.files) f) fs ≡ false
 
--- what the graph of a manifest gives
+-- the facts that the graph of a manifest ensures
 pub record IsSound (t : Builds) : Type 0 where
   pub makes : (e : ℕ) (x : Build) → IsEdge t e x → x.outputs ≡ [] → ⊥
   pub outputs : (e : ℕ) (x : Build) → IsEdge t e x → AreInside t x.outputs
   pub named : (e : ℕ) (x : Build) → IsEdge t e x → AreInside t x.named
   pub order_only : (e : ℕ) (x : Build) → IsEdge t e x → AreInside t x.order_only
-  -- an edge waits for the makers of its named inputs, which have lesser ranks
+  -- an edge waits for the producers of its named inputs, which have lesser ranks
   pub waits : (e : ℕ) (x : Build) (w : ℕ) (y : Build) (f : ℕ) → IsEdge t e x → IsEdge t w y → is_member f x.named ≡ true → is_member f y.outputs ≡ true
       → is_member w x.waits ≡ true
   pub ranks : (e : ℕ) (x : Build) (w : ℕ) → IsEdge t e x → is_member w x.waits ≡ true → (y : Build) × IsEdge t w y × (nat_lt y.rank x.rank ≡ true)
-  -- no file is made twice
+  -- no file is produced twice
   pub once : (e : ℕ) (x : Build) (i : ℕ) (d : ℕ) (y : Build) (j : ℕ) (f : ℕ) → IsEdge t e x → IsEdge t d y → slice_get x.outputs i ≡ Some f → slice_get y.outputs j ≡ Some f
       → (e ≡ d) × (i ≡ j)
   pub defaults : list_any (λ e. nat_le (length t.edges) e) t.defaults ≡ false
 
--- ---- the image says what the manifest says
+-- ---- the image has the facts of the manifest
 
 abbrev pub HasPool : Parts → Option ℕ → List (List ℕ) → Type 0
 HasPool p None [] = Unit {0}
@@ -57,7 +57,7 @@ pub record IsEdgeOf (p : Parts) (x : Build) (y : Edge) : Type 0 where
   pub label : slice_get p.texts y.label ≡ Some (label_of x)
   pub pool : HasPool p y.pool (pool_in x)
 
--- the bodies of an image, none where edges have code of their own
+-- the bodies of an image; none if edges have their own code
 abbrev pub bodies_in : Option (List Body) → List Body
 bodies_in (Some bodies) = bodies
 bodies_in None = []
@@ -79,9 +79,9 @@ pub record IsFaithful (t : Builds) (p : Parts) : Type 0 where
   pub defaults : p.defaults ≡ t.defaults
   -- no two bodies are equal
   pub apart : AllPairs (λ a b. a ≢ b) (bodies_in p.bodies)
-  -- each body is some edge's
+  -- each body is used by an edge
   pub used : (n : ℕ) → n < length (bodies_in p.bodies) → Contains (body_numbers p.edges) n
-  -- bodies stand in the order of first use: the numbers that edges have, each once where it first stands, count up
+  -- bodies are in the order of first use: the body numbers of edges, without repetitions, count up
   pub ordered : once (λ m n. m == n) (body_numbers p.edges) ≡ range_with_len 0 (length (bodies_in p.bodies))
 
 abbrev pub ImageIsFaithful : Type 0

@@ -64,7 +64,7 @@ wire_by form texts outputs b x = wiring.Command (command_wiring texts outputs fo
 abbrev pub wire : List Text → List Output → ℕ → Build → Wiring
 wire texts outputs b x = wire_by (form_of x) texts outputs b x
 
--- the code of each of these edges, the own slots of the first being those from b on
+-- the codes of these edges, if the own slots of the first one begin at b
 abbrev pub codes_from : List Text → List Output → ℕ → List Build → List (List Instr)
 codes_from texts outputs b [] = []
 codes_from texts outputs b (x ∷ xs) = code_of (wire texts outputs b x) ∷ codes_from texts outputs (b + own_len x) xs
@@ -74,7 +74,7 @@ codes xs = codes_from (all_texts xs) (all_made zero xs) zero xs
 
 -- ---- bodies that edges share
 
--- each body once, in the order of first use
+-- the bodies without repetitions, in the order of first use
 abbrev pub used_bodies : List (List Instr) → List Body
 used_bodies all = once same_body (map body_of all)
 
@@ -118,6 +118,6 @@ image_of t = record {
   defaults = t.defaults;
 }
 
--- the image of a manifest with its graph, by that rule
+-- the image of a manifest with its graph, for this rule
 abbrev pub compiled : OutOfDateRule → Manifest → Graph → Parts
 compiled rule m g = image_of (builds rule m g)

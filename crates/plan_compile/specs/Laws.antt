@@ -1,4 +1,4 @@
--- What is promised of the code of every edge.
+-- The laws about the code of every edge.
 use Rattle.std.specs.Prelude.{◌≡◌, ℕ, List, None}
 use Rattle.plan_image.specs.declared.image.Parts.{Parts}
 use Rattle.plan_image.specs.Code.{code}
@@ -21,13 +21,13 @@ use Rattle.plan_compile.specs.Means.{IsCommand, IsGather, IsAlone, IsWired, AreG
 abbrev pub CommandMeans : Type 0
 CommandMeans = (p : Parts) (e : ℕ) (w : CommandWiring) → code p e ≡ command_code w → IsCommand p e w → CodeMeans p e (wiring.Command w)
 
--- the code of a phony of each sort means the rule
+-- the code of each form of phony means the rule
 pub record PhonyMeans : Type 0 where
   pub gather : (p : Parts) (e : ℕ) (g : GatherWiring) → code p e ≡ gather_code g → IsGather p e g → CodeMeans p e (wiring.Gather g)
   pub alone : (p : Parts) (e : ℕ) (outputs : List Output) → code p e ≡ alone_code outputs → IsAlone p e outputs → CodeMeans p e (wiring.Alone outputs)
 
--- Each run alone of an edge keeps to the rule: what it was told leads along the rule's talk, and the edge keeps to what
--- is left of it.
+-- Each run alone of an edge follows the rule: its questions and replies lead along the rule's talk, and the
+-- edge follows the rest of the talk.
 abbrev pub RunsKeepToRule : Type 0
 RunsKeepToRule =
     (p : Parts) (e : ℕ) (w : Wiring) → code p e ≡ code_of w → IsWired p e w
@@ -35,11 +35,11 @@ RunsKeepToRule =
     → (n : ℕ) (told : List (Request × Reply)) (x : Alone) → RunsAlone meaning p e n (at_begin slots) told x
     → (rest : Talk) × Follows (rule_of meaning p slots order_only w) told rest × Obeys meaning p e (Leaves (outputs_in w)) x rest
 
--- the code of a command edge has shapes, where the edge's tables are right
+-- the code of a command edge has shapes, if the edge's tables pass their checks
 abbrev pub CommandShaped : Type 0
 CommandShaped = (p : Parts) (e : ℕ) (w : CommandWiring) → code p e ≡ command_code w → IsCommand p e w → table_refusal p e ≡ None → IsShapedEdge p e
 
--- so has that of a phony of each sort
+-- the code of each form of phony has shapes
 pub record PhonyShaped : Type 0 where
   pub gather : (p : Parts) (e : ℕ) (g : GatherWiring) → code p e ≡ gather_code g → IsGather p e g → table_refusal p e ≡ None → IsShapedEdge p e
   pub alone : (p : Parts) (e : ℕ) (outputs : List Output) → code p e ≡ alone_code outputs → IsAlone p e outputs → table_refusal p e ≡ None → IsShapedEdge p e

@@ -1,4 +1,4 @@
--- What an edge's numbers stand for, what is asked of them, and what the edge's code means by them.
+-- The meaning of an edge's numbers, the conditions on them, and the meaning of the edge's code.
 use Rattle.std.specs.Prelude.{◌≡◌, ℕ, Bool, true, false, ◌&&◌, List, [], ◌∷◌, length, map, Option, Some, None, nat_le, slice_get}
 use Rattle.std.specs.List.{list_all}
 use Rattle.plan_image.specs.declared.instr.Kind.{Kind}
@@ -23,7 +23,7 @@ use Rattle.plan_compile.specs.Talk.{Left, Talk, Obeys}
 use Rattle.plan_compile.specs.Rule.{Path, Given, SourceFile, Command, asked, has_none, does, does_phony}
 use Rattle.plan_compile.specs.Rule.{Made as MadeBy}
 
--- ---- look-ups; outside the tables the answers don't matter
+-- ---- look-ups; the results outside the tables don't matter
 
 abbrev pub text_in : Option (List ℕ) → List ℕ
 text_in (Some t) = t
@@ -49,7 +49,7 @@ flag_in _ = false
 abbrev pub flag_at : Slots → ℕ → Bool
 flag_at slots s = flag_in (slice_get slots s)
 
--- ---- an edge by what its numbers stand for
+-- ---- an edge by the meaning of its numbers
 
 abbrev pub given : Parts → Slots → Input → Given
 given p slots (File f) = SourceFile f (path_at p f)
@@ -65,7 +65,7 @@ abbrev pub depfile_text : Parts → Option ℕ → List ℕ
 depfile_text p (Some t) = text_at p t
 depfile_text p None = []
 
--- a command edge, with its order-only inputs as they are given
+-- a command edge, with its order-only inputs as given
 abbrev pub command_of : Parts → Slots → CommandWiring → List Given → Command
 command_of p slots w order_only = record {
   named = map (given p slots) w.named;
@@ -102,14 +102,14 @@ outputs_in (wiring.Command w) = w.outputs
 outputs_in (wiring.Gather g) = g.outputs
 outputs_in (wiring.Alone outputs) = outputs
 
--- the stamp and the flag of each output lie in its slots
+-- the stamp and the flag of each output are in its slots
 abbrev pub Leaves : List Output → Slots → Left → Type 0
 Leaves [] slots [] = Unit {0}
 Leaves (o ∷ os) slots (x ∷ xs) =
     (slice_get slots o.stamp ≡ Some (Some (Stamp x.0))) × (slice_get slots o.changed ≡ Some (Some (Flag x.1))) × Leaves os slots xs
 Leaves _ slots _ = ⊥
 
--- ---- what is asked of the numbers
+-- ---- the conditions on the numbers
 
 abbrev pub IsFile : Parts → ℕ → Type 0
 IsFile p f = nat_le (length p.files) f ≡ false
@@ -117,11 +117,11 @@ IsFile p f = nat_le (length p.files) f ≡ false
 abbrev pub IsText : Parts → ℕ → Type 0
 IsText p t = nat_le (length p.texts) t ≡ false
 
--- an own slot of that kind
+-- an own slot of this kind
 abbrev pub IsOwnOf : Parts → ℕ → Kind → ℕ → Type 0
 IsOwnOf p e k s = (owns p e s ≡ true) × (slot_kind p s ≡ k)
 
--- a slot of that kind of an edge waited for
+-- a slot of this kind that belongs to an edge that is waited for
 abbrev pub IsLentOf : Parts → ℕ → Kind → ℕ → Type 0
 IsLentOf p e k s = (owns p e s ≡ false) × (is_lent p e s ≡ true) × (slot_kind p s ≡ k)
 
@@ -176,7 +176,7 @@ abbrev pub ShareFirstFlag : List Output → Type 0
 ShareFirstFlag [] = Unit {0}
 ShareFirstFlag (o ∷ os) = ShareFlag o.changed os
 
--- each output has a flag slot of its own where the edge is restat, else all have the same
+-- each output has a flag slot of its own if the edge is restat; otherwise all have the same
 abbrev pub HaveFlagSlots : (restat : Bool) → List Output → Type 0
 HaveFlagSlots true os = HaveOwnFlags os
 HaveFlagSlots false os = ShareFirstFlag os
@@ -236,16 +236,18 @@ IsWired p e (wiring.Command w) = IsCommand p e w
 IsWired p e (wiring.Gather g) = IsGather p e g
 IsWired p e (wiring.Alone outputs) = IsAlone p e outputs
 
--- Its order-only inputs, as they are given, are those that the code asks for, and none where it is a phony alone.
+-- The order-only inputs, as given, are those that the code asks for. There are none if the edge is a phony
+-- without inputs.
 abbrev pub AreGiven : Parts → Slots → List Given → Wiring → Type 0
 AreGiven p slots order_only (wiring.Command w) = asked (map (given p slots) w.named) order_only ≡ map (source_file p) w.order_only
 AreGiven p slots order_only (wiring.Gather g) =
     (asked (map (given p slots) g.named) order_only ≡ map (source_file p) g.order_only) × ((has_none (map (given p slots) g.named) && has_none order_only) ≡ false)
 AreGiven p slots order_only (wiring.Alone outputs) = order_only ≡ []
 
--- ---- what the code of an edge means
+-- ---- the meaning of an edge's code
 
--- Run alone, with any slots that its waits may have left, the edge keeps to the rule, and leaves what the rule says.
+-- Run alone, with any slots that its waits may have left, the edge follows the rule, and its slots then have
+-- the values that the rule says.
 abbrev pub CodeMeans : Parts → ℕ → Wiring → Type 0
 CodeMeans p e w =
     (meaning : Meaning) (slots : Slots) (order_only : List Given) → AreTyped p slots → AreLentSet p e slots → AreGiven p slots order_only w

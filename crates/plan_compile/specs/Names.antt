@@ -21,7 +21,7 @@ abbrev pub or_command : (description command : Text) → Text
 or_command [] command = command
 or_command (c ∷ cs) command = c ∷ cs
 
--- what is shown of an edge: its description, or else its command; nothing of a phony
+-- the label of an edge: its description, or its command if there is none; empty for a phony
 abbrev pub label_by : (phony : Bool) → Build → Text
 label_by true x = []
 label_by false x = or_command x.edge.description x.edge.command
@@ -50,7 +50,7 @@ abbrev pub pool_by : (phony : Bool) → Text → List Text
 pool_by true name = []
 pool_by false name = unless_empty name
 
--- the name of an edge's pool, where it has one
+-- the name of an edge's pool, if it has one
 abbrev pub pool_in : Build → List Text
 pool_in x = pool_by x.edge.phony x.edge.pool
 

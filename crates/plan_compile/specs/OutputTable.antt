@@ -1,4 +1,4 @@
--- The outputs of all edges by file, as the code keeps them.
+-- The outputs of all edges by file, as the code stores them.
 use Rattle.std.specs.Prelude.{ℕ, Bool, false, not, List, [], ◌∷◌, Option, Some, None, if◌then◌else◌, slice_get, slice_set}
 use Rattle.plan_verify.specs.Members.{is_member}
 use Rattle.plan_compile.specs.declared.wiring.Input.{Input}
@@ -13,7 +13,7 @@ put_in table o (Some None) = slice_set table o.file (Some o)
 put_in table o (Some (Some other)) = table
 put_in table o None = table
 
--- an output comes to its file, unless one is there
+-- enters an output for its file, unless the file has one
 abbrev pub put : Table → Output → Table
 put table o = put_in table o (slice_get table o.file)
 
@@ -21,7 +21,7 @@ abbrev pub filled : Table → List Output → Table
 filled table [] = table
 filled table (o ∷ os) = filled (put table o) os
 
--- ---- what is read of it
+-- ---- look-ups in the table
 
 abbrev pub found : Option (Option Output) → Option Output
 found (Some o) = o
@@ -31,7 +31,7 @@ abbrev pub inputs_in : Table → List ℕ → List Input
 inputs_in table [] = []
 inputs_in table (f ∷ fs) = input_by f (found (slice_get table f)) ∷ inputs_in table fs
 
--- a source that isn't among some
+-- a source file that isn't among the named ones
 abbrev pub is_unmade : Option Output → Bool → Bool
 is_unmade (Some o) named = false
 is_unmade None named = not named

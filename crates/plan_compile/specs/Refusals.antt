@@ -1,4 +1,4 @@
--- Why a manifest has no image.
+-- The reasons why a manifest has no image.
 use Rattle.std.specs.Prelude.{◌≡◌, ◌⊎◌, ◌<◌, ◌≤◌, Bool, true, List, length, nat_lt}
 use Rattle.std.specs.List.{list_any}
 use Rattle.plan_scope.specs.declared.manifest.Manifest.{Manifest}
@@ -13,13 +13,13 @@ use Rattle.plan_compile.specs.Builds.{Build}
 use Rattle.plan_compile.specs.Images.{compiled}
 use Rattle.plan_compile.specs.Slots.{slot_count}
 
--- An image is refused for a limit only where it passes one. Memory is asked for only where there are no more files than an
--- image may have.
+-- An image is refused for a limit only if it exceeds one. Memory is only requested if there are no more files
+-- than an image may have.
 abbrev pub IsRefused : OutOfDateRule → Manifest → Graph → CompileFault → Type 0
 IsRefused rule m g Limit = IsWithinLimits (compiled rule m g) → ⊥
 IsRefused rule m g Memory = length g.files ≤ 4194304
 
--- the image of a manifest that has a graph has a spelling, unless it passes a limit
+-- the image of a manifest that has a graph has a spelling, unless it exceeds a limit
 abbrev pub ImageIsSpelled : Type 0
 ImageIsSpelled = (rule : OutOfDateRule) (m : Manifest) (g : Graph) → IsGraph m g → IsWithinLimits (compiled rule m g) → HasSpelling (compiled rule m g)
 
@@ -27,12 +27,13 @@ ImageIsSpelled = (rule : OutOfDateRule) (m : Manifest) (g : Graph) → IsGraph m
 abbrev pub is_too_long : List Instr → Bool
 is_too_long is = nat_lt 65536 (length is)
 
--- codes are refused for the length of one of them alone
+-- codes are refused only for the length of one of them
 abbrev pub RefusesCodes : CompileFault → List (List Instr) → Type 0
 RefusesCodes Limit codes = list_any is_too_long codes ≡ true
 RefusesCodes Memory codes = Unit {0}
 
--- so are edges, and for too many slots, which are counted before memory is asked for
+-- edges are refused for the length of a code, or for too many slots, which are counted before memory is
+-- requested
 abbrev pub RefusesEdges : CompileFault → List Build → List (List Instr) → Type 0
 RefusesEdges Limit xs codes = (16777216 < slot_count xs) ⊎ (list_any is_too_long codes ≡ true)
 RefusesEdges Memory xs codes = slot_count xs ≤ 16777216

@@ -1,4 +1,5 @@
--- When an edge is out of date, and what it does: by what comes in, what it asks, and what it leaves.
+-- The out-of-date rule: when an edge is out of date, and what it does, by its inputs, its questions, and the
+-- values that it leaves.
 use Rattle.std.specs.Prelude.{ℕ, zero, suc, Bool, true, false, not, ◌||◌, ◌&&◌, Result, Ok, Err, List, [], ◌∷◌, ◌++◌, map, Option, Some, None, nat_lt, ◌==◌, if◌then◌else◌}
 use Rattle.plan_verify.specs.declared.value.Cause.TheVariants.{MissingInput, StatFault, DepfileFault, DepfileMalformed, RecordFault}
 use Rattle.plan_verify.specs.declared.value.Cause.TheVariants as cause
@@ -12,7 +13,8 @@ use Rattle.plan_compile.specs.Talk.{Left, Talk, Ask, Over, Fail}
 abbrev pub Path : Type 0
 Path = List ℕ
 
--- an input: a source file with its number and path, or what an edge makes, with that edge's stamp and changed flag
+-- an input: a source file with its number and path, or an output of an edge with that edge's stamp and changed
+-- flag
 pub data Given : Type 0 where
   SourceFile : (file : ℕ) (path : Path) → Given
   Made : (stamp : ℕ) (changed : Bool) → Given
@@ -27,7 +29,7 @@ pub record Command : Type 0 where
   pub generator : Bool
   pub baseline : Baseline
 
--- what the record has of an edge
+-- the recorded entry of an edge
 pub record Recorded : Type 0 where
   pub command : List ℕ
   pub basis : ℕ
@@ -35,7 +37,7 @@ pub record Recorded : Type 0 where
 
 -- ---- questions
 
--- a file that has to be there
+-- a file that must exist
 abbrev pub needed : ℕ → (ℕ → Talk) → Reply → Talk
 needed f go (StampIs zero) = Fail (MissingInput f)
 needed f go (StampIs (suc n)) = go (suc n)
@@ -69,18 +71,18 @@ abbrev pub kept : Talk → Reply → Talk
 kept go Kept = go
 kept go _ = Fail RecordFault
 
--- the stamps of inputs: a source file has to be there, what an edge makes isn't asked for
+-- the stamps of inputs: a source file must exist, and an output of an edge isn't asked for
 abbrev pub inputs : List Given → (List ℕ → Talk) → Talk
 inputs [] go = go []
 inputs (SourceFile f path ∷ others) go = Ask (Stat path) (needed f (λ t. inputs others (λ ts. go (t ∷ ts))))
 inputs (Made t changed ∷ others) go = inputs others (λ ts. go (t ∷ ts))
 
--- the stamps of files, 0 where one is missing
+-- the stamps of files, 0 for a missing one
 abbrev pub stamps : List Path → (List ℕ → Talk) → Talk
 stamps [] go = go []
 stamps (path ∷ others) go = Ask (Stat path) (stamped (λ t. stamps others (λ ts. go (t ∷ ts))))
 
--- ---- what is asked of the inputs
+-- ---- the inputs that are asked for
 
 -- whether a source file is among these inputs
 abbrev pub is_among : ℕ → List Given → Bool
@@ -88,20 +90,20 @@ is_among f [] = false
 is_among f (SourceFile g path ∷ others) = (f == g) || is_among f others
 is_among f (Made t changed ∷ others) = is_among f others
 
--- the order-only inputs that are asked for: the source files that aren't named too
+-- the order-only inputs that are asked for: the source files that aren't also named inputs
 abbrev pub asked : (named order_only : List Given) → List Given
 asked named [] = []
 asked named (SourceFile f path ∷ others) = if is_among f named then asked named others else SourceFile f path ∷ asked named others
 asked named (Made t changed ∷ others) = asked named others
 
--- ---- what is compared
+-- ---- the comparisons
 
 -- the greatest of a stamp and these
 abbrev pub greatest_from : ℕ → List ℕ → ℕ
 greatest_from n [] = n
 greatest_from n (t ∷ ts) = greatest_from (later n t) ts
 
--- the greatest, and 0 of none
+-- the greatest of these, or 0 if there are none
 abbrev pub greatest : List ℕ → ℕ
 greatest ts = greatest_from 0 ts
 
@@ -110,7 +112,7 @@ abbrev pub least_from : ℕ → List ℕ → ℕ
 least_from n [] = n
 least_from n (t ∷ ts) = least_from (earlier n t) ts
 
--- the least, and 0 of none
+-- the least of these, or 0 if there are none
 abbrev pub least : List ℕ → ℕ
 least [] = 0
 least (t ∷ ts) = least_from t ts
@@ -120,25 +122,26 @@ abbrev pub some_missing : List ℕ → Bool
 some_missing [] = false
 some_missing (t ∷ ts) = (t == 0) || some_missing ts
 
--- whether an edge that makes one of them says that it changed
+-- whether the changed flag of one of them is set
 abbrev pub some_changed : List Given → Bool
 some_changed [] = false
 some_changed (SourceFile f path ∷ others) = some_changed others
 some_changed (Made t changed ∷ others) = changed || some_changed others
 
--- whether there is no entry, or one with another command
+-- whether there is no entry, or one with a different command
 abbrev pub is_new : List ℕ → Option Recorded → Bool
 is_new command None = true
 is_new command (Some entry) = not (same_text entry.command command)
 
--- The baseline of an edge by a rule: a restat edge has the recorded basis. By the stricter rule an edge that is neither
--- restat nor a generator has the earlier of the basis and the oldest output, by the specified rule the oldest output.
+-- The baseline of an edge under a rule. A restat edge has the recorded basis. By the stricter rule, an edge
+-- that is neither restat nor a generator has the earlier of the basis and the oldest output. By the specified
+-- rule it has the oldest output.
 abbrev pub baseline_by : (restat generator : Bool) → OutOfDateRule → Baseline
 baseline_by true generator rule = Basis
 baseline_by false false Stricter = OutputsAndBasis
 baseline_by false generator rule = Outputs
 
--- The stamp that the newest input must not pass. Without an entry it is the oldest output's.
+-- The stamp that the newest input must not exceed. Without an entry it is that of the oldest output.
 abbrev pub baseline : Baseline → (outputs : List ℕ) → Option Recorded → ℕ
 baseline Basis outputs (Some entry) = entry.basis
 baseline OutputsAndBasis outputs (Some entry) = earlier entry.basis (least outputs)
@@ -149,8 +152,9 @@ abbrev pub paths_in : Option Recorded → List Path
 paths_in (Some entry) = entry.paths
 paths_in None = []
 
--- An edge is dirty where an output is missing, a named input changed, the command is new and the edge no generator, a
--- recorded path is missing, or the newest of the named inputs and the recorded paths is later than the baseline.
+-- An edge is dirty if an output is missing, a named input changed, the command is new and the edge no
+-- generator, a recorded path is missing, or the newest of the named inputs and the recorded paths is later than
+-- the baseline.
 abbrev pub is_dirty : Command → (named old : List ℕ) → Option Recorded → (swept : List ℕ) → Bool
 is_dirty c named old entry swept =
     some_missing old
@@ -173,18 +177,18 @@ name c = first c.outputs
 abbrev pub unchanged : List ℕ → Left
 unchanged ts = map (λ t. (t, false)) ts
 
--- outputs after the command: those of a restat edge are changed where their stamps are
+-- outputs after the command: those of a restat edge are changed if their stamps are
 abbrev pub changed : (restat : Bool) → (old new : List ℕ) → Left
 changed restat (a ∷ old) (b ∷ new) = (b, not restat || not (a == b)) ∷ changed restat old new
 changed restat _ _ = []
 
--- the paths of the depfile, none where the edge has no depfile
+-- the paths of the depfile; none if the edge has no depfile
 abbrev pub depfile : Meaning → List ℕ → (List Path → Talk) → Talk
 depfile meaning [] go = go []
 depfile meaning (c ∷ cs) go = Ask (Deps (c ∷ cs)) (read meaning go)
 
--- A dirty edge, once it has its place: it runs its command, asks for the depfile and for its paths, keeps an entry whose
--- basis is the newest of what it read, and asks for its outputs again.
+-- A dirty edge, after it got its job token: it runs its command, asks for the depfile and for its paths,
+-- records an entry whose basis is the newest stamp that it read, and asks for its outputs again.
 abbrev pub runs : Meaning → Command → (named old : List ℕ) → Talk
 runs meaning c named old =
     Ask (Run c.command c.outputs) (exited (
@@ -194,8 +198,8 @@ runs meaning c named old =
     stamps c.outputs λ new.
     Over true (changed c.restat old new)))))
 
--- A command edge asks for its order-only and its named source files, its outputs, its entry, and the recorded paths. Then
--- it is dirty, or it is clean and over.
+-- A command edge asks for its order-only and its named source files, its outputs, its entry, and the recorded
+-- paths. Then it is dirty, or it is clean and ends.
 abbrev pub does : Meaning → Command → Talk
 does meaning c =
     inputs (asked c.named c.order_only) λ _.
@@ -211,14 +215,14 @@ abbrev pub has_none : List Given → Bool
 has_none [] = true
 has_none (i ∷ is) = false
 
--- without any input each output is as its file is
+-- without inputs, each output has the stamp of its file
 abbrev pub alone : List Path → Talk
 alone outputs = stamps outputs λ ts. Over false (map (λ t. (t, t == 0)) ts)
 
--- with inputs all outputs are as the named ones are
+-- with inputs, all outputs have the stamp and the flag of the named ones
 abbrev pub gathers : Command → Talk
 gathers c = inputs (asked c.named c.order_only) λ _. inputs c.named λ ts. Over false (map (λ path. (greatest ts, some_changed c.named)) c.outputs)
 
--- whether it has inputs is asked of the inputs as they are given
+-- whether it has inputs is tested on the inputs as given
 abbrev pub does_phony : Command → Talk
 does_phony c = if has_none c.named && has_none c.order_only then alone c.outputs else gathers c

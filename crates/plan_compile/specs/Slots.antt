@@ -1,4 +1,4 @@
--- The slots of each edge, and where the stamp of each input comes from.
+-- The slots of each edge, and the source of each input's stamp.
 use Rattle.std.specs.Prelude.{ℕ, zero, suc, ◌+◌, Bool, true, false, ◌||◌, ◌&&◌, ◌==◌, List, [], ◌∷◌, ◌++◌, length, Option, Some, None, is_some, if◌then◌else◌}
 use Rattle.plan_image.specs.declared.instr.Kind.{Kind}
 use Rattle.plan_image.specs.declared.instr.Kind.TheVariants.{Stamp, Flag}
@@ -23,7 +23,7 @@ form_by true restat false = Gathers
 form_by false true none = OwnFlags
 form_by false false none = OneFlag
 
--- the outputs of an edge without restat change together; a phony with inputs is as they are
+-- the outputs of an edge without restat change together; the outputs of a phony with inputs change with these
 abbrev pub form_of : Build → Form
 form_of x = form_by x.edge.phony x.edge.restat (has_none x.named && has_none x.order_only)
 
@@ -37,7 +37,7 @@ abbrev pub pairs : List ℕ → List Kind
 pairs [] = []
 pairs (f ∷ fs) = Stamp ∷ Flag ∷ pairs fs
 
--- those of the outputs; an edge with a command has one for the newest input's stamp too
+-- the slots of the outputs; an edge with a command also has one for the newest input's stamp
 abbrev pub kinds_by : Form → List ℕ → List Kind
 kinds_by OneFlag outputs = Flag ∷ Stamp ∷ stamps outputs
 kinds_by OwnFlags outputs = Stamp ∷ pairs outputs
@@ -73,7 +73,7 @@ outputs_by OwnFlags b outputs = outputs_apart (suc b) outputs
 outputs_by Gathers b outputs = outputs_sharing b (suc b) outputs
 outputs_by Alone b outputs = outputs_apart b outputs
 
--- an edge's outputs, its own slots being those from b on
+-- an edge's outputs, if its own slots begin at b
 abbrev pub made : ℕ → Build → List Output
 made b x = outputs_by (form_of x) b x.outputs
 
@@ -84,7 +84,7 @@ newest_by _ b = b
 
 -- ---- all edges
 
--- the newest input's slot of each of these edges, whose slots are those from b on
+-- the newest input's slot of each of these edges, whose slots begin at b
 abbrev pub newest_from : ℕ → List Build → List ℕ
 newest_from b [] = []
 newest_from b (x ∷ xs) = newest_by (form_of x) b ∷ newest_from (b + own_len x) xs
@@ -98,18 +98,18 @@ abbrev pub slots_from : ℕ → List Build → List Slot
 slots_from e [] = []
 slots_from e (x ∷ xs) = owned e (own_kinds x) ++ slots_from (suc e) xs
 
--- how many slots these edges have
+-- the number of slots of these edges
 abbrev pub slot_count : List Build → ℕ
 slot_count [] = zero
 slot_count (x ∷ xs) = own_len x + slot_count xs
 
--- the first own slot of the edge of this number
+-- the first own slot of the edge with this number
 abbrev pub base : List Build → ℕ → ℕ
 base [] e = zero
 base (x ∷ xs) zero = zero
 base (x ∷ xs) (suc e) = own_len x + base xs e
 
--- the outputs of these edges, whose slots are those from b on
+-- the outputs of these edges, whose slots begin at b
 abbrev pub all_made : ℕ → List Build → List Output
 all_made b [] = []
 all_made b (x ∷ xs) = made b x ++ all_made (b + own_len x) xs
@@ -125,17 +125,17 @@ abbrev pub input_by : ℕ → Option Output → Input
 input_by f (Some o) = Made o.stamp o.changed
 input_by f None = File f
 
--- what an edge makes has its maker's slots; any other file is asked for
+-- an output of an edge has its producer's slots; any other file is asked for
 abbrev pub inputs_by : List Output → List ℕ → List Input
 inputs_by outputs [] = []
 inputs_by outputs (f ∷ fs) = input_by f (find f outputs) ∷ inputs_by outputs fs
 
--- the order-only sources that aren't named too
+-- the order-only source files that aren't also named inputs
 abbrev pub sources : List Output → (named : List ℕ) → List ℕ → List ℕ
 sources outputs named [] = []
 sources outputs named (f ∷ fs) = if is_some (find f outputs) || is_member f named then sources outputs named fs else f ∷ sources outputs named fs
 
--- these numbers and some more, each once, ascending
+-- these numbers and some more, ascending, without repetitions
 abbrev pub members_from : List ℕ → List ℕ → List ℕ
 members_from ms [] = ms
 members_from ms (n ∷ ns) = members_from (with_member n ms) ns
@@ -148,6 +148,6 @@ abbrev pub flags_from : List ℕ → List Input → List ℕ
 flags_from flags [] = flags
 flags_from flags (i ∷ is) = flags_from (with_flag flags i) is
 
--- the flag slots of these inputs, each once, ascending
+-- the flag slots of these inputs, ascending, without repetitions
 abbrev pub flags_once : List Input → List ℕ
 flags_once inputs = flags_from [] inputs

@@ -1,10 +1,10 @@
--- What the stricter out-of-date rule has to do with the specified one.
+-- The relation of the stricter out-of-date rule to the specified one.
 use Rattle.std.specs.Prelude.{◌≡◌, ◌<◌, ◌≤◌, ℕ, true, false, List, ◌++◌, Option, Some}
 use Rattle.plan_compile.specs.declared.baseline.OutOfDateRule.{OutOfDateRule}
 use Rattle.plan_compile.specs.declared.baseline.OutOfDateRule.TheVariants.{Specified, Stricter}
 use Rattle.plan_compile.specs.Rule.{Command, Recorded, baseline_by, greatest, least, some_missing, some_changed, is_dirty}
 
--- an edge by one of the rules: they differ only in its baseline
+-- an edge under one of the rules, which differ only in its baseline
 abbrev pub by_rule : OutOfDateRule → Command → Command
 by_rule rule c = record {
   named = c.named;
@@ -23,15 +23,15 @@ StricterIsNoLaxer =
     (c : Command) (named outputs : List ℕ) (entry : Option Recorded) (recorded : List ℕ)
     → is_dirty (by_rule Specified c) named outputs entry recorded ≡ true → is_dirty (by_rule Stricter c) named outputs entry recorded ≡ true
 
--- An edge that is neither restat nor a generator is dirty by the stricter rule if a named input or a recorded path is
--- later than the basis of its entry, whatever stamps its outputs have.
+-- By the stricter rule, an edge that is neither restat nor a generator is dirty if a named input or a recorded
+-- path is later than the basis of its entry, whatever stamps its outputs have.
 abbrev pub ChangesAreSeen : Type 0
 ChangesAreSeen =
     (c : Command) (named outputs : List ℕ) (entry : Recorded) (recorded : List ℕ) → c.restat ≡ false → c.generator ≡ false
     → entry.basis < greatest (named ++ recorded) → is_dirty (by_rule Stricter c) named outputs (Some entry) recorded ≡ true
 
--- An edge as its command left it: its command and the newest of its named inputs and recorded paths are those of its
--- entry, no input changed, no file is missing, and no output is older than the inputs and the paths.
+-- An edge as its command left it: its command and the newest of its named inputs and recorded paths are those
+-- of its entry, no input changed, no file is missing, and no output is older than the inputs and the paths.
 pub record IsUnchanged (c : Command) (named outputs : List ℕ) (entry : Recorded) (recorded : List ℕ) : Type 0 where
   pub command : entry.command ≡ c.command
   pub basis : entry.basis ≡ greatest (named ++ recorded)

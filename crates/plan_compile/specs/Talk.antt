@@ -1,4 +1,4 @@
--- What an edge asks and how it ends, as a tree: a question with what each reply leads to, or an end.
+-- The questions of an edge and its end, as a tree: a question with the continuation for each reply, or an end.
 use Rattle.std.specs.Prelude.{◌≡◌, ℕ, Bool, true, false, List, [], ◌∷◌, Some}
 use Rattle.plan_image.specs.declared.image.Parts.{Parts}
 use Rattle.plan_verify.specs.declared.value.Cause.{Cause}
@@ -14,8 +14,8 @@ pub data Talk : Type 0 where
   Over : (ran : Bool) → Left → Talk
   Fail : Cause → Talk
 
--- An edge run alone keeps to a talk. Its steps lead, after finitely many, to the question that the talk asks; after each
--- reply that it hears it keeps to what that reply leads to; it ends and fails where the talk does, and in no other way.
+-- An edge run alone follows a talk. After finitely many steps it asks the question of the talk. After each
+-- reply it follows the continuation for that reply. It ends and fails when the talk does, and in no other way.
 pub data Obeys (meaning : Meaning) (p : Parts) (e : ℕ) (Leaves : Slots → Left → Type 0) : Alone → Talk → Type 0 where
   is_over : {ran : Bool} {slots : Slots} {left : Left} → Leaves slots left → Obeys meaning p e Leaves (record { stage = Ended ran; slots = slots }) (Over ran left)
   has_failed : {cause : Cause} {slots : Slots} → Obeys meaning p e Leaves (record { stage = Failed cause; slots = slots }) (Fail cause)

@@ -1,4 +1,4 @@
--- What the rule is told of an edge of a manifest, and what is promised of the edge's code.
+-- The facts of a manifest's edge that the rule is applied to, and the laws about the edge's code.
 use Rattle.std.specs.Prelude.{ℕ, zero, Bool, true, false, List, map, Option, Some, None, slice_get}
 use Rattle.plan_verify.specs.Turn.{Slots, Meaning, Request, Reply}
 use Rattle.plan_verify.specs.Alone.{Alone, at_begin, RunsAlone}
@@ -23,11 +23,11 @@ abbrev pub told_by : Builds → Slots → ℕ → Option Output → Given
 told_by t slots f (Some o) = MadeBy (stamp_at slots o.stamp) (flag_at slots o.changed)
 told_by t slots f None = SourceFile f (path_in t f)
 
--- of an input: the stamp and the flag that its maker left, or the source's number and path
+-- an input: the stamp and the flag that its producer left, or the source file's number and path
 abbrev pub told : Builds → Slots → ℕ → Given
 told t slots f = told_by t slots f (find f (all_made zero t.edges))
 
--- of an edge: its inputs, and what the manifest says of it
+-- an edge: its inputs, and its bindings in the manifest
 abbrev pub facts : Builds → Slots → Build → Command
 facts t slots x = record {
   named = map (told t slots) x.named;
@@ -44,14 +44,16 @@ abbrev pub edge_does : (phony : Bool) → Meaning → Command → Talk
 edge_does true meaning c = does_phony c
 edge_does false meaning c = does meaning c
 
--- Each edge, run alone with what its waits left, keeps to the rule, and leaves in its slots what the rule says.
+-- Each edge, run alone with the values that its waits left, follows the rule, and its slots then have the
+-- values that the rule says.
 abbrev pub ImageMeans : Type 0
 ImageMeans =
     (t : Builds) → IsSound t → (e : ℕ) (x : Build) → IsEdge t e x
     → (meaning : Meaning) (slots : Slots) → AreTyped (image_of t) slots → AreLentSet (image_of t) e slots
     → Obeys meaning (image_of t) e (Leaves (made (base t.edges e) x)) (at_begin slots) (edge_does x.edge.phony meaning (facts t slots x))
 
--- What an edge that ran by itself was told leads along the rule, and the edge keeps to what is left of it.
+-- The questions and replies of an edge that ran by itself lead along the rule, and the edge follows the rest of
+-- it.
 abbrev pub ImageKeepsToRule : Type 0
 ImageKeepsToRule =
     (t : Builds) → IsSound t → (e : ℕ) (x : Build) → IsEdge t e x
@@ -59,8 +61,8 @@ ImageKeepsToRule =
     → (n : ℕ) (told : List (Request × Reply)) (y : Alone) → RunsAlone meaning (image_of t) e n (at_begin slots) told y
     → (rest : Talk) × Follows (edge_does x.edge.phony meaning (facts t slots x)) told rest × Obeys meaning (image_of t) e (Leaves (made (base t.edges e) x)) y rest
 
--- The numbers of each edge are right in the image: the slots of its outputs are its own, and those of a named input that
--- an edge makes are lent to it.
+-- The numbers of each edge are right in the image: the slots of its outputs are its own, and those of a named
+-- input that another edge produces belong to an edge that is waited for.
 abbrev pub ImageIsWired : Type 0
 ImageIsWired = (t : Builds) → IsSound t → (e : ℕ) (x : Build) → IsEdge t e x → IsWired (image_of t) e (wire (all_texts t.edges) (all_made zero t.edges) (base t.edges e) x)
 

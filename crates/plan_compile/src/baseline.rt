@@ -1,4 +1,4 @@
-//! The out-of-date rule that an image is compiled for, and the baseline that it gives an edge.
+//! The out-of-date rule that an image is compiled for, and the baseline of an edge under it.
 
 /// The out-of-date rule that an image is compiled for.
 #[derive(Clone, Copy, Debug, PartialEq, Eq)]
@@ -9,7 +9,8 @@ pub enum OutOfDateRule {
     Stricter,
 }
 
-/// The stamp that the newest input of an edge must not pass. Without a recorded entry it is that of the oldest output.
+/// The stamp that the newest input of an edge must not exceed. Without a recorded entry it is that of the
+/// oldest output.
 #[derive(Clone, Copy, Debug, PartialEq, Eq)]
 pub enum Baseline {
     /// The stamp of the oldest output.

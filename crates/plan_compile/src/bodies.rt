@@ -1,4 +1,4 @@
-//! The bodies of codes, as they come.
+//! The bodies of codes, in the order of first use.
 
 ghost use Rattle.std.specs.Prelude.{◌<◌};
 
@@ -9,23 +9,25 @@ use plan_text::{Items, Memory};
 use std::alloc::Global;
 use std::marker::Model;
 
-/// How many bodies are remembered.
+/// The number of bodies that are remembered.
 const REMEMBERED: usize = 64;
 
-/// Under which place the body of a code is remembered. Codes share one only if their lengths differ by a multiple of 64.
+/// Returns the index under which the body of a code is remembered. Two codes share an index only if their
+/// lengths differ by a multiple of 64.
 fn memory_place(code: &Code) -> usize
     ensures { result < 64 }
 {
     code.len() % REMEMBERED
 }
 
-/// The bodies of codes, each once, in the order of first use. Most codes have the body that a code of their length had
-/// last, which is looked at first: then no body is made, and none is looked up.
+/// The bodies of codes, without repetitions, in the order of first use. Most codes have the same body as the
+/// last code of their length. That body is compared first, so in most cases no body is created and no table is
+/// searched.
 #[derive(Drop)]
 pub(crate) struct Bodies {
     table: BodyTable,
-    /// The number that was given last, by the length of its code. Any number may stand here, since it is looked at before
-    /// it is taken.
+    /// The numbers that were given last, indexed by the length of the code. An entry can be any number, because
+    /// it is checked before it is used.
     remembered: [u32; REMEMBERED],
 }
 
@@ -44,7 +46,7 @@ impl Bodies {
     ghost use Rattle.plan_compile.specs.BodyKeys.{same_body};
     ghost use Rattle.plan_compile.specs.Numbering.{number, with_item};
 
-    /// No body.
+    /// Creates an empty list of bodies.
     pub(crate) fn new(alloc: Global) -> Self
         ensures { result ≡ [] }
     {
@@ -54,7 +56,7 @@ impl Bodies {
         }
     }
 
-    /// The number of the body that is remembered, where it is the body of a code.
+    /// Returns the number of the remembered body if it is the body of a code. Returns None otherwise.
     fn known(&self, code: &Code) -> Option<u32>
         ensures there { IfSome result (λ n. slice_get self.now n ≡ Some (body_of code.now)) }
         ensures first { IfSome result (λ n. n ≡ number same_body (body_of code.now) self.now) }
@@ -67,7 +69,7 @@ impl Bodies {
         }
     }
 
-    /// Puts the body of a code last, unless it is there, and gives its number.
+    /// Appends the body of a code unless it is in the list, and returns its number.
     fn put_other(&mut self, alloc: Global, code: &Code) -> Result<u32, Memory>
         requires { length self.old ≤ 1048576 }
         ensures bodies { OnOk result (self.new ≡ with_item same_body self.old (body_of code.now)) }
@@ -79,7 +81,7 @@ impl Bodies {
         Ok(number)
     }
 
-    /// Puts the body of a code last, unless it is there, and gives its number.
+    /// Appends the body of a code unless it is in the list, and returns its number.
     pub(crate) fn put(&mut self, alloc: Global, code: &Code) -> Result<u32, Memory>
         requires { length self.old ≤ 1048576 }
         ensures bodies { OnOk result (self.new ≡ with_item same_body self.old (body_of code.now)) }
@@ -92,7 +94,7 @@ impl Bodies {
         }
     }
 
-    /// The bodies in their order.
+    /// Returns the bodies in their order.
     pub(crate) fn into_items(self) -> Items<Body>
         ensures { result ≡ self }
     {

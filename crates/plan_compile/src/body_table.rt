@@ -10,14 +10,14 @@ use plan_text::{Items, Memory};
 use std::alloc::{AllocError, Global};
 use std::marker::Model;
 
-/// Whether two keys are equal.
+/// Returns whether two keys are equal.
 fn is_same(key: &[u64], other: &[u64]) -> bool
     ensures { IsTrue result ↔ (key.now ≡ other.now) }
 {
     key == other
 }
 
-/// A copy of a key.
+/// Returns a copy of a key.
 fn copied(alloc: Global, key: &[u64]) -> Result<Vec<u64>, AllocError>
     ensures { IfOk result (λ copy. copy.items ≡ key.now) }
 {
@@ -26,7 +26,7 @@ fn copied(alloc: Global, key: &[u64]) -> Result<Vec<u64>, AllocError>
     Ok(copy)
 }
 
-/// Bodies, each once, in the order in which they came.
+/// Bodies, without repetitions, in the order in which they were added.
 #[derive(Drop)]
 pub(crate) struct BodyTable {
     keys: IndexSet<Vec<u64>>,
@@ -50,7 +50,7 @@ impl BodyTable {
     ghost use Rattle.plan_compile.specs.BodyKeys.{same_body};
     ghost use Rattle.plan_compile.specs.Numbering.{number, with_item};
 
-    /// No body.
+    /// Creates an empty table.
     pub(crate) fn new(alloc: Global) -> Self
         ensures { result ≡ [] }
     {
@@ -60,7 +60,7 @@ impl BodyTable {
         }
     }
 
-    /// Whether the body at this place is there, and is that of a code.
+    /// Returns whether the table has a body with this number that is the body of a code.
     pub(crate) fn is_at(&self, place: u32, code: &Code) -> bool
         ensures there { IsTrue result ↔ (slice_get self.now place ≡ Some (body_of code.now)) }
         ensures first { IsTrue result → place ≡ number same_body (body_of code.now) self.now }
@@ -71,7 +71,7 @@ impl BodyTable {
         }
     }
 
-    /// Puts the body of a code last, unless it is there, and gives its number.
+    /// Appends the body of a code unless it is in the table, and returns its number.
     pub(crate) fn put(&mut self, alloc: Global, code: &Code) -> Result<u32, Memory>
         requires { length self.old ≤ 1048576 }
         ensures bodies { OnOk result (self.new ≡ with_item same_body self.old (body_of code.now)) }
@@ -89,7 +89,7 @@ impl BodyTable {
         Ok(word(place))
     }
 
-    /// The bodies in their order.
+    /// Returns the bodies in their order.
     pub(crate) fn into_items(self) -> Items<Body>
         ensures { result ≡ self }
     {

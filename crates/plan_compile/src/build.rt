@@ -1,4 +1,4 @@
-//! The edges of a manifest, each with its files by their numbers.
+//! The edges of a manifest, with their files by number.
 
 ghost use Rattle.std.specs.Prelude.{◌≡◌, ◌<◌, ◌≤◌, ◌++◌, IfOk, OnOk, drop, filter, get_or, length, not, slice_get, slice_index, slice_range, take};
 ghost use Rattle.plan_scope.specs.Edge.{Edge as EdgeMeant};
@@ -15,13 +15,13 @@ use plan_text::Items;
 use std::alloc::{AllocError, Global};
 use std::marker::Model;
 
-/// An edge with its files by their numbers. A contract sees the edge and the numbers.
+/// An edge with its files by number. A contract sees the edge and the numbers.
 #[derive(Drop)]
 pub(crate) struct Build<'a> {
     edges: &'a EdgeList,
-    /// The number of the edge among them.
+    /// The number of the edge in the list.
     number: u32,
-    /// The outputs, the named inputs, the order-only ones and the waits, one list behind the other.
+    /// The outputs, the named inputs, the order-only inputs and the waits, as consecutive lists.
     numbers: Vec<u32>,
     named_at: usize,
     order_only_at: usize,
@@ -41,7 +41,7 @@ impl<'a> Model for Build<'a> {
     ghost invariant = { λ b. (b.number < length b.edges.now) × (b.named_at ≤ b.order_only_at) × (b.order_only_at ≤ b.waits_at) × (b.waits_at ≤ length b.numbers.items) };
 }
 
-/// The numbers from a place on, up to another.
+/// Returns the numbers from `start` up to `end`.
 fn cut(numbers: &[u32], start: usize, end: usize) -> &[u32]
     requires { (start ≤ end) × (end ≤ length numbers.now) }
     ensures { result.now ≡ slice_range numbers.now start end }
@@ -52,49 +52,49 @@ fn cut(numbers: &[u32], start: usize, end: usize) -> &[u32]
 impl<'a> Build<'a> {
     ghost use Rattle.std.specs.Prelude.{◌≡◌};
 
-    /// The edge of the manifest.
+    /// Borrows the edge of the manifest.
     pub(crate) fn edge(&self) -> EdgeRef<'a>
         ensures { result ≡ self.now.edge }
     {
         self.edges.edge(self.number as usize)
     }
 
-    /// The numbers of its outputs.
+    /// Returns the numbers of its outputs.
     pub(crate) fn outputs(&self) -> &[u32]
         ensures { result.now ≡ self.now.outputs }
     {
         cut(&self.numbers, 0, self.named_at)
     }
 
-    /// The numbers of its explicit and implicit inputs.
+    /// Returns the numbers of its explicit and implicit inputs.
     pub(crate) fn named(&self) -> &[u32]
         ensures { result.now ≡ self.now.named }
     {
         cut(&self.numbers, self.named_at, self.order_only_at)
     }
 
-    /// The numbers of its order-only inputs.
+    /// Returns the numbers of its order-only inputs.
     pub(crate) fn order_only(&self) -> &[u32]
         ensures { result.now ≡ self.now.order_only }
     {
         cut(&self.numbers, self.order_only_at, self.waits_at)
     }
 
-    /// The edges that it waits for.
+    /// Returns the edges that it waits for.
     pub(crate) fn waits(&self) -> &[u32]
         ensures { result.now ≡ self.now.waits }
     {
         &self.numbers[self.waits_at..]
     }
 
-    /// Its rank.
+    /// Returns its rank.
     pub(crate) fn rank(&self) -> u32
         ensures { result ≡ self.now.rank }
     {
         self.rank
     }
 
-    /// Its baseline.
+    /// Returns its baseline.
     pub(crate) fn baseline(&self) -> Baseline
         ensures { result ≡ self.now.baseline }
     {
@@ -102,7 +102,7 @@ impl<'a> Build<'a> {
     }
 }
 
-/// A number of 32 bits.
+/// Converts a number that fits into 32 bits.
 pub(crate) const fn word(number: usize) -> u32
     requires { IsWord number }
     ensures { result ≡ number }
@@ -110,14 +110,14 @@ pub(crate) const fn word(number: usize) -> u32
     number as u32
 }
 
-/// These numbers once more.
+/// Returns a copy of these numbers.
 pub(crate) fn words(alloc: Global, numbers: &[u32]) -> Result<Items<u32>, AllocError>
     ensures { IfOk result (λ ws. ws ≡ numbers.now) }
 {
     Ok(Items::new(Vec::from_slice(alloc, numbers)?))
 }
 
-/// Appends these numbers, and tells how many there are then.
+/// Appends numbers, and returns the length of the list after that.
 fn push_words(words: &mut Vec<u32>, numbers: &[u32]) -> Result<usize, AllocError>
     ensures more { OnOk result (words.new.items ≡ words.old.items ++ numbers.now) }
     ensures len { IfOk result (λ len. len ≡ length words.new.items) }
@@ -126,7 +126,7 @@ fn push_words(words: &mut Vec<u32>, numbers: &[u32]) -> Result<usize, AllocError
     Ok(words.len())
 }
 
-/// Whether the edge of this number makes a file.
+/// Returns whether edge `edge` has a file as an output.
 fn makes<'a>(files: &Files<'a>, edge: u32, file: u32) -> bool
     ensures { result ≡ is_maker (producer_at files.now file) edge }
 {
@@ -136,7 +136,7 @@ fn makes<'a>(files: &Files<'a>, edge: u32, file: u32) -> bool
     }
 }
 
-/// Appends these numbers of files without those of files that the edge of this number makes.
+/// Appends the numbers of files, except outputs of edge `edge`. Returns the length of the list after that.
 fn push_not_made_by<'a>(
     words: &mut Vec<u32>,
     files: &Files<'a>,
@@ -154,7 +154,7 @@ fn push_not_made_by<'a>(
     Ok(words.len())
 }
 
-/// The first of these, at most so many.
+/// Returns the first `count` numbers, or all if there are fewer.
 fn front(numbers: &[u32], count: usize) -> &[u32]
     ensures { result.now ≡ take count numbers.now }
 {
@@ -165,7 +165,7 @@ fn front(numbers: &[u32], count: usize) -> &[u32]
     }
 }
 
-/// What is behind the first so many.
+/// Returns the numbers after the first `count`, or none if there are fewer.
 fn back(numbers: &[u32], count: usize) -> &[u32]
     ensures { result.now ≡ drop count numbers.now }
 {
@@ -176,7 +176,7 @@ fn back(numbers: &[u32], count: usize) -> &[u32]
     }
 }
 
-/// The number at a place, 0 where there are not as many.
+/// Returns the number at a place, or 0 if there are fewer numbers.
 fn number_at(numbers: &[u32], place: usize) -> u32
     ensures { result ≡ slice_index numbers.now place }
 {
@@ -186,7 +186,8 @@ fn number_at(numbers: &[u32], place: usize) -> u32
     }
 }
 
-/// Appends these numbers; of a phony without those of files that it makes.
+/// Appends numbers of files. If the edge is a phony, its own outputs are left out. Returns the length of the
+/// list after that.
 fn push_kept<'a>(
     words: &mut Vec<u32>,
     files: &Files<'a>,
@@ -204,7 +205,7 @@ fn push_kept<'a>(
     }
 }
 
-/// Returns the baseline of an edge by a rule.
+/// Returns the baseline of an edge under a rule.
 fn baseline_by(restat: bool, generator: bool, rule: OutOfDateRule) -> Baseline
     ensures { result ≡ baseline_by restat generator rule }
 {
@@ -220,7 +221,7 @@ fn baseline_by(restat: bool, generator: bool, rule: OutOfDateRule) -> Baseline
     }
 }
 
-/// The edge of this number.
+/// Returns edge `number` of the manifest.
 fn numbered<'a, 'b>(
     alloc: Global,
     manifest: &'a Manifest,
@@ -260,7 +261,7 @@ fn numbered<'a, 'b>(
     })
 }
 
-/// All edges.
+/// Returns all edges of the manifest.
 pub(crate) fn builds<'a, 'b>(
     alloc: Global,
     manifest: &'a Manifest,

@@ -1,4 +1,4 @@
-//! The code of an edge, as it is made.
+//! The code of an edge while it is generated.
 
 ghost use Rattle.std.specs.Prelude.{◌≡◌, ◌++◌, ◌∷◌, [], All, IfOk, OnOk};
 ghost use Rattle.plan_image.specs.Bodies.{leave_open, open_operand, with_operands};
@@ -11,7 +11,7 @@ use plan_text::Memory;
 use std::alloc::{AllocError, Global};
 use std::marker::Model;
 
-/// Appends an instruction that a body fixes.
+/// Appends an instruction that the body has with its operand.
 #[inline(always)]
 fn put_fixed(key: &mut Vec<u64>, instr: Instr) -> Result<(), AllocError>
     ensures key { OnOk result (key.new.items ≡ key.old.items ++ member_number (member.Fixed instr) ∷ []) }
@@ -21,7 +21,7 @@ fn put_fixed(key: &mut Vec<u64>, instr: Instr) -> Result<(), AllocError>
     Ok(())
 }
 
-/// Appends an instruction that a body leaves open, and its operand.
+/// Appends an instruction that the body leaves open, and its operand.
 #[inline(always)]
 fn put_open(
     key: &mut Vec<u64>,
@@ -38,7 +38,7 @@ fn put_open(
     Ok(())
 }
 
-/// Appends what a body has of an instruction, and its operand where that is left open.
+/// Appends an instruction to the body, and its operand to the operands if it is left open.
 #[inline(always)]
 fn put(key: &mut Vec<u64>, operands: &mut Vec<u32>, instr: Instr) -> Result<(), AllocError>
     ensures key { OnOk result (key.new.items ≡ key.old.items ++ member_number (leave_open instr) ∷ []) }
@@ -55,7 +55,7 @@ fn put(key: &mut Vec<u64>, operands: &mut Vec<u32>, instr: Instr) -> Result<(), 
     }
 }
 
-/// The instructions of a key.
+/// Returns the instructions of a key.
 fn members_of(alloc: Global, key: &[u64]) -> Result<Vec<BodyInstr>, AllocError>
     requires { All IsSmall key.now }
     ensures { IfOk result (λ members. members.items ≡ body_at key.now) }
@@ -67,7 +67,7 @@ fn members_of(alloc: Global, key: &[u64]) -> Result<Vec<BodyInstr>, AllocError>
     Ok(members)
 }
 
-/// The instructions of a body, with these operands put in.
+/// Returns the instructions of a body with these operands filled in.
 fn filled(alloc: Global, body: &Body, operands: &[u32]) -> Result<Vec<Instr>, AllocError>
     ensures { IfOk result (λ instrs. instrs.items ≡ with_operands body.now operands.now) }
 {
@@ -81,8 +81,8 @@ fn filled(alloc: Global, body: &Body, operands: &[u32]) -> Result<Vec<Instr>, Al
     Ok(instrs)
 }
 
-/// The code of an edge: the key of its body, and the operands that the body leaves open. So bodies are compared as lists
-/// of numbers, and no list of instructions is made. A contract sees the instructions.
+/// The code of an edge: the key of its body, and the operands that the body leaves open. With this form, bodies
+/// are compared as lists of numbers, and no list of instructions is created. A contract sees the instructions.
 #[derive(Drop)]
 pub(crate) struct Code {
     key: Vec<u64>,
@@ -106,7 +106,7 @@ impl Code {
     ghost use Rattle.plan_image.specs.Bodies.{body_of, operands_of};
     ghost use Rattle.plan_compile.specs.BodyKeys.{key_of};
 
-    /// No code.
+    /// Creates an empty code.
     pub(crate) fn new(alloc: Global) -> Code
         ensures { result ≡ [] }
     {
@@ -124,7 +124,7 @@ impl Code {
         self.operands.clear();
     }
 
-    /// Appends an instruction. A code that there is no memory for is emptied.
+    /// Appends an instruction. If memory runs out, the code is emptied.
     #[inline(always)]
     pub(crate) fn push(&mut self, instr: Instr) -> Result<(), AllocError>
         ensures { OnOk result (self.new ≡ self.old ++ instr ∷ []) }
@@ -140,28 +140,28 @@ impl Code {
         }
     }
 
-    /// How many instructions there are.
+    /// Returns the number of instructions.
     pub(crate) fn len(&self) -> usize
         ensures { result ≡ length self.now }
     {
         self.key.len()
     }
 
-    /// The key of the body, lent.
+    /// Borrows the key of the body.
     pub(crate) fn key(&self) -> &[u64]
         ensures { result.now ≡ key_of (body_of self.now) }
     {
         self.key.as_slice()
     }
 
-    /// The operands that the body leaves open, lent.
+    /// Borrows the operands that the body leaves open.
     pub(crate) fn operands(&self) -> &[u32]
         ensures { result.now ≡ operands_of self.now }
     {
         self.operands.as_slice()
     }
 
-    /// The body.
+    /// Returns the body.
     pub(crate) fn body(&self, alloc: Global) -> Result<Body, Memory>
         ensures { IfOk result (λ body. body ≡ body_of self.now) }
     {
@@ -169,7 +169,7 @@ impl Code {
         Body::new(alloc, members)
     }
 
-    /// The instructions.
+    /// Returns the instructions.
     pub(crate) fn instrs(&self, alloc: Global) -> Result<Vec<Instr>, Memory>
         ensures { IfOk result (λ instrs. instrs.items ≡ self.now) }
     {

@@ -1,4 +1,4 @@
-//! The code of a command edge, appended to what is there.
+//! Generates the code of a command edge.
 
 ghost use Rattle.std.specs.Prelude.{◌≡◌, ◌≤◌, ◌^◌, true, false, ◌++◌, ◌+◌, ◌∷◌, [], length, nat_lt, not, OnOk};
 ghost use Rattle.plan_compile.specs.Emit.{after_code, alarm_code, clean_code, clean_len, command_code, compare_code, compares_basis, deps_code, dirty_code, dirty_place, front, holders, judge_code, judged_code, known_place, oldest_code, other_code, pass_code, ready_code, ready_len, recalled_code, run_code, same_code, same_place, stat_code, under_code, weighed_code};
@@ -23,8 +23,8 @@ fn compares_basis(baseline: Baseline) -> bool
     }
 }
 
-/// Returns whether the alarm looks at the outputs, if the baseline is no later than the oldest one: if a source file is
-/// named, it is newer than a missing output.
+/// Returns whether the alarm tests the outputs if the baseline is no later than the oldest output. The test
+/// isn't needed if a named input is a source file, which is newer than a missing output.
 fn looks_at_outputs(wiring: &CommandWiring) -> bool
     ensures { result ≡ not (Rattle.plan_compile.specs.Emit.has_source_file wiring.now.named) }
 {
@@ -33,7 +33,8 @@ fn looks_at_outputs(wiring: &CommandWiring) -> bool
 
 // ---- up to the recorded entry
 
-/// Whether an output is missing or an input changed; the outputs are looked at where `looks` says so.
+/// Appends code for the alarm: whether an output is missing or an input changed. The outputs are tested only if
+/// `looks` is true.
 fn push_alarm(
     code: &mut Code,
     looks: bool,
@@ -51,7 +52,7 @@ fn push_alarm(
     }
 }
 
-/// What the sweep goes on from, and the recorded entry.
+/// Appends code for the values before the sweep, and the request for the recorded entry.
 fn push_weighed(code: &mut Code, wiring: &CommandWiring) -> Result<(), AllocError>
     ensures { OnOk result (code.new ≡ code.old ++ weighed_code (compares_basis wiring.now.baseline) wiring.now (op.Recall ∷ [])) }
 {
@@ -69,7 +70,7 @@ fn push_weighed(code: &mut Code, wiring: &CommandWiring) -> Result<(), AllocErro
     }
 }
 
-/// The outputs' stamps, and what the sweep goes on from.
+/// Appends code for the outputs' stamps, the values before the sweep, and the request for the recorded entry.
 fn push_asked(code: &mut Code, wiring: &CommandWiring) -> Result<(), AllocError>
     ensures { OnOk result (code.new ≡ code.old ++ (stat_code wiring.now.outputs ++ weighed_code (compares_basis wiring.now.baseline) wiring.now (op.Recall ∷ []))) }
 {
@@ -77,7 +78,7 @@ fn push_asked(code: &mut Code, wiring: &CommandWiring) -> Result<(), AllocError>
     push_weighed(code, wiring)
 }
 
-/// The questions up to the recorded entry.
+/// Appends the code up to the request for the recorded entry.
 pub(crate) fn push_front(code: &mut Code, wiring: &CommandWiring) -> Result<(), AllocError>
     ensures { OnOk result (code.new ≡ code.old ++ front wiring.now []) }
 {
@@ -89,7 +90,7 @@ pub(crate) fn push_front(code: &mut Code, wiring: &CommandWiring) -> Result<(), 
 
 // ---- from the command on
 
-/// Reads the depfile and sweeps its paths.
+/// Appends code that reads the depfile and sweeps its paths.
 fn push_deps(code: &mut Code, depfile: Option<u32>) -> Result<(), AllocError>
     ensures { OnOk result (code.new ≡ code.old ++ deps_code depfile) }
 {
@@ -110,7 +111,7 @@ fn push_deps(code: &mut Code, depfile: Option<u32>) -> Result<(), AllocError>
     }
 }
 
-/// The outputs after the command, and the end.
+/// Appends code for the outputs after the command, and the end.
 fn push_after(code: &mut Code, restat: bool, outputs: &[Output]) -> Result<(), AllocError>
     ensures { OnOk result (code.new ≡ code.old ++ after_code restat outputs.now (op.End ∷ [])) }
 {
@@ -126,7 +127,7 @@ fn push_after(code: &mut Code, restat: bool, outputs: &[Output]) -> Result<(), A
     }
 }
 
-/// From the place of the pool on.
+/// Appends the code from the request for a job token on.
 fn push_run(code: &mut Code, wiring: &CommandWiring) -> Result<(), AllocError>
     ensures { OnOk result (code.new ≡ code.old ++ run_code wiring.now) }
 {
@@ -141,7 +142,7 @@ fn push_run(code: &mut Code, wiring: &CommandWiring) -> Result<(), AllocError>
     push_after(code, wiring.restat, wiring.outputs.as_slice())
 }
 
-/// From where the edge is known to be dirty.
+/// Appends the code from the point at which the edge is known to be dirty.
 fn push_dirty(code: &mut Code, wiring: &CommandWiring) -> Result<(), AllocError>
     ensures { OnOk result (code.new ≡ code.old ++ dirty_code wiring.now) }
 {
@@ -152,7 +153,7 @@ fn push_dirty(code: &mut Code, wiring: &CommandWiring) -> Result<(), AllocError>
 
 // ---- how long parts are
 
-/// How many instructions look for the least stamp of the outputs.
+/// Returns the number of instructions for the least stamp of the outputs.
 fn oldest_len(outputs: &[Output]) -> u32
     requires few { length outputs.now ≤ 2 ^ 16 }
     ensures len { result ≡ length (oldest_code outputs.now) }
@@ -162,7 +163,7 @@ fn oldest_len(outputs: &[Output]) -> u32
     if count == 0 { 1 } else { 2 * count - 1 }
 }
 
-/// How many store the flags of a clean edge.
+/// Returns the number of instructions that store the flags of a clean edge.
 fn clean_len(wiring: &CommandWiring) -> u32
     requires few { length wiring.now.outputs ≤ 2 ^ 16 }
     ensures len { result ≡ Rattle.plan_compile.specs.Emit.clean_len wiring.now }
@@ -178,7 +179,7 @@ fn clean_len(wiring: &CommandWiring) -> u32
     }
 }
 
-/// How many look for the alarm.
+/// Returns the number of instructions for the alarm.
 fn alarm_len(wiring: &CommandWiring, looks: bool) -> u32
     requires few { length wiring.now.outputs ≤ 2 ^ 16 }
     requires few_flags { length wiring.now.flags ≤ 2 ^ 16 }
@@ -195,7 +196,7 @@ fn alarm_len(wiring: &CommandWiring, looks: bool) -> u32
     }
 }
 
-/// How many make ready for the sweep from a baseline over the paths.
+/// Returns the number of instructions that prepare the sweep if a baseline is on the stack above the paths.
 fn under_len(wiring: &CommandWiring, looks: bool) -> u32
     requires few { length wiring.now.outputs ≤ 2 ^ 16 }
     requires few_flags { length wiring.now.flags ≤ 2 ^ 16 }
@@ -205,7 +206,7 @@ fn under_len(wiring: &CommandWiring, looks: bool) -> u32
     alarm_len(wiring, looks) + 4
 }
 
-/// How many make ready for the sweep.
+/// Returns the number of instructions that prepare the sweep.
 fn ready_len(wiring: &CommandWiring) -> u32
     requires few { length wiring.now.outputs ≤ 2 ^ 16 }
     requires few_flags { length wiring.now.flags ≤ 2 ^ 16 }
@@ -223,7 +224,7 @@ fn ready_len(wiring: &CommandWiring) -> u32
     }
 }
 
-/// How many compare the command.
+/// Returns the number of instructions that compare the command.
 fn same_len(wiring: &CommandWiring) -> u32
     ensures len { result ≡ length (same_code wiring.now.blank wiring.now.command) }
     ensures short { result ≤ 7 }
@@ -231,7 +232,7 @@ fn same_len(wiring: &CommandWiring) -> u32
     if wiring.blank { 7 } else { 3 }
 }
 
-/// How many sweep where the command is another.
+/// Returns the number of instructions that sweep if the command differs.
 fn other_len(wiring: &CommandWiring) -> u32
     ensures len { result ≡ length (other_code wiring.now 0 []) }
     ensures short { result ≤ 9 }
@@ -245,7 +246,7 @@ fn other_len(wiring: &CommandWiring) -> u32
 
 // ---- from the recorded entry on
 
-/// The flags and the end of a clean edge, and the dirty code.
+/// Appends the flags and the end of a clean edge, and the dirty code.
 fn push_settled(code: &mut Code, wiring: &CommandWiring) -> Result<(), AllocError>
     ensures { OnOk result (code.new ≡ code.old ++ (clean_code wiring.now ++ (op.End ∷ dirty_code wiring.now))) }
 {
@@ -254,7 +255,7 @@ fn push_settled(code: &mut Code, wiring: &CommandWiring) -> Result<(), AllocErro
     push_dirty(code, wiring)
 }
 
-/// Sweeps, compares, and ends where the edge is clean; the code begins at that place.
+/// Appends code that sweeps, compares, and ends if the edge is clean. The code begins at place `at`.
 fn push_judge(code: &mut Code, wiring: &CommandWiring, at: u32) -> Result<(), AllocError>
     requires place { at ≤ 2 ^ 25 }
     requires few { length wiring.now.outputs ≤ 2 ^ 16 }
@@ -269,7 +270,7 @@ fn push_judge(code: &mut Code, wiring: &CommandWiring, at: u32) -> Result<(), Al
     push_settled(code, wiring)
 }
 
-/// Makes ready for the sweep from a baseline over the paths.
+/// Appends code that prepares the sweep if a baseline is on the stack above the paths.
 fn push_under(code: &mut Code, wiring: &CommandWiring, looks: bool) -> Result<(), AllocError>
     ensures { OnOk result (code.new ≡ code.old ++ under_code looks wiring.now []) }
 {
@@ -282,7 +283,7 @@ fn push_under(code: &mut Code, wiring: &CommandWiring, looks: bool) -> Result<()
     Ok(())
 }
 
-/// Makes ready for the sweep from the recorded basis over the paths.
+/// Appends code that prepares the sweep if the recorded basis is on the stack above the paths.
 fn push_ready(code: &mut Code, wiring: &CommandWiring) -> Result<(), AllocError>
     ensures { OnOk result (code.new ≡ code.old ++ ready_code wiring.now.baseline wiring.now []) }
 {
@@ -301,7 +302,7 @@ fn push_ready(code: &mut Code, wiring: &CommandWiring) -> Result<(), AllocError>
     }
 }
 
-/// Makes ready for the sweep, and judges; the code begins at that place.
+/// Appends code that prepares the sweep, sweeps and compares. The code begins at place `at`.
 fn push_judged(code: &mut Code, wiring: &CommandWiring, at: u32) -> Result<(), AllocError>
     requires place { at ≤ 2 ^ 24 }
     requires few { length wiring.now.outputs ≤ 2 ^ 16 }
@@ -313,7 +314,7 @@ fn push_judged(code: &mut Code, wiring: &CommandWiring, at: u32) -> Result<(), A
     push_judge(code, wiring, judge)
 }
 
-/// Where the dirty code stands, the judging being at that place.
+/// Returns the place of the dirty code, if the code that prepares the sweep is at place `at`.
 fn dirty_place(wiring: &CommandWiring, at: u32) -> u32
     requires place { at ≤ 2 ^ 24 }
     requires few { length wiring.now.outputs ≤ 2 ^ 16 }
@@ -323,7 +324,8 @@ fn dirty_place(wiring: &CommandWiring, at: u32) -> u32
     at + ready_len(wiring) + 6 + clean_len(wiring)
 }
 
-/// Sweeps all the same and goes to the dirty code; the judging stands behind it, at that place.
+/// Appends code that sweeps nevertheless and jumps to the dirty code, and then the code that compares, which is
+/// at place `judged`.
 fn push_swept(code: &mut Code, wiring: &CommandWiring, judged: u32) -> Result<(), AllocError>
     requires place { judged ≤ 2 ^ 24 }
     requires few { length wiring.now.outputs ≤ 2 ^ 16 }
@@ -338,7 +340,8 @@ fn push_swept(code: &mut Code, wiring: &CommandWiring, judged: u32) -> Result<()
     push_judged(code, wiring, judged)
 }
 
-/// Where the recorded command is another, and behind it the judging, at that place.
+/// Appends the code for a different recorded command, and then the code that compares, which is at place
+/// `judged`.
 fn push_other(code: &mut Code, wiring: &CommandWiring, judged: u32) -> Result<(), AllocError>
     requires place { judged ≤ 2 ^ 24 }
     requires few { length wiring.now.outputs ≤ 2 ^ 16 }
@@ -358,7 +361,7 @@ fn push_other(code: &mut Code, wiring: &CommandWiring, judged: u32) -> Result<()
     }
 }
 
-/// Whether the recorded command is the edge's.
+/// Appends code that tests whether the recorded command is the edge's command.
 fn push_same(code: &mut Code, blank: bool, command: u32) -> Result<(), AllocError>
     ensures { OnOk result (code.new ≡ code.old ++ same_code blank command) }
 {
@@ -379,7 +382,7 @@ fn push_same(code: &mut Code, blank: bool, command: u32) -> Result<(), AllocErro
     }
 }
 
-/// Compares the recorded command; the code begins at that place.
+/// Appends code that compares the recorded command. The code begins at place `at`.
 fn push_compare(code: &mut Code, wiring: &CommandWiring, at: u32) -> Result<(), AllocError>
     requires place { at ≤ 2 ^ 20 }
     requires few { length wiring.now.outputs ≤ 2 ^ 16 }
@@ -392,7 +395,8 @@ fn push_compare(code: &mut Code, wiring: &CommandWiring, at: u32) -> Result<(), 
     push_other(code, wiring, judged)
 }
 
-/// Looks for the baseline of a generator that compares the basis of its entry; the code begins at that place.
+/// Appends code for the baseline of a generator that compares the basis of its entry. The code begins at place
+/// `at`.
 fn push_baseline(code: &mut Code, wiring: &CommandWiring, at: u32) -> Result<(), AllocError>
     requires place { at ≤ 2 ^ 20 }
     requires few { length wiring.now.outputs ≤ 2 ^ 16 }
@@ -410,7 +414,7 @@ fn push_baseline(code: &mut Code, wiring: &CommandWiring, at: u32) -> Result<(),
     push_judged(code, wiring, known + 1)
 }
 
-/// A generator compares no command; the code begins at that place.
+/// Appends code for a generator, which doesn't compare the command. The code begins at place `at`.
 fn push_passed(code: &mut Code, wiring: &CommandWiring, at: u32) -> Result<(), AllocError>
     requires place { at ≤ 2 ^ 20 }
     requires few { length wiring.now.outputs ≤ 2 ^ 16 }
@@ -426,7 +430,7 @@ fn push_passed(code: &mut Code, wiring: &CommandWiring, at: u32) -> Result<(), A
     }
 }
 
-/// From the recorded entry on; the code begins at that place.
+/// Appends the code from the recorded entry on. The code begins at place `at`.
 pub(crate) fn push_recalled(
     code: &mut Code,
     wiring: &CommandWiring,

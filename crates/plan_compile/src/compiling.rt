@@ -1,4 +1,4 @@
-//! The image of a manifest.
+//! Compiles a manifest to an image.
 
 ghost use Rattle.std.specs.Prelude.{◌≡◌, ◌≤◌, ◌++◌, ◌∷◌, [], All, IfErr, IfOk, length, List, None, OnOk, Some, map, replicate, slice_get, zero, ℕ};
 ghost use Rattle.plan_scope.specs.Edges.{max_depth};
@@ -28,13 +28,13 @@ use plan_scope::Manifest;
 use plan_text::{Items, RowList};
 use std::alloc::{AllocError, Global};
 
-/// No image has more files.
+/// The most files of an image.
 const MOST_FILES: usize = 4_194_304;
 
-/// No image has more pools.
+/// The most pools of an image.
 const MOST_POOLS: usize = 4096;
 
-/// Appends the path of this number.
+/// Appends the path of file `number`.
 fn push_path<'a>(rows: &mut RowList<u8>, files: &Files<'a>, number: usize) -> Result<(), AllocError>
     ensures { (path : List ℕ) → slice_get (paths_in files.now) number ≡ Some path → OnOk result (rows.new ≡ rows.old ++ path ∷ []) }
 {
@@ -47,7 +47,7 @@ fn push_path<'a>(rows: &mut RowList<u8>, files: &Files<'a>, number: usize) -> Re
     }
 }
 
-/// The paths in their order.
+/// Returns the paths in their order.
 fn paths<'a>(alloc: Global, files: &Files<'a>) -> Result<RowList<u8>, AllocError>
     ensures { IfOk result (λ rows. rows ≡ paths_in files.now) }
 {
@@ -59,14 +59,14 @@ fn paths<'a>(alloc: Global, files: &Files<'a>) -> Result<RowList<u8>, AllocError
     Ok(rows)
 }
 
-/// What has numbers in an image: the edges, their texts and their pools.
+/// The edges of an image, with the numbers of their texts and pools.
 #[derive(Drop)]
 struct Named<'a> {
     builds: Vec<Build<'a>>,
     names: Names<'a>,
 }
 
-/// What has numbers in the image of a manifest.
+/// Numbers the edges, texts and pools of a manifest.
 fn name_all<'a, 'b>(
     alloc: Global,
     manifest: &'a Manifest,
@@ -92,7 +92,7 @@ struct Coded {
     edges: Edges,
 }
 
-/// The codes of these edges, of so many files.
+/// Generates the codes of these edges, given the number of files.
 fn code_all<'a>(alloc: Global, files: usize, named: &Named<'a>) -> Result<Coded, CompileFault>
     requires named { length named.now.names.numbers.items ≡ length named.now.builds.items }
     requires few { length named.now.builds.items ≤ 1048576 }
@@ -117,7 +117,7 @@ fn code_all<'a>(alloc: Global, files: usize, named: &Named<'a>) -> Result<Coded,
     })
 }
 
-/// The tables of an image that no edge is needed for.
+/// The tables of an image that don't depend on the codes of edges.
 #[derive(Drop)]
 struct Tables {
     texts: RowList<u8>,
@@ -126,7 +126,7 @@ struct Tables {
     defaults: Items<u32>,
 }
 
-/// The texts, files, pools and defaults of a manifest.
+/// Returns the texts, files, pools and defaults of a manifest.
 fn tables_of<'a, 'b>(
     alloc: Global,
     manifest: &'a Manifest,
@@ -151,7 +151,7 @@ fn tables_of<'a, 'b>(
     })
 }
 
-/// The tables of the image, from these.
+/// Assembles the tables of the image.
 fn assembled(tables: Tables, coded: Coded) -> Parts
     ensures { result ≡ record { texts = tables.texts; files = tables.files; pools = tables.pools; slots = coded.slots.items; bodies = Some coded.bodies; edges = coded.edges; defaults = tables.defaults } }
 {
@@ -166,7 +166,7 @@ fn assembled(tables: Tables, coded: Coded) -> Parts
     }
 }
 
-/// The tables of the image.
+/// Returns the tables of the image.
 fn parts<'a>(
     alloc: Global,
     manifest: &Manifest,
@@ -191,13 +191,14 @@ fn parts<'a>(
     Ok(assembled(tables, coded))
 }
 
-/// The image of a manifest with its graph, by an out-of-date rule: its edges in their order, of version 2. No two bodies are equal, and each is
-/// used, in the order of first use; so are pools and texts. Linear in the manifest.
+/// Compiles a manifest with its graph to an image of version 2, for an out-of-date rule. The edges have the
+/// order of the manifest. The bodies are without repetitions, each is used, and they are in the order of first
+/// use. The same is true of pools and texts. The time is linear in the manifest.
 ///
 /// # Errors
 ///
-/// `Limit` only where the image would pass a limit of images (docs/rules/image.md); `Memory` where memory runs out, which is
-/// asked for only where there are no more files than an image may have.
+/// - `Limit` only if the image would exceed a limit of images (docs/rules/image.md).
+/// - `Memory` if memory runs out. Memory is only requested if there are no more files than an image may have.
 pub fn compile<'a>(
     alloc: Global,
     manifest: &Manifest,

@@ -1,4 +1,4 @@
-//! Each edge by its numbers in the image.
+//! The wiring of each edge: its numbers in the image.
 
 ghost use Rattle.std.specs.Prelude.{◌≡◌, IfOk};
 ghost use Rattle.plan_text.specs.Outcome.{Meets};
@@ -7,6 +7,7 @@ ghost use Rattle.plan_compile.specs.Assembling.{command_in, first_changed, gathe
 ghost use Rattle.plan_compile.specs.Emit.{code_of, emitted};
 ghost use Rattle.plan_compile.specs.Images.{is_blank};
 ghost use Rattle.plan_compile.specs.Slots.{form_of as form_meant};
+ghost use Rattle.plan_scope.specs.TextLists.{whole};
 
 use crate::build::Build;
 use crate::code::Code;
@@ -17,19 +18,17 @@ use crate::lookups;
 use crate::numbers::Numbers;
 use crate::slots::form_of;
 use crate::wiring::{CommandWiring, GatherWiring, Output, Wiring};
+use plan_scope::EdgeText;
 use std::alloc::{AllocError, Global};
 
-/// Whether a text is empty.
-fn is_blank(text: &[u8]) -> bool
-    ensures { result ≡ is_blank text.now }
+/// Returns whether a text is empty.
+fn is_blank(text: &EdgeText<'_>) -> bool
+    ensures { result ≡ is_blank (whole text.now) }
 {
-    match text {
-        [] => true,
-        [_, ..] => false,
-    }
+    text.is_empty()
 }
 
-/// The flag slot of the first of these outputs.
+/// Returns the flag slot of the first of these outputs.
 fn first_changed(outputs: &[Output]) -> u32
     ensures { result ≡ first_changed outputs.now }
 {
@@ -39,7 +38,7 @@ fn first_changed(outputs: &[Output]) -> u32
     }
 }
 
-/// An edge with a command.
+/// Returns the wiring of an edge with a command.
 fn command_wiring<'a>(
     alloc: Global,
     lists: Lists,
@@ -68,7 +67,7 @@ fn command_wiring<'a>(
         flags,
         newest,
         command: numbers.command,
-        blank: is_blank(edge.command()),
+        blank: is_blank(&edge.command()),
         depfile: numbers.depfile,
         restat: edge.has_restat(),
         generator: edge.is_generator(),
@@ -76,7 +75,7 @@ fn command_wiring<'a>(
     })
 }
 
-/// A phony with inputs.
+/// Returns the wiring of a phony with inputs.
 fn gather_wiring<'a>(
     alloc: Global,
     lists: Lists,
@@ -107,7 +106,7 @@ fn gather_wiring<'a>(
     })
 }
 
-/// An edge of any form, in lists that are written anew.
+/// Returns the wiring of an edge of any form. The given lists are overwritten.
 fn wiring<'a>(
     alloc: Global,
     lists: Lists,
@@ -135,7 +134,8 @@ fn wiring<'a>(
     }
 }
 
-/// Puts the code of an edge into a buffer. The lists of its wiring are written over these, and given back.
+/// Generates the code of an edge into a buffer. The given lists are overwritten, used for its wiring, and
+/// returned.
 pub(crate) fn put_code<'a>(
     alloc: Global,
     lists: Lists,

@@ -22,14 +22,14 @@ use plan_image::{CodeRef, EdgeRef, Edges, Sort};
 use plan_text::Memory;
 use std::alloc::Global;
 
-/// What an edge is.
+/// Returns the sort of an edge.
 fn sort_of(phony: bool) -> Sort
     ensures { result ≡ sort_of phony }
 {
     if phony { Sort::Phony } else { Sort::Command }
 }
 
-/// An edge with these numbers, this body and these operands.
+/// Returns an edge with these numbers, this body and these operands.
 fn edge_in<'a, 'b>(
     numbers: Numbers,
     body: u32,
@@ -68,7 +68,7 @@ fn push_edge<'a>(
     Ok(())
 }
 
-/// The numbers of the edge of this number.
+/// Returns the numbers of edge `number`.
 fn numbers_at(numbers: &[Numbers], number: usize) -> Numbers
     requires { number < length numbers.now }
     ensures { slice_get numbers.now number ≡ Some result }
@@ -76,7 +76,7 @@ fn numbers_at(numbers: &[Numbers], number: usize) -> Numbers
     numbers[number]
 }
 
-/// The edges, and their bodies, where no code has more places than a body may have.
+/// Returns the edges and their bodies. Fails if a code has more places than a body may have.
 pub(crate) fn edges_of<'a>(
     alloc: Global,
     plan: &Plan,

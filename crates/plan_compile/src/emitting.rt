@@ -1,4 +1,4 @@
-//! The code of an edge of any sort.
+//! Generates the code of an edge of any sort.
 
 ghost use Rattle.std.specs.Prelude.{◌≡◌, ◌++◌, [], OnOk};
 ghost use Rattle.plan_text.specs.Outcome.{Meets, seen_by};
@@ -14,10 +14,10 @@ use crate::wiring::{CommandWiring, GatherWiring, Output, Wiring};
 use plan_image::Instr;
 use std::alloc::{AllocError, Global};
 
-/// No body of an image has more instructions.
+/// The most instructions of a body of an image.
 const MOST: usize = 65536;
 
-/// Refuses code that has too many places.
+/// Returns `Limit` if the code has too many places.
 fn limited(code: &Code) -> Result<(), CompileFault>
     ensures { seen_by (λ _. code.now) result ≡ emitted code.now }
 {
@@ -75,7 +75,7 @@ fn put_alone(code: &mut Code, outputs: &[Output]) -> Result<(), CompileFault>
     limited(code)
 }
 
-/// Puts the code of an edge into a buffer.
+/// Generates the code of an edge into a buffer.
 pub(crate) fn put_code(code: &mut Code, wiring: &Wiring) -> Result<(), CompileFault>
     ensures { Meets CompileFault.Memory (λ _. code.new) result (emitted (code_of wiring.now)) }
 {
@@ -87,12 +87,14 @@ pub(crate) fn put_code(code: &mut Code, wiring: &Wiring) -> Result<(), CompileFa
     }
 }
 
-/// The code of an edge: what it asks, when its command runs, and what it keeps, by the out-of-date rule of
-/// docs/rules/out-of-date.md. Linear in its inputs and outputs.
+/// Returns the code of an edge: its questions, the condition for running its command, and the entry that it
+/// records, by the out-of-date rule of docs/rules/out-of-date.md. The time is linear in the number of inputs
+/// and outputs.
 ///
 /// # Errors
 ///
-/// `Limit` exactly where the code would have more than 65,536 places, unless memory runs out before, `Memory`.
+/// - `Limit` if the code would have more than 65,536 places.
+/// - `Memory` if memory runs out before that is known.
 pub fn edge_code(alloc: Global, wiring: &Wiring) -> Result<Vec<Instr>, CompileFault>
     ensures { Meets CompileFault.Memory (λ v. v.items) result (emitted (code_of wiring.now)) }
 {

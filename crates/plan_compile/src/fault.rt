@@ -1,4 +1,4 @@
-//! Why a manifest has no image.
+//! The reasons why a manifest has no image.
 
 ghost use Rattle.std.specs.Prelude.{◌≡◌};
 ghost use Rattle.plan_compile.specs.Faults.{number_of};
@@ -7,17 +7,17 @@ ghost use Rattle.plan_compile.specs.declared.fault.CompileFault.TheVariants as f
 use plan_text::Memory;
 use std::alloc::{AllocError, AllocFailed};
 
-/// Why a manifest has no image.
+/// The reason why a manifest has no image.
 #[derive(Clone, Copy, Debug, PartialEq, Eq)]
 pub enum CompileFault {
-    /// The image would pass a limit of images; docs/rules/image.md has them.
+    /// The image would exceed a limit of images. docs/rules/image.md lists them.
     Limit,
-    /// Memory ran out. It says nothing of the manifest.
+    /// Memory ran out. This fault does not depend on the manifest.
     Memory,
 }
 
 impl CompileFault {
-    /// The number under which the fault is printed.
+    /// Returns the number that a program prints for the fault: 100 or 101.
     pub fn number(&self) -> u8
         ensures { result ≡ number_of self.now }
     {

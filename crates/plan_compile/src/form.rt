@@ -1,14 +1,14 @@
-//! What an edge's code hangs on most: the form of its outputs' stamps and flags.
+//! The form of an edge, on which the slots of its outputs' stamps and flags depend.
 
 /// The form of an edge.
 #[derive(Clone, Copy, Debug, PartialEq, Eq)]
 pub enum Form {
-    /// It has a command and isn't restat: its outputs change together.
+    /// The edge has a command and isn't restat: its outputs change together.
     OneFlag,
-    /// It has a command and is restat: each output changes by itself.
+    /// The edge has a command and is restat: each output changes by itself.
     OwnFlags,
-    /// A phony with inputs: its outputs are as these are.
+    /// The edge is a phony with inputs: its outputs have the stamp and the flag of these inputs.
     Gathers,
-    /// A phony without inputs: each output is as its own file is.
+    /// The edge is a phony without inputs: each output has the stamp of its own file.
     Alone,
 }

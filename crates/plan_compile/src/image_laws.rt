@@ -1,4 +1,4 @@
-//! Laws of the images of all manifests.
+//! Laws about the images of all manifests.
 ghost use Rattle.plan_compile.specs.Faithful.{ImageIsFaithful, ManifestsAreSound, OneAssignment};
 ghost use Rattle.plan_compile.specs.Refusals.{ImageIsSpelled};
 ghost use Rattle.plan_compile.specs.Told.{ImageIsShaped, ImageIsWired, ImageKeepsToRule, ImageMeans};
@@ -7,8 +7,8 @@ use crate::laws::{command_means, command_shaped, phony_means, phony_shaped};
 use plan_graph::{defaults_ascend, files_complete, producers_waited, ranks_rise, waits_ascend};
 use plan_image::split_law;
 
-/// A manifest that has a graph is sound: the files of its edges are in the table, no file is made twice, and ranks rise
-/// along waits.
+/// States that a manifest that has a graph is sound: the files of its edges are in the table, no file is
+/// produced twice, and ranks ascend along waits.
 pub fn manifests_are_sound()
     ensures { ManifestsAreSound }
 {
@@ -19,18 +19,20 @@ pub fn manifests_are_sound()
     defaults_ascend();
 }
 
-/// The image has the manifest's edges with their labels, pools, waits and ranks, its files, and its defaults. Each of its
-/// bodies is some edge's, no two are equal, and they come in the order of first use.
+/// States that the image has the manifest's edges with their labels, pools, waits and ranks, its files, and its
+/// defaults. Each of its bodies is used by an edge, no two bodies are equal, and they are in the order of first
+/// use.
 pub fn image_is_faithful()
     ensures { ImageIsFaithful }
 {}
 
-/// What an edge leaves for an output is what each user of that file reads.
+/// States that the slots that an edge sets for an output are those that each user of the file reads.
 pub fn one_assignment()
     ensures { OneAssignment }
 {}
 
-/// Each edge, run alone with what its waits left, keeps to the out-of-date rule, as it is told by the manifest.
+/// States that each edge, run alone with the values that its waits left, follows the out-of-date rule, applied
+/// to the facts of the manifest.
 pub fn image_means()
     ensures { ImageMeans }
 {
@@ -39,20 +41,21 @@ pub fn image_means()
     phony_means();
 }
 
-/// What an edge that ran by itself was told leads along the out-of-date rule, as it is told by the manifest; and the edge
-/// keeps to what is left of it.
+/// States that the replies of an edge that ran by itself follow the out-of-date rule, applied to the facts of
+/// the manifest, and that the edge will follow the rest of the rule.
 pub fn image_keeps_to_rule()
     ensures { ImageKeepsToRule }
 {
     image_means();
 }
 
-/// The slots of an edge's outputs are its own, and those of a named input that an edge makes are lent to it.
+/// States that the slots of an edge's outputs are its own, and that the slots of a named input that another
+/// edge produces belong to an edge that is waited for.
 pub fn image_is_wired()
     ensures { ImageIsWired }
 {}
 
-/// The image is well shaped: the verifier refuses it for no cause but want of memory.
+/// States that the image is well shaped: the verifier accepts it unless memory runs out.
 pub fn image_is_shaped()
     ensures { ImageIsShaped }
 {
@@ -61,8 +64,8 @@ pub fn image_is_shaped()
     phony_shaped();
 }
 
-/// The image of a manifest that has a graph has a spelling, unless it passes a limit of images: waits and defaults
-/// ascend, and each edge has a body with as many numbers as that leaves open.
+/// States that the image of a manifest that has a graph has a spelling, unless it exceeds a limit of images.
+/// Waits and defaults ascend, and each edge has a body with one operand for each open instruction.
 pub fn image_is_spelled()
     ensures { ImageIsSpelled }
 {

@@ -1,4 +1,4 @@
-//! Code over the inputs of an edge, appended to what is there.
+//! Generates code over the inputs of an edge.
 
 ghost use Rattle.std.specs.Prelude.{◌≡◌, ◌++◌, OnOk};
 ghost use Rattle.plan_compile.specs.Emit.{any_code, input_code, newer_code, newest_code, or_code, order_code};
@@ -8,7 +8,7 @@ use crate::wiring::Input;
 use plan_image::Instr;
 use std::alloc::AllocError;
 
-/// Order-only source files have to be there.
+/// Appends code that requires order-only source files to exist.
 pub(crate) fn push_order(code: &mut Code, files: &[u32]) -> Result<(), AllocError>
     ensures { OnOk result (code.new ≡ code.old ++ order_code files.now) }
 {
@@ -19,7 +19,7 @@ pub(crate) fn push_order(code: &mut Code, files: &[u32]) -> Result<(), AllocErro
     Ok(())
 }
 
-/// Asks for an input's stamp, or loads it.
+/// Returns the instruction that asks for an input's stamp or loads it.
 fn stamp_of(input: Input) -> Instr
     ensures { result ≡ input_code input }
 {
@@ -29,7 +29,7 @@ fn stamp_of(input: Input) -> Instr
     }
 }
 
-/// The greatest of the stamp on the stack and the inputs' stamps.
+/// Appends code for the greatest of the stamp on the stack and the inputs' stamps.
 fn push_newer(code: &mut Code, inputs: &[Input]) -> Result<(), AllocError>
     ensures { OnOk result (code.new ≡ code.old ++ newer_code inputs.now) }
 {
@@ -40,7 +40,7 @@ fn push_newer(code: &mut Code, inputs: &[Input]) -> Result<(), AllocError>
     Ok(())
 }
 
-/// The greatest stamp of the inputs.
+/// Appends code for the greatest stamp of the inputs.
 pub(crate) fn push_newest(code: &mut Code, inputs: &[Input]) -> Result<(), AllocError>
     ensures { OnOk result (code.new ≡ code.old ++ newest_code inputs.now) }
 {
@@ -56,7 +56,7 @@ pub(crate) fn push_newest(code: &mut Code, inputs: &[Input]) -> Result<(), Alloc
     }
 }
 
-/// Whether the flag on the stack is set, or one of these.
+/// Appends code that tests whether the flag on the stack or one of these is set.
 pub(crate) fn push_or(code: &mut Code, flags: &[u32]) -> Result<(), AllocError>
     ensures { OnOk result (code.new ≡ code.old ++ or_code flags.now) }
 {
@@ -67,7 +67,7 @@ pub(crate) fn push_or(code: &mut Code, flags: &[u32]) -> Result<(), AllocError>
     Ok(())
 }
 
-/// Whether one of these flags is set.
+/// Appends code that tests whether one of these flags is set.
 pub(crate) fn push_any(code: &mut Code, flags: &[u32]) -> Result<(), AllocError>
     ensures { OnOk result (code.new ≡ code.old ++ any_code flags.now) }
 {
@@ -87,7 +87,7 @@ impl Input {
     ghost use Rattle.std.specs.Prelude.{◌≡◌};
     ghost use Rattle.plan_compile.specs.Emit.{is_source_file};
 
-    /// Whether it is a source file.
+    /// Returns whether the input is a source file.
     fn is_source_file(self) -> bool
         ensures { result ≡ is_source_file self }
     {
@@ -98,7 +98,7 @@ impl Input {
     }
 }
 
-/// Whether a source file is among the inputs.
+/// Returns whether one of the inputs is a source file.
 pub(crate) fn has_source_file(inputs: &[Input]) -> bool
     ensures { result ≡ Rattle.plan_compile.specs.Emit.has_source_file inputs.now }
 {

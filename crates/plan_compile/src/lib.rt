@@ -1,15 +1,21 @@
-//! The code of an edge: what a plan image asks, compares, runs and keeps of each edge of a manifest.
+//! Compiles manifests to images: the code of each edge asks, compares, runs and records what the out-of-date
+//! rule requires.
 //!
-//! - `Wiring`: an edge by its numbers in an image's tables, one form for each sort of edge: `CommandWiring`,
-//!   `GatherWiring`, or the outputs of a phony without inputs; `Input` and `Output` are what comes in and goes out.
-//! - `OutOfDateRule`: the rule that an image is compiled for; `Baseline`: what it gives an edge.
-//! - `edge_code`: the code of an edge, or an `CompileFault`.
-//! - `command_means`, `phony_means`, `runs_keep_to_rule`, `command_shaped`, `phony_shaped`: what holds of the code of
-//!   every edge, for the proofs of what stands above: it keeps to the out-of-date rule, and the verifier accepts it.
-//! - `stricter_is_no_laxer`, `changes_are_seen`, `unchanged_is_clean`: what the stricter rule adds to the specified one.
+//! - `compile` returns the image of a manifest with its graph, or a `CompileFault`.
+//! - `Wiring` is an edge by its numbers in an image's tables. It has one form for each sort of edge:
+//!   `CommandWiring`, `GatherWiring`, or the outputs of a phony without inputs. `Input` and `Output` are its
+//!   inputs and outputs.
+//! - `OutOfDateRule` is the rule that an image is compiled for, and `Baseline` is the baseline of an edge under
+//!   it.
+//! - `edge_code` returns the code of an edge, or a `CompileFault`.
+//! - `command_means`, `phony_means`, `runs_keep_to_rule`, `command_shaped` and `phony_shaped` are laws about
+//!   the code of every edge, for the proofs of the crates above: it follows the out-of-date rule, and the
+//!   verifier accepts it.
+//! - `stricter_is_no_laxer`, `changes_are_seen` and `unchanged_is_clean` compare the stricter rule with the
+//!   specified one.
 //!
-//! The rule is Ninja's, as far as the manual says it; the order of an edge's questions is this project's own.
-//! docs/rules/out-of-date.md has it rule by rule.
+//! The rule is Ninja's, as far as the manual states it. The order of an edge's questions is this project's own.
+//! docs/rules/out-of-date.md lists the rules.
 #![tactic(auto)]
 
 mod baseline;

@@ -4,8 +4,8 @@ use crate::wiring::{CommandWiring, GatherWiring, Input, Output, Wiring};
 use plan_text::Items;
 use std::alloc::Global;
 
-/// The lists of a wiring, which the next edge's are written over, so that they are allocated once. What stands in them
-/// says nothing.
+/// The lists of a wiring. The lists of the next edge overwrite them, so they are allocated only once. Their
+/// contents have no meaning.
 #[derive(Drop)]
 pub(crate) struct Lists {
     pub(crate) named: Vec<Input>,
@@ -14,7 +14,7 @@ pub(crate) struct Lists {
     pub(crate) flags: Vec<u32>,
 }
 
-/// Lists with no memory but that of these outputs.
+/// Creates lists without memory, except that of these outputs.
 fn with_outputs(alloc: Global, outputs: Items<Output>) -> Lists {
     Lists {
         named: Vec::new(alloc),
@@ -25,12 +25,12 @@ fn with_outputs(alloc: Global, outputs: Items<Output>) -> Lists {
 }
 
 impl Lists {
-    /// Lists with no memory.
+    /// Creates lists without memory.
     pub(crate) fn new(alloc: Global) -> Lists {
         with_outputs(alloc, Items::empty(alloc))
     }
 
-    /// The lists of a wiring that is no longer used.
+    /// Returns the lists of a wiring that is no longer used.
     pub(crate) fn of(alloc: Global, wiring: Wiring) -> Lists {
         match wiring {
             Wiring::Command(command) => Lists::of_command(command),

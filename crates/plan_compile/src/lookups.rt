@@ -1,4 +1,4 @@
-//! Where the stamps of an edge's inputs come from.
+//! Finds the source of the stamp of each of an edge's inputs.
 
 ghost use Rattle.std.specs.Prelude.{◌≡◌, ◌++◌, [], IfOk, IsTrue, List, OnOk, slice_get, ℕ};
 ghost use Rattle.plan_image.specs.Spelling.{AscendsFrom};
@@ -11,7 +11,7 @@ use crate::wiring::{Input, Output};
 use plan_text::Items;
 use std::alloc::{AllocError, Global};
 
-/// Where the stamp of a file comes from.
+/// Returns the source of the stamp of a file: the slots of an output, or the file itself.
 fn input(file: u32, output: Option<Output>) -> Input
     ensures { result ≡ input_by file output }
 {
@@ -21,7 +21,7 @@ fn input(file: u32, output: Option<Output>) -> Input
     }
 }
 
-/// The output that is this file.
+/// Returns the output that is this file. Returns None if it is a source file.
 fn look(table: &[Option<Output>], file: u32) -> Option<Output>
     ensures { result ≡ found (slice_get table.now file) }
 {
@@ -31,7 +31,7 @@ fn look(table: &[Option<Output>], file: u32) -> Option<Output>
     }
 }
 
-/// Where the stamps of inputs come from, in a list that is written anew.
+/// Returns the sources of the stamps of inputs. The given list is overwritten.
 pub(crate) fn inputs(
     mut inputs: Vec<Input>,
     table: &[Option<Output>],
@@ -47,7 +47,7 @@ pub(crate) fn inputs(
     Ok(Items::new(inputs))
 }
 
-/// These numbers, each once, ascending.
+/// Sorts numbers in ascending order, and removes repetitions.
 fn ascending(mut numbers: Vec<u32>) -> Vec<u32>
     ensures { result.items ≡ members_from [] numbers.items }
 {
@@ -56,7 +56,7 @@ fn ascending(mut numbers: Vec<u32>) -> Vec<u32>
     numbers
 }
 
-/// Whether a number is among ascending ones.
+/// Returns whether a number is among ascending numbers.
 fn has_number(numbers: &[u32], number: u32) -> bool
     requires { AscendsFrom 0 numbers.now }
     ensures { result ≡ is_member number numbers.now }
@@ -67,7 +67,7 @@ fn has_number(numbers: &[u32], number: u32) -> bool
     }
 }
 
-/// The flag slots of inputs, in a list that is written anew.
+/// Returns the flag slots of inputs. The given list is overwritten.
 fn all_flags(mut flags: Vec<u32>, inputs: &[Input]) -> Result<Vec<u32>, AllocError>
     ensures { IfOk result (λ flags. flags.items ≡ flags_of inputs.now) }
 {
@@ -81,7 +81,7 @@ fn all_flags(mut flags: Vec<u32>, inputs: &[Input]) -> Result<Vec<u32>, AllocErr
     Ok(flags)
 }
 
-/// The flag slots of inputs, each once, in a list that is written anew.
+/// Returns the flag slots of inputs in ascending order, without repetitions. The given list is overwritten.
 pub(crate) fn flags(flags: Vec<u32>, inputs: &[Input]) -> Result<Items<u32>, AllocError>
     ensures { IfOk result (λ flags. flags ≡ flags_once inputs.now) }
 {
@@ -89,7 +89,7 @@ pub(crate) fn flags(flags: Vec<u32>, inputs: &[Input]) -> Result<Items<u32>, All
     Ok(Items::new(ascending(flags)))
 }
 
-/// Whether a file is a source that isn't among ascending numbers.
+/// Returns whether a file is a source file that isn't among ascending numbers.
 fn is_other_source(table: &[Option<Output>], named: &[u32], file: u32) -> bool
     requires { AscendsFrom 0 named.now }
     ensures { result ≡ Rattle.plan_compile.specs.OutputTable.is_other_source table.now named.now file }
@@ -100,7 +100,8 @@ fn is_other_source(table: &[Option<Output>], named: &[u32], file: u32) -> bool
     }
 }
 
-/// The order-only sources that aren't named too, the named ones ascending, in a list that is written anew.
+/// Returns the order-only source files that aren't also named inputs. The named inputs must ascend. The given
+/// list is overwritten.
 fn other_sources(
     mut files: Vec<u32>,
     table: &[Option<Output>],
@@ -119,7 +120,7 @@ fn other_sources(
     Ok(Items::new(files))
 }
 
-/// Whether edges make all of these files.
+/// Returns whether all of these files are outputs of edges.
 fn are_made(table: &[Option<Output>], files: &[u32]) -> bool
     ensures { (named : List ℕ) → IsTrue result → sources_in table.now named files.now ≡ [] }
 {
@@ -132,7 +133,7 @@ fn are_made(table: &[Option<Output>], files: &[u32]) -> bool
     true
 }
 
-/// The order-only sources that aren't named too, in a list that is written anew.
+/// Returns the order-only source files that aren't also named inputs. The given list is overwritten.
 pub(crate) fn sources(
     alloc: Global,
     mut files: Vec<u32>,
@@ -150,7 +151,7 @@ pub(crate) fn sources(
     other_sources(files, table, &named, order_only)
 }
 
-/// The outputs that are these files, in a list that is written anew.
+/// Returns the outputs that are these files. The given list is overwritten.
 pub(crate) fn outputs(
     mut outputs: Vec<Output>,
     table: &[Option<Output>],

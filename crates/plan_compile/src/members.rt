@@ -1,4 +1,4 @@
-//! An instruction of a body as one number, and back.
+//! Encodes an instruction of a body as one number, and decodes it.
 
 ghost use Rattle.std.specs.Prelude.{◌≡◌, ◌<◌, ◌+◌, ◌*◌};
 ghost use Rattle.plan_image.specs.declared.instr.BodyInstr.TheVariants as member;
@@ -8,7 +8,7 @@ ghost use Rattle.plan_compile.specs.BodyKeys.{fixed_numbers, IsSmall, member_at,
 
 use plan_image::{BodyInstr, Instr, Opening};
 
-/// The number of an instruction's sort, and its operand.
+/// Returns the number of an instruction's sort, and its operand.
 #[inline(always)]
 fn fixed_numbers(instr: Instr) -> (u32, u32)
     ensures numbers { result ≡ fixed_numbers instr }
@@ -48,7 +48,7 @@ fn fixed_numbers(instr: Instr) -> (u32, u32)
     }
 }
 
-/// The number of what an open instruction is.
+/// Returns the number of the sort of an open instruction.
 #[inline(always)]
 const fn opening_number(opening: Opening) -> u32
     ensures number { result ≡ opening_number opening }
@@ -63,7 +63,7 @@ const fn opening_number(opening: Opening) -> u32
     }
 }
 
-/// A sort and an operand as one number: the sort has the last six bits.
+/// Joins a sort and an operand into one number. The sort takes the last six bits.
 #[inline(always)]
 fn joined(sort: u32, operand: u32) -> u64
     requires { sort < 64 }
@@ -73,7 +73,7 @@ fn joined(sort: u32, operand: u32) -> u64
     u64::from(operand) * 64 + u64::from(sort)
 }
 
-/// The number of an instruction that a body fixes.
+/// Returns the number of an instruction that a body has with its operand.
 #[inline(always)]
 pub(crate) fn fixed_number(instr: Instr) -> u64
     ensures number { result ≡ member_number (member.Fixed instr) }
@@ -83,7 +83,7 @@ pub(crate) fn fixed_number(instr: Instr) -> u64
     joined(sort, operand)
 }
 
-/// The number of an instruction that a body leaves open.
+/// Returns the number of an instruction that a body leaves open.
 #[inline(always)]
 pub(crate) fn open_number(opening: Opening) -> u64
     ensures number { result ≡ member_number (member.Open opening) }
@@ -92,7 +92,7 @@ pub(crate) fn open_number(opening: Opening) -> u64
     joined(opening_number(opening), 0)
 }
 
-/// The instruction of a sort, with this operand; of `Flag` it is 1 for true.
+/// Returns the instruction of a sort with this operand. The operand of `Flag` is 1 for true.
 fn instr_by(sort: u32, operand: u32) -> Instr
     ensures { result ≡ Columns.instr_by sort operand }
 {
@@ -129,7 +129,7 @@ fn instr_by(sort: u32, operand: u32) -> Instr
     }
 }
 
-/// The instruction of a body of a sort, with this operand.
+/// Returns the instruction of a body with this sort and operand.
 fn member_by(sort: u32, operand: u32) -> BodyInstr
     ensures { result ≡ BodyKeys.member_by sort operand }
 {
@@ -143,7 +143,7 @@ fn member_by(sort: u32, operand: u32) -> BodyInstr
     }
 }
 
-/// The instruction of a number.
+/// Returns the instruction with this number.
 pub(crate) fn member_at(number: u64) -> BodyInstr
     requires { IsSmall number }
     ensures { result ≡ BodyKeys.member_at number }

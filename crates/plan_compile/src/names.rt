@@ -7,21 +7,22 @@ ghost use Rattle.plan_scope.specs.declared.manifest.Pool.{Pool as ManifestPool};
 ghost use Rattle.plan_compile.specs.PoolDepths.{AreDepths};
 ghost use Rattle.plan_compile.specs.Names.{all_texts, declared, depfile_number, depth_of, or_command, pool_in, text_number, texts_in, unless_empty, used_pools};
 ghost use Rattle.plan_compile.specs.Numbering.{with_item, with_items};
+ghost use Rattle.plan_scope.specs.TextLists.{whole};
 
 use crate::build::{Build, word};
-use crate::key::Key;
+use crate::key::{HeldKey, Key};
 use crate::numbers::Numbers;
 use indexmap::{IndexMap, IndexSet};
 use plan_image::Pool;
-use plan_scope::EdgeRef;
+use plan_scope::{EdgeRef, EdgeText, HeldText};
 use plan_text::{Items, RowList};
 use std::alloc::{AllocError, Global};
 use std::marker::Model;
 
-/// Texts, each once, in the order in which they came.
+/// Texts, without repetitions, in the order in which they were added.
 #[derive(Drop)]
 pub(crate) struct Texts<'a> {
-    texts: IndexSet<Key<'a>>,
+    texts: IndexSet<HeldKey<'a>>,
 }
 
 impl<'a> Model for Texts<'a> {
@@ -29,7 +30,7 @@ impl<'a> Model for Texts<'a> {
 
     ghost Value = { List (List ℕ) };
 
-    ghost view = { λ t. map (λ k. k.bytes.now) t.texts.keys };
+    ghost view = { λ t. map (λ k. k.text) t.texts.keys };
 }
 
 impl<'a> Texts<'a> {
@@ -38,7 +39,7 @@ impl<'a> Texts<'a> {
     ghost use Rattle.plan_compile.specs.Names.{text_number};
     ghost use Rattle.plan_compile.specs.Numbering.{with_item};
 
-    /// No text.
+    /// Creates an empty list.
     fn new(alloc: Global) -> Self
         ensures { result ≡ [] }
     {
@@ -47,42 +48,42 @@ impl<'a> Texts<'a> {
         }
     }
 
-    /// Makes room for so many texts more.
+    /// Reserves room for `texts` further texts.
     fn reserve(&mut self, texts: usize) -> Result<(), AllocError>
         ensures { self.new ≡ self.old }
     {
         self.texts.reserve(texts)
     }
 
-    /// Puts a text last, unless it is there, and gives its number.
-    fn put(&mut self, text: &'a [u8]) -> Result<u32, AllocError>
+    /// Appends a text unless it is in the list, and returns its number.
+    fn put(&mut self, text: HeldText<'a>) -> Result<u32, AllocError>
         requires { IsWord (length self.old) }
-        ensures texts { OnOk result (self.new ≡ with_item bytes_eq self.old text.now) }
-        ensures number { IfOk result (λ n. n ≡ text_number self.new text.now) }
+        ensures texts { OnOk result (self.new ≡ with_item bytes_eq self.old text.entry) }
+        ensures number { IfOk result (λ n. n ≡ text_number self.new text.entry) }
         ensures few { OnOk result (length self.new ≤ length self.old + 1) }
     {
-        let (number, _is_new) = self.texts.insert_full(Key { bytes: text })?;
+        let (number, _is_new) = self.texts.insert_full(HeldKey { text })?;
         Ok(word(number))
     }
 
-    /// How many texts there are.
+    /// Returns the number of texts.
     pub(crate) fn len(&self) -> usize
         ensures { result ≡ length self.now }
     {
         self.texts.len()
     }
 
-    /// The text of this number.
-    fn get(&self, number: usize) -> Option<&'a [u8]>
+    /// Returns text `number`. Returns None if there is no such text.
+    fn get(&self, number: usize) -> Option<&[u8]>
         ensures { option_map (λ t. t.now) result ≡ slice_get self.now number }
     {
         match self.texts.get_index(number) {
-            Some(key) => Some(key.bytes),
+            Some(key) => Some(key.text.as_slice()),
             None => None,
         }
     }
 
-    /// Appends the text of this number to rows.
+    /// Appends text `number` to rows.
     fn push_to(&self, rows: &mut RowList<u8>, number: usize) -> Result<(), AllocError>
         ensures { (text : List ℕ) → slice_get self.now number ≡ Some text → OnOk result (rows.new ≡ rows.old ++ text ∷ []) }
     {
@@ -95,7 +96,7 @@ impl<'a> Texts<'a> {
         }
     }
 
-    /// The texts in their order.
+    /// Returns the texts as rows, in their order.
     pub(crate) fn rows(&self, alloc: Global) -> Result<RowList<u8>, AllocError>
         ensures { IfOk result (λ rows. rows ≡ self.now) }
     {
@@ -108,43 +109,50 @@ impl<'a> Texts<'a> {
     }
 }
 
-/// Puts a text that isn't empty, and gives its number.
-fn put_unless_empty<'a>(texts: &mut Texts<'a>, text: &'a [u8]) -> Result<Option<u32>, AllocError>
+/// Adds a text unless it is empty, and returns its number. Returns None if it is empty.
+fn put_unless_empty<'a>(
+    alloc: Global,
+    texts: &mut Texts<'a>,
+    text: &EdgeText<'a>,
+) -> Result<Option<u32>, AllocError>
     requires { length texts.old ≤ 4194304 }
-    ensures texts { OnOk result (texts.new ≡ with_items bytes_eq texts.old (unless_empty text.now)) }
-    ensures number { IfOk result (λ n. n ≡ depfile_number texts.new text.now) }
+    ensures texts { OnOk result (texts.new ≡ with_items bytes_eq texts.old (unless_empty (whole text.now))) }
+    ensures number { IfOk result (λ n. n ≡ depfile_number texts.new (whole text.now)) }
     ensures few { OnOk result (length texts.new ≤ length texts.old + 1) }
 {
     if text.is_empty() {
         return Ok(None);
     }
-    let number = texts.put(text)?;
+    let number = texts.put(text.joined(alloc)?)?;
     Ok(Some(number))
 }
 
-/// Puts what is shown of an edge and its command, and gives their numbers.
+/// Adds the label of an edge and its command, and returns their numbers. The label is the description, or the
+/// command if there is no description.
 fn put_shown<'a>(
+    alloc: Global,
     texts: &mut Texts<'a>,
-    description: &'a [u8],
-    command: &'a [u8],
+    description: &EdgeText<'a>,
+    command: &EdgeText<'a>,
 ) -> Result<(u32, u32), AllocError>
     requires { length texts.old ≤ 4194302 }
-    ensures texts { OnOk result (texts.new ≡ with_items bytes_eq texts.old (or_command description.now command.now ∷ command.now ∷ [])) }
-    ensures label { IfOk result (λ n. n.0 ≡ text_number texts.new (or_command description.now command.now)) }
-    ensures command { IfOk result (λ n. n.1 ≡ text_number texts.new command.now) }
+    ensures texts { OnOk result (texts.new ≡ with_items bytes_eq texts.old (or_command (whole description.now) (whole command.now) ∷ whole command.now ∷ [])) }
+    ensures label { IfOk result (λ n. n.0 ≡ text_number texts.new (or_command (whole description.now) (whole command.now))) }
+    ensures command { IfOk result (λ n. n.1 ≡ text_number texts.new (whole command.now)) }
     ensures few { OnOk result (length texts.new ≤ length texts.old + 2) }
 {
     if description.is_empty() {
-        let number = texts.put(command)?;
+        let number = texts.put(command.joined(alloc)?)?;
         return Ok((number, number));
     }
-    let label = texts.put(description)?;
-    let command = texts.put(command)?;
+    let label = texts.put(description.joined(alloc)?)?;
+    let command = texts.put(command.joined(alloc)?)?;
     Ok((label, command))
 }
 
-/// Puts the texts and the pool of an edge with a command, and gives their numbers.
+/// Adds the texts and the pool of an edge with a command, and returns their numbers.
 fn put_command<'a>(
+    alloc: Global,
     texts: &mut Texts<'a>,
     pools: &mut Texts<'a>,
     edge: &EdgeRef<'a>,
@@ -157,9 +165,9 @@ fn put_command<'a>(
     ensures few { OnOk result (length texts.new ≤ length texts.old + 3) }
     ensures few_pools { OnOk result (length pools.new ≤ length pools.old + 1) }
 {
-    let (label, command) = put_shown(texts, edge.description(), edge.command())?;
-    let depfile = put_unless_empty(texts, edge.depfile())?;
-    let pool = put_unless_empty(pools, edge.pool())?;
+    let (label, command) = put_shown(alloc, texts, &edge.description(), &edge.command())?;
+    let depfile = put_unless_empty(alloc, texts, &edge.depfile())?;
+    let pool = put_unless_empty(alloc, pools, &edge.pool())?;
     Ok(Numbers {
         label,
         command,
@@ -168,8 +176,9 @@ fn put_command<'a>(
     })
 }
 
-/// Puts the texts and the pool of an edge, and gives their numbers.
+/// Adds the texts and the pool of an edge, and returns their numbers.
 fn put_names<'a>(
+    alloc: Global,
     texts: &mut Texts<'a>,
     pools: &mut Texts<'a>,
     build: &Build<'a>,
@@ -184,7 +193,7 @@ fn put_names<'a>(
 {
     let edge = build.edge();
     if edge.is_phony() {
-        let label = texts.put(&[])?;
+        let label = texts.put(HeldText::lent(&[]))?;
         return Ok(Numbers {
             label,
             command: 0,
@@ -192,10 +201,10 @@ fn put_names<'a>(
             pool: None,
         });
     }
-    put_command(texts, pools, &edge)
+    put_command(alloc, texts, pools, &edge)
 }
 
-/// The texts of all edges, the names of the pools that edges use, and of each edge the numbers of its own.
+/// The texts of all edges, the names of the pools that edges use, and the numbers of each edge.
 #[derive(Drop)]
 pub(crate) struct Names<'a> {
     pub(crate) texts: Texts<'a>,
@@ -203,7 +212,7 @@ pub(crate) struct Names<'a> {
     pub(crate) numbers: Vec<Numbers>,
 }
 
-/// The texts and the pools of all edges.
+/// Collects the texts and the pools of all edges.
 pub(crate) fn names_of<'a>(alloc: Global, builds: &[Build<'a>]) -> Result<Names<'a>, AllocError>
     requires { length builds.now ≤ 1048576 }
     ensures texts { IfOk result (λ names. names.texts ≡ all_texts builds.now) }
@@ -215,7 +224,7 @@ pub(crate) fn names_of<'a>(alloc: Global, builds: &[Build<'a>]) -> Result<Names<
     let mut pools = Texts::new(alloc);
     let mut numbers = Vec::with_capacity(alloc, builds.len())?;
     for number in 0..builds.len() {
-        numbers.push(put_names(&mut texts, &mut pools, &builds[number])?)?;
+        numbers.push(put_names(alloc, &mut texts, &mut pools, &builds[number])?)?;
     }
     Ok(Names {
         texts,
@@ -224,7 +233,7 @@ pub(crate) fn names_of<'a>(alloc: Global, builds: &[Build<'a>]) -> Result<Names<
     })
 }
 
-/// The depths of pools by their names; of a name that is declared twice the first one's.
+/// Returns the depths of pools by their names. If a name is declared twice, the first one counts.
 fn depths_of<'a>(
     alloc: Global,
     pools: &'a [plan_scope::Pool],
@@ -242,7 +251,7 @@ fn depths_of<'a>(
     Ok(depths)
 }
 
-/// The depth of a name, 0 where there is none.
+/// Returns the depth of the pool with this name, or 0 if there is none.
 fn depth_in<'a>(depths: &IndexMap<Key<'a>, u32>, name: &'a [u8]) -> u32
     ensures { (pools : List ManifestPool) → AreDepths pools depths.now → result ≡ depth_of pools name.now }
 {
@@ -252,12 +261,12 @@ fn depth_in<'a>(depths: &IndexMap<Key<'a>, u32>, name: &'a [u8]) -> u32
     }
 }
 
-/// Appends the pool of this number, with its depth.
+/// Appends pool `number` with its depth.
 fn push_pool<'a>(
     alloc: Global,
     pools: &mut Vec<Pool>,
     depths: &IndexMap<Key<'a>, u32>,
-    names: &Texts<'a>,
+    names: &'a Texts<'a>,
     number: usize,
 ) -> Result<(), AllocError>
     ensures { (known : List ManifestPool) (name : List ℕ) → AreDepths known depths.now → slice_get names.now number ≡ Some name
@@ -274,11 +283,11 @@ fn push_pool<'a>(
     }
 }
 
-/// The pools of an image, of which these are the names.
+/// Returns the pools of an image, given their names.
 pub(crate) fn pool_table<'a>(
     alloc: Global,
     known: &'a [plan_scope::Pool],
-    names: &Texts<'a>,
+    names: &'a Texts<'a>,
 ) -> Result<Items<Pool>, AllocError>
     requires { All (λ p. p.depth ≤ max_depth) known.now }
     ensures { IfOk result (λ pools. pools ≡ map (declared known.now) names.now) }

@@ -1,4 +1,4 @@
-//! Code over the outputs of an edge, appended to what is there.
+//! Generates code over the outputs of an edge.
 
 ghost use Rattle.std.specs.Prelude.{◌≡◌, ◌++◌, false, OnOk};
 ghost use Rattle.plan_compile.specs.Emit.{alone_code, flag_code, holders, older_code, oldest_code, restat_code, stat_code};
@@ -8,7 +8,7 @@ use crate::wiring::Output;
 use plan_image::Instr;
 use std::alloc::AllocError;
 
-/// Asks for the outputs' stamps and stores them.
+/// Appends code that asks for the outputs' stamps and stores them.
 pub(crate) fn push_stats(code: &mut Code, outputs: &[Output]) -> Result<(), AllocError>
     ensures { OnOk result (code.new ≡ code.old ++ stat_code outputs.now) }
 {
@@ -19,7 +19,7 @@ pub(crate) fn push_stats(code: &mut Code, outputs: &[Output]) -> Result<(), Allo
     Ok(())
 }
 
-/// The least of the stamp on the stack and the outputs' stamps.
+/// Appends code for the least of the stamp on the stack and the outputs' stamps.
 fn push_older(code: &mut Code, outputs: &[Output]) -> Result<(), AllocError>
     ensures { OnOk result (code.new ≡ code.old ++ older_code outputs.now) }
 {
@@ -30,7 +30,7 @@ fn push_older(code: &mut Code, outputs: &[Output]) -> Result<(), AllocError>
     Ok(())
 }
 
-/// The least stamp of the outputs.
+/// Appends code for the least stamp of the outputs.
 pub(crate) fn push_oldest(code: &mut Code, outputs: &[Output]) -> Result<(), AllocError>
     ensures { OnOk result (code.new ≡ code.old ++ oldest_code outputs.now) }
 {
@@ -46,7 +46,7 @@ pub(crate) fn push_oldest(code: &mut Code, outputs: &[Output]) -> Result<(), All
     }
 }
 
-/// Stores a flag for each output.
+/// Appends code that stores a flag for each output.
 fn push_flags(code: &mut Code, on: bool, outputs: &[Output]) -> Result<(), AllocError>
     ensures { OnOk result (code.new ≡ code.old ++ flag_code on outputs.now) }
 {
@@ -57,7 +57,7 @@ fn push_flags(code: &mut Code, on: bool, outputs: &[Output]) -> Result<(), Alloc
     Ok(())
 }
 
-/// Stores a flag once, for outputs that share its slot.
+/// Appends code that stores a flag once, for outputs that share its slot.
 fn push_shared(code: &mut Code, on: bool, outputs: &[Output]) -> Result<(), AllocError>
     ensures { OnOk result (code.new ≡ code.old ++ flag_code on (holders false outputs.now)) }
 {
@@ -71,7 +71,7 @@ fn push_shared(code: &mut Code, on: bool, outputs: &[Output]) -> Result<(), Allo
     }
 }
 
-/// Stores a flag in each flag slot of the outputs.
+/// Appends code that stores a flag in each flag slot of the outputs.
 pub(crate) fn push_held(
     code: &mut Code,
     on: bool,
@@ -87,7 +87,7 @@ pub(crate) fn push_held(
     }
 }
 
-/// The new stamps, and whether they differ from the old ones.
+/// Appends code that asks for the new stamps, and stores whether they differ from the old ones.
 pub(crate) fn push_restat(code: &mut Code, outputs: &[Output]) -> Result<(), AllocError>
     ensures { OnOk result (code.new ≡ code.old ++ restat_code outputs.now) }
 {
@@ -103,7 +103,7 @@ pub(crate) fn push_restat(code: &mut Code, outputs: &[Output]) -> Result<(), All
     Ok(())
 }
 
-/// Each output is as its file is, and that is all.
+/// Appends code that gives each output the stamp of its file, and ends.
 pub(crate) fn push_alone(code: &mut Code, outputs: &[Output]) -> Result<(), AllocError>
     ensures { OnOk result (code.new ≡ code.old ++ alone_code outputs.now) }
 {

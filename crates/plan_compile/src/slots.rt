@@ -1,4 +1,4 @@
-//! The slots of all edges, and which of them each output has.
+//! The slots of all edges, and those of each output.
 
 ghost use Rattle.std.specs.Prelude.{◌≡◌, ◌≤◌, ◌<◌, ◌+◌, ◌++◌, ◌∷◌, [], length, replicate, None, IfNone, IfOk, IfSome, OnOk, zero};
 ghost use Rattle.plan_image.specs.Spelling.{IsWord, RoomAfter};
@@ -12,10 +12,10 @@ use crate::wiring::{Input, Output};
 use plan_image::{Kind, Slot};
 use std::alloc::{AllocError, Global};
 
-/// No image has more slots.
+/// The most slots of an image.
 const MOST: usize = 16_777_216;
 
-/// The form of an edge.
+/// Returns the form of an edge that is or isn't a phony, restat, and without inputs.
 fn form_by(phony: bool, restat: bool, none: bool) -> Form
     ensures { result ≡ form_by phony restat none }
 {
@@ -27,7 +27,7 @@ fn form_by(phony: bool, restat: bool, none: bool) -> Form
     }
 }
 
-/// The form of an edge.
+/// Returns the form of an edge.
 pub(crate) fn form_of<'a>(build: &Build<'a>) -> Form
     ensures { result ≡ Rattle.plan_compile.specs.Slots.form_of build.now }
 {
@@ -36,7 +36,7 @@ pub(crate) fn form_of<'a>(build: &Build<'a>) -> Form
     form_by(edge.is_phony(), edge.has_restat(), none)
 }
 
-/// How many slots an edge of this form has, of which these are the outputs.
+/// Returns the number of slots of an edge with this form and these outputs.
 fn own_len(form: Form, files: &[u32]) -> usize
     ensures { result ≡ length (kinds_by form files.now) }
 {
@@ -48,14 +48,14 @@ fn own_len(form: Form, files: &[u32]) -> usize
     }
 }
 
-/// What room is left behind the slots of an edge.
+/// Returns the room that is left after the slots of an edge. Returns None if they don't fit.
 fn room_after<'a>(build: &Build<'a>, room: usize) -> Option<usize>
     ensures { RoomAfter result (length (own_kinds build.now)) room }
 {
     room.checked_sub(own_len(form_of(build), build.outputs()))
 }
 
-/// What room is left behind the slots of these edges.
+/// Returns the room that is left after the slots of these edges. Returns None if they don't fit.
 fn slots_room<'a>(builds: &[Build<'a>], room: usize) -> Option<usize>
     ensures { RoomAfter result (slot_count builds.now) room }
 {
@@ -69,7 +69,7 @@ fn slots_room<'a>(builds: &[Build<'a>], room: usize) -> Option<usize>
     Some(left)
 }
 
-/// How many slots these edges have, where an image may have so many.
+/// Returns the number of slots of these edges. Returns None if an image may not have that many.
 pub(crate) fn slot_count<'a>(builds: &[Build<'a>]) -> Option<usize>
     ensures count { IfSome result (λ n. n ≡ slot_count builds.now) }
     ensures few { IfSome result (λ n. n ≤ 16777216) }
@@ -81,7 +81,7 @@ pub(crate) fn slot_count<'a>(builds: &[Build<'a>]) -> Option<usize>
     }
 }
 
-/// Puts an output to its file, unless one is there.
+/// Enters an output for its file, unless the file has one.
 fn put(table: &mut Vec<Option<Output>>, output: Output)
     ensures { table.new.items ≡ put table.old.items output }
 {
@@ -93,7 +93,7 @@ fn put(table: &mut Vec<Option<Output>>, output: Output)
     }
 }
 
-/// One slot more, and its number.
+/// Appends a slot, and returns its number.
 fn slot(slots: &mut Vec<Slot>, owner: u32, kind: Kind) -> Result<u32, AllocError>
     requires { IsWord (length slots.old.items) }
     ensures number { IfOk result (λ n. n ≡ length slots.old.items) }
@@ -105,7 +105,7 @@ fn slot(slots: &mut Vec<Slot>, owner: u32, kind: Kind) -> Result<u32, AllocError
     Ok(number)
 }
 
-/// A stamp slot for each of these outputs, which share a flag slot.
+/// Adds a stamp slot for each of these outputs, which share a flag slot.
 fn lay_flagged(
     slots: &mut Vec<Slot>,
     table: &mut Vec<Option<Output>>,
@@ -131,7 +131,7 @@ fn lay_flagged(
     Ok(())
 }
 
-/// A stamp slot and a flag slot for each of these outputs.
+/// Adds a stamp slot and a flag slot for each of these outputs.
 fn lay_apart(
     slots: &mut Vec<Slot>,
     table: &mut Vec<Option<Output>>,
@@ -157,7 +157,7 @@ fn lay_apart(
     Ok(())
 }
 
-/// These two slots for all of these outputs.
+/// Enters these two slots for all of these outputs.
 fn put_sharing(table: &mut Vec<Option<Output>>, stamp: u32, changed: u32, files: &[u32])
     ensures { table.new.items ≡ filled table.old.items (outputs_sharing stamp changed files.now) }
 {
@@ -173,7 +173,7 @@ fn put_sharing(table: &mut Vec<Option<Output>>, stamp: u32, changed: u32, files:
     }
 }
 
-/// The slots of an edge with a command that isn't restat; and the newest input's.
+/// Adds the slots of an edge with a command that isn't restat. Returns the slot of the newest input's stamp.
 fn lay_one_flag(
     slots: &mut Vec<Slot>,
     table: &mut Vec<Option<Output>>,
@@ -191,7 +191,7 @@ fn lay_one_flag(
     Ok(newest)
 }
 
-/// The slots of a restat edge; and the newest input's.
+/// Adds the slots of a restat edge. Returns the slot of the newest input's stamp.
 fn lay_own_flags(
     slots: &mut Vec<Slot>,
     table: &mut Vec<Option<Output>>,
@@ -208,7 +208,8 @@ fn lay_own_flags(
     Ok(newest)
 }
 
-/// The slots of a phony with inputs; and the newest input's, which all outputs have.
+/// Adds the slots of a phony with inputs. Returns the slot of the newest input's stamp, which all outputs
+/// share.
 fn lay_gathers(
     slots: &mut Vec<Slot>,
     table: &mut Vec<Option<Output>>,
@@ -226,7 +227,7 @@ fn lay_gathers(
     Ok(stamp)
 }
 
-/// The slots of a phony without inputs; and the first one's number.
+/// Adds the slots of a phony without inputs. Returns the number of the first one.
 fn lay_alone(
     slots: &mut Vec<Slot>,
     table: &mut Vec<Option<Output>>,
@@ -243,7 +244,7 @@ fn lay_alone(
     Ok(first)
 }
 
-/// The slots of an edge, and its outputs by file; and the newest input's slot.
+/// Adds the slots of an edge, and enters its outputs by file. Returns the slot of the newest input's stamp.
 fn lay(
     slots: &mut Vec<Slot>,
     table: &mut Vec<Option<Output>>,
@@ -270,11 +271,11 @@ pub(crate) struct Plan {
     pub(crate) slots: Vec<Slot>,
     /// The outputs by file.
     pub(crate) table: Vec<Option<Output>>,
-    /// Of each edge the slot for the newest input's stamp.
+    /// For each edge, the slot of the newest input's stamp.
     pub(crate) newest: Vec<u32>,
 }
 
-/// The slots of all edges, where there are so many files and slots.
+/// Lays out the slots of all edges, given the numbers of files and slots.
 pub(crate) fn planned<'a>(
     alloc: Global,
     files: usize,

@@ -1,14 +1,14 @@
-//! An edge by its numbers in the tables of an image.
+//! Wirings: edges by their numbers in the tables of an image.
 
 use crate::baseline::Baseline;
 use plan_text::Items;
 
-/// Where an input's stamp comes from.
+/// The source of an input's stamp.
 #[derive(Clone, Copy, Debug, PartialEq, Eq)]
 pub enum Input {
-    /// A source file, by the number of its file: it is asked for.
+    /// A source file, by its number. The code asks for its stamp.
     File(u32),
-    /// What an edge makes: the stamp slot and the flag slot that its maker sets.
+    /// An output of another edge, by the stamp slot and the flag slot that its producer sets.
     Made(u32, u32),
 }
 
@@ -25,33 +25,35 @@ pub struct Output {
 pub struct CommandWiring {
     /// The explicit and the implicit inputs, in order.
     pub named: Items<Input>,
-    /// The order-only source files that aren't named too.
+    /// The order-only source files that aren't also named inputs.
     pub order_only: Items<u32>,
-    /// At least one. Each has a stamp slot of its own; they share a flag slot unless the edge is restat.
+    /// The outputs, at least one. Each has a stamp slot of its own. They share a flag slot unless the edge is
+    /// restat.
     pub outputs: Items<Output>,
-    /// The flag slots among the named inputs, each once, in any order.
+    /// The flag slots among the named inputs, without repetitions, in any order.
     pub flags: Items<u32>,
     /// The slot for the greatest stamp of the named inputs.
     pub newest: u32,
-    /// The command's text.
+    /// The number of the command's text.
     pub command: u32,
     /// Whether the command may be the empty text.
     pub blank: bool,
-    /// The text of the depfile's path, which isn't empty.
+    /// The number of the text of the depfile's path, which isn't empty.
     pub depfile: Option<u32>,
     pub restat: bool,
     pub generator: bool,
     pub baseline: Baseline,
 }
 
-/// A phony with inputs of any sort: its outputs are as the named inputs are, and share two slots.
+/// A phony with inputs of any sort. Its outputs have the stamp and the flag of the named inputs, and share two
+/// slots.
 #[derive(Debug, Drop)]
 pub struct GatherWiring {
     pub named: Items<Input>,
-    /// The order-only source files that aren't named too.
+    /// The order-only source files that aren't also named inputs.
     pub order_only: Items<u32>,
     pub outputs: Items<Output>,
-    /// The flag slots among the named inputs, each once, in any order.
+    /// The flag slots among the named inputs, without repetitions, in any order.
     pub flags: Items<u32>,
     /// The stamp slot of all outputs.
     pub stamp: u32,
@@ -65,6 +67,7 @@ pub enum Wiring {
     Command(CommandWiring),
     /// A phony with inputs.
     Gather(GatherWiring),
-    /// A phony without inputs, by its outputs: each is as its own file is, and has two slots of its own.
+    /// A phony without inputs, by its outputs. Each output has the stamp of its own file, and two slots of its
+    /// own.
     Alone(Items<Output>),
 }
