@@ -1,4 +1,4 @@
--- What filling a slot does to the paths that are met.
+-- The effect of filling a slot on the paths that are found.
 use Rattle.std.proofs.Common.{◌≡◌, ◌≢◌, ℕ, ◌+◌, ◌<◌, ◌≤◌, List, [], ◌∷◌, ◌++◌, length, take, get_or, Bool, true, false, nat_eq, refl, sym, ap, ◌∙◌, subst, if◌then◌else◌, ◌⊎◌, inl, inr, arith}
 use Rattle.std.proofs.Math.Seq.{get_or-append_seam, take-length, take-append_seam}
 use Rattle.std.proofs.lemmas.Bool.{cases_eq, cases_lt}
@@ -23,7 +23,7 @@ filled_before old new at filled start end some f h j low high none = by (cases_e
     by (inl same) = let zero_here : filled ≡ 0 = sym f.here ∙ ap (λ (k : ℕ). get_or new k 0) (sym same) ∙ none in omega (arith, zero_here, some)
     by (inr other) = h j low high (sym (f.others j other) ∙ none)
 
--- what was met is met where an empty slot is filled
+-- a code that is found stays found if an empty slot is filled
 met_stays : (old new : List ℕ) (at filled start code : ℕ) → get_or old at 0 ≡ 0 → 0 < filled → 0 < code → IsFilled old at filled new → IsMet old start code → IsMet new start code
 met_stays old new at filled start code empty some more f m = record {
   at = m.at;
@@ -32,7 +32,7 @@ met_stays old new at filled start code empty some more f m = record {
   filled = filled_before old new at filled start m.at some f m.filled;
 }
 
--- what fills the first empty slot is met
+-- a code that fills the first empty slot is found
 met_here : (old new : List ℕ) (at start code : ℕ) → IsVacant old start at → IsFilled old at code new → IsMet new start code
 met_here old new at start code v f = record {
   at = at;
@@ -58,7 +58,7 @@ next_placed paths old new size number at v f h n lt len = by (cases_eq n number)
     by (inl same) = subst (λ (k : ℕ). IsPlaced paths new size k) (sym same) (met_here old new at _ _ v f)
     by (inr other) = slots_kept paths old new size number at number (hash_of (get_or paths number [])) v.empty f h n (omega (arith, lt, other)) len
 
--- the paths in front of another are placed as they were
+-- appending a path leaves those before it placed
 pub placed_before : (paths : List (List ℕ)) (path slots : List ℕ) (size n : ℕ) → n < length paths → IsPlaced paths slots size n → IsPlaced (paths ++ path ∷ []) slots size n
 placed_before paths path slots size n lt h =
     subst (λ (p : List ℕ). IsMet slots (start_of size (hash_of p)) (code_of n (hash_of p))) (sym (get_or_append_left paths (path ∷ []) [] n lt)) h
@@ -77,12 +77,12 @@ one_placed paths path old new size count at v f all h n lt len = by (cases_eq n 
         let before : n < length paths = omega (arith, lt, other) in
         placed_before paths path new size n before (slots_kept paths old new size count at (length paths) (hash_of path) v.empty f h n (omega (arith, before, all)) before)
 
--- fewer paths are placed as they were
+-- fewer paths stay placed
 pub placed_of_fewer : (paths : List (List ℕ)) (slots : List ℕ) (size few n : ℕ) → n < few → IsPlaced paths slots size n → IsPlaced (take few paths) slots size n
 placed_of_fewer paths slots size few n lt h =
     subst (λ (p : List ℕ). IsMet slots (start_of size (hash_of p)) (code_of n (hash_of p))) (sym (get_or-take few paths n [] lt)) h
 
--- a path that is met from where a search began stands in front of the first empty slot
+-- a path that is found by a search is before the first empty slot
 met_before : (slots : List ℕ) (start at code : ℕ) → 0 < code → IsVacant slots start at → (m : IsMet slots start code) → m.at < at
 met_before slots start at code some v m = by (cases_lt m.at at)
   where
@@ -94,7 +94,7 @@ met_before slots start at code some v m = by (cases_lt m.at at)
           | inr other ↦ absurd (m.filled at v.behind (omega (arith, after, other)) v.empty)
         ]
 
--- a path that no slot leads to isn't there
+-- a path that no slot refers to isn't in the list
 pub is_new : (paths : List (List ℕ)) (slots path : List ℕ) (size count at : ℕ) → IsVacant slots (start_of size (hash_of path)) at → LeadElsewhere paths slots (start_of size (hash_of path)) at path
     → length paths ≤ count → ((n : ℕ) → n < count → n < length paths → IsPlaced paths slots size n) → list_any (pointwise nat_eq path) paths ≡ false
 is_new paths slots path size count at v elsewhere all h = list_any_none (pointwise nat_eq path) paths (All-from_get_or (λ p. pointwise nat_eq path p ≡ false) paths [] differs)
@@ -114,11 +114,11 @@ kept : (paths : List (List ℕ)) (path : List ℕ) (t : Bool) → take (length p
 kept paths path true = take-length paths
 kept paths path false = take-append_seam paths (path ∷ [])
 
--- where one path more is added, those before stay
+-- adding a path keeps those before it
 pub paths_kept : (paths : List (List ℕ)) (path : List ℕ) → take (length paths) (with_path paths path) ≡ paths
 paths_kept paths path = kept paths path (list_any (pointwise nat_eq path) paths)
 
--- a path behind others is added last
+-- a path after others is added last
 pub added_last : (paths more : List (List ℕ)) (path : List ℕ) → with_paths paths (more ++ path ∷ []) ≡ with_path (with_paths paths more) path
 added_last paths [] path = refl
 added_last paths (next ∷ more) path = added_last (with_path paths next) more path

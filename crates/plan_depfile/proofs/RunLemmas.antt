@@ -1,4 +1,4 @@
--- What a run of plain bytes does to the answer.
+-- The effect of a run of plain bytes on the result.
 use Rattle.std.proofs.Common.{◌≡◌, ◌≢◌, ℕ, zero, suc, ◌+◌, ◌-◌, ◌≤◌, ◌==◌, nat_lt, Bool, true, false, List, [], ◌∷◌, ◌++◌, length, take, drop, length-drop, refl, sym, ap, ◌∙◌, add-zero, append_assoc, append-nil, if◌then◌else◌, arith}
 use Rattle.std.specs.List.{prefix_len}
 use Rattle.std.proofs.lemmas.List.{length-append, take_all}
@@ -48,7 +48,7 @@ first_plain b n text h = by_test (is_plain b) refl
     by_test true e = (e, (let k : suc n ≤ suc (prefix_len is_plain text) = grind (arith, h, e) in omega (arith, k)))
     by_test false e = let f : ⊥ = grind (arith, h, e) in absurd f
 
--- plain bytes, where a reader stands at what they keep
+-- plain bytes, in a state that they keep
 run_read : (stop at n : ℕ) (stand : Stand) (text rest : List ℕ) → IsSteady stand → n ≤ prefix_len is_plain text
     → go stop stand (marks_past at (text ++ rest) 0) ≡ go stop (past_run stand (take n text)) (marks_past (at + n) (drop n text ++ rest) 0)
 run_read stop at zero stand text rest s h = ap (λ (n : ℕ). go stop stand (marks_past n (text ++ rest) 0)) (sym (add-zero at))
@@ -60,7 +60,7 @@ run_read stop at (suc n) stand (b ∷ text) rest s h =
     ∙ run_read stop (suc at) n (past_plain stand b) text rest (steady_past stand b s) p.1
     ∙ ap (λ (k : ℕ). go stop (past_run (past_plain stand b) (take n text)) (marks_past k (drop n text ++ rest) 0)) (omega arith)
 
--- the same for the answer
+-- the same for the result
 run_taken : (paths : List (List ℕ)) (stand : Stand) (at n : ℕ) (text rest : List ℕ) → IsSteady stand → n ≤ prefix_len is_plain text → n ≤ length text
     → found_with paths (past_run stand (take n text)) (at + n + length (drop n text ++ rest)) (marks_past (at + n) (drop n text ++ rest) 0) ≡ found_with paths stand (at + length (text ++ rest)) (marks_past at (text ++ rest) 0)
 run_taken paths stand at n text rest s h within =
@@ -68,7 +68,7 @@ run_taken paths stand at n text rest s h within =
     ap (λ (k : ℕ). found_with paths (past_run stand (take n text)) k (marks_past (at + n) (drop n text ++ rest) 0)) stops
     ∙ ap (λ r. found_after paths (at + length (text ++ rest)) r) (sym (run_read (at + length (text ++ rest)) at n stand text rest s h))
 
--- the same for a machine that holds nothing
+-- the same for a machine without pending bytes
 pub run_answered : (old new : Machine) (n : ℕ) (text rest : List ℕ) → old.held ≡ held.Nothing → IsSteady (stand_at old.stand old.word.items) → n ≤ prefix_len is_plain text → n ≤ length text
     → new.held ≡ old.held → new.fault ≡ old.fault → new.at ≡ old.at + n → paths_found new ≡ paths_found old → stand_at new.stand new.word.items ≡ past_run (stand_at old.stand old.word.items) (take n text)
     → answer new (drop n text ++ rest) ≡ answer old (text ++ rest)
@@ -83,7 +83,7 @@ run_answered old new n text rest nothing steady plain within same_held same_faul
     ∙ ap (λ f. unless f (found_with (paths_found old) (stand_at old.stand old.word.items) (old.at + length (text ++ rest)) (marks_past old.at (text ++ rest) 0))) same_fault
     ∙ sym (ap (λ (h : Held). unless old.fault (found_with (paths_found old) (stand_at old.stand old.word.items) (old.at + length (bytes_of h ++ (text ++ rest))) (marks_past old.at (bytes_of h ++ (text ++ rest)) 0))) nothing)
 
--- where no path is read
+-- outside of paths
 pub run_elsewhere : (s : RustStand) (word run : List ℕ) → ((start : ℕ) → s ≢ stand.Inside start) → stand_at s word ≡ past_run (stand_at s word) run
 run_elsewhere stand.Fresh word [] h = refl
 run_elsewhere stand.Fresh word (b ∷ run) h = run_elsewhere stand.Fresh word run h
@@ -95,7 +95,7 @@ run_elsewhere stand.Between word [] h = refl
 run_elsewhere stand.Between word (b ∷ run) h = run_elsewhere stand.Between word run h
 run_elsewhere (stand.Inside start) word run h = absurd (h start refl)
 
--- of a path so much is appended as it has room
+-- in a path, as many bytes are appended as there is room for
 pub run_of_path : (start : ℕ) (word run : List ℕ) → past_run (Inside start word) run ≡ Inside start (word ++ take (4097 - length word) run)
 run_of_path start word [] = ap (λ (w : List ℕ). Inside start w) (sym (ap (λ (r : List ℕ). word ++ r) (take_all (4097 - length word) [] (omega arith)) ∙ append-nil word))
 run_of_path start word (b ∷ run) = by_test (λ w. run_of_path start w run) (nat_lt 4096 (length word)) refl

@@ -1,4 +1,4 @@
--- Where no fault stands yet, none is sure: some bytes to come give another answer.
+-- If there is no fault yet, no fault is sure: some further bytes give another result.
 use Rattle.std.proofs.Common.{◌≡◌, ℕ, ◌+◌, ◌≤◌, nat_lt, Bool, true, false, List, [], ◌∷◌, ◌++◌, length, Result, Ok, Err, Option, None, sym, ap, ◌∙◌, subst, if◌then◌else◌, arith}
 use Rattle.std.proofs.lemmas.Bool.Decides.{nat_tests}
 use Rattle.plan_depfile.specs.declared.fault.DepFault.{DepFault}
@@ -61,7 +61,7 @@ path_and_not (TooLong at) l s = l
 path_and_not (LoneDollar at) l s = l
 path_and_not Memory l s = l
 
--- what holds of the fault, where there is one
+-- a property of the fault, if there is one
 abbrev OfFault : (DepFault → Type 0) → Result (List (List ℕ)) DepFault → Type 0
 OfFault P (Ok paths) = Unit {0}
 OfFault P (Err fault) = P fault
@@ -74,18 +74,18 @@ either : (P : DepFault → Type 0) (t : Bool) (a b : DepFault) → P a → P b �
 either P true a b p q = p
 either P false a b p q = q
 
--- of a text that isn't too long
+-- for a text that isn't too long
 below : (P : DepFault → Type 0) (paths : List (List ℕ)) (r : Result (List (List ℕ)) Met) → OfMet P r → OfFault P (within false ((r >>= (λ more. Ok (with_paths paths more)))))
 below P paths (Ok more) h = tt
 below P paths (Err m) h = h
 
--- of a text of any length
+-- for a text of any length
 always : (P : DepFault → Type 0) → P (TooLong most) → (t : Bool) (paths : List (List ℕ)) (r : Result (List (List ℕ)) Met) → OfMet P r → OfFault P (within t ((r >>= (λ more. Ok (with_paths paths more)))))
 always P long false paths r h = below P paths r h
 always P long true paths (Ok more) h = long
 always P long true paths (Err m) h = either P (nat_lt m.met most) m.fault (TooLong most) h long
 
--- bytes behind which a line has its colon, or is a comment
+-- bytes after which a line has its colon, or is a comment
 abbrev colon_behind : Held → List ℕ
 colon_behind held.Dollar = 36 ∷ 58 ∷ []
 colon_behind held.Nothing = 120 ∷ 58 ∷ []
@@ -93,7 +93,7 @@ colon_behind held.Backslash = 120 ∷ 58 ∷ []
 colon_behind held.BackslashReturn = 120 ∷ 58 ∷ []
 colon_behind held.Return = 120 ∷ 58 ∷ []
 
--- what is found outside of paths
+-- the result outside of paths
 abbrev Finds : (DepFault → Type 0) → Stand → ℕ → ℕ → List ℕ → Type 0
 Finds P s stop at text = OfMet P (go stop s (marks_past at text 0))
 
@@ -153,7 +153,7 @@ between_goes_on stop at held.BackslashReturn = tt
 between_goes_on stop at held.Dollar = tt
 between_goes_on stop at held.Return = tt
 
--- bytes of which the first is a `$`; behind a `$` that is held it isn't lone
+-- bytes that begin with a `$`; after a pending `$` it isn't single
 abbrev dollar_behind : Held → List ℕ
 dollar_behind held.Dollar = 36 ∷ []
 dollar_behind held.Nothing = 36 ∷ 120 ∷ []
@@ -161,7 +161,7 @@ dollar_behind held.Backslash = 36 ∷ 120 ∷ []
 dollar_behind held.BackslashReturn = 36 ∷ 120 ∷ []
 dollar_behind held.Return = 36 ∷ 120 ∷ []
 
--- the faults of a path where the text ends here
+-- the faults of a path if the text ends here
 abbrev ends_with : Held → DepFault → Type 0
 ends_with held.Dollar = IsLone
 ends_with held.Nothing = IsPath
@@ -169,7 +169,7 @@ ends_with held.Backslash = IsPath
 ends_with held.BackslashReturn = IsPath
 ends_with held.Return = IsPath
 
--- and where it goes on
+-- the faults of a path if the text goes on
 abbrev goes_with : Held → DepFault → Type 0
 goes_with held.Dollar = IsNoLone
 goes_with held.Nothing = IsNoPath
@@ -185,7 +185,7 @@ by_len_too : (start met : ℕ) (bytes : List ℕ) (t : Bool) → OfMet IsNoLone 
 by_len_too start met bytes true = tt
 by_len_too start met bytes false = tt
 
--- in a path: the text ends here
+-- in a path, if the text ends here
 path_ends : (start : ℕ) (bytes : List ℕ) (stop at : ℕ) (h : Held) → Finds (ends_with h) (Inside start bytes) stop at (bytes_of h ++ [])
 path_ends start bytes stop at held.Nothing = by_len start stop bytes (nat_lt 4096 (length bytes))
 path_ends start bytes stop at held.Backslash = by_len start stop (grown bytes 92) (nat_lt 4096 (length (grown bytes 92)))
@@ -193,7 +193,7 @@ path_ends start bytes stop at held.BackslashReturn = by_len start stop (grown (g
 path_ends start bytes stop at held.Return = by_len start stop (grown bytes 13) (nat_lt 4096 (length (grown bytes 13)))
 path_ends start bytes stop at held.Dollar = tt
 
--- in a path: a `$` follows
+-- in a path, if a `$` follows
 path_goes_on : (start : ℕ) (bytes : List ℕ) (stop at : ℕ) (h : Held) → Finds (goes_with h) (Inside start bytes) stop at (bytes_of h ++ dollar_behind h)
 path_goes_on start bytes stop at held.Nothing = tt
 path_goes_on start bytes stop at held.Backslash = tt
@@ -223,7 +223,7 @@ is_short at held.BackslashReturn w = grind (arith, nat_tests, w)
 is_short at held.Dollar w = grind (arith, nat_tests, w)
 is_short at held.Return w = grind (arith, nat_tests, w)
 
--- what is found where a reader stands and these bytes follow
+-- the result from this state if these bytes follow
 abbrev found : List (List ℕ) → Stand → ℕ → Held → List ℕ → Result (List (List ℕ)) DepFault
 found paths s at h rest = found_with paths s (at + length (bytes_of h ++ rest)) (marks_past at (bytes_of h ++ rest) 0)
 
@@ -261,7 +261,7 @@ none_always paths (Inside start bytes) at h fault w always =
     ends_or_goes h fault (by_end (ends_with h) paths (Inside start bytes) at h fault w always (path_ends start bytes (at + length (bytes_of h ++ [])) at h))
     (by_more (goes_with h) (long_goes h) paths (Inside start bytes) at h fault (dollar_behind h) always (path_goes_on start bytes (at + length (bytes_of h ++ dollar_behind h)) at h))
 
--- where no fault stands yet, none is sure
+-- if there is no fault yet, no fault is sure
 pub none_is_sure : (reader : Reader) → failed reader ≡ None → (fault : DepFault) → IsSure reader fault → ⊥
 none_is_sure reader none fault sure =
     let m = reader.machine in

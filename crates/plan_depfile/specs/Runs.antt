@@ -6,7 +6,7 @@ use Rattle.plan_depfile.specs.Going.{Stand, Fresh, Comment, Targets, Between, In
 abbrev pub is_plain : ℕ → Bool
 is_plain b = nat_lt 36 b && not (b == 58) && not (b == 92)
 
--- where plain bytes change nothing but the path so far
+-- states in which plain bytes change only the current path
 abbrev pub IsSteady : Stand → Type 0
 IsSteady Fresh = ⊥
 IsSteady Comment = Unit {0}
@@ -21,7 +21,7 @@ past_plain (Targets first) b = Targets first
 past_plain Between b = Between
 past_plain (Inside start word) b = Inside start (grown word b)
 
--- where a reader stands behind a run of plain bytes
+-- the state of a reader after a run of plain bytes
 abbrev pub past_run : Stand → List ℕ → Stand
 past_run stand [] = stand
 past_run stand (b ∷ run) = past_run (past_plain stand b) run

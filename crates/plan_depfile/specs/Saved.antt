@@ -1,9 +1,9 @@
--- What a machine is put back to.
+-- A saved state of a machine.
 use Rattle.std.specs.Prelude.{◌≡◌, [], length}
 use Rattle.plan_depfile.specs.declared.state.Machine.{Machine}
 use Rattle.plan_depfile.specs.declared.state.Saved.{Saved}
 
--- this was kept of the machine
+-- the saved state is that of the machine
 pub record IsSaved (m : Machine) (saved : Saved) : Type 0 where
   pub word : saved.word.items ≡ m.word.items
   pub paths : saved.paths ≡ length m.paths.listed

@@ -1,4 +1,4 @@
-//! A depfile's bytes that come in pieces, read while they are gathered.
+//! Collects the pieces of a depfile, and parses them on the way.
 
 ghost use Rattle.std.specs.Prelude.{◌≡◌, ℕ, List, [], ◌++◌, IfOk, IfErr, OnOk, OnErr};
 ghost use Rattle.plan_depfile.specs.Reader.{answer_of};
@@ -10,8 +10,8 @@ use plan_text::Memory;
 use std::alloc::Global;
 use std::marker::Model;
 
-/// Gathers a depfile's bytes, and reads them as they come. Contracts see the bytes. Behind a fault of the grammar it
-/// goes on to gather.
+/// Collects the bytes of a depfile, and parses them as they come. A contract sees the bytes. After a fault of
+/// the grammar, it continues to collect bytes.
 #[derive(Drop)]
 pub struct Gather {
     reader: Reader,
@@ -27,7 +27,7 @@ impl Model for Gather {
 }
 
 impl Gather {
-    /// Nothing gathered yet. It takes no memory.
+    /// Creates an empty collector. It takes no memory.
     pub fn new(alloc: Global) -> Self
         ensures { result ≡ [] }
     {
@@ -37,7 +37,7 @@ impl Gather {
         }
     }
 
-    /// Gathers a piece. Without memory nothing changes.
+    /// Appends and parses a piece. If memory runs out, nothing changes.
     pub fn feed(&mut self, piece: &[u8]) -> Result<(), Memory>
         ensures fed { OnOk result (self.new ≡ self.old ++ piece.now) }
         ensures unchanged { OnErr result (self.new ≡ self.old) }
@@ -53,7 +53,8 @@ impl Gather {
         }
     }
 
-    /// What was gathered, with its paths or its fault. Without memory it is handed back, unchanged.
+    /// Returns the collected bytes, with their paths or their fault. If memory runs out, returns the collector
+    /// unchanged.
     pub fn finish(self) -> Result<Parsed, (Gather, Memory)>
         ensures parsed { IfOk result (λ p. p ≡ self) }
         ensures back { IfErr result (λ e. e.0 ≡ self) }

@@ -1,21 +1,22 @@
-//! The hash of a path, and what it says of its slot.
+//! Hashes of paths, and their slots in a hash table.
 
 ghost use Rattle.std.specs.Prelude.{◌≡◌, ◌≤◌, ◌<◌};
 ghost use Rattle.plan_depfile.specs.PathSets.{hash_of, start_of, code_of, most_paths};
 
+use plan_text::feed_words;
 use std::hash::{FoldHasher, Hasher};
 
-/// The hash of a path.
+/// Returns the hash of a path.
 #[tactic(auto, unfolding(crate::specs::PathSets::hash_of))]
 pub fn hash_of(path: &[u8]) -> u64
     ensures { result ≡ hash_of path.now }
 {
     let mut hasher = FoldHasher::default();
-    hasher.write(path);
+    feed_words(path, &mut hasher);
     hasher.finish()
 }
 
-/// From which of so many slots on a hash is looked for.
+/// Returns the slot from which on a hash is searched, in a table of `size` slots.
 #[tactic(auto, unfolding(crate::specs::PathSets::start_of))]
 pub fn start_of(size: usize, hash: u64) -> usize
     ensures start { result ≡ start_of size hash }
@@ -25,7 +26,8 @@ pub fn start_of(size: usize, hash: u64) -> usize
     (place as usize).min(size)
 }
 
-/// What stands in the slot of the path of this number and hash.
+/// Returns the code that is stored in the slot of a path: eight bits of the hash, and the number of the path
+/// plus one.
 #[tactic(auto, unfolding(crate::specs::PathSets::code_of))]
 pub fn code_of(number: usize, hash: u64) -> u32
     requires { number < most_paths }

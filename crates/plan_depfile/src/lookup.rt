@@ -1,4 +1,4 @@
-//! Searches among slots.
+//! Searches for paths in slots.
 
 ghost use Rattle.std.specs.Prelude.{◌≡◌, ◌≤◌, ◌<◌, ℕ, [], length, get_or, nat_eq, true, false};
 ghost use Rattle.std.specs.Cmp.Lexicographic.{pointwise};
@@ -8,7 +8,8 @@ ghost use Rattle.plan_depfile.specs.PathSets.{hash_of, code_of, most_paths, IsVa
 use crate::place::Place;
 use plan_text::RowList;
 
-/// Whether a slot leads to a path of this hash. Its eight bits of the hash are looked at first.
+/// Returns whether a slot refers to a path with this hash. The eight bits of the hash in the slot are compared
+/// first.
 #[tactic(auto, unfolding(crate::specs::PathSets::code_of))]
 fn leads_to(paths: &RowList<u8>, code: u32, hash: u64, path: &[u8]) -> bool
     requires { hash ≡ hash_of path.now }
@@ -25,7 +26,7 @@ fn leads_to(paths: &RowList<u8>, code: u32, hash: u64, path: &[u8]) -> bool
     path == paths.row(number)
 }
 
-/// Looks for a path from one slot on.
+/// Searches for a path from one slot on.
 pub fn find(paths: &RowList<u8>, slots: &[u32], start: usize, hash: u64, path: &[u8]) -> Place
     requires within { start ≤ length slots.now }
     requires few { length paths.now ≤ most_paths }
@@ -44,7 +45,7 @@ pub fn find(paths: &RowList<u8>, slots: &[u32], start: usize, hash: u64, path: &
     Place::Vacant(slots.len())
 }
 
-/// The first empty slot from this one on; it may be the one behind the last.
+/// Returns the first empty slot from this one on. If there is none, returns the index after the last slot.
 pub fn vacant(slots: &[u32], start: usize) -> usize
     requires { start ≤ length slots.now }
     ensures { IsVacant slots.now start result }

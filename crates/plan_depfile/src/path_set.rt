@@ -1,4 +1,4 @@
-//! The paths found so far, each once.
+//! The set of the paths found so far.
 
 ghost use Rattle.std.specs.Prelude.{◌≡◌, [], OnOk, OnErr, length, take, true};
 ghost use Rattle.plan_depfile.specs.Depfile.{with_path, with_paths};
@@ -13,9 +13,9 @@ use plan_text::RowList;
 use std::alloc::{AllocError, Global};
 use std::marker::Model;
 
-/// Paths in the order in which they were added, each once. Their bytes are held one behind the other; each takes four
-/// bytes more, and about five to seven for the slots by which it is found. Some paths wait until there are several, so
-/// that all their slots are read at once; contracts see both.
+/// A set of paths in the order in which they were added. Their bytes are stored consecutively. Each path takes
+/// four bytes more, and about five to seven for the slots by which it is found. Some paths are queued until
+/// there are several, so that all their slots are read at once. A contract sees both lists.
 #[derive(Drop)]
 pub struct PathSet {
     paths: RowList<u8>,
@@ -33,7 +33,7 @@ impl Model for PathSet {
     ghost invariant = { λ s. ArePlaced s.paths s.table };
 }
 
-/// Adds a path unless it is there already.
+/// Adds a path unless it is in the set.
 fn insert_into(
     paths: &mut RowList<u8>,
     table: &mut SlotTable,
@@ -56,7 +56,7 @@ fn insert_into(
     }
 }
 
-/// Adds paths, each unless it is there already. A refusal may leave some of them added.
+/// Adds each of these paths unless it is in the set. After an error, some of them may have been added.
 fn insert_all(
     paths: &mut RowList<u8>,
     table: &mut SlotTable,
@@ -74,7 +74,7 @@ fn insert_all(
     Ok(())
 }
 
-/// Adds the paths that wait. A refusal changes nothing.
+/// Adds the queued paths. An error changes nothing.
 fn list_waiting(
     paths: &mut RowList<u8>,
     table: &mut SlotTable,
@@ -101,14 +101,14 @@ fn list_waiting(
     }
 }
 
-/// Whether slots are so few that each is at hand soon, and no path waits.
+/// Returns whether there are so few slots that reading ahead doesn't pay, and no path is queued.
 fn are_at_hand(table: &SlotTable, waiting: &RowList<u8>) -> bool
     ensures { result ≡ true → waiting.now ≡ [] }
 {
     (table.size < FEW_SLOTS) & (waiting.len() == 0)
 }
 
-/// Adds a path, unless it is there already, or has it wait; if enough wait, they are added before.
+/// Adds a path unless it is in the set, or queues it. If the queue is full, its paths are added first.
 fn put_off(
     paths: &mut RowList<u8>,
     table: &mut SlotTable,
@@ -134,7 +134,7 @@ fn put_off(
     Ok(())
 }
 
-/// Keeps the first paths, so many.
+/// Keeps the first `len` paths.
 fn cut(paths: &mut RowList<u8>, table: &SlotTable, len: usize)
     requires placed { ArePlaced paths.old table.now }
     ensures placed { ArePlaced paths.new table.now }
@@ -145,7 +145,7 @@ fn cut(paths: &mut RowList<u8>, table: &SlotTable, len: usize)
 }
 
 impl PathSet {
-    /// No path. It takes no memory.
+    /// Creates an empty set. It takes no memory.
     pub fn new(alloc: Global) -> Self
         ensures { result ≡ record { listed = []; waiting = [] } }
     {
@@ -162,14 +162,14 @@ impl PathSet {
         }
     }
 
-    /// How many paths are listed.
+    /// Returns the number of listed paths.
     pub fn len(&self) -> usize
         ensures { result ≡ length self.now.listed }
     {
         self.paths.len()
     }
 
-    /// Adds a path unless it is there already. A refusal adds nothing.
+    /// Adds a path unless it is in the set. An error adds nothing.
     pub fn insert(&mut self, path: &[u8]) -> Result<(), AllocError>
         ensures added { OnOk result (all_found self.new ≡ with_path (all_found self.old) path.now) }
         ensures same { OnErr result (all_found self.new ≡ all_found self.old) }
@@ -178,7 +178,7 @@ impl PathSet {
         put_off(&mut self.paths, &mut self.table, &mut self.waiting, path)
     }
 
-    /// Lists the paths that wait. A refusal changes nothing.
+    /// Lists the queued paths. An error changes nothing.
     pub fn settle(&mut self) -> Result<(), AllocError>
         ensures settled { OnOk result (self.new ≡ record { listed = all_found self.old; waiting = [] }) }
         ensures same { all_found self.new ≡ all_found self.old }
@@ -187,8 +187,8 @@ impl PathSet {
         list_waiting(&mut self.paths, &mut self.table, &mut self.waiting)
     }
 
-    /// Keeps the first listed paths, so many, and drops the others and those that wait. Their slots stay filled until
-    /// there are more slots.
+    /// Keeps the first `len` listed paths, and drops the others and those that are queued. Their slots stay
+    /// occupied until the table grows.
     pub fn truncate(&mut self, len: usize)
         ensures { self.new ≡ record { listed = take len self.old.listed; waiting = [] } }
     {
@@ -196,7 +196,7 @@ impl PathSet {
         self.waiting.truncate(0);
     }
 
-    /// The listed paths as rows.
+    /// Returns the listed paths as rows.
     pub fn into_rows(self) -> RowList<u8>
         ensures { result ≡ self.listed }
     {

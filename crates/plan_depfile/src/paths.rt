@@ -6,8 +6,8 @@ use plan_text::{Memory, RowList};
 use std::alloc::Global;
 use std::marker::Model;
 
-/// The canonical paths of a depfile in order of first appearance, each once, which a contract sees as a list of texts.
-/// Their bytes are held one behind the other.
+/// The canonical paths of a depfile in order of first appearance, without repetitions. A contract sees a list
+/// of texts. Their bytes are stored consecutively.
 #[derive(Drop)]
 pub struct Paths {
     rows: RowList<u8>,
@@ -22,28 +22,36 @@ impl Model for Paths {
 }
 
 impl Paths {
-    /// The paths that these rows are.
+    /// Wraps rows as paths.
     pub(crate) fn of(rows: RowList<u8>) -> Self
         ensures { result ≡ rows }
     {
         Paths { rows }
     }
 
-    /// How many paths there are.
+    /// Returns the number of paths.
     pub fn len(&self) -> usize
         ensures { result ≡ length self.now }
     {
         self.rows.len()
     }
 
-    /// The path of this number, counted from 0; empty where there are not as many.
+    /// Returns path `number`, counted from 0. If there is no such path, returns an empty one.
     pub fn path(&self, number: usize) -> &[u8]
         ensures { result.now ≡ get_or self.now number [] }
     {
         self.rows.row(number)
     }
 
-    /// The same paths once more.
+    /// Returns the paths as rows.
+    pub fn into_rows(self) -> RowList<u8>
+        ensures { result ≡ self }
+    {
+        let Paths { rows } = self;
+        rows
+    }
+
+    /// Returns a copy.
     pub fn copy(&self, alloc: Global) -> Result<Self, Memory>
         ensures { IfOk result (λ paths. paths ≡ self.now) }
     {

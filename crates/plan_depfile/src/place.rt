@@ -1,10 +1,10 @@
-//! Where a path is found.
+//! The results of searches.
 
-/// What a search among slots comes to.
+/// The result of a search in slots.
 #[derive(Clone, Copy)]
 pub enum Place {
-    /// A slot leads to the path.
+    /// A slot refers to the path.
     Listed,
-    /// No slot does, and this one is the first that is empty; it may be the one behind the last.
+    /// No slot refers to the path. Holds the first empty slot, or the index after the last slot.
     Vacant(usize),
 }

@@ -1,4 +1,4 @@
-//! How paths get their slots.
+//! Placing paths in slots.
 
 ghost use Rattle.std.specs.Prelude.{◌≡◌, ◌≤◌, ◌<◌, ◌+◌, ◌++◌, ◌∷◌, [], length, OnOk, OnErr};
 ghost use Rattle.plan_depfile.specs.PathSets.{hash_of, most_paths, ArePlaced, IsFilled, IsVacant, start_of};
@@ -9,10 +9,10 @@ use crate::slot_table::SlotTable;
 use plan_text::RowList;
 use std::alloc::AllocError;
 
-/// For how many paths slots are read at once.
+/// The number of paths whose slots are read at once.
 pub const AHEAD: usize = 32;
 
-/// Of fewer slots, less than 128 KiB, none is read ahead.
+/// The number of slots from which on slots are read ahead. Fewer slots take less than 128 KiB.
 pub const FEW_SLOTS: usize = 32_768;
 
 /// Fills an empty slot, or appends one.
@@ -29,7 +29,7 @@ fn fill(slots: &mut Vec<u32>, at: usize, code: u32) -> Result<(), AllocError>
     Ok(())
 }
 
-/// As many empty slots as are told, in place of those that are there. A refusal changes nothing.
+/// Replaces the slots by `size` empty ones. An error changes nothing.
 fn empty_slots(slots: &mut Vec<u32>, size: usize) -> Result<(), AllocError>
     ensures len { OnOk result (length slots.new.items ≡ size) }
     ensures same { OnErr result (slots.new.items ≡ slots.old.items) }
@@ -40,7 +40,7 @@ fn empty_slots(slots: &mut Vec<u32>, size: usize) -> Result<(), AllocError>
     Ok(())
 }
 
-/// Where the search for each of the next paths begins.
+/// Returns the slots at which the searches for the next paths begin.
 fn next_starts(paths: &RowList<u8>, from: usize, size: usize) -> [usize; AHEAD] {
     let mut starts = [0; AHEAD];
     let mut number = from;
@@ -51,7 +51,8 @@ fn next_starts(paths: &RowList<u8>, from: usize, size: usize) -> [usize; AHEAD] 
     starts
 }
 
-/// Reads the slots at which the search for each of the next paths begins.
+/// Reads the slots at which the searches for the next paths begin. The result has no meaning, and only keeps
+/// these reads from being optimized away.
 pub fn read_ahead(paths: &RowList<u8>, from: usize, table: &SlotTable) -> u32 {
     if table.size < FEW_SLOTS {
         return 0;
@@ -66,7 +67,7 @@ pub fn read_ahead(paths: &RowList<u8>, from: usize, table: &SlotTable) -> u32 {
     seen
 }
 
-/// Gives the next path its slot.
+/// Places the next path in its slot.
 fn place_next(paths: &RowList<u8>, table: &mut SlotTable) -> Result<(), AllocError>
     requires next { table.old.placed < length paths.now }
     requires placed { ArePlaced paths.now table.old }
@@ -81,7 +82,7 @@ fn place_next(paths: &RowList<u8>, table: &mut SlotTable) -> Result<(), AllocErr
     Ok(())
 }
 
-/// Gives the paths that have none yet their slots.
+/// Places the paths that have no slot yet.
 fn place_rest(paths: &RowList<u8>, table: &mut SlotTable) -> Result<(), AllocError>
     requires placed { ArePlaced paths.now table.old }
     ensures placed { ArePlaced paths.now table.new }
@@ -96,7 +97,7 @@ fn place_rest(paths: &RowList<u8>, table: &mut SlotTable) -> Result<(), AllocErr
     Ok(())
 }
 
-/// Makes more slots, in which no path is placed yet. A refusal leaves what is placed.
+/// Creates more slots, in which no path is placed yet. An error keeps the paths that are placed.
 fn widen(paths: &RowList<u8>, table: &mut SlotTable) -> Result<(), AllocError>
     requires placed { ArePlaced paths.now table.old }
     ensures placed { ArePlaced paths.now table.new }
@@ -111,7 +112,7 @@ fn widen(paths: &RowList<u8>, table: &mut SlotTable) -> Result<(), AllocError>
     Ok(())
 }
 
-/// Sees that there is room for one path more, and that each path has its slot.
+/// Ensures that there is room for one more path, and that each path has its slot.
 pub fn make_ready(paths: &RowList<u8>, table: &mut SlotTable) -> Result<(), AllocError>
     requires placed { ArePlaced paths.now table.old }
     ensures placed { ArePlaced paths.now table.new }
@@ -123,7 +124,7 @@ pub fn make_ready(paths: &RowList<u8>, table: &mut SlotTable) -> Result<(), Allo
     place_rest(paths, table)
 }
 
-/// Adds a path that no slot leads to, where this slot is empty.
+/// Adds a path that no slot refers to, and places it in this empty slot.
 pub fn add(
     paths: &mut RowList<u8>,
     table: &mut SlotTable,

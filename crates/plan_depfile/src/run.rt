@@ -11,14 +11,15 @@ use crate::machine::MOST;
 use crate::state::{Held, Machine, Stand};
 use plan_text::MAX_PATH;
 
-/// Whether a byte stands for itself, whatever follows. The few such bytes below `$` are read one by one.
+/// Returns whether a byte stands for itself, whatever follows it. The few such bytes below `$` are read one by
+/// one.
 fn is_plain(b: u8) -> bool
     ensures { result ≡ is_plain b }
 {
     b > b'$' && b != b':' && b != b'\\'
 }
 
-/// How many plain bytes a text begins with.
+/// Returns the number of plain bytes at the front of a text.
 fn plain_len(text: &[u8]) -> usize
     ensures len { result ≡ prefix_len is_plain text.now }
     ensures within { result ≤ length text.now }
@@ -27,7 +28,7 @@ fn plain_len(text: &[u8]) -> usize
 }
 
 impl Machine {
-    /// How many plain bytes can be taken at once where the machine stands.
+    /// Returns the most plain bytes that can be taken at once in the present state.
     fn room(&self) -> u32
         requires within { self.now.at + length (bytes_of self.now.held) ≤ most }
         ensures held { 0 < result → self.now.held ≡ Held.Nothing }
@@ -43,7 +44,7 @@ impl Machine {
         }
     }
 
-    /// Appends plain bytes to the path so far, where there is one; what is too long already needn't grow.
+    /// Appends plain bytes to the current path, if there is one. A path that is already too long doesn't grow.
     fn append(&mut self, run: &[u8]) -> Result<(), DepFault>
         ensures stand { OnOk result (stand_at self.new.stand self.new.word.items ≡ past_run (stand_at self.old.stand self.old.word.items) run.now) }
         ensures same { OnOk result (self.new ≡ record self.old { word = self.new.word }) }
@@ -58,7 +59,8 @@ impl Machine {
         Ok(())
     }
 
-    /// Takes the plain bytes that a text begins with, as far as they can be taken at once. Answers how many they were.
+    /// Takes the plain bytes at the front of a text, as far as they can be taken at once. Returns how many
+    /// bytes were taken.
     pub fn run(&mut self, text: &[u8]) -> Result<usize, DepFault>
         requires within { self.old.at + length (bytes_of self.old.held) ≤ most }
         ensures takes { IfOk result (λ n. (rest : List ℕ) → answer self.new (drop n text.now ++ rest) ≡ answer self.old (text.now ++ rest)) }

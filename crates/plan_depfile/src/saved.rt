@@ -1,4 +1,4 @@
-//! What a machine is put back to where memory runs out.
+//! Saved states of a machine, which are restored if memory runs out.
 
 ghost use Rattle.std.specs.Prelude.{◌≡◌, ◌≢◌, ℕ, List, Some, [], IfOk, length, take};
 ghost use Rattle.plan_depfile.specs.Machine.{answer};
@@ -9,7 +9,7 @@ use crate::state::{Machine, Saved};
 use std::alloc::AllocError;
 
 impl Machine {
-    /// What the machine can be put back to. Paths that wait are listed before.
+    /// Saves the state of the machine. Lists the queued paths first.
     pub fn save(&mut self) -> Result<Saved, AllocError>
         ensures saved { IfOk result (λ saved. IsSaved self.new saved) }
         ensures same { (rest : List ℕ) → answer self.new rest ≡ answer self.old rest }
@@ -29,7 +29,7 @@ impl Machine {
         })
     }
 
-    /// Puts the machine back to what it was. Paths were only added since.
+    /// Restores a saved state. Since it was saved, paths have only been added.
     pub fn restore(&mut self, saved: Saved)
         requires lasting { saved.fault ≢ Some DepFault.Memory }
         ensures same { (was : Machine) → IsSaved was saved → take (length was.paths.listed) self.old.paths.listed ≡ was.paths.listed → (rest : List ℕ) → answer self.new rest ≡ answer was rest }

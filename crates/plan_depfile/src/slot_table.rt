@@ -1,17 +1,18 @@
 //! The slots by which paths are found.
 
-/// Slots by which paths are found, each by its number and eight bits of its hash. A path stands in the first slot that
-/// was empty from where its hash leads on; an empty slot is 0. The last slots may be behind those that hashes lead to,
-/// so that no search goes round.
+/// Slots by which paths are found. A slot holds the number of a path and eight bits of its hash, or 0 if it is
+/// empty. A path is in the first slot that was empty from the one at which its search begins. The last slots
+/// may be after those at which searches begin, so no search wraps around.
 #[derive(Drop)]
 pub struct SlotTable {
     pub codes: Vec<u32>,
-    /// To how many slots hashes lead.
+    /// The number of slots at which searches may begin.
     pub size: usize,
-    /// How many paths were placed, the first ones.
+    /// The number of paths that were placed, which are the first ones.
     pub placed: usize,
-    /// How many slots may be filled before there are too few.
+    /// The number of slots that may still be filled before the table grows.
     pub room: usize,
-    /// What was read of slots that are looked at next, all at once, so that the processor needn't wait for each.
+    /// A value computed from slots that are needed next. They are read all at once, so that the processor
+    /// needn't wait for each.
     pub ahead: u32,
 }
