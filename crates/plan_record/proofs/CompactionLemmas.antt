@@ -1,5 +1,6 @@
--- What holds of the last entries of a record. Serves src/record.rt and src/laws.rt.
-use Rattle.std.proofs.Common.{◌≡◌, ℕ, zero, suc, ◌+◌, ◌<◌, Bool, true, false, not, List, [], ◌∷◌, ◌++◌, length, map, drop, Option, Some, None, refl, ap, sym, ◌∙◌, bytes_eq, cond, if◌then◌else◌, option_map, is_some, append_assoc, arith, eqb, get_or, slice_get}
+-- The last entries of a record. Lemmas for src/record.rt and src/laws.rt.
+use Rattle.std.proofs.Common.{◌≡◌, ℕ, zero, suc, ◌+◌, ◌<◌, Bool, true, false, not, List, [], ◌∷◌, ◌++◌, length, map, drop, Option, Some, None, refl, ap, sym, ◌∙◌, bytes_eq, cond, if◌then◌else◌, option_map, is_some, append_assoc, arith, append-nil, eqb, slice_get}
+use Rattle.std.specs.Prelude.{option_to_list}
 use Rattle.std.specs.List.{IsDistinct, AllByRecursion}
 use Rattle.std.specs.Map.{lookup}
 use Rattle.std.specs.declared.vec.Vec.{Vec}
@@ -7,12 +8,11 @@ use Rattle.std.specs.declared.alloc.Global.{Global}
 use Rattle.std.specs.Cmp.Lexicographic.{nat_list_eq_equiv}
 use Rattle.std.proofs.Math.Dec.{eqb-suc-suc}
 use Rattle.std.proofs.lemmas.Bool.{ne_eqb}
-use Rattle.std.proofs.lemmas.Option.{get_or_from_slice_get}
 use Rattle.plan_record.specs.Entries.{EntryData, last_of, or_later}
 use Rattle.plan_record.specs.Outputs.{HasOneEach, IsIndexOf, later, last_number}
 use Rattle.plan_record.specs.Compaction.{has_entry, last_entries, StandFor}
 
--- ---- the last entry among some and more
+-- ---- the last entry of a concatenated list
 
 or_later_assoc : (a b c : Option EntryData) → or_later a (or_later b c) ≡ or_later (or_later a b) c
 or_later_assoc a b None = refl
@@ -29,7 +29,7 @@ last_of_append output (x ∷ xs) ys =
 
 -- ---- the last entries have the same last ones
 
--- of equal outputs the last entries are the same
+-- equal outputs have the same last entries
 last_of_equal : (p q : List ℕ) (xs : List EntryData) → bytes_eq p q ≡ true → last_of p xs ≡ last_of q xs
 last_of_equal p q [] e = refl
 last_of_equal p q (x ∷ xs) e =
@@ -70,7 +70,7 @@ last_entries_again (x ∷ xs) = by (last_entries_again xs) (has_entry x.output x
       let none : has_entry x.output (last_entries xs) ≡ false = has_last_entry x.output xs ∙ has in
       ap (λ (t : Bool). if t then last_entries (last_entries xs) else x ∷ last_entries (last_entries xs)) none ∙ ap (λ (es : List EntryData). x ∷ es) behind
 
--- no entry of these has the output
+-- none of these entries has the output
 none_of : (output : List ℕ) (xs : List EntryData) → has_entry output xs ≡ false → AllByRecursion (λ (o : List ℕ). bytes_eq output o ≡ false) (map (λ (x : EntryData). x.output) xs)
 none_of output [] none = tt
 none_of output (x ∷ xs) none = by (none_of output xs) (bytes_eq x.output output) refl (last_of output xs) refl none where
@@ -122,7 +122,7 @@ has_last output xs x =
     ap is_some (last_of_append output xs (x ∷ [])) ∙ is_some_later (last_of output xs) (last_of output (x ∷ []))
     ∙ ap (λ (t : Bool). cond t true (has_entry output xs)) (is_some_later (if bytes_eq x.output output then Some x else None) None ∙ if_some (bytes_eq x.output output) x)
 
--- one output more, unless it was there
+-- one more output, unless it was there
 abbrev pub one_unless : Bool → ℕ
 one_unless there = if there then 0 else 1
 
@@ -144,7 +144,7 @@ counted x y ys n so_far false e =
     let kept : one_unless (cond (has_entry x.output ys) true false) ≡ one_unless (has_entry x.output ys) = elim (has_entry x.output ys) as (λ t. one_unless (cond t true false) ≡ one_unless t) [ true ↦ refl | false ↦ refl ] in
     omega (arith, so_far, kept)
 
--- An entry behind the others has a new output, or not.
+-- An entry after the others has a new output, or not.
 pub count_push : (xs : List EntryData) (x : EntryData) → length (last_entries (xs ++ x ∷ [])) ≡ length (last_entries xs) + one_unless (has_entry x.output xs)
 count_push [] x = refl
 count_push (y ∷ ys) x =
@@ -157,7 +157,7 @@ count_push (y ∷ ys) x =
 
 -- ---- which entries are last ones
 
--- this number is there
+-- the number is this one
 abbrev pub is_number : Option ℕ → ℕ → Bool
 is_number None n = false
 is_number (Some m) n = eqb m n
@@ -181,7 +181,7 @@ number_there output (x ∷ xs) = by (bytes_eq x.output output) (last_number outp
   by t (Some m) None e = absurd cc
   by t (Some m) (Some y) e = refl
 
--- The number of an output's last entry is that of this entry exactly if no later entry has its output.
+-- The number of an output's last entry is that of this entry if and only if no later entry has its output.
 pub is_last_number : (xs : List EntryData) (n : ℕ) (x : EntryData) → slice_get xs n ≡ Some x → is_number (last_number x.output xs) n ≡ not (has_entry x.output (drop (suc n) xs))
 is_last_number [] n x there = absurd cc
 is_last_number (y ∷ ys) zero x there =
@@ -191,7 +191,7 @@ is_last_number (y ∷ ys) zero x there =
     ∙ numbered_first (last_number x.output ys) ∙ ap not (number_there x.output ys)
 is_last_number (y ∷ ys) (suc n) x there = numbered_behind (bytes_eq y.output x.output) (last_number x.output ys) n ∙ is_last_number ys n x there
 
--- An entry whose number was looked up is a last one exactly if the number is its own.
+-- An entry whose number was looked up is a last one if and only if the number is its own.
 pub looked_up : (numbers : List (Vec ℕ Global × ℕ)) (entries : List EntryData) (n : ℕ) (output : List ℕ) (x : EntryData) (found : Option ℕ) → IsIndexOf numbers entries
     → found ≡ lookup (λ k. bytes_eq output k.items) numbers → output ≡ x.output → slice_get entries n ≡ Some x → is_number found n ≡ not (has_entry x.output (drop (n + 1) entries))
 looked_up numbers entries n output x found index is own there =
@@ -199,7 +199,7 @@ looked_up numbers entries n output x found index is own there =
     ap (λ (o : Option ℕ). is_number o n) (is ∙ index output ∙ ap (λ (o : List ℕ). last_number o entries) own) ∙ is_last_number entries n x there
     ∙ ap (λ (k : ℕ). not (has_entry x.output (drop k entries))) next
 
--- With one more entry there are still as many numbers as outputs.
+-- With one more entry there still are as many numbers as outputs.
 pub one_each_grows : (numbers more : List (Vec ℕ Global × ℕ)) (entries : List EntryData) (x : EntryData) (key : Vec ℕ Global) (old : Option ℕ) → IsIndexOf numbers entries → HasOneEach numbers entries
     → key.items ≡ x.output → old ≡ lookup (λ k. bytes_eq key.items k.items) numbers → length more ≡ length numbers + one_unless (is_some old) → HasOneEach more (entries ++ x ∷ [])
 one_each_grows numbers more entries x key old index each own was grown =
@@ -207,10 +207,6 @@ one_each_grows numbers more entries x key old index each own was grown =
     let pushed : length (last_entries (entries ++ x ∷ [])) ≡ length (last_entries entries) + one_unless (is_some old) =
     count_push entries x ∙ ap (λ (t : Bool). length (last_entries entries) + one_unless t) (sym there) in
     omega (arith, each, grown, pushed)
-
--- the entry of a number
-pub same_entry : (xs : List EntryData) (n : ℕ) (y x : EntryData) → n < length xs → y ≡ get_or xs n y → slice_get xs n ≡ Some x → y ≡ x
-same_entry xs n y x within is there = is ∙ get_or_from_slice_get xs n x y there
 
 there_is : (xs : List EntryData) (n : ℕ) → n < length xs → (x : EntryData) × (slice_get xs n ≡ Some x) × (drop n xs ≡ x ∷ drop (n + 1) xs)
 there_is [] n within = absurd (omega (arith, within))
@@ -220,19 +216,17 @@ there_is (x ∷ xs) (suc n) within =
     let next : suc (n + 1) ≡ suc n + 1 = omega arith in
     (found.0, found.1, found.2 ∙ ap (λ (k : ℕ). found.0 ∷ drop k (x ∷ xs)) next)
 
-goes_on : (done xs all : List EntryData) (x : EntryData) → done ++ last_entries (x ∷ xs) ≡ all → (t : Bool) → t ≡ not (has_entry x.output xs)
-    → (if t then done ++ x ∷ [] else done) ++ last_entries xs ≡ all
-goes_on done xs all x so_far t is = by (has_entry x.output xs) is so_far where
-  by : (h : Bool) → t ≡ not h → done ++ (if h then last_entries xs else x ∷ last_entries xs) ≡ all → (if t then done ++ x ∷ [] else done) ++ last_entries xs ≡ all
-  by true is so_far = rw is so_far
+goes_on : (done xs all : List EntryData) (x : EntryData) → done ++ last_entries (x ∷ xs) ≡ all → (o : Option EntryData) → o ≡ (if has_entry x.output xs then None else Some x)
+    → (done ++ option_to_list o) ++ last_entries xs ≡ all
+goes_on done xs all x so_far o is = by (has_entry x.output xs) is so_far where
+  by : (h : Bool) → o ≡ (if h then None else Some x) → done ++ (if h then last_entries xs else x ∷ last_entries xs) ≡ all → (done ++ option_to_list o) ++ last_entries xs ≡ all
+  by true is so_far = rw is (ap (λ (es : List EntryData). es ++ last_entries xs) (append-nil done) ∙ so_far)
   by false is so_far = rw is (append_assoc done (x ∷ []) (last_entries xs) ∙ so_far)
 
--- One entry further: it is copied if it is a last one.
-pub one_more : (entries done more : List EntryData) (n : ℕ) (t : Bool) → n < length entries → done ++ last_entries (drop n entries) ≡ last_entries entries
-    → ((x : EntryData) → slice_get entries n ≡ Some x → t ≡ not (has_entry x.output (drop (n + 1) entries)))
-    → ((x : EntryData) → slice_get entries n ≡ Some x → more ≡ (if t then done ++ x ∷ [] else done))
-    → more ++ last_entries (drop (n + 1) entries) ≡ last_entries entries
-one_more entries done more n t within so_far told copied =
+-- One more entry: it is appended if it is a last one.
+pub one_more : (entries done : List EntryData) (n : ℕ) (o : Option EntryData) → n < length entries → done ++ last_entries (drop n entries) ≡ last_entries entries
+    → ((x : EntryData) → slice_get entries n ≡ Some x → o ≡ (if has_entry x.output (drop (n + 1) entries) then None else Some x))
+    → (done ++ option_to_list o) ++ last_entries (drop (n + 1) entries) ≡ last_entries entries
+one_more entries done n o within so_far told =
     let found = there_is entries n within in
-    ap (λ (m : List EntryData). m ++ last_entries (drop (n + 1) entries)) (copied found.0 found.1)
-    ∙ goes_on done (drop (n + 1) entries) (last_entries entries) found.0 (sym (ap (λ (es : List EntryData). done ++ last_entries es) found.2) ∙ so_far) t (told found.0 found.1)
+    goes_on done (drop (n + 1) entries) (last_entries entries) found.0 (sym (ap (λ (es : List EntryData). done ++ last_entries es) found.2) ∙ so_far) o (told found.0 found.1)

@@ -1,4 +1,4 @@
--- An entry that is read is the one that was written, and one that was written is read again.
+-- Entries are read as they were written, and each written entry can be read.
 use Rattle.std.proofs.Common.{◌≡◌, ℕ, zero, suc, ◌+◌, ◌^◌, ◌<◌, ◌≤◌, Bool, true, false, ◌||◌, cond, ltb, eqb, List, [], ◌∷◌, ◌++◌, length, get_or, take, drop, Option, Some, None, refl, sym, ap, subst, ◌∙◌, append_assoc, arith, inl, inr}
 use Rattle.std.specs.Int.{Width, w16, w32, w64, byte_len, from_be_bytes, to_be_bytes}
 use Rattle.std.specs.List.{flat_map, AllByRecursion}
@@ -12,7 +12,7 @@ use Rattle.plan_record.specs.Reading.{◌>>=◌, Read, number_at, bytes_at, path
 abbrev pub IsBytes : List ℕ → Type 0
 IsBytes bytes = (i : ℕ) → get_or bytes i 0 < 256
 
--- what a reader took from the front
+-- the bytes that a reader took from the front
 pub record Takes (bytes text rest : List ℕ) : Type 0 where
   pub parts : bytes ≡ text ++ rest
   pub rest_fits : IsBytes rest
@@ -47,7 +47,7 @@ pub record IsReader {X : Type 0} (item : List ℕ → Read X) (spell : X → Lis
   pub takes : (bytes : List ℕ) (x : X × List ℕ) → IsBytes bytes → item bytes ≡ Some x → Takes bytes (spell x.0) x.1 × Fits x.0
   pub again : (x : X) (rest : List ℕ) → Fits x → item (spell x ++ rest) ≡ Some (x, rest)
 
--- what a first step took, where the whole didn't fail
+-- the bytes that a first step took, if the whole didn't fail
 opens : {X Y : Type 0} {item : List ℕ → Read X} {spell : X → List ℕ} {Fits : X → Type 0} → IsReader item spell Fits
     → (f : X × List ℕ → Option Y) (bytes : List ℕ) (y : Y) → IsBytes bytes → (item bytes >>= f) ≡ Some y
     → (x : X × List ℕ) × Takes bytes (spell x.0) x.1 × Fits x.0 × (f x ≡ Some y)
@@ -192,7 +192,7 @@ some_paths_again (path ∷ paths) rest fits =
 
 -- ---- bodies and entries
 
--- what stands in front of the paths
+-- the fields before the paths
 abbrev pub head_spelling : Head → List ℕ
 head_spelling h = path_spelling h.output ++ command_spelling h.command ++ to_be_bytes w64 h.basis ++ to_be_bytes w32 h.count
 
@@ -250,12 +250,12 @@ body_law = record {
       ) refl;
 }
 
--- a body and nothing behind it
+-- a body with nothing after it
 exactly_is : {X : Type 0} (x : X × List ℕ) (y : X) → exactly x ≡ Some y → x ≡ (y, [])
 exactly_is (x, []) y e = cc
 exactly_is (x, b ∷ bytes) y e = absurd cc
 
--- the entry whose body some bytes are is spelled so
+-- bytes that are the body of an entry are spelled so
 pub entry_of_is : (bytes : List ℕ) (x : EntryData) → IsBytes bytes → entry_of bytes ≡ Some x → (bytes ≡ body x) × ArePartsFit x
 unfolding entry_of
 entry_of_is bytes x fits e =
@@ -275,7 +275,7 @@ front_fits n bytes x fits e =
     let g = passes (ltb (length bytes) n) (Some (take n bytes, drop n bytes)) x e in
     subst (λ (p : List ℕ × List ℕ). IsBytes p.0) (some_is _ _ g.1) (IsBytes-take n bytes fits)
 
--- What has a spelling has its parts within their limits.
+-- The parts of an entry that has a spelling are within their limits.
 pub parts_of : (x : EntryData) → HasSpelling x → ArePartsFit x
 parts_of x h = record { output = h.output; command = h.command; basis = h.basis; count = h.count; paths = h.paths }
 
@@ -300,7 +300,7 @@ entry_law = record {
       ∙ rw (number_again w32 (2 ^ 32) wide32 (length (body x)) (body x ++ rest) fits.body, bytes_again (body x) rest, entry_of_again x (parts_of x fits)) refl;
 }
 
--- No spelling of an entry begins another one.
+-- No spelling of an entry is a prefix of another one.
 pub prefix_free : IsPrefixFree
 prefix_free x y rest fx fy e =
     let one : entry_at (spelling x ++ rest) ≡ Some (x, rest) = entry_law.again x rest fx in
@@ -309,7 +309,7 @@ prefix_free x y rest fx fy e =
     let both : (x, rest) ≡ (y, []) = some_is _ _ (sym one ∙ ap entry_at same ∙ other) in
     (ap (λ (p : EntryData × List ℕ). p.0) both, ap (λ (p : EntryData × List ℕ). p.1) both)
 
--- ---- what stands where an entry does
+-- ---- reading at the place of an entry
 
 head_again : (x : EntryData) (rest : List ℕ) → HasSpelling x → entry_head_at (spelling x ++ rest) ≡ Some (head_of x, flat_map path_spelling x.paths)
 unfolding entry_head_at spelling
@@ -318,19 +318,19 @@ head_again x rest fits =
     ∙ rw (number_again w32 (2 ^ 32) wide32 (length (body x)) (body x ++ rest) fits.body, bytes_again (body x) rest)
     (head_law.again (head_of x) (flat_map path_spelling x.paths) (record { output = fits.output; command = fits.command; basis = fits.basis; count = fits.count }))
 
--- The head of an entry, and the bytes of its paths behind it.
+-- The head of an entry, and the bytes of its paths after it.
 pub head_is : (bytes : List ℕ) (x : EntryData × List ℕ) → IsBytes bytes → entry_at bytes ≡ Some x → entry_head_at bytes ≡ Some (head_of x.0, flat_map path_spelling x.0.paths)
 head_is bytes x fits e =
     let t = entry_law.takes bytes x fits e in
     ap entry_head_at t.0.parts ∙ head_again x.0 x.1 t.1
 
--- The paths of an entry fill the bytes behind its head.
+-- The paths of an entry fill the bytes after its head.
 pub paths_fill : (bytes : List ℕ) (x : EntryData × List ℕ) → IsBytes bytes → entry_at bytes ≡ Some x → some_paths_at (length x.0.paths) (flat_map path_spelling x.0.paths) ≡ Some (x.0.paths, [])
 paths_fill bytes x fits e =
     let t = entry_law.takes bytes x fits e in
     ap (some_paths_at (length x.0.paths)) (sym (append-nil (flat_map path_spelling x.0.paths))) ∙ some_paths_again x.0.paths [] t.1.paths
 
--- Items that are bytes, as a Vec tells of them.
+-- Items of a Vec that are bytes.
 pub vec_bytes : (bytes : List ℕ) → ((i : ℕ) → i < length bytes → get_or bytes i 0 < 256) → IsBytes bytes
 vec_bytes bytes each i =
     elim (cases_lt i (length bytes)) [

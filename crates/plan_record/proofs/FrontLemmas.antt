@@ -1,4 +1,4 @@
--- The longest front of whole entries is the one behind which no entry stands.
+-- A front of whole entries is the longest one if no entry follows it.
 use Rattle.std.proofs.Common.{◌≡◌, ℕ, ◌+◌, ◌-◌, ◌≤◌, ◌<◌, List, [], ◌∷◌, ◌++◌, length, take, drop, Some, None, refl, sym, ap, ◌∙◌, append_assoc, arith}
 use Rattle.std.specs.List.{flat_map, AllByRecursion}
 use Rattle.std.proofs.lemmas.List.{append-nil, take_at, take-append-drop, length-append, length-take, length-drop}
@@ -8,7 +8,7 @@ use Rattle.plan_record.specs.Entries.{EntryData, body, spelling, HasSpelling, Is
 use Rattle.plan_record.specs.Reading.{entry_at}
 use Rattle.plan_record.proofs.EntryLemmas.{IsBytes, entry_law, some_is}
 
--- some entries and what stands behind them, the first apart
+-- some entries and the bytes after them, with the first entry separate
 apart : (x : EntryData) (xs : List EntryData) (rest : List ℕ) → flat_map spelling (x ∷ xs) ++ rest ≡ spelling x ++ (flat_map spelling xs ++ rest)
 apart x xs rest = ap (λ (t : List ℕ). t ++ rest) (flat_map-cons spelling x xs) ∙ append_assoc (spelling x) (flat_map spelling xs) rest
 
@@ -35,7 +35,7 @@ split : (file : List ℕ) (entries : List EntryData) (len : ℕ) → IsWholeFron
 split file entries len whole =
     (sym (take-append-drop len file) ∙ ap (λ (t : List ℕ). t ++ drop len file) whole.spelled, omega (arith, whole.within, length-take len file, ap length whole.spelled))
 
--- Where no entry stands behind them, whole entries are the longest front.
+-- If no entry follows them, whole entries are the longest front.
 pub good_front : (file : List ℕ) (entries : List EntryData) (len : ℕ) → IsWholeFront file entries len → entry_at (drop len file) ≡ None → IsGoodFront file entries len
 good_front file entries len whole none = record {
   whole = whole;
@@ -49,11 +49,11 @@ fit_append : (xs : List EntryData) (x : EntryData) → AllByRecursion HasSpellin
 fit_append [] x fits one = (one, tt)
 fit_append (y ∷ ys) x fits one = (fits.0, fit_append ys x fits.1 one)
 
--- No entry is a whole front.
+-- No entries are a whole front.
 pub no_front : (file : List ℕ) → IsWholeFront file [] 0
 no_front file = record { within = omega arith; spelled = refl; fit = tt }
 
--- With the entry that stands behind it, a front is one again.
+-- A front with the entry that follows it is a front.
 pub front_grows : (file : List ℕ) (entries : List EntryData) (len : ℕ) (x : EntryData × List ℕ) → IsBytes (drop len file) → IsWholeFront file entries len → entry_at (drop len file) ≡ Some x
     → IsWholeFront file (entries ++ x.0 ∷ []) (length file - length x.1)
 front_grows file entries len x fits whole read =
@@ -77,7 +77,7 @@ some_bytes x =
     let four : length (to_be_bytes w32 (length (body x))) ≡ 4 = refl in
     omega (arith, long, four)
 
--- An entry takes at least a byte.
+-- An entry takes at least one byte.
 pub entry_takes : (file : List ℕ) (len : ℕ) (x : EntryData × List ℕ) → IsBytes (drop len file) → entry_at (drop len file) ≡ Some x → length x.1 + len < length file
 entry_takes file len x fits read =
     let t = entry_law.takes (drop len file) x fits read in

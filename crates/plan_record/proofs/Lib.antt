@@ -5,4 +5,5 @@ pub mod FrontLemmas
 pub mod RecordLemmas
 pub mod CompactionLemmas
 pub mod PathsLemmas
+pub mod AddedLemmas
 mod Rows

@@ -1,13 +1,13 @@
--- The head that is read where an entry is placed.
-use Rattle.std.proofs.Common.{◌≡◌, ◌≤◌, ◌-◌, ◌+◌, ℕ, List, ◌++◌, length, take, drop, Some, None, refl, sym, ap, subst, ◌∙◌, option_map, append_assoc, arith, inl, inr}
+-- The head that is read at a placed entry.
+use Rattle.std.proofs.Common.{◌≡◌, ◌≤◌, ◌-◌, ◌+◌, ℕ, List, ◌++◌, length, [], take, drop, Some, None, refl, sym, ap, subst, ◌∙◌, option_map, append_assoc, arith, inl, inr}
 use Rattle.std.proofs.lemmas.Bool.{cases_lt}
 use Rattle.std.proofs.lemmas.List.{take_at, drop_at, drop_all, length-append, length-drop, drop-drop}
 use Rattle.std.specs.Int.{w16, w32, w64, to_be_bytes}
 use Rattle.std.specs.List.{flat_map}
-use Rattle.plan_record.specs.Entries.{EntryData, path_spelling, command_spelling, body, spelling}
+use Rattle.plan_record.specs.Entries.{EntryData, HasSpelling, path_spelling, command_spelling, body, spelling}
 use Rattle.plan_record.specs.Entry.{data_of, IsPlaced}
 use Rattle.plan_record.specs.Reading.{Head, head_of, entry_at, entry_head_at, some_paths_at}
-use Rattle.plan_record.proofs.EntryLemmas.{IsBytes, IsBytes-drop, some_is, head_is, entry_law, head_spelling, some_paths_again}
+use Rattle.plan_record.proofs.EntryLemmas.{IsBytes, IsBytes-drop, some_is, head_is, entry_law, head_spelling, some_paths_again, spelled_again}
 use Rattle.plan_record.proofs.ReadingLemmas.{entry_in_front}
 
 -- it is that of the entry
@@ -26,14 +26,14 @@ head_not_missing bytes start fits placed e =
     none_is_some : {x : Head × List ℕ} → None ≡ Some x → ⊥
     none_is_some e = absurd cc
 
--- An entry's spelling stands in front of what is behind the entry.
+-- The spelling of an entry is before the bytes after the entry.
 pub spelling_there : (bytes rest : List ℕ) → IsBytes bytes → Some rest ≡ option_map (λ x. x.1) (entry_at bytes) → bytes ≡ spelling (data_of (entry_at bytes)) ++ rest
 spelling_there bytes rest fits e =
     let found = entry_in_front bytes rest e in
     let t = entry_law.takes bytes (found.0, rest) fits found.1 in
     t.0.parts ∙ ap (λ r. spelling (data_of r) ++ rest) (sym found.1)
 
--- so many bytes are behind it
+-- the number of bytes after it
 pub rest_within : (bytes rest : List ℕ) → IsBytes bytes → Some rest ≡ option_map (λ x. x.1) (entry_at bytes) → length rest ≤ length bytes
 rest_within bytes rest fits e =
     let all : length bytes ≡ length (spelling (data_of (entry_at bytes))) + length rest = ap length (spelling_there bytes rest fits e) ∙ length-append (spelling (data_of (entry_at bytes))) rest in
@@ -47,7 +47,7 @@ spelling_in_front bytes rest fits e =
     let len : length (spelling (data_of (entry_at bytes))) ≡ length bytes - length rest = omega (arith, all) in
     ap (take (length bytes - length rest)) there ∙ take_at (spelling (data_of (entry_at bytes))) rest (length bytes - length rest) len
 
--- the bytes of an entry in front of its paths
+-- the bytes of an entry before its paths
 front_of : EntryData → List ℕ
 front_of x = to_be_bytes w32 (length (body x)) ++ head_spelling (head_of x)
 
@@ -64,14 +64,14 @@ front_len x =
     let h : length (to_be_bytes w32 (length x.paths)) ≡ 4 = refl in
     omega (arith, a, b, c, d, e, f, g, h)
 
--- where the paths of an entry begin, behind the bytes in front of it
+-- the place at which the paths of an entry begin, after the bytes before them
 pub record PathsThere (bytes : List ℕ) (x : EntryData) : Type 0 where
   pub few_output : length x.output ≤ 4096
   pub few_command : length x.command ≤ 1048576
   pub rest : List ℕ
   pub read : some_paths_at (length x.paths) (drop (22 + length x.output + length x.command) bytes) ≡ Some (x.paths, rest)
 
--- Where the paths of a placed entry begin.
+-- The place at which the paths of a placed entry begin.
 pub paths_there : (bytes : List ℕ) (start : ℕ) → IsBytes bytes → IsPlaced bytes start → PathsThere (drop start bytes) (data_of (entry_at (drop start bytes)))
 unfolding spelling front_of
 paths_there bytes start fits placed =
@@ -92,7 +92,7 @@ paths_there bytes start fits placed =
       read = ap (some_paths_at (length x.paths)) there ∙ some_paths_again x.paths rest t.1.paths;
     })
 
--- where a rest of some bytes begins, by its length
+-- the place at which a rest of some bytes begins, by its length
 at_rest : (bytes : List ℕ) (n : ℕ) → drop (length bytes - length (drop n bytes)) bytes ≡ drop n bytes
 at_rest bytes n =
     elim (cases_lt n (length bytes)) [
@@ -107,7 +107,7 @@ at_rest_behind bytes start front =
     let both : drop front (drop start bytes) ≡ drop (start + front) bytes = drop-drop front start bytes in
     ap (λ (r : List ℕ). drop (length bytes - length r) bytes) both ∙ at_rest bytes (start + front) ∙ sym both
 
--- the same by the head that was read, and by where the rest of the bytes begins
+-- the same by the head that was read, and by the place at which the rest of the bytes begins
 pub record PathsBehind (bytes : List ℕ) (start : ℕ) (head : Head) (place : ℕ) : Type 0 where
   pub rest : List ℕ
   pub read : some_paths_at head.count (drop place bytes) ≡ Some ((data_of (entry_at (drop start bytes))).paths, rest)
@@ -124,3 +124,9 @@ paths_behind bytes start head place fits placed is at =
       rest = there.rest;
       read = ap (λ (h : Head). some_paths_at h.count (drop place bytes)) is ∙ ap (some_paths_at (length x.paths)) same ∙ there.read;
     }
+
+-- The spelling of a placed entry is read as the entry, with no bytes after it.
+pub spelling_reads : (bytes : List ℕ) (start : ℕ) (text : List ℕ) → IsBytes bytes → IsPlaced bytes start → text ≡ spelling (data_of (entry_at (drop start bytes))) → entry_at text ≡ Some (data_of (entry_at (drop start bytes)), [])
+spelling_reads bytes start text fits placed is =
+    let t = entry_law.takes (drop start bytes) placed.0 (IsBytes-drop start bytes fits) placed.1 in
+    spelled_again text (data_of (entry_at (drop start bytes))) (subst HasSpelling (sym (ap data_of placed.1)) t.1) is

@@ -3,11 +3,11 @@ use Rattle.std.proofs.Common.{◌≡◌, ◌∷◌, ℕ, suc, ◌-◌, ◌+◌, 
 use Rattle.plan_record.specs.Entries.{EntryData}
 use Rattle.plan_record.specs.Reading.{◌>>=◌, Read, path_at, some_paths_at, entry_at}
 
--- the bytes behind so many paths
+-- the bytes after this many paths
 abbrev pub behind : ℕ → List ℕ → Option (List ℕ)
 behind n bytes = option_map (λ x. x.1) (some_paths_at n bytes)
 
--- a path less is still to skip behind the one in front
+-- after the first path, one path fewer remains to be skipped
 one_less : (path : List ℕ) (read : Read (List (List ℕ))) → option_map (λ (x : List (List ℕ) × List ℕ). x.1) (read >>= λ x. Some (path ∷ x.0, x.1)) ≡ option_map (λ x. x.1) read
 one_less path (Some x) = refl
 one_less path None = refl
@@ -34,21 +34,21 @@ is_done count i bytes total le so_far =
     let one : behind (count - i) bytes ≡ Some bytes = rw k refl in
     so_far ∙ one
 
--- what paths there are in front of some bytes
+-- the paths at the front of some bytes
 pub paths_in_front : (count : ℕ) (bytes rest : List ℕ) → Some rest ≡ behind count bytes → (paths : List (List ℕ)) × (some_paths_at count bytes ≡ Some (paths, rest))
 paths_in_front count bytes rest e = found (some_paths_at count bytes) e where
   found : (read : Read (List (List ℕ))) → Some rest ≡ option_map (λ (x : List (List ℕ) × List ℕ). x.1) read → (paths : List (List ℕ)) × (read ≡ Some (paths, rest))
   found (Some x) e = let same : rest ≡ x.1 = cc in (x.0, ap (λ r. Some (x.0, r)) (sym same))
   found None e = absurd cc
 
--- what entry there is in front of some bytes
+-- the entry at the front of some bytes
 pub entry_in_front : (bytes rest : List ℕ) → Some rest ≡ option_map (λ x. x.1) (entry_at bytes) → (x : EntryData) × (entry_at bytes ≡ Some (x, rest))
 entry_in_front bytes rest e = found (entry_at bytes) e where
   found : (read : Read EntryData) → Some rest ≡ option_map (λ (x : EntryData × List ℕ). x.1) read → (x : EntryData) × (read ≡ Some (x, rest))
   found (Some x) e = let same : rest ≡ x.1 = cc in (x.0, ap (λ r. Some (x.0, r)) (sym same))
   found None e = absurd cc
 
--- no entry is in front of some bytes
+-- no entry is at the front of some bytes
 pub no_entry_in_front : (bytes : List ℕ) → None ≡ option_map (λ (x : EntryData × List ℕ). x.1) (entry_at bytes) → entry_at bytes ≡ None
 no_entry_in_front bytes e = found (entry_at bytes) e where
   found : (read : Read EntryData) → None ≡ option_map (λ (x : EntryData × List ℕ). x.1) read → read ≡ None

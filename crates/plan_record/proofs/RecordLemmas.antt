@@ -1,4 +1,4 @@
--- What the numbers by outputs say of a record's entries. Serves src/record.rt.
+-- The numbers by outputs of a record's entries. Lemmas for src/record.rt.
 use Rattle.std.proofs.Common.{◌≡◌, ℕ, suc, Bool, true, false, List, [], ◌∷◌, ◌++◌, length, Option, Some, None, refl, ap, sym, ◌∙◌, bytes_eq, cond, if◌then◌else◌, option_map}
 use Rattle.std.specs.Map.{lookup}
 use Rattle.std.specs.Cmp.Lexicographic.{nat_list_eq_equiv}
@@ -9,7 +9,7 @@ use Rattle.indexmap.specs.IndexMap.{insert_entry}
 use Rattle.plan_record.specs.Entries.{EntryData, last_of, or_later}
 use Rattle.plan_record.specs.Outputs.{later, last_number, IsIndexOf}
 
--- the number of the last entry, behind one more
+-- the number of the last entry, after one more
 pub last_number_push : (output : List ℕ) (xs : List EntryData) (x : EntryData) → last_number output (xs ++ x ∷ []) ≡ cond (bytes_eq x.output output) (Some (length xs)) (last_number output xs)
 last_number_push output [] x = elim (bytes_eq x.output output) as (λ t. later (cond t (Some 0) None) None ≡ cond t (Some 0) None) [ true ↦ refl | false ↦ refl ]
 last_number_push output (y ∷ ys) x =
@@ -17,7 +17,7 @@ last_number_push output (y ∷ ys) x =
     ap (λ o. later front (option_map suc o)) (last_number_push output ys x)
     ∙ elim (bytes_eq x.output output) as (λ t. later front (option_map suc (cond t (Some (length ys)) (last_number output ys))) ≡ cond t (Some (suc (length ys))) (later front (option_map suc (last_number output ys)))) [ true ↦ refl | false ↦ refl ]
 
--- a number, and the entry of it
+-- a number, and the entry with it
 abbrev AreAlike : Option ℕ → Option EntryData → List EntryData → Type 0
 AreAlike None None entries = entries ≡ entries
 AreAlike None (Some x) entries = ⊥
@@ -46,12 +46,12 @@ alike_none None None xs h e = refl
 alike_none None (Some x) xs h e = absurd h
 alike_none (Some n) last xs h e = absurd cc
 
--- The entry of the last number is the last of the output.
+-- The entry with the last number is the last one of the output.
 pub numbered_last : (output : List ℕ) (numbers : List (Vec ℕ Global × ℕ)) (entries : List EntryData) (n : ℕ) → IsIndexOf numbers entries → Some n ≡ lookup (λ k. bytes_eq output k.items) numbers
     → slice_get entries n ≡ last_of output entries
 numbered_last output numbers entries n index found = alike_some n (last_number output entries) (last_of output entries) entries (alike output entries) (found ∙ index output)
 
--- There is no entry where there is no number.
+-- There is no entry if there is no number.
 pub none_numbered : (output : List ℕ) (numbers : List (Vec ℕ Global × ℕ)) (entries : List EntryData) → IsIndexOf numbers entries → None ≡ lookup (λ k. bytes_eq output k.items) numbers
     → None ≡ last_of output entries
 none_numbered output numbers entries index found = alike_none (last_number output entries) (last_of output entries) entries (alike output entries) (found ∙ index output)

@@ -1,4 +1,4 @@
--- Entries by hand: the definitions compute what docs/rules/record.md says.
+-- Entries written by hand: the definitions compute the results that docs/rules/record.md says.
 use Rattle.std.proofs.Common.{◌≡◌, ℕ, List, [], ◌∷◌, ◌++◌, take, drop, Some, None, Err, refl, arith}
 use Rattle.plan_record.specs.Appending.{AppendsSpelling}
 use Rattle.plan_record.specs.Entries.{EntryData, spelling, last_of}
@@ -57,12 +57,12 @@ shorter_than_its_parts : entry_at ((0 ∷ 0 ∷ 0 ∷ 19 ∷ []) ++ drop 4 bytes
 unfolding entry_at entry_of body_at head_at path_at command_at some_paths_at number_at bytes_at
 shorter_than_its_parts = refl
 
--- one path is counted, and none is there
+-- one path is counted, but there is none
 count_past_the_end : entry_at (take 23 bytes ++ 1 ∷ []) ≡ None
 unfolding entry_at entry_of body_at head_at path_at command_at some_paths_at number_at bytes_at
 count_past_the_end = refl
 
--- an output without a byte
+-- an empty output
 empty_output : entry_at ((0 ∷ 0 ∷ 0 ∷ 19 ∷ 0 ∷ 0 ∷ []) ++ drop 7 bytes) ≡ None
 unfolding entry_at entry_of body_at head_at path_at command_at some_paths_at number_at bytes_at
 empty_output = refl
@@ -73,7 +73,7 @@ last_counts = refl
 none_of_that_output : last_of (99 ∷ []) (kept ∷ other ∷ []) ≡ None
 none_of_that_output = refl
 
--- the last entries come in the record's order
+-- the last entries are in the record's order
 earlier_left_out : last_entries (kept ∷ other ∷ record kept { basis = 8 } ∷ []) ≡ other ∷ record kept { basis = 8 } ∷ []
 earlier_left_out = refl
 

@@ -3,8 +3,8 @@ use Rattle.std.specs.Prelude.{◌≡◌, ℕ, ◌<◌, ◌≤◌, ◌^◌, bytes
 use Rattle.std.specs.List.{flat_map, AllByRecursion}
 use Rattle.std.specs.Int.{w16, w32, w64, to_be_bytes}
 
--- What is kept of an edge that ran: its first output, its command, the greatest stamp that it read, and the paths that
--- its depfile named.
+-- The entry of an edge that ran: its first output, its command, the greatest stamp that it read, and the paths
+-- that its depfile named.
 pub record EntryData : Type 0 where
   pub output : List ℕ
   pub command : List ℕ
@@ -49,7 +49,7 @@ pub record HasSpelling (x : EntryData) : Type 0 where
   pub paths : AllByRecursion IsPath x.paths
   pub body : length (body x) < 2 ^ 32
 
--- the first bytes of a file, so many, are the spellings of these entries
+-- the first `len` bytes of a file are the spellings of these entries
 pub record IsWholeFront (file : List ℕ) (entries : List EntryData) (len : ℕ) : Type 0 where
   pub within : len ≤ length file
   pub spelled : take len file ≡ flat_map spelling entries
@@ -60,7 +60,7 @@ pub record IsGoodFront (file : List ℕ) (entries : List EntryData) (len : ℕ) 
   pub whole : IsWholeFront file entries len
   pub longest : (others : List EntryData) (more : ℕ) → IsWholeFront file others more → more ≤ len
 
--- of two entries of an output the last counts
+-- of two entries of an output the last one counts
 abbrev pub or_later : Option EntryData → Option EntryData → Option EntryData
 or_later earlier (Some later) = Some later
 or_later earlier None = earlier
@@ -70,6 +70,6 @@ abbrev pub last_of : List ℕ → List EntryData → Option EntryData
 last_of output [] = None
 last_of output (x ∷ xs) = or_later (if bytes_eq x.output output then Some x else None) (last_of output xs)
 
--- No spelling of an entry begins another one.
+-- No spelling of an entry is a prefix of another one.
 abbrev pub IsPrefixFree : Type 0
 IsPrefixFree = (x y : EntryData) (rest : List ℕ) → HasSpelling x → HasSpelling y → spelling x ++ rest ≡ spelling y → (x ≡ y) × (rest ≡ [])

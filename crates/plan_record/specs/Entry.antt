@@ -1,9 +1,9 @@
--- An entry as it stands in the bytes of a file.
+-- An entry in the bytes of a file.
 use Rattle.std.specs.Prelude.{◌≡◌, ℕ, List, [], drop, Some, None}
 use Rattle.plan_record.specs.Entries.{EntryData}
 use Rattle.plan_record.specs.Reading.{Read, entry_at}
 
--- what was read, the bytes behind it left out; an entry of nothing where nothing was
+-- the entry that was read, without the bytes after it; an empty entry if there was none
 abbrev pub data_of : Read EntryData → EntryData
 data_of (Some x) = x.0
 data_of None = record { output = []; command = []; basis = 0; paths = [] }

@@ -1,4 +1,4 @@
--- The head of an entry as the code lends it.
+-- The head of an entry as the code borrows it.
 use Rattle.plan_record.specs.declared.reading.Head.{Head}
 use Rattle.plan_record.specs.Reading.{Head as HeadData}
 

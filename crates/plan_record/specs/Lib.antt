@@ -6,3 +6,4 @@ pub mod Compaction
 pub mod Outputs
 pub mod Paths
 pub mod Appending
+pub mod Added

@@ -1,12 +1,12 @@
--- The paths that stand in front of some bytes.
+-- The paths at the front of some bytes.
 use Rattle.std.specs.Prelude.{◌≡◌, ℕ, List, [], Some, None}
 use Rattle.plan_record.specs.Reading.{Read, some_paths_at}
 
--- what was read, the bytes behind it left out
+-- the paths that were read, without the bytes after them
 abbrev pub paths_in : Read (List (List ℕ)) → List (List ℕ)
 paths_in (Some x) = x.0
 paths_in None = []
 
--- so many paths stand in front of these bytes
+-- there are this many paths at the front of these bytes
 abbrev pub ArePaths : ℕ → List ℕ → Type 0
 ArePaths count bytes = (x : List (List ℕ) × List ℕ) × (some_paths_at count bytes ≡ Some x)

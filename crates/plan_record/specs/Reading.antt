@@ -1,13 +1,13 @@
--- The reading of an entry from the front of some bytes.
+-- Reading an entry from the front of some bytes.
 use Rattle.std.specs.Prelude.{ℕ, zero, suc, nat_lt, ◌==◌, ◌||◌, if◌then◌else◌, List, [], ◌∷◌, length, take, drop, Option, Some, None}
 use Rattle.std.specs.Int.{Width, w16, w32, w64, byte_len, from_be_bytes}
 use Rattle.plan_record.specs.Entries.{EntryData}
 
--- what stands in front, and the bytes behind it; none where they are cut or break a limit
+-- the value at the front, and the bytes after it; None if they are cut off or exceed a limit
 abbrev pub Read : Type 0 → Type 0
 Read X = Option (X × List ℕ)
 
--- the first step, and then the second with what it found
+-- the first step, and then the second with its result
 infixl 10 ◌>>=◌
 abbrev pub ◌>>=◌ : {A B : Type 0} → Option A → (A → Option B) → Option B
 (Some x) >>= f = f x
@@ -32,7 +32,7 @@ command_at bytes = do
   n ← number_at w32 bytes
   if nat_lt 1048576 n.0 then None else bytes_at n.0 n.1
 
--- so many paths
+-- this many paths
 unfoldable pub some_paths_at : ℕ → List ℕ → Read (List (List ℕ))
 some_paths_at zero bytes = Some ([], bytes)
 some_paths_at (suc n) bytes = do
@@ -40,7 +40,7 @@ some_paths_at (suc n) bytes = do
   paths ← some_paths_at n path.1
   Some (path.0 ∷ paths.0, paths.1)
 
--- what stands in front of an entry's paths
+-- the fields before the paths of an entry
 pub record Head : Type 0 where
   pub output : List ℕ
   pub command : List ℕ
@@ -67,7 +67,7 @@ body_at bytes = do
   paths ← some_paths_at h.0.count h.1
   Some (with_paths h.0 paths.0, paths.1)
 
--- what fills the bytes exactly
+-- a value that takes all of the bytes
 abbrev pub exactly : {X : Type 0} → X × List ℕ → Option X
 exactly (x, []) = Some x
 exactly (x, b ∷ bytes) = None
@@ -76,7 +76,7 @@ exactly (x, b ∷ bytes) = None
 unfoldable pub entry_of : List ℕ → Option EntryData
 entry_of bytes = body_at bytes >>= exactly
 
--- an entry, with the length of its body in front
+-- an entry, after the length of its body
 unfoldable pub entry_at : List ℕ → Read EntryData
 entry_at bytes = do
   n ← number_at w32 bytes
@@ -84,7 +84,7 @@ entry_at bytes = do
   x ← entry_of body.0
   Some (x, body.1)
 
--- the head of an entry, with the length of its body in front, and the rest of its body
+-- the head of an entry, after the length of its body, and the rest of its body
 unfoldable pub entry_head_at : List ℕ → Read Head
 entry_head_at bytes = do
   n ← number_at w32 bytes

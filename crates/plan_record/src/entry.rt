@@ -1,6 +1,6 @@
 //! Entries of a record.
 
-ghost use Rattle.std.specs.Prelude.{◌≡◌, ◌≤◌, ◌-◌, length, take, drop};
+ghost use Rattle.std.specs.Prelude.{◌≡◌, ◌≤◌, ◌-◌, [], Some, length, take, drop};
 ghost use Rattle.plan_record.specs.Entries.{spelling};
 ghost use Rattle.plan_record.specs.Entry.{data_of, IsPlaced};
 ghost use Rattle.plan_record.specs.Heads.{head_data};
@@ -16,9 +16,9 @@ use std::alloc::Global;
 use std::marker::Model;
 use std::sync::Arc;
 
-/// What is kept of an edge that ran: its first output, its command, the greatest stamp that it read, and the paths that
-/// its depfile named. Contracts see these; held is where its spelling begins in the bytes of a file, which all entries
-/// of a record share.
+/// The entry of an edge that ran: its first output, its command, the greatest stamp that it read, and the paths
+/// that its depfile named. A contract sees these. The entry stores where its spelling begins in the bytes of a
+/// file, which all entries of a record share.
 #[derive(Drop)]
 pub struct Entry {
     file: Arc<Vec<u8>, Global>,
@@ -39,7 +39,7 @@ impl Model for Entry {
     ghost invariant = { λ e. IsPlaced (arc_value e.file).items e.start };
 }
 
-/// The bytes from a place on.
+/// Returns the bytes from a place on. Returns none if there are fewer bytes.
 pub(crate) fn bytes_from(bytes: &[u8], start: usize) -> &[u8]
     ensures { result.now ≡ drop start bytes.now }
 {
@@ -49,7 +49,7 @@ pub(crate) fn bytes_from(bytes: &[u8], start: usize) -> &[u8]
     }
 }
 
-/// What stands in front of the paths of the entry at a place, which there is.
+/// Returns the head of the entry at a place, which must have one.
 fn placed_head(bytes: &[u8], start: usize) -> Head<'_>
     requires { IsPlaced bytes.now start }
     ensures { head_data result ≡ head_of (data_of (entry_at (drop start bytes.now))) }
@@ -65,11 +65,12 @@ fn placed_head(bytes: &[u8], start: usize) -> Head<'_>
     }
 }
 
-/// How many bytes an entry has in front of its paths beside its output and its command: the lengths of its body (4),
-/// its output (2) and its command (4), its basis (8) and the count of its paths (4).
+/// The number of bytes of an entry before its paths, without its output and its command: the lengths of its
+/// body (4), its output (2) and its command (4), its basis (8) and the number of its paths (4).
 const FIXED_LEN: usize = 22;
 
-/// Where the paths of the entry at a place begin, which there is, and how many there are.
+/// Returns the place at which the paths of the entry at `start` begin, and their number. There must be an
+/// entry.
 fn placed_paths(bytes: &[u8], start: usize) -> (usize, u32)
     requires { IsPlaced bytes.now start }
     ensures there { ArePaths result.1 (drop result.0 bytes.now) }
@@ -81,7 +82,7 @@ fn placed_paths(bytes: &[u8], start: usize) -> (usize, u32)
     (bytes.len() - paths.len(), head.count)
 }
 
-/// The bytes before the last ones, so many.
+/// Returns the bytes except the last `last` ones.
 fn front_before(bytes: &[u8], last: usize) -> &[u8]
     requires { last ≤ length bytes.now }
     ensures { result.now ≡ take (length bytes.now - last) bytes.now }
@@ -89,10 +90,11 @@ fn front_before(bytes: &[u8], last: usize) -> &[u8]
     &bytes[..bytes.len() - last]
 }
 
-/// The spelling of the entry at a place, which there is.
+/// Returns the spelling of the entry at a place, which must have one.
 fn placed_spelling(bytes: &[u8], start: usize) -> &[u8]
     requires { IsPlaced bytes.now start }
-    ensures { result.now ≡ spelling (data_of (entry_at (drop start bytes.now))) }
+    ensures spelled { result.now ≡ spelling (data_of (entry_at (drop start bytes.now))) }
+    ensures read { entry_at result.now ≡ Some (data_of (entry_at (drop start bytes.now)), []) }
 {
     let placed = bytes_from(bytes, start);
     match skip_entry(placed) {
@@ -102,16 +104,18 @@ fn placed_spelling(bytes: &[u8], start: usize) -> &[u8]
 }
 
 impl Entry {
-    ghost use Rattle.std.specs.Prelude.{◌≡◌, ◌≢◌, drop, IfOk, IfErr, OnOk};
+    ghost use Rattle.std.specs.Prelude.{◌≡◌, ◌≢◌, [], drop, IfOk, IfErr, OnOk, Some};
     ghost use Rattle.std.specs.Arc.{arc_value};
     ghost use Rattle.plan_record.specs.Entries.{spelling, HasSpelling};
     ghost use Rattle.plan_record.specs.Entry.{data_of, IsPlaced};
     ghost use Rattle.plan_record.specs.Reading.{entry_at};
 
-    /// The entry of these parts. Its bytes are its own.
+    /// Creates an entry from its parts. It has bytes of its own.
     ///
     /// # Errors
-    /// `OutsideLimits` exactly where the parts have no spelling, and `Memory`.
+    ///
+    /// - `OutsideLimits` if and only if the parts have no spelling, unless memory runs out first.
+    /// - `Memory` if memory runs out.
     pub fn new(
         alloc: Global,
         output: &[u8],
@@ -128,7 +132,7 @@ impl Entry {
         Ok(Entry { file, start: 0 })
     }
 
-    /// The entry at a place of a file, which there is.
+    /// Creates the entry at a place of a file, which must have one.
     pub(crate) fn placed(file: Arc<Vec<u8>, Global>, start: usize) -> Entry
         requires { IsPlaced (arc_value file).items start }
         ensures { result ≡ data_of (entry_at (drop start (arc_value file).items)) }
@@ -136,28 +140,28 @@ impl Entry {
         Entry { file, start }
     }
 
-    /// The path of its first output, canonical, 1 to 4,096 bytes.
+    /// Returns the path of its first output, which is canonical and has 1 to 4,096 bytes.
     pub fn output(&self) -> &[u8]
         ensures { result.now ≡ self.now.output }
     {
         placed_head(&self.file, self.start).output
     }
 
-    /// The command that it ran, at most 1,048,576 bytes.
+    /// Returns the command that it ran, of at most 1,048,576 bytes.
     pub fn command(&self) -> &[u8]
         ensures { result.now ≡ self.now.command }
     {
         placed_head(&self.file, self.start).command
     }
 
-    /// The greatest stamp that it read; 0 where it read none.
+    /// Returns the greatest stamp that it read, or 0 if it read none.
     pub fn basis(&self) -> u64
         ensures { result ≡ self.now.basis }
     {
         placed_head(&self.file, self.start).basis
     }
 
-    /// The paths that its depfile named, in its order. They share the bytes.
+    /// Returns the paths that its depfile named, in their order. They share the bytes.
     pub fn paths(&self) -> Result<Paths, Memory>
         ensures { IfOk result (λ paths. paths ≡ self.now.paths) }
     {
@@ -165,7 +169,7 @@ impl Entry {
         Ok(Paths::placed(Arc::try_clone(&self.file)?, first, count))
     }
 
-    /// The same entry. It shares the bytes.
+    /// Returns a copy, which shares the bytes.
     pub fn copy(&self) -> Result<Entry, Memory>
         ensures { IfOk result (λ entry. entry ≡ self.now) }
     {
@@ -175,9 +179,10 @@ impl Entry {
         })
     }
 
-    /// The bytes of its spelling.
+    /// Returns the bytes of its spelling.
     pub(crate) fn spelling(&self) -> &[u8]
-        ensures { result.now ≡ spelling self.now }
+        ensures spelled { result.now ≡ spelling self.now }
+        ensures read { entry_at result.now ≡ Some (self.now, []) }
     {
         placed_spelling(&self.file, self.start)
     }

@@ -1,17 +1,17 @@
-//! Why an entry is refused.
+//! The reasons why an entry is refused.
 
 ghost use Rattle.std.specs.Prelude.{◌≡◌};
 ghost use Rattle.plan_record.specs.declared.fault.EntryFault.TheVariants.{Memory};
 
 use std::alloc::{AllocError, AllocFailed};
 
-/// Why there is no entry of some parts.
+/// The reason why some parts form no entry.
 #[derive(Clone, Copy, Debug, PartialEq, Eq)]
 pub enum EntryFault {
-    /// A path without a byte or of more than 4,096, a command of more than 1,048,576, 2^32 paths or more, or a body of
-    /// 2^32 bytes or more.
+    /// A path is empty or has more than 4,096 bytes, the command has more than 1,048,576 bytes, there are 2^32
+    /// paths or more, or the body has 2^32 bytes or more.
     OutsideLimits,
-    /// Memory ran out. It says nothing of the parts.
+    /// Memory ran out. This fault does not depend on the parts.
     Memory,
 }
 

@@ -1,15 +1,17 @@
-//! What holds of all entries.
+//! Laws about all entries.
 
 ghost use Rattle.std.specs.Prelude.{List};
 ghost use Rattle.plan_record.specs.Compaction.{StandFor};
 ghost use Rattle.plan_record.specs.Entries.{EntryData, IsPrefixFree};
 
-/// No spelling of an entry begins another one: a file of whole entries is read in one way alone.
+/// States that no spelling of an entry is a prefix of another one, so a file of whole entries can be read in
+/// only one way.
 pub fn entry_law()
     ensures { IsPrefixFree }
 {}
 
-/// The last entries of a record stand for it: who looks for the last entry of an output finds the same one.
+/// States that a search for the last entry of an output finds the same entry in the last entries of a record as
+/// in the record.
 pub fn compaction_law()
     ensures { (entries : List EntryData) → StandFor entries }
 {}

@@ -1,6 +1,7 @@
-//! Build records: what is kept of each edge that ran, from one build to the next.
+//! Build records: an entry for each edge that ran, stored from one build to the next.
 #![tactic(auto)]
 
+mod added;
 mod entry;
 mod fault;
 mod laws;
@@ -14,5 +15,5 @@ pub use entry::Entry;
 pub use fault::EntryFault;
 pub use laws::{compaction_law, entry_law};
 pub use paths::Paths;
-pub use record::{Record, load, spellings};
+pub use record::{Record, load, read_entries, spellings};
 pub use writing::{WriteFault, append};

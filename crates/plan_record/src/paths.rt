@@ -1,23 +1,25 @@
 //! The paths of an entry.
 
-ghost use Rattle.std.specs.Prelude.{◌≡◌, ◌≤◌, ◌<◌, ◌-◌, length, drop, option_map, slice_get};
+ghost use Rattle.std.specs.Prelude.{◌≡◌, ◌≤◌, ◌<◌, ◌-◌, IfOk, Some, length, drop, map, option_map, slice_get, take};
+ghost use Rattle.plan_text.specs.SharedRows.{row_in};
 ghost use Rattle.plan_record.specs.Paths.{paths_in, ArePaths};
 ghost use Rattle.plan_record.specs.Reading.{some_paths_at};
 
 use crate::entry::bytes_from;
 use crate::reading::read_path;
-use std::alloc::Global;
+use plan_text::{Place, SharedRows};
+use std::alloc::{AllocError, Global};
 use std::marker::Model;
 use std::sync::Arc;
 
-/// The paths of an entry that are still to come, which contracts see as a list. They are read where they stand in the
-/// bytes of a file, which the entries of a record share.
+/// The remaining paths of an entry. A contract sees a list. They are read from the bytes of a file, which the
+/// entries of a record share.
 #[derive(Drop)]
 pub struct Paths {
     file: Arc<Vec<u8>, Global>,
-    /// Where the first one's spelling begins.
+    /// The place at which the spelling of the first one begins.
     start: usize,
-    /// How many there are.
+    /// The number of paths.
     count: u32,
 }
 
@@ -34,7 +36,7 @@ impl Model for Paths {
     ghost invariant = { λ p. ArePaths p.count (drop p.start (arc_value p.file).items) };
 }
 
-/// The first of so many paths, which there are.
+/// Returns the first of `count` paths, which must be there. Returns None if `count` is 0.
 fn first_path(bytes: &[u8], count: u32) -> Option<&[u8]>
     requires { ArePaths count bytes.now }
     ensures { option_map (λ p. p.now) result ≡ slice_get (paths_in (some_paths_at count bytes.now)) 0 }
@@ -48,13 +50,15 @@ fn first_path(bytes: &[u8], count: u32) -> Option<&[u8]>
     }
 }
 
-/// How many bytes the first of so many paths takes, which there are.
+/// Returns the number of bytes of the first of `count` paths, which must be there.
 fn first_len(bytes: &[u8], count: u32) -> usize
     requires there { ArePaths count bytes.now }
     requires some { 0 < count }
     ensures within { result ≤ length bytes.now }
     ensures there { ArePaths (count - 1) (drop result bytes.now) }
     ensures left { paths_in (some_paths_at (count - 1) (drop result bytes.now)) ≡ drop 1 (paths_in (some_paths_at count bytes.now)) }
+    ensures front { 2 ≤ result }
+    ensures first { slice_get (paths_in (some_paths_at count bytes.now)) 0 ≡ Some (take (result - 2) (drop 2 bytes.now)) }
 {
     match read_path(bytes) {
         Some((path, _)) => 2 + path.len(),
@@ -62,10 +66,26 @@ fn first_len(bytes: &[u8], count: u32) -> usize
     }
 }
 
+/// Returns the place of each of `count` paths, which must be there.
+fn places_of(alloc: Global, bytes: &[u8], count: u32) -> Result<Vec<Place>, AllocError>
+    requires { ArePaths count bytes.now }
+    ensures { IfOk result (λ places. map (row_in bytes.now) places.items ≡ paths_in (some_paths_at count bytes.now)) }
+{
+    let mut places = Vec::with_capacity(alloc, count as usize)?;
+    let mut start = 0usize;
+    for taken in 0..count {
+        let len = first_len(bytes_from(bytes, start), count - taken);
+        let place = Place::new(start + 2, len - 2)?;
+        places.push(place)?;
+        start += len;
+    }
+    Ok(places)
+}
+
 impl Paths {
     ghost use Rattle.std.specs.Arc.{arc_value};
 
-    /// So many paths at a place of a file, which there are.
+    /// Creates the list of `count` paths at a place of a file, which must be there.
     pub(crate) fn placed(file: Arc<Vec<u8>, Global>, start: usize, count: u32) -> Paths
         requires { ArePaths count (drop start (arc_value file).items) }
         ensures { result ≡ paths_in (some_paths_at count (drop start (arc_value file).items)) }
@@ -73,14 +93,15 @@ impl Paths {
         Paths { file, start, count }
     }
 
-    /// The first path that is still to come, canonical, 1 to 4,096 bytes.
+    /// Returns the first remaining path, which is canonical and has 1 to 4,096 bytes. Returns None if none
+    /// remains.
     pub fn first(&self) -> Option<&[u8]>
         ensures { option_map (λ p. p.now) result ≡ slice_get self.now 0 }
     {
         first_path(bytes_from(&self.file, self.start), self.count)
     }
 
-    /// Goes one path further. Where none is to come, nothing changes.
+    /// Skips one path. If none remains, nothing changes.
     pub fn advance(&mut self)
         ensures { self.new ≡ drop 1 self.old }
     {
@@ -90,5 +111,18 @@ impl Paths {
         let len = first_len(bytes_from(&self.file, self.start), self.count);
         self.start += len;
         self.count -= 1;
+    }
+
+    /// Returns the paths as rows of the same bytes.
+    ///
+    /// # Errors
+    ///
+    /// Memory ran out, or a path is more than 4,294,967,293 bytes after the first.
+    pub fn into_rows(self, alloc: Global) -> Result<SharedRows, AllocError>
+        ensures { IfOk result (λ rows. rows ≡ self) }
+    {
+        let Paths { file, start, count } = self;
+        let places = places_of(alloc, bytes_from(&file, start), count)?;
+        Ok(SharedRows::new(file, start, places))
     }
 }

@@ -1,24 +1,24 @@
-//! Entries read from the front of some bytes, without a copy.
+//! Reads entries from the front of some bytes, without a copy.
 
 ghost use Rattle.std.specs.Prelude.{◌≡◌, option_map, is_some};
 ghost use Rattle.std.specs.Int.{w16, w32, w64};
 ghost use Rattle.plan_record.specs.Heads.{head_data};
 ghost use Rattle.plan_record.specs.Reading.{number_at, bytes_at, path_at, command_at, some_paths_at, body_at, entry_of, entry_at, head_at, entry_head_at};
 
-/// What stands in front of an entry's paths.
+/// The head of an entry: the fields before its paths.
 #[derive(Clone, Copy)]
 pub(crate) struct Head<'a> {
     pub output: &'a [u8],
     pub command: &'a [u8],
     pub basis: u64,
-    /// How many paths there are.
+    /// The number of paths.
     pub count: u32,
 }
 
-/// The longest path, in bytes.
+/// The most bytes of a path.
 pub(crate) const MAX_PATH: u16 = 4096;
 
-/// The longest command, in bytes.
+/// The most bytes of a command.
 pub(crate) const MAX_COMMAND: u32 = 1_048_576;
 
 #[tactic(auto, unfolding(crate::specs::Reading::number_at))]
@@ -90,7 +90,7 @@ fn read_command(bytes: &[u8]) -> Option<(&[u8], &[u8])>
     read_bytes(len as usize, rest)
 }
 
-/// What stands in front of the paths of a body, and the rest of it.
+/// Reads the head of a body, and returns it with the rest of the body.
 #[tactic(auto, unfolding(crate::specs::Reading::head_at))]
 fn read_head(body: &[u8]) -> Option<(Head<'_>, &[u8])>
     ensures { option_map (λ x. (head_data x.0, x.1.now)) result ≡ head_at body.now }
@@ -108,8 +108,8 @@ fn read_head(body: &[u8]) -> Option<(Head<'_>, &[u8])>
     Some((head, rest))
 }
 
-/// The bytes behind so many paths.
-fn skip_paths(count: u32, bytes: &[u8]) -> Option<&[u8]>
+/// Returns the bytes after `count` paths. Returns None if there are fewer paths.
+pub(crate) fn skip_paths(count: u32, bytes: &[u8]) -> Option<&[u8]>
     ensures { option_map (λ rest. rest.now) result ≡ option_map (λ x. x.1) (some_paths_at count bytes.now) }
 {
     let mut rest = bytes;
@@ -120,7 +120,7 @@ fn skip_paths(count: u32, bytes: &[u8]) -> Option<&[u8]>
     Some(rest)
 }
 
-/// Whether these bytes are the body of an entry.
+/// Returns whether these bytes are the body of an entry.
 #[tactic(auto, unfolding(crate::specs::Reading::entry_of, crate::specs::Reading::body_at))]
 fn is_body(body: &[u8]) -> bool
     ensures { result ≡ is_some (entry_of body.now) }
@@ -134,7 +134,7 @@ fn is_body(body: &[u8]) -> bool
     }
 }
 
-/// What stands in front of the paths of the entry in front, and the rest of its body, which is not read.
+/// Reads the head of the entry at the front, and returns it with the rest of its body, which is not read.
 #[tactic(auto, unfolding(crate::specs::Reading::entry_head_at))]
 pub(crate) fn entry_head(bytes: &[u8]) -> Option<(Head<'_>, &[u8])>
     ensures { option_map (λ x. (head_data x.0, x.1.now)) result ≡ entry_head_at bytes.now }
@@ -144,7 +144,7 @@ pub(crate) fn entry_head(bytes: &[u8]) -> Option<(Head<'_>, &[u8])>
     read_head(body)
 }
 
-/// The bytes behind the entry in front.
+/// Returns the bytes after the entry at the front. Returns None if there is no entry.
 #[tactic(auto, unfolding(crate::specs::Reading::entry_at))]
 pub(crate) fn skip_entry(bytes: &[u8]) -> Option<&[u8]>
     ensures { option_map (λ rest. rest.now) result ≡ option_map (λ x. x.1) (entry_at bytes.now) }

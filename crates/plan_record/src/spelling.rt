@@ -1,4 +1,4 @@
-//! The spelling of an entry from its parts.
+//! Spells an entry from its parts.
 
 ghost use Rattle.std.specs.Prelude.{◌≡◌, ◌≢◌, ◌≤◌, ◌++◌, IfOk, IfErr, OnOk, length};
 ghost use Rattle.std.specs.List.{flat_map, AllByRecursion};
@@ -50,7 +50,7 @@ fn push_paths(bytes: &mut Vec<u8>, paths: &[Items<u8>]) -> Result<(), EntryFault
     Ok(())
 }
 
-/// The body of an entry.
+/// Returns the body of an entry.
 fn spell_body(
     alloc: Global,
     output: &[u8],
@@ -74,7 +74,7 @@ fn spell_body(
     Ok(bytes)
 }
 
-/// The spelling of an entry.
+/// Returns the spelling of an entry.
 #[tactic(auto, unfolding(crate::specs::Entries::spelling))]
 pub(crate) fn spell(
     alloc: Global,

@@ -1,4 +1,4 @@
-//! An entry written behind others.
+//! Appends an entry to a sink.
 
 ghost use Rattle.std.specs.Prelude.{◌≡◌, ◌≤◌, length};
 ghost use Rattle.plan_record.specs.Entries.{spelling};
@@ -7,14 +7,15 @@ ghost use Rattle.plan_record.specs.Appending.{AppendsSpelling};
 use crate::entry::Entry;
 use plan_text::Sink;
 
-/// A write failed, or took no byte where there was one.
+/// A write failed, or a write of some bytes took none of them.
 #[derive(Clone, Copy, Debug, PartialEq, Eq)]
 pub struct WriteFault {
-    /// How many bytes of the entry were written: exactly the first ones of its spelling, and not all.
+    /// The number of bytes of the entry that were written. They are exactly the first ones of its spelling, and
+    /// not all.
     pub written: u64,
 }
 
-/// Writes all of the bytes, and tells at a failure how many were written.
+/// Writes all of the bytes. If a write fails, the error holds how many bytes were written.
 fn write_bytes<W: Sink>(bytes: &[u8], sink: &mut W) -> Result<(), WriteFault>
     ensures { AppendsSpelling result (W.failures sink.old, W.taken sink.old) (W.failures sink.new, W.taken sink.new) bytes.now }
 {
@@ -32,7 +33,7 @@ fn write_bytes<W: Sink>(bytes: &[u8], sink: &mut W) -> Result<(), WriteFault>
     Ok(())
 }
 
-/// Writes an entry's spelling, as much at a time as the sink takes. At the first failure it stops.
+/// Writes an entry's spelling, with as many bytes at a time as the sink takes. Stops at the first failure.
 pub fn append<W: Sink>(entry: &Entry, sink: &mut W) -> Result<(), WriteFault>
     ensures { AppendsSpelling result (W.failures sink.old, W.taken sink.old) (W.failures sink.new, W.taken sink.new) (spelling entry.now) }
 {
