@@ -1,4 +1,4 @@
--- How counts change with one edge.
+-- The change of counts with the phase of one edge.
 use Rattle.std.proofs.Common.{◌≡◌, ◌≢◌, ℕ, zero, suc, ◌+◌, ◌-◌, ◌<◌, ◌≤◌, ◌^◌, List, [], ◌∷◌, length, refl, sym, ◌∙◌, ap, subst, arith, get_or, set, ◌⊎◌, inl, inr, length-set, get_or-set_same, get_or-set_other, Bool, true, false, cond}
 use Rattle.std.specs.Prelude.{◌==◌, ◌&&◌, count_by, slice_index}
 use Rattle.std.proofs.lemmas.Bool.{cases_eq, eq-eqb}
@@ -12,7 +12,7 @@ use Rattle.plan_books.specs.Counts.{AreCounts, holders_of, one}
 pub count_set : {X : Type 0} (p : X → Bool) (xs : List X) (i : ℕ) (y d : X) → i < length xs → count_by p (set xs i y) + one (p (get_or xs i d)) ≡ count_by p xs + one (p y)
 count_set p xs i y d h = sum_by-set (λ x. cond (p x) 1 0) xs i y d h
 
--- what is counted is counted at least once
+-- an item that is counted makes the count positive
 pub count_some : {X : Type 0} (p : X → Bool) (xs : List X) (i : ℕ) (y d : X) → i < length xs → p (get_or xs i d) ≡ true → p y ≡ false → 0 < count_by p xs
 count_some p xs i y d h t f =
     let e : count_by p (set xs i y) + one (p (get_or xs i d)) ≡ count_by p xs + one (p y) = count_set p xs i y d h in
@@ -65,7 +65,7 @@ holders_there p pools phases i y h l other =
     let b : one ((slice_index pools i == p) && holds y) ≡ one false = ap (λ b. one (b && holds y)) t in
     omega (arith, e, a, b)
 
--- a holder of a pool is counted there
+-- an edge that holds a job token of a pool is counted there
 pub holders_some : (p : ℕ) (pools : List ℕ) (phases : List Phase) (i : ℕ) → i < length phases → length pools ≡ length phases → slice_index pools i ≡ p
     → holds (phase_at phases i) ≡ true → 0 < holders_of p pools phases
 holders_some p pools phases i h l same held =
@@ -73,7 +73,7 @@ holders_some p pools phases i h l same held =
     let a : one (holds (phase_at phases i)) ≡ one true = ap one held in
     omega (arith, e, a)
 
--- all counts, once an edge has gone to another phase
+-- all counts, after an edge has changed its phase
 pub counts_after : (pools : List ℕ) (phases : List Phase) (in_pools : List ℕ) (h f o : ℕ) (e : ℕ) (next : Phase) (in_pool h' f' o' : ℕ)
     → AreCounts pools phases in_pools h f o → e < length phases → length pools ≡ length phases → slice_index pools e < length in_pools
     → in_pool + one (holds (phase_at phases e)) ≡ slice_index in_pools (slice_index pools e) + one (holds next)

@@ -1,4 +1,4 @@
--- Where edges and pools stand, and that there is room.
+-- The buckets of edges and pools, and that they have room.
 use Rattle.std.proofs.Common.{◌≡◌, ◌≢◌, ℕ, zero, suc, ◌+◌, ◌-◌, ◌<◌, ◌≤◌, ◌^◌, List, [], ◌∷◌, length, refl, sym, ◌∙◌, ap, subst, arith, get_or, set, ◌⊎◌, inl, inr, length-set, get_or-set_same, get_or-set_other, Bool, true, false, cond, Some, None}
 use Rattle.std.specs.Prelude.{◌==◌, ◌||◌, if◌then◌else◌, nat_lt, Option, count_by, slice_index}
 use Rattle.std.proofs.lemmas.Bool.{cases_eq, eq-eqb}
@@ -20,7 +20,7 @@ pub unbegun_low : (w : ℕ) (b : Option ℕ) → unbegun_shelf w b < 5
 unbegun_low w (Some x) = omega arith
 unbegun_low w None = if_low (w == 0) 2 1 5 (omega arith) (omega arith)
 
--- an edge stands on one of the first five shelves, or on that of its pool
+-- an edge is in one of the first five buckets, or in that of its pool
 pub shelf_cases : (phase : Phase) (w : ℕ) (b : Option ℕ) (pool : ℕ) → (shelf_for phase w b pool < 5) ⊎ (shelf_for phase w b pool ≡ 5 + pool)
 shelf_cases Unbegun w b pool = inl (unbegun_low w b)
 shelf_cases (Going h) w b pool = inl (omega arith)
@@ -31,7 +31,7 @@ shelf_cases Failed w b pool = inl (omega arith)
 shelf_cases Ill w b pool = inl (omega arith)
 shelf_cases NotWanted w b pool = inl (omega arith)
 
--- an edge moves between the first five shelves, or stays, where its phase stays
+-- an edge whose phase stays moves between the first five buckets, or stays in its bucket
 pub stays_or_low : (phase : Phase) (w v : ℕ) (b d : Option ℕ) (pool : ℕ) → (shelf_for phase w b pool ≡ shelf_for phase v d pool) ⊎ ((shelf_for phase w b pool < 5) × (shelf_for phase v d pool < 5))
 stays_or_low Unbegun w v b d pool = inr (unbegun_low w b, unbegun_low v d)
 stays_or_low (Going h) w v b d pool = inl refl
@@ -45,7 +45,7 @@ stays_or_low NotWanted w v b d pool = inl refl
 pool_low : (n h d : ℕ) → pool_shelf_for n h d < 3
 pool_low n h d = if_low (n == 0) 0 (if (d == 0) || nat_lt h d then 1 else 2) 3 (omega arith) (if_low ((d == 0) || nat_lt h d) 1 2 3 (omega arith) (omega arith))
 
--- the edges on a pool's shelf are of that pool, so there are no more of them
+-- the edges in a pool's bucket belong to that pool, so there are no more of them than the pool has
 standing_le : (s p : ℕ) (xs ys : List ℕ) → length xs ≡ length ys → ((i : ℕ) → i < length xs → slice_index xs i ≡ s → slice_index ys i ≡ p) → standing s xs ≤ standing p ys
 standing_le s p [] ys l f = omega arith
 standing_le s p (x ∷ xs) [] l f = absurd (omega (arith, l))
@@ -90,7 +90,7 @@ room_pool f n pools e p pool_of are here sized mine within theirs =
           inr (omega (arith, new, le, room))
     ]
 
--- who stands on a pool's shelf is of that pool
+-- an edge in a pool's bucket belongs to that pool
 pub of_pool : (phase : Phase) (w : ℕ) (b : Option ℕ) (pool p : ℕ) → shelf_for phase w b pool ≡ 5 + p → pool ≡ p
 of_pool phase w b pool p e = elim (shelf_cases phase w b pool) [ inl low ↦ absurd (omega (arith, low, e)) | inr at ↦ omega (arith, at, e) ]
 
@@ -113,13 +113,13 @@ pool_room_for f pools p n h d are here =
           inr (omega (arith, less, room, are.sized))
     ]
 
--- how many stand on the shelf of a pool, once an edge of another one moved
+-- the number of edges in the bucket of a pool, after an edge of another pool moved
 pub pool_apart : (shelf : List ℕ) (e p q : ℕ) (a b : Phase) (w v : ℕ) (c d : Option ℕ) → e < length shelf → slice_index shelf e ≡ shelf_for a w c p → p ≢ q
     → standing (5 + q) (set shelf e (shelf_for b v d p)) ≡ standing (5 + q) shelf
 pool_apart shelf e p q a b w v c d here on apart =
     standing_else shelf e (shelf_for b v d p) (5 + q) here (λ at. apart (of_pool a w c p q (sym on ∙ at))) (λ at. apart (of_pool b v d p q at))
 
--- how many stand on the shelf of a pool, once an edge moved and kept its phase
+-- the number of edges in the bucket of a pool, after an edge moved and kept its phase
 pub pool_same : (shelf : List ℕ) (e p q : ℕ) (a : Phase) (w v : ℕ) (c d : Option ℕ) → e < length shelf → slice_index shelf e ≡ shelf_for a w c p
     → standing (5 + q) (set shelf e (shelf_for a v d p)) ≡ standing (5 + q) shelf
 pool_same shelf e p q a w v c d here on =

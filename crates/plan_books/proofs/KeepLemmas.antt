@@ -1,4 +1,4 @@
--- What is kept stays so.
+-- The invariant is preserved.
 use Rattle.std.proofs.Common.{◌≡◌, ◌≢◌, ℕ, zero, suc, ◌+◌, ◌-◌, ◌<◌, ◌≤◌, ◌^◌, List, [], ◌∷◌, length, refl, sym, ◌∙◌, ap, subst, arith, get_or, set, ◌⊎◌, inl, inr, length-set, get_or-set_same, get_or-set_other, Bool, true, false, Some, None}
 use Rattle.std.specs.Prelude.{Option, slice_index}
 use Rattle.std.proofs.lemmas.Bool.{cases_eq}
@@ -12,7 +12,7 @@ use Rattle.plan_books.specs.Filed.{AreShelves, ArePoolShelves, its_shelf, pool_s
 use Rattle.plan_books.specs.Booking.{IsKept, IsPlan, edges_of}
 use Rattle.plan_books.proofs.FileLemmas.{pool_apart, pool_same}
 
--- a shelf for each edge
+-- the bucket of each edge after one moved
 abbrev pub refiled : Filing → ℕ → ℕ → Filing
 refiled f e s = record f { shelf = set f.shelf e s }
 
@@ -39,7 +39,7 @@ filed_after plan b b' e kept here is same x h =
       | inr other ↦ get_or-set_other b.shelves.shelf e x to 0 other ∙ (kept.filed x h ∙ sym (same x other))
     ]
 
--- an edge went to another phase
+-- an edge changed its phase
 pub kept_entered : (plan : Plan) (b b' : Books) (e : ℕ) (next : Phase) → IsPlan plan → IsKept plan b → e < edges_of plan
     → b'.phases.items ≡ set b.phases.items e next → b'.waiting.items ≡ b.waiting.items → b'.blame.items ≡ b.blame.items
     → AreCounts plan.pools.items b'.phases.items b'.counts.pool_holders.items b'.counts.holders b'.counts.failures b'.counts.open_edges
@@ -81,7 +81,7 @@ kept_entered plan b b' e next is kept here ep ew eb counts sized others es eq =
       ];
     }
 
--- what an edge waits for was noted; its phase stays
+-- a wait of an edge was recorded; the phase of the edge stays
 pub kept_noted : (plan : Plan) (b b' : Books) (e : ℕ) → IsPlan plan → IsKept plan b → e < edges_of plan
     → b'.phases ≡ b.phases → b'.counts ≡ b.counts → b'.pool_shelves ≡ b.pool_shelves
     → length b'.waiting.items ≡ length b.waiting.items → length b'.blame.items ≡ length b.blame.items

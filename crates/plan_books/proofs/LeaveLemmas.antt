@@ -1,4 +1,4 @@
--- A number leaves its seat.
+-- A number is removed from its position.
 use Rattle.std.proofs.Common.{◌≡◌, ◌≢◌, ℕ, ◌+◌, ◌-◌, ◌<◌, ◌≤◌, List, [], length, refl, sym, ◌∙◌, ap, subst, arith, get_or, set, inl, inr, length-set, get_or-set_same, get_or-set_other}
 use Rattle.std.specs.Prelude.{slice_index}
 use Rattle.std.proofs.lemmas.Bool.{cases_eq}
@@ -6,7 +6,8 @@ use Rattle.plan_books.specs.Filing.{standing}
 use Rattle.plan_books.specs.Seating.{seat, IsSeated, IsSeatedBut}
 use Rattle.plan_books.proofs.SeatLemmas.{room_kept, seat_beside, seat_elsewhere, seat_same, seats_with}
 
--- what is known of the number e that leaves: its shelf f, its place a, the last place l of that shelf and who sits there
+-- the number e that is removed: its bucket f, its position a, and the last position l of that bucket with its
+-- number y
 record Leaving (rows : List (List ℕ)) (lens places shelf : List ℕ) (e f a l y : ℕ) : Type 0 where
   here : e < length shelf
   shelved : slice_index shelf e ≡ f
@@ -43,7 +44,7 @@ leaving rows lens places shelf e s h =
       fits = omega (arith, fits, low);
     }
 
--- who sat elsewhere than the last sits there still
+-- a number at another position than the last stays there
 stays_low : (rows : List (List ℕ)) (lens places shelf : List ℕ) (e f a l y x : ℕ) → IsSeated rows lens places shelf → Leaving rows lens places shelf e f a l y → x < length shelf → x ≢ e
     → slice_index (set places y a) x < slice_index (set lens f l) (slice_index shelf x)
 stays_low rows lens places shelf e f a l y x s d h n =
@@ -94,7 +95,7 @@ stays_here rows lens places shelf e f a l y x s d h n =
           ]
     ]
 
--- who sits at a seat that is still taken
+-- the number at a position that is still occupied
 record Found (rows : List (List ℕ)) (places shelf : List ℕ) (e s i : ℕ) : Type 0 where
   who : ℕ
   is : seat rows s i ≡ who
@@ -207,7 +208,7 @@ pub leaves : (rows : List (List ℕ)) (lens places shelf : List ℕ) (e : ℕ) �
 leaves rows lens places shelf e is h =
     but rows lens places shelf e (slice_index shelf e) (slice_index places e) (slice_index lens (slice_index shelf e) - 1) (seat rows (slice_index shelf e) (slice_index lens (slice_index shelf e) - 1)) is (leaving rows lens places shelf e is h)
 
--- the same, by what the code read
+-- the same, by the values that the code read
 pub leaves_at : (rows : List (List ℕ)) (lens places shelf : List ℕ) (e f a k y : ℕ) (r : List ℕ) → IsSeated rows lens places shelf → e < length shelf
     → slice_index shelf e ≡ f → slice_index places e ≡ a → slice_index lens f ≡ k → seat rows f (k - 1) ≡ y → set (get_or rows f []) a y ≡ r
     → IsSeatedBut e (set rows f r) (set lens f (k - 1)) (set places y a) shelf

@@ -17,7 +17,7 @@ use Rattle.plan_books.specs.Picking.{IsBare}
 use Rattle.plan_books.proofs.PickLemmas.{bare_zero}
 use Rattle.plan_books.specs.Opening.{opening_phase, opening_shelf}
 
--- what is so of no edge that hasn't begun
+-- a test that is false for an edge that hasn't begun or isn't wanted
 none_is : (f : Phase → Bool) (wanted : List Bool) (x : ℕ) → f Unbegun ≡ false → f NotWanted ≡ false → f (phase_at (map opening_phase wanted) x) ≡ false
 none_is f [] x u n = u
 none_is f (true ∷ wanted) zero u n = u

@@ -16,6 +16,6 @@ not_well Failed h = refl
 not_well Ill h = refl
 not_well NotWanted h = refl
 
--- an edge that comes to the phase in which it is
+-- an edge that changes to the phase that it has
 pub stays : (phases : List Phase) (e : ℕ) (x next : Phase) → x ≡ get_or phases e x → x ≡ next → phases ≡ slice_set phases e next
 stays phases e x next read is = sym (ap (slice_set phases e) (sym is ∙ read) ∙ set-get_or phases e x)

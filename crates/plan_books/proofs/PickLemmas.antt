@@ -1,4 +1,4 @@
--- What stands on a shelf can be done, and what can be done stands on one.
+-- An edge in a bucket can do what the bucket is for, and an edge that can do something is in the bucket for it.
 use Rattle.std.proofs.Common.{◌≡◌, ◌≢◌, ℕ, zero, suc, ◌+◌, ◌<◌, ◌≤◌, List, [], ◌∷◌, length, refl, sym, ◌∙◌, ap, subst, arith, get_or, ◌⊎◌, inl, inr, Bool, true, false, cond, Some, None}
 use Rattle.std.specs.Prelude.{◌==◌, ◌||◌, if◌then◌else◌, nat_lt, not, All, Contains, IfNone, IfSome, Option, count_by, slice_index}
 use Rattle.std.proofs.lemmas.Bool.{cases_eq, eq-eqb}
@@ -20,7 +20,7 @@ use Rattle.plan_books.specs.Booking.{AreBooks, IsBlame, IsPlan, edges_of, unwell
 use Rattle.plan_books.specs.Picking.{AtTakeStays, IsBare, IsEnabled, MayTake, StepsFirst, UnbegunStays, has_room, is_spent}
 use Rattle.plan_books.proofs.WaitLemmas.{in_standing, standing_in}
 
--- where an edge stands that hasn't begun
+-- the bucket of an edge that hasn't begun
 unbegun_is : (w : ℕ) (b : Option ℕ) (s : ℕ) → unbegun_shelf w b ≡ s → ((s ≡ 1) × (b ≡ None)) ⊎ (((s ≡ 2) × (b ≡ None) × (w ≡ 0)) ⊎ ((s ≡ 3) × ((x : ℕ) × (b ≡ Some x))))
 unbegun_is w (Some x) s e = inr (inr (sym e, (x, refl)))
 unbegun_is w None s e = elim (eqb_tells w 0) [
@@ -48,7 +48,7 @@ at_take_at Failed w b pool q e = absurd (omega (arith, e))
 at_take_at Ill w b pool q e = absurd (omega (arith, e))
 at_take_at NotWanted w b pool q e = absurd (omega (arith, e))
 
--- shelves 1 to 3
+-- buckets 1 to 3
 pub unbegun_at : (phase : Phase) (w : ℕ) (b : Option ℕ) (pool s : ℕ) → 0 < s → s < 4 → shelf_for phase w b pool ≡ s → (phase ≡ Unbegun) × (unbegun_shelf w b ≡ s)
 unbegun_at Unbegun w b pool s h g e = (refl, e)
 unbegun_at (Going x) w b pool s h g e = absurd (omega (arith, h, g, e))
@@ -65,7 +65,7 @@ blame_at3 w b e = elim (unbegun_is w b 3 e) [ inl x ↦ absurd (omega (arith, x.
 pub none_at2 : (w : ℕ) (b : Option ℕ) → unbegun_shelf w b ≡ 2 → w ≡ 0
 none_at2 w b e = elim (unbegun_is w b 2 e) [ inl x ↦ absurd (omega (arith, x.0)) | inr x ↦ elim x [ inl y ↦ y.2 | inr y ↦ absurd (omega (arith, y.0)) ] ]
 
--- the shelf of an edge, by its phase
+-- the bucket of an edge, by its phase
 pub stands : (plan : Plan) (b : Books) (e : ℕ) (phase : Phase) → AreBooks plan b → e < edges_of plan → phase_at b.phases.items e ≡ phase
     → slice_index b.shelves.shelf e ≡ shelf_for phase (slice_index b.waiting.items e) (blame_at b.blame.items e) (slice_index plan.pools.items e)
 stands plan b e phase are h is =
@@ -157,12 +157,12 @@ some_blame plan b e w (Some x) are h is c ill = (x, refl)
 true_or_false : (b : Bool) → b ≡ true → b ≡ false → ⊥
 true_or_false b t f = cc
 
--- an edge at Take stands on the shelf of its pool, and that pool on one of two
+-- an edge at Take is in the bucket of its pool, and the pool is in one of two buckets
 at_take_stands : (plan : Plan) (b : Books) (e : ℕ) (h : Bool) → IsPlan plan → AreBooks plan b → e < edges_of plan → phase_at b.phases.items e ≡ AtTake h → 0 < standing (5 + slice_index plan.pools.items e) b.shelves.shelf
 at_take_stands plan b e h is are lt at =
     some_stand b.shelves.shelf e (5 + slice_index plan.pools.items e) (subst (λ k. e < k) (sym are.kept.shelves.sized) lt) (stands plan b e (AtTake h) are lt at)
 
--- where nobody goes and none at Take may do something, no step is enabled
+-- if no edge can make a step and none at Take can do anything, no step is enabled
 pub no_step : (plan : Plan) (b : Books) (jobs keep : ℕ) → IsPlan plan → AreBooks plan b → IsBare b.shelves.shelf 4 → AtTakeStays plan b jobs keep → (e : ℕ) → IsEnabled plan b.phases.items jobs keep (Step e) → ⊥
 no_step plan b jobs keep is are going at e on =
     let lt : e < length b.shelves.shelf = subst (λ k. e < k) (sym are.kept.shelves.sized) on.0 in
@@ -224,12 +224,12 @@ may_take plan b e is are lt one_is =
     subst (λ k. ((slice_index plan.depths.items p == 0) || nat_lt k (slice_index plan.depths.items p)) ≡ true) holders
     (pool_one (standing (5 + p) b.shelves.shelf) (slice_index b.counts.pool_holders.items p) (slice_index plan.depths.items p) (sym (are.kept.pools_filed p pl) ∙ one_is))
 
--- what follows from None
+-- an implication of None
 pub none_then : {X : Type 0} (r : Option X) (P Q : Type 0) → IfNone r P → (P → Q) → IfNone r Q
 none_then None P Q p f = f p
 none_then (Some x) P Q p f = p
 
--- where failures have reached the limit and nobody goes, no step is enabled
+-- if the failure limit has been reached and no edge can make a step, no step is enabled
 spent_no_step : (plan : Plan) (b : Books) (jobs keep : ℕ) → AreBooks plan b → IsBare b.shelves.shelf 4 → is_spent keep b.phases.items ≡ true → (e : ℕ) → IsEnabled plan b.phases.items jobs keep (Step e) → ⊥
 spent_no_step plan b jobs keep are going spent e on =
     elim on.1 [
@@ -244,7 +244,7 @@ spent_first plan b jobs keep x are spent going e on = absurd (spent_no_step plan
 pub any_first : (plan : Plan) (b : Books) (jobs keep : ℕ) (x : Pick) → IsPlan plan → AreBooks plan b → IsBare b.shelves.shelf 4 → AtTakeStays plan b jobs keep → StepsFirst plan b.phases.items jobs keep x
 any_first plan b jobs keep x is are going at e on = absurd (no_step plan b jobs keep is are going at e on)
 
--- what holds of any value holds of the one that is there
+-- a property of all values is one of the value that is there
 pub some_any : {X : Type 0} (r : Option X) (P : X → Type 0) → ((x : X) → P x) → IfSome r P
 some_any None P f = tt
 some_any (Some x) P f = f x

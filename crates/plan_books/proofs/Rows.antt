@@ -8,7 +8,7 @@ use Rattle.plan_books.specs.Counts.{holders_of}
 use Rattle.plan_books.specs.Filed.{pool_shelf_for, shelf_for}
 use Rattle.plan_books.specs.Booking.{unwell}
 
--- three edges of pool 1: the first holds its place and has asked, the others are at Take
+-- three edges of pool 1: the first holds a job token and has asked, the others are at Take
 three : List Phase
 three = Asked true ∷ AtTake false ∷ AtTake false ∷ []
 
@@ -16,14 +16,16 @@ one_holds : holders_of 1 (1 ∷ 1 ∷ 1 ∷ []) three ≡ 1
 unfolding three
 one_holds = refl
 
--- a pool of depth 1: two are at Take, and it is full; once the place is given back one may take it
+-- a pool of depth 1: two edges are at Take, and the pool is full; when the job token is released, one of them
+-- may take it
 full : pool_shelf_for 2 1 1 ≡ 2
 full = refl
 
 with_room : pool_shelf_for 2 0 1 ≡ 1
 with_room = refl
 
--- shelves: it waits, can be started, can be skipped, has a step, is at Take of pool 1, awaits a reply
+-- buckets of edges that wait, can be started, can be skipped, can make a step, are at Take of pool 1, await a
+-- reply
 shelves :
     shelf_for Unbegun 2 None 0 ∷ shelf_for Unbegun 0 None 0 ∷ shelf_for Unbegun 1 (Some 7) 0 ∷ shelf_for (Going false) 0 None 0 ∷ shelf_for (AtTake false) 0 None 1 ∷ shelf_for (Asked true) 0 None 1 ∷ []
     ≡ 1 ∷ 2 ∷ 3 ∷ 4 ∷ 6 ∷ 0 ∷ []
@@ -32,6 +34,6 @@ shelves = refl
 two_stand : standing 6 (0 ∷ 6 ∷ 6 ∷ []) ≡ 2
 two_stand = refl
 
--- of edges 0, 1 and 2, which is waited for twice, only the first ended well
+-- of edges 0, 1 and 2, where 2 is waited for twice, only the first succeeded
 two_unwell : unwell (Well ∷ Failed ∷ Unbegun ∷ []) (0 ∷ 2 ∷ 2 ∷ []) ≡ 2
 two_unwell = refl

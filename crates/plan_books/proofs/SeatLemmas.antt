@@ -1,4 +1,4 @@
--- How a number leaves its seat and takes another.
+-- A number is removed from its position and added at another one.
 use Rattle.std.proofs.Common.{◌≡◌, ◌≢◌, ℕ, zero, suc, ◌+◌, ◌<◌, ◌≤◌, List, [], ◌∷◌, length, refl, sym, ◌∙◌, ap, arith, get_or, set, inl, inr, length-set, get_or-set_same, get_or-set_other, map, cond, eqb, Bool}
 use Rattle.std.specs.Prelude.{slice_index}
 use Rattle.std.proofs.lemmas.Bool.{eq-eqb}
@@ -8,7 +8,7 @@ use Rattle.std.proofs.lemmas.List.Sums.{count_by-le-length, sum_by-set}
 use Rattle.plan_books.specs.Filing.{standing}
 use Rattle.plan_books.specs.Seating.{seat}
 
--- a row with one seat changed
+-- a bucket with one position changed
 abbrev pub seats_with : List (List ℕ) → ℕ → ℕ → ℕ → List (List ℕ)
 seats_with rows s i y = set rows s (set (get_or rows s []) i y)
 
@@ -35,7 +35,7 @@ room_kept (r ∷ rows) zero i y (suc t) = refl
 room_kept (r ∷ rows) (suc s) i y zero = refl
 room_kept (r ∷ rows) (suc s) i y (suc t) = room_kept rows s i y t
 
--- how many stand on a shelf once a number has moved
+-- the number of items in a bucket after a number has moved
 pub standing_after : (shelf : List ℕ) (e s t : ℕ) → e < length shelf → standing t (set shelf e s) + cond (eqb (slice_index shelf e) t) 1 0 ≡ standing t shelf + cond (eqb s t) 1 0
 standing_after shelf e s t h = sum_by-set (λ x. cond (eqb x t) 1 0) shelf e s 0 h
 
@@ -60,7 +60,7 @@ pub standing_else : (shelf : List ℕ) (e s t : ℕ) → e < length shelf → sl
 standing_else shelf e s t h n m =
     omega (arith, standing_after shelf e s t h, none_if (slice_index shelf e) t n, none_if s t m)
 
--- who doesn't stand on a shelf isn't counted there
+-- a number that isn't in a bucket isn't counted there
 pub standing_less : (shelf : List ℕ) (e s : ℕ) → e < length shelf → slice_index shelf e ≢ s → standing s shelf + 1 ≤ length shelf
 standing_less shelf e s h n =
     let more : standing s (set shelf e s) ≡ standing s shelf + 1 = standing_new shelf e s h n in

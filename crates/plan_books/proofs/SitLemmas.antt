@@ -1,4 +1,4 @@
--- A number takes the next seat of a shelf.
+-- A number is added at the next position of a bucket.
 use Rattle.std.proofs.Common.{◌≡◌, ◌≢◌, ℕ, ◌+◌, ◌<◌, ◌≤◌, ◌^◌, List, [], length, refl, sym, ◌∙◌, ap, subst, arith, get_or, set, inl, inr, length-set, get_or-set_same, get_or-set_other}
 use Rattle.std.specs.Prelude.{slice_index}
 use Rattle.std.proofs.lemmas.Bool.{cases_eq}
@@ -6,7 +6,7 @@ use Rattle.plan_books.specs.Filing.{standing}
 use Rattle.plan_books.specs.Seating.{seat, IsSeated, IsSeatedBut}
 use Rattle.plan_books.proofs.SeatLemmas.{room_kept, seat_beside, seat_elsewhere, seat_same, seats_with, standing_else, standing_less, standing_new, standing_old}
 
--- what is known of the number e that takes the seat n of the shelf s
+-- the number e that is added at position n of bucket s
 record Sitting (rows : List (List ℕ)) (lens places shelf : List ℕ) (e s n : ℕ) : Type 0 where
   here : e < length shelf
   row : s < length rows
@@ -47,7 +47,7 @@ old_here rows lens places shelf e s n x is d h other =
       | inr else ↦ seat_elsewhere rows s (slice_index shelf x) n (slice_index places x) e else ∙ is.here x h other
     ])
 
--- who sits at a taken seat
+-- the number at an occupied position
 record Found (rows : List (List ℕ)) (places shelf : List ℕ) (s i : ℕ) : Type 0 where
   who : ℕ
   is : seat rows s i ≡ who
@@ -171,7 +171,7 @@ sits rows lens places shelf e s is here row another room =
       fits = λ t. fits_new rows lens places shelf e s n t is d;
     }
 
--- the same, by what the code read
+-- the same, by the values that the code read
 pub sits_at : (rows : List (List ℕ)) (lens places shelf : List ℕ) (e s n : ℕ) (r : List ℕ) → IsSeatedBut e rows lens places shelf → e < length shelf → s < length rows → slice_index shelf e ≢ s
     → standing s shelf < length (get_or rows s []) → slice_index lens s ≡ n → set (get_or rows s []) n e ≡ r
     → IsSeated (set rows s r) (set lens s (n + 1)) (set places e n) (set shelf e s)

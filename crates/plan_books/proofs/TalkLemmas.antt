@@ -1,4 +1,4 @@
--- An edge that asks or is answered.
+-- An edge asks a question or receives a reply.
 use Rattle.std.proofs.Common.{◌≡◌, ◌≢◌, ℕ, ◌+◌, ◌<◌, List, length, refl, sym, ◌∙◌, ap, subst, arith, get_or, get_or-set_same, set, Some, None, true, false}
 use Rattle.std.specs.Prelude.{Option, slice_index}
 use Rattle.std.proofs.lemmas.List.{set-get_or}
@@ -17,7 +17,7 @@ use Rattle.plan_books.proofs.FileLemmas.{unbegun_low}
 use Rattle.plan_books.proofs.KeepLemmas.{kept_entered, refiled}
 use Rattle.plan_books.proofs.SeatLemmas.{standing_else}
 
--- what isn't at Take stands on no shelf of a pool
+-- an edge that isn't at Take is in no bucket of a pool
 off_pools : (phase : Phase) (w : ℕ) (b : Option ℕ) (pool q : ℕ) → is_at_take phase ≡ false → shelf_for phase w b pool ≢ 5 + q
 off_pools Unbegun w b pool q h at = let low : unbegun_shelf w b < 5 = unbegun_low w b in absurd (omega (arith, low, at))
 off_pools (Going x) w b pool q h at = absurd (omega (arith, at))
@@ -28,7 +28,7 @@ off_pools Failed w b pool q h at = absurd (omega (arith, at))
 off_pools Ill w b pool q h at = absurd (omega (arith, at))
 off_pools NotWanted w b pool q h at = absurd (omega (arith, at))
 
--- all counts stay
+-- all counts stay the same
 counts_alike : (pools : List ℕ) (phases : List Phase) (c : Counts) (e : ℕ) (next : Phase)
     → AreCounts pools phases c.pool_holders.items c.holders c.failures c.open_edges → e < length phases → length pools ≡ length phases → slice_index pools e < length c.pool_holders.items
     → AreAlike (phase_at phases e) next → AreCounts pools (set phases e next) c.pool_holders.items c.holders c.failures c.open_edges
@@ -44,7 +44,7 @@ counts_alike pools phases c e next are here sized pool alike =
 refiled_same : (f : Filing) (p s : ℕ) → slice_index f.shelf p ≡ s → f ≡ refiled f p s
 refiled_same f p s is = sym (ap (λ (l : List ℕ). record f { shelf = l }) (ap (set f.shelf p) (sym is) ∙ set-get_or f.shelf p 0))
 
--- an edge went to a phase that is counted alike
+-- an edge changed to a phase that is counted in the same way
 pub kept_talked : (plan : Plan) (b b' : Books) (e : ℕ) (next : Phase) → IsPlan plan → IsKept plan b → e < edges_of plan → AreAlike (phase_at b.phases.items e) next
     → b'.phases.items ≡ set b.phases.items e next → b'.waiting.items ≡ b.waiting.items → b'.blame.items ≡ b.blame.items → b'.counts ≡ b.counts → b'.pool_shelves ≡ b.pool_shelves
     → b'.shelves ≡ refiled b.shelves e (its_shelf plan.pools.items b'.phases.items b'.waiting.items b'.blame.items e)

@@ -1,4 +1,4 @@
--- Rows that are turned round.
+-- The rows of waits, transposed to rows of the edges that wait.
 use Rattle.std.proofs.Common.{◌≡◌, ◌≢◌, ℕ, zero, suc, ◌+◌, ◌*◌, ◌<◌, ◌≤◌, List, [], ◌∷◌, ◌++◌, length, refl, sym, ◌∙◌, ap, subst, arith, get_or, set, take, ◌⊎◌, inl, inr, get_or-set_same, get_or-set_other, Bool, true, false, cond}
 use Rattle.std.specs.Prelude.{◌==◌, replicate, slice_index}
 use Rattle.std.proofs.lemmas.Bool.{cases_eq, eq-eqb}

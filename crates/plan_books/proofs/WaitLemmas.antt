@@ -1,4 +1,4 @@
--- What edges wait for, once one of them ended.
+-- The waits of edges after one of them ended.
 use Rattle.std.proofs.Common.{◌≡◌, ◌≢◌, ℕ, zero, suc, ◌+◌, ◌-◌, ◌<◌, ◌≤◌, List, [], ◌∷◌, length, refl, sym, ◌∙◌, ap, subst, arith, get_or, set, take, ◌⊎◌, inl, inr, length-set, get_or-set_same, get_or-set_other, Bool, true, false, cond, Some, None}
 use Rattle.std.specs.Prelude.{◌==◌, not, Contains, Option, slice_index}
 use Rattle.std.proofs.lemmas.Bool.{cases_eq, eq-eqb}
@@ -23,7 +23,7 @@ unwell_cons phases w ws = sum_by-cons (λ v. cond (not (is_well (phase_at phases
 standing_cons : (e w : ℕ) (ws : List ℕ) → standing e (w ∷ ws) ≡ one (w == e) + standing e ws
 standing_cons e w ws = sum_by-cons (λ v. cond (v == e) 1 0) w ws
 
--- an edge ends well
+-- an edge succeeds
 pub unwell_after : (phases : List Phase) (e : ℕ) (next : Phase) (ws : List ℕ) → e < length phases → is_well (phase_at phases e) ≡ false → is_well next ≡ true
     → unwell (set phases e next) ws + standing e ws ≡ unwell phases ws
 unwell_after phases e next [] h f t = refl
@@ -44,7 +44,7 @@ unwell_after phases e next (w ∷ ws) h f t =
           omega (arith, rest, a, b, c, x, z)
     ]
 
--- an edge goes on, or ends ill
+-- an edge goes on, or fails, is skipped or is stopped
 pub unwell_same : (phases : List Phase) (e : ℕ) (next : Phase) (ws : List ℕ) → e < length phases → is_well (phase_at phases e) ≡ is_well next
     → unwell (set phases e next) ws ≡ unwell phases ws
 unwell_same phases e next [] h f = refl
@@ -62,7 +62,7 @@ unwell_same phases e next (w ∷ ws) h f =
 pub standing_unwell : (phases : List Phase) (e : ℕ) (ws : List ℕ) → e < length phases → is_well (phase_at phases e) ≡ false → standing e ws ≤ unwell phases ws
 standing_unwell phases e ws h f = let same : unwell (set phases e Well) ws + standing e ws ≡ unwell phases ws = unwell_after phases e Well ws h f refl in omega (arith, same)
 
--- who stands in a list
+-- an item that is in a list is counted there
 pub standing_in : (ws : List ℕ) (e : ℕ) → Contains ws e → 0 < standing e ws
 standing_in [] e (k, h, q) = absurd (omega (arith, h))
 standing_in (w ∷ ws) e (zero, h, q) =
@@ -100,7 +100,7 @@ standing_next x ws i h q = count_by_more_yes (λ v. v == x) ws i 0 h (eq-eqb (sl
 pub standing_past : (x : ℕ) (ws : List ℕ) (i : ℕ) → i < length ws → slice_index ws i ≢ x → standing x (take (i + 1) ws) ≡ standing x (take i ws)
 standing_past x ws i h n = count_by_more_no (λ v. v == x) ws i 0 h (elim (eqb_tells (slice_index ws i) x) [ inl q ↦ absurd (n q.1) | inr q ↦ q.0 ])
 
--- whom an edge blames, once another went on or ended
+-- the failed wait of an edge, after another edge changed its phase
 ill_same : (phases : List Phase) (e w : ℕ) (next : Phase) → e < length phases → is_ill (phase_at phases e) ≡ is_ill next → is_ill (phase_at (set phases e next) w) ≡ is_ill (phase_at phases w)
 ill_same phases e w next h f = elim (cases_eq w e) [
   | inl same ↦ ap is_ill (phase_same phases e w next h same) ∙ (sym f ∙ ap (λ v. is_ill (phase_at phases v)) (sym same))

@@ -1,4 +1,4 @@
--- Books about the edges of a plan.
+-- The schedule of the edges of a plan.
 use Rattle.std.specs.Prelude.{◌≡◌, ◌≢◌, ◌<◌, ◌≤◌, ◌+◌, ◌^◌, not, true, false, ℕ, List, Option, None, Some, [], All, Contains, count_by, get_or, length, slice_index}
 use Rattle.plan_books.specs.Filing.{Filing, standing}
 use Rattle.plan_books.specs.declared.phase.Phase.{Phase}
@@ -8,11 +8,11 @@ use Rattle.plan_books.specs.Phases.{is_ill, is_well, phase_at}
 use Rattle.plan_books.specs.Counts.{AreCounts}
 use Rattle.plan_books.specs.Filed.{AreShelves, ArePoolShelves, blame_at, its_shelf, pool_shelf_for}
 
--- how many edges a plan has
+-- the number of edges of a plan
 abbrev pub edges_of : Plan → ℕ
 edges_of plan = length plan.waits.items
 
--- what an edge waits for, and the edges that wait for it
+-- the waits of an edge, and the edges that wait for it
 abbrev pub waits_of : Plan → ℕ → List ℕ
 waits_of plan e = get_or plan.waits.items e []
 
@@ -30,7 +30,8 @@ pub record IsPlan (plan : Plan) : Type 0 where
   pub users_sized : length plan.users.items ≡ edges_of plan
   pub turned : (e w : ℕ) → e < edges_of plan → w < edges_of plan → standing e (users_of plan w) ≡ standing w (waits_of plan e)
 
--- what doesn't speak of waits: all is counted, and stands where it is to stand
+-- the part of the invariant that doesn't mention waits: the counts are right, and each edge and pool is in its
+-- bucket
 pub record IsKept (plan : Plan) (b : Books) : Type 0 where
   pub phases_sized : length b.phases.items ≡ edges_of plan
   pub waiting_sized : length b.waiting.items ≡ edges_of plan
@@ -43,16 +44,16 @@ pub record IsKept (plan : Plan) (b : Books) : Type 0 where
   pub pools_filed : (p : ℕ) → p < length plan.depths.items
       → slice_index b.pool_shelves.shelf p ≡ pool_shelf_for (standing (5 + p) b.shelves.shelf) (slice_index b.counts.pool_holders.items p) (slice_index plan.depths.items p)
 
--- an edge that it waits for ended ill, or none did
+-- one of the waits failed, was skipped or was stopped, or none was
 abbrev pub IsBlame : List Phase → List ℕ → Option ℕ → Type 0
 IsBlame phases waits None = (w : ℕ) → Contains waits w → is_ill (phase_at phases w) ≡ false
 IsBlame phases waits (Some w) = Contains waits w × (is_ill (phase_at phases w) ≡ true)
 
--- how many of these edges haven't ended well
+-- the number of these edges that haven't succeeded
 abbrev pub unwell : List Phase → List ℕ → ℕ
 unwell phases waits = count_by (λ w. not (is_well (phase_at phases w))) waits
 
--- the books are of these phases
+-- the schedule agrees with its phases
 pub record AreBooks (plan : Plan) (b : Books) : Type 0 where
   pub kept : IsKept plan b
   pub waiting : (e : ℕ) → e < edges_of plan → slice_index b.waiting.items e ≡ unwell b.phases.items (waits_of plan e)

@@ -1,4 +1,4 @@
--- How many edges hold places, failed and are open.
+-- The number of edges that hold a job token, failed, or have no outcome.
 use Rattle.std.specs.Prelude.{◌≡◌, ◌==◌, ◌<◌, ◌+◌, ◌&&◌, Bool, true, false, ℕ, List, [], ◌∷◌, cond, count_by, length, slice_index}
 use Rattle.plan_books.specs.declared.phase.Phase.{Phase}
 use Rattle.plan_books.specs.Phases.{has_failed, holds, is_open}
@@ -6,7 +6,7 @@ use Rattle.plan_books.specs.Phases.{has_failed, holds, is_open}
 abbrev pub one : Bool → ℕ
 one b = cond b 1 0
 
--- how many edges of a pool hold a place
+-- the number of edges of a pool that hold a job token
 abbrev pub holders_of : ℕ → List ℕ → List Phase → ℕ
 holders_of p [] phases = 0
 holders_of p (q ∷ pools) [] = 0

@@ -1,4 +1,4 @@
--- How a number leaves its seat.
+-- The removal of a number from its position.
 use Rattle.std.specs.Prelude.{◌≡◌, ℕ, map, length}
 use Rattle.plan_books.specs.declared.seats.Seats.{Seats}
 use Rattle.plan_books.specs.Seating.{IsSeated, IsSeatedBut}

@@ -1,9 +1,9 @@
--- How edges stand before any has begun.
+-- The phases of edges before any has begun.
 use Rattle.std.specs.Prelude.{◌==◌, if◌then◌else◌, Bool, true, false, ℕ}
 use Rattle.plan_books.specs.declared.phase.Phase.{Phase}
 use Rattle.plan_books.specs.declared.phase.Phase.TheVariants.{Unbegun, NotWanted}
 
--- an edge that is wanted, or not
+-- the phase of an edge that is wanted or not
 abbrev pub opening_phase : Bool → Phase
 opening_phase true = Unbegun
 opening_phase false = NotWanted

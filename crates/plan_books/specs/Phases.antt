@@ -1,4 +1,4 @@
--- Where an edge stands.
+-- Phases of edges.
 use Rattle.std.specs.Prelude.{◌≡◌, Bool, true, false, ℕ, List, get_or}
 use Rattle.plan_books.specs.declared.phase.Phase.{Phase}
 use Rattle.plan_books.specs.declared.phase.Phase.TheVariants.{Unbegun, Going, AtTake, Asked, Well, Failed, Ill, NotWanted}
@@ -37,10 +37,10 @@ abbrev pub is_at_take : Phase → Bool
 is_at_take (AtTake h) = true
 is_at_take phase = false
 
--- nothing that is counted tells two phases apart, and neither is at Take
+-- two phases are counted in the same way, and neither is at Take
 abbrev pub AreAlike : Phase → Phase → Type 0
 AreAlike last next = (holds last ≡ holds next) × (has_failed last ≡ has_failed next) × (is_open last ≡ is_open next) × (is_at_take last ≡ false) × (is_at_take next ≡ false)
 
--- the phase of an edge; outside the edges, that of one that hasn't begun
+-- the phase of an edge; an edge outside the list counts as one that hasn't begun
 abbrev pub phase_at : List Phase → ℕ → Phase
 phase_at phases e = get_or phases e Unbegun

@@ -1,12 +1,12 @@
--- The seats of shelves, and how numbers sit on them.
+-- The positions of buckets, and the positions of numbers in them.
 use Rattle.std.specs.Prelude.{◌≡◌, ◌≢◌, ◌<◌, ◌≤◌, ◌+◌, ◌^◌, ℕ, List, [], get_or, length, slice_index}
 use Rattle.plan_books.specs.Filing.{standing}
 
--- who has a seat
+-- the number at a position
 abbrev pub seat : List (List ℕ) → ℕ → ℕ → ℕ
 seat rows s i = slice_index (get_or rows s []) i
 
--- each number sits on its shelf, and nobody else there
+-- each number is at a position of its bucket, and no other number is there
 pub record IsSeated (rows : List (List ℕ)) (lens places shelf : List ℕ) : Type 0 where
   pub placed : length places ≡ length shelf
   pub counted : length lens ≡ length rows
@@ -20,7 +20,7 @@ pub record IsSeated (rows : List (List ℕ)) (lens places shelf : List ℕ) : Ty
   pub many : (s : ℕ) → s < length rows → slice_index lens s ≡ standing s shelf
   pub fits : (s : ℕ) → slice_index lens s ≤ length (get_or rows s [])
 
--- the same, while one number sits nowhere
+-- the same, except that one number has no position
 pub record IsSeatedBut (one : ℕ) (rows : List (List ℕ)) (lens places shelf : List ℕ) : Type 0 where
   pub placed : length places ≡ length shelf
   pub counted : length lens ≡ length rows

@@ -1,4 +1,4 @@
-//! How many edges hold places, failed and are open.
+//! Counters of edges: how many hold a job token, failed, or have no outcome.
 
 ghost use Rattle.std.specs.Prelude.{◌≡◌, ◌≢◌, ◌<◌, ◌+◌, ◌^◌, ◌≤◌, ℕ, IsTrue, length, slice_index, slice_set};
 ghost use Rattle.plan_books.specs.Counts.{AreCounts, one};
@@ -6,20 +6,20 @@ ghost use Rattle.plan_books.specs.Phases.{has_failed, holds, is_open, phase_at};
 
 use crate::phase::Phase;
 
-/// How many edges hold places, failed and are open.
+/// The number of edges that hold a job token, failed, or have no outcome.
 #[derive(Drop)]
 pub struct Counts {
-    /// How many edges of each pool hold a place.
+    /// The number of edges of each pool that hold a job token.
     pub pool_holders: Vec<u32>,
-    /// How many hold a place.
+    /// The number of edges that hold a job token.
     pub holders: u32,
-    /// How many failed.
+    /// The number of edges that failed.
     pub failures: u32,
-    /// How many have no outcome.
+    /// The number of edges that have no outcome.
     pub open_edges: u32,
 }
 
-/// A count, once one that was counted or not is so or not.
+/// Updates a count for an edge that was or wasn't counted, and is or isn't now.
 fn recounted(count: u32, was: bool, is: bool) -> u32
     requires some { IsTrue was → 0 < count }
     requires small { count + 1 < 2 ^ 32 }
@@ -33,7 +33,7 @@ fn recounted(count: u32, was: bool, is: bool) -> u32
 }
 
 impl Counts {
-    /// An edge goes to another phase.
+    /// Updates the counts for an edge whose phase changes to `next`.
     pub fn change(&mut self, pools: &[u32], phases: &[Phase], edge: u32, next: Phase)
         requires here { edge < length phases.now }
         requires sized { length pools.now ≡ length phases.now }

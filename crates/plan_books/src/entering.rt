@@ -1,4 +1,4 @@
-//! An edge goes to another phase.
+//! Changes the phase of an edge, with its counts and buckets.
 
 ghost use Rattle.std.specs.Prelude.{◌≡◌, ◌<◌, ◌-◌, ℕ, Some, length, slice_index, slice_set};
 ghost use Rattle.plan_books.specs.Booking.{IsKept, IsPlan, edges_of};
@@ -10,7 +10,8 @@ use crate::phase::Phase;
 use crate::plan::Plan;
 
 impl Books {
-    /// An edge goes to a phase that is counted alike: its pool has as much to do as before.
+    /// Changes the phase of an edge to one that is counted in the same way. The counts and the bucket of its
+    /// pool stay the same.
     fn talk(&mut self, plan: &Plan, edge: u32, next: Phase)
         requires plan { IsPlan plan.now }
         requires here { edge < edges_of plan.now }
@@ -34,7 +35,7 @@ impl Books {
         );
     }
 
-    /// An edge goes to any other phase: it is counted anew, and so is its pool.
+    /// Changes the phase of an edge to any other one, and updates the counts and the bucket of its pool.
     fn recount(&mut self, plan: &Plan, edge: u32, next: Phase)
         requires plan { IsPlan plan.now }
         requires here { edge < edges_of plan.now }
@@ -66,7 +67,7 @@ impl Books {
         );
     }
 
-    /// An edge goes to another phase; the edges that wait for it aren't told.
+    /// Changes the phase of an edge, but does not update the edges that wait for it.
     pub(crate) fn enter(&mut self, plan: &Plan, edge: u32, next: Phase)
         requires plan { IsPlan plan.now }
         requires here { edge < edges_of plan.now }
@@ -83,7 +84,7 @@ impl Books {
         }
     }
 
-    /// An edge waits for one edge less.
+    /// Decrements the number of unfinished waits of `user`.
     pub(crate) fn relieve(&mut self, plan: &Plan, user: u32)
         requires plan { IsPlan plan.now }
         requires here { user < edges_of plan.now }
@@ -108,7 +109,7 @@ impl Books {
         );
     }
 
-    /// An edge waits for one that ended ill.
+    /// Records that `user` waits for an edge that failed, was skipped or was stopped.
     pub(crate) fn accuse(&mut self, plan: &Plan, user: u32, edge: u32)
         requires plan { IsPlan plan.now }
         requires here { user < edges_of plan.now }

@@ -1,4 +1,4 @@
-//! On which shelf each edge stands, and each pool.
+//! The bucket of each edge, and of each pool.
 
 ghost use Rattle.std.specs.Prelude.{◌≡◌, ◌≢◌, ◌<◌, ◌≤◌, ◌+◌, ◌^◌, ℕ, length, slice_index, slice_set};
 ghost use Rattle.plan_books.specs.Filing.{standing};
@@ -7,7 +7,7 @@ ghost use Rattle.plan_books.specs.Filed.{AreShelves, ArePoolShelves, its_shelf, 
 use crate::phase::Phase;
 use crate::shelf_room::Shelves;
 
-/// The shelf of an edge that hasn't begun.
+/// Returns the bucket of an edge that hasn't begun: 3 if it can be skipped, 2 if it can start, 1 if it waits.
 fn unbegun_shelf(waiting: u32, blame: Option<u32>) -> u32
     ensures { result ≡ unbegun_shelf waiting blame }
 {
@@ -17,7 +17,8 @@ fn unbegun_shelf(waiting: u32, blame: Option<u32>) -> u32
     }
 }
 
-/// The shelf of an edge.
+/// Returns the bucket of an edge: 0 if it can do nothing, 1 to 3 if it hasn't begun, 4 if it can make a step,
+/// and 5 plus the number of its pool if it is at Take.
 fn shelf_for(phase: Phase, waiting: u32, blame: Option<u32>, pool: u32) -> u32
     requires { pool + 5 < 2 ^ 32 }
     ensures { result ≡ shelf_for phase waiting blame pool }
@@ -34,7 +35,8 @@ fn shelf_for(phase: Phase, waiting: u32, blame: Option<u32>, pool: u32) -> u32
     }
 }
 
-/// The shelf of a pool.
+/// Returns the bucket of a pool: 0 if none of its edges is at Take, 1 if it has a free job token for one, and 2
+/// if it is full.
 fn pool_shelf_for(at_take: u32, holders: u32, depth: u32) -> u32
     ensures { result ≡ pool_shelf_for at_take holders depth }
 {
@@ -47,7 +49,7 @@ fn pool_shelf_for(at_take: u32, holders: u32, depth: u32) -> u32
     2
 }
 
-/// Puts an edge on its shelf.
+/// Moves an edge to its bucket.
 pub fn refile(
     shelves: &mut Shelves,
     pools: &[u32],
@@ -72,7 +74,7 @@ pub fn refile(
     shelves.put(edge, shelf);
 }
 
-/// Puts a pool on its shelf.
+/// Moves a pool to its bucket.
 pub fn refile_pool(
     pool_shelves: &mut Shelves,
     shelves: &Shelves,

@@ -1,22 +1,22 @@
-//! The books of a run.
+//! The schedule of a run.
 
 use crate::counting::Counts;
 use crate::phase::Phase;
 use crate::shelf_room::Shelves;
 
-/// What is kept about the edges of a plan while they run.
+/// The schedule: counters of the edges of a plan, and buckets of edges by what they can do.
 #[derive(Drop)]
 pub struct Books {
-    /// Where each edge stands.
+    /// The phase of each edge.
     pub phases: Vec<Phase>,
-    /// How many of its waits haven't ended well.
+    /// For each edge, the number of its waits that haven't succeeded.
     pub waiting: Vec<u32>,
-    /// One of its waits that ended ill.
+    /// For each edge, one of its waits that failed, was skipped or was stopped.
     pub blame: Vec<Option<u32>>,
-    /// The edges, each on the shelf of what it can do.
+    /// The edges, each in the bucket for what it can do.
     pub shelves: Shelves,
-    /// The pools, each on the shelf of what its edges at Take can do.
+    /// The pools, each in the bucket for what its edges at Take can do.
     pub pool_shelves: Shelves,
-    /// How many hold places, failed and are open.
+    /// The number of edges that hold a job token, failed, or have no outcome.
     pub counts: Counts,
 }

@@ -1,9 +1,13 @@
-//! Books about edges while they run: how many hold places, failed and are open, and which of them can go on.
+//! The schedule of edges while they run: how many hold a job token, failed, or have no outcome, and which of
+//! them can go on.
 //!
-//! - `Plan`: what is fixed: what each edge waits for and who waits for it, pools and their depths. `plan_of` makes one.
-//! - `Books`: where each edge stands, by its `Phase`, with counts and shelves that always fit. `open` makes those of a run
-//!   that has not begun; `go`, `end_well` and `end_ill` change one edge and take no memory; `pick` finds a `Pick`.
-//! - `Shelves`: numbers that stand on shelves, each on one, and each shelf's numbers at hand.
+//! - `Plan` is the fixed data: the waits of each edge, the edges that wait for it, and the pools with their
+//!   depths. `plan_of` creates it.
+//! - `Books` is the schedule. It has the `Phase` of each edge, with counts and buckets that always agree with
+//!   the phases. `open` creates the schedule of a run that has not begun. `go`, `end_well` and `end_ill` change
+//!   the phase of one edge and take no memory. `pick` finds a `Pick`, which is the next event without a reply.
+//! - `Shelves` is a set of buckets. Each number is in one bucket, and some number of each bucket can be found
+//!   in constant time.
 #![tactic(auto)]
 
 mod counting;

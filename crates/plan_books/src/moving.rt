@@ -1,4 +1,4 @@
-//! What happens to an edge.
+//! Changes of the phase of an edge.
 
 ghost use Rattle.std.specs.Prelude.{◌≡◌, ◌<◌, false, true, length, slice_set};
 ghost use Rattle.plan_books.specs.Booking.{AreBooks, IsPlan, edges_of};
@@ -9,7 +9,8 @@ use crate::phase::Phase;
 use crate::plan::Plan;
 
 impl Books {
-    /// An edge that goes on: it begins, comes to Take, takes a place, gives it back, asks or is answered.
+    /// Changes the phase of an edge that goes on: it begins, comes to Take, takes or releases a job token, asks
+    /// a question, or receives a reply.
     pub fn go(&mut self, plan: &Plan, edge: u32, phase: Phase)
         requires plan { IsPlan plan.now }
         requires here { edge < edges_of plan.now }
@@ -22,7 +23,7 @@ impl Books {
         self.enter(plan, edge, phase);
     }
 
-    /// An edge ends well, and those that wait for it wait for one less.
+    /// Ends an edge successfully, and decrements the number of unfinished waits of the edges that wait for it.
     pub fn end_well(&mut self, plan: &Plan, edge: u32)
         requires plan { IsPlan plan.now }
         requires here { edge < edges_of plan.now }
@@ -39,7 +40,7 @@ impl Books {
         }
     }
 
-    /// An edge ends ill, and those that wait for it know so.
+    /// Ends an edge that failed, was skipped or was stopped, and records this for the edges that wait for it.
     pub fn end_ill(&mut self, plan: &Plan, edge: u32, next: Phase)
         requires plan { IsPlan plan.now }
         requires here { edge < edges_of plan.now }
@@ -57,7 +58,7 @@ impl Books {
         }
     }
 
-    /// An edge without an outcome comes to any phase.
+    /// Changes an edge without an outcome to any phase.
     #[tactic(auto, using(crate::proofs::PhaseLemmas::not_well, crate::proofs::PhaseLemmas::stays))]
     pub fn change(&mut self, plan: &Plan, edge: u32, next: Phase)
         requires plan { IsPlan plan.now }

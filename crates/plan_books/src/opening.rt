@@ -1,4 +1,4 @@
-//! The books of a run that has not begun.
+//! Creates the schedule of a run that has not begun.
 
 ghost use Rattle.std.specs.Prelude.{◌≡◌, ◌<◌, ◌≤◌, ◌+◌, ◌^◌, [], ℕ, false, All, IfOk, None, count_by, get_or, length, map, replicate, slice_index};
 ghost use Rattle.plan_books.specs.Filing.{standing};
@@ -16,7 +16,7 @@ use crate::shelf_room::Shelves;
 use crate::turning::users_of;
 use std::alloc::{AllocError, Global};
 
-/// A plan of these rows.
+/// Creates a plan from the waits, the pools and the depths of the pools.
 pub fn plan_of(
     alloc: Global,
     waits: Vec<Numbers>,
@@ -41,7 +41,7 @@ pub fn plan_of(
     })
 }
 
-/// The phase of an edge that is wanted, or not.
+/// Returns the phase of an edge that is wanted or not.
 fn opening_phase(wanted: bool) -> Phase
     ensures { result ≡ opening_phase wanted }
 {
@@ -51,7 +51,7 @@ fn opening_phase(wanted: bool) -> Phase
     Phase::NotWanted
 }
 
-/// The shelf of an edge.
+/// Returns the bucket of an edge that is wanted or not, given the number of its waits.
 fn opening_shelf(wanted: bool, waiting: u32) -> u32
     ensures { result ≡ opening_shelf wanted waiting }
 {
@@ -64,7 +64,7 @@ fn opening_shelf(wanted: bool, waiting: u32) -> u32
     1
 }
 
-/// The phase of each edge.
+/// Returns the phase of each edge.
 fn phases_of(alloc: Global, wanted: &[bool]) -> Result<Vec<Phase>, AllocError>
     ensures { IfOk result (λ v. v.items ≡ map opening_phase wanted.now) }
 {
@@ -75,7 +75,7 @@ fn phases_of(alloc: Global, wanted: &[bool]) -> Result<Vec<Phase>, AllocError>
     Ok(phases)
 }
 
-/// How many edges each waits for.
+/// Returns the number of waits of each edge.
 fn waiting_of(alloc: Global, waits: &[Numbers]) -> Result<Vec<u32>, AllocError>
     requires { (e : ℕ) → length (get_or waits.now e []) < 2 ^ 32 }
     ensures { IfOk result (λ v. v.items ≡ map length waits.now) }
@@ -87,7 +87,8 @@ fn waiting_of(alloc: Global, waits: &[Numbers]) -> Result<Vec<u32>, AllocError>
     Ok(waiting)
 }
 
-/// Room for all on the first five shelves.
+/// Returns the capacities of the buckets, with room for all edges in each of the first five, and none in the
+/// others.
 fn first_rooms(alloc: Global, edges: u32, pool_count: usize) -> Result<Vec<u32>, AllocError>
     requires { pool_count + 5 < 2 ^ 32 }
     ensures len { IfOk result (λ v. length v.items ≡ 5 + pool_count) }
@@ -101,7 +102,8 @@ fn first_rooms(alloc: Global, edges: u32, pool_count: usize) -> Result<Vec<u32>,
     Ok(rooms)
 }
 
-/// For how many each shelf needs room.
+/// Returns the capacity of each bucket: room for all edges in each of the first five, and for the edges of its
+/// pool in each other one.
 fn rooms_of(alloc: Global, pools: &[u32], pool_count: usize) -> Result<Vec<u32>, AllocError>
     requires few_pools { pool_count + 5 < 2 ^ 32 }
     requires few { length pools.now < 2 ^ 32 }
@@ -117,7 +119,7 @@ fn rooms_of(alloc: Global, pools: &[u32], pool_count: usize) -> Result<Vec<u32>,
     Ok(rooms)
 }
 
-/// How many edges have no outcome.
+/// Returns the number of edges that have no outcome.
 fn open_count(phases: &[Phase]) -> u32
     requires { length phases.now < 2 ^ 32 }
     ensures { result ≡ count_by is_open phases.now }
@@ -131,7 +133,7 @@ fn open_count(phases: &[Phase]) -> u32
     count
 }
 
-/// The edges on their shelves.
+/// Creates the buckets, with each edge in its bucket.
 fn filed(
     alloc: Global,
     pools: &[u32],
@@ -159,14 +161,14 @@ fn filed(
     Ok(shelves)
 }
 
-/// So many zeros.
+/// Creates a list of `len` zeros.
 fn zeros(alloc: Global, len: usize) -> Result<Vec<u32>, AllocError>
     ensures { IfOk result (λ v. v.items ≡ replicate len 0) }
 {
     vec![in alloc; 0; len]
 }
 
-/// So many edges that blame none.
+/// Creates a list of `len` edges without a failed wait.
 fn blaming_none(alloc: Global, len: usize) -> Result<Vec<Option<u32>>, AllocError>
     ensures { IfOk result (λ v. v.items ≡ replicate len None) }
 {
@@ -178,7 +180,7 @@ fn blaming_none(alloc: Global, len: usize) -> Result<Vec<Option<u32>>, AllocErro
     Ok(blame)
 }
 
-/// The pools on their shelves.
+/// Creates the buckets of pools, with all pools in the first one.
 fn filed_pools(alloc: Global, pools: usize) -> Result<Shelves, AllocError>
     requires { pools + 5 < 2 ^ 32 }
     ensures shelf { IfOk result (λ f. f.shelf ≡ replicate pools 0) }
@@ -188,7 +190,7 @@ fn filed_pools(alloc: Global, pools: usize) -> Result<Shelves, AllocError>
     Shelves::new(alloc, pools as u32, &rooms)
 }
 
-/// The books of a run that has not begun.
+/// Creates the schedule of a run that has not begun.
 pub fn open(alloc: Global, plan: &Plan, wanted: &[bool]) -> Result<Books, AllocError>
     requires plan { IsPlan plan.now }
     requires wanted { length wanted.now ≡ edges_of plan.now }

@@ -1,20 +1,21 @@
-//! Where an edge stands.
+//! Phases of edges.
 
 ghost use Rattle.std.specs.Prelude.{◌≡◌, true};
 ghost use Rattle.plan_books.specs.Phases.{AreAlike, has_failed, holds, is_ill, is_open};
 
-/// Where an edge stands, as far as the books need it. A flag says whether it holds a place.
+/// The phase of an edge, with as much detail as the schedule needs. A flag says whether the edge holds a job
+/// token.
 #[derive(Clone, Copy, Debug, PartialEq, Eq)]
 pub enum Phase {
     /// It has not begun.
     Unbegun,
-    /// It has begun, has asked nothing and isn't at Take.
+    /// It has begun, awaits no reply and isn't at Take.
     Going(bool),
     /// It has begun and is at Take.
     AtTake(bool),
-    /// It has asked.
+    /// It has asked and awaits a reply.
     Asked(bool),
-    /// It ended Clean or Ran.
+    /// It succeeded: its outcome is Clean or Ran.
     Well,
     /// It failed.
     Failed,
@@ -25,7 +26,7 @@ pub enum Phase {
 }
 
 impl Phase {
-    /// It holds a place.
+    /// Returns whether the edge holds a job token.
     pub fn holds(self) -> bool
         ensures { result ≡ holds self }
     {
@@ -35,14 +36,14 @@ impl Phase {
         }
     }
 
-    /// It failed.
+    /// Returns whether the edge failed.
     pub fn has_failed(self) -> bool
         ensures { result ≡ has_failed self }
     {
         matches!(self, Phase::Failed)
     }
 
-    /// It has no outcome.
+    /// Returns whether the edge has no outcome.
     pub fn is_open(self) -> bool
         ensures { result ≡ is_open self }
     {
@@ -52,14 +53,15 @@ impl Phase {
         )
     }
 
-    /// It ended ill.
+    /// Returns whether the edge failed, was skipped or was stopped.
     pub fn is_ill(self) -> bool
         ensures { result ≡ is_ill self }
     {
         matches!(self, Phase::Failed | Phase::Ill)
     }
 
-    /// Whether an edge in work asks or is answered by going to another phase, and no more: most events do so.
+    /// Returns whether an edge only asks a question or receives a reply by changing to the next phase. Most
+    /// events do so.
     pub(crate) fn is_talk(self, next: Phase) -> bool
         ensures { result ≡ true → AreAlike self next }
     {

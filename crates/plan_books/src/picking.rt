@@ -1,4 +1,4 @@
-//! What can happen next without an answer from outside.
+//! The next event without a reply.
 
 ghost use Rattle.std.specs.Prelude.{◌≡◌, ◌<◌, ◌≤◌, ◌⊎◌, Bool, ℕ, IfNone, IfSome, IsTrue, IsFalse, length, slice_index};
 ghost use Rattle.plan_books.specs.Booking.{AreBooks, IsPlan, edges_of};
@@ -9,21 +9,22 @@ use crate::keeping::Books;
 use crate::phase::Phase;
 use crate::plan::Plan;
 
-/// What can happen next without an answer from outside.
+/// An event that can happen next without a reply from outside.
 #[derive(Clone, Copy, Debug, PartialEq, Eq)]
 pub enum Pick {
     /// An edge begins.
     Start(u32),
-    /// An edge is skipped, since one that it waits for ended ill.
+    /// An edge is skipped, because an edge that it waits for (the second number) failed, was skipped or was
+    /// stopped.
     Skip(u32, u32),
     /// An edge is stopped.
     Stop(u32),
-    /// An edge goes on.
+    /// An edge makes a step.
     Step(u32),
 }
 
 impl Books {
-    /// Whether failures have reached the limit.
+    /// Returns whether the failure limit has been reached.
     fn is_spent(&self, plan: &Plan, keep: u32) -> bool
         requires { AreBooks plan.now self.now }
         ensures { result ≡ is_spent keep self.now.phases.items }
@@ -31,7 +32,7 @@ impl Books {
         keep > 0 && keep <= self.counts.failures
     }
 
-    /// An edge on one of the first five shelves.
+    /// Returns an edge in one of the first five buckets. Returns None if the bucket is empty.
     fn on_shelf(&self, plan: &Plan, shelf: u32) -> Option<u32>
         requires books { AreBooks plan.now self.now }
         requires shelf { shelf < 5 }
@@ -41,7 +42,7 @@ impl Books {
         self.shelves.top(shelf)
     }
 
-    /// An edge at Take whose pool stands on a shelf of pools.
+    /// Returns an edge at Take whose pool is in this bucket of pools. Returns None if the bucket is empty.
     fn at_take(&self, plan: &Plan, pool_shelf: u32) -> Option<u32>
         requires plan { IsPlan plan.now }
         requires books { AreBooks plan.now self.now }
@@ -56,7 +57,8 @@ impl Books {
         }
     }
 
-    /// An edge at Take that can do something: take its place or, where failures have reached the limit, be stopped.
+    /// Returns the event of an edge at Take that can take a job token, or that can be stopped because the
+    /// failure limit has been reached.
     fn pick_at_take(&self, plan: &Plan, jobs: u32, keep: u32) -> Option<Pick>
         requires plan { IsPlan plan.now }
         requires books { AreBooks plan.now self.now }
@@ -82,7 +84,7 @@ impl Books {
         }
     }
 
-    /// An edge that hasn't begun and can begin, be skipped or be stopped.
+    /// Returns the event of an edge that hasn't begun and can start, be skipped or be stopped.
     fn pick_unbegun(&self, plan: &Plan, jobs: u32, keep: u32) -> Option<Pick>
         requires plan { IsPlan plan.now }
         requires books { AreBooks plan.now self.now }
@@ -115,8 +117,8 @@ impl Books {
         }
     }
 
-    /// A Start, Skip, Stop or Step that is enabled, a Step where one is; none where none is. An edge in work goes before
-    /// one that hasn't begun.
+    /// Returns an enabled Start, Skip, Stop or Step: a Step if one is enabled. Returns None if nothing is
+    /// enabled. Edges that have begun come before those that haven't.
     pub fn pick(&self, plan: &Plan, jobs: u32, keep: u32) -> Option<Pick>
         requires plan { IsPlan plan.now }
         requires books { AreBooks plan.now self.now }

@@ -1,4 +1,4 @@
-//! How numbers sit on shelves.
+//! The positions of numbers in buckets.
 
 ghost use Rattle.std.specs.Prelude.{◌≡◌, ◌≢◌, ◌<◌, ◌+◌, [], length, map, get_or, slice_index, slice_set};
 ghost use Rattle.plan_books.specs.Filing.{standing};
@@ -6,20 +6,20 @@ ghost use Rattle.plan_books.specs.Leaving.{Leaves, Sits, Seated};
 
 use crate::row::Row;
 
-/// The seats of each shelf, and where each number sits.
+/// The positions of each bucket, and the position of each number.
 #[derive(Drop)]
 pub struct Seats {
-    /// Of each shelf its seats, the taken ones first.
+    /// The positions of each bucket, the occupied ones first.
     pub rows: Vec<Row>,
-    /// Of each shelf how many seats are taken.
+    /// The number of occupied positions of each bucket.
     pub lens: Vec<u32>,
-    /// Of each number its seat.
+    /// The position of each number in its bucket.
     pub places: Vec<u32>,
-    /// Of each number its shelf.
+    /// The bucket of each number.
     pub shelf: Vec<u32>,
 }
 
-/// Takes a number from its seat; the last of its shelf sits there then.
+/// Removes a number from its bucket, and moves the last number of the bucket to its position.
 pub fn leave(seats: &mut Seats, number: u32)
     requires here { number < length seats.old.shelf.items }
     requires seated { Seated seats.old }
@@ -35,7 +35,7 @@ pub fn leave(seats: &mut Seats, number: u32)
     seats.lens[shelf] = left;
 }
 
-/// Gives a number, which sits nowhere, the next seat of a shelf.
+/// Adds a number, which has no position, at the next position of a bucket.
 pub fn sit(seats: &mut Seats, number: u32, shelf: u32)
     requires here { number < length seats.old.shelf.items }
     requires shelf { shelf < length seats.old.rows.items }

@@ -1,4 +1,4 @@
-//! Shelves.
+//! Buckets.
 
 ghost use Rattle.std.specs.Prelude.{◌≡◌, ◌≢◌, ◌<◌, ◌≤◌, ℕ, IfOk, IfNone, IfSome, length, map, replicate, slice_index, slice_set};
 ghost use Rattle.plan_books.specs.Filing.{HasRoom, standing};
@@ -9,7 +9,7 @@ use crate::seats::{Seats, leave, sit};
 use std::alloc::{AllocError, Global};
 use std::marker::Model;
 
-/// Numbers that stand on shelves.
+/// A set of numbers, each of which is in one bucket.
 #[derive(Drop)]
 pub struct Shelves {
     seats: Seats,
@@ -29,7 +29,7 @@ impl Model for Shelves {
 }
 
 impl Shelves {
-    /// On which shelf a number stands.
+    /// Returns the bucket of a number.
     pub fn shelf(&self, number: u32) -> u32
         requires { number < length self.now.shelf }
         ensures { result ≡ slice_index self.now.shelf number }
@@ -37,7 +37,7 @@ impl Shelves {
         self.seats.shelf[number as usize]
     }
 
-    /// How many stand on a shelf.
+    /// Returns the number of items in a bucket.
     pub fn len(&self, shelf: u32) -> u32
         requires { shelf < length self.now.room }
         ensures { result ≡ standing shelf self.now.shelf }
@@ -45,7 +45,7 @@ impl Shelves {
         self.seats.lens[shelf as usize]
     }
 
-    /// One of those on a shelf.
+    /// Returns one of the numbers in a bucket. Returns None if the bucket is empty.
     pub fn top(&self, shelf: u32) -> Option<u32>
         requires { shelf < length self.now.room }
         ensures some { IfSome result (λ e. (e < length self.now.shelf) × (slice_index self.now.shelf e ≡ shelf)) }
@@ -58,7 +58,7 @@ impl Shelves {
         Some(self.seats.rows[shelf as usize].at(len - 1))
     }
 
-    /// Puts a number on a shelf.
+    /// Moves a number to a bucket, which must have room.
     pub fn put(&mut self, number: u32, shelf: u32)
         requires here { number < length self.old.shelf }
         requires shelf { shelf < length self.old.room }
@@ -73,7 +73,7 @@ impl Shelves {
     }
 }
 
-/// The seats of each shelf.
+/// Creates the positions of each bucket.
 fn rows(alloc: Global, rooms: &[u32]) -> Result<Vec<Row>, AllocError>
     ensures rooms { IfOk result (λ v. map length v.items ≡ rooms.now) }
     ensures each { IfOk result (λ v. (s i : ℕ) → i < slice_index rooms.now s → seat v.items s i ≡ i) }
@@ -86,7 +86,8 @@ fn rows(alloc: Global, rooms: &[u32]) -> Result<Vec<Row>, AllocError>
 }
 
 impl Shelves {
-    /// So many numbers, all on the first shelf; and so many shelves, each with its room.
+    /// Creates buckets with these capacities, and the numbers below `numbers`, all of which are in the first
+    /// bucket.
     pub fn new(alloc: Global, numbers: u32, rooms: &[u32]) -> Result<Shelves, AllocError>
         requires first { 0 < length rooms.now }
         requires room { numbers ≤ slice_index rooms.now 0 }

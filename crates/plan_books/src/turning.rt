@@ -6,7 +6,7 @@ ghost use Rattle.plan_books.specs.Filing.{standing};
 use crate::list::Numbers;
 use std::alloc::{AllocError, Global};
 
-/// So many empty rows.
+/// Creates `len` empty rows.
 fn empty_rows(alloc: Global, len: usize) -> Result<Vec<Numbers>, AllocError>
     ensures len { IfOk result (λ v. length v.items ≡ len) }
     ensures empty { IfOk result (λ v. (w : ℕ) → get_or v.items w [] ≡ []) }
@@ -19,7 +19,7 @@ fn empty_rows(alloc: Global, len: usize) -> Result<Vec<Numbers>, AllocError>
     Ok(rows)
 }
 
-/// Puts an edge into the row of each edge that it waits for.
+/// Adds an edge to the row of each edge that it waits for.
 fn add(rows: &mut Vec<Numbers>, waits: &[u32], edge: u32) -> Result<(), AllocError>
     requires { All (λ w. w < length rows.old.items) waits.now }
     ensures len { OnOk result (length rows.new.items ≡ length rows.old.items) }
@@ -32,7 +32,7 @@ fn add(rows: &mut Vec<Numbers>, waits: &[u32], edge: u32) -> Result<(), AllocErr
     Ok(())
 }
 
-/// The edges that wait for each edge.
+/// Returns the edges that wait for each edge.
 pub fn users_of(alloc: Global, waits: &[Numbers]) -> Result<Vec<Numbers>, AllocError>
     requires few { length waits.now < 2 ^ 32 }
     requires inside { (e : ℕ) → All (λ w. w < length waits.now) (get_or waits.now e []) }

@@ -35,7 +35,7 @@ loop-user-init c =
       blame = λ x h. inr (ap (λ (l : List (Option ℕ)). blame_at l x) c.enter.ensures.blame, λ (k, lt, q). absurd (omega (arith, lt)));
     }
 
--- what an edge is known to blame
+-- the failed wait that an edge is known to have
 abbrev Blamed : List (Option ℕ) → List (Option ℕ) → List ℕ → ℕ → ℕ → ℕ → Type 0
 Blamed now old users i e x = ((blame_at now x ≡ Some e) × Contains users x) ⊎ ((blame_at now x ≡ blame_at old x) × (Contains (take i users) x → ⊥))
 
