@@ -26,7 +26,7 @@ use Rattle.plan_machine.proofs.SoloLemmas.{sees, seen, lent, owned_seen, Solo, s
 use Rattle.plan_machine.proofs.HistoryLemmas.{RanAlone, History, Recalls}
 use Rattle.plan_machine.proofs.RecallLemmas.{none_spent, reached_recalls}
 
--- ---- outcomes alike
+-- ---- equal outcomes
 
 alike_same : (x : Outcome) → AreAlike x x
 alike_same (Skipped w) = tt
@@ -89,7 +89,7 @@ module _ (laws : VerifyLaws) (meaning : Meaning) (p : Parts) (shaped : IsWellSha
   same_stands : (test : Status → Bool) → ((v w : ℕ) → test (Over (Skipped v)) ≡ test (Over (Skipped w))) → (e : ℕ) → Same e → stands test s e ≡ stands test t e
   same_stands test skips e h = ap (passes test) h.here ∙ alike_test test skips h.first h.second h.alike ∙ sym (ap (passes test) h.there)
 
-  -- no wait ended well and ill
+  -- no wait succeeded in one run and failed in the other
   clash_well : (e w : ℕ) → SameWaits e → is_member w (waits_of p e) ≡ true → stands is_well s w ≡ true → stands is_ill t w ≡ true → ⊥
   clash_well e w waits wait well ill = by x.second (ap (passes is_well) (sym x.there) ∙ sym (same_stands is_well (λ v w. refl) w x) ∙ well) (ap (passes is_ill) (sym x.there) ∙ ill)
     where
@@ -117,7 +117,7 @@ module _ (laws : VerifyLaws) (meaning : Meaning) (p : Parts) (shaped : IsWellSha
   own_at : (k : ℕ) (slot : Slot) → slice_get p.slots k ≡ Some slot → owns p slot.owner k ≡ true
   own_at k slot at = ap (owned_by slot.owner) at ∙ eq-eqb slot.owner slot.owner refl
 
-  -- what an edge is lent is the same
+  -- the slots that an edge borrows from its waits are the same
   same_lent : (e : ℕ) → SameWaits e → lent p e s.slots ≡ lent p e t.slots
   same_lent e waits = only_same (is_lent p e) s.slots t.slots same_long (λ k on. by k (slice_get p.slots k) refl on)
     where
@@ -142,7 +142,7 @@ module _ (laws : VerifyLaws) (meaning : Meaning) (p : Parts) (shaped : IsWellSha
   abbrev Agree : ℕ → Outcome → Outcome → Type 0
   Agree e x y = AreAlike x y × (only (owns p e) s.slots ≡ only (owns p e) t.slots)
 
-  -- one that ran in the first
+  -- an edge that ran in the first
   went_first : (e : ℕ) (x : Outcome) (a : Stage) → SameWaits e → Closed a → outcome_in a ≡ x → RanAlone meaning p s s.slots (told e) e a
       → (y : Outcome) → is_wanted (Over y) ≡ true → History ⊥ meaning p t t.slots (told2 e) e (Over y) → Agree e x y
   unfolding outcome_in

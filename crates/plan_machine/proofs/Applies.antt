@@ -1,4 +1,4 @@
--- What the code of an event relies on.
+-- Lemmas for the code of events.
 use Rattle.std.proofs.Common.{◌≡◌, ℕ, zero, suc, ◌<◌, Bool, true, false, not, List, [], ◌∷◌, length, Option, Some, None, refl, sym, ap, ◌∙◌, subst}
 use Rattle.std.specs.Prelude.{◌&&◌, ◌||◌, slice_get, slice_set, slice_index_or, Result, Ok, Err, IfOk}
 use Rattle.std.specs.List.{list_all}
@@ -115,7 +115,7 @@ module _ (p : Parts) (g : Going) (e : ℕ) where
   pub skip_within : (w : ℕ) (b : Bool) → b ≡ can_skip w → b ≡ true → e < length g.now.edges
   skip_within w b is on = passes_within is_unbegun g.now.edges e (and_both (passes is_unbegun (slice_get g.now.edges e)) (is_member w (waits_of p e) && stands is_ill g.now w) (sym is ∙ on)).0
 
-  -- what may be stopped is in the image
+  -- an edge that may be stopped is in the image
   pub stop_within : (b : Bool) → b ≡ can_stop → b ≡ true → e < length g.now.edges
   stop_within b is on = by (slice_get g.now.edges e) refl (and_both (is_spent g.limits g.now) (may_stop_by p e (slice_get g.now.edges e)) (sym is ∙ on)).1
     where
@@ -129,7 +129,7 @@ pub turn_is : (p : Parts) (e : ℕ) (slots : Slots) (l : Local) (i : Instr) → 
 unfolding turn
 turn_is p e slots l i at = ap (λ (o : Option Instr). act_at p e slots l o) (sym at)
 
--- an edge that works is at a place of its code
+-- an edge whose turn isn't wrong is at a place of its code
 pub turn_none : (p : Parts) (e : ℕ) (slots : Slots) (l : Local) → None ≡ slice_get (code p e) l.place → Works (turn p e slots l) → ⊥
 unfolding turn
 turn_none p e slots l at works = subst (λ (o : Option Instr). Works (act_at p e slots l o)) (sym at) works

@@ -1,4 +1,4 @@
--- What the code of one edge's reply relies on.
+-- Lemmas for the code of replies to one edge.
 use Rattle.std.proofs.Common.{◌≡◌, ℕ, zero, suc, ◌<◌, ◌≤◌, Bool, true, false, List, [], ◌∷◌, ◌++◌, ◌+◌, length, arith, Option, Some, None, refl, sym, ap, ◌∙◌, subst}
 use Rattle.std.specs.Prelude.{◌&&◌, ◌==◌, slice_get, IfSome, IsSome, nat_lt, bytes_eq}
 use Rattle.std.proofs.lemmas.Option.{slice_get_within}
@@ -76,7 +76,7 @@ sweep_asks l new all swept rest is lt works same =
         (Stat path.0, ap (sweeps l all (Flag b ∷ Stamp n ∷ below)) path.1, same)
     by _ w = absurd w
 
--- and else it has swept them
+-- a Sweep without paths left has swept them
 pub sweep_ends : (l : Local) (all : List (List ℕ)) (swept : ℕ) (rest : List Value) → l.stack ≡ Paths swept all ∷ rest → length all ≤ swept → Works (sweep l l.stack) → sweep l l.stack ≡ next l (Swept all ∷ rest)
 sweep_ends l all swept rest is le works =
     ap (sweep l) is ∙ by rest (subst (λ (stack : List Value). Works (sweep l stack)) is works)

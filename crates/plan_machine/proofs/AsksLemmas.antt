@@ -1,4 +1,4 @@
--- Which events ask, by the table.
+-- The events that ask, by the table.
 use Rattle.std.proofs.Common.{◌≡◌, ℕ, zero, suc, ◌+◌, Bool, true, false, not, List, [], ◌∷◌, length, Option, Some, None, refl, sym, ap, ◌∙◌, subst, inl, inr}
 use Rattle.std.specs.Prelude.{◌||◌, ◌&&◌, IfNone, IfSome, Result, Ok, Err, drop, if◌then◌else◌, nat_lt, option_map, slice_get}
 use Rattle.std.specs.List.{list_all}
@@ -28,7 +28,7 @@ use Rattle.plan_machine.specs.Requests.{Asks, AsksNothing, asked_by, asks_by, is
 use Rattle.plan_machine.proofs.ListLemmas.{get_same, some_is, when_either, when_false}
 use Rattle.plan_machine.proofs.RequestLemmas.{goes_quiet, silent}
 
--- ---- what an edge asked is what it asks
+-- ---- an edge that asked would ask the same question again
 
 sweep_again : (l : Local) (stack : List Value) → request_of (sweep (asking l) stack) ≡ request_of (sweep l stack)
 sweep_again l (Paths swept all ∷ Flag b ∷ Stamp n ∷ below) = by (slice_get all swept)

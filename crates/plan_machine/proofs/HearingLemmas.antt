@@ -1,4 +1,4 @@
--- What the code of a reply relies on.
+-- Lemmas for the code of replies.
 use Rattle.std.proofs.Common.{◌≡◌, ℕ, zero, suc, ◌<◌, Bool, true, false, List, [], ◌∷◌, length, Option, Some, None, refl, sym, ap, ◌∙◌, subst}
 use Rattle.std.specs.Prelude.{slice_get, slice_set, Result, Ok, Err}
 use Rattle.std.proofs.lemmas.Option.{slice_get_within}
@@ -25,7 +25,7 @@ use Rattle.plan_machine.specs.Hearing.{IsHeard, HasAnswered, HasHeard, SettlesRe
 use Rattle.plan_machine.proofs.AskingLemmas.{heard_unasked}
 use Rattle.plan_machine.proofs.Applies.{set_again}
 
--- no reply fits where none is awaited
+-- no reply matches if none is awaited
 pub rests_on : (p : Parts) (e : ℕ) (a : Answer) (r : Resting) → HasAnswered p e a hearing.Unfit (Active (rested r)) (Active (rested r))
 rests_on p e a r = record { before = rested r; later = rested r; was = refl; is = refl; made = heard_unasked p e (rested r) a refl }
 

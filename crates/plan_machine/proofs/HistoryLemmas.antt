@@ -1,4 +1,4 @@
--- What each edge did so far, by where it stands; each event keeps it.
+-- The history of each edge so far, by its status; each event preserves it.
 use Rattle.std.proofs.Common.{◌≡◌, ℕ, Bool, true, false, eqb, List, [], ◌++◌, length, Option, Some, None, refl, sym, ap, ◌∙◌, subst, inl, inr}
 use Rattle.std.specs.Prelude.{◌||◌, slice_get, slice_set}
 use Rattle.std.proofs.lemmas.Bool.{cases_eq, eqb-true}
@@ -17,7 +17,7 @@ use Rattle.plan_machine.specs.Total.{is_wanted}
 use Rattle.plan_machine.proofs.OnlySlotsLemmas.{only, unset}
 use Rattle.plan_machine.proofs.SoloLemmas.{sees, seen, lent, solo, solo_after}
 
--- from its Start on it ran alone, from the slots that its waits left, by the replies that it got
+-- from its Start on the edge ran alone, from the slots that its waits left, by the replies that it got
 pub record RanAlone (meaning : Meaning) (p : Parts) (s : State) (slots : Slots) (told : List Reply) (e : ℕ) (stage : Stage) : Type 0 where
   pub turns : ℕ
   pub is : (rest : List Reply) → solo_after meaning p e turns (solo (Runs begun) (lent p e slots) (told ++ rest)) ≡ solo stage (seen p e slots) rest
@@ -27,7 +27,7 @@ pub record RanAlone (meaning : Meaning) (p : Parts) (s : State) (slots : Slots) 
 abbrev pub Bare : Parts → ℕ → Slots → Type 0
 Bare p e slots = only (owns p e) slots ≡ unset (length p.slots)
 
--- `gone` is what is known where an edge was stopped
+-- `gone` is the fact that holds if an edge was stopped
 abbrev pub History : (gone : Type 0) → Meaning → Parts → State → Slots → List Reply → ℕ → Status → Type 0
 History gone meaning p s slots told e Unbegun = Bare p e slots × (told ≡ [])
 History gone meaning p s slots told e (Active l) = RanAlone meaning p s slots told e (Runs l)
@@ -43,7 +43,7 @@ pub record Recalls (gone : Type 0) (meaning : Meaning) (p : Parts) (wanted : Lis
   pub wants : (e : ℕ) (status : Status) → slice_get s.edges e ≡ Some status → slice_get wanted e ≡ Some (is_wanted status)
   pub each : (e : ℕ) (status : Status) → slice_get s.edges e ≡ Some status → History gone meaning p s s.slots (told e) e status
 
--- nothing but an edge's own slots differs
+-- only an edge's own slots differ
 abbrev pub Apart : Parts → ℕ → Slots → Slots → Type 0
 Apart p e old new = (f : ℕ → Bool) → ((k : ℕ) → owns p e k ≡ true → f k ≡ false) → only f new ≡ only f old
 
@@ -64,7 +64,7 @@ over_wanted Unbegun h = refl
 over_wanted (Active l) h = refl
 over_wanted (Over outcome) h = absurd cc
 
--- what isn't true is false
+-- a flag that isn't true is false
 untrue : (b : Bool) → (b ≡ true → ⊥) → b ≡ false
 untrue true h = absurd (h refl)
 untrue false h = refl
@@ -87,7 +87,7 @@ both_false : (a b : Bool) → a ≡ false → b ≡ false → (a || b) ≡ false
 both_false false b h k = k
 both_false true b h k = absurd cc
 
--- ---- one edge stands otherwise
+-- ---- the status of one edge changes
 
 module _ (gone : Type 0) (meaning : Meaning) (p : Parts) (s : State) (e : ℕ) (old new : Status) (slots : Slots) (now : slice_get s.edges e ≡ Some old) (going : is_over old ≡ false) (apart : Apart p e s.slots slots) where
   mid : State
@@ -113,7 +113,7 @@ module _ (gone : Type 0) (meaning : Meaning) (p : Parts) (s : State) (e : ℕ) (
   kept_state f told x (Over Stopped) h = h
   kept_state f told x (Over NotWanted) h = h
 
-  -- an edge that is under way isn't among the waits of one that began
+  -- a running edge isn't among the waits of one that began
   pub unlent : (f : ℕ) → ((w : ℕ) → is_member w (waits_of p f) ≡ true → stands is_well s w ≡ true) → (k : ℕ) → owns p e k ≡ true → is_lent p f k ≡ false
   unlent f waited k own = not_lent p e f k (λ wait. absurd (let clash : true ≡ false = sym (waited e wait) ∙ ap (passes is_well) now ∙ over_well old going in cc)) own
 

@@ -1,4 +1,4 @@
--- What a turn of an edge says of the place that it holds.
+-- How a turn of an edge changes the job token that it holds.
 use Rattle.std.proofs.Common.{◌≡◌, ℕ, zero, suc, ◌+◌, true, false, eqb, List, [], ◌∷◌, length, drop, Option, Some, None, refl, ap}
 use Rattle.std.specs.Prelude.{not, IfSome, nat_lt, nat_le, slice_get, Result, Ok, Err}
 use Rattle.std.specs.List.{list_all}
@@ -14,7 +14,7 @@ use Rattle.plan_verify.specs.Turn.{Slots, is_set, Request, Stat, Recall, Reply, 
 use Rattle.plan_machine.proofs.ListLemmas.{when_either}
 use Rattle.plan_machine.specs.Places.{is_take, at_take}
 
--- of a step
+-- the change by a step
 abbrev pub Noted : Parts → ℕ → Local → Turn → Type 0
 Noted p e l (Goes Moved m) = m.holding ≡ l.holding
 Noted p e l (Goes Took m) = (m.holding ≡ true) × (at_take p e l ≡ true)
@@ -25,7 +25,7 @@ Noted p e l Ends = Unit {0}
 Noted p e l (Fails cause) = Unit {0}
 Noted p e l (Wrong flaw) = Unit {0}
 
--- of a reply
+-- a reply doesn't change it
 abbrev pub KeepsPlace : Local → Turn → Type 0
 KeepsPlace l (Goes did m) = m.holding ≡ l.holding
 KeepsPlace l (Sets k v m) = m.holding ≡ l.holding

@@ -1,4 +1,4 @@
--- A run has no more events than the budget and the dependency bytes.
+-- The number of events in a run is at most the budget plus the number of dependency bytes.
 use Rattle.std.proofs.Common.{◌≡◌, ℕ, zero, suc, ◌+◌, ◌-◌, ◌≤◌, Bool, true, false, not, List, [], ◌∷◌, length, map, Option, Some, None, refl, sym, ap, ◌∙◌, subst, arith, add-one, inl, inr}
 use Rattle.std.specs.Prelude.{◌&&◌, ◌||◌, slice_get, slice_set}
 use Rattle.std.specs.List.{list_all}
@@ -37,13 +37,13 @@ abbrev one_if : Bool → ℕ
 one_if true = 1
 one_if false = 0
 
--- what an edge may still cost
+-- the remaining cost of an edge
 abbrev weight : Parts → ℕ → Status → ℕ
 weight p e Unbegun = edge_budget p e
 weight p e (Active l) = worth p e l - one_if l.asked
 weight p e (Over outcome) = 0
 
--- and all of these edges, which are those from e on
+-- the remaining cost of these edges, which are those from e on
 abbrev weigh : Parts → ℕ → List Status → ℕ
 weigh p e [] = 0
 weigh p e (status ∷ rest) = weight p e status + weigh p (e + 1) rest
@@ -56,7 +56,7 @@ weigh_set p e zero j (x ∷ l) old new same now =
     (let at = ap (weight p e) (some_is x old now) in omega (arith, at))
 weigh_set p e (suc k) j (x ∷ l) old new same now = let r = weigh_set p (e + 1) k j l old new (omega (arith, same)) now in omega (arith, r)
 
--- what the image opens with weighs no more than its budget
+-- the remaining cost of an opening state is at most the image's budget
 weigh_first : (p : Parts) (e j : ℕ) (wanted : List Bool) → j ≡ e + length wanted → weigh p e (map at_first wanted) + budget_of_first p e ≤ budget_of_first p j
 weigh_first p e j [] same = let here : j ≡ e = omega (arith, same) in omega (arith, ap (budget_of_first p) here)
 weigh_first p e j (true ∷ wanted) same = let r = weigh_first p (e + 1) j wanted (omega (arith, same)) in omega (arith, r, ap (budget_of_first p) (add-one e))

@@ -1,4 +1,4 @@
--- What the books say of a state that they fit.
+-- The facts that the schedule has about a state that it agrees with.
 use Rattle.std.proofs.Common.{◌≡◌, ℕ, zero, suc, ◌+◌, ◌<◌, Bool, true, false, not, List, [], ◌∷◌, length, map, Option, Some, None, refl, sym, ap, ◌∙◌, arith, inl, inr, cond}
 use Rattle.std.specs.Prelude.{◌&&◌, ◌==◌, option_map, slice_get, slice_set, slice_index, count_by, if◌then◌else◌}
 use Rattle.std.specs.List.{list_all}
@@ -44,7 +44,7 @@ holds_is p e Unbegun = refl
 holds_is p e (Active l) = holds_active l.asked (at_take p e l) l.holding
 holds_is p e (Over outcome) = holds_over outcome
 
--- what is false of each phase of an edge under way
+-- a test that is false for each phase of a running edge
 never_active : (f : Phase → Bool) → ((h : Bool) → f (phase.Asked h) ≡ false) → ((h : Bool) → f (phase.AtTake h) ≡ false) → ((h : Bool) → f (phase.Going h) ≡ false)
     → (asked taking holding : Bool) → f (phase_active asked taking holding) ≡ false
 never_active f a t g true taking holding = a holding
@@ -129,7 +129,7 @@ phases_set_by p e (suc k) (x ∷ l) st =
 pub phases_set : (p : Parts) (k : ℕ) (l : List Status) (st : Status) → phases_from p 0 (slice_set l k st) ≡ slice_set (phases_from p 0 l) k (phase_of p k st)
 phases_set p k l st = let same : 0 + k ≡ k = omega arith in phases_set_by p 0 k l st ∙ ap (λ (n : ℕ). slice_set (phases_from p 0 l) k (phase_of p n st)) same
 
--- a test of phases, where one of statuses says the same
+-- a test of phases that agrees with a test of statuses
 phases_at_by : (f : Phase → Bool) (g : Status → Bool) (p : Parts) → ((e : ℕ) (st : Status) → f (phase_of p e st) ≡ g st) → f phase.Unbegun ≡ false
     → (e k : ℕ) (l : List Status) → f (phase_at (phases_from p e l) k) ≡ passes g (slice_get l k)
 phases_at_by f g p same none e k [] = none
@@ -144,14 +144,14 @@ phase_there_by p e (suc k) (x ∷ l) st h = phase_there_by p (e + 1) k l st h �
 pub phase_there : (p : Parts) (k : ℕ) (l : List Status) (st : Status) → slice_get l k ≡ Some st → phase_at (phases_from p 0 l) k ≡ phase_of p k st
 phase_there p k l st h = let same : 0 + k ≡ k = omega arith in phase_there_by p 0 k l st h ∙ ap (λ (n : ℕ). phase_of p n st) same
 
--- the phase that the books have of an edge
+-- the phase that the schedule has of an edge
 phase_found_by : (p : Parts) (e k : ℕ) (l : List Status) → slice_get (phases_from p e l) k ≡ option_map (phase_of p (e + k)) (slice_get l k)
 phase_found_by p e k [] = refl
 phase_found_by p e zero (x ∷ l) = ap (λ (n : ℕ). Some (phase_of p n x)) (sym (zero_more e))
 phase_found_by p e (suc k) (x ∷ l) =
     phase_found_by p (e + 1) k l ∙ ap (λ (n : ℕ). option_map (phase_of p n) (slice_get l k)) (sym (one_more e k))
 
-phase_found : (p : Parts) (k : ℕ) (l : List Status) → slice_get (phases_from p 0 l) k ≡ option_map (phase_of p k) (slice_get l k)
+pub phase_found : (p : Parts) (k : ℕ) (l : List Status) → slice_get (phases_from p 0 l) k ≡ option_map (phase_of p k) (slice_get l k)
 phase_found p k l = let same : 0 + k ≡ k = omega arith in phase_found_by p 0 k l ∙ ap (λ (n : ℕ). option_map (phase_of p n) (slice_get l k)) same
 
 phase_some : (p : Parts) (e : ℕ) (status : Option Status) (x : Phase) → option_map (phase_of p e) status ≡ Some x → x ≡ phase_in p e status
@@ -223,7 +223,7 @@ none_counted f g same (w ∷ ws) = elim (cases_Bool (g w)) [
       ne_eqb (count_by f (w ∷ ws)) 0 (λ z. omega (arith, sums_to f w ws, on, z)) ∙ ap (λ (b : Bool). b && list_all g ws) (sym off)
 ]
 
--- ---- what the books of a state say
+-- ---- the facts that the schedule has about a state
 
 module _ (p : Parts) (s : State) (plan : Plan) (books : Books) (kept : AreKept p s plan books) where
   pub count_is : (f : Phase → Bool) (g : Status → Bool) → ((e : ℕ) (st : Status) → f (phase_of p e st) ≡ g st) → count_by f books.phases.items ≡ count_by g s.edges
@@ -277,7 +277,7 @@ all_over (st ∷ l) =
 pub ended_is : (p : Parts) (s : State) (plan : Plan) (books : Books) → AreKept p s plan books → (books.counts.open_edges == 0) ≡ has_ended s
 ended_is p s plan books kept = ap (λ (n : ℕ). n == 0) (open_are p s plan books kept) ∙ all_over s.edges
 
--- ---- the books, brought up to where an edge stands
+-- ---- updating the schedule to the status of an edge
 
 over_well : (st : Status) → is_over st ≡ false → is_well st ≡ false
 over_well Unbegun h = refl
@@ -314,7 +314,7 @@ module _ (p : Parts) (r : Running) (e : ℕ) (behind : IsBehind p r e) where
         fit = fit;
       }
 
--- ---- the books of a run that has not begun
+-- ---- the schedule of a run that has not begun
 
 opens_with : (p : Parts) (e : ℕ) (wanted : List Bool) → phases_from p e (map at_first wanted) ≡ map opening_phase wanted
 opens_with p e [] = refl

@@ -33,3 +33,4 @@ pub mod RushLemmas
 pub mod SweepLemmas
 pub mod ByItselfLemmas
 pub mod StayLemmas
+pub mod SweptRowLemmas

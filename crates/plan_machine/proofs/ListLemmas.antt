@@ -1,4 +1,4 @@
--- Elements of lists, tests over them, and choices.
+-- Elements of lists, tests of them, and choices.
 use Rattle.std.proofs.Common.{◌≡◌, ℕ, zero, suc, ◌+◌, ◌<◌, Bool, true, false, eqb, List, [], ◌∷◌, length, map, Option, Some, None, refl, sym, ap, ◌∙◌, subst, arith, inl, inr}
 use Rattle.std.specs.Prelude.{◌⊎◌, not, ◌||◌, ◌&&◌, slice_get, slice_set, slice_index_or, IsSome, if◌then◌else◌, Contains}
 use Rattle.std.specs.List.{list_all, list_any}
@@ -27,6 +27,11 @@ get_other (z ∷ xs) zero zero x ne = absurd (ne refl)
 get_other (z ∷ xs) zero (suc j) x ne = refl
 get_other (z ∷ xs) (suc i) zero x ne = refl
 get_other (z ∷ xs) (suc i) (suc j) x ne = get_other xs i j x (λ e. ne (ap suc e))
+
+pub set_here : {A : Type 0} (xs : List A) (i : ℕ) (x : A) → slice_get xs i ≡ Some x → slice_set xs i x ≡ xs
+set_here [] i x h = refl
+set_here {A} (y ∷ xs) zero x h = let same : y ≡ x = cc in ap (λ (z : A). z ∷ xs) (sym same)
+set_here {A} (y ∷ xs) (suc i) x h = ap (λ (l : List A). y ∷ l) (set_here xs i x h)
 
 pub set_length : {A : Type 0} (xs : List A) (i : ℕ) (x : A) → length (slice_set xs i x) ≡ length xs
 set_length [] i x = refl
@@ -73,7 +78,7 @@ pub is_some_of : {A : Type 0} (o : Option A) → IsSome o → (x : A) × (o ≡ 
 is_some_of (Some x) h = (x, refl)
 is_some_of None h = absurd cc
 
--- an element after a write is the one written, or one from before
+-- an element after a write is the written one, or one from before
 pub get_cases : {A : Type 0} (xs : List A) (i j : ℕ) (x y : A) → slice_get (slice_set xs i x) j ≡ Some y → ((i ≡ j) × (x ≡ y)) ⊎ ((i ≡ j → ⊥) × (slice_get xs j ≡ Some y))
 get_cases [] i j x y h = absurd cc
 get_cases (z ∷ xs) zero zero x y h = inl (refl, some_is x y h)
@@ -82,7 +87,7 @@ get_cases (z ∷ xs) (suc i) zero x y h = inr ((λ e. omega (arith, e)), h)
 get_cases (z ∷ xs) (suc i) (suc j) x y h =
     elim (get_cases xs i j x y h) [ inl p ↦ inl (ap suc p.0, p.1) | inr p ↦ inr ((λ e. p.0 (omega (arith, e))), p.1) ]
 
--- where all pass, each member does
+-- if all pass, each member does
 pub all_member : (f : ℕ → Bool) (ns : List ℕ) (n : ℕ) → list_all f ns ≡ true → is_member n ns ≡ true → f n ≡ true
 all_member f [] n h k = absurd cc
 all_member f (m ∷ ns) n h k =

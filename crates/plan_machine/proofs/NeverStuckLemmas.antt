@@ -69,12 +69,12 @@ is_take_at None h = absurd cc
 is_take_at (Some op.Take) h = refl
 is_take_at (Some i) h = absurd cc
 
--- an edge at Take holds no place
+-- an edge at Take holds no job token
 pub take_idle : (laws : VerifyLaws) (p : Parts) (s : State) (e : ℕ) (l : Local) → IsUnderWay p s e l → at_take p e l ≡ true → l.holding ≡ false
 take_idle laws p s e l u take =
     u.typed.holding ∙ (laws.fit p e u.shapes u.all l.place op.Take u.typed.shape (is_take_at (slice_get (code p e) l.place) take) u.typed.here).0
 
--- a wait that ended ill, one that has no outcome, or all ended well
+-- one of the waits failed, was skipped or was stopped, one has no outcome, or all succeeded
 Wait : State → List ℕ → Type 0
 Wait s waits =
     (list_all (stands is_well s) waits ≡ true)
@@ -134,7 +134,7 @@ module _ (laws : VerifyLaws) (meaning : Meaning) (p : Parts) (shaped : IsWellSha
       when_false (λ (o : Stepped). o ≡ Next n.0 n.1) (l.asked || (at_take p e l && not (is_free p limits s e))) _ _ (ap (λ (b : Bool). b || (at_take p e l && not (is_free p limits s e))) quiet ∙ free) n.2 in
       goes_by (Step e) n.0 n.1 refl (ap (λ (o : Option Status). steps p limits s e o) now ∙ is)
 
-  -- an edge that holds a place isn't at Take, and goes on
+  -- an edge that holds a job token isn't at Take, and goes on
   holder_goes : (e : ℕ) (status : Status) → slice_get s.edges e ≡ Some status → is_holder status ≡ true → GoesOn
   holder_goes e Unbegun now holds = absurd cc
   holder_goes e (Over outcome) now holds = absurd cc
@@ -153,7 +153,7 @@ module _ (laws : VerifyLaws) (meaning : Meaning) (p : Parts) (shaped : IsWellSha
       goes_by (Stop e) _ _ refl (ap (λ (o : Option Status). stops p limits s e o) now
       ∙ when_true (λ (o : Stepped). o ≡ Next (with_status s e (Over Stopped)) (mark.Stopped e)) (is_spent limits s && at_take p e l) _ _ (and_from _ _ spent take) refl)
 
-  -- no room in a pool: an edge holds a place of it
+  -- if a pool has no free job token, an edge holds one of it
   full_goes : (o : Option ℕ) → has_room p s o ≡ false → GoesOn
   full_goes None full = absurd cc
   full_goes (Some pool) full = by_pool (slice_get p.pools pool) full
@@ -172,7 +172,7 @@ module _ (laws : VerifyLaws) (meaning : Meaning) (p : Parts) (shaped : IsWellSha
           let f = find_in_pool p pool 0 s.edges (by_depth row.depth (holders_from p pool 0 s.edges) h) in
           holder_goes f.0 f.1 f.2 f.3
 
-  -- at Take, with failures below what is borne
+  -- an edge at Take, when the failure limit isn't reached
   take_goes : (e : ℕ) (l : Local) → slice_get s.edges e ≡ Some (Active l) → l.asked ≡ false → at_take p e l ≡ true → is_spent limits s ≡ false → GoesOn
   take_goes e l now quiet take unspent =
       elim (cases_Bool (has_room p s (pool_of p e))) [
@@ -201,7 +201,7 @@ module _ (laws : VerifyLaws) (meaning : Meaning) (p : Parts) (shaped : IsWellSha
         ]
       ]
 
-  -- an edge without outcome, of a rank below some number
+  -- an edge without outcome, whose rank is below some number
   edge_goes : (n e : ℕ) (status : Status) → rank_of p e < n → slice_get s.edges e ≡ Some status → is_over status ≡ false → GoesOn
   unfolding step Wait
   edge_goes zero e status lt now off = absurd (omega (arith, lt))

@@ -1,4 +1,4 @@
--- The slots that a test picks, the others as if they weren't set.
+-- The slots that a test selects, with the others unset.
 use Rattle.std.proofs.Common.{◌≡◌, ℕ, zero, suc, Bool, true, false, [], ◌∷◌, length, replicate, Option, Some, None, refl, sym, ap, ◌∙◌, arith}
 use Rattle.std.specs.Prelude.{◌||◌, slice_get, slice_set}
 use Rattle.plan_verify.specs.declared.value.Value.{Value}
@@ -72,7 +72,7 @@ pick_or true true x h = refl
 pick_or true false x h = h
 pick_or false b x h = refl
 
--- what is picked by one of two tests, where nothing that the first picks is set
+-- the slots that one of two tests selects, if none that the first selects is set
 pub only_or : (f g : ℕ → Bool) (xs : Slots) (n : ℕ) → only f xs ≡ unset n → only (λ k. f k || g k) xs ≡ only g xs
 only_or f g [] n h = refl
 only_or f g (x ∷ xs) zero h = absurd cc

@@ -41,7 +41,7 @@ no_clash false h k = absurd cc
 ne_eqb : (a b : ℕ) → (a ≡ b → ⊥) → eqb a b ≡ false
 ne_eqb a b ne = elim (cases_Bool (eqb a b)) [ inl same ↦ absurd (ne (eqb-true a b same)) | inr other ↦ other ]
 
--- what an enabled event does: one edge stands otherwise, and the mark says how
+-- the effect of an enabled event: the status of one edge changes, and the mark says how
 pub record Alters (p : Parts) (limits : Limits) (s mid : State) (told : Mark) : Type 0 where
   pub e : ℕ
   pub old : Status
@@ -62,7 +62,7 @@ module _ (laws : VerifyLaws) (meaning : Meaning) (p : Parts) (shaped : IsWellSha
   Altering (Wrong flaw) = Unit {0}
   Altering NotEnabled = Unit {0}
 
-  -- it doesn't change whether a place is held
+  -- it doesn't change whether a job token is held
   calm : (e : ℕ) (old new : Status) (mid : State) (told : Mark) → slice_get s.edges e ≡ Some old → mid.edges ≡ slice_set s.edges e new → is_holder new ≡ is_holder old → ((f : ℕ) (x : Bool) → holds_then f x told ≡ x)
       → ((f : ℕ) → told ≢ mark.Started f) → new ≢ Unbegun → is_well old ≡ false → (is_well new ≡ true → (ran : Bool) × (told ≡ mark.Ended e ran)) → Alters p limits s mid told
   calm e old new mid told now becomes same still none not_unbegun unwell ended_by = record {

@@ -1,4 +1,4 @@
--- Phases say which edges may make a step.
+-- Phases determine which edges may make a step.
 use Rattle.std.proofs.Common.{◌≡◌, ℕ, Bool, true, false, not, Option, Some, None, refl}
 use Rattle.std.specs.Prelude.{◌&&◌, ◌||◌}
 use Rattle.plan_image.specs.declared.image.Parts.{Parts}

@@ -1,4 +1,4 @@
--- What the books pick is enabled, and what is enabled can be picked.
+-- Each pick of the schedule is enabled, and an event can be picked if one is enabled.
 use Rattle.std.proofs.Common.{◌≡◌, ℕ, zero, suc, ◌+◌, ◌<◌, Bool, true, false, not, eqb, List, [], ◌∷◌, length, map, Option, Some, None, refl, sym, ap, ◌∙◌, subst, arith, inl, inr}
 use Rattle.std.specs.Prelude.{◌⊎◌, ◌&&◌, ◌||◌, ◌==◌, slice_get, slice_index, count_by, nat_lt, nat_le, if◌then◌else◌, All, Contains, IsSome}
 use Rattle.std.specs.List.{list_all}
@@ -139,14 +139,14 @@ asked_off p s e l u loud = elim (cases_Bool (at_take p e l)) [
       absurd (let none : IsSome (request_of Ends) = subst (λ (o : Option Request). IsSome o) is (u.typed.awaits loud) in cc)
 ]
 
--- ---- rooms
+-- ---- free job tokens
 
 depth_at : (pools : List Pool) (q holders : ℕ) → ((slice_index (map (λ (pool : Pool). pool.depth) pools) q == 0) || nat_lt holders (slice_index (map (λ (pool : Pool). pool.depth) pools) q)) ≡ allows (slice_get pools q) holders
 depth_at [] q holders = refl
 depth_at (pool ∷ pools) zero holders = refl
 depth_at (pool ∷ pools) (suc q) holders = depth_at pools q holders
 
--- what the books pick as a step is one
+-- a pick that is a step is a step event
 step_of : (x : Pick) → picks_step x ≡ true → is_step (event_of x) ≡ true
 step_of (pick.Step e) h = refl
 step_of (pick.Start e) h = absurd cc
@@ -194,7 +194,7 @@ module _ (p : Parts) (g : Going) (plan : Plan) (books : Books) (kept : AreKept p
   in_plan : (e : ℕ) (st : Status) → slice_get g.now.edges e ≡ Some st → e < edges_of plan
   in_plan e st at = omega (arith, slice_get_within g.now.edges e st at, kept.plan_is.edges, kept.long)
 
-  -- ---- what is picked is enabled
+  -- ---- a picked event is enabled
 
   module _ (laws : VerifyLaws) (shaped : IsWellShaped p) (some_jobs : 0 < g.limits.jobs) (sound : Stands p g.now) where
     step_next : (e : ℕ) (l : Local) → slice_get g.now.edges e ≡ Some (Active l) → l.asked ≡ false → (at_take p e l && not (is_free p g.limits g.now e)) ≡ false → IsEnabled p g (Step e)
@@ -261,7 +261,7 @@ module _ (p : Parts) (g : Going) (plan : Plan) (books : Books) (kept : AreKept p
         let free : is_free p g.limits g.now e ≡ true = and_from _ _ (and_from _ _ room idle) (ap not (sym spent_is ∙ may.2)) in
         step_next e l.0 (st.1 ∙ ap Some l.1) l.2 (ap (λ (b : Bool). at_take p e l.0 && not b) free ∙ ap (λ (b : Bool). b && false) l.3)
 
-    -- ---- what is enabled can be picked
+    -- ---- an enabled event can be picked
 
     abbrev Picks : Event → Stepped → Type 0
     Picks (Start e) (Next s m) = CanPick plan books.phases.items g.limits.jobs g.limits.keep (pick.Start e)
@@ -381,7 +381,7 @@ module _ (p : Parts) (g : Going) (plan : Plan) (books : Books) (kept : AreKept p
     none_picked none (Step e) own on = none (pick.Step e) (let it : Picks (Step e) (Next on.after on.mark) = subst (Picks (Step e)) on.next (own_picks (Step e)) in it)
     none_picked none (Hear e r) own on = absurd cc
 
--- where nothing can go on by itself, all has ended or an edge awaits a reply
+-- if no event without a reply is enabled, the run has ended or an edge awaits a reply
 pub none_stuck : (p : Parts) (g : Going) → ((event : Event) → is_own event ≡ true → IsEnabled p g event → ⊥) → (has_ended g.now ≡ true) ⊎ (CanGo depfile p g.limits g.now ⊎ Awaits g.now)
     → (has_ended g.now ≡ true) ⊎ Awaits g.now
 none_stuck p g none (inl all) = inl all

@@ -1,4 +1,4 @@
--- What is fixed of an image, as the books have it.
+-- The fixed data of an image, as the schedule uses them.
 use Rattle.std.proofs.Common.{◌≡◌, ℕ, zero, suc, ◌+◌, ◌<◌, ◌≤◌, ◌^◌, List, [], ◌∷◌, ◌++◌, length, map, get_or, Option, Some, None, refl, sym, ap, ◌∙◌, subst, arith, inl, inr, add-one}
 use Rattle.std.specs.Prelude.{All, IfOk, Result, Ok, Err, slice_get, slice_index, slice_index_or}
 use Rattle.std.specs.List.{AllByRecursion}

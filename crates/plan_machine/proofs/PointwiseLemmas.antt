@@ -14,7 +14,7 @@ module _ {A : Type 0} (same : A → A → Bool) where
   none_second None = refl
   none_second (Some x) = refl
 
-  -- lists that aren't as long
+  -- lists of different lengths
   pub pointwise_long : (a b : List A) → length a ≢ length b → pointwise same a b ≡ false
   pointwise_long [] [] ne = absurd (ne refl)
   pointwise_long [] (y ∷ b) ne = refl
@@ -29,7 +29,7 @@ module _ {A : Type 0} (same : A → A → Bool) where
   at_on zero (x ∷ a) (y ∷ b) h = ap (λ (c : Bool). c && pointwise same a b) h
   at_on (suc i) (x ∷ a) (y ∷ b) h = at_on i a b h
 
-  -- the items at a place are the same
+  -- the items at an index are the same
   pub pointwise_on : (i : ℕ) (a b : List A) (r : Bool) → pointwise same (drop i a) (drop i b) ≡ r → same_at same (slice_get a i) (slice_get b i) ≡ true → pointwise same (drop (i + 1) a) (drop (i + 1) b) ≡ r
   pointwise_on i a b r so h = let one : i + 1 ≡ suc i = omega arith in rw one (sym (at_on i a b h) ∙ so)
 
@@ -39,7 +39,7 @@ module _ {A : Type 0} (same : A → A → Bool) where
   at_off zero (x ∷ a) (y ∷ b) lt lt2 h = ap (λ (c : Bool). c && pointwise same a b) h
   at_off (suc i) (x ∷ a) (y ∷ b) lt lt2 h = at_off i a b (omega (arith, lt)) (omega (arith, lt2)) h
 
-  -- they aren't
+  -- the items at an index differ
   pub pointwise_off : (i : ℕ) (a b : List A) (r : Bool) → pointwise same (drop i a) (drop i b) ≡ r → i < length a → length a ≡ length b → same_at same (slice_get a i) (slice_get b i) ≡ false → r ≡ false
   pointwise_off i a b r so lt long h = sym so ∙ at_off i a b lt (omega (arith, lt, long)) h
 
@@ -56,7 +56,7 @@ module _ {A : Type 0} (same : A → A → Bool) where
   pub pointwise_done : (i : ℕ) (a b : List A) (r : Bool) → pointwise same (drop i a) (drop i b) ≡ r → length a ≤ i → length a ≡ length b → r ≡ true
   pointwise_done i a b r so h long = sym so ∙ at_end i a b h (omega (arith, h, long))
 
--- texts at a place of two lists
+-- texts at an index of two lists
 pub texts_at : (a b : List (List ℕ)) (i : ℕ) (r : Bool) → i < length a → i < length b → r ≡ bytes_eq (get_or a i []) (get_or b i []) → r ≡ same_at bytes_eq (slice_get a i) (slice_get b i)
 texts_at a b i r lt lt2 is =
     let one : slice_get a i ≡ Some (get_or a i []) = slice_get-get_or a i [] lt in

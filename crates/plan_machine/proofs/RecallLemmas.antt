@@ -1,4 +1,4 @@
--- Each event keeps what is recalled of a run.
+-- Each event preserves the histories of the edges of a run.
 use Rattle.std.proofs.Common.{◌≡◌, ℕ, zero, suc, Bool, true, false, not, eqb, List, [], ◌∷◌, ◌++◌, length, map, Option, Some, None, refl, sym, ap, ◌∙◌, subst, inl, inr}
 use Rattle.std.specs.Prelude.{◌⊎◌, ◌==◌, ◌&&◌, ◌||◌, if◌then◌else◌, nat_lt, nat_le, slice_get, slice_set, count_by, IfSome}
 use Rattle.std.specs.List.{list_all}
@@ -34,7 +34,7 @@ use Rattle.plan_machine.proofs.HistoryLemmas.{RanAlone, Bare, History, Recalls, 
 use Rattle.plan_machine.proofs.VerifyLaws.{VerifyLaws}
 use Rattle.plan_machine.specs.Total.{is_wanted}
 
--- the replies that each edge got, by one more event
+-- the replies that each edge got, after one more event
 abbrev pub more : (ℕ → List Reply) → Event → ℕ → List Reply
 more told (Hear e r) f = if e == f then told f ++ r ∷ [] else told f
 more told event f = told f
@@ -46,7 +46,7 @@ all_more told (event ∷ events) = all_more (more told event) events
 abbrev follow : Alone → List Reply → Solo
 follow x left = record { now = x; left = left }
 
--- where an edge alone comes to from its Start, by some replies
+-- the state of an edge alone after its Start and some replies
 abbrev Comes : Meaning → Parts → ℕ → Slots → List Reply → Alone → Type 0
 Comes meaning p e slots told x = (n : ℕ) × ((rest : List Reply) → solo_after meaning p e n (solo (Runs begun) (lent p e slots) (told ++ rest)) ≡ follow x rest)
 
@@ -211,7 +211,7 @@ module _ (laws : VerifyLaws) (meaning : Meaning) (p : Parts) (shaped : IsWellSha
   runs_recall s told [] (say ∷ marks) end r run = absurd run
   runs_recall s told (event ∷ events) [] end r run = absurd run
 
--- ---- the replies, told at once
+-- ---- all replies at once
 
 append_none : (xs : List Reply) → xs ++ [] ≡ xs
 append_none [] = refl
@@ -254,7 +254,7 @@ opens_recall gone meaning p targets s opens =
     bare : (e : ℕ) → Bare p e s.slots
     bare e = ap (only (owns p e)) opens.slots ∙ only_unset (owns p e) (length p.slots)
 
--- what is recalled of a reached state, by the replies of all events
+-- the histories in a reached state, by the replies of all events
 pub reached_recalls : VerifyLaws → (meaning : Meaning) (p : Parts) → IsWellShaped p → (limits : Limits) (gone : Type 0) → ((s : State) → is_spent limits s ≡ true → gone) → (targets : List ℕ) (events : List Event) (marks : List Mark) (s : State)
     → (reached : Reached meaning p limits targets events marks s) → (told : ℕ → List Reply) × ((e : ℕ) → told e ≡ replies_to e events) × Recalls gone meaning p reached.opens.wanted s told
 reached_recalls laws meaning p shaped limits gone spent targets events marks s reached = (
@@ -263,7 +263,7 @@ reached_recalls laws meaning p shaped limits gone spent targets events marks s r
   runs_recall laws meaning p shaped limits gone spent reached.opens.wanted reached.start (λ e. []) events marks s (opens_recall gone meaning p targets reached.start reached.opens) reached.run,
 )
 
--- where any number of failures is borne no edge is stopped
+-- without a failure limit no edge is stopped
 pub none_spent : (limits : Limits) → limits.keep ≡ 0 → (s : State) → is_spent limits s ≡ true → ⊥
 none_spent limits all_borne s spent =
     let unspent : is_spent limits s ≡ false = ap (λ (k : ℕ). nat_lt 0 k && nat_le k (count_by has_failed s.edges)) all_borne in

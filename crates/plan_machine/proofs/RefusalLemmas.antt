@@ -1,4 +1,4 @@
--- An event is refused as not enabled wherever the table says so: want of memory comes to those that are enabled.
+-- An event is refused as not enabled if the table doesn't enable it: only enabled events can run out of memory.
 use Rattle.std.proofs.Common.{◌≡◌, ◌≢◌, ℕ, Bool, true, false, not, Option, Some, None, refl, sym, ap, ◌∙◌}
 use Rattle.std.specs.Prelude.{◌&&◌, ◌||◌, IsSome, OnErr, Result, Ok, Err, slice_get}
 use Rattle.std.specs.List.{list_all}
@@ -24,7 +24,7 @@ use Rattle.plan_machine.specs.Hearing.{SettlesReply}
 use Rattle.plan_machine.proofs.Applies.{start_is}
 use Rattle.plan_machine.proofs.ListLemmas.{is_some_of, when_false}
 
--- an event that isn't enabled is refused so, where want of memory comes only to one that the table doesn't refuse
+-- an event that isn't enabled is refused as such, if only events that the table enables run out of memory
 pub refused_so : (p : Parts) (g new : Going) (event : Event) (told : Result Mark Refused) → Applied p g event told new → (told ≡ Err refused.Memory → step depfile p g.limits g.now event ≢ NotEnabled)
     → step depfile p g.limits g.now event ≡ NotEnabled → told ≡ Err refused.NotEnabled
 refused_so p g new event (Ok m) applied spares off = absurd (let clash : Next new.now m ≡ NotEnabled = sym applied.0 ∙ off in cc)
@@ -32,7 +32,7 @@ refused_so p g new event (Err refused.NotEnabled) applied spares off = refl
 refused_so p g new event (Err refused.Memory) applied spares off = absurd (spares refl off)
 refused_so p g new event (Err refused.BadTarget) applied spares off = absurd applied
 
--- what may be started isn't refused by the table
+-- the table enables a start that may be made
 pub start_can : (p : Parts) (g : Going) (e : ℕ) (b : Bool) → b ≡ (passes is_unbegun (slice_get g.now.edges e) && list_all (stands is_well g.now) (waits_of p e)) → b ≡ true
     → step depfile p g.limits g.now (Start e) ≢ NotEnabled
 start_can p g e b is on off =
@@ -47,7 +47,7 @@ settles_not s e l told Ends off = absurd cc
 settles_not s e l told (Fails cause) off = absurd cc
 settles_not s e l told (Errs flaw) off = absurd cc
 
--- nor a step that may be made
+-- the table enables a step that may be made
 pub step_can : (p : Parts) (g : Going) (e : ℕ) (b : Bool) → b ≡ may_step_by p g.limits g.now e (slice_get g.now.edges e) → b ≡ true → step depfile p g.limits g.now (Step e) ≢ NotEnabled
 unfolding step
 step_can p g e b is on = by (slice_get g.now.edges e) (sym is ∙ on)
@@ -63,7 +63,7 @@ step_can p g e b is on = by (slice_get g.now.edges e) (sym is ∙ on)
     by (Some (Active l)) h =
         when_false (λ (x : Stepped). x ≢ NotEnabled) (l.asked || (at_take p e l && not (is_free p g.limits g.now e))) _ _ (on_not _ h) (settles_not g.now e l (stepped e) (turn p e g.now.slots l))
 
--- nor a reply that fits
+-- the table enables a reply that matches
 pub hear_can : (p : Parts) (g : Going) (e : ℕ) (r : Reply) (l : Local) → slice_get g.now.edges e ≡ Some (Active l) → IsSome (heard depfile p e l (answer_of r)) → step depfile p g.limits g.now (Hear e r) ≢ NotEnabled
 unfolding step
 hear_can p g e r l at fits off =
@@ -72,18 +72,18 @@ hear_can p g e r l at fits off =
     ap (hears depfile p g.now e (answer_of r)) at ∙ ap (hears_by g.now e l) t.1 in
     settles_not g.now e l (answered e) t.0 (sym is ∙ off)
 
--- what becomes of an edge that heard a reply takes no memory
+-- updating the status of an edge after a reply takes no memory
 pub reply_frugal : (old new : Going) (e : ℕ) (q : Heard) (told : Result Mark Refused) → SettlesReply old e q told new → told ≢ Err refused.Memory
 reply_frugal old new e hearing.On told s is = let clash : Ok (mark.Answered e) ≡ Err refused.Memory = sym s.0 ∙ is in cc
 reply_frugal old new e (hearing.Failed cause) told s is = let clash : Ok (mark.Failed e cause) ≡ Err refused.Memory = sym s.0 ∙ is in cc
 reply_frugal old new e hearing.Unfit told s is = let clash : Err refused.NotEnabled ≡ Err refused.Memory = sym s.0 ∙ is in cc
 
--- what holds anyway holds of an error
+-- a proposition that is true is true of an error
 pub on_err_any : {A E : Type 0} (r : Result A E) (P : Type 0) → P → OnErr r P
 on_err_any (Ok x) P h = tt
 on_err_any (Err e) P h = h
 
--- an error of one kind passed on
+-- passes on an error of one kind
 pub on_err_more : {A E : Type 0} (r : Result A E) (P Q : Type 0) → OnErr r P → (P → Q) → OnErr r Q
 on_err_more (Ok x) P Q h more = tt
 on_err_more (Err e) P Q h more = more h

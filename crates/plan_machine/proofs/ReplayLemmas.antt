@@ -1,4 +1,4 @@
--- Runs, one event longer; a run from the opening.
+-- Runs that are one event longer, and runs from the opening state.
 use Rattle.std.proofs.Common.{◌≡◌, ◌≢◌, ℕ, zero, suc, ◌+◌, ◌<◌, List, [], ◌∷◌, ◌++◌, length, take, Result, Ok, Err, Some, refl, sym, ap, ◌∙◌, subst, arith, inl, inr, false, true}
 use Rattle.std.specs.Prelude.{◌⊎◌, IfOk, OnOk, slice_get}
 use Rattle.plan_image.specs.declared.image.Parts.{Parts}

@@ -1,4 +1,4 @@
--- What an instruction that isn't wrong asks.
+-- The question of an instruction whose turn isn't wrong.
 use Rattle.std.proofs.Common.{◌≡◌, ℕ, zero, suc, ◌+◌, ◌<◌, ◌≤◌, Bool, true, false, eqb, List, [], ◌∷◌, length, get_or, Option, Some, None, refl, sym, ap, ◌∙◌, subst, arith}
 use Rattle.std.specs.Prelude.{nat_le, nat_lt, slice_get, option_map, IsSome, if◌then◌else◌, not}
 use Rattle.std.specs.List.{list_all}
@@ -95,7 +95,7 @@ silent p e slots l op.Equal h = sym (calculated_quiet l (calculate op.Equal l.st
 silent p e slots l op.Drop h = sym (calculated_quiet l (calculate op.Drop l.stack))
 silent p e slots l op.Swap h = sym (calculated_quiet l (calculate op.Swap l.stack))
 
--- where there are no values
+-- questions of an edge without values
 pub run_bare : (holding : Bool) (outputs : Option (List (List ℕ))) → None ≡ request_of (if holding then runs outputs [] else Wrong PlaceNotHeld)
 run_bare false outputs = refl
 run_bare true None = refl

@@ -25,14 +25,14 @@ use Rattle.plan_machine.specs.Step.{Stepped, Next, Wrong, NotEnabled, answer_of,
 use Rattle.plan_machine.specs.Kept.{phases_from}
 use Rattle.plan_machine.specs.Requests.{asked_at, asks_by}
 use Rattle.plan_machine.specs.Rushes.{is_stride, rush_events, rush_marks}
-use Rattle.plan_machine.specs.Sweeping.{HasNext, sweep_events}
+use Rattle.plan_machine.specs.Sweeping.{HasNext, IsMergedRow, row_events, row_marks, sweep_events}
 use Rattle.plan_machine.specs.Replaying.{IsReplayFault}
 use Rattle.plan_machine.specs.Total.{total_of}
 use Rattle.plan_machine.specs.Wanted.{any_outside}
 use Rattle.plan_verify.specs.Budget.{image_budget}
 use Rattle.plan_machine.specs.Depfile.{depfile}
 
--- the marks of events, none where one is refused, which leaves all as it was
+-- the marks of events, with None for a refused event, which changes nothing
 then_marks : State → (State → List (Option Mark)) → Stepped → List (Option Mark)
 then_marks s next (Next mid told) = Some told ∷ next mid
 then_marks s next (Wrong flaw) = None ∷ next s
@@ -72,7 +72,7 @@ pool_of_one :
 unfolding marks_of then_marks three edge first step turn heard
 pool_of_one = refl
 
--- one failure reaches keep 1: the others are stopped, one of them at Take
+-- one failure reaches the failure limit 1: the others are stopped, one of them at Take
 one_fails :
     marks_of three (record { jobs = 4; keep = 1 }) first
     (Start 0 ∷ Start 1 ∷ Stop 2 ∷ Step 0 ∷ Step 0 ∷ Step 0 ∷ Hear 0 (reply.Bytes []) ∷ Hear 0 (reply.Exit 2) ∷ Step 1 ∷ Stop 1 ∷ Start 2 ∷ Stop 2 ∷ [])
@@ -81,7 +81,7 @@ one_fails :
 unfolding marks_of then_marks three edge first step turn heard
 one_fails = refl
 
--- edge 0 holds a place and is at Run
+-- edge 0 holds a job token and is at Run
 running : State
 running = record { edges = Active (record { place = 2; stack = Text (120 ∷ []) ∷ []; holding = true; ran = false; asked = false }) ∷ Unbegun ∷ Unbegun ∷ []; slots = [] }
 
@@ -135,7 +135,7 @@ restat_chain :
 unfolding marks_of then_marks chain alone step turn heard
 restat_chain = refl
 
--- an edge that asked to run its command hears a stamp, which nothing has asked for
+-- an edge that asked to run its command receives a stamp, which it didn't ask for
 wrong_replies :
     marks_of three (record { jobs = 4; keep = 0 }) first (Start 0 ∷ Step 0 ∷ Step 0 ∷ Step 0 ∷ Hear 0 (reply.Stamp 1) ∷ Hear 0 (reply.Exit 0) ∷ [])
     ≡ Some (mark.Started 0) ∷ Some (mark.Took 0) ∷ Some (mark.Moved 0) ∷ Some (mark.Asked 0) ∷ None ∷ Some (mark.Answered 0) ∷ []
@@ -187,14 +187,14 @@ malformed_depfile :
 unfolding marks_of then_marks reading alone malformed step turn heard
 malformed_depfile = refl
 
--- no place is held then
+-- no job token is held then
 malformed_ends :
     left_by reading (record { jobs = 1; keep = 0 }) (record { edges = Unbegun ∷ []; slots = [] }) malformed
     ≡ record { edges = Over (Failed (DepfileMalformed 90 0)) ∷ []; slots = [] }
 unfolding left_by then_state reading alone malformed step turn heard
 malformed_ends = refl
 
--- a chain of three, and one edge beside it
+-- a chain of three edges, and one edge that is independent of them
 waiting : ℕ → List ℕ → Edge
 waiting n waits = record { sort = sort.Command; pool = Some 0; rank = n; label = 0; outputs = n ∷ []; waits = waits; code = Own (op.Take ∷ op.Text 0 ∷ op.Run ∷ op.Release ∷ op.End ∷ []) }
 
@@ -212,11 +212,11 @@ four = record {
 none_begun : State
 none_begun = record { edges = Unbegun ∷ Unbegun ∷ Unbegun ∷ Unbegun ∷ []; slots = [] }
 
--- the first of the chain fails, the others are skipped; then the edge beside it is stopped
+-- the first edge of the chain fails, the others are skipped, and then the independent edge is stopped
 failing : List Event
 failing = Start 0 ∷ Step 0 ∷ Step 0 ∷ Step 0 ∷ Hear 0 (reply.Exit 2) ∷ Start 1 ∷ Skip 1 0 ∷ Skip 2 0 ∷ Skip 2 1 ∷ Stop 3 ∷ []
 
--- which isn't done where any number of failures is borne
+-- without a failure limit it isn't stopped
 failures_and_skips :
     marks_of four (record { jobs = 1; keep = 0 }) none_begun failing
     ≡ Some (mark.Started 0) ∷ Some (mark.Took 0) ∷ Some (mark.Moved 0) ∷ Some (mark.Asked 0) ∷ Some (mark.Failed 0 (Exit 2))
@@ -251,7 +251,7 @@ sweep_is_a_stride = refl
 load_is_a_stride : is_stride (op.Load 7) ≡ true
 load_is_a_stride = refl
 
--- two texts may be too long together
+-- two texts together may be too long
 join_is_no_stride : is_stride op.Join ≡ false
 join_is_no_stride = refl
 
@@ -265,3 +265,18 @@ second_of_three = (refl, omega arith)
 
 last_of_three : HasNext (99 ∷ []) (Paths 2 ((97 ∷ []) ∷ (98 ∷ []) ∷ (99 ∷ []) ∷ []) ∷ Flag false ∷ Stamp 0 ∷ []) → ⊥
 last_of_three next = absurd (omega (arith, next.1))
+
+row_of_two : row_events 3 (7 ∷ 0 ∷ []) ≡ Hear 3 (reply.Stamp 7) ∷ Step 3 ∷ Hear 3 (reply.Stamp 0) ∷ Step 3 ∷ []
+row_of_two = refl
+
+marks_of_a_row : row_marks 3 (7 ∷ 0 ∷ []) ≡ mark.Answered 3 ∷ mark.Asked 3 ∷ mark.Answered 3 ∷ mark.Asked 3 ∷ []
+marks_of_a_row = refl
+
+-- the latest stamp is stored, and that a file is missing
+merged_two : IsMergedRow ((97 ∷ []) ∷ (98 ∷ []) ∷ (99 ∷ []) ∷ []) (7 ∷ 0 ∷ []) (Paths 0 ((97 ∷ []) ∷ (98 ∷ []) ∷ (99 ∷ []) ∷ []) ∷ Flag false ∷ Stamp 5 ∷ [])
+    (Paths 2 ((97 ∷ []) ∷ (98 ∷ []) ∷ (99 ∷ []) ∷ []) ∷ Flag true ∷ Stamp 7 ∷ [])
+merged_two = ((refl, omega arith), ((refl, omega arith), refl))
+
+-- the stamp of the last path isn't merged
+merged_all : IsMergedRow ((99 ∷ []) ∷ []) (7 ∷ []) (Paths 2 ((97 ∷ []) ∷ (98 ∷ []) ∷ (99 ∷ []) ∷ []) ∷ Flag true ∷ Stamp 7 ∷ []) (Paths 3 ((97 ∷ []) ∷ (98 ∷ []) ∷ (99 ∷ []) ∷ []) ∷ Flag true ∷ Stamp 7 ∷ []) → ⊥
+merged_all row = absurd (omega (arith, row.0.1))

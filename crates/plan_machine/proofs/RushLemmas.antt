@@ -1,11 +1,11 @@
--- What a rush leaves: a step that an edge makes by itself is an event, and events of one edge change that edge alone.
-use Rattle.std.proofs.Common.{◌≡◌, ℕ, zero, suc, ◌+◌, Bool, true, false, List, [], ◌∷◌, ◌++◌, Option, Some, refl, sym, ap, ◌∙◌, subst, arith}
+-- The effect of a local run: a local step is an event, and events of one edge change only that edge.
+use Rattle.std.proofs.Common.{◌≡◌, ℕ, zero, suc, Bool, true, false, List, [], ◌∷◌, ◌++◌, Option, Some, refl, sym, ap, ◌∙◌, subst, arith}
 use Rattle.std.specs.Prelude.{Ok, ◌&&◌, not, ◌==◌, slice_get, slice_set}
 use Rattle.plan_image.specs.declared.image.Parts.{Parts}
 use Rattle.plan_image.specs.declared.instr.Instr.{Instr}
 use Rattle.plan_image.specs.declared.instr.Instr.TheVariants as op
 use Rattle.plan_image.specs.Code.{code}
-use Rattle.plan_verify.specs.Turn.{Local}
+use Rattle.plan_verify.specs.Turn.{Local, Slots}
 use Rattle.plan_verify.specs.WellShaped.{IsWellShaped}
 use Rattle.plan_books.specs.declared.plan.Plan.{Plan}
 use Rattle.plan_books.specs.declared.keeping.Books.{Books}
@@ -28,17 +28,18 @@ use Rattle.plan_machine.specs.Edges.{edge_of}
 use Rattle.plan_machine.specs.Applying.{Applied, CanTurn, HasTurned, Settles, may_step_by}
 use Rattle.plan_machine.specs.Kept.{Running, AreKept, IsBehind, IsStateOf, Changed}
 use Rattle.plan_machine.specs.Total.{total_of}
-use Rattle.plan_machine.specs.Rushes.{HasRushed, Strides, asks_by, events_by, is_still, is_stride, marks_by, moves_of, rush_events, rush_marks, steps_of, stride_mark}
+use Rattle.plan_machine.specs.Rushes.{CanStride, HasRushed, HasRushedOn, HasStrode, Strides, StrodeBy, StrodeTo, asks_by, events_by, is_still, is_stride, marks_by, moves_of, rush_events, rush_marks, steps_of, stride_mark}
 use Rattle.std.proofs.lemmas.Bool.{eqb-true}
+use Rattle.std.proofs.lemmas.Option.{slice_get_within}
 use Rattle.plan_machine.proofs.Applies.{set_again, step_is}
-use Rattle.plan_machine.proofs.ListLemmas.{and_both}
+use Rattle.plan_machine.proofs.ListLemmas.{and_both, get_same, set_here}
 use Rattle.plan_machine.proofs.VerifyLaws.{VerifyLaws}
 use Rattle.plan_machine.proofs.OpensLemmas.{reached_stands}
 use Rattle.plan_machine.proofs.StateLemmas.{can_turn, changed, runs_more, same_total}
 
 -- ---- one step
 
--- an edge whose next instruction it makes by itself isn't at Take
+-- an edge whose next step is a local one isn't at Take
 pub elsewhere_so : (p : Parts) (e : ℕ) (l : Local) (i : Instr) → Some i ≡ slice_get (code p e) l.place → is_stride i ≡ true → at_take p e l ≡ false
 elsewhere_so p e l i at stride = ap is_take (sym at) ∙ by i stride
   where
@@ -65,7 +66,7 @@ module _ (p : Parts) (e : ℕ) (old new : Going) (r : Turned) (h : HasRushed p o
   pub stride_applied : (asked : Bool) → asked ≡ asks_by r → Applied p old (Step e) (Ok (stride_mark e asked)) new
   stride_applied asked is = rw is (step_is p e old new new r (stride_mark e (asks_by r)) turned_so true may refl (settles_so r h.strode.strides))
 
--- ---- one step more
+-- ---- one more step
 
 module _ (p : Parts) (old mid new : Going) (e n : ℕ) (before : RunsTo p old (steps_of e n) (moves_of e n) mid) where
   more : (told : Mark) → Applied p mid (Step e) (Ok told) new → RunsTo p old (steps_of e n ++ Step e ∷ []) (moves_of e n ++ told ∷ []) new
@@ -76,15 +77,7 @@ module _ (p : Parts) (old mid new : Going) (e n : ℕ) (before : RunsTo p old (s
         limits = applied.1 ∙ before.limits;
       }
 
-  pub one_more : (asked : Bool) → Applied p mid (Step e) (Ok (stride_mark e asked)) new → asked ≡ false → RunsTo p old (steps_of e (n + 1)) (moves_of e (n + 1)) new
-  one_more true applied is = absurd cc
-  one_more false applied is = let one : n + 1 ≡ suc n = omega arith in subst (λ (k : ℕ). RunsTo p old (steps_of e k) (moves_of e k) new) (sym one) (more (mark.Moved e) applied)
-
-  pub asks_more : (asked : Bool) → Applied p mid (Step e) (Ok (stride_mark e asked)) new → asked ≡ true → RunsTo p old (events_by e n asked) (marks_by e n asked) new
-  asks_more true applied is = more (mark.Asked e) applied
-  asks_more false applied is = absurd cc
-
--- ---- runs, one behind the other
+-- ---- runs, one after the other
 
 pub runs_join : (p : Parts) (limits : Limits) (s mid end : State) (xs ys : List Event) (ms ns : List Mark)
     → Runs depfile p limits s xs ms mid → Runs depfile p limits mid ys ns end → Runs depfile p limits s (xs ++ ys) (ms ++ ns) end
@@ -98,7 +91,7 @@ reached_on : (p : Parts) (limits : Limits) (targets : List ℕ) (events xs : Lis
 reached_on p limits targets events xs marks ms s t reached run =
     record { start = reached.start; opens = reached.opens; run = runs_join p limits reached.start s t events xs marks ms reached.run run }
 
--- whatever a run leads to, an edge that is under way makes a turn that isn't wrong
+-- after any run, a running edge makes a turn that isn't wrong
 pub run_turns : VerifyLaws → (p : Parts) → IsWellShaped p → (r : Running) → IsStateOf p r → (xs : List Event) (ms : List Mark) (s : State) → Runs depfile p r.going.limits r.going.now xs ms s
     → (e : ℕ) (l : Local) → slice_get s.edges e ≡ Some (Active l) → CanTurn p s.slots e l
 run_turns laws p shaped r is xs ms s run e l at =
@@ -142,7 +135,7 @@ module _ (p : Parts) (limits : Limits) (e : ℕ) where
         left = two.left ∙ ap (λ (l : List Status). slice_set l e two.after) one.left ∙ set_again s.edges e one.after two.after;
       }
 
-  -- they change it alone
+  -- they change only this edge
   pub all_change : (s end : State) (x : Event) (xs : List Event) (ms : List Mark) → AllOf e (x ∷ xs) → Runs depfile p limits s (x ∷ xs) ms end → Changed s end e
   all_change s end x xs [] all run = absurd run
   all_change s end x [] (m ∷ []) all run = subst (λ (t : State). Changed s t e) run.2 (one_changes s run.0 x m all.0 run.1)
@@ -165,9 +158,9 @@ rush_some e r moved = by r.steps r.asked moved
     by zero false h = absurd cc
     by (suc n) false h = not_none (steps_of e n) (Step e)
 
--- ---- the books
+-- ---- the schedule
 
--- the books fit the state before a run of one edge
+-- the schedule agrees with the state before a run of one edge
 run_behind : (p : Parts) (old new : Running) (e : ℕ) → AreKept p old.going.now old.plan old.books → Changed old.going.now new.going.now e → new.plan ≡ old.plan → new.books ≡ old.books → IsBehind p new e
 run_behind p old new e kept change plan books =
     record {
@@ -176,13 +169,13 @@ run_behind p old new e kept change plan books =
       changed = change;
     }
 
--- a rush that made steps
+-- a local run that made steps
 pub rush_behind : (p : Parts) (old new : Running) (e : ℕ) (r : Rush) → AreKept p old.going.now old.plan old.books → RunsTo p old.going (rush_events e r) (rush_marks e r) new.going → is_still r ≡ false
     → new.plan ≡ old.plan → new.books ≡ old.books → IsBehind p new e
 rush_behind p old new e r kept run moved plan books =
     run_behind p old new e kept (some_change p old.going.limits e old.going.now new.going.now (rush_events e r) (rush_marks e r) (rush_some e r moved) (all_rush e r) run.run) plan books
 
--- an event and a rush behind it
+-- an event, followed by a local run
 pub follow_run : (p : Parts) (old mid new : Going) (x : Event) (told : Mark) (xs : List Event) (ms : List Mark) → Applied p old x (Ok told) mid → RunsTo p mid xs ms new → RunsTo p old (x ∷ xs) (told ∷ ms) new
 follow_run p old mid new x told xs ms applied run =
     record { run = (mid.now, applied.0, subst (λ (l : Limits). Runs depfile p l mid.now xs ms new.now) applied.1 run.run); limits = run.limits ∙ applied.1 }
@@ -221,7 +214,7 @@ pub follow_state : (p : Parts) (old new : Running) (e : ℕ) (x : Event) (xs : L
 follow_state p old new e x xs ms is run of all total kept =
     changed_state p old new is (x ∷ xs) ms run e (all_change p old.going.limits e old.going.now new.going.now x xs ms (of, all) run.run) total kept
 
--- a rush without a step
+-- a local run without a step
 pub still_state : (p : Parts) (old new : Running) (e : ℕ) (r : Rush) → IsStateOf p old → RunsTo p old.going (rush_events e r) (rush_marks e r) new.going → is_still r ≡ true → new.total ≡ old.total
     → new.plan ≡ old.plan → new.books ≡ old.books → IsStateOf p new
 still_state p old new e r is run still total plan books = by r.steps r.asked still run
@@ -238,3 +231,52 @@ still_state p old new e r is run still total plan books = by r.steps r.asked sti
     by zero false h none = run_state p old new is [] [] none (sym (ap (total_of p) none.run)) total (kept_so none.run)
     by zero true h none = absurd (let clash : false ≡ true = h in cc)
     by (suc n) a h none = absurd (not_still n a h)
+
+-- ---- many steps of one edge
+
+module _ (p : Parts) (e : ℕ) where
+  -- the machine in which this edge has this status
+  abbrev standing : Going → Local → Slots → Going
+  standing g l slots = record { limits = g.limits; now = record { edges = slice_set g.now.edges e (Active l); slots = slots } }
+
+  module _ (old : Going) (l : Local) (now : slice_get old.now.edges e ≡ Some (Active l)) where
+    there : (m : Local) (slots : Slots) → slice_get (standing old m slots).now.edges e ≡ Some (Active m)
+    there m slots = get_same old.now.edges e (Active m) (slice_get_within old.now.edges e (Active l) now)
+
+    step_so : (m n : Local) (between after : Slots) (r : Turned) (asked : Bool) → HasStrode p e r m n between after → asked ≡ asks_by r
+        → Applied p (standing old m between) (Step e) (Ok (stride_mark e asked)) (standing old n after)
+    step_so m n between after r asked strode is =
+        let h : HasRushed p (standing old m between) e r (standing old n after) =
+        record {
+          before = m;
+          after = n;
+          now = there m between;
+          slots = after;
+          strode = strode;
+          left = ap (λ (xs : List Status). record { limits = old.limits; now = record { edges = xs; slots = after } }) (sym (set_again old.now.edges e (Active m) (Active n)));
+        } in
+        stride_applied p e (standing old m between) (standing old n after) r h asked is
+
+    pub strode_runs : (n : ℕ) (m : Local) (after : Slots) → StrodeTo p e n l old.now.slots m after → RunsTo p old (steps_of e n) (moves_of e n) (standing old m after)
+    strode_runs zero m after to =
+        let same : old.now ≡ (standing old m after).now =
+        ap (λ (xs : List Status). record { edges = xs; slots = old.now.slots }) (sym (set_here old.now.edges e (Active l) now))
+        ∙ ap (λ (k : Local). record { edges = slice_set old.now.edges e (Active k); slots = old.now.slots }) (sym to.0)
+        ∙ ap (λ (k : Slots). record { edges = slice_set old.now.edges e (Active m); slots = k }) (sym to.1) in
+        record { run = same; limits = refl }
+    strode_runs (suc n) m after to =
+        more p old (standing old to.0 to.1) (standing old m after) e n (strode_runs n to.0 to.1 to.3) (mark.Moved e) (step_so to.0 m to.1 after to.2 false to.4 (sym to.5))
+
+    pub strode_by_runs : (n : ℕ) (asked : Bool) (m : Local) (after : Slots) → StrodeBy p e n asked l old.now.slots m after → RunsTo p old (events_by e n asked) (marks_by e n asked) (standing old m after)
+    strode_by_runs n false m after by = strode_runs n m after by
+    strode_by_runs n true m after by =
+        more p old (standing old by.0 by.1) (standing old m after) e n (strode_runs n by.0 by.1 by.3) (mark.Asked e) (step_so by.0 m by.1 after by.2 true by.4 (sym by.5))
+
+    -- an edge can make local steps if it makes a turn after any run of its steps
+    pub can_stride : ((n : ℕ) (s : State) → Runs depfile p old.limits old.now (steps_of e n) (moves_of e n) s → (m : Local) → slice_get s.edges e ≡ Some (Active m) → CanTurn p s.slots e m)
+        → CanStride p e l old.now.slots
+    can_stride turns = record { turns = λ n m after to. turns n (standing old m after).now (strode_runs n m after to).run m (there m after) }
+
+pub rushed_runs : (p : Parts) (e : ℕ) (old new : Going) (r : Rush) → HasRushedOn p old e r new → RunsTo p old (rush_events e r) (rush_marks e r) new
+rushed_runs p e old new r h =
+    subst (λ (g : Going). RunsTo p old (rush_events e r) (rush_marks e r) g) (sym h.left) (strode_by_runs p e old h.before h.now r.steps r.asked h.after h.slots h.strode)

@@ -1,4 +1,4 @@
--- The test of two ends says just that both have ended and end alike.
+-- The test of two ends is true if and only if both have ended and end alike.
 use Rattle.std.proofs.Common.{◌≡◌, ℕ, zero, suc, Bool, true, false, List, [], ◌∷◌, Option, Some, None, refl, sym, ap, ◌∙◌, subst}
 use Rattle.std.specs.Prelude.{◌==◌, slice_get, bytes_eq}
 use Rattle.std.specs.List.{list_all}
@@ -17,7 +17,7 @@ use Rattle.plan_machine.specs.State.{Status, Unbegun, Active, Over, is_over, out
 use Rattle.plan_machine.specs.Agreement.{AreAlike, BothAlike}
 use Rattle.plan_machine.specs.Sameness.{same_cause, same_outcome, same_status, same_statuses, same_paths, same_flag, same_value, same_slot, same_slots, SameEndsTell}
 
--- ---- lists, where the test of their items tells equal ones
+-- ---- lists whose items are compared by a test for equality
 
 module _ {A : Type 0} (same : A → A → Bool) (is : (x y : A) → same x y ≡ true → x ≡ y) (itself : (x : A) → same x x ≡ true) where
   all_is : (xs ys : List A) → pointwise same xs ys ≡ true → xs ≡ ys

@@ -1,4 +1,4 @@
--- One edge alone, from the slots that it sees.
+-- One edge alone, from the slots that it can access.
 use Rattle.std.proofs.Common.{◌≡◌, ℕ, zero, suc, ◌+◌, Bool, true, false, eqb, List, [], ◌∷◌, length, Option, Some, None, refl, sym, ap, subst, ◌∙◌, arith}
 use Rattle.std.specs.Prelude.{◌||◌, ◌&&◌, not, nat_lt, if◌then◌else◌, slice_get}
 use Rattle.std.specs.List.{list_all}
@@ -20,7 +20,7 @@ use Rattle.plan_machine.specs.declared.reply.Reply.{Reply}
 use Rattle.plan_machine.specs.Step.{answer_of}
 use Rattle.plan_machine.proofs.OnlySlotsLemmas.{only, only_on}
 
--- the slots that an edge may read or write: its own and those that it is lent
+-- the slots that an edge may read or write: its own, and those of its waits
 abbrev pub sees : Parts → ℕ → ℕ → Bool
 sees p e k = owns p e k || is_lent p e k
 
@@ -146,7 +146,7 @@ module _ (meaning : Meaning) (p : Parts) (e : ℕ) where
       let one : suc n + m ≡ suc (n + m) = omega arith in
       ap (λ (k : ℕ). solo_after meaning p e k x) one ∙ ap (solo_next meaning p e) (further m n x)
 
-  -- an edge alone ends in one way
+  -- an edge alone has only one end
   pub one_end : (m n : ℕ) (x : Solo) (a b : Stage) (slots slots2 : Slots) (left left2 : List Reply) → Closed a → Closed b
       → solo_after meaning p e m x ≡ solo a slots left → solo_after meaning p e n x ≡ solo b slots2 left2 → solo a slots left ≡ solo b slots2 left2
   one_end m n x a b slots slots2 left left2 shut shut2 first second =

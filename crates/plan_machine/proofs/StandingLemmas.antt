@@ -1,4 +1,4 @@
--- Each event keeps what holds of a reached state, and none goes wrong.
+-- Each event preserves the invariant of reached states, and none goes wrong.
 use Rattle.std.proofs.Common.{◌≡◌, ◌≢◌, ℕ, ◌<◌, Bool, true, false, not, List, [], ◌∷◌, length, Option, Some, None, refl, sym, ap, ◌∙◌, subst, arith, inl, inr}
 use Rattle.std.specs.Prelude.{◌&&◌, ◌||◌, slice_get, slice_set, IfSome}
 use Rattle.std.specs.List.{list_all}
@@ -31,7 +31,7 @@ use Rattle.plan_machine.proofs.ListLemmas.{get_cases, all_member, all_more, own_
 
 -- ---- small facts
 
--- what an edge waits for and ended well has set its slots
+-- an edge that is waited for and succeeded has set its slots
 pub lent_set : (p : Parts) (s : State) (e : ℕ) → Stands p s → ((w : ℕ) → is_member w (waits_of p e) ≡ true → stands is_well s w ≡ true) → AreLentSet p e s.slots
 lent_set p s e sound waited k lent = by (slice_get p.slots k) refl lent
   where
@@ -49,9 +49,9 @@ stands_at test s e h = by (slice_get s.edges e) refl h
     by None at h = absurd cc
     by (Some status) at h = (status, at, h)
 
--- ---- one edge stands otherwise, and slots are set
+-- ---- the status of one edge changes, and slots are set
 
--- what is owed of where it stands now
+-- the obligations for the new status of an edge
 abbrev pub Owed : Parts → State → ℕ → Slots → Status → Type 0
 Owed p s e slots Unbegun = ⊥
 Owed p s e slots (Active l) = (shapes : List Shape) × AreAllShapes p e shapes × IsTyped p e shapes slots l × ((w : ℕ) → is_member w (waits_of p e) ≡ true → stands is_well s w ≡ true)
@@ -126,7 +126,7 @@ module _ (laws : VerifyLaws) (p : Parts) (s : State) (e : ℕ) (old new : Status
 -- ---- events
 
 module _ (laws : VerifyLaws) (meaning : Meaning) (p : Parts) (shaped : IsWellShaped p) (limits : Limits) where
-  -- what an event may come to
+  -- the allowed results of an event
   abbrev pub Safe : Stepped → Type 0
   Safe (Next s mark) = Stands p s
   Safe (Wrong flaw) = ⊥

@@ -1,4 +1,4 @@
--- What a reached state gives to the code of an event, and that the next one is reached too.
+-- The facts about a reached state for the code of an event; the next state is reached too.
 use Rattle.std.proofs.Common.{◌≡◌, ℕ, zero, suc, ◌<◌, Bool, true, false, List, [], ◌∷◌, ◌++◌, length, Option, Some, None, refl, sym, ap, ◌∙◌, subst, inl, inr}
 use Rattle.std.specs.Prelude.{◌||◌, ◌&&◌, not, slice_get, slice_set, Ok, IfSome, IsSome}
 use Rattle.std.specs.List.{list_all}
@@ -52,7 +52,7 @@ safe_works p e shapes slots l (Errs flaw) safe = safe
 place_within : (p : Parts) (s : State) (e : ℕ) (l : Local) → IsUnderWay p s e l → l.place < length (code p e)
 place_within p s e l u = let i = is_some_of (slice_get (code p e) l.place) u.typed.inside in slice_get_within (code p e) l.place i.0 i.1
 
--- an edge that is under way makes a turn that isn't wrong
+-- a running edge makes a turn that isn't wrong
 pub can_turn : VerifyLaws → (p : Parts) → IsWellShaped p → (limits : Limits) (s : State) → Stands p s → (e : ℕ) (l : Local) → slice_get s.edges e ≡ Some (Active l) → CanTurn p s.slots e l
 can_turn laws p shaped limits s sound e l now =
     let u = sound.active e l now in
@@ -62,7 +62,7 @@ can_turn laws p shaped limits s sound e l now =
       table = sound.typed.table;
     }
 
--- and so is what it does by a reply
+-- the effect of a reply isn't wrong
 pub can_hear : VerifyLaws → QuestionsIgnoreSlots → (p : Parts) (s : State) → Stands p s → (e : ℕ) (r : Answer) (l : Local) → slice_get s.edges e ≡ Some (Active l) → CanHear p e r l
 can_hear laws ignore p s sound e r l now =
     let u = sound.active e l now in
@@ -85,7 +85,7 @@ runs_more p limits s mid end (x ∷ events) (m ∷ marks) event told run is = (r
 runs_more p limits s mid end [] (m ∷ marks) event told run is = absurd run
 runs_more p limits s mid end (x ∷ events) [] event told run is = absurd run
 
--- ---- an event changes its edge alone
+-- ---- an event changes only its edge
 
 module _ (meaning : Meaning) (p : Parts) (limits : Limits) (s : State) where
   abbrev Changes : ℕ → Stepped → Type 0
@@ -188,7 +188,7 @@ still_reached p old new targets events marks event told reached applied =
     subst (λ (limits : Limits). Reached depfile p limits targets (events ++ event ∷ []) (marks ++ told ∷ []) new.now) (sym applied.1)
     (record { start = reached.start; opens = reached.opens; run = runs_more p old.limits reached.start old.now new.now events marks event told reached.run applied.0 })
 
--- the books fit the state before an applied event
+-- the schedule agrees with the state before an applied event
 pub left_behind : (p : Parts) (old new : Running) (event : Event) (told : Mark) (e : ℕ) → AreKept p old.going.now old.plan old.books → Applied p old.going event (Ok told) new.going
     → new.plan ≡ old.plan → new.books ≡ old.books → e ≡ edge_of event → IsBehind p new e
 left_behind p old new event told e kept applied plan books is =
@@ -198,7 +198,7 @@ left_behind p old new event told e kept applied plan books is =
       changed = subst (Changed old.going.now new.going.now) (sym is) (changed depfile p old.going.limits old.going.now new.going.now event told applied.0);
     }
 
--- an applied event leads to a state of the image, once the books fit
+-- an applied event leads to a state of the image, after the schedule is updated
 pub next_state : (p : Parts) (old mid new : Running) (event : Event) (told : Mark) → IsStateOf p old → Applied p old.going event (Ok told) mid.going → new.going ≡ mid.going → new.total ≡ old.total
     → AreKept p new.going.now new.plan new.books → IsStateOf p new
 next_state p old mid new event told is applied same total kept =

@@ -1,8 +1,7 @@
--- A sweep that goes on is a reply and a step behind it.
-use Rattle.std.proofs.Common.{◌≡◌, ℕ, ◌+◌, ◌<◌, Bool, true, false, List, [], ◌∷◌, length, Option, Some, refl, sym, ap, ◌∙◌, subst, arith}
-use Rattle.std.specs.Prelude.{◌||◌, ◌==◌, ◌-◌, ◌≤◌, Ok, bytes_eq, get_or, nat_lt, slice_get, if◌then◌else◌}
-use Rattle.std.proofs.lemmas.Option.{slice_get-get_or, slice_get_within}
-use Rattle.std.proofs.lemmas.Slice.Eq.{bytes_eq-Decides}
+-- A sweep that goes on is a reply, followed by a step.
+use Rattle.std.proofs.Common.{◌≡◌, ℕ, ◌+◌, Bool, true, false, List, [], ◌∷◌, length, Option, Some, refl, sym, ap, ◌∙◌, subst}
+use Rattle.std.specs.Prelude.{◌||◌, ◌==◌, Ok, nat_lt, slice_get, if◌then◌else◌}
+use Rattle.std.proofs.lemmas.Option.{slice_get_within}
 use Rattle.plan_image.specs.declared.instr.Instr.{Instr}
 use Rattle.plan_image.specs.declared.instr.Instr.TheVariants as op
 use Rattle.plan_image.specs.declared.image.Parts.{Parts}
@@ -99,47 +98,14 @@ module _ (p : Parts) (e : ℕ) (path : List ℕ) (l : Local) (s : Sweeps p e pat
           later = subst (λ (n : Local). AwaitsSwept p e n) (sym same) later_so;
         }
 
--- what stands on the stack of an edge that sweeps
+-- the values on the stack of an edge that sweeps
 pub sweeping_has : (stack : List Value) → IsSweeping stack → HasPathsAt stack
 sweeping_has (Paths swept all ∷ Flag b ∷ Stamp n ∷ below) s = (swept, all, refl)
 sweeping_has _ s = absurd s
 
--- the first path that wasn't swept
-pub is_next : (path : List ℕ) (swept : ℕ) (all : List (List ℕ)) (stack : List Value) → IsSweeping stack → slice_get stack 0 ≡ Some (Paths swept all) → path ≡ get_or all swept [] → IsNext path stack
-is_next path swept all (Paths k xs ∷ Flag b ∷ Stamp n ∷ below) sweeping is same =
-    let same_k : k ≡ swept = cc in
-    let same_xs : xs ≡ all = cc in
-    let lt : swept < length all = subst (λ (j : ℕ). j < length all) same_k (subst (λ (ys : List (List ℕ)). k < length ys) same_xs sweeping) in
-    let here : slice_get all swept ≡ Some path = slice_get-get_or all swept [] lt ∙ ap Some (sym same) in
-    subst (λ (j : ℕ). slice_get xs j ≡ Some path) (sym same_k) (subst (λ (ys : List (List ℕ)). slice_get ys swept ≡ Some path) (sym same_xs) here)
-is_next path swept all _ sweeping is same = absurd sweeping
-
--- the same, where another is left
-pub next_so : (path : List ℕ) (swept : ℕ) (all : List (List ℕ)) (stack : List Value) → IsSweeping stack → slice_get stack 0 ≡ Some (Paths swept all) → 2 ≤ length all - swept
-    → bytes_eq (get_or all swept []) path ≡ true → HasNext path stack
-next_so path swept all (Paths k xs ∷ Flag b ∷ Stamp n ∷ below) sweeping is more same =
-    let same_k : k ≡ swept = cc in
-    let same_xs : xs ≡ all = cc in
-    let here : slice_get all swept ≡ Some path = slice_get-get_or all swept [] (omega (arith, more)) ∙ ap Some ((bytes_eq-Decides (get_or all swept []) path).0 same) in
-    let lt : swept + 1 < length all = omega (arith, more) in
-    subst (λ (j : ℕ). (slice_get xs j ≡ Some path) × (j + 1 < length xs)) (sym same_k) (subst (λ (ys : List (List ℕ)). (slice_get ys swept ≡ Some path) × (swept + 1 < length ys)) (sym same_xs) (here, lt))
-next_so path swept all _ sweeping is more same = absurd sweeping
-
--- and so it is told
-pub next_must : (path : List ℕ) (swept : ℕ) (all : List (List ℕ)) (stack : List Value) → slice_get stack 0 ≡ Some (Paths swept all) → HasNext path stack → (2 ≤ length all - swept) × (bytes_eq (get_or all swept []) path ≡ true)
-next_must path swept all (Paths k xs ∷ Flag b ∷ Stamp n ∷ below) is next =
-    let same_k : k ≡ swept = cc in
-    let same_xs : xs ≡ all = cc in
-    let here : slice_get all swept ≡ Some path = subst (λ (j : ℕ). slice_get all j ≡ Some path) same_k (subst (λ (ys : List (List ℕ)). slice_get ys k ≡ Some path) same_xs next.0) in
-    let lt : swept + 1 < length all = subst (λ (j : ℕ). j + 1 < length all) same_k (subst (λ (ys : List (List ℕ)). k + 1 < length ys) same_xs next.1) in
-    let both : Some (get_or all swept []) ≡ Some path = sym (slice_get-get_or all swept [] (omega (arith, lt))) ∙ here in
-    let same : get_or all swept [] ≡ path = cc in
-    (omega (arith, lt), (bytes_eq-Decides (get_or all swept []) path).1 same)
-next_must path swept all _ is next = absurd next
-
 -- ---- the machine
 
--- what an edge that sweeps asked
+-- the question of an edge that sweeps
 pub swept_asked : (p : Parts) (s : State) (e : ℕ) (path : List ℕ) → IsSweptAt p s e → ((l : Local) → slice_get s.edges e ≡ Some (Active l) → IsNext path l.stack) → asked_at p s e ≡ Some (Stat path)
 swept_asked p s e path is next =
     ap (asked_by p e s.slots) is.1

@@ -1,4 +1,4 @@
--- Slots and edges that are as their kinds and shapes say.
+-- Slots and edges that agree with their kinds and shapes.
 use Rattle.std.proofs.Common.{◌≡◌, ℕ, ◌<◌, true, List, length, Option, Some, None, refl, sym, ap, ◌∙◌, eqb, arith, inl, inr}
 use Rattle.std.specs.Prelude.{◌⊎◌, slice_get, slice_set}
 use Rattle.std.proofs.lemmas.Bool.{cases_eq}
@@ -27,7 +27,7 @@ set_stays slots n k v short (inr old) =
       | inr ne ↦ ap is_filled (get_other slots n k (Some v) ne) ∙ old
     ]
 
--- what an own slot is set to leaves the slots typed
+-- setting an own slot leaves the slots typed
 pub still_typed : (p : Parts) (e : ℕ) (slots : Slots) (s : ℕ) (v : Value) → AreTyped p slots → owns p e s ≡ true → kind_of v ≡ slot_kind p s → AreTyped p (slice_set slots s (Some v))
 still_typed p e slots s v good own kind =
     let o = owned_is e (slice_get p.slots s) own in

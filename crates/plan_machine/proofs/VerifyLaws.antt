@@ -1,4 +1,4 @@
--- The laws of plan_verify that the proofs here take.
+-- The laws of plan_verify that these proofs use.
 use Rattle.std.proofs.Common.{◌≡◌, ℕ, ◌<◌, true, length, Option, Some, None, sym, ap, ◌∙◌, arith}
 use Rattle.std.specs.Prelude.{slice_get, Contains}
 use Rattle.std.proofs.lemmas.Option.{slice_get_within}
@@ -13,7 +13,7 @@ use Rattle.plan_verify.specs.Worth.{AllTurnsPay}
 use Rattle.plan_verify.specs.Facts.{TablesAreInRange}
 use Rattle.plan_machine.proofs.ListLemmas.{get_inside, member_contained}
 
--- A public law calls those of plan_verify, and hands them on in here.
+-- A public law calls those of plan_verify, and passes them on in this record.
 pub record VerifyLaws : Type 0 where
   pub fit : InstructionsFit
   pub steps_safe : StepsAreSafe
@@ -31,7 +31,7 @@ rank_in None = 0
 abbrev pub rank_of : Parts → ℕ → ℕ
 rank_of p e = rank_in (slice_get p.edges e)
 
--- what an edge waits for is in the image, and of lesser rank
+-- each wait of an edge is in the image, and has a lesser rank
 pub wait_below : TablesAreInRange → (p : Parts) → IsWellShaped p → (e w : ℕ) → e < length p.edges → is_member w (waits_of p e) ≡ true → (w < length p.edges) × (rank_of p w < rank_of p e)
 wait_below in_range p shaped e w lt wait =
     let x = get_inside p.edges e lt in

@@ -1,4 +1,4 @@
--- A walk along waits meets the edges that are wanted.
+-- A walk along waits meets exactly the wanted edges.
 use Rattle.std.proofs.Common.{◌≡◌, ℕ, zero, suc, ◌+◌, ◌<◌, ◌≤◌, Bool, true, false, eqb, List, [], ◌∷◌, length, replicate, Option, Some, None, refl, sym, ap, ◌∙◌, subst, arith, inl, inr}
 use Rattle.std.specs.Prelude.{◌⊎◌, ◌||◌, nat_le, slice_get, slice_set}
 use Rattle.std.proofs.lemmas.Bool.{cases_eq, eqb-true, eq-eqb, leb-false}
@@ -46,7 +46,7 @@ none_more w = record {
   less = omega arith;
 }
 
--- one that was met already
+-- an edge that was met before
 old_one : (w : Walked) (e : ℕ) → slice_get w.met e ≡ Some true → MeetsAll (e ∷ []) w w
 old_one w e at = record {
   long = refl;
@@ -189,11 +189,11 @@ all_met p targets w walks done e (is_waited {e = d} want wait) =
       | inl more ↦ absurd (let clash : is_member d [] ≡ true = ap (is_member d) (sym done) ∙ more in cc)
     ]
 
--- where nothing is ahead, what was met is what is wanted
+-- if no edge is left to continue from, the met edges are the wanted ones
 pub walk_ends : (p : Parts) (targets : List ℕ) (w : Walked) → Walks p targets w → w.ahead ≡ [] → AreWanted p targets w.met
 walk_ends p targets w walks done = record { long = walks.long; each = λ e. (walks.sound e, all_met p targets w walks done e) }
 
--- ---- what is chosen and waited for is inside the image
+-- ---- chosen edges and waits are inside the image
 
 pub chosen_inside : TablesAreInRange → (p : Parts) → IsWellShaped p → (targets : List ℕ) → any_outside p targets ≡ false → (e : ℕ) → is_member e (chosen p targets) ≡ true → e < length p.edges
 chosen_inside in_range p shaped [] within e h = (in_range p shaped).defaults e (member_contained e p.defaults h)

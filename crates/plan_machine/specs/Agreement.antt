@@ -19,7 +19,7 @@ replies_to e [] = []
 replies_to e (Hear f r ∷ events) = if f == e then r ∷ replies_to e events else replies_to e events
 replies_to e (event ∷ events) = replies_to e events
 
--- the same outcome; a skipped edge may name any edge
+-- the same outcome; skipped edges may name different edges
 abbrev pub AreAlike : Outcome → Outcome → Type 0
 AreAlike (Skipped v) (Skipped w) = Unit {0}
 AreAlike x y = x ≡ y
@@ -34,7 +34,7 @@ pub record EndAlike (s t : State) : Type 0 where
   pub outcomes : (e : ℕ) → BothAlike (outcome_at (slice_get s.edges e)) (outcome_at (slice_get t.edges e))
   pub slots : s.slots ≡ t.slots
 
--- Where any number of failures is borne, two ended runs of one image from the same targets, in which each edge got the
+-- If there is no failure limit, two ended runs of one image from the same targets, in which each edge got the
 -- same replies in the same order, end alike. The numbers of jobs may differ.
 abbrev pub InterleavingsAgree : Type 0
 InterleavingsAgree =

@@ -1,4 +1,4 @@
--- What the code of an event answers and leaves.
+-- The result of an event in the code, and the state after it.
 use Rattle.std.specs.Prelude.{◌≡◌, ℕ, ◌<◌, Bool, true, false, not, ◌||◌, ◌&&◌, length, Option, Some, Result, Ok, Err, slice_get, slice_set}
 use Rattle.plan_image.specs.declared.image.Parts.{Parts}
 use Rattle.plan_image.specs.Code.{code}
@@ -21,14 +21,14 @@ use Rattle.plan_machine.specs.Depfile.{depfile}
 use Rattle.plan_machine.specs.Turned.{IsTurned}
 use Rattle.plan_machine.specs.Working.{Works}
 
--- An applied event: the table's next state and mark. A refused one leaves all as it was.
+-- An applied event has the next state and mark of the table. A refused one changes nothing.
 abbrev pub Applied : Parts → Going → Event → Result Mark Refused → Going → Type 0
 Applied p old event (Ok told) new = (step depfile p old.limits old.now event ≡ Next new.now told) × (new.limits ≡ old.limits)
 Applied p old event (Err refused.NotEnabled) new = (step depfile p old.limits old.now event ≡ NotEnabled) × (new ≡ old)
 Applied p old event (Err refused.Memory) new = new ≡ old
 Applied p old event (Err refused.BadTarget) new = ⊥
 
--- a Skip or a Stop: it takes no memory
+-- a Skip or a Stop, which takes no memory
 abbrev pub is_frugal : Event → Bool
 is_frugal (Skip e w) = true
 is_frugal (Stop e) = true
@@ -53,13 +53,13 @@ abbrev pub may_step_by : Parts → Limits → State → ℕ → Option Status �
 may_step_by p limits s e (Some (Active l)) = not (l.asked || (at_take p e l && not (is_free p limits s e)))
 may_step_by p limits s e _ = false
 
--- an edge that is under way makes a turn that isn't wrong, at a place of its code
+-- a running edge makes a turn that isn't wrong, at a place of its code
 pub record CanTurn (p : Parts) (slots : Slots) (e : ℕ) (l : Local) : Type 0 where
   pub works : Works (turn p e slots l)
   pub place : l.place < length (code p e)
   pub table : length slots ≡ length p.slots
 
--- an edge that is under way stands otherwise after a turn
+-- the status of a running edge after a turn
 pub record HasStepped (p : Parts) (e : ℕ) (r : Turned) (old new : Status) (slots after : Slots) : Type 0 where
   pub before : Local
   pub later : Local
@@ -67,7 +67,7 @@ pub record HasStepped (p : Parts) (e : ℕ) (r : Turned) (old new : Status) (slo
   pub is : new ≡ Active later
   pub made : IsTurned r before later slots after (turn p e slots before)
 
--- an edge that was under way made a turn
+-- a running edge made a turn
 pub record HasTurned (p : Parts) (old : Going) (e : ℕ) (r : Turned) (new : Going) : Type 0 where
   pub before : Local
   pub after : Local
@@ -76,7 +76,7 @@ pub record HasTurned (p : Parts) (old : Going) (e : ℕ) (r : Turned) (new : Goi
   pub made : IsTurned r before after old.now.slots slots (turn p e old.now.slots before)
   pub left : new ≡ record { limits = old.limits; now = record { edges = slice_set old.now.edges e (Active after); slots = slots } }
 
--- the mark that is left, and where the edge stands
+-- the mark of a turn, and the status of the edge after it
 abbrev pub Settles : Going → ℕ → Turned → Mark → Going → Type 0
 Settles old e turned.Moved told new = (told ≡ mark.Moved e) × (new ≡ old)
 Settles old e turned.Stored told new = (told ≡ mark.Moved e) × (new ≡ old)

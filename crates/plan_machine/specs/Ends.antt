@@ -1,4 +1,4 @@
--- What is told of the ends of two lists of events, each from the opening for the image's defaults.
+-- The comparison of the ends of two lists of events, each from the opening state for the image's defaults.
 use Rattle.std.specs.Prelude.{◌≡◌, ◌↔◌, ◌⊎◌, ℕ, ◌+◌, Bool, true, List, [], length}
 use Rattle.plan_image.specs.declared.image.Parts.{Parts}
 use Rattle.plan_machine.specs.Limits.{Limits}
@@ -11,12 +11,13 @@ use Rattle.plan_machine.specs.Depfile.{depfile}
 use Rattle.plan_machine.specs.Agreement.{EndAlike, replies_to}
 use Rattle.plan_machine.specs.Replaying.{IsReplayFault}
 
--- the events replay, and lead to this state
+-- the events can be replayed, and lead to this state
 pub record EndsIn (p : Parts) (limits : Limits) (events : List Event) (end : State) : Type 0 where
   pub marks : List Mark
   pub reached : Reached depfile p limits [] events marks end
 
--- both lists replay, and the answer is true exactly where both have ended, with the same outcomes and the same slots
+-- both lists can be replayed, and the result is true if and only if both have ended, with the same outcomes and
+-- the same slots
 pub record TellsEnds (p : Parts) (limits : Limits) (first second : List Event) (same : Bool) : Type 0 where
   pub end : State
   pub other : State
@@ -24,14 +25,14 @@ pub record TellsEnds (p : Parts) (limits : Limits) (first second : List Event) (
   pub second_ends : EndsIn p limits second other
   pub tells : (same ≡ true) ↔ ((has_ended end ≡ true) × (has_ended other ≡ true) × EndAlike end other)
 
--- where any number of failures is borne, ended lists in which each edge got the same replies aren't told apart
+-- if there is no failure limit, ended lists in which each edge got the same replies compare as the same
 abbrev pub NeverTellsApart : Parts → Limits → List Event → List Event → Bool → Type 0
 NeverTellsApart p limits first second same =
     limits.keep ≡ 0 → (end other : State) → EndsIn p limits first end → has_ended end ≡ true → EndsIn p limits second other → has_ended other ≡ true
     → ((e : ℕ) → replies_to e first ≡ replies_to e second) → same ≡ true
 
--- Why two lists weren't compared, and where, counted through the first and then the second: why the first wasn't
--- replayed, or why the second wasn't where the first was.
+-- The reason why two lists weren't compared, and the index of the event, counted through the first list and
+-- then the second: the first list couldn't be replayed, or the second one couldn't when the first one was.
 abbrev pub IsEndFault : Parts → Limits → List Event → List Event → ℕ → Refused → Type 0
 IsEndFault p limits first second n refused =
     IsReplayFault p limits [] first n refused

@@ -1,4 +1,4 @@
--- What a function gives for the first numbers.
+-- The values of a function for the first numbers.
 use Rattle.std.specs.Prelude.{ℕ, zero, suc, List, [], ◌∷◌, ◌++◌}
 
 abbrev pub first_of : {A : Type 0} → (ℕ → A) → ℕ → List A

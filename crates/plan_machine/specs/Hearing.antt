@@ -1,4 +1,4 @@
--- What the code of a reply answers and leaves.
+-- The result of a reply in the code, and the state after it.
 use Rattle.std.specs.Prelude.{◌≡◌, ℕ, ◌<◌, length, Option, Some, None, Result, Ok, Err, slice_get, IfSome, IsSome, true, []}
 use Rattle.plan_image.specs.declared.image.Parts.{Parts}
 use Rattle.plan_image.specs.Code.{code}
@@ -15,7 +15,8 @@ use Rattle.plan_machine.specs.Going.{Going}
 use Rattle.plan_machine.specs.Depfile.{depfile}
 use Rattle.plan_machine.specs.Working.{Works}
 
--- an edge that is under way does by a reply what isn't wrong, at a place of its code; where it asked there is a question
+-- a running edge reacts to a reply in a way that isn't wrong, at a place of its code; if it has asked, there is
+-- a question
 pub record CanHear (p : Parts) (e : ℕ) (r : Answer) (l : Local) : Type 0 where
   pub works : IfSome (heard depfile p e l r) Works
   pub place : l.place < length (code p e)
@@ -26,7 +27,7 @@ IsHeard hearing.On old new t = t ≡ Some (Goes Moved new)
 IsHeard (hearing.Failed cause) old new t = t ≡ Some (Fails cause)
 IsHeard hearing.Unfit old new t = (t ≡ None) × (new ≡ old)
 
--- an edge that is under way stands otherwise after a reply
+-- the status of a running edge after a reply
 pub record HasAnswered (p : Parts) (e : ℕ) (a : Answer) (r : Heard) (old new : Status) : Type 0 where
   pub before : Local
   pub later : Local
@@ -34,7 +35,7 @@ pub record HasAnswered (p : Parts) (e : ℕ) (a : Answer) (r : Heard) (old new :
   pub is : new ≡ Active later
   pub made : IsHeard r before later (heard depfile p e before a)
 
--- an edge that is under way heard a reply
+-- a running edge received a reply
 pub record HasHeard (p : Parts) (old : Going) (e : ℕ) (a : Answer) (r : Heard) (new : Going) : Type 0 where
   pub before : Local
   pub after : Local

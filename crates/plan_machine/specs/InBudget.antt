@@ -1,4 +1,4 @@
--- How many events a run may have.
+-- The most events of a run.
 use Rattle.std.specs.Prelude.{ℕ, ◌+◌, ◌≤◌, List, [], ◌∷◌, length}
 use Rattle.plan_image.specs.declared.image.Parts.{Parts}
 use Rattle.plan_verify.specs.Turn.{Meaning}
@@ -12,7 +12,7 @@ use Rattle.plan_machine.specs.State.{State}
 use Rattle.plan_machine.specs.Step.{answer_of}
 use Rattle.plan_machine.specs.Runs.{Reached}
 
--- the dependency bytes that an event brings
+-- the number of dependency bytes in an event
 abbrev pub bytes_of : Event → ℕ
 bytes_of (Hear e r) = brought (answer_of r)
 bytes_of _ = 0
@@ -21,7 +21,7 @@ abbrev pub all_bytes : List Event → ℕ
 all_bytes [] = 0
 all_bytes (event ∷ events) = bytes_of event + all_bytes events
 
--- a run has no more events than the budget and the dependency bytes
+-- the number of events in a run is at most the budget plus the number of dependency bytes
 abbrev pub StaysInBudget : Type 0
 StaysInBudget =
     (meaning : Meaning) → IsFrugal meaning → (p : Parts) → IsWellShaped p → (limits : Limits) (targets : List ℕ) (events : List Event) (marks : List Mark) (s : State)

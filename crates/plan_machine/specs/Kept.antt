@@ -1,4 +1,4 @@
--- The books that are kept beside a running image: counts and shelves, which fit where its edges stand.
+-- The schedule of a running image: counts and buckets, which agree with the statuses of its edges.
 use Rattle.std.specs.Prelude.{◌≡◌, ℕ, ◌+◌, ◌<◌, Bool, true, false, List, [], ◌∷◌, length, map, Option, Some, None, slice_get, slice_set, slice_index}
 use Rattle.plan_image.specs.declared.image.Pool.{Pool}
 use Rattle.plan_image.specs.declared.image.Parts.{Parts}
@@ -20,7 +20,7 @@ use Rattle.plan_machine.specs.Runs.{Reached}
 use Rattle.plan_machine.specs.Depfile.{depfile}
 use Rattle.plan_machine.specs.Total.{is_wanted, total_of}
 
--- a running image with its books, and how many commands it may run
+-- a running image with its schedule, and the number of commands that it may run
 pub record Running : Type 0 where
   pub going : Going
   pub plan : Plan
@@ -45,18 +45,18 @@ abbrev pub phase_active : Bool → Bool → Bool → Phase
 phase_active true taking holding = phase.Asked holding
 phase_active false taking holding = phase_going taking holding
 
--- what the books know of where an edge stands
+-- the phase that the schedule stores for a status
 abbrev pub phase_of : Parts → ℕ → Status → Phase
 phase_of p e Unbegun = phase.Unbegun
 phase_of p e (Active l) = phase_active l.asked (at_take p e l) l.holding
 phase_of p e (Over outcome) = phase_over outcome
 
--- of an edge that may be outside the image
+-- the phase of an edge that may be outside the image
 abbrev pub phase_in : Parts → ℕ → Option Status → Phase
 phase_in p e (Some status) = phase_of p e status
 phase_in p e None = phase.NotWanted
 
--- whether an edge may make a step, where a place may be free for it
+-- whether an edge may make a step, given whether a job token is free for it
 abbrev pub steps_by : Phase → Bool → Bool
 steps_by (phase.Going holding) free = true
 steps_by (phase.AtTake holding) free = free
@@ -67,9 +67,9 @@ abbrev pub phases_from : Parts → ℕ → List Status → List Phase
 phases_from p e [] = []
 phases_from p e (status ∷ rest) = phase_of p e status ∷ phases_from p (e + 1) rest
 
--- ---- the books fit
+-- ---- the schedule agrees with the state
 
--- what is fixed is as the image says; pools count from 1
+-- the fixed data are those of the image; pools count from 1
 pub record IsPlanOf (p : Parts) (plan : Plan) : Type 0 where
   pub good : IsPlan plan
   pub edges : edges_of plan ≡ length p.edges
@@ -77,14 +77,14 @@ pub record IsPlanOf (p : Parts) (plan : Plan) : Type 0 where
   pub pools : (e : ℕ) → e < length p.edges → slice_index plan.pools.items e ≡ pool_number (pool_of p e)
   pub depths : plan.depths.items ≡ 0 ∷ map (λ (pool : Pool). pool.depth) p.pools
 
--- each count is that over the edges of this state, and each edge stands on the shelf of what it can do
+-- each count is that over the edges of this state, and each edge is in the bucket for what it can do
 pub record AreKept (p : Parts) (s : State) (plan : Plan) (books : Books) : Type 0 where
   pub plan_is : IsPlanOf p plan
   pub long : length s.edges ≡ length p.edges
   pub phases : books.phases.items ≡ phases_from p 0 s.edges
   pub fit : AreBooks plan books
 
--- a state of this image: a run from an opening reaches it, and its books fit
+-- a state of this image: a run from an opening reaches it, and its schedule agrees with it
 pub record IsStateOf (p : Parts) (r : Running) : Type 0 where
   pub targets : List ℕ
   pub events : List Event
@@ -93,7 +93,7 @@ pub record IsStateOf (p : Parts) (r : Running) : Type 0 where
   pub kept : AreKept p r.going.now r.plan r.books
   pub counted : r.total ≡ total_of p r.going.now
 
--- one edge, which had no outcome, stands otherwise
+-- the status of one edge, which had no outcome, changed
 pub record Changed (s new : State) (e : ℕ) : Type 0 where
   pub before : Status
   pub after : Status
@@ -102,7 +102,7 @@ pub record Changed (s new : State) (e : ℕ) : Type 0 where
   pub still_wanted : is_wanted after ≡ true
   pub left : new.edges ≡ slice_set s.edges e after
 
--- the books fit a state before this one, where one edge stood otherwise
+-- the schedule agrees with an earlier state, in which only the status of one edge was different
 pub record IsBehind (p : Parts) (r : Running) (e : ℕ) : Type 0 where
   pub old : State
   pub kept : AreKept p old r.plan r.books

@@ -24,7 +24,7 @@ pub record CanGo (meaning : Meaning) (p : Parts) (limits : Limits) (s : State) :
   pub mark : Mark
   pub enabled : step meaning p limits s event ≡ Next after mark
 
--- an edge has asked and has no reply
+-- an edge has asked and has no reply yet
 pub record Awaits (s : State) : Type 0 where
   pub edge : ℕ
   pub local : Local

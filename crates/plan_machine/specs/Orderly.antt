@@ -1,4 +1,4 @@
--- Orderly marks: what holds of the list of marks alone, by the image's waits and pools and the options.
+-- Orderly marks: a property of the list of marks only, given the image's waits and pools and the options.
 use Rattle.std.specs.Prelude.{◌≡◌, ℕ, ◌+◌, ◌<◌, ◌≤◌, Bool, true, false, ◌&&◌, ◌==◌, if◌then◌else◌, List, [], ◌∷◌, take, Some, slice_get}
 use Rattle.plan_image.specs.declared.image.Edge.{Edge}
 use Rattle.plan_image.specs.declared.image.Pool.{Pool}
@@ -15,7 +15,7 @@ use Rattle.plan_machine.specs.State.{State}
 use Rattle.plan_machine.specs.Places.{is_pool}
 use Rattle.plan_machine.specs.Runs.{Reached}
 
--- whether an edge holds a place, by one more mark
+-- whether an edge holds a job token after one more mark
 abbrev pub holds_then : ℕ → Bool → Mark → Bool
 holds_then e held (Took f) = if f == e then true else held
 holds_then e held (Released f) = if f == e then false else held
@@ -30,12 +30,12 @@ holds_after e held (mark ∷ marks) = holds_after e (holds_then e held mark) mar
 abbrev pub holds_by : List Mark → ℕ → Bool
 holds_by marks e = holds_after e false marks
 
--- how many edges hold a place by these marks, where these are the edges from e on
+-- the number of edges that hold a job token by these marks, for the edges from e on
 abbrev pub holding : List Mark → ℕ → List Edge → ℕ
 holding marks e [] = 0
 holding marks e (edge ∷ edges) = (if holds_by marks e then 1 else 0) + holding marks (e + 1) edges
 
--- and how many of a pool
+-- the number of edges of a pool that hold a job token
 abbrev pub holding_of : Parts → ℕ → List Mark → ℕ → List Edge → ℕ
 holding_of p pool marks e [] = 0
 holding_of p pool marks e (edge ∷ edges) = (if is_pool pool (pool_of p e) && holds_by marks e then 1 else 0) + holding_of p pool marks (e + 1) edges
@@ -43,11 +43,11 @@ holding_of p pool marks e (edge ∷ edges) = (if is_pool pool (pool_of p e) && h
 pub record IsOrderly (p : Parts) (limits : Limits) (marks : List Mark) : Type 0 where
   -- no edge is started twice
   pub once : (e n k : ℕ) → slice_get marks n ≡ Some (Started e) → slice_get marks k ≡ Some (Started e) → n ≡ k
-  -- before an edge is started, each that it waits for has ended well
+  -- before an edge is started, each edge that it waits for has succeeded
   pub after_waits : (n e w : ℕ) → slice_get marks n ≡ Some (Started e) → is_member w (waits_of p e) ≡ true → (k : ℕ) × (ran : Bool) × (k < n) × (slice_get marks k ≡ Some (Ended w ran))
-  -- at each position no more edges hold a place than there are jobs
+  -- at each position, the number of edges that hold a job token is at most the number of jobs
   pub in_jobs : (n : ℕ) → holding (take n marks) 0 p.edges ≤ limits.jobs
-  -- nor more of a pool than its depth
+  -- for each pool it is at most the pool's depth
   pub in_depth : (n pool : ℕ) (row : Pool) → slice_get p.pools pool ≡ Some row → 0 < row.depth → holding_of p pool (take n marks) 0 p.edges ≤ row.depth
 
 -- the marks of every run are orderly

@@ -1,4 +1,4 @@
--- What can happen next, by itself or by a reply.
+-- The events that can happen next, without a reply or by one.
 use Rattle.std.specs.Prelude.{◌≡◌, ℕ, Bool, true, false}
 use Rattle.plan_image.specs.declared.image.Parts.{Parts}
 use Rattle.plan_books.specs.declared.picking.Pick.{Pick}
@@ -11,7 +11,7 @@ use Rattle.plan_machine.specs.Going.{Going}
 use Rattle.plan_machine.specs.Step.{Next, step}
 use Rattle.plan_machine.specs.Depfile.{depfile}
 
--- the table gives an event's next state and mark
+-- the table has a next state and a mark for the event
 pub record IsEnabled (p : Parts) (g : Going) (event : Event) : Type 0 where
   pub after : State
   pub mark : Mark
@@ -27,6 +27,6 @@ abbrev pub is_step : Event → Bool
 is_step (Step e) = true
 is_step _ = false
 
--- a step, where one is enabled
+-- the event is a step, if one is enabled
 abbrev pub StepsFirst : Parts → Going → Event → Type 0
 StepsFirst p g event = (e : ℕ) → IsEnabled p g (Step e) → is_step event ≡ true

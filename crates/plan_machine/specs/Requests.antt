@@ -1,4 +1,4 @@
--- What an edge that awaits a reply asked, and what an event would ask.
+-- The question of an edge that awaits a reply, and the question that an event would ask.
 use Rattle.std.specs.Prelude.{◌≡◌, ℕ, Bool, true, false, List, Option, Some, None, if◌then◌else◌, slice_get}
 use Rattle.plan_image.specs.declared.instr.Instr.{Instr}
 use Rattle.plan_image.specs.declared.instr.Instr.TheVariants as op
@@ -18,7 +18,7 @@ use Rattle.plan_machine.specs.Step.{Next, step}
 use Rattle.plan_machine.specs.Depfile.{depfile}
 use Rattle.plan_machine.specs.Applying.{may_step_by}
 
--- a request, as one edge's step speaks of it
+-- a request, in terms of one edge's step
 abbrev pub shown : Request → Question
 shown (request.Stat path) = Stat path.now
 shown (request.Recall output) = Recall output.now
@@ -30,7 +30,7 @@ abbrev pub asked_by : Parts → ℕ → Slots → Option Status → Option Quest
 asked_by p e slots (Some (Active l)) = if l.asked then question p e slots l else None
 asked_by p e slots _ = None
 
--- what an edge asked that awaits a reply
+-- the question of an edge that awaits a reply
 abbrev pub asked_at : Parts → State → ℕ → Option Question
 asked_at p s e = asked_by p e s.slots (slice_get s.edges e)
 
@@ -38,12 +38,12 @@ abbrev pub step_asks : Parts → ℕ → Slots → Option Status → Option Ques
 step_asks p e slots (Some (Active l)) = question p e slots l
 step_asks p e slots _ = None
 
--- what an event asks, none where it isn't enabled: steps alone ask
+-- the question of an event, or None if the event isn't enabled; only steps ask
 abbrev pub asks_by : Parts → Limits → State → Event → Option Question
 asks_by p limits s (Step e) = if may_step_by p limits s e (slice_get s.edges e) then step_asks p e s.slots (slice_get s.edges e) else None
 asks_by p limits s event = None
 
--- an event is enabled and asks: its mark says so, and its edge asked that
+-- an event is enabled and asks: its mark is Asked, and its edge asked this question
 pub record Asks (p : Parts) (g : Going) (event : Event) (q : Question) : Type 0 where
   pub edge : ℕ
   pub after : State
@@ -66,7 +66,7 @@ is_asking op.Deps = true
 is_asking op.Keep = true
 is_asking _ = false
 
--- what stands on a stack at a depth
+-- the value at a depth of a stack
 abbrev pub HasTextAt : ℕ → List Value → Type 0
 HasTextAt d stack = (text : List ℕ) × (slice_get stack d ≡ Some (Text text))
 

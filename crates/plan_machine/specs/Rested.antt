@@ -1,4 +1,4 @@
--- What an edge is that is under way and has no values.
+-- A running edge that has no values.
 use Rattle.std.specs.Prelude.{false, []}
 use Rattle.plan_verify.specs.Turn.{Local}
 use Rattle.plan_machine.specs.declared.resting.Resting.{Resting}

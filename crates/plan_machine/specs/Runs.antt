@@ -11,7 +11,7 @@ use Rattle.plan_machine.specs.State.{Status, Unbegun, Over, State}
 use Rattle.plan_machine.specs.Step.{Next, step}
 use Rattle.plan_machine.specs.Wanted.{AreWanted}
 
--- where an edge stands at first
+-- the status of an edge at the start
 abbrev pub at_first : Bool → Status
 at_first true = Unbegun
 at_first false = Over NotWanted
@@ -23,7 +23,7 @@ pub record Opens (p : Parts) (targets : List ℕ) (s : State) : Type 0 where
   pub edges : s.edges ≡ map at_first wanted
   pub slots : s.slots ≡ replicate {A = Option Value} (length p.slots) None
 
--- these events, one after another, lead from one state to another and leave these marks
+-- these events, one after another, lead from one state to another and have these marks
 abbrev pub Runs : Meaning → Parts → Limits → State → List Event → List Mark → State → Type 0
 Runs meaning p limits s [] [] end = s ≡ end
 Runs meaning p limits s (event ∷ events) (mark ∷ marks) end =

@@ -1,4 +1,4 @@
--- Rushes: steps that an edge makes by itself, one after another.
+-- Local runs: steps that an edge makes by itself, one after another.
 use Rattle.std.specs.Prelude.{◌≡◌, ◌==◌, ℕ, zero, suc, Bool, true, false, not, ◌&&◌, List, [], ◌∷◌, ◌++◌, Some, slice_get, slice_set}
 use Rattle.plan_image.specs.declared.instr.Instr.{Instr}
 use Rattle.plan_image.specs.declared.instr.Instr.TheVariants as op
@@ -11,19 +11,20 @@ use Rattle.plan_machine.specs.declared.mark.Mark.TheVariants as mark
 use Rattle.plan_machine.specs.declared.rush.Rush.{Rush}
 use Rattle.plan_machine.specs.declared.turned.Turned.{Turned}
 use Rattle.plan_machine.specs.declared.turned.Turned.TheVariants as turned
+use Rattle.plan_machine.specs.Applying.{CanTurn}
 use Rattle.plan_machine.specs.State.{Status, Active}
 use Rattle.plan_machine.specs.Going.{Going}
 use Rattle.plan_machine.specs.Places.{at_take}
 use Rattle.plan_machine.specs.Turned.{IsTurned}
 
--- ---- the events and the marks of a rush
+-- ---- the events and the marks of a local run
 
--- so many steps of an edge
+-- this number of steps of an edge
 abbrev pub steps_of : ℕ → ℕ → List Event
 steps_of e zero = []
 steps_of e (suc n) = steps_of e n ++ Step e ∷ []
 
--- that asked nothing
+-- the marks of steps that asked nothing
 abbrev pub moves_of : ℕ → ℕ → List Mark
 moves_of e zero = []
 moves_of e (suc n) = moves_of e n ++ mark.Moved e ∷ []
@@ -36,7 +37,7 @@ abbrev pub marks_by : ℕ → ℕ → Bool → List Mark
 marks_by e n true = moves_of e n ++ mark.Asked e ∷ []
 marks_by e n false = moves_of e n
 
--- the steps of a rush: so many that asked nothing, and one more where it asked
+-- the steps of a local run: those that asked nothing, and one more if it asked
 abbrev pub rush_events : ℕ → Rush → List Event
 rush_events e r = events_by e r.steps r.asked
 
@@ -45,7 +46,8 @@ rush_marks e r = marks_by e r.steps r.asked
 
 -- ---- one step of it
 
--- An instruction that looks at no other edge, takes and gives back no place, can't fail, and asks for no command.
+-- An instruction that depends on no other edge, takes and releases no job token, can't fail, and doesn't run a
+-- command.
 abbrev pub is_stride : Instr → Bool
 is_stride op.End = false
 is_stride op.Join = false
@@ -54,7 +56,7 @@ is_stride op.Release = false
 is_stride op.Run = false
 is_stride _ = true
 
--- what such an instruction does
+-- the effect of such an instruction
 abbrev pub Strides : Turned → Type 0
 Strides turned.Moved = Unit {0}
 Strides turned.Stored = Unit {0}
@@ -77,15 +79,7 @@ pub record HasStrode (p : Parts) (e : ℕ) (r : Turned) (old new : Local) (slots
   pub elsewhere : at_take p e old ≡ false
   pub made : IsTurned r old new slots after (turn p e slots old)
 
--- and stands otherwise
-pub record StandsOtherwise (p : Parts) (e : ℕ) (r : Turned) (old new : Status) (slots after : Slots) : Type 0 where
-  pub before : Local
-  pub later : Local
-  pub was : old ≡ Active before
-  pub is : new ≡ Active later
-  pub strode : HasStrode p e r before later slots after
-
--- and the machine with it
+-- the machine with this edge
 pub record HasRushed (p : Parts) (old : Going) (e : ℕ) (r : Turned) (new : Going) : Type 0 where
   pub before : Local
   pub after : Local
@@ -94,7 +88,40 @@ pub record HasRushed (p : Parts) (old : Going) (e : ℕ) (r : Turned) (new : Goi
   pub strode : HasStrode p e r before after old.now.slots slots
   pub left : new ≡ record { limits = old.limits; now = record { edges = slice_set old.now.edges e (Active after); slots = slots } }
 
--- ---- a whole rush
+-- ---- a whole local run
+
+-- an edge made n such steps, one after another, none of which asked
+abbrev pub StrodeTo : Parts → ℕ → ℕ → Local → Slots → Local → Slots → Type 0
+StrodeTo p e zero old slots new after = (new ≡ old) × (after ≡ slots)
+StrodeTo p e (suc n) old slots new after =
+    (mid : Local) × (between : Slots) × (r : Turned) × StrodeTo p e n old slots mid between × HasStrode p e r mid new between after × (asks_by r ≡ false)
+
+-- the same, with one more step if it asked
+abbrev pub StrodeBy : Parts → ℕ → ℕ → Bool → Local → Slots → Local → Slots → Type 0
+StrodeBy p e n false old slots new after = StrodeTo p e n old slots new after
+StrodeBy p e n true old slots new after =
+    (mid : Local) × (between : Slots) × (r : Turned) × StrodeTo p e n old slots mid between × HasStrode p e r mid new between after × (asks_by r ≡ true)
+
+-- after any number of such steps, the edge makes a turn that isn't wrong
+pub record CanStride (p : Parts) (e : ℕ) (old : Local) (slots : Slots) : Type 0 where
+  pub turns : (n : ℕ) (l : Local) (after : Slots) → StrodeTo p e n old slots l after → CanTurn p after e l
+
+-- the status of a running edge after a local run
+pub record StandsOtherwise (p : Parts) (e : ℕ) (r : Rush) (old new : Status) (slots after : Slots) : Type 0 where
+  pub before : Local
+  pub later : Local
+  pub was : old ≡ Active before
+  pub is : new ≡ Active later
+  pub strode : StrodeBy p e r.steps r.asked before slots later after
+
+-- the machine with this edge
+pub record HasRushedOn (p : Parts) (old : Going) (e : ℕ) (r : Rush) (new : Going) : Type 0 where
+  pub before : Local
+  pub after : Local
+  pub now : slice_get old.now.edges e ≡ Some (Active before)
+  pub slots : Slots
+  pub strode : StrodeBy p e r.steps r.asked before old.now.slots after slots
+  pub left : new ≡ record { limits = old.limits; now = record { edges = slice_set old.now.edges e (Active after); slots = slots } }
 
 -- no step was made
 abbrev pub is_still : Rush → Bool

@@ -1,4 +1,4 @@
--- Whether two states have ended alike, as tests.
+-- Tests that two states have ended alike.
 use Rattle.std.specs.Prelude.{◌≡◌, ◌↔◌, ℕ, Bool, true, false, not, ◌&&◌, ◌==◌, List, Option, Some, None, bytes_eq}
 use Rattle.std.specs.Cmp.Lexicographic.{pointwise}
 use Rattle.plan_verify.specs.declared.value.Value.{Value}
@@ -13,7 +13,7 @@ use Rattle.plan_machine.specs.Agreement.{EndAlike}
 
 -- ---- outcomes
 
--- with their numbers
+-- equal causes, with their numbers
 abbrev pub same_cause : Cause → Cause → Bool
 same_cause (cause.MissingInput a) (cause.MissingInput b) = a == b
 same_cause cause.StatFault cause.StatFault = true
@@ -26,7 +26,7 @@ same_cause cause.RecordFault cause.RecordFault = true
 same_cause cause.TextTooLong cause.TextTooLong = true
 same_cause a b = false
 
--- a skipped edge may name any edge
+-- equal outcomes; skipped edges may name different edges
 abbrev pub same_outcome : Outcome → Outcome → Bool
 same_outcome Clean Clean = true
 same_outcome Ran Ran = true
@@ -36,7 +36,7 @@ same_outcome Stopped Stopped = true
 same_outcome NotWanted NotWanted = true
 same_outcome x y = false
 
--- both have an outcome, and the same
+-- both have an outcome, and it is the same
 abbrev pub same_ended : Option Outcome → Option Outcome → Bool
 same_ended (Some x) (Some y) = same_outcome x y
 same_ended _ _ = false
@@ -78,13 +78,13 @@ same_slots as' bs = pointwise same_slot as' bs
 abbrev pub same_ends : State → State → Bool
 same_ends s t = same_statuses s.edges t.edges && same_slots s.slots t.slots
 
--- the test says just that both have ended and end alike
+-- the test is true if and only if both have ended and end alike
 abbrev pub SameEndsTell : Type 0
 SameEndsTell = (s t : State) → (same_ends s t ≡ true) ↔ ((has_ended s ≡ true) × (has_ended t ≡ true) × EndAlike s t)
 
 -- ---- in the middle of lists
 
--- both are there, and pass a test
+-- both exist, and pass a test
 abbrev pub same_at : {A : Type 0} → (A → A → Bool) → Option A → Option A → Bool
 same_at same (Some a) (Some b) = same a b
 same_at same _ _ = false

@@ -1,4 +1,4 @@
--- What a slot has, as the code keeps it.
+-- The value of a slot, as the code stores it.
 use Rattle.std.specs.Prelude.{Option, Some, None}
 use Rattle.plan_verify.specs.declared.value.Value.{Value}
 use Rattle.plan_verify.specs.declared.value.Value.TheVariants.{Stamp, Flag, Text, Paths, Swept}

@@ -1,4 +1,4 @@
--- What holds of every state that a run of a well shaped image reaches.
+-- The invariant of every state that a run of a well-shaped image reaches.
 use Rattle.std.specs.Prelude.{◌≡◌, ℕ, true, List, length, Some, slice_get}
 use Rattle.plan_image.specs.declared.image.Parts.{Parts}
 use Rattle.plan_verify.specs.declared.shape.Shape.{Shape}
@@ -10,7 +10,7 @@ use Rattle.plan_verify.specs.Sound.{AreTyped, AreOwnSet, IsTyped}
 use Rattle.plan_machine.specs.declared.mark.Outcome.TheVariants.{NotWanted}
 use Rattle.plan_machine.specs.State.{Unbegun, Active, Over, State, is_well, stands}
 
--- an edge has begun: it is as the shape at its place says, and all that it waits for ended well
+-- an edge has begun: it is as the shape at its place describes, and all edges that it waits for succeeded
 pub record IsUnderWay (p : Parts) (s : State) (e : ℕ) (l : Local) : Type 0 where
   pub shapes : List Shape
   pub all : AreAllShapes p e shapes
@@ -21,7 +21,7 @@ pub record Stands (p : Parts) (s : State) : Type 0 where
   pub long : length s.edges ≡ length p.edges
   pub typed : AreTyped p s.slots
   pub active : (e : ℕ) (l : Local) → slice_get s.edges e ≡ Some (Active l) → IsUnderWay p s e l
-  -- an edge that ended well has set its slots
+  -- an edge that succeeded has set its slots
   pub set : (e : ℕ) → stands is_well s e ≡ true → AreOwnSet p e s.slots
-  -- what an edge that has not begun waits for is in the image, and wanted
+  -- the waits of an edge that has not begun are in the image, and wanted
   pub needed : (e w : ℕ) → slice_get s.edges e ≡ Some Unbegun → is_member w (waits_of p e) ≡ true → slice_get s.edges w ≡ Some (Over NotWanted) → ⊥

@@ -1,11 +1,11 @@
--- The state of many edges at once: where each stands, and what each slot has.
+-- The state of many edges at once: the status of each edge, and the value of each slot.
 use Rattle.std.specs.Prelude.{ℕ, Bool, true, false, List, Option, Some, None, slice_get, slice_set}
 use Rattle.std.specs.List.{list_all}
 use Rattle.plan_verify.specs.Turn.{Slots, Local}
 use Rattle.plan_machine.specs.declared.mark.Outcome.{Outcome}
 use Rattle.plan_machine.specs.declared.mark.Outcome.TheVariants.{Clean, Ran, Failed, Skipped, Stopped}
 
--- where an edge stands: not yet begun, under way, or with its outcome
+-- the status of an edge: it has not begun, is running, or has its outcome
 pub data Status : Type 0 where
   Unbegun : Status
   Active : Local → Status
@@ -16,15 +16,15 @@ pub record State : Type 0 where
   pub edges : List Status
   pub slots : Slots
 
--- ---- tests of where an edge stands
+-- ---- tests of the status of an edge
 
--- it ended, and what waits for it may start
+-- it succeeded, and edges that wait for it may start
 abbrev pub is_well : Status → Bool
 is_well (Over Clean) = true
 is_well (Over Ran) = true
 is_well _ = false
 
--- it has an outcome over which what waits for it is skipped
+-- it has an outcome because of which edges that wait for it are skipped
 abbrev pub is_ill : Status → Bool
 is_ill (Over (Failed cause)) = true
 is_ill (Over (Skipped w)) = true
@@ -35,7 +35,7 @@ abbrev pub has_failed : Status → Bool
 has_failed (Over (Failed cause)) = true
 has_failed _ = false
 
--- it holds a place
+-- it holds a job token
 abbrev pub is_holder : Status → Bool
 is_holder (Active l) = l.holding
 is_holder _ = false
@@ -48,13 +48,13 @@ abbrev pub passes : (Status → Bool) → Option Status → Bool
 passes test (Some status) = test status
 passes test None = false
 
--- an edge of that number is in the image, and stands so
+-- the edge with this number is in the image, and its status passes the test
 abbrev pub stands : (Status → Bool) → State → ℕ → Bool
 stands test s e = passes test (slice_get s.edges e)
 
 -- ---- states
 
--- one edge stands otherwise
+-- changes the status of one edge
 abbrev pub with_status : State → ℕ → Status → State
 with_status s e status = record { edges = slice_set s.edges e status; slots = s.slots }
 

@@ -1,4 +1,4 @@
--- Where an edge stands, as the code keeps it.
+-- The status of an edge, as the code stores it.
 use Rattle.plan_machine.specs.declared.status.Stage.{Stage}
 use Rattle.plan_machine.specs.declared.status.Stage.TheVariants as stage
 use Rattle.plan_machine.specs.Rested.{rested}

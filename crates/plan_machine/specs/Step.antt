@@ -18,13 +18,13 @@ use Rattle.plan_machine.specs.declared.mark.Outcome.TheVariants.{Clean, Ran, Fai
 use Rattle.plan_machine.specs.State.{Status, Unbegun, Active, Over, State, is_well, is_ill, stands, with_status}
 use Rattle.plan_machine.specs.Places.{is_spent, is_free, at_take}
 
--- what an event comes to: a state and a mark, a flaw, or nothing where it isn't enabled
+-- the result of an event: a state and a mark, a flaw, or nothing if it isn't enabled
 pub data Stepped : Type 0 where
   Next : State → Mark → Stepped
   Wrong : Flaw → Stepped
   NotEnabled : Stepped
 
--- ---- what a turn of an edge comes to
+-- ---- the result of a turn of an edge
 
 abbrev pub stepped : ℕ → Did → Mark
 stepped e Moved = mark.Moved e
@@ -38,7 +38,7 @@ abbrev pub ended : Bool → Outcome
 ended true = Ran
 ended false = Clean
 
--- the mark of a turn that goes on is told by what the edge did
+-- the mark of a turn that goes on depends on what the edge did
 abbrev pub settles : State → ℕ → Local → (Did → Mark) → Turn → Stepped
 settles s e l told (Goes did m) = Next (with_status s e (Active m)) (told did)
 settles s e l told (Sets k v m) = Next (record { edges = slice_set s.edges e (Active m); slots = slice_set s.slots k (Some v) }) (told Moved)
@@ -47,32 +47,32 @@ settles s e l told Ends = Next (with_status s e (Over (ended l.ran))) (mark.Ende
 settles s e l told (Fails cause) = Next (with_status s e (Over (Failed cause))) (mark.Failed e cause)
 settles s e l told (Errs flaw) = Wrong flaw
 
--- a reply that doesn't fit isn't enabled
+-- a reply that doesn't match the question isn't enabled
 abbrev pub hears_by : State → ℕ → Local → Option Turn → Stepped
 hears_by s e l (Some t) = settles s e l (answered e) t
 hears_by s e l None = NotEnabled
 
--- ---- the events, by where their edge stands
+-- ---- the events, by the status of their edge
 
--- an edge that all it waits for ended well
+-- an edge all of whose waits succeeded
 abbrev pub starts : Parts → State → ℕ → Option Status → Stepped
 starts p s e (Some Unbegun) = if list_all (stands is_well s) (waits_of p e) then Next (with_status s e (Active begun)) (mark.Started e) else NotEnabled
 starts p s e _ = NotEnabled
 
--- an edge that waits for one which ended ill
+-- an edge one of whose waits failed, was skipped or was stopped
 abbrev pub skips : Parts → State → ℕ → ℕ → Option Status → Stepped
 skips p s e w (Some Unbegun) =
     if is_member w (waits_of p e) && stands is_ill s w then Next (with_status s e (Over (Skipped w))) (mark.Skipped e w) else NotEnabled
 skips p s e w _ = NotEnabled
 
--- an edge that has not begun or is at Take, once as many failed as are borne
+-- an edge that has not begun or is at Take, when the failure limit has been reached
 abbrev pub stops : Parts → Limits → State → ℕ → Option Status → Stepped
 stops p limits s e (Some Unbegun) = if is_spent limits s then Next (with_status s e (Over Stopped)) (mark.Stopped e) else NotEnabled
 stops p limits s e (Some (Active l)) =
     if is_spent limits s && at_take p e l then Next (with_status s e (Over Stopped)) (mark.Stopped e) else NotEnabled
 stops p limits s e _ = NotEnabled
 
--- an edge that awaits no reply; at Take only where a place is free
+-- an edge that awaits no reply; at Take only if a job token is free
 abbrev pub steps : Parts → Limits → State → ℕ → Option Status → Stepped
 steps p limits s e (Some (Active l)) =
     if l.asked || (at_take p e l && not (is_free p limits s e)) then NotEnabled else settles s e l (stepped e) (turn p e s.slots l)
@@ -83,7 +83,7 @@ abbrev pub hears : Meaning → Parts → State → ℕ → Answer → Option Sta
 hears meaning p s e r (Some (Active l)) = hears_by s e l (heard meaning p e l r)
 hears meaning p s e r _ = NotEnabled
 
--- a reply, as one edge's step speaks of it
+-- a reply, in terms of one edge's step
 abbrev pub answer_of : Reply → Answer
 answer_of (reply.Stamp n) = StampIs n
 answer_of (reply.Entry recorded) = Entry recorded.command recorded.basis recorded.paths
@@ -95,7 +95,7 @@ answer_of (reply.Bytes bytes) = Bytes bytes
 answer_of reply.Kept = Kept
 answer_of reply.Fault = Fault
 
--- What an event does; the meaning is that of a depfile's bytes.
+-- The effect of an event; `meaning` is that of a depfile's bytes.
 unfoldable pub step : Meaning → Parts → Limits → State → Event → Stepped
 step meaning p limits s (Start e) = starts p s e (slice_get s.edges e)
 step meaning p limits s (Skip e w) = skips p s e w (slice_get s.edges e)

@@ -5,7 +5,7 @@ use Rattle.plan_verify.specs.Tables.{waits_of}
 use Rattle.plan_verify.specs.Members.{is_member}
 use Rattle.plan_machine.specs.Wanted.{IsWanted, chosen}
 
--- for each edge whether it was met, and the edges that were met and not yet gone on from, the latest first
+-- for each edge whether it was met, and the edges that were met and not yet continued from, the latest first
 pub record Walked : Type 0 where
   pub met : List Bool
   pub ahead : List ℕ
@@ -28,16 +28,17 @@ unmet [] = 0
 unmet (true ∷ met) = unmet met
 unmet (false ∷ met) = 1 + unmet met
 
--- what is left to do
+-- the measure of the remaining work
 abbrev pub left : Walked → ℕ
 left w = 2 * unmet w.met + length w.ahead
 
--- an edge to go on from, none where there is no more
+-- an edge to continue from, or None if none is left
 abbrev pub IsNext : Walked → Option ℕ → Walked → Type 0
 IsNext old (Some e) new = (old.ahead ≡ e ∷ new.ahead) × (new.met ≡ old.met)
 IsNext old None new = (old.ahead ≡ []) × (new ≡ old)
 
--- what was met is wanted; what was chosen was met, and what an edge waits for that was gone on from
+-- Each met edge is wanted. The chosen edges were met, and so were the waits of each edge that was continued
+-- from.
 pub record Walks (p : Parts) (targets : List ℕ) (w : Walked) : Type 0 where
   pub long : length w.met ≡ length p.edges
   pub begun : (e : ℕ) → is_member e (chosen p targets) ≡ true → slice_get w.met e ≡ Some true

@@ -5,7 +5,7 @@ use Rattle.plan_image.specs.declared.image.Parts.{Parts}
 use Rattle.plan_verify.specs.Members.{is_member}
 use Rattle.plan_verify.specs.Tables.{waits_of}
 
--- the targets, or where there are none the image's defaults
+-- the targets, or the image's defaults if there are none
 abbrev pub chosen : Parts → List ℕ → List ℕ
 chosen p [] = p.defaults
 chosen p (t ∷ ts) = t ∷ ts

@@ -1,4 +1,4 @@
--- What the code of a step relies on.
+-- The conditions that the code of a step relies on.
 use Rattle.std.specs.Prelude.{List, ◌∷◌, length, ◌≤◌, ◌<◌, Option, Some, None}
 use Rattle.plan_image.specs.declared.instr.Instr.{Instr}
 use Rattle.plan_image.specs.declared.instr.Instr.TheVariants as op
@@ -27,7 +27,7 @@ abbrev pub HasPaths : List Value → Type 0
 HasPaths (Paths swept all ∷ rest) = Unit {0}
 HasPaths stack = ⊥
 
--- a stack on which paths are being swept, and not all were
+-- a stack on which paths are being swept, and some are left
 abbrev pub IsSweeping : List Value → Type 0
 IsSweeping (Paths swept all ∷ Flag b ∷ Stamp n ∷ rest) = swept < length all
 IsSweeping stack = ⊥
@@ -37,7 +37,7 @@ abbrev pub Sweeps : Instr → List Value → Type 0
 Sweeps op.Sweep stack = IsSweeping stack
 Sweeps _ stack = Unit {0}
 
--- no more values than a stack has room for
+-- at most as many values as fit on a stack
 abbrev pub IsShallow : Calculated → Type 0
 IsShallow (On stack) = length stack ≤ 64
 IsShallow TooLong = Unit {0}
@@ -74,7 +74,7 @@ IsSimple op.Equal = ⊥
 IsSimple op.Sweep = ⊥
 IsSimple _ = Unit {0}
 
--- what a slot has, none where there is no such slot
+-- the value of a slot, or None if there is no such slot
 abbrev pub filling : Option (Option Value) → Option Value
 filling (Some v) = v
 filling None = None

@@ -1,4 +1,4 @@
-//! An edge that has begun and not ended.
+//! An edge that has begun and not ended, and its steps and replies.
 
 ghost use Rattle.std.specs.Prelude.{◌≡◌, ◌<◌, ◌+◌, ◌^◌, [], IfOk, IfSome, IsSome, OnErr, false, true, if◌then◌else◌, length};
 ghost use Rattle.plan_image.specs.Code.{code};
@@ -23,8 +23,9 @@ use plan_image::{Image, Instr};
 use std::alloc::{AllocError, Global};
 use std::marker::Model;
 
-/// An edge that has begun and not ended: the place of its next instruction, whether it holds a place of its pool, whether
-/// its command ran, whether it awaits a reply, and its stack. It takes 16 bytes, and its stack 1,032 elsewhere.
+/// An edge that has begun and not ended: the place of its next instruction, whether it holds a job token,
+/// whether its command ran, whether it awaits a reply, and its stack. It takes 16 bytes, and 1,048 more on the
+/// heap for its stack.
 #[derive(Drop)]
 pub(crate) struct Activity {
     pub(crate) place: u32,
@@ -43,14 +44,14 @@ impl Model for Activity {
 }
 
 impl Activity {
-    /// Whether its next instruction takes a place.
+    /// Returns whether its next instruction takes a job token.
     pub(crate) fn is_at_take(&self, image: &Image, edge: u32) -> bool
         ensures { result ≡ at_take image.now edge self.now }
     {
         matches!(image.instr(edge, self.place), Some(Instr::Take))
     }
 
-    /// What the books know of it.
+    /// Returns its phase, which the schedule stores.
     pub(crate) fn phase(&self, image: &Image, edge: u32) -> Phase
         ensures { result ≡ phase_of image.now edge (Active self.now) }
     {
@@ -63,7 +64,7 @@ impl Activity {
         Phase::Going(self.holding)
     }
 
-    /// The same edge without a stack, where it awaits no reply and has no values.
+    /// Returns the same edge without a stack, if it awaits no reply and has no values. Returns None otherwise.
     pub(crate) fn rest(&self) -> Option<Resting>
         ensures { IfSome result (λ r. rested r ≡ self.now) }
     {
@@ -80,7 +81,7 @@ impl Activity {
         })
     }
 
-    /// Goes on at the next place.
+    /// Moves to the next place.
     fn go_on(&mut self)
         requires place { self.old.place + 1 < 2 ^ 32 }
         ensures { self.new ≡ record { place = self.old.place + 1; stack = self.old.stack; holding = self.old.holding; ran = self.old.ran; asked = false } }
@@ -89,7 +90,7 @@ impl Activity {
         self.asked = false;
     }
 
-    /// Calculates on the stack.
+    /// Calculates on the stack, and moves to the next place.
     pub(crate) fn calculate(&mut self, instr: Instr)
         requires place { self.old.place + 1 < 2 ^ 32 }
         requires plain { IsPlain instr }
@@ -100,7 +101,7 @@ impl Activity {
         self.go_on();
     }
 
-    /// Goes on elsewhere.
+    /// Jumps to another place.
     pub(crate) fn jump(&mut self, _image: &Image, _edge: u32, to: u32)
         requires works { Works (jumps self.old (length (code _image.now _edge)) to self.old.stack) }
         ensures { IsMade Turned.Moved self.old self.new (jumps self.old (length (code _image.now _edge)) to self.old.stack) }
@@ -109,7 +110,7 @@ impl Activity {
         self.asked = false;
     }
 
-    /// Goes on elsewhere where a flag is set.
+    /// Pops a flag, and jumps to another place if the flag is true. Otherwise moves to the next place.
     pub(crate) fn branch(&mut self, image: &Image, edge: u32, to: u32)
         requires place { self.old.place + 1 < 2 ^ 32 }
         requires works { Works (branches self.old (length (code image.now edge)) to self.old.stack) }
@@ -123,7 +124,7 @@ impl Activity {
         }
     }
 
-    /// Gives the place back.
+    /// Releases the job token.
     fn release(&mut self)
         requires place { self.old.place + 1 < 2 ^ 32 }
         requires works { Works (if self.old.holding then holds Released self.old false else Wrong PlaceNotHeld) }
@@ -133,7 +134,7 @@ impl Activity {
         self.go_on();
     }
 
-    /// Begins to hold a place.
+    /// Takes a job token.
     fn take(&mut self)
         requires place { self.old.place + 1 < 2 ^ 32 }
         ensures { holds Took self.old true ≡ Goes Took self.new }
@@ -142,7 +143,7 @@ impl Activity {
         self.go_on();
     }
 
-    /// One instruction that reads no slot and takes no memory.
+    /// Executes an instruction that reads no slot and takes no memory.
     fn act(&mut self, image: &Image, edge: u32, _slots: &[Slot], instr: Instr) -> Turned
         requires place { self.old.place + 1 < 2 ^ 32 }
         requires simple { IsSimple instr }
@@ -183,7 +184,7 @@ impl Activity {
         }
     }
 
-    /// One instruction.
+    /// Executes an instruction.
     fn turn(
         &mut self,
         alloc: Global,
@@ -213,7 +214,7 @@ impl Activity {
         }
     }
 
-    /// One step.
+    /// Executes one step.
     #[tactic(auto, using(crate::proofs::Applies::turn_is, crate::proofs::Applies::turn_none))]
     pub(crate) fn step(
         &mut self,
@@ -235,7 +236,7 @@ impl Activity {
         }
     }
 
-    /// What it does by a reply.
+    /// Receives a reply, and acts on it. Returns `Unfit` if the reply doesn't match the question.
     #[tactic(auto, using(crate::proofs::AskingLemmas::heard_unasked, crate::proofs::AskingLemmas::heard_in, crate::proofs::AskingLemmas::heard_out, crate::proofs::AskingLemmas::works_in, crate::proofs::AskingLemmas::sweeps_in, crate::proofs::AskingLemmas::fits_in))]
     pub(crate) fn hear(
         &mut self,

@@ -1,4 +1,4 @@
-//! What edges ask, told without a change.
+//! The questions of edges, found without changing anything.
 
 ghost use Rattle.std.specs.Prelude.{◌≡◌, if◌then◌else◌, option_map};
 ghost use Rattle.plan_verify.specs.Tables.{first_output, outputs_of, path_of, paths_of};
@@ -14,7 +14,7 @@ use crate::resting::Resting;
 use crate::slot::Slot;
 use plan_image::{Image, Instr};
 
-/// Whether an instruction may ask.
+/// Returns whether an instruction may ask a question.
 fn is_asking(instr: Instr) -> bool
     ensures { result ≡ is_asking instr }
 {
@@ -30,7 +30,7 @@ fn is_asking(instr: Instr) -> bool
     }
 }
 
-/// A question for a file's stamp.
+/// Returns the question for a file's stamp.
 fn stat<'a>(image: &'a Image, file: u32) -> Option<Request<'a>>
     ensures { option_map shown result ≡ request_of (asks_of (path_of image.now file) Stat) }
 {
@@ -40,7 +40,7 @@ fn stat<'a>(image: &'a Image, file: u32) -> Option<Request<'a>>
     }
 }
 
-/// The path of an edge's first output.
+/// Returns the path of an edge's first output. Returns None if it has none.
 fn first_output<'a>(image: &'a Image, edge: u32) -> Option<&'a [u8]>
     ensures { option_map (λ path. path.now) result ≡ first_output image.now edge }
 {
@@ -50,7 +50,7 @@ fn first_output<'a>(image: &'a Image, edge: u32) -> Option<&'a [u8]>
     }
 }
 
-/// A question for the record of an edge's first output.
+/// Returns the question for the record's entry of an edge's first output.
 fn recall<'a>(image: &'a Image, edge: u32) -> Option<Request<'a>>
     ensures { option_map shown result ≡ request_of (asks_of (first_output image.now edge) Recall) }
 {
@@ -61,7 +61,7 @@ fn recall<'a>(image: &'a Image, edge: u32) -> Option<Request<'a>>
 }
 
 impl Activity {
-    /// A question for the stamp of the next path that is to be swept.
+    /// Returns the question for the stamp of the next path to be swept. Returns None if none is left.
     #[tactic(auto, using(crate::proofs::RequestLemmas::sweep_finds, crate::proofs::RequestLemmas::sweep_requests, crate::proofs::RequestLemmas::sweep_rests))]
     fn swept_request(&self) -> Option<Request<'_>>
         requires { Works (sweep self.now self.now.stack) }
@@ -74,7 +74,7 @@ impl Activity {
         None
     }
 
-    /// A question to run a command.
+    /// Returns the question that runs a command.
     #[tactic(auto, using(crate::proofs::RequestLemmas::run_finds, crate::proofs::RequestLemmas::run_requests))]
     fn run_request<'a>(&'a self, image: &'a Image, edge: u32) -> Option<Request<'a>>
         requires { Works (if self.now.holding then runs (paths_of image.now (outputs_of image.now edge)) self.now.stack else Wrong PlaceNotHeld) }
@@ -86,7 +86,7 @@ impl Activity {
         Some(Request::Run(command, outputs))
     }
 
-    /// A question for a depfile.
+    /// Returns the question for a depfile.
     #[tactic(auto, using(crate::proofs::RequestLemmas::deps_finds, crate::proofs::RequestLemmas::deps_requests))]
     fn deps_request(&self) -> Option<Request<'_>>
         requires { Works (reads self.now.stack) }
@@ -95,7 +95,7 @@ impl Activity {
         Some(Request::Deps(self.stack.text_at(0)))
     }
 
-    /// A question to keep a record.
+    /// Returns the question that stores an entry in the record.
     #[tactic(auto, using(crate::proofs::RequestLemmas::keep_text, crate::proofs::RequestLemmas::keep_stamp, crate::proofs::RequestLemmas::keep_swept, crate::proofs::RequestLemmas::keep_requests))]
     fn keep_request<'a>(&'a self, image: &'a Image, edge: u32) -> Option<Request<'a>>
         requires { Works (keeps (first_output image.now edge) self.now.stack) }
@@ -112,7 +112,7 @@ impl Activity {
         }
     }
 
-    /// What an instruction asks that isn't wrong.
+    /// Returns the question of an instruction, whose turn must not be wrong. Returns None if it asks nothing.
     #[tactic(auto, using(crate::proofs::RequestLemmas::silent))]
     fn request_at<'a>(
         &'a self,
@@ -138,7 +138,7 @@ impl Activity {
         }
     }
 
-    /// What the next step asks that isn't wrong.
+    /// Returns the question of the next step, which must not be wrong. Returns None if it asks nothing.
     #[tactic(auto, using(crate::proofs::Applies::turn_is, crate::proofs::Applies::turn_none))]
     pub(crate) fn request<'a>(
         &'a self,
@@ -157,7 +157,7 @@ impl Activity {
 }
 
 impl Resting {
-    /// What an instruction asks of an edge that has no values.
+    /// Returns the question of an instruction of an edge that has no values. Returns None if it asks nothing.
     #[tactic(auto, using(crate::proofs::RequestLemmas::silent, crate::proofs::RequestLemmas::run_bare, crate::proofs::RequestLemmas::keep_bare))]
     fn request_at<'a>(
         self,
@@ -181,7 +181,7 @@ impl Resting {
         }
     }
 
-    /// What the next step asks that isn't wrong.
+    /// Returns the question of the next step, which must not be wrong. Returns None if it asks nothing.
     #[tactic(auto, using(crate::proofs::Applies::turn_is, crate::proofs::Applies::turn_none))]
     pub(crate) fn request<'a>(
         self,

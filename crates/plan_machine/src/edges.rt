@@ -1,4 +1,4 @@
-//! What the machine reads of an image's edges, by their numbers.
+//! Access to an image's edges by their numbers.
 
 ghost use Rattle.std.specs.Prelude.{◌≡◌, length};
 ghost use Rattle.plan_verify.specs.Tables.{outputs_of, pool_of, waits_of};
@@ -6,14 +6,14 @@ ghost use Rattle.plan_machine.specs.Total.{has_command};
 
 use plan_image::{Parts, Sort};
 
-/// How many edges there are.
+/// Returns the number of edges.
 pub(crate) fn edge_count(parts: &Parts) -> usize
     ensures { result ≡ length parts.now.edges }
 {
     parts.edges.len()
 }
 
-/// What an edge waits for.
+/// Returns the edges that an edge waits for. Returns none if there is no such edge.
 pub(crate) fn waits(parts: &Parts, edge: u32) -> &[u32]
     ensures { result.now ≡ waits_of parts.now edge }
 {
@@ -23,7 +23,7 @@ pub(crate) fn waits(parts: &Parts, edge: u32) -> &[u32]
     }
 }
 
-/// The pool of an edge.
+/// Returns the pool of an edge. Returns None if it has none or there is no such edge.
 pub(crate) fn pool(parts: &Parts, edge: u32) -> Option<u32>
     ensures { result ≡ pool_of parts.now edge }
 {
@@ -33,7 +33,7 @@ pub(crate) fn pool(parts: &Parts, edge: u32) -> Option<u32>
     }
 }
 
-/// The files that an edge makes.
+/// Returns the files that an edge creates. Returns none if there is no such edge.
 pub(crate) fn outputs(parts: &Parts, edge: u32) -> &[u32]
     ensures { result.now ≡ outputs_of parts.now edge }
 {
@@ -43,7 +43,7 @@ pub(crate) fn outputs(parts: &Parts, edge: u32) -> &[u32]
     }
 }
 
-/// Whether an edge has a command.
+/// Returns whether an edge has a command.
 pub(crate) fn has_command(parts: &Parts, edge: u32) -> bool
     ensures { result ≡ has_command parts.now edge }
 {

@@ -1,4 +1,4 @@
-//! Whether two runs have ended alike.
+//! Comparison of the ends of two runs.
 
 ghost use Rattle.std.specs.Prelude.{◌≡◌, ◌≤◌, [], IfErr, IfOk, length};
 ghost use Rattle.plan_machine.specs.Ends.{EndsIn, IsEndFault, NeverTellsApart, TellsEnds};
@@ -14,7 +14,7 @@ use crate::state::State;
 use plan_verify::Verified;
 use std::alloc::Global;
 
-/// The state that events reach from the opening for the image's defaults.
+/// Returns the state that the events reach from the opening state for the image's defaults.
 fn end_of(
     alloc: Global,
     image: &Verified,
@@ -31,13 +31,15 @@ fn end_of(
     }
 }
 
-/// Whether two lists of events, each from the opening for the image's defaults, lead to states that have both ended,
-/// with the same outcomes and the same slots; a skipped edge may name any edge. Where any number of failures is borne
-/// and each edge got the same replies in both lists, ended lists are the same.
+/// Returns whether two lists of events lead to states that have both ended, with the same outcomes and the same
+/// slots. Each list begins at the opening state for the image's defaults. Two outcomes `Skipped` are the same
+/// even if they name different edges. If there is no failure limit and each edge got the same replies in both
+/// lists, the result is true whenever both have ended.
 ///
 /// # Errors
-/// With the place of the event, counted through the first list and then the second, before which all ran: `NotEnabled`
-/// where it isn't enabled; `Memory`.
+///
+/// An error holds the index of the event that was refused, counted through the first list and then the second.
+/// The events before it were applied. `NotEnabled` if the event isn't enabled; `Memory` if memory runs out.
 pub fn same_end(
     alloc: Global,
     image: &Verified,

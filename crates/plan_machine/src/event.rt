@@ -1,4 +1,4 @@
-//! What may happen next. An edge is named by its number in the image.
+//! Events. An edge is named by its number in the image.
 
 ghost use Rattle.std.specs.Prelude.{◌≡◌, IfOk};
 ghost use Rattle.plan_machine.specs.Edges.{edge_of};
@@ -6,23 +6,23 @@ ghost use Rattle.plan_machine.specs.Edges.{edge_of};
 use crate::reply::Reply;
 use std::alloc::AllocError;
 
-/// What may happen next: 24 bytes.
+/// An event, which may be the next one of a run. It takes 24 bytes.
 #[derive(Drop)]
 pub enum Event {
     /// An edge begins.
     Start(u32),
-    /// An edge is skipped over one that it waits for (the second).
+    /// An edge is skipped because of an edge that it waits for (the second number).
     Skip(u32, u32),
-    /// An edge is stopped, since as many failed as are borne.
+    /// An edge is stopped, because the failure limit has been reached.
     Stop(u32),
     /// An edge makes its next step.
     Step(u32),
-    /// An edge hears a reply to what it asked.
+    /// An edge receives a reply to its question.
     Reply(u32, Reply),
 }
 
 impl Event {
-    /// The edge that it changes.
+    /// Returns the edge that the event changes.
     pub(crate) fn edge(&self) -> u32
         ensures { result ≡ edge_of self.now }
     {
@@ -35,7 +35,7 @@ impl Event {
         }
     }
 
-    /// The same event. It shares what its reply brings.
+    /// Returns a copy, which shares the contents of its reply.
     pub fn copy(&self) -> Result<Event, AllocError>
         ensures { IfOk result (λ e. e ≡ self.now) }
     {

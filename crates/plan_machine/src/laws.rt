@@ -1,4 +1,4 @@
-//! Laws over the definitions: what holds of every well-shaped image, options, targets and events.
+//! Laws about the definitions, for every well-shaped image and all options, targets and events.
 
 ghost use Rattle.plan_machine.specs.Agreement.{InterleavingsAgree};
 ghost use Rattle.plan_machine.specs.Depfile.{depfile};
@@ -15,7 +15,7 @@ use plan_verify::{
     tables_are_in_range,
 };
 
-/// No event of a reached state goes wrong.
+/// States that no event of a reached state goes wrong.
 pub fn never_wrong()
     ensures { NeverWrong }
 {
@@ -27,8 +27,9 @@ pub fn never_wrong()
     tables_are_in_range();
 }
 
-/// The marks of every run are orderly: an edge starts once, after all that it waits for ended well, and at each position
-/// no more edges hold a place than there are jobs, nor more of a pool than its depth.
+/// States that the marks of every run are orderly. An edge starts at most once, and after all edges that it
+/// waits for have succeeded. At each position, the number of edges that hold a job token is at most the number
+/// of jobs, and for each pool at most its depth.
 pub fn marks_are_orderly()
     ensures { MarksAreOrderly }
 {
@@ -40,7 +41,7 @@ pub fn marks_are_orderly()
     tables_are_in_range();
 }
 
-/// Each reached state has ended, can go on, or awaits a reply.
+/// States that each reached state has ended, can go on, or awaits a reply.
 pub fn never_stuck()
     ensures { NeverStuck }
 {
@@ -52,7 +53,8 @@ pub fn never_stuck()
     tables_are_in_range();
 }
 
-/// A run has no more events than the image's budget and the bytes of dependencies that its replies bring.
+/// States that the number of events in a run is at most the image's budget plus the number of dependency bytes
+/// in its replies.
 pub fn stays_in_budget()
     ensures { StaysInBudget }
 {
@@ -64,8 +66,9 @@ pub fn stays_in_budget()
     tables_are_in_range();
 }
 
-/// Where any number of failures is borne, two ended runs of one image from the same targets, in which each edge got the
-/// same replies, have the same outcomes and the same slots; a skipped edge may name any edge, and the jobs may differ.
+/// States that two ended runs of one image agree if there is no failure limit, the targets are the same, and
+/// each edge got the same replies. They have the same outcomes and the same slots. Two outcomes `Skipped` may
+/// name different edges, and the numbers of jobs may differ.
 pub fn interleavings_agree()
     ensures { InterleavingsAgree }
 {
@@ -77,7 +80,8 @@ pub fn interleavings_agree()
     tables_are_in_range();
 }
 
-/// Each edge of a run ran by itself: from the slots that its waits left it, by the replies that it got, in their order.
+/// States that each edge of a run ran by itself: from the slots that its waits left, by the replies that it
+/// got, in their order.
 pub fn each_ran_by_itself()
     ensures { EachRanByItself }
 {
@@ -90,7 +94,7 @@ pub fn each_ran_by_itself()
     tables_are_in_range();
 }
 
-/// What an edge that ended well left in its slots stays there.
+/// States that the slots set by an edge that succeeded keep their values.
 pub fn slots_stay()
     ensures { SlotsStay }
 {
@@ -102,7 +106,8 @@ pub fn slots_stay()
     tables_are_in_range();
 }
 
-/// A depfile has at least two bytes for each of its paths: what `stays_in_budget` asks of the meaning of depfiles.
+/// States that a depfile has at least two bytes for each of its paths, which `stays_in_budget` requires of the
+/// meaning of depfiles.
 pub fn depfiles_are_frugal()
     ensures { IsFrugal depfile }
 {

@@ -1,17 +1,20 @@
-//! Many edges at once: which events are enabled in a state of an image, and what each does.
+//! Runs many edges at once: defines which events are enabled in a state of an image, and what each event does.
 //!
-//! - `State`: where each edge of an image stands, with books of what can happen next. `open` makes one, `apply` applies an
-//!   `Event`, `pick` finds one that needs no reply, `request` and `asks` tell what is asked, a `Request`; `outcome`,
-//!   `ended`, `total`. `Refused`: why a call on it is refused. `replay`: a whole run in one call. `same_end`: whether two
-//!   runs have ended alike.
-//! - `Event`, `Reply` with `Recorded` and `Depfile`: what may happen next, and answers from outside. `Mark`: what an event
-//!   did. `Outcome`: how an edge came out. `Cause` (of plan_verify): why it failed.
-//! - `Options`: how many jobs there are, and how many failures are borne.
-//! - The laws say what holds of every run of an image that is well shaped: it never goes wrong (`never_wrong`), its marks
-//!   are orderly (`marks_are_orderly`), it never gets stuck (`never_stuck`), its events are bounded (`stays_in_budget`).
-//!   Where any number of failures is borne, the order of events doesn't matter (`interleavings_agree`).
+//! - `State` holds the status of each edge of an image, and a schedule of the events that can happen next.
+//!   `open` creates a state, `apply` applies an `Event`, and `pick` finds an event that needs no reply.
+//!   `request` and `asks` return a `Request`: the question that an edge is waiting on, or that an event would
+//!   ask. `outcome`, `ended` and `total` describe the progress. `Refused` is the reason why a call is refused.
+//!   `replay` applies the events of a whole run. `same_end` compares the ends of two runs.
+//! - `Event` is what may happen next, and `Reply`, with `Recorded` and `Depfile`, is an answer from outside.
+//!   `Mark` is the effect of an event. `Outcome` is the end of an edge, and `Cause` (of plan_verify) is the
+//!   reason why it failed.
+//! - `Options` has the number of jobs and the failure limit.
+//! - The laws are about every run of a well-shaped image. It never goes wrong (`never_wrong`), its marks are
+//!   orderly (`marks_are_orderly`), it never gets stuck (`never_stuck`), and its number of events is bounded
+//!   (`stays_in_budget`). If there is no failure limit, the order of events doesn't matter
+//!   (`interleavings_agree`).
 //!
-//! docs/rules/machine.md has the rules one by one.
+//! docs/rules/machine.md lists the rules.
 #![tactic(auto)]
 
 mod activity;
@@ -39,7 +42,7 @@ mod stack;
 mod state;
 mod status;
 mod strides;
-mod sweeping;
+mod swept_row;
 mod turned;
 mod turns;
 mod wanted;

@@ -1,6 +1,6 @@
-//! Where each edge stands and what each slot has, without the books that are kept of it.
+//! The statuses of edges and the values of slots, without the schedule.
 
-ghost use Rattle.std.specs.Prelude.{◌≡◌, ◌≢◌, ◌<◌, ◌^◌, ◌&&◌, Err, IfNone, IfOk, IfSome, IsSome, None, Ok, OnErr, Option, Some, length, map, option_map, replicate, slice_get};
+ghost use Rattle.std.specs.Prelude.{◌≡◌, ◌≢◌, ◌<◌, ◌^◌, ◌&&◌, Err, IfOk, IfSome, IsSome, None, Ok, OnErr, Option, Some, length, map, option_map, replicate, slice_get};
 ghost use Rattle.std.specs.List.{list_all};
 ghost use Rattle.plan_image.specs.Code.{code};
 ghost use Rattle.plan_verify.specs.Members.{is_member};
@@ -15,7 +15,6 @@ ghost use Rattle.plan_machine.specs.Kept.{phase_in};
 ghost use Rattle.plan_machine.specs.Places.{is_spent};
 ghost use Rattle.plan_machine.specs.Requests.{asked_at, shown, step_asks};
 ghost use Rattle.plan_machine.specs.Runs.{at_first};
-ghost use Rattle.plan_machine.specs.Rushes.{HasRushed, stride_mark};
 ghost use Rattle.plan_machine.specs.State.{Active, is_ill, is_well, outcome_at, passes, stands, with_status};
 ghost use Rattle.plan_machine.specs.Depfile.{depfile};
 ghost use Rattle.plan_machine.specs.Step.{NotEnabled, answer_of, step};
@@ -36,7 +35,7 @@ use plan_image::{Image, Parts};
 use std::alloc::{AllocError, Global};
 use std::marker::Model;
 
-/// A running image: the options that it was opened with, where each edge stands, and what each slot has.
+/// A running image: the options that it was opened with, the status of each edge, and the value of each slot.
 #[derive(Drop)]
 pub(crate) struct Machine {
     pub(crate) options: Options,
@@ -52,7 +51,7 @@ impl Model for Machine {
     ghost view = { λ s. record { limits = s.options; now = record { edges = s.edges.items; slots = s.slots.items } } };
 }
 
-/// Where each edge stands at first.
+/// Returns the status of each edge at the start.
 fn first_statuses(alloc: Global, wanted: &[bool]) -> Result<Vec<Status>, AllocError>
     ensures { IfOk result (λ edges. edges.items ≡ map at_first wanted.now) }
 {
@@ -63,7 +62,7 @@ fn first_statuses(alloc: Global, wanted: &[bool]) -> Result<Vec<Status>, AllocEr
     Ok(edges)
 }
 
-/// Slots that aren't set.
+/// Returns a list of slots that aren't set.
 fn unset_slots(alloc: Global, len: usize) -> Result<Vec<Slot>, AllocError>
     ensures { IfOk result (λ slots. slots.items ≡ replicate {A = Option Item} len None) }
 {
@@ -75,7 +74,7 @@ fn unset_slots(alloc: Global, len: usize) -> Result<Vec<Slot>, AllocError>
 }
 
 impl Machine {
-    /// An image before any event, with these edges wanted and so many slots.
+    /// Creates the machine before any event, with these edges wanted and this number of slots.
     pub(crate) fn open(
         alloc: Global,
         options: Options,
@@ -91,7 +90,7 @@ impl Machine {
         })
     }
 
-    /// How many edges may hold a place at once.
+    /// Returns the most edges that may hold a job token at once.
     pub(crate) fn jobs(&self) -> u32
         ensures same { result ≡ self.now.limits.jobs }
         ensures some { 0 < result }
@@ -99,14 +98,14 @@ impl Machine {
         self.options.jobs() as u32
     }
 
-    /// How many edges may fail before no more are begun; 0 stands for any number.
+    /// Returns the failure limit: the number of failures after which no more edges begin. 0 means no limit.
     pub(crate) fn keep(&self) -> u32
         ensures { result ≡ self.now.limits.keep }
     {
         self.options.keep()
     }
 
-    /// Whether an edge hasn't begun.
+    /// Returns whether an edge hasn't begun.
     pub(crate) fn is_unbegun(&self, edge: u32) -> bool
         ensures { result ≡ passes is_unbegun (slice_get self.now.now.edges edge) }
     {
@@ -116,7 +115,7 @@ impl Machine {
         }
     }
 
-    /// Whether an edge ended, and not well.
+    /// Returns whether an edge failed, was skipped or was stopped.
     pub(crate) fn is_ill(&self, edge: u32) -> bool
         ensures { result ≡ stands is_ill self.now.now edge }
     {
@@ -126,7 +125,7 @@ impl Machine {
         }
     }
 
-    /// Whether an edge may be stopped once as many failed as are borne.
+    /// Returns whether an edge may be stopped when the failure limit has been reached.
     pub(crate) fn is_before_run(&self, image: &Image, edge: u32) -> bool
         ensures { result ≡ may_stop_by image.now edge (slice_get self.now.now.edges edge) }
     {
@@ -136,7 +135,7 @@ impl Machine {
         }
     }
 
-    /// What the books know of where an edge stands.
+    /// Returns the phase of an edge, which the schedule stores.
     pub(crate) fn phase(&self, image: &Image, edge: u32) -> Phase
         ensures { result ≡ phase_in image.now edge (slice_get self.now.now.edges edge) }
     {
@@ -146,7 +145,7 @@ impl Machine {
         }
     }
 
-    /// Whether a target needs an edge.
+    /// Returns whether a target needs an edge.
     fn is_wanted(&self, edge: u32) -> bool
         ensures { result ≡ stands is_wanted self.now.now edge }
     {
@@ -156,7 +155,7 @@ impl Machine {
         }
     }
 
-    /// How many edges have a command and are wanted.
+    /// Returns the number of wanted edges that have a command.
     pub(crate) fn total(&self, parts: &Parts) -> u64
         requires { length parts.now.edges < 2 ^ 32 }
         ensures { result ≡ total_of parts.now self.now.now }
@@ -170,7 +169,7 @@ impl Machine {
         total
     }
 
-    /// How an edge came out, where it has an outcome.
+    /// Returns the outcome of an edge. Returns None if it has none yet.
     pub(crate) fn outcome(&self, edge: u32) -> Option<Outcome>
         ensures { result ≡ outcome_at (slice_get self.now.now.edges edge) }
     {
@@ -180,7 +179,7 @@ impl Machine {
         }
     }
 
-    /// What an edge asked that awaits a reply.
+    /// Returns the question of an edge that awaits a reply. Returns None for other edges.
     pub(crate) fn asked<'a>(&'a self, image: &'a Image, edge: u32) -> Option<Request<'a>>
         requires { (l : Local) → slice_get self.now.now.edges edge ≡ Some (Active l) → Works (turn image.now edge self.now.now.slots l) }
         ensures { option_map shown result ≡ asked_at image.now self.now.now edge }
@@ -191,7 +190,7 @@ impl Machine {
         }
     }
 
-    /// What an edge's next step asks.
+    /// Returns the question of an edge's next step. Returns None if it asks nothing.
     pub(crate) fn step_request<'a>(&'a self, image: &'a Image, edge: u32) -> Option<Request<'a>>
         requires { (l : Local) → slice_get self.now.now.edges edge ≡ Some (Active l) → Works (turn image.now edge self.now.now.slots l) }
         ensures { option_map shown result ≡ step_asks image.now edge self.now.now.slots (slice_get self.now.now.edges edge) }
@@ -202,7 +201,7 @@ impl Machine {
         }
     }
 
-    /// An edge stands otherwise.
+    /// Sets the status of an edge.
     fn put(&mut self, edge: u32, status: Status)
         requires { edge < length self.old.now.edges }
         ensures { self.new ≡ record { limits = self.old.limits; now = with_status self.old.now edge status } }
@@ -210,7 +209,7 @@ impl Machine {
         self.edges[edge as usize] = status;
     }
 
-    /// Starts an edge that may be started.
+    /// Starts an edge if `may` is true.
     #[tactic(auto, using(crate::proofs::Applies::start_is, crate::proofs::Applies::start_not, crate::proofs::Applies::start_within, crate::proofs::RefusalLemmas::start_can))]
     pub(crate) fn start(&mut self, _image: &Image, edge: u32, may: bool) -> Result<Mark, Refused>
         requires { may ≡ (passes is_unbegun (slice_get self.old.now.edges edge) && list_all (stands is_well self.old.now) (waits_of _image.now edge)) }
@@ -225,7 +224,7 @@ impl Machine {
         Ok(Mark::Started(edge))
     }
 
-    /// Skips an edge that may be skipped.
+    /// Skips an edge if `may` is true.
     #[tactic(auto, using(crate::proofs::Applies::skip_is, crate::proofs::Applies::skip_not, crate::proofs::Applies::skip_within))]
     pub(crate) fn skip(
         &mut self,
@@ -245,7 +244,7 @@ impl Machine {
         Ok(Mark::Skipped(edge, wait))
     }
 
-    /// Stops an edge that may be stopped.
+    /// Stops an edge if `may` is true.
     #[tactic(auto, using(crate::proofs::Applies::stop_is, crate::proofs::Applies::stop_not, crate::proofs::Applies::stop_within))]
     pub(crate) fn stop(&mut self, _image: &Image, edge: u32, may: bool) -> Result<Mark, Refused>
         requires { may ≡ (is_spent self.old.limits self.old.now && may_stop_by _image.now edge (slice_get self.old.now.edges edge)) }
@@ -259,7 +258,7 @@ impl Machine {
         Ok(Mark::Stopped(edge))
     }
 
-    /// Lets the stack of an edge go that awaits no reply and has no values.
+    /// Frees the stack of an edge that awaits no reply and has no values.
     pub(crate) fn rest(&mut self, edge: u32)
         ensures { self.new ≡ self.old }
     {
@@ -268,7 +267,7 @@ impl Machine {
         }
     }
 
-    /// Makes a turn of an edge that is under way.
+    /// Makes one turn of a running edge.
     fn make_turn(&mut self, alloc: Global, image: &Image, edge: u32) -> Result<Turned, AllocError>
         requires short { length (code image.now edge) < 2 ^ 32 }
         requires active { (l : Local) × (slice_get self.old.now.edges edge ≡ Some (Active l)) × CanTurn image.now self.old.now.slots edge l }
@@ -279,7 +278,7 @@ impl Machine {
         status.step(alloc, image, edge, &mut self.slots)
     }
 
-    /// Whether an edge that is under way ran its command.
+    /// Returns whether the command of a running edge has run.
     fn has_run(&self, edge: u32) -> bool
         ensures { (l : Local) → slice_get self.now.now.edges edge ≡ Some (Active l) → result ≡ l.ran }
     {
@@ -289,7 +288,7 @@ impl Machine {
         }
     }
 
-    /// An edge ends well.
+    /// Ends an edge successfully.
     fn finish(&mut self, edge: u32) -> Mark
         requires { edge < length self.old.now.edges }
         ensures { Settles self.old edge turned.Ended result self.new }
@@ -300,7 +299,7 @@ impl Machine {
         Mark::Ended(edge, ran)
     }
 
-    /// What becomes of an edge that made a turn.
+    /// Updates the status of an edge after a turn, and returns the mark.
     fn settle(&mut self, edge: u32, turned: Turned) -> Mark
         requires { edge < length self.old.now.edges }
         ensures { Settles self.old edge turned result self.new }
@@ -318,7 +317,7 @@ impl Machine {
         }
     }
 
-    /// One step of an edge that may make it.
+    /// Makes one step of an edge if `may` is true.
     #[tactic(auto, using(crate::proofs::Applies::step_is, crate::proofs::Applies::step_not, crate::proofs::Applies::step_active, crate::proofs::Applies::settle_within, crate::proofs::RefusalLemmas::step_can))]
     pub(crate) fn step(
         &mut self,
@@ -340,36 +339,7 @@ impl Machine {
         Ok(self.settle(edge, turned))
     }
 
-    /// Makes a step of an edge that is under way, if it makes it by itself and memory isn't wanting for it.
-    fn make_stride(&mut self, alloc: Global, image: &Image, edge: u32) -> Option<Turned>
-        requires short { length (code image.now edge) < 2 ^ 32 }
-        requires active { (l : Local) × (slice_get self.old.now.edges edge ≡ Some (Active l)) × CanTurn image.now self.old.now.slots edge l }
-        ensures some { IfSome result (λ r. HasRushed image.now self.old edge r self.new) }
-        ensures none { IfNone result (self.new ≡ self.old) }
-    {
-        let status = &mut self.edges[edge as usize];
-        status.stride(alloc, image, edge, &mut self.slots)
-    }
-
-    /// One step of an edge, if it makes it by itself and memory isn't wanting for it, and whether it asked: such a step looks
-    /// at no other edge.
-    #[tactic(auto, using(crate::proofs::RushLemmas::stride_applied))]
-    pub(crate) fn stride(&mut self, alloc: Global, image: &Image, edge: u32) -> Option<bool>
-        requires short { length (code image.now edge) < 2 ^ 32 }
-        requires turns { (l : Local) → slice_get self.old.now.edges edge ≡ Some (Active l) → CanTurn image.now self.old.now.slots edge l }
-        ensures some { IfSome result (λ asked. Applied image.now self.old (Step edge) (Ok (stride_mark edge asked)) self.new) }
-        ensures none { IfNone result (self.new ≡ self.old) }
-    {
-        if !self.is_under_way(edge) {
-            return None;
-        }
-        match self.make_stride(alloc, image, edge) {
-            Some(turned) => Some(turned.asks()),
-            None => None,
-        }
-    }
-
-    /// Whether an edge is under way.
+    /// Returns whether an edge has begun and not ended.
     pub(crate) fn is_under_way(&self, edge: u32) -> bool
         ensures { result ≡ passes is_active (slice_get self.now.now.edges edge) }
     {
@@ -379,7 +349,7 @@ impl Machine {
         }
     }
 
-    /// Gives a reply to an edge that is under way.
+    /// Passes a reply to a running edge.
     fn make_answer(
         &mut self,
         alloc: Global,
@@ -397,7 +367,8 @@ impl Machine {
         status.hear(alloc, image, edge, reply)
     }
 
-    /// What becomes of an edge that heard a reply.
+    /// Updates the status of an edge after a reply, and returns the mark. Returns an error if the reply doesn't
+    /// match the question.
     fn settle_reply(&mut self, edge: u32, heard: Heard) -> Result<Mark, Refused>
         requires { edge < length self.old.now.edges }
         ensures { SettlesReply self.old edge heard result self.new }
@@ -412,7 +383,7 @@ impl Machine {
         }
     }
 
-    /// A reply to an edge.
+    /// Gives a reply to an edge.
     #[tactic(auto, using(crate::proofs::HearingLemmas::hear_not, crate::proofs::HearingLemmas::hear_active, crate::proofs::HearingLemmas::reply_within))]
     pub(crate) fn hear(
         &mut self,

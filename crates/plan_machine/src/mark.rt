@@ -1,20 +1,20 @@
-//! What events did, and how edges came out. An edge is named by its number in the image.
+//! Marks, which are the effects of events, and outcomes of edges. An edge is named by its number in the image.
 
 use plan_books::Phase;
 use plan_verify::Cause;
 
-/// How an edge came out.
+/// The outcome of an edge.
 #[derive(Clone, Copy, Debug, PartialEq, Eq)]
 pub enum Outcome {
-    /// It ended well, and ran no command.
+    /// It succeeded without running a command.
     Clean,
-    /// It ended well, and its command ran.
+    /// It succeeded, and its command ran.
     Ran,
-    /// It failed, and why.
+    /// It failed. Holds the cause.
     Failed(Cause),
-    /// It was skipped over this edge, for which it waits.
+    /// It was skipped. Holds the edge because of which it was skipped, for which it waits.
     Skipped(u32),
-    /// It was stopped, since as many failed as are borne.
+    /// It was stopped, because the failure limit had been reached.
     Stopped,
     /// No target needs it.
     NotWanted,
@@ -24,7 +24,7 @@ impl Outcome {
     ghost use Rattle.std.specs.Prelude.{◌≡◌};
     ghost use Rattle.plan_machine.specs.Kept.{phase_over};
 
-    /// What the books know of an edge that came out so.
+    /// Returns the phase of an edge that has this outcome.
     pub(crate) fn phase(self) -> Phase
         ensures { result ≡ phase_over self }
     {
@@ -37,27 +37,27 @@ impl Outcome {
     }
 }
 
-/// What an event did. The first number is that of the edge.
+/// The effect of an event. The first number is that of the edge.
 #[derive(Clone, Copy, Debug, PartialEq, Eq)]
 pub enum Mark {
     /// It began.
     Started(u32),
-    /// It was skipped over another (the second).
+    /// It was skipped because of another edge (the second number).
     Skipped(u32, u32),
     /// It was stopped.
     Stopped(u32),
-    /// It took a place.
+    /// It took a job token.
     Took(u32),
-    /// It gave its place back.
+    /// It released its job token.
     Released(u32),
-    /// It asked.
+    /// It asked a question.
     Asked(u32),
     /// It made any other step.
     Moved(u32),
-    /// It heard a reply, and goes on.
+    /// It received a reply, and goes on.
     Answered(u32),
-    /// It ended well, and whether its command ran.
+    /// It succeeded. The flag says whether its command ran.
     Ended(u32, bool),
-    /// It failed, and why.
+    /// It failed. Holds the cause.
     Failed(u32, Cause),
 }

@@ -1,10 +1,10 @@
-//! How an image is run.
+//! The options of a run.
 
 ghost use Rattle.std.specs.Prelude.{◌≡◌, ◌<◌, ◌≤◌, ◌&&◌, Some, None, if◌then◌else◌, nat_lt, nat_le};
 
 use std::marker::Model;
 
-/// How many edges may hold a place at once (1 to 64), and how many may fail before no more are begun (0: any number).
+/// The most edges that may hold a job token at once (1 to 64), and the failure limit (0 means no limit).
 #[derive(Clone, Copy, Debug)]
 pub struct Options {
     jobs: u8,
@@ -25,7 +25,7 @@ impl Model for Options {
 }
 
 impl Options {
-    /// Options; none where the jobs aren't 1 to 64. That limit is this project's own choice.
+    /// Creates options. Returns None if `jobs` isn't 1 to 64. This limit is the project's own choice.
     pub fn new(jobs: u8, keep: u32) -> Option<Options>
         ensures { result ≡ (if nat_lt 0 jobs && nat_le jobs 64 then Some (record { jobs = jobs; keep = keep }) else None) }
     {
@@ -36,7 +36,7 @@ impl Options {
         }
     }
 
-    /// How many edges may hold a place at once.
+    /// Returns the most edges that may hold a job token at once.
     pub fn jobs(&self) -> u8
         ensures same { result ≡ self.now.jobs }
         ensures some { 0 < result }
@@ -45,7 +45,7 @@ impl Options {
         self.jobs
     }
 
-    /// How many edges may fail before no more are begun; 0 stands for any number.
+    /// Returns the failure limit. 0 means no limit.
     pub fn keep(&self) -> u32
         ensures { result ≡ self.now.keep }
     {

@@ -1,4 +1,4 @@
-//! What can happen next: without a reply, or by one.
+//! The events that can happen next: those that need no reply, and the questions that await one.
 
 ghost use Rattle.std.specs.Prelude.{◌≡◌, ◌⊎◌, ℕ, IfNone, IfSome, IsSome, Some, option_map, slice_get, true};
 ghost use Rattle.plan_verify.specs.Turn.{Local};
@@ -19,7 +19,7 @@ use plan_verify::{
     tables_are_in_range,
 };
 
-/// The event of what the books pick.
+/// Converts a pick of the schedule to an event.
 fn event_of(pick: Pick) -> Event
     ensures { result ≡ event_of pick }
 {
@@ -32,8 +32,9 @@ fn event_of(pick: Pick) -> Event
 }
 
 impl State {
-    /// A start, a skip, a stop or a step that is enabled: a step where there is one. None exactly where none is enabled;
-    /// then the run has ended, or an edge awaits a reply. It takes no memory, and as long for any image.
+    /// Returns an enabled event that needs no reply. It is a step if one is enabled, and else a start, a skip
+    /// or a stop. Returns None if and only if no such event is enabled. Then the run has ended, or an edge
+    /// awaits a reply. It takes no memory and constant time.
     pub fn pick(&self, image: &Verified) -> Option<Event>
         requires { IsStateOf image.now self.now }
         ensures enabled { IfSome result (λ event. IsEnabled image.now self.now.going event) }
@@ -57,7 +58,7 @@ impl State {
         }
     }
 
-    /// What an edge asked, exactly where it awaits a reply. It takes no memory.
+    /// Returns the question of an edge if and only if it awaits a reply. It takes no memory.
     pub fn request<'a>(&'a self, image: &'a Verified, edge: u32) -> Option<Request<'a>>
         requires { IsStateOf image.now self.now }
         ensures asked { option_map shown result ≡ asked_at image.now self.now.going.now edge }
@@ -73,7 +74,7 @@ impl State {
         self.machine.asked(tables, edge)
     }
 
-    /// What an event would ask, by where its edge stands.
+    /// Returns the question that an event would ask, given the status of its edge.
     fn asked_by<'a>(&'a self, image: &'a Image, event: &Event) -> Option<Request<'a>>
         requires kept { AreKept image.now self.now.going.now self.now.plan self.now.books }
         requires turns { (e : ℕ) (l : Local) → slice_get self.now.going.now.edges e ≡ Some (Active l) → CanTurn image.now self.now.going.now.slots e l }
@@ -90,7 +91,8 @@ impl State {
         }
     }
 
-    /// What an event would ask, exactly where it is enabled and asks; steps alone do. It takes no memory.
+    /// Returns the question that an event would ask. Returns None if the event isn't enabled or asks nothing.
+    /// Only steps ask. It takes no memory.
     pub fn asks<'a>(&'a self, image: &'a Verified, event: &Event) -> Option<Request<'a>>
         requires { IsStateOf image.now self.now }
         ensures asks { IfSome result (λ r. Asks image.now self.now.going event.now (shown r)) }

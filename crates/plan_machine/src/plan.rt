@@ -1,4 +1,4 @@
-//! What is fixed of an image while it runs, as the books have it.
+//! The fixed data of an image, as the schedule uses them.
 
 ghost use Rattle.std.specs.Prelude.{◌≡◌, ◌<◌, ◌^◌, ◌∷◌, ℕ, IfOk, length, map};
 ghost use Rattle.plan_image.specs.declared.image.Pool.{Pool as Row};
@@ -14,7 +14,7 @@ use plan_image::{Parts, Pool};
 use plan_verify::tables_are_in_range;
 use std::alloc::{AllocError, Global};
 
-/// What each edge waits for.
+/// Returns the waits of each edge.
 fn all_waits(alloc: Global, parts: &Parts) -> Result<Vec<Numbers>, AllocError>
     requires { length parts.now.edges < 2 ^ 32 }
     ensures { IfOk result (λ v. v.items ≡ first_of (waits_of parts.now) (length parts.now.edges)) }
@@ -27,7 +27,7 @@ fn all_waits(alloc: Global, parts: &Parts) -> Result<Vec<Numbers>, AllocError>
     Ok(rows)
 }
 
-/// The number of a pool, counted from 1; 0 for none.
+/// Returns the number of a pool, counted from 1. Returns 0 for no pool.
 fn pool_number(pool: Option<u32>) -> u32
     requires { pool_number pool < 2 ^ 32 }
     ensures { result ≡ pool_number pool }
@@ -38,7 +38,7 @@ fn pool_number(pool: Option<u32>) -> u32
     }
 }
 
-/// The number of each edge's pool.
+/// Returns the number of each edge's pool.
 fn all_pools(alloc: Global, parts: &Parts) -> Result<Vec<u32>, AllocError>
     requires few { length parts.now.edges < 2 ^ 32 }
     requires small { (e : ℕ) → pool_number (pool_of parts.now e) < 2 ^ 32 }
@@ -52,7 +52,7 @@ fn all_pools(alloc: Global, parts: &Parts) -> Result<Vec<u32>, AllocError>
     Ok(numbers)
 }
 
-/// The depth of each pool, behind that of none.
+/// Returns the depth of each pool, after a 0 for no pool.
 fn all_depths(alloc: Global, pools: &[Pool]) -> Result<Vec<u32>, AllocError>
     ensures { IfOk result (λ v. v.items ≡ 0 ∷ map (λ (pool : Row). pool.depth) pools.now) }
 {
@@ -64,7 +64,7 @@ fn all_depths(alloc: Global, pools: &[Pool]) -> Result<Vec<u32>, AllocError>
     Ok(depths)
 }
 
-/// What the books need of an image.
+/// Returns the data of an image that the schedule needs.
 pub(crate) fn image_plan(alloc: Global, parts: &Parts) -> Result<Plan, AllocError>
     requires shaped { IsWellShaped parts.now }
     requires spelled { HasSpelling parts.now }

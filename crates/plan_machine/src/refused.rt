@@ -1,13 +1,13 @@
-//! Why a call is refused.
+//! The reasons why a call is refused.
 
 use std::alloc::{AllocError, AllocFailed};
 
-/// Why an image wasn't opened, or an event not applied.
+/// The reason why an image wasn't opened, or an event wasn't applied.
 #[derive(Clone, Copy, Debug, PartialEq, Eq)]
 pub enum Refused {
     /// The event isn't enabled.
     NotEnabled,
-    /// Memory ran out; nothing changed.
+    /// Memory ran out. Nothing changed.
     Memory,
     /// A target is no edge of the image.
     BadTarget,
@@ -17,8 +17,8 @@ impl Refused {
     ghost use Rattle.std.specs.Prelude.{◌≡◌};
     ghost use Rattle.plan_machine.specs.Faults.{number_of};
 
-    /// The number under which a program prints the refusal, 110 to 112 in the order of the variants. This project's own
-    /// choice.
+    /// Returns the number that a program prints for the refusal, from 110 to 112 in the order of the variants.
+    /// The numbers are this project's own choice.
     pub fn number(&self) -> u8
         ensures { result ≡ number_of self.now }
     {

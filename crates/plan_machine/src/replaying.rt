@@ -1,4 +1,4 @@
-//! Replaying events: a whole run in one call.
+//! Replays the events of a whole run.
 
 ghost use Rattle.std.specs.Prelude.{◌≡◌, ◌≢◌, ◌+◌, ◌≤◌, [], IfErr, IfOk, OnOk, length};
 ghost use Rattle.plan_verify.specs.Budget.{image_budget};
@@ -21,7 +21,7 @@ use crate::state::State;
 use plan_verify::Verified;
 use std::alloc::Global;
 
-/// Applies a copy of an event, and keeps its mark.
+/// Applies a copy of an event, and appends its mark.
 fn go(
     state: &mut State,
     image: &Verified,
@@ -44,7 +44,7 @@ fn go(
     }
 }
 
-/// Applies events, one after another, and keeps their marks; a refusal has its place.
+/// Applies events in order, and appends their marks. An error holds the index of the event that was refused.
 fn go_through(
     state: &mut State,
     image: &Verified,
@@ -66,7 +66,7 @@ fn go_through(
     Ok(())
 }
 
-/// The state that events reach from another, and their marks.
+/// Returns the state that events reach from another state, and their marks.
 fn replay_on(
     alloc: Global,
     image: &Verified,
@@ -86,13 +86,15 @@ fn replay_on(
     }
 }
 
-/// The state that events reach from the opening for some targets, and their marks: a whole run. No event of it went
-/// wrong, nor can one of that state; its marks are orderly; its events are at most the image's budget and the bytes of
-/// dependencies that its replies bring.
+/// Returns the state that events reach from the opening state for some targets, and their marks. No event of
+/// the run went wrong, and none of that state can. The marks are orderly. The number of events is at most the
+/// image's budget plus the number of dependency bytes in the replies.
 ///
 /// # Errors
-/// With the place of the event, from 0, before which all ran: `NotEnabled` where it isn't enabled; `Memory`. The opening's
-/// refusals stand at 0: `BadTarget`, where a target is no edge, and `Memory`.
+///
+/// An error holds the index of the event that was refused, from 0. The events before it were applied.
+/// `NotEnabled` if the event isn't enabled; `Memory` if memory runs out. If the image can't be opened, the
+/// index is 0, and the fault is `BadTarget` if a target is no edge, or `Memory`.
 pub fn replay(
     alloc: Global,
     image: &Verified,

@@ -1,4 +1,4 @@
-//! What an edge does by a reply.
+//! The effects of replies on an edge.
 
 ghost use Rattle.std.specs.Prelude.{◌≡◌, ◌<◌, ◌+◌, ◌^◌, ◌∷◌, [], IfOk, IfSome, IsSome, OnErr, Some, drop, length};
 ghost use Rattle.plan_image.specs.declared.instr.Instr.TheVariants as op;
@@ -12,24 +12,12 @@ ghost use Rattle.plan_machine.specs.Working.{IsSweeping, Sweeps, Works};
 use crate::activity::Activity;
 use crate::reply::{Depfile, Recorded, Reply};
 use crate::turned::Heard;
-use plan_depfile::{DepFault, Paths};
+use plan_depfile::DepFault;
 use plan_image::Instr;
-use plan_text::RowList;
 use plan_verify::{Cause, PathList, Value, Words};
 use std::alloc::{AllocError, Global};
 
-/// The paths of a depfile, as a value has them.
-fn path_list(alloc: Global, paths: &Paths) -> Result<PathList, AllocError>
-    ensures { IfOk result (λ list. list ≡ paths.now) }
-{
-    let mut rows = RowList::new(alloc);
-    for i in 0..paths.len() {
-        rows.push(paths.path(i))?;
-    }
-    PathList::new(alloc, rows)
-}
-
-/// Why an edge fails whose depfile is refused.
+/// Returns the cause of an edge's failure if its depfile is refused.
 fn malformed(fault: DepFault) -> Cause
     ensures { result ≡ Cause.DepfileMalformed (number_of fault) (or_zero (offset_of fault)) }
 {
@@ -41,7 +29,7 @@ fn malformed(fault: DepFault) -> Cause
 }
 
 impl Activity {
-    /// Goes on with one more value.
+    /// Pushes a value, and moves to the next place.
     pub(crate) fn push_on(&mut self, value: Value)
         requires place { self.old.place + 1 < 2 ^ 32 }
         requires works { Works (next self.old (value ∷ self.old.stack)) }
@@ -52,7 +40,7 @@ impl Activity {
         self.asked = false;
     }
 
-    /// Goes on with one value less.
+    /// Pops a value, and moves to the next place.
     fn drop_on(&mut self)
         requires place { self.old.place + 1 < 2 ^ 32 }
         requires works { Works (next self.old (drop 1 self.old.stack)) }
@@ -63,7 +51,7 @@ impl Activity {
         self.asked = false;
     }
 
-    /// A reply to Stat.
+    /// Receives a reply to `Stat`.
     fn hear_stat(&mut self, _file: u32, reply: Reply) -> Heard
         requires place { self.old.place + 1 < 2 ^ 32 }
         requires works { IfSome (replied depfile self.old (op.Stat _file) (answer_of reply)) Works }
@@ -79,7 +67,7 @@ impl Activity {
         }
     }
 
-    /// A stamp that Need asked for.
+    /// Receives a stamp that `Need` asked for. Fails if the file is missing.
     fn hear_needed(&mut self, file: u32, stamp: u64) -> Heard
         requires place { self.old.place + 1 < 2 ^ 32 }
         requires works { IfSome (replied depfile self.old (op.Need file) (answer_of (Reply.Stamp stamp))) Works }
@@ -92,7 +80,7 @@ impl Activity {
         Heard::On
     }
 
-    /// A reply to Need.
+    /// Receives a reply to `Need`.
     fn hear_need(&mut self, file: u32, reply: Reply) -> Heard
         requires place { self.old.place + 1 < 2 ^ 32 }
         requires works { IfSome (replied depfile self.old (op.Need file) (answer_of reply)) Works }
@@ -105,7 +93,7 @@ impl Activity {
         }
     }
 
-    /// The exit of a command.
+    /// Receives the exit status of a command. Fails if it isn't 0.
     fn hear_exit(&mut self, code: u8) -> Heard
         requires place { self.old.place + 1 < 2 ^ 32 }
         requires works { IfSome (replied depfile self.old op.Run (answer_of (Reply.Exit code))) Works }
@@ -119,7 +107,7 @@ impl Activity {
         Heard::On
     }
 
-    /// A reply to Run.
+    /// Receives a reply to `Run`.
     fn hear_run(&mut self, reply: Reply) -> Heard
         requires place { self.old.place + 1 < 2 ^ 32 }
         requires works { IfSome (replied depfile self.old op.Run (answer_of reply)) Works }
@@ -133,7 +121,7 @@ impl Activity {
         }
     }
 
-    /// Goes on with an entry.
+    /// Pushes the values of a record's entry, and moves to the next place.
     fn entry_on(&mut self, known: bool, command: Words, basis: u64, paths: PathList)
         requires place { self.old.place + 1 < 2 ^ 32 }
         requires works { Works (next self.old (Value.Flag known ∷ Value.Text command ∷ Value.Stamp basis ∷ Value.Paths 0 paths ∷ self.old.stack)) }
@@ -147,7 +135,7 @@ impl Activity {
         self.asked = false;
     }
 
-    /// Goes on with what the record has.
+    /// Receives the record's entry for an output.
     fn recall(&mut self, recorded: Recorded) -> Result<Heard, AllocError>
         requires place { self.old.place + 1 < 2 ^ 32 }
         requires works { IfSome (replied depfile self.old op.Recall (answer_of (Reply.Entry recorded))) Works }
@@ -160,7 +148,7 @@ impl Activity {
         Ok(Heard::On)
     }
 
-    /// Goes on without an entry.
+    /// Receives the answer that the record has no entry.
     fn recall_nothing(&mut self, alloc: Global) -> Result<Heard, AllocError>
         requires place { self.old.place + 1 < 2 ^ 32 }
         requires works { IfSome (replied depfile self.old op.Recall (answer_of Reply.Nothing)) Works }
@@ -173,7 +161,7 @@ impl Activity {
         Ok(Heard::On)
     }
 
-    /// A reply to Recall.
+    /// Receives a reply to `Recall`.
     fn hear_recall(&mut self, alloc: Global, reply: Reply) -> Result<Heard, AllocError>
         requires place { self.old.place + 1 < 2 ^ 32 }
         requires works { IfSome (replied depfile self.old op.Recall (answer_of reply)) Works }
@@ -189,7 +177,7 @@ impl Activity {
         }
     }
 
-    /// Goes on without what was kept.
+    /// Pops the three values that were stored in the record, and moves to the next place.
     fn kept_on(&mut self)
         requires place { self.old.place + 1 < 2 ^ 32 }
         requires works { Works (next self.old (drop 3 self.old.stack)) }
@@ -202,7 +190,7 @@ impl Activity {
         self.asked = false;
     }
 
-    /// A reply to Keep.
+    /// Receives a reply to `Keep`.
     fn hear_keep(&mut self, reply: Reply) -> Heard
         requires place { self.old.place + 1 < 2 ^ 32 }
         requires works { IfSome (replied depfile self.old op.Keep (answer_of reply)) Works }
@@ -218,7 +206,7 @@ impl Activity {
         }
     }
 
-    /// Goes on with paths in place of the depfile's name.
+    /// Replaces the depfile's name on the stack by paths, and moves to the next place.
     fn paths_on(&mut self, paths: PathList)
         requires place { self.old.place + 1 < 2 ^ 32 }
         requires works { Works (next self.old (Value.Paths 0 paths ∷ drop 1 self.old.stack)) }
@@ -230,16 +218,15 @@ impl Activity {
         self.asked = false;
     }
 
-    /// A depfile.
+    /// Receives a depfile. Fails if the depfile is refused.
     fn hear_bytes(&mut self, alloc: Global, file: Depfile) -> Result<Heard, AllocError>
         requires place { self.old.place + 1 < 2 ^ 32 }
         requires works { IfSome (replied depfile self.old op.Deps (answer_of (Reply.Bytes file))) Works }
         ensures ok { IfOk result (λ r. IsHeard r self.old self.new (replied depfile self.old op.Deps (answer_of (Reply.Bytes file)))) }
         ensures err { OnErr result (self.new ≡ self.old) }
     {
-        match file.parsed().result() {
+        match file.result(alloc)? {
             Ok(paths) => {
-                let paths = path_list(alloc, paths)?;
                 self.paths_on(paths);
                 Ok(Heard::On)
             }
@@ -247,7 +234,7 @@ impl Activity {
         }
     }
 
-    /// Goes on with no paths.
+    /// Receives the answer that there is no depfile, and continues without paths.
     fn no_bytes(&mut self, alloc: Global) -> Result<Heard, AllocError>
         requires place { self.old.place + 1 < 2 ^ 32 }
         requires works { IfSome (replied depfile self.old op.Deps (answer_of Reply.Nothing)) Works }
@@ -259,7 +246,7 @@ impl Activity {
         Ok(Heard::On)
     }
 
-    /// A reply to Deps.
+    /// Receives a reply to `Deps`.
     fn hear_deps(&mut self, alloc: Global, reply: Reply) -> Result<Heard, AllocError>
         requires place { self.old.place + 1 < 2 ^ 32 }
         requires works { IfSome (replied depfile self.old op.Deps (answer_of reply)) Works }
@@ -291,7 +278,7 @@ impl Activity {
         self.asked = false;
     }
 
-    /// A reply to Sweep.
+    /// Receives a reply to `Sweep`.
     fn hear_sweep(&mut self, reply: Reply) -> Heard
         requires sweeping { IsSweeping self.old.stack }
         requires works { IfSome (replied depfile self.old op.Sweep (answer_of reply)) Works }
@@ -307,7 +294,7 @@ impl Activity {
         }
     }
 
-    /// A reply at an instruction.
+    /// Receives a reply at an instruction.
     pub(crate) fn hear_at(
         &mut self,
         alloc: Global,

@@ -1,4 +1,4 @@
-//! What an edge asks of the outside.
+//! Requests: questions of an edge to the outside.
 
 ghost use Rattle.std.specs.Prelude.{◌≡◌, [], get_or, length};
 
@@ -6,7 +6,7 @@ use plan_text::RowList;
 use plan_verify::PathList;
 use std::marker::Model;
 
-/// The files that an edge makes, which contracts see as their paths.
+/// The files that an edge creates. A contract sees their paths.
 #[derive(Drop)]
 pub struct Outputs<'a> {
     files: &'a RowList<u8>,
@@ -25,21 +25,21 @@ impl<'a> Model for Outputs<'a> {
 impl<'a> Outputs<'a> {
     ghost use Rattle.plan_machine.specs.Lent.{paths_by};
 
-    /// The files of these numbers.
+    /// Creates the list of the files with these numbers.
     pub(crate) fn new(files: &'a RowList<u8>, numbers: &'a [u32]) -> Outputs<'a>
         ensures { result ≡ paths_by files.now numbers.now }
     {
         Outputs { files, numbers }
     }
 
-    /// How many files there are.
+    /// Returns the number of files.
     pub fn len(&self) -> usize
         ensures { result ≡ length self.now }
     {
         self.numbers.len()
     }
 
-    /// The path of this number, counted from 0; empty where there are not as many.
+    /// Returns path `number`, counted from 0. If there is no such path, returns an empty one.
     pub fn path(&self, number: usize) -> &[u8]
         ensures { result.now ≡ get_or self.now number [] }
     {
@@ -50,17 +50,18 @@ impl<'a> Outputs<'a> {
     }
 }
 
-/// What an edge asks of the outside.
+/// A question of an edge to the outside.
 #[derive(Drop)]
 pub enum Request<'a> {
-    /// When the file of this path was last changed.
+    /// Asks for the time at which the file with this path was last changed.
     Stat(&'a [u8]),
-    /// What the record has for this output.
+    /// Asks for the record's entry of this output.
     Recall(&'a [u8]),
-    /// To run this command, which makes these files.
+    /// Asks to run this command, which creates these files.
     Run(&'a [u8], Outputs<'a>),
-    /// The depfile of this path.
+    /// Asks for the depfile with this path.
     Deps(&'a [u8]),
-    /// To keep for an output its command, the stamp that it was made from, and its dependencies.
+    /// Asks to store an entry in the record: an output, its command, its basis (the greatest stamp that the
+    /// command read), and its dependencies.
     Keep(&'a [u8], &'a [u8], u64, &'a PathList),
 }

@@ -1,4 +1,4 @@
-//! An edge that has begun and has no values, and so no stack.
+//! An edge that has begun and has no values, and so needs no stack.
 
 ghost use Rattle.std.specs.Prelude.{◌≡◌, ◌<◌, ◌^◌, IfOk, OnErr, length};
 ghost use Rattle.plan_image.specs.Code.{code};
@@ -18,8 +18,8 @@ use plan_books::Phase;
 use plan_image::{Image, Instr};
 use std::alloc::{AllocError, Global};
 
-/// An edge that has begun, has no values and awaits no reply: the place of its next instruction, whether it holds a place of
-/// its pool, and whether its command ran. It takes 8 bytes, and none elsewhere.
+/// An edge that has begun, has no values and awaits no reply: the place of its next instruction, whether it
+/// holds a job token, and whether its command ran. It takes 8 bytes and no heap memory.
 #[derive(Clone, Copy)]
 pub(crate) struct Resting {
     pub(crate) place: u32,
@@ -28,7 +28,7 @@ pub(crate) struct Resting {
 }
 
 impl Resting {
-    /// An edge at its first place.
+    /// Creates an edge at its first place.
     pub(crate) fn begin() -> Resting
         ensures { rested result ≡ begun }
     {
@@ -39,7 +39,7 @@ impl Resting {
         }
     }
 
-    /// The same edge with an empty stack.
+    /// Returns the same edge with an empty stack.
     pub(crate) fn wake(self, alloc: Global) -> Result<Activity, AllocError>
         ensures { IfOk result (λ a. a ≡ rested self) }
     {
@@ -53,14 +53,14 @@ impl Resting {
         })
     }
 
-    /// Whether its next instruction takes a place.
+    /// Returns whether its next instruction takes a job token.
     pub(crate) fn is_at_take(self, image: &Image, edge: u32) -> bool
         ensures { result ≡ at_take image.now edge (rested self) }
     {
         matches!(image.instr(edge, self.place), Some(Instr::Take))
     }
 
-    /// What the books know of it.
+    /// Returns its phase, which the schedule stores.
     pub(crate) fn phase(self, image: &Image, edge: u32) -> Phase
         ensures { result ≡ phase_of image.now edge (Active (rested self)) }
     {
@@ -70,7 +70,7 @@ impl Resting {
         Phase::Going(self.holding)
     }
 
-    /// One step, for which it gets a stack, and what it is then.
+    /// Executes one step with a new stack, and returns the edge after it.
     pub(crate) fn step(
         self,
         alloc: Global,

@@ -1,6 +1,7 @@
-//! How far an edge went by itself.
+//! The length of a local run of an edge.
 
-/// How far an edge went by itself: so many steps that asked nothing, and whether one more asked.
+/// The length of a local run of an edge: the number of steps that asked nothing, and whether one more step
+/// asked.
 #[derive(Clone, Copy, Debug, PartialEq, Eq)]
 pub struct Rush {
     pub steps: u32,

@@ -1,4 +1,4 @@
-//! Many steps of one edge in a row, of which the books are told once.
+//! Local runs: consecutive steps of one edge, after which the schedule is updated once.
 
 ghost use Rattle.std.specs.Prelude.{◌≡◌, ◌≢◌, ◌<◌, ◌≤◌, ◌+◌, ◌∷◌, ◌^◌, ℕ, Err, IfErr, IfOk, OnErr, Some, length, slice_get};
 ghost use Rattle.plan_image.specs.Code.{code};
@@ -25,18 +25,15 @@ use plan_verify::{
     replies_are_safe, stays_typed, steps_are_safe, tables_are_in_range,
 };
 
-/// The most steps of a rush, but for the one that asks.
-const MOST: u32 = 64;
-
 impl Rush {
-    /// Whether no step was made.
+    /// Returns whether no step was made.
     pub fn is_still(self) -> bool
         ensures { result ≡ is_still self }
     {
         self.steps == 0 && !self.asked
     }
 
-    /// How many steps were made.
+    /// Returns the number of steps that were made.
     pub fn count(self) -> u32
         requires { self.steps ≤ 64 }
         ensures steps { (e : ℕ) → rush_events e self ≡ steps_of e result }
@@ -50,7 +47,7 @@ impl Rush {
 }
 
 impl State {
-    /// Steps of an edge, as long as it makes them by itself, up to one that asks. The books aren't told.
+    /// Makes local steps of an edge, up to one that asks. The schedule isn't updated.
     fn strides(&mut self, image: &Image, edge: u32) -> Rush
         requires short { length (code image.now edge) < 2 ^ 32 }
         requires turns { (n : ℕ) (s : Stands) → Runs depfile image.now self.old.going.limits self.old.going.now (steps_of edge n) (moves_of edge n) s → (l : Local) → slice_get s.edges edge ≡ Some (Active l) → CanTurn image.now s.slots edge l }
@@ -60,32 +57,14 @@ impl State {
         ensures books { self.new.books ≡ self.old.books }
         ensures total { self.new.total ≡ self.old.total }
     {
-        let mut steps = 0;
-        for _turn in 0..MOST {
-            match self.machine.stride(self.alloc, image, edge) {
-                None => {
-                    return Rush {
-                        steps,
-                        asked: false,
-                    };
-                }
-                Some(asked) => {
-                    if asked {
-                        return Rush { steps, asked };
-                    }
-                    steps += 1;
-                }
-            }
-        }
-        Rush {
-            steps,
-            asked: false,
-        }
+        self.machine.strides(self.alloc, image, edge)
     }
 
-    /// Steps of an edge in a row, as long as it makes them by itself, up to one that asks: so many events are applied at
-    /// once, and the books are told of the last. A step that looks at another edge, takes or gives back a place, joins texts
-    /// or asks for a command isn't made, nor one that memory is wanting for: `apply` makes it, or says why it can't.
+    /// Makes consecutive steps of an edge without a reply, up to one that asks, and applies these events at
+    /// once. The schedule is updated after the last. At most 64 steps are made, not counting the one that asks.
+    /// The local run stops before a step that depends on another edge, takes or releases a job token, joins
+    /// texts, asks to run a command, or can't get memory. `apply` makes such a step, or returns the reason why
+    /// it can't.
     pub fn rush(&mut self, image: &Verified, edge: u32) -> Rush
         requires { IsStateOf image.now self.old }
         ensures runs { RunsTo image.now self.old.going (rush_events edge result) (rush_marks edge result) self.new.going }
@@ -109,10 +88,11 @@ impl State {
         rush
     }
 
-    /// A reply to an edge, and then a rush of it.
+    /// Gives a reply to an edge, and then makes a local run of it.
     ///
     /// # Errors
-    /// As `apply` of the reply; then nothing changed.
+    ///
+    /// The same as `apply` of the reply. Nothing changed then.
     pub fn follow(
         &mut self,
         image: &Verified,

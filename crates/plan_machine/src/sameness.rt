@@ -1,4 +1,4 @@
-//! Whether causes, outcomes, values and slots are the same.
+//! Equality of causes, outcomes, values and slots.
 
 ghost use Rattle.std.specs.Prelude.{◌≡◌, ◌<◌, Some, bytes_eq, length, slice_get};
 ghost use Rattle.plan_machine.specs.Sameness.{same_at, same_cause, same_ended, same_ends, same_flag, same_outcome, same_paths, same_slot, same_slots, same_status, same_statuses, same_value};
@@ -10,7 +10,7 @@ use crate::state::State;
 use crate::status::Status;
 use plan_verify::{Cause, PathList};
 
-/// Whether two causes are the same, with their numbers.
+/// Returns whether two causes are the same, with their numbers.
 fn is_same_cause(first: Cause, second: Cause) -> bool
     ensures { result ≡ same_cause first second }
 {
@@ -30,7 +30,7 @@ fn is_same_cause(first: Cause, second: Cause) -> bool
     }
 }
 
-/// Whether two outcomes are the same; a skipped edge may name any edge.
+/// Returns whether two outcomes are the same. Skipped edges may name different edges.
 fn is_same_outcome(first: Outcome, second: Outcome) -> bool
     ensures { result ≡ same_outcome first second }
 {
@@ -45,7 +45,7 @@ fn is_same_outcome(first: Outcome, second: Outcome) -> bool
     }
 }
 
-/// Whether two edges have outcomes, and the same.
+/// Returns whether two edges have the same outcome. Returns false if one of them has none.
 fn is_same_status(first: &Status, second: &Status) -> bool
     ensures { result ≡ same_status first.now second.now }
 {
@@ -55,7 +55,7 @@ fn is_same_status(first: &Status, second: &Status) -> bool
     }
 }
 
-/// Whether the edges of a number have the same outcome.
+/// Returns whether the edges with this number have the same outcome.
 fn is_same_status_at(first: &[Status], second: &[Status], edge: usize) -> bool
     requires first { edge < length first.now }
     requires second { edge < length second.now }
@@ -64,7 +64,7 @@ fn is_same_status_at(first: &[Status], second: &[Status], edge: usize) -> bool
     is_same_status(&first[edge], &second[edge])
 }
 
-/// Whether all edges have outcomes, and the same.
+/// Returns whether all edges have outcomes, and the same ones.
 #[tactic(auto, using(crate::proofs::PointwiseLemmas::pointwise_on, crate::proofs::PointwiseLemmas::pointwise_off, crate::proofs::PointwiseLemmas::pointwise_done, crate::proofs::PointwiseLemmas::pointwise_long))]
 fn are_same_statuses(first: &[Status], second: &[Status]) -> bool
     ensures { result ≡ same_statuses first.now second.now }
@@ -80,7 +80,7 @@ fn are_same_statuses(first: &[Status], second: &[Status]) -> bool
     true
 }
 
-/// Whether the paths of a number are the same.
+/// Returns whether the paths with this number are the same.
 #[tactic(auto, using(crate::proofs::PointwiseLemmas::texts_at))]
 fn is_same_path_at(first: &PathList, second: &PathList, number: u32) -> bool
     requires first { number < length first.now }
@@ -90,7 +90,7 @@ fn is_same_path_at(first: &PathList, second: &PathList, number: u32) -> bool
     first.path(number) == second.path(number)
 }
 
-/// Whether two lists have the same paths, in the same order.
+/// Returns whether two lists have the same paths, in the same order.
 #[tactic(auto, using(crate::proofs::PointwiseLemmas::pointwise_on, crate::proofs::PointwiseLemmas::pointwise_off, crate::proofs::PointwiseLemmas::pointwise_done, crate::proofs::PointwiseLemmas::pointwise_long))]
 fn are_same_paths(first: &PathList, second: &PathList) -> bool
     ensures { result ≡ same_paths first.now second.now }
@@ -106,14 +106,14 @@ fn are_same_paths(first: &PathList, second: &PathList) -> bool
     true
 }
 
-/// Whether two flags are the same.
+/// Returns whether two flags are the same.
 fn is_same_flag(first: bool, second: bool) -> bool
     ensures { result ≡ same_flag first second }
 {
     if first { second } else { !second }
 }
 
-/// Whether two slots have the same, or both nothing.
+/// Returns whether two slots have the same value, or are both unset.
 fn is_same_slot(first: &Slot, second: &Slot) -> bool
     ensures { result ≡ same_slot first.now second.now }
 {
@@ -130,7 +130,7 @@ fn is_same_slot(first: &Slot, second: &Slot) -> bool
     }
 }
 
-/// Whether the slots of a number have the same.
+/// Returns whether the slots with this number have the same value, or are both unset.
 fn is_same_slot_at(first: &[Slot], second: &[Slot], slot: usize) -> bool
     requires first { slot < length first.now }
     requires second { slot < length second.now }
@@ -139,7 +139,7 @@ fn is_same_slot_at(first: &[Slot], second: &[Slot], slot: usize) -> bool
     is_same_slot(&first[slot], &second[slot])
 }
 
-/// Whether all slots have the same.
+/// Returns whether all slots have the same values.
 #[tactic(auto, using(crate::proofs::PointwiseLemmas::pointwise_on, crate::proofs::PointwiseLemmas::pointwise_off, crate::proofs::PointwiseLemmas::pointwise_done, crate::proofs::PointwiseLemmas::pointwise_long))]
 fn are_same_slots(first: &[Slot], second: &[Slot]) -> bool
     ensures { result ≡ same_slots first.now second.now }
@@ -155,7 +155,7 @@ fn are_same_slots(first: &[Slot], second: &[Slot]) -> bool
     true
 }
 
-/// Whether two states have ended, with the same outcomes and the same slots.
+/// Returns whether two states have ended, with the same outcomes and the same slots.
 pub(crate) fn are_same_ends(first: &State, second: &State) -> bool
     ensures { result ≡ same_ends first.now.going.now second.now.going.now }
 {

@@ -1,4 +1,4 @@
-//! What a slot has.
+//! The values of slots.
 
 ghost use Rattle.std.specs.Prelude.{◌≡◌, IfOk, None, Some};
 ghost use Rattle.plan_machine.specs.Slots.{value_of};
@@ -7,10 +7,10 @@ use plan_verify::{PathList, Value, Words};
 use std::alloc::AllocError;
 use std::marker::Model;
 
-/// Nothing, or a value: 16 bytes, where an `Option` of a value would take 24.
+/// Nothing, or a value. It takes 16 bytes, whereas an `Option` of a value would take 24.
 #[derive(Drop)]
 pub(crate) enum Stored {
-    /// It isn't set.
+    /// The slot isn't set.
     Unset,
     /// A stamp.
     Stamp(u64),
@@ -18,13 +18,13 @@ pub(crate) enum Stored {
     Flag(bool),
     /// A text.
     Text(Words),
-    /// Paths, and how many of them were asked for.
+    /// Paths, and how many of them have been requested.
     Paths(u32, PathList),
-    /// Paths that were all asked for.
+    /// Paths that have all been requested.
     Swept(PathList),
 }
 
-/// What a slot has, which contracts see as a value or none.
+/// A slot. A contract sees it as a value or None.
 #[derive(Drop)]
 pub(crate) struct Slot {
     stored: Stored,
@@ -41,7 +41,7 @@ impl Model for Slot {
 }
 
 impl Slot {
-    /// A slot that isn't set.
+    /// Creates a slot that isn't set.
     pub(crate) fn unset() -> Slot
         ensures { result ≡ None }
     {
@@ -50,7 +50,7 @@ impl Slot {
         }
     }
 
-    /// A slot that has a value.
+    /// Creates a slot with a value.
     pub(crate) fn of(value: Value) -> Slot
         ensures { result ≡ Some value }
     {
@@ -64,14 +64,14 @@ impl Slot {
         Slot { stored }
     }
 
-    /// What it has.
+    /// Borrows the value.
     pub(crate) fn stored(&self) -> &Stored
         ensures { value_of result.now ≡ self.now }
     {
         &self.stored
     }
 
-    /// A copy of what it has.
+    /// Returns a copy of the value. Returns None if the slot isn't set.
     pub(crate) fn load(&self) -> Result<Option<Value>, AllocError>
         ensures { IfOk result (λ v. v ≡ self.now) }
     {

@@ -1,34 +1,35 @@
-//! A stack of values, whose kinds the verifier knows.
+//! A stack of values, whose kinds the verifier has checked.
 
-ghost use Rattle.std.specs.Prelude.{◌≡◌, ◌<◌, ◌≤◌, ◌∷◌, [], IfOk, Some, drop, length, slice_get, true};
+ghost use Rattle.std.specs.Prelude.{◌≡◌, ◌<◌, ◌≤◌, ◌∷◌, [], IfOk, Some, drop, length, slice_get};
 ghost use Rattle.plan_image.specs.declared.instr.Instr.TheVariants as op;
 ghost use Rattle.plan_verify.specs.Turn.{calculate, same_text, On};
 ghost use Rattle.plan_machine.specs.Requests.{HasPathsAt, HasStampAt, HasSweptAt, HasTextAt};
-ghost use Rattle.plan_machine.specs.Sweeping.{HasNext, IsNext};
-ghost use Rattle.plan_machine.specs.Working.{Computes, HasFlag, HasPaths, HasStamp, HasText, IsPlain, IsShallow, IsSweeping};
+ghost use Rattle.plan_machine.specs.Working.{Computes, HasFlag, HasPaths, HasStamp, HasText, IsPlain, IsShallow};
 
-use arrayvec::ArrayVec;
 use plan_image::Instr;
 use plan_verify::{PathList, Value, Words};
 use std::alloc::{AllocError, Global};
 use std::marker::Model;
 
-/// A stack of at most 64 values, which has room for all of them; contracts see the topmost first.
+/// A stack of at most 64 values, with room for all of them. A contract sees the top first. Unused room isn't
+/// cleared. The box keeps an edge small.
 #[derive(Drop)]
 pub(crate) struct Stack {
-    values: Box<ArrayVec<Value, 64>>,
+    values: Box<Vec<Value>>,
 }
 
 impl Model for Stack {
-    ghost use Rattle.std.specs.Prelude.{List, reverse};
+    ghost use Rattle.std.specs.Prelude.{◌≤◌, List, reverse, vec_capacity, vec_len};
     ghost use Rattle.plan_verify.specs.declared.value.Value.{Value as Item};
 
     ghost Value = { List Item };
 
     ghost view = { λ s. reverse s.values.value.items };
+
+    ghost invariant = { λ s. (vec_len s.values.value ≤ 64) × (64 ≤ vec_capacity s.values.value) };
 }
 
-/// Whether two texts are equal.
+/// Returns whether two texts are equal.
 #[tactic(auto, using(crate::proofs::AskingLemmas::same_bytes))]
 fn same_text(first: &[u8], last: &[u8]) -> bool
     ensures { result ≡ same_text first.now last.now }
@@ -37,23 +38,24 @@ fn same_text(first: &[u8], last: &[u8]) -> bool
 }
 
 impl Stack {
-    /// An empty stack.
+    /// Creates an empty stack.
     pub(crate) fn new(alloc: Global) -> Result<Self, AllocError>
         ensures { IfOk result (λ s. s ≡ []) }
     {
-        let values = Box::new(alloc, ArrayVec::new())?;
+        let values = Vec::with_capacity(alloc, 64)?;
+        let values = Box::new(alloc, values)?;
         Ok(Stack { values })
     }
 
-    /// Puts a value on top.
+    /// Pushes a value, for which there must be room.
     pub(crate) fn push(&mut self, value: Value)
         requires { length self.old < 64 }
         ensures { self.new ≡ value ∷ self.old }
     {
-        self.values.push(value);
+        self.values.push_reserved(value);
     }
 
-    /// Takes the topmost value.
+    /// Pops the top value, which must exist.
     pub(crate) fn pop(&mut self) -> Value
         requires { 0 < length self.old }
         ensures { self.old ≡ result ∷ self.new }
@@ -64,7 +66,7 @@ impl Stack {
         }
     }
 
-    /// How many values there are.
+    /// Returns the number of values.
     pub(crate) fn len(&self) -> usize
         ensures len { result ≡ length self.now }
         ensures few { length self.now ≤ 64 }
@@ -72,14 +74,14 @@ impl Stack {
         self.values.as_slice().len()
     }
 
-    /// Takes the topmost value away, where there is one.
+    /// Drops the top value, if there is one.
     pub(crate) fn discard(&mut self)
         ensures { self.new ≡ drop 1 self.old }
     {
         let _ = self.values.pop();
     }
 
-    /// Takes a stamp.
+    /// Pops a stamp.
     pub(crate) fn pop_stamp(&mut self) -> u64
         requires { HasStamp self.old }
         ensures { self.old ≡ Value.Stamp result ∷ self.new }
@@ -90,7 +92,7 @@ impl Stack {
         }
     }
 
-    /// Takes a flag.
+    /// Pops a flag.
     pub(crate) fn pop_flag(&mut self) -> bool
         requires { HasFlag self.old }
         ensures { self.old ≡ Value.Flag result ∷ self.new }
@@ -101,7 +103,7 @@ impl Stack {
         }
     }
 
-    /// Takes a text.
+    /// Pops a text.
     pub(crate) fn pop_text(&mut self) -> Words
         requires { HasText self.old }
         ensures { self.old ≡ Value.Text result ∷ self.new }
@@ -112,7 +114,7 @@ impl Stack {
         }
     }
 
-    /// Takes paths, with how many were swept.
+    /// Pops paths, with the number of those that were swept.
     pub(crate) fn pop_paths(&mut self) -> (u32, PathList)
         requires { HasPaths self.old }
         ensures { self.old ≡ Value.Paths result.0 result.1 ∷ self.new }
@@ -123,7 +125,7 @@ impl Stack {
         }
     }
 
-    /// Whether two texts are equal, in their place.
+    /// Replaces the two top texts by whether they are equal.
     pub(crate) fn equal(&mut self)
         requires computes { Computes (calculate op.Equal self.old) }
         requires shallow { IsShallow (calculate op.Equal self.old) }
@@ -134,7 +136,7 @@ impl Stack {
         self.push(Value::Flag(same_text(first.as_slice(), last.as_slice())));
     }
 
-    /// Calculates without taking memory.
+    /// Executes an instruction that calculates without taking memory.
     pub(crate) fn calculate(&mut self, instr: Instr)
         requires plain { IsPlain instr }
         requires computes { Computes (calculate instr self.old) }
@@ -190,7 +192,7 @@ impl Stack {
         }
     }
 
-    /// The value at a depth, the topmost at 0.
+    /// Borrows the value at a depth, counted from 0 at the top.
     fn peek(&self, depth: usize) -> &Value
         requires { depth < length self.now }
         ensures { slice_get self.now depth ≡ Some result.now }
@@ -199,7 +201,7 @@ impl Stack {
         &values[values.len() - 1 - depth]
     }
 
-    /// The text at a depth.
+    /// Borrows the text at a depth.
     pub(crate) fn text_at(&self, depth: usize) -> &[u8]
         requires { HasTextAt depth self.now }
         ensures { slice_get self.now depth ≡ Some (Value.Text result.now) }
@@ -210,7 +212,7 @@ impl Stack {
         }
     }
 
-    /// The stamp at a depth.
+    /// Returns the stamp at a depth.
     pub(crate) fn stamp_at(&self, depth: usize) -> u64
         requires { HasStampAt depth self.now }
         ensures { slice_get self.now depth ≡ Some (Value.Stamp result) }
@@ -221,7 +223,7 @@ impl Stack {
         }
     }
 
-    /// The topmost paths, with how many were swept.
+    /// Borrows the paths at the top, with the number of those that were swept.
     pub(crate) fn paths_at(&self) -> (u32, &PathList)
         requires { HasPathsAt self.now }
         ensures { slice_get self.now 0 ≡ Some (Value.Paths result.0 result.1.now) }
@@ -232,31 +234,7 @@ impl Stack {
         }
     }
 
-    /// Whether this is the first path that wasn't swept, and another is left.
-    #[tactic(auto, using(crate::proofs::SweepLemmas::sweeping_has))]
-    pub(crate) fn has_next(&self, path: &[u8]) -> bool
-        requires { IsSweeping self.now }
-        ensures on { result ≡ true → HasNext path.now self.now }
-        ensures must { HasNext path.now self.now → result ≡ true }
-    {
-        let (swept, paths) = self.paths_at();
-        if paths.len() - swept < 2 {
-            return false;
-        }
-        paths.path(swept) == path
-    }
-
-    /// The first path that wasn't swept.
-    #[tactic(auto, using(crate::proofs::SweepLemmas::sweeping_has, crate::proofs::SweepLemmas::is_next))]
-    pub(crate) fn next_path(&self) -> &[u8]
-        requires { IsSweeping self.now }
-        ensures { IsNext result.now self.now }
-    {
-        let (count, paths) = self.paths_at();
-        paths.path(count)
-    }
-
-    /// The topmost swept paths.
+    /// Borrows the swept paths at the top.
     pub(crate) fn swept_at(&self) -> &PathList
         requires { HasSweptAt self.now }
         ensures { slice_get self.now 0 ≡ Some (Value.Swept result.now) }

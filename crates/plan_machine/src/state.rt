@@ -1,4 +1,4 @@
-//! The state of a running image.
+//! The state of a running image, with its schedule.
 
 ghost use Rattle.std.specs.Prelude.{◌≡◌, ◌≢◌, ◌<◌, ◌^◌, ◌&&◌, ◌⊎◌, ℕ, Err, IfErr, IfOk, OnErr, Some, count_by, false, length, slice_get, true};
 ghost use Rattle.std.specs.List.{list_all};
@@ -35,15 +35,15 @@ use plan_verify::{
 use std::alloc::Global;
 use std::marker::Model;
 
-/// A running image: the options that it was opened with, where each edge stands, what each slot has, and books of what
-/// can happen next, so that no call looks at all edges.
+/// A running image: the options that it was opened with, the status of each edge, the value of each slot, and a
+/// schedule of the events that can happen next. With the schedule, no call has to search all edges.
 #[derive(Drop)]
 pub struct State {
     pub(crate) alloc: Global,
     pub(crate) machine: Machine,
     pub(crate) plan: Plan,
     pub(crate) books: Books,
-    /// How many edges have a command and are wanted.
+    /// The number of wanted edges that have a command.
     pub(crate) total: u64,
 }
 
@@ -56,14 +56,14 @@ impl Model for State {
     ghost view = { λ s. record { going = s.machine; plan = s.plan; books = s.books; total = s.total } };
 }
 
-/// Whether an edge is among these.
+/// Returns whether an edge is among these.
 fn is_among(edge: u32, waits: &[u32]) -> bool
     ensures { result ≡ is_member edge waits.now }
 {
     waits.iter().any(|wait| *wait == edge)
 }
 
-/// The phase of an edge, where there are as many.
+/// Returns the phase of an edge. Returns None if there is no such edge.
 fn phase_at(phases: &[Phase], edge: u32) -> Option<Phase>
     ensures { result ≡ slice_get phases.now edge }
 {
@@ -71,8 +71,9 @@ fn phase_at(phases: &[Phase], edge: u32) -> Option<Phase>
 }
 
 impl State {
-    /// The state that the image opens with: each edge that the targets need hasn't begun, no other is wanted, and no slot
-    /// is set. No targets stand for the image's defaults. It makes all room that the books ever need.
+    /// Creates the opening state. Each edge that the targets need hasn't begun, no other edge is wanted, and no
+    /// slot is set. If there are no targets, the image's defaults are used. All memory that the schedule ever
+    /// needs is reserved.
     pub fn open(
         alloc: Global,
         image: &Verified,
@@ -102,28 +103,28 @@ impl State {
         })
     }
 
-    /// How an edge came out, where it has an outcome.
+    /// Returns the outcome of an edge. Returns None if it has none yet.
     pub fn outcome(&self, edge: u32) -> Option<Outcome>
         ensures { result ≡ outcome_at (slice_get self.now.going.now.edges edge) }
     {
         self.machine.outcome(edge)
     }
 
-    /// Whether each edge has an outcome.
+    /// Returns whether each edge has an outcome.
     pub fn ended(&self) -> bool
         ensures { (p : Parts) → IsStateOf p self.now → result ≡ has_ended self.now.going.now }
     {
         self.books.counts.open_edges == 0
     }
 
-    /// How many edges have a command and are wanted.
+    /// Returns the number of wanted edges that have a command.
     pub fn total(&self) -> u64
         ensures { (p : Parts) → IsStateOf p self.now → result ≡ total_of p self.now.going.now }
     {
         self.total
     }
 
-    /// How many edges failed.
+    /// Returns the number of edges that failed.
     fn failures(&self, _image: &Image) -> u32
         requires { AreKept _image.now self.now.going.now self.now.plan self.now.books }
         ensures { result ≡ count_by has_failed self.now.going.now.edges }
@@ -131,7 +132,7 @@ impl State {
         self.books.counts.failures
     }
 
-    /// How many edges hold a place.
+    /// Returns the number of edges that hold a job token.
     fn holders(&self, _image: &Image) -> u32
         requires { AreKept _image.now self.now.going.now self.now.plan self.now.books }
         ensures { result ≡ count_by is_holder self.now.going.now.edges }
@@ -139,7 +140,7 @@ impl State {
         self.books.counts.holders
     }
 
-    /// How many edges of a pool hold a place.
+    /// Returns the number of edges of a pool that hold a job token.
     fn holders_of(&self, _image: &Image, pool: u32) -> u32
         requires kept { AreKept _image.now self.now.going.now self.now.plan self.now.books }
         requires inside { pool < length _image.now.pools }
@@ -148,7 +149,7 @@ impl State {
         self.books.counts.pool_holders[pool as usize + 1]
     }
 
-    /// Whether all that an edge waits for ended well.
+    /// Returns whether all edges that this one waits for succeeded.
     fn are_waits_well(&self, _image: &Image, edge: u32) -> bool
         requires kept { AreKept _image.now self.now.going.now self.now.plan self.now.books }
         requires here { edge < length self.now.going.now.edges }
@@ -157,7 +158,7 @@ impl State {
         self.books.waiting[edge as usize] == 0
     }
 
-    /// Whether as many edges have failed as are borne.
+    /// Returns whether the failure limit has been reached.
     fn is_spent(&self, image: &Image) -> bool
         requires { AreKept image.now self.now.going.now self.now.plan self.now.books }
         ensures { result ≡ is_spent self.now.going.limits self.now.going.now }
@@ -166,7 +167,7 @@ impl State {
         keep > 0 && keep <= self.failures(image)
     }
 
-    /// Whether a pool takes one more edge.
+    /// Returns whether a pool has a free job token.
     fn has_room(&self, image: &Image, pool: Option<u32>) -> bool
         requires { AreKept image.now self.now.going.now self.now.plan self.now.books }
         ensures { result ≡ has_room image.now self.now.going.now pool }
@@ -180,7 +181,7 @@ impl State {
         }
     }
 
-    /// Whether an edge may take a place.
+    /// Returns whether an edge may take a job token.
     fn is_free(&self, image: &Image, edge: u32) -> bool
         requires { AreKept image.now self.now.going.now self.now.plan self.now.books }
         ensures { result ≡ is_free image.now self.now.going.limits self.now.going.now edge }
@@ -190,7 +191,7 @@ impl State {
             && !self.is_spent(image)
     }
 
-    /// Whether an edge may be started.
+    /// Returns whether an edge may be started.
     #[tactic(auto, using(crate::proofs::Applies::passes_within))]
     fn can_start(&self, image: &Image, edge: u32) -> bool
         requires { AreKept image.now self.now.going.now self.now.plan self.now.books }
@@ -199,7 +200,7 @@ impl State {
         self.machine.is_unbegun(edge) && self.are_waits_well(image, edge)
     }
 
-    /// Whether an edge may be skipped over another. It looks through what the edge waits for.
+    /// Returns whether an edge may be skipped because of another one. It searches the waits of the edge.
     fn can_skip(&self, image: &Image, edge: u32, wait: u32) -> bool
         ensures { result ≡ (passes is_unbegun (slice_get self.now.going.now.edges edge) && (is_member wait (waits_of image.now edge) && stands is_ill self.now.going.now wait)) }
     {
@@ -207,7 +208,7 @@ impl State {
             && (is_among(wait, waits(image.parts(), edge)) && self.machine.is_ill(wait))
     }
 
-    /// Whether an edge may be stopped.
+    /// Returns whether an edge may be stopped.
     fn can_stop(&self, image: &Image, edge: u32) -> bool
         requires { AreKept image.now self.now.going.now self.now.plan self.now.books }
         ensures { result ≡ (is_spent self.now.going.limits self.now.going.now && may_stop_by image.now edge (slice_get self.now.going.now.edges edge)) }
@@ -215,7 +216,7 @@ impl State {
         self.is_spent(image) && self.machine.is_before_run(image, edge)
     }
 
-    /// Where an edge stands, as the books have it.
+    /// Returns the phase of an edge that the schedule has.
     fn phase(&self, _image: &Image, edge: u32) -> Phase
         requires { AreKept _image.now self.now.going.now self.now.plan self.now.books }
         ensures { result ≡ phase_in _image.now edge (slice_get self.now.going.now.edges edge) }
@@ -226,7 +227,7 @@ impl State {
         }
     }
 
-    /// Whether an edge may make a step.
+    /// Returns whether an edge may make a step.
     pub(crate) fn can_step(&self, image: &Image, edge: u32) -> bool
         requires { AreKept image.now self.now.going.now self.now.plan self.now.books }
         ensures { result ≡ may_step_by image.now self.now.going.limits self.now.going.now edge (slice_get self.now.going.now.edges edge) }
@@ -238,7 +239,7 @@ impl State {
         }
     }
 
-    /// What an event does to edges and slots.
+    /// Applies an event to the edges and slots, but not to the schedule.
     pub(crate) fn change(&mut self, image: &Image, event: Event) -> Result<Mark, Refused>
         requires short { (e : ℕ) → length (code image.now e) < 2 ^ 32 }
         requires kept { AreKept image.now self.old.going.now self.old.plan self.old.books }
@@ -272,7 +273,7 @@ impl State {
         }
     }
 
-    /// Brings the books up to where an edge stands now, its phase.
+    /// Updates the schedule to the present status of an edge, and returns its phase.
     fn tell(&mut self, image: &Image, edge: u32) -> Phase
         requires { IsBehind image.now self.old edge }
         ensures going { self.new.going ≡ self.old.going }
@@ -284,7 +285,7 @@ impl State {
         phase
     }
 
-    /// An edge that waits for a place, and has no values, has no stack.
+    /// Frees the stack of an edge that waits for a job token and has no values.
     fn rest(&mut self, edge: u32, phase: Phase)
         ensures { self.new ≡ self.old }
     {
@@ -293,7 +294,7 @@ impl State {
         }
     }
 
-    /// Brings the books up to where an edge stands now, and lets its stack go where it waits for a place.
+    /// Updates the schedule to the present status of an edge, and frees its stack if it waits for a job token.
     pub(crate) fn note(&mut self, image: &Image, edge: u32)
         requires { IsBehind image.now self.old edge }
         ensures going { self.new.going ≡ self.old.going }
@@ -304,12 +305,15 @@ impl State {
         self.rest(edge, phase);
     }
 
-    /// Applies an event: what it does is the table's, and its mark. It looks at no other edges than those that wait for
-    /// one which ends, and at what an edge waits for that is skipped.
+    /// Applies an event, as the table of events defines it, and returns its mark. It reads no other edges than
+    /// those that wait for an edge which ends, and the waits of an edge that is skipped.
     ///
     /// # Errors
-    /// `NotEnabled` exactly where the table says so, and `Memory`, of an event that is enabled; then nothing changed. Skips
-    /// and stops take no memory.
+    ///
+    /// - `NotEnabled` if and only if the table doesn't enable the event.
+    /// - `Memory` if memory runs out. The event is enabled then. Skips and stops take no memory.
+    ///
+    /// After an error nothing has changed.
     #[tactic(auto, using(crate::proofs::RefusalLemmas::refused_so))]
     pub fn apply(&mut self, image: &Verified, event: Event) -> Result<Mark, Refused>
         requires { IsStateOf image.now self.old }

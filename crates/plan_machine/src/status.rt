@@ -1,6 +1,6 @@
-//! Where an edge stands.
+//! The status of an edge.
 
-ghost use Rattle.std.specs.Prelude.{◌≡◌, ◌<◌, ◌^◌, IfNone, IfOk, IfSome, IsSome, OnErr, Some, length, option_map};
+ghost use Rattle.std.specs.Prelude.{◌≡◌, ◌<◌, ◌^◌, IfOk, IfSome, IsSome, OnErr, Some, length, option_map};
 ghost use Rattle.plan_image.specs.Code.{code};
 ghost use Rattle.plan_verify.specs.Turn.{Local, begun, heard, turn};
 ghost use Rattle.plan_machine.specs.Depfile.{depfile};
@@ -9,7 +9,6 @@ ghost use Rattle.plan_machine.specs.Hearing.{CanHear, HasAnswered};
 ghost use Rattle.plan_machine.specs.Kept.{phase_of};
 ghost use Rattle.plan_machine.specs.Requests.{asked_by, shown, step_asks};
 ghost use Rattle.plan_machine.specs.Runs.{at_first};
-ghost use Rattle.plan_machine.specs.Rushes.{StandsOtherwise};
 ghost use Rattle.plan_machine.specs.State.{Active, Over, is_ill, outcome_at};
 ghost use Rattle.plan_machine.specs.Step.{answer_of};
 ghost use Rattle.plan_machine.specs.Total.{is_wanted};
@@ -27,20 +26,20 @@ use plan_image::Image;
 use std::alloc::{AllocError, Global};
 use std::marker::Model;
 
-/// Where an edge stands.
+/// The stage of an edge.
 #[derive(Drop)]
 pub(crate) enum Stage {
     /// It hasn't begun.
     Unbegun,
-    /// It is under way, and has no values.
+    /// It has begun, has no values and awaits no reply.
     Resting(Resting),
-    /// It is under way.
+    /// It has begun and not ended.
     Active(Activity),
     /// It has an outcome.
     Over(Outcome),
 }
 
-/// Where an edge stands, as the definitions speak of it.
+/// The status of an edge. A contract sees it as the definitions do.
 #[derive(Drop)]
 pub(crate) struct Status {
     pub(crate) stage: Stage,
@@ -56,7 +55,7 @@ impl Model for Status {
 }
 
 impl Status {
-    /// Where an edge stands at first.
+    /// Returns the status of an edge at the start.
     pub(crate) fn at_first(is_wanted: bool) -> Status
         ensures { result ≡ at_first is_wanted }
     {
@@ -69,7 +68,7 @@ impl Status {
         }
     }
 
-    /// An edge that has just begun.
+    /// Returns the status of an edge that has just begun.
     pub(crate) fn begun() -> Status
         ensures { result ≡ Active begun }
     {
@@ -78,7 +77,7 @@ impl Status {
         }
     }
 
-    /// An edge that has this outcome.
+    /// Returns the status of an edge that has this outcome.
     pub(crate) fn over(outcome: Outcome) -> Status
         ensures { result ≡ Over outcome }
     {
@@ -87,7 +86,7 @@ impl Status {
         }
     }
 
-    /// Its outcome.
+    /// Returns the outcome. Returns None if there is none yet.
     pub(crate) fn outcome(&self) -> Option<Outcome>
         ensures { result ≡ outcome_at (Some self.now) }
     {
@@ -97,7 +96,7 @@ impl Status {
         }
     }
 
-    /// Whether it hasn't begun.
+    /// Returns whether the edge hasn't begun.
     pub(crate) fn is_unbegun(&self) -> bool
         ensures { result ≡ is_unbegun self.now }
     {
@@ -107,7 +106,7 @@ impl Status {
         }
     }
 
-    /// Whether it is under way.
+    /// Returns whether the edge has begun and not ended.
     pub(crate) fn is_active(&self) -> bool
         ensures { result ≡ is_active self.now }
     {
@@ -117,7 +116,7 @@ impl Status {
         }
     }
 
-    /// Whether it ended, and not well.
+    /// Returns whether the edge failed, was skipped or was stopped.
     pub(crate) fn is_ill(&self) -> bool
         ensures { result ≡ is_ill self.now }
     {
@@ -127,7 +126,7 @@ impl Status {
         }
     }
 
-    /// Whether a target needs it.
+    /// Returns whether a target needs the edge.
     pub(crate) fn is_wanted(&self) -> bool
         ensures { result ≡ is_wanted self.now }
     {
@@ -137,7 +136,7 @@ impl Status {
         }
     }
 
-    /// Whether its command ran, where it is under way.
+    /// Returns whether the command of a running edge has run.
     pub(crate) fn has_run(&self) -> bool
         ensures { (l : Local) → self.now ≡ Active l → result ≡ l.ran }
     {
@@ -148,7 +147,7 @@ impl Status {
         }
     }
 
-    /// Whether it may be stopped once as many failed as are borne.
+    /// Returns whether the edge may be stopped when the failure limit has been reached.
     pub(crate) fn is_before_run(&self, image: &Image, edge: u32) -> bool
         ensures { result ≡ may_stop_by image.now edge (Some self.now) }
     {
@@ -160,7 +159,7 @@ impl Status {
         }
     }
 
-    /// What the books know of it.
+    /// Returns the phase of the edge, which the schedule stores.
     pub(crate) fn phase(&self, image: &Image, edge: u32) -> Phase
         ensures { result ≡ phase_of image.now edge self.now }
     {
@@ -172,7 +171,7 @@ impl Status {
         }
     }
 
-    /// Lets its stack go, where it awaits no reply and has no values.
+    /// Frees the stack, if the edge awaits no reply and has no values.
     pub(crate) fn rest(&mut self)
         ensures { self.new ≡ self.old }
     {
@@ -187,7 +186,7 @@ impl Status {
         }
     }
 
-    /// A step of the edge, which is under way.
+    /// Executes one step of the edge, which has begun and not ended.
     pub(crate) fn step(
         &mut self,
         alloc: Global,
@@ -211,31 +210,7 @@ impl Status {
         }
     }
 
-    /// A step of the edge, which is under way, if it makes it by itself and memory isn't wanting for it.
-    pub(crate) fn stride(
-        &mut self,
-        alloc: Global,
-        image: &Image,
-        edge: u32,
-        slots: &mut Vec<Slot>,
-    ) -> Option<Turned>
-        requires short { length (code image.now edge) < 2 ^ 32 }
-        requires turns { (l : Local) × (self.old ≡ Active l) × CanTurn image.now slots.old.items edge l }
-        ensures some { IfSome result (λ r. StandsOtherwise image.now edge r self.old self.new slots.old.items slots.new.items) }
-        ensures none { IfNone result ((self.new ≡ self.old) × (slots.new.items ≡ slots.old.items)) }
-    {
-        match &mut self.stage {
-            Stage::Resting(resting) => {
-                let (activity, turned) = resting.stride(alloc, image, edge, slots)?;
-                self.stage = Stage::Active(activity);
-                Some(turned)
-            }
-            Stage::Active(activity) => activity.stride(alloc, image, edge, slots),
-            _ => unreachable!(),
-        }
-    }
-
-    /// A reply to the edge, which is under way.
+    /// Gives a reply to the edge, which has begun and not ended.
     #[tactic(auto, using(crate::proofs::HearingLemmas::rests_on))]
     pub(crate) fn hear(
         &mut self,
@@ -257,7 +232,7 @@ impl Status {
         }
     }
 
-    /// What the edge asked, where it awaits a reply.
+    /// Returns the question of the edge if it awaits a reply. Returns None otherwise.
     pub(crate) fn asked<'a>(
         &'a self,
         image: &'a Image,
@@ -278,7 +253,8 @@ impl Status {
         }
     }
 
-    /// What the edge's next step asks, where it is under way.
+    /// Returns the question of the edge's next step if it has begun and not ended. Returns None if it asks
+    /// nothing.
     pub(crate) fn step_request<'a>(
         &'a self,
         image: &'a Image,

@@ -1,11 +1,11 @@
-//! What an edge did.
+//! The effects of turns and replies on an edge.
 
 ghost use Rattle.std.specs.Prelude.{◌≡◌};
 ghost use Rattle.plan_machine.specs.Rushes.{asks_by};
 
 use plan_verify::Cause;
 
-/// What an edge did in a step.
+/// The effect of a step on an edge.
 #[derive(Clone, Copy, Debug)]
 pub(crate) enum Turned {
     Moved,
@@ -19,7 +19,7 @@ pub(crate) enum Turned {
 }
 
 impl Turned {
-    /// Whether it asked.
+    /// Returns whether the step asked a question.
     pub(crate) fn asks(self) -> bool
         ensures { result ≡ asks_by self }
     {
@@ -30,7 +30,7 @@ impl Turned {
     }
 }
 
-/// What an edge did by a reply: it went on, or failed, or the reply doesn't fit.
+/// The effect of a reply on an edge: it goes on, it failed, or the reply doesn't match its question.
 #[derive(Clone, Copy, Debug)]
 pub(crate) enum Heard {
     On,

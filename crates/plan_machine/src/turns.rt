@@ -15,14 +15,14 @@ use plan_image::Image;
 use plan_verify::{Cause, PathList, Value, Words};
 use std::alloc::{AllocError, Global};
 
-/// Whether two texts are too long together.
+/// Returns whether two texts together are too long.
 fn is_too_long(first: &[u8], last: &[u8]) -> bool
     ensures { result ≡ nat_lt 1048576 (length first.now + length last.now) }
 {
     first.len() > 1_048_576 || 1_048_576 - first.len() < last.len()
 }
 
-/// First, then last.
+/// Concatenates two texts.
 fn joined(alloc: Global, first: &[u8], last: &[u8]) -> Result<Words, AllocError>
     ensures { IfOk result (λ w. w ≡ first.now ++ last.now) }
 {
@@ -31,7 +31,7 @@ fn joined(alloc: Global, first: &[u8], last: &[u8]) -> Result<Words, AllocError>
     Words::new(alloc, bytes)
 }
 
-/// A copy of what a slot has, where there is one of this number.
+/// Returns a copy of a slot's value. Returns None if the slot isn't set or doesn't exist.
 fn loaded(slots: &[Slot], slot: u32) -> Result<Option<Value>, AllocError>
     ensures { IfOk result (λ v. v ≡ filling (slice_get slots.now slot)) }
 {
@@ -42,7 +42,7 @@ fn loaded(slots: &[Slot], slot: u32) -> Result<Option<Value>, AllocError>
 }
 
 impl Activity {
-    /// Sets a slot to the topmost value.
+    /// Pops the top value and stores it in a slot.
     pub(crate) fn store(
         &mut self,
         _image: &Image,
@@ -63,7 +63,7 @@ impl Activity {
         Turned::Stored
     }
 
-    /// Goes on with a text of the image.
+    /// Pushes a text of the image, and moves to the next place.
     pub(crate) fn write(
         &mut self,
         alloc: Global,
@@ -85,7 +85,7 @@ impl Activity {
         }
     }
 
-    /// Goes on with no paths.
+    /// Pushes an empty list of paths, and moves to the next place.
     pub(crate) fn no_paths(&mut self, alloc: Global) -> Result<Turned, AllocError>
         requires place { self.old.place + 1 < 2 ^ 32 }
         requires works { Works (calculated self.old (calculate op.NoPaths self.old.stack)) }
@@ -97,7 +97,7 @@ impl Activity {
         Ok(Turned::Moved)
     }
 
-    /// Goes on with a copy of a slot's value.
+    /// Pushes a copy of a slot's value, and moves to the next place.
     pub(crate) fn load(&mut self, slots: &[Slot], slot: u32) -> Result<Turned, AllocError>
         requires place { self.old.place + 1 < 2 ^ 32 }
         requires works { Works (loads self.old (slice_get slots.now slot)) }
@@ -113,7 +113,7 @@ impl Activity {
         }
     }
 
-    /// Goes on with one more value, where there is room.
+    /// Pushes a value, for which there must be room, and moves to the next place.
     fn put_on(&mut self, value: Value)
         requires place { self.old.place + 1 < 2 ^ 32 }
         requires room { length self.old.stack < 64 }
@@ -124,7 +124,8 @@ impl Activity {
         self.asked = false;
     }
 
-    /// Asks for the stamp of the next path, or has swept them where none is left.
+    /// Asks for the stamp of the next path. If none is left, marks the paths as swept and moves to the next
+    /// place.
     #[tactic(auto, using(crate::proofs::AskingLemmas::sweep_has, crate::proofs::AskingLemmas::sweep_asks, crate::proofs::AskingLemmas::sweep_ends))]
     pub(crate) fn sweep(&mut self) -> Turned
         requires place { self.old.place + 1 < 2 ^ 32 }
@@ -143,7 +144,7 @@ impl Activity {
         Turned::Moved
     }
 
-    /// Goes on with whether two texts are equal.
+    /// Replaces the two top texts by whether they are equal, and moves to the next place.
     pub(crate) fn equal(&mut self)
         requires place { self.old.place + 1 < 2 ^ 32 }
         requires works { Works (calculated self.old (calculate op.Equal self.old.stack)) }
@@ -154,7 +155,7 @@ impl Activity {
         self.asked = false;
     }
 
-    /// Goes on with two texts joined.
+    /// Joins the two top texts, and moves to the next place. Fails if the result is too long.
     #[tactic(auto, using(crate::proofs::AskingLemmas::join_first, crate::proofs::AskingLemmas::join_second, crate::proofs::AskingLemmas::join_long, crate::proofs::AskingLemmas::join_is))]
     pub(crate) fn join(&mut self, alloc: Global) -> Result<Turned, AllocError>
         requires place { self.old.place + 1 < 2 ^ 32 }

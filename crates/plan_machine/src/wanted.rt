@@ -1,4 +1,4 @@
-//! Which edges are wanted: a walk along waits.
+//! Finds the wanted edges by a walk along waits.
 
 ghost use Rattle.std.specs.Prelude.{◌≡◌, ℕ, ◌<◌, false, true, [], ◌∷◌, List, length, replicate, All, Some, IfOk, OnOk, slice_get, slice_set};
 ghost use Rattle.std.specs.List.{list_any};
@@ -12,7 +12,7 @@ use plan_verify::tables_are_in_range;
 use std::alloc::{AllocError, Global};
 use std::marker::Model;
 
-/// For each edge whether it was met, and the edges that the walk hasn't gone on from.
+/// The edges that a walk has met, and those from which it hasn't continued yet.
 #[derive(Drop)]
 struct Walk {
     met: Vec<bool>,
@@ -29,7 +29,7 @@ impl Model for Walk {
 }
 
 impl Walk {
-    /// A walk that has met no edge.
+    /// Creates a walk that has met no edge.
     fn start(alloc: Global, edges: usize) -> Result<Walk, AllocError>
         ensures { IfOk result (λ w. w ≡ record { met = replicate edges false; ahead = [] }) }
     {
@@ -39,7 +39,7 @@ impl Walk {
         })
     }
 
-    /// Whether an edge was met.
+    /// Returns whether an edge was met.
     fn is_met(&self, e: u32) -> bool
         requires { e < length self.now.met }
         ensures { slice_get self.now.met e ≡ Some result }
@@ -47,7 +47,7 @@ impl Walk {
         self.met[e as usize]
     }
 
-    /// Meets an edge for the first time.
+    /// Adds an edge that wasn't met before.
     fn add(&mut self, e: u32) -> Result<(), AllocError>
         requires { e < length self.old.met }
         ensures { OnOk result (self.new ≡ record { met = slice_set self.old.met e true; ahead = e ∷ self.old.ahead }) }
@@ -57,7 +57,7 @@ impl Walk {
         Ok(())
     }
 
-    /// Meets an edge.
+    /// Adds an edge unless it was met before.
     #[tactic(auto, using(crate::proofs::WantedLemmas::meets_old, crate::proofs::WantedLemmas::meets_new))]
     fn meet(&mut self, e: u32) -> Result<(), AllocError>
         requires { e < length self.old.met }
@@ -69,7 +69,7 @@ impl Walk {
         self.add(e)
     }
 
-    /// Meets some edges.
+    /// Adds each of these edges unless it was met before.
     #[tactic(auto, using(crate::proofs::WantedLemmas::meet_long))]
     fn meet_all(&mut self, edges: &[u32]) -> Result<(), AllocError>
         requires { All (λ e. e < length self.old.met) edges.now }
@@ -81,14 +81,14 @@ impl Walk {
         Ok(())
     }
 
-    /// An edge to go on from, where there is one more.
+    /// Removes and returns an edge from which to continue. Returns None if none is left.
     fn next(&mut self) -> Option<u32>
         ensures { IsNext self.old result self.new }
     {
         self.ahead.pop()
     }
 
-    /// For each edge, whether it was met.
+    /// Returns, for each edge, whether it was met.
     fn into_met(self) -> Vec<bool>
         ensures { result.items ≡ self.met }
     {
@@ -96,7 +96,7 @@ impl Walk {
     }
 }
 
-/// The targets, or where there are none the image's defaults.
+/// Returns the targets, or the image's defaults if there are no targets.
 fn chosen<'a>(parts: &'a Parts, targets: &'a [u32]) -> &'a [u32]
     ensures { result.now ≡ chosen parts.now targets.now }
 {
@@ -106,7 +106,7 @@ fn chosen<'a>(parts: &'a Parts, targets: &'a [u32]) -> &'a [u32]
     targets
 }
 
-/// Whether one of these is no edge of the image.
+/// Returns whether one of these is no edge of the image.
 pub(crate) fn any_outside(parts: &Parts, targets: &[u32]) -> bool
     ensures { result ≡ any_outside parts.now targets.now }
 {
@@ -114,7 +114,7 @@ pub(crate) fn any_outside(parts: &Parts, targets: &[u32]) -> bool
     targets.iter().any(|e| edges <= *e as usize)
 }
 
-/// For each edge, whether it is wanted.
+/// Returns, for each edge, whether it is wanted.
 pub(crate) fn wanted(alloc: Global, parts: &Parts, targets: &[u32]) -> Result<Vec<bool>, AllocError>
     requires shaped { IsWellShaped parts.now }
     requires inside { any_outside parts.now targets.now ≡ false }
