@@ -1,2 +1,3 @@
 mod ColumnLemmas
 mod Rows
+mod RowLemmas

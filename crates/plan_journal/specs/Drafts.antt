@@ -1,5 +1,5 @@
 -- Journals that are being written.
-use Rattle.std.specs.Prelude.{ℕ, ◌≤◌, List}
+use Rattle.std.specs.Prelude.{ℕ, ◌+◌, ◌≤◌, List}
 use Rattle.plan_machine.specs.declared.event.Event.{Event}
 
 -- the events so far, and how many more items fit into the columns of sorts, edges and stamps
@@ -12,3 +12,7 @@ pub record Draft : Type 0 where
 -- so many more events without a stamp fit in
 abbrev pub HasRoom : ℕ → Draft → Type 0
 HasRoom n d = (n ≤ d.sorts_left) × (n ≤ d.edges_left)
+
+-- so many stamps fit in, each with a step behind it
+abbrev pub HasRowRoom : ℕ → Draft → Type 0
+HasRowRoom n d = HasRoom (n + n) d × (n ≤ d.stamps_left)

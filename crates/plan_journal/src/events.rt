@@ -1,4 +1,4 @@
-//! What is left of a journal.
+//! The events of a journal that are left to be read.
 
 ghost use Rattle.std.specs.Prelude.{◌≡◌, ◌≤◌, ◌<◌, ◌∷◌, [], IfSome, get_or, length};
 ghost use Rattle.std.specs.Option.{IfNone};
@@ -11,7 +11,7 @@ use crate::sort::Sort;
 use plan_machine::{Event, Reply};
 use std::marker::Model;
 
-/// The events of a journal that are left to be read, which a contract sees as their list.
+/// The events of a kept journal that are left to be read. A contract sees their list.
 #[derive(Drop)]
 pub struct Events<'a> {
     sorts: &'a [Sort],
@@ -33,7 +33,7 @@ impl<'a> Model for Events<'a> {
 }
 
 impl<'a> Events<'a> {
-    /// The events of these columns.
+    /// Returns the events of these columns.
     pub(crate) fn of(
         sorts: &'a [Sort],
         edges: &'a [u32],
@@ -51,7 +51,7 @@ impl<'a> Events<'a> {
         }
     }
 
-    /// Returns the first of them, and those behind it. It takes no memory: an event that the journal keeps whole is lent.
+    /// Returns the first event, and the others. It takes no memory: an event that the journal keeps whole is borrowed.
     pub fn split_first(self) -> Option<(ReadEvent<'a>, Events<'a>)>
         ensures some { IfSome result (λ x. self.entry ≡ x.0 ∷ x.1) }
         ensures none { IfNone result (self.entry ≡ []) }
@@ -76,7 +76,7 @@ impl<'a> Events<'a> {
     }
 }
 
-/// Returns the event of this sort that stands first in the columns.
+/// Returns the event of this sort that is first in the columns.
 fn first_event<'a>(
     sort: Sort,
     edges: &'a [u32],

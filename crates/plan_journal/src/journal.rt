@@ -1,66 +1,43 @@
 //! Journals.
 
 ghost use Rattle.std.specs.Prelude.{◌≡◌, length};
-ghost use Rattle.plan_journal.specs.Columns as columns;
-ghost use Rattle.plan_journal.specs.Columns.{Fit};
 
-use crate::events::Events;
-use crate::sort::Sort;
+use plan_history::History;
 use plan_machine::Event;
 use std::marker::Model;
 
-/// The events of a run in their order, which a contract sees as their list. Each takes five bytes, one that brings a stamp
-/// eight more; one with another reply, or a skip, 24 more.
+/// The events of a run in their order, which a contract sees as their list. A program sees only how many there are.
+/// `KeptJournal` has the events, if they are kept.
 #[derive(Drop)]
 pub struct Journal {
-    sorts: Vec<Sort>,
-    edges: Vec<u32>,
-    stamps: Vec<u64>,
-    wholes: Vec<Event>,
+    count: usize,
+    history: History<Event>,
 }
 
 impl Model for Journal {
-    ghost use Rattle.std.specs.Prelude.{List};
+    ghost use Rattle.std.specs.Prelude.{◌≡◌, List, length};
     ghost use Rattle.plan_machine.specs.declared.event.Event.{Event as Happening};
-    ghost use Rattle.plan_journal.specs.Columns.{Fit, events};
 
     ghost Value = { List Happening };
 
-    ghost view = { λ j. events j.sorts.items j.edges.items j.stamps.items j.wholes.items };
+    ghost view = { λ j. j.history.items };
 
-    ghost invariant = { λ j. Fit j.sorts.items j.edges.items j.stamps.items j.wholes.items };
+    ghost invariant = { λ j. j.count ≡ length j.history.items };
 }
 
 impl Journal {
-    /// The events of these columns.
-    pub(crate) fn of(
-        sorts: Vec<Sort>,
-        edges: Vec<u32>,
-        stamps: Vec<u64>,
-        wholes: Vec<Event>,
-    ) -> Journal
-        requires { Fit sorts.items edges.items stamps.items wholes.items }
-        ensures { result ≡ columns.events sorts.items edges.items stamps.items wholes.items }
+    /// Returns the journal of these events, of which there are so many.
+    pub(crate) fn of(count: usize, history: History<Event>) -> Journal
+        requires { count ≡ length history.items }
+        ensures { result ≡ history.items }
     {
-        Journal {
-            sorts,
-            edges,
-            stamps,
-            wholes,
-        }
+        Journal { count, history }
     }
 
-    /// How many events there are.
+    /// Returns the number of events.
     pub fn len(&self) -> usize
         ensures { result ≡ length self.now }
     {
-        self.sorts.len()
-    }
-
-    /// The events, to be read from the first on.
-    pub fn events(&self) -> Events<'_>
-        ensures { result ≡ self.now }
-    {
-        Events::of(&self.sorts, &self.edges, &self.stamps, &self.wholes)
+        self.count
     }
 }

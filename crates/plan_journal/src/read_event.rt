@@ -5,17 +5,17 @@ ghost use Rattle.std.specs.Prelude.{◌≡◌};
 use plan_machine::Event;
 use std::marker::Model;
 
-/// What an event that was read is made of.
+/// The parts of an event that was read.
 #[derive(Drop)]
 enum Source<'a> {
     /// The whole event, which the journal keeps.
     Kept(&'a Event),
-    /// The event that was made of its sort, its edge and its stamp.
+    /// The event that was built from its sort, its edge and its stamp.
     Made(Event),
 }
 
-/// An event that was read from a journal, which a contract sees as the event. It takes no memory: it is lent by the journal,
-/// or made of a sort, an edge and a stamp.
+/// An event that was read from a journal, which a contract sees as the event. It takes no memory: it is borrowed from
+/// the journal, or built from a sort, an edge and a stamp.
 #[derive(Drop)]
 pub struct ReadEvent<'a> {
     source: Source<'a>,
@@ -40,7 +40,7 @@ impl<'a> ReadEvent<'a> {
         }
     }
 
-    /// Returns an event that was made of its columns.
+    /// Returns an event that was built from its columns.
     pub(crate) fn made(event: Event) -> ReadEvent<'a>
         ensures { result ≡ event }
     {

@@ -3,7 +3,7 @@
 ghost use Rattle.std.specs.Prelude.{◌≡◌};
 ghost use Rattle.plan_journal.specs.Columns as columns;
 
-/// The sort of an event, which says what stands in which column: one byte.
+/// The sort of an event, which says which columns have a part of it: one byte.
 #[derive(Clone, Copy, Debug, PartialEq, Eq)]
 pub(crate) enum Sort {
     /// An edge begins.
@@ -19,7 +19,7 @@ pub(crate) enum Sort {
 }
 
 impl Sort {
-    /// How many stamps are kept of such an event.
+    /// Returns the number of stamps that are kept of such an event.
     pub(crate) fn stamps(self) -> usize
         ensures { result ≡ columns.stamps_in self }
     {
@@ -29,7 +29,7 @@ impl Sort {
         }
     }
 
-    /// How many whole events are kept of it.
+    /// Returns the number of whole events that are kept of it.
     pub(crate) fn wholes(self) -> usize
         ensures { result ≡ columns.wholes_in self }
     {

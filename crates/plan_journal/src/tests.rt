@@ -1,6 +1,6 @@
 //! A journal of an event of each sort.
 
-use crate::{Diary, Journal};
+use crate::{JournalBuilder, Keeping, KeptJournal};
 use plan_machine::{Event, Reply};
 use std::alloc::{AllocError, Global};
 use std::test::Fail;
@@ -17,7 +17,7 @@ enum Said {
     Other(u32),
 }
 
-/// What is put into the journal.
+/// The events that are put into the journal.
 const ALL: [Said; 8] = [
     Said::Start(0),
     Said::Step(0),
@@ -29,7 +29,7 @@ const ALL: [Said; 8] = [
     Said::Other(5),
 ];
 
-/// The event that says so.
+/// Returns the event that says so.
 fn event(said: Said) -> Event {
     match said {
         Said::Start(edge) => Event::Start(edge),
@@ -42,7 +42,7 @@ fn event(said: Said) -> Event {
     }
 }
 
-/// What an event says.
+/// Returns what an event says.
 fn said_by(event: &Event) -> Said {
     match event {
         Event::Start(edge) => Said::Start(*edge),
@@ -55,17 +55,52 @@ fn said_by(event: &Event) -> Said {
     }
 }
 
-/// A diary of all of them.
-fn full(alloc: Global) -> Result<Diary, AllocError> {
-    let mut diary = Diary::new(alloc);
-    for said in ALL {
-        diary.push(&event(said))?;
+/// Journals of these tests are kept.
+enum Kept {}
+
+impl Keeping for Kept {
+    ghost use Rattle.std.specs.Prelude.{true};
+
+    ghost keeps = { true };
+
+    fn keeps() -> bool {
+        true
     }
-    Ok(diary)
 }
 
-/// What its events say, read from the first on.
-fn read(alloc: Global, journal: &Journal) -> Result<Vec<Said>, AllocError> {
+/// Events of these tests are only counted.
+enum Counted {}
+
+impl Keeping for Counted {
+    ghost use Rattle.std.specs.Prelude.{false};
+
+    ghost keeps = { false };
+
+    fn keeps() -> bool {
+        false
+    }
+}
+
+/// Returns a journal of all of them.
+fn full<K: Keeping>(alloc: Global) -> Result<JournalBuilder<K>, AllocError> {
+    let mut builder = JournalBuilder::new(alloc);
+    for said in ALL {
+        builder.push(&event(said))?;
+    }
+    Ok(builder)
+}
+
+/// Returns what the events of a kept journal say. Fails if it isn't kept.
+fn read_kept(alloc: Global, builder: JournalBuilder<Kept>) -> Result<Vec<Said>, Fail> {
+    let (journal, kept) = builder.finish();
+    match kept {
+        Some(kept) if kept.len() == journal.len() => Ok(read(alloc, &kept)?),
+        _ => Err(Fail::new("the journal isn't kept")),
+    }
+}
+
+/// Returns what the events of a journal say, read from the first on.
+fn read(alloc: Global, journal: &KeptJournal) -> Result<Vec<Said>, AllocError> {
     let mut all = Vec::new(alloc);
     let mut rest = journal.events();
     for _ in 0..journal.len() {
@@ -82,89 +117,110 @@ fn read(alloc: Global, journal: &Journal) -> Result<Vec<Said>, AllocError> {
 
 #[test]
 fn events_come_back(rt: HostRuntime) -> Result<(), Fail> {
-    let diary = full(rt.alloc())?;
-    assert_eq!(rt; diary.len(), 8);
-    let journal = diary.finish();
-    assert_eq!(rt; journal.len(), 8);
-    assert_eq!(rt; read(rt.alloc(), &journal)?.as_slice(), ALL.as_slice());
+    let builder: JournalBuilder<Kept> = full(rt.alloc())?;
+    assert_eq!(rt; builder.len(), 8);
+    assert_eq!(rt; read_kept(rt.alloc(), builder)?.as_slice(), ALL.as_slice());
     Ok(())
 }
 
 #[test]
 fn steps_come_together(rt: HostRuntime) -> Result<(), Fail> {
-    let mut diary = Diary::new(rt.alloc());
-    diary.push(&event(Said::Stamp(7, 3)))?;
-    diary.reserve(3)?;
-    diary.push_steps(7, 3);
+    let mut builder: JournalBuilder<Kept> = JournalBuilder::new(rt.alloc());
+    builder.push(&event(Said::Stamp(7, 3)))?;
+    builder.reserve(3)?;
+    builder.push_steps(7, 3);
     let said = [
         Said::Stamp(7, 3),
         Said::Step(7),
         Said::Step(7),
         Said::Step(7),
     ];
-    assert_eq!(rt;
-        read(rt.alloc(), &diary.finish())?.as_slice(),
-        said.as_slice()
-    );
+    assert_eq!(rt; read_kept(rt.alloc(), builder)?.as_slice(), said.as_slice());
     Ok(())
 }
 
 #[test]
 fn replies_come_back(rt: HostRuntime) -> Result<(), Fail> {
-    let mut diary = Diary::new(rt.alloc());
-    diary.push_heard(4, &Reply::Stamp(9))?;
-    diary.push_heard(5, &Reply::Exit(3))?;
+    let mut builder: JournalBuilder<Kept> = JournalBuilder::new(rt.alloc());
+    builder.push_heard(4, &Reply::Stamp(9))?;
+    builder.push_heard(5, &Reply::Exit(3))?;
     let said = [Said::Stamp(4, 9), Said::Exit(5, 3)];
-    assert_eq!(rt;
-        read(rt.alloc(), &diary.finish())?.as_slice(),
-        said.as_slice()
-    );
+    assert_eq!(rt; read_kept(rt.alloc(), builder)?.as_slice(), said.as_slice());
     Ok(())
 }
 
 #[test]
-fn swept_stamps_come_with_their_step(rt: HostRuntime) -> Result<(), Fail> {
-    let mut diary = Diary::new(rt.alloc());
-    diary.push(&event(Said::Start(7)))?;
-    diary.reserve(2)?;
-    diary.push_swept(7, 3);
-    let said = [Said::Start(7), Said::Stamp(7, 3), Said::Step(7)];
-    assert_eq!(rt;
-        read(rt.alloc(), &diary.finish())?.as_slice(),
-        said.as_slice()
-    );
+fn stamps_of_a_row_come_with_their_steps(rt: HostRuntime) -> Result<(), Fail> {
+    let mut builder: JournalBuilder<Kept> = JournalBuilder::new(rt.alloc());
+    builder.push(&event(Said::Start(7)))?;
+    builder.reserve_row(2)?;
+    builder.push_row(7, &[3, 0]);
+    let said = [
+        Said::Start(7),
+        Said::Stamp(7, 3),
+        Said::Step(7),
+        Said::Stamp(7, 0),
+        Said::Step(7),
+    ];
+    assert_eq!(rt; read_kept(rt.alloc(), builder)?.as_slice(), said.as_slice());
     Ok(())
 }
 
 #[test]
 fn the_last_ones_leave(rt: HostRuntime) -> Result<(), Fail> {
     for left in 0..8 {
-        let mut diary = full(rt.alloc())?;
+        let mut builder: JournalBuilder<Kept> = full(rt.alloc())?;
         for _ in left..8 {
-            diary.remove_last();
+            builder.remove_last();
         }
-        assert_eq!(rt; diary.len(), left);
-        assert_eq!(rt; read(rt.alloc(), &diary.finish())?.as_slice(), &ALL[..left]);
+        assert_eq!(rt; builder.len(), left);
+        assert_eq!(rt; read_kept(rt.alloc(), builder)?.as_slice(), &ALL[..left]);
     }
     Ok(())
 }
 
 #[test]
 fn nothing_is_left(rt: HostRuntime) -> Result<(), Fail> {
-    let mut diary = Diary::new(rt.alloc());
-    diary.remove_last();
-    assert_eq!(rt; diary.len(), 0);
+    let mut builder: JournalBuilder<Kept> = JournalBuilder::new(rt.alloc());
+    builder.remove_last();
+    assert_eq!(rt; builder.len(), 0);
     Ok(())
 }
 
 #[test]
 fn another_takes_its_place(rt: HostRuntime) -> Result<(), Fail> {
-    let mut diary = full(rt.alloc())?;
-    diary.remove_last();
-    diary.remove_last();
-    diary.push(&event(Said::Stamp(6, 11)))?;
-    let all = read(rt.alloc(), &diary.finish())?;
+    let mut builder: JournalBuilder<Kept> = full(rt.alloc())?;
+    builder.remove_last();
+    builder.remove_last();
+    builder.push(&event(Said::Stamp(6, 11)))?;
+    let all = read_kept(rt.alloc(), builder)?;
     assert_eq!(rt; all.last(), Some(&Said::Stamp(6, 11)));
     assert_eq!(rt; all.len(), 7);
+    Ok(())
+}
+
+#[test]
+fn events_are_counted(rt: HostRuntime) -> Result<(), Fail> {
+    let mut builder: JournalBuilder<Counted> = full(rt.alloc())?;
+    builder.reserve(3)?;
+    builder.push_steps(7, 3);
+    builder.reserve_row(2)?;
+    builder.push_row(7, &[3, 0]);
+    builder.push_heard(5, &Reply::Exit(3))?;
+    assert_eq!(rt; builder.len(), 16);
+    builder.remove_last();
+    let (journal, kept) = builder.finish();
+    assert_eq!(rt; journal.len(), 15);
+    assert!(rt; kept.is_none());
+    Ok(())
+}
+
+#[test]
+fn no_more_are_counted_than_a_number_holds(rt: HostRuntime) -> Result<(), Fail> {
+    let mut builder: JournalBuilder<Counted> = full(rt.alloc())?;
+    assert!(rt; builder.reserve(usize::MAX - 8).is_ok());
+    assert!(rt; builder.reserve(usize::MAX - 7).is_err());
+    assert!(rt; builder.reserve_row(usize::MAX / 2).is_err());
+    assert_eq!(rt; builder.len(), 8);
     Ok(())
 }

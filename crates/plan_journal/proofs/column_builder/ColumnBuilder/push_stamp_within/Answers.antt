@@ -3,7 +3,7 @@ use Rattle.std.proofs.lemmas.List.{append-nil}
 use Rattle.plan_journal.specs.declared.sort.Sort.TheVariants as sort
 use Rattle.plan_journal.specs.Drafts.{Draft}
 use Rattle.plan_journal.proofs.ColumnLemmas.{events_more, fit_more}
-use Rattle.plan_journal.proofs.diary.Diary.push_stamp_within.Goals as goal
+use Rattle.plan_journal.proofs.column_builder.ColumnBuilder.push_stamp_within.Goals as goal
 
 pub invariant_of-self : goal.invariant_of-self
 invariant_of-self c =

@@ -1,7 +1,7 @@
 use Rattle.std.proofs.Common.{◌∙◌, ap, length, List}
 use Rattle.plan_machine.specs.declared.event.Event.{Event}
 use Rattle.plan_journal.proofs.ColumnLemmas.{length_events}
-use Rattle.plan_journal.proofs.journal.Journal.len.Goals as goal
+use Rattle.plan_journal.proofs.kept_journal.KeptJournal.len.Goals as goal
 
 pub returns : goal.returns
 returns c =

@@ -1,7 +1,7 @@
 use Rattle.plan_journal.specs.Drafts.{Draft}
 use Rattle.std.proofs.Common.{ap, arith}
 use Rattle.plan_journal.proofs.ColumnLemmas.{events_less, fit_less, room_stamps, room_wholes}
-use Rattle.plan_journal.proofs.diary.Diary.remove_last.Goals as goal
+use Rattle.plan_journal.proofs.column_builder.ColumnBuilder.remove_last.Goals as goal
 
 pub overflow_sub-stamps : goal.overflow_sub-stamps
 overflow_sub-stamps c =

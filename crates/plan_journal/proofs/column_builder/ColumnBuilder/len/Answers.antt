@@ -1,7 +1,7 @@
 use Rattle.std.proofs.Common.{◌∙◌, ap, length}
 use Rattle.plan_journal.specs.Drafts.{Draft}
 use Rattle.plan_journal.proofs.ColumnLemmas.{length_events}
-use Rattle.plan_journal.proofs.diary.Diary.len.Goals as goal
+use Rattle.plan_journal.proofs.column_builder.ColumnBuilder.len.Goals as goal
 
 pub returns : goal.returns
 returns c =

@@ -2,7 +2,7 @@ use Rattle.plan_journal.specs.Drafts.{Draft}
 use Rattle.std.proofs.Common.{ap, [], sym}
 use Rattle.std.proofs.lemmas.List.{append-nil}
 use Rattle.plan_journal.proofs.ColumnLemmas.{events_more, fit_more, one_more}
-use Rattle.plan_journal.proofs.diary.Diary.push_short.Goals as goal
+use Rattle.plan_journal.proofs.column_builder.ColumnBuilder.push_short.Goals as goal
 
 pub invariant_of-self-2 : goal.invariant_of-self-2
 invariant_of-self-2 c =

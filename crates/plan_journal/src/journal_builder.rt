@@ -1,0 +1,237 @@
+//! Journals that are being built.
+
+ghost use Rattle.std.specs.Prelude.{◌≡◌, ◌≤◌, ◌++◌, ◌∷◌, ◌+◌, ◌-◌, ℕ, [], None, OnErr, OnOk, Some, if◌then◌else◌, length, take};
+ghost use Rattle.plan_machine.specs.declared.event.Event.TheVariants.{Reply as Hear};
+ghost use Rattle.plan_machine.specs.declared.event.Event.TheVariants as happens;
+ghost use Rattle.plan_machine.specs.declared.reply.Reply.TheVariants.{Stamp};
+ghost use Rattle.plan_machine.specs.Rushes.{steps_of};
+ghost use Rattle.plan_machine.specs.Sweeping.{row_events, sweep_events};
+ghost use Rattle.plan_journal.specs.Drafts.{HasRoom, HasRowRoom};
+
+use crate::column_builder::ColumnBuilder;
+use crate::journal::Journal;
+use crate::keeping::Keeping;
+use crate::kept_journal::KeptJournal;
+use plan_history::History;
+use plan_machine::{Event, Reply};
+use std::alloc::{AllocError, Global};
+use std::marker::{Model, PhantomData};
+
+/// What a program has of the events of a journal that is being built.
+#[derive(Drop)]
+enum Form {
+    /// The events, in columns.
+    Kept(ColumnBuilder),
+    /// Their number.
+    Counted(usize),
+}
+
+/// The events of a run so far, for which room can be made before they come. A contract sees their list, and how many more
+/// fit in that are known by their sort and their edge. They are kept, in columns, if `K` says so, and otherwise only
+/// counted.
+#[derive(Drop)]
+pub struct JournalBuilder<K: Keeping> {
+    alloc: Global,
+    form: Form,
+    history: History<Event>,
+    keeping: PhantomData<K>,
+}
+
+impl<K: Keeping> Model for JournalBuilder<K> {
+    ghost use Rattle.plan_journal.specs.Drafts.{Draft};
+    ghost use Rattle.plan_journal.specs.Forms.{IsForm, draft};
+
+    ghost Value = { Draft };
+
+    ghost view = { λ j. draft j.form j.history.items };
+
+    ghost invariant = { λ j. IsForm K.keeps j.form j.history.items };
+}
+
+impl<K: Keeping> JournalBuilder<K> {
+    /// Creates a journal without events.
+    pub fn new(alloc: Global) -> JournalBuilder<K>
+        ensures { result.events ≡ [] }
+    {
+        let form = if K::keeps() {
+            Form::Kept(ColumnBuilder::new(alloc))
+        } else {
+            Form::Counted(0)
+        };
+        JournalBuilder {
+            alloc,
+            form,
+            history: History::new(),
+            keeping: PhantomData,
+        }
+    }
+
+    /// Returns the number of events.
+    pub fn len(&self) -> usize
+        ensures { result ≡ length self.now.events }
+    {
+        match &self.form {
+            Form::Kept(columns) => columns.len(),
+            Form::Counted(count) => *count,
+        }
+    }
+
+    /// Returns the journal of these events, and the events themselves if journals are kept.
+    pub fn finish(self) -> (Journal, Option<KeptJournal>)
+        ensures journal { result.0 ≡ self.events }
+        ensures kept { result.1 ≡ (if K.keeps then Some self.events else None) }
+    {
+        let JournalBuilder { form, history, .. } = self;
+        match form {
+            Form::Kept(columns) => {
+                let count = columns.len();
+                (Journal::of(count, history), Some(columns.finish()))
+            }
+            Form::Counted(count) => (Journal::of(count, history), None),
+        }
+    }
+
+    /// Makes room for `count` events, of which one may bring a stamp. The others are known by their sort and their edge.
+    ///
+    /// # Errors
+    /// Memory ran out. Then no event is lost.
+    pub fn reserve(&mut self, count: usize) -> Result<(), AllocError>
+        ensures same { self.new.events ≡ self.old.events }
+        ensures room { OnOk result (HasRoom count self.new) }
+        ensures stamp { OnOk result (1 ≤ self.new.stamps_left) }
+    {
+        match &mut self.form {
+            Form::Kept(columns) => columns.reserve(count),
+            Form::Counted(counted) => match counted.checked_add(count) {
+                Some(_) => Ok(()),
+                None => Err(AllocError),
+            },
+        }
+    }
+
+    /// Makes room for so many stamps, each with a step behind it.
+    ///
+    /// # Errors
+    /// Memory ran out. Then no event is lost.
+    pub fn reserve_row(&mut self, stamps: usize) -> Result<(), AllocError>
+        ensures same { self.new.events ≡ self.old.events }
+        ensures room { OnOk result (HasRowRoom stamps self.new) }
+    {
+        let Some(events) = stamps.checked_mul(2) else {
+            return Err(AllocError);
+        };
+        match &mut self.form {
+            Form::Kept(columns) => columns.reserve_row(stamps),
+            Form::Counted(counted) => match counted.checked_add(events) {
+                Some(_) => Ok(()),
+                None => Err(AllocError),
+            },
+        }
+    }
+
+    /// Appends a step of an edge. It takes no memory.
+    fn push_step(&mut self, edge: u32)
+        requires { HasRoom 1 self.old }
+        ensures events { self.new.events ≡ self.old.events ++ happens.Step edge ∷ [] }
+        ensures room { (n : ℕ) → HasRoom (n + 1) self.old → HasRoom n self.new }
+        ensures stamps { self.new.stamps_left ≡ self.old.stamps_left }
+    {
+        match &mut self.form {
+            Form::Kept(columns) => columns.push_step(edge),
+            Form::Counted(count) => *count += 1,
+        }
+        self.history = self.history.and(&Event::Step(edge));
+    }
+
+    /// Appends so many steps of an edge. It takes no memory.
+    pub fn push_steps(&mut self, edge: u32, count: u32)
+        requires { HasRoom count self.old }
+        ensures { self.new.events ≡ self.old.events ++ steps_of edge count }
+    {
+        for _turn in 0..count {
+            self.push_step(edge);
+        }
+    }
+
+    /// Appends the stamps that an edge heard for paths that it sweeps one after another, and behind each the step that
+    /// asks for the next. It takes no memory.
+    pub fn push_row(&mut self, edge: u32, stamps: &[u64])
+        requires { HasRowRoom (length stamps.now) self.old }
+        ensures { self.new.events ≡ self.old.events ++ row_events edge stamps.now }
+    {
+        for stamp in stamps {
+            self.push_swept(edge, *stamp);
+        }
+    }
+
+    /// Appends the stamp that an edge heard for a path that it sweeps, and the step that asks for the next one. It takes
+    /// no memory.
+    fn push_swept(&mut self, edge: u32, stamp: u64)
+        requires room { HasRoom 2 self.old }
+        requires stamp { 1 ≤ self.old.stamps_left }
+        ensures events { self.new.events ≡ self.old.events ++ sweep_events edge stamp }
+        ensures room { (n : ℕ) → HasRowRoom (n + 1) self.old → HasRowRoom n self.new }
+    {
+        self.push_stamp(edge, stamp);
+        self.push_step(edge);
+    }
+
+    /// Appends a stamp that an edge heard. It takes no memory.
+    fn push_stamp(&mut self, edge: u32, stamp: u64)
+        requires room { HasRoom 1 self.old }
+        requires stamp { 1 ≤ self.old.stamps_left }
+        ensures events { self.new.events ≡ self.old.events ++ Hear edge (Stamp stamp) ∷ [] }
+        ensures room { (n : ℕ) → HasRoom (n + 1) self.old → HasRoom n self.new }
+        ensures stamps { (n : ℕ) → n + 1 ≤ self.old.stamps_left → n ≤ self.new.stamps_left }
+    {
+        match &mut self.form {
+            Form::Kept(columns) => columns.push_stamp_within(edge, stamp),
+            Form::Counted(count) => *count += 1,
+        }
+        self.history = self.history.and(&Event::Reply(edge, Reply::Stamp(stamp)));
+    }
+
+    /// Appends the same event as this one. It shares what its reply brings.
+    ///
+    /// # Errors
+    /// Memory ran out. Then nothing changed.
+    pub fn push(&mut self, event: &Event) -> Result<(), AllocError>
+        ensures ok { OnOk result (self.new.events ≡ self.old.events ++ event.now ∷ []) }
+        ensures err { OnErr result (self.new.events ≡ self.old.events) }
+        ensures room { (n : ℕ) → HasRoom (n + 1) self.old → OnOk result (HasRoom n self.new) }
+    {
+        match &mut self.form {
+            Form::Kept(columns) => columns.push(event)?,
+            Form::Counted(count) => match count.checked_add(1) {
+                Some(more) => *count = more,
+                None => return Err(AllocError),
+            },
+        }
+        self.history = self.history.and(event);
+        Ok(())
+    }
+
+    /// Appends the same reply as this one, which an edge heard.
+    ///
+    /// # Errors
+    /// Memory ran out. Then nothing changed.
+    pub fn push_heard(&mut self, edge: u32, reply: &Reply) -> Result<(), AllocError>
+        ensures ok { OnOk result (self.new.events ≡ self.old.events ++ Hear edge reply.now ∷ []) }
+        ensures err { OnErr result (self.new.events ≡ self.old.events) }
+        ensures room { (n : ℕ) → HasRoom (n + 1) self.old → OnOk result (HasRoom n self.new) }
+    {
+        let heard = reply.journaled(self.alloc)?;
+        self.push(&Event::Reply(edge, heard))
+    }
+
+    /// Removes the event that came last, if there is one.
+    pub fn remove_last(&mut self)
+        ensures { self.new.events ≡ take (length self.old.events - 1) self.old.events }
+    {
+        match &mut self.form {
+            Form::Kept(columns) => columns.remove_last(),
+            Form::Counted(count) => *count = count.saturating_sub(1),
+        }
+        self.history = self.history.without_last();
+    }
+}
