@@ -1,4 +1,4 @@
-//! Console edges, whose commands have the terminal to themselves: which of them hold their places.
+//! Console edges, whose commands have the terminal to themselves: which of them hold job tokens.
 
 ghost use Rattle.std.specs.Prelude.{◌≡◌, IfOk, false, get_or, option_map, slice_set};
 ghost use Rattle.plan_machine.specs.declared.mark.Mark.{Mark as Told};
@@ -10,7 +10,7 @@ use plan_machine::Mark;
 use plan_verify::Verified;
 use std::alloc::{AllocError, Global};
 
-/// Whether a pool has the name `console`.
+/// Checks whether a pool has the name `console`.
 fn is_console_name(pool: Option<&Pool>) -> bool
     ensures { result ≡ is_console_name (option_map (λ p. p.now) pool.entry) }
 {
@@ -20,7 +20,7 @@ fn is_console_name(pool: Option<&Pool>) -> bool
     }
 }
 
-/// Whether an edge's pool has that name.
+/// Checks whether an edge's pool has the name `console`.
 fn in_console(parts: &Parts, edge: u32) -> bool
     ensures { result ≡ is_console parts.now edge }
 {
@@ -33,27 +33,28 @@ fn in_console(parts: &Parts, edge: u32) -> bool
     }
 }
 
-/// Whether an edge of an image is a console edge: its pool has the name `console` (the Ninja manual, "The console pool").
+/// Checks whether an edge of an image is a console edge: its pool has the name `console` (the Ninja manual, "The
+/// console pool").
 pub fn is_console(image: &Verified, edge: u32) -> bool
     ensures { result ≡ is_console image.now edge }
 {
     in_console(image.image().parts(), edge)
 }
 
-/// Which console edges hold their places by the marks so far, and how many of these marks are free of them.
+/// Which console edges hold job tokens after the marks so far, and how many of these marks may be reported.
 #[derive(Drop)]
 pub struct Consoles {
-    /// For each edge, whether it is a console edge that holds its place.
+    /// For each edge, whether it is a console edge that holds a job token.
     holding: Vec<bool>,
-    /// How many of these are set.
+    /// The number of set flags.
     held: usize,
-    /// How many marks were looked at, from the first on.
+    /// The number of marks that were looked at, from the first on.
     looked: usize,
-    /// The greatest number of them after which no console edge holds its place.
+    /// The greatest number of them after which no console edge holds a job token.
     pub(crate) free: usize,
 }
 
-/// Sets the flag at a place, where there is one.
+/// Sets the flag at an index, if there is one.
 fn put(flags: &mut Vec<bool>, at: usize, flag: bool)
     ensures { flags.new.items ≡ slice_set flags.old.items at flag }
 {
@@ -62,7 +63,7 @@ fn put(flags: &mut Vec<bool>, at: usize, flag: bool)
     }
 }
 
-/// The flag at a place, false where there is none.
+/// Returns the flag at an index, or false if there is none.
 fn flag_at(flags: &[bool], at: usize) -> bool
     ensures { result ≡ get_or flags.now at false }
 {
@@ -78,7 +79,7 @@ impl Consoles {
     ghost use Rattle.plan_status.specs.Consoles.{AreFree, AreNoted, HasLooked, is_console};
     ghost use Rattle.plan_status.specs.Trues.{trues};
 
-    /// No mark was looked at.
+    /// Creates the state in which no mark was looked at.
     pub(crate) fn new(alloc: Global, parts: &Parts) -> Result<Consoles, AllocError>
         ensures { IfOk result (λ c. (marks : List Told) → HasLooked parts.now marks c) }
     {
@@ -91,7 +92,7 @@ impl Consoles {
         })
     }
 
-    /// An edge takes its place: true; or it gives it back.
+    /// Notes that an edge takes a job token, or releases it if `holds` is false.
     fn set(&mut self, edge: u32, holds: bool)
         requires { self.old.held ≡ trues self.old.holding.items }
         ensures holding { self.new.holding.items ≡ slice_set self.old.holding.items edge holds }
@@ -110,7 +111,7 @@ impl Consoles {
         }
     }
 
-    /// Notes one mark more.
+    /// Notes one more mark.
     fn note(&mut self, parts: &Parts, mark: Mark)
         requires { self.old.held ≡ trues self.old.holding.items }
         ensures noted { (before : List Told) → AreNoted parts.now before self.old → AreNoted parts.now (before ++ mark ∷ []) self.new }
@@ -128,7 +129,7 @@ impl Consoles {
         }
     }
 
-    /// Looks at the marks behind those that it has looked at.
+    /// Looks at the marks after those that it has looked at.
     pub(crate) fn look(&mut self, parts: &Parts, marks: &[Mark])
         requires { HasLooked parts.now marks.now self.old }
         ensures looked { HasLooked parts.now marks.now self.new }
@@ -145,11 +146,12 @@ impl Consoles {
     }
 }
 
-/// How many marks of a run, from the first on, may be told of while it goes on: the greatest number of them after which no
-/// console edge holds its place, so that its command isn't under way. Lines of other marks wait until it has ended.
+/// Returns how many marks of a run, from the first on, may be reported while it goes on: the greatest number of them
+/// after which no console edge holds a job token, so that its command isn't running. Lines of other marks wait until it
+/// has ended.
 ///
 /// # Errors
-/// Want of memory alone.
+/// `AllocError` if memory runs out.
 pub fn free_marks(alloc: Global, image: &Verified, marks: &[Mark]) -> Result<usize, AllocError>
     ensures { IfOk result (λ n. AreFree image.now marks.now n) }
 {

@@ -3,12 +3,12 @@
 use plan_text::SinkFault;
 use std::alloc::{AllocError, AllocFailed};
 
-/// Why a text wasn't printed to its end.
+/// The reason why a text wasn't printed to its end.
 #[derive(Clone, Copy, Debug, PartialEq, Eq)]
 pub enum PrintFault {
-    /// Memory ran out; a front of the text may be printed.
+    /// Memory ran out. A prefix of the text may be printed.
     Memory,
-    /// A write failed; a front of the text may be printed.
+    /// A write failed. A prefix of the text may be printed.
     Write,
 }
 

@@ -14,18 +14,19 @@ use plan_verify::Verified;
 use rtrb::Producer;
 use std::alloc::Global;
 
-/// The end of a ring that status lines are put into while a run goes on, and how many of its marks were dealt with.
+/// The end of a ring that lanes fill with status lines while a run goes on. It counts the marks whose lines were put
+/// in.
 #[derive(Drop)]
 pub struct Feed {
     pub(crate) alloc: Global,
     pub(crate) ring: Producer<Items<u8>>,
-    /// How many marks were dealt with, from the first on.
+    /// The number of marks whose lines were put in, from the first on.
     pub(crate) shown: usize,
-    /// How many of them say how a command edge came out.
+    /// The number of these marks that say how a command edge ended.
     pub(crate) ended: u64,
 }
 
-/// Whether some mark of this sort has a line.
+/// Checks whether a mark of this kind may have a line.
 fn may_have_line(mark: Mark) -> bool
     ensures { result ≡ false → (p : Image) (total n : ℕ) → defined.line_of p total n mark ≡ [] }
 {
@@ -40,14 +41,14 @@ impl Feed {
     ghost use Rattle.plan_status.specs.Lines as defined;
     ghost use Rattle.plan_status.specs.Live.{IsFed, SameFeed, sent_text};
 
-    /// How many marks were dealt with.
+    /// Returns the number of marks whose lines were put in.
     pub fn shown(&self) -> usize
         ensures { result ≡ self.now.shown }
     {
         self.shown
     }
 
-    /// Puts a text in, where there is room.
+    /// Puts a text in, if there is room. Returns whether it was put in.
     fn push(&mut self, text: Vec<u8>) -> bool
         ensures yes { result ≡ true → sent_text self.new ≡ sent_text self.old ++ text.items }
         ensures no { result ≡ false → sent_text self.new ≡ sent_text self.old }
@@ -63,7 +64,7 @@ impl Feed {
         }
     }
 
-    /// Whether there is no room for a line.
+    /// Checks whether there is no room for a line.
     fn is_full(&mut self) -> bool
         ensures text { sent_text self.new ≡ sent_text self.old }
         ensures ring { SameFeed self.old self.new }
@@ -72,8 +73,8 @@ impl Feed {
         self.ring.is_full()
     }
 
-    /// Puts the line of a mark in, where so many command edges came out with it. False where there is no room, or no
-    /// memory. Without room it makes no line.
+    /// Puts the line of a mark in. `n` is the number of command edges that have ended, with this one. Returns false if
+    /// there is no room, or no memory. Without room it creates no line.
     fn put(&mut self, parts: &Parts, total: u64, n: u64, mark: Mark) -> bool
         ensures yes { result ≡ true → sent_text self.new ≡ sent_text self.old ++ defined.line_of parts.now total n mark }
         ensures no { result ≡ false → sent_text self.new ≡ sent_text self.old }
@@ -92,8 +93,8 @@ impl Feed {
         }
     }
 
-    /// Puts the lines of the marks in that weren't dealt with, until the ring is full or memory is wanted: then the next
-    /// call goes on there. It never waits. `total` is the number of command edges that the run may come to.
+    /// Puts the lines of the marks in that weren't put in yet, until the ring is full or memory runs out. The next call
+    /// then continues there. It never waits. `total` is the number of command edges that the run may come to.
     pub fn show(&mut self, image: &Verified, total: u64, marks: &[Mark])
         requires { IsFed image.now total marks.now self.old }
         ensures fed { IsFed image.now total marks.now self.new }

@@ -1,18 +1,18 @@
-//! What holds of all lines and prints.
+//! Laws about all lines and prints.
 
 ghost use Rattle.plan_status.specs.Live.{EndsStay, FeedStays, FeedsJoin, ShowingStays, ShownIsFree, UnusedIsFed};
 ghost use Rattle.plan_status.specs.Printing.{LinesJoin, PrintsJoin, StopStays};
 
 use plan_text::writes_join;
 
-/// The lines of some marks and of others behind them are the lines of the former, and then those of the latter, counted
-/// on.
+/// States that the lines of some marks and of others after them are the lines of the former, and then those of the
+/// latter, with the count going on.
 pub fn lines_join()
     ensures { LinesJoin }
 {}
 
-/// What is printed behind a text that the sink took is printed of both texts; and what stopped in a text stopped
-/// in each longer one.
+/// States that what is printed after a text that the sink took is printed of both texts, and that what stopped within a
+/// text stopped within each longer one.
 pub fn prints_join()
     ensures join { PrintsJoin }
     ensures stopped { StopStays }
@@ -20,8 +20,8 @@ pub fn prints_join()
     writes_join();
 }
 
-/// What is fed or shown of the marks so far is so of more marks too; a feed into which nothing was put fits any run; and no
-/// line is shown behind a mark after which a console edge held its place.
+/// States that what is fed or shown of the marks so far is so of more marks too, that a feed into which nothing was put
+/// suits any run, and that no line is shown after a mark after which a console edge held a job token.
 pub fn marks_may_come()
     ensures fed { FeedStays }
     ensures unused { UnusedIsFed }
@@ -29,7 +29,7 @@ pub fn marks_may_come()
     ensures free { ShownIsFree }
 {}
 
-/// The ends of a ring stay its ends.
+/// States that the ends of a ring stay its ends.
 pub fn ends_stay()
     ensures ends { EndsStay }
     ensures joins { FeedsJoin }

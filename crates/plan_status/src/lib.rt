@@ -1,15 +1,15 @@
-//! What the marks of a run tell its user, as lines of text.
+//! What the marks of a run report to its user, as lines of text.
 //!
-//! - `status_lines`: the status lines of a run's marks; `print` writes them to a sink.
-//! - `print_outcomes`: a line for each edge that says how it came out; `all_done`: whether all wanted edges ended well.
+//! - `status_lines`: the status lines of a run's marks. `print` writes them to a sink.
+//! - `print_outcomes`: a line for each edge that says how it ended. `all_done`: whether all wanted edges succeeded.
 //! - `PrintFault`: why a text wasn't printed to its end.
-//! - `live`: a ring through which lines are printed while a run goes on. Lanes fill its `Feed`, through a `Showing`; a
-//!   thread of its own prints from its `Tap`, which `settle` prints to the end once lanes are done.
-//! - `is_console`, `free_marks`: edges whose commands have the terminal, and how many marks are told of meanwhile.
-//! - `lines_join`, `prints_join`, `marks_may_come`, `ends_stay`: what holds of all lines, prints and rings, for the proofs
-//!   of the crates above.
+//! - `live`: a ring through which lines are printed while a run goes on. Lanes fill its `Feed`, by a `Showing`. Another
+//!   thread prints from its `Tap`, and `settle` prints the rest when lanes are done.
+//! - `is_console`, `free_marks`: edges whose commands have the terminal, and how many marks are reported meanwhile.
+//! - `lines_join`, `prints_join`, `marks_may_come`, `ends_stay`: laws about all lines, prints and rings, for the proofs of
+//!   the crates above.
 //!
-//! The lines are this project's own choice; docs/rules/replay.md has them one by one.
+//! The lines are this project's own. docs/rules/replay.md describes each of them.
 #![tactic(auto)]
 
 mod consoles;

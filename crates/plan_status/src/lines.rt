@@ -11,7 +11,7 @@ use plan_image::Parts;
 use plan_machine::{Cause, Mark};
 use std::alloc::{AllocError, Global};
 
-/// These texts, one behind the other.
+/// Joins texts.
 pub(crate) fn joined(alloc: Global, texts: &[&[u8]]) -> Result<Vec<u8>, AllocError>
     ensures { IfOk result (λ text. text.items ≡ concat (map (λ t. t.now) texts.now)) }
 {
@@ -22,7 +22,7 @@ pub(crate) fn joined(alloc: Global, texts: &[&[u8]]) -> Result<Vec<u8>, AllocErr
     Ok(text)
 }
 
-/// Why a depfile is refused, and where.
+/// Returns why a depfile is refused, and where.
 fn malformed_text(alloc: Global, number: u8, offset: u32) -> Result<Vec<u8>, AllocError>
     ensures { IfOk result (λ text. text.items ≡ defined.malformed_text number offset) }
 {
@@ -39,7 +39,7 @@ fn malformed_text(alloc: Global, number: u8, offset: u32) -> Result<Vec<u8>, All
     )
 }
 
-/// The status that a command ended with.
+/// Returns the status that a command ended with, as text.
 fn exit_text(alloc: Global, status: u8) -> Result<Vec<u8>, AllocError>
     ensures { IfOk result (λ text. text.items ≡ defined.exit_text status) }
 {
@@ -47,7 +47,7 @@ fn exit_text(alloc: Global, status: u8) -> Result<Vec<u8>, AllocError>
     joined(alloc, &[b"exit ".as_slice(), status.as_bytes()])
 }
 
-/// Which input is missing, where the file is in the image.
+/// Returns which input is missing. None if the file isn't in the image.
 fn missing_text(alloc: Global, parts: &Parts, file: u32) -> Result<Option<Vec<u8>>, AllocError>
     ensures { IfOk result (λ text. option_map (λ t. t.items) text ≡ defined.missing_text parts.now file) }
 {
@@ -58,7 +58,7 @@ fn missing_text(alloc: Global, parts: &Parts, file: u32) -> Result<Option<Vec<u8
     Ok(Some(text))
 }
 
-/// A cause that has no number.
+/// Returns the text of a cause that has no number.
 fn plain_text(cause: Cause) -> &'static [u8]
     ensures { result.now ≡ defined.plain_text cause }
 {
@@ -72,7 +72,7 @@ fn plain_text(cause: Cause) -> &'static [u8]
     }
 }
 
-/// Why an edge failed, where a file that it names is in the image.
+/// Returns why an edge failed. None if the cause names a file that isn't in the image.
 pub(crate) fn cause_text(
     alloc: Global,
     parts: &Parts,
@@ -90,7 +90,7 @@ pub(crate) fn cause_text(
     }
 }
 
-/// `[n/m] LABEL`
+/// Returns `[n/m] LABEL`.
 fn ran_line(
     alloc: Global,
     parts: &Parts,
@@ -119,7 +119,7 @@ fn ran_line(
     )
 }
 
-/// `FAILED NAME: CAUSE`
+/// Returns `FAILED NAME: CAUSE`.
 fn failed_line(alloc: Global, parts: &Parts, edge: u32, cause: Cause) -> Result<Vec<u8>, AllocError>
     ensures { IfOk result (λ line. line.items ≡ defined.failed_line (first_output parts.now edge) (defined.cause_text parts.now cause)) }
 {
@@ -133,7 +133,7 @@ fn failed_line(alloc: Global, parts: &Parts, edge: u32, cause: Cause) -> Result<
     }
 }
 
-/// `SKIPPED NAME: needs NAME` of a command edge
+/// Returns `SKIPPED NAME: needs NAME` for a command edge.
 fn skipped_line(alloc: Global, parts: &Parts, edge: u32, wait: u32) -> Result<Vec<u8>, AllocError>
     ensures { IfOk result (λ line. line.items ≡ (if has_command parts.now edge then defined.skipped_line (first_output parts.now edge) (first_output parts.now wait) else [])) }
 {
@@ -149,7 +149,7 @@ fn skipped_line(alloc: Global, parts: &Parts, edge: u32, wait: u32) -> Result<Ve
     }
 }
 
-/// `STOPPED NAME` of a command edge
+/// Returns `STOPPED NAME` for a command edge.
 fn stopped_line(alloc: Global, parts: &Parts, edge: u32) -> Result<Vec<u8>, AllocError>
     ensures { IfOk result (λ line. line.items ≡ (if has_command parts.now edge then defined.stopped_line (first_output parts.now edge) else [])) }
 {
@@ -162,7 +162,7 @@ fn stopped_line(alloc: Global, parts: &Parts, edge: u32) -> Result<Vec<u8>, Allo
     }
 }
 
-/// The line of a mark, where so many command edges came out with it.
+/// Returns the line of a mark. `n` is the number of command edges that have ended, with this one.
 pub(crate) fn line_of(
     alloc: Global,
     parts: &Parts,
@@ -181,7 +181,7 @@ pub(crate) fn line_of(
     }
 }
 
-/// Whether all that a cause names is in the image.
+/// Checks whether all that a cause names is in the image.
 fn is_known(parts: &Parts, cause: Cause) -> bool
     ensures { result ≡ is_some (defined.cause_text parts.now cause) }
 {
@@ -191,7 +191,7 @@ fn is_known(parts: &Parts, cause: Cause) -> bool
     }
 }
 
-/// Whether a mark says how a command edge came out, and all that it names is in the image.
+/// Checks whether a mark says how a command edge ended, and all that it names is in the image.
 pub(crate) fn tells_end(parts: &Parts, mark: Mark) -> bool
     ensures { result ≡ defined.tells_end parts.now mark }
 {

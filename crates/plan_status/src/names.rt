@@ -1,4 +1,4 @@
-//! What lines read of an image.
+//! What lines read from an image.
 
 ghost use Rattle.std.specs.Prelude.{◌≡◌, option_map};
 ghost use Rattle.plan_verify.specs.Tables.{first_output, first_path, outputs_of, path_of};
@@ -7,14 +7,14 @@ ghost use Rattle.plan_status.specs.Lines.{label_of};
 
 use plan_image::{Parts, Sort};
 
-/// The path of a file, where it is in the image.
+/// Returns the path of a file. None if it isn't in the image.
 pub(crate) fn path_of(parts: &Parts, file: u32) -> Option<&[u8]>
     ensures { option_map (λ path. path.now) result ≡ path_of parts.now file }
 {
     parts.files.get(file as usize)
 }
 
-/// The files that an edge makes.
+/// Returns the files that an edge makes.
 fn outputs(parts: &Parts, edge: u32) -> &[u32]
     ensures { result.now ≡ outputs_of parts.now edge }
 {
@@ -24,7 +24,7 @@ fn outputs(parts: &Parts, edge: u32) -> &[u32]
     }
 }
 
-/// The path of the first of these files.
+/// Returns the path of the first of these files.
 pub(crate) fn first_path<'a>(parts: &'a Parts, outputs: &[u32]) -> Option<&'a [u8]>
     ensures { option_map (λ path. path.now) result ≡ first_path parts.now outputs.now }
 {
@@ -34,14 +34,14 @@ pub(crate) fn first_path<'a>(parts: &'a Parts, outputs: &[u32]) -> Option<&'a [u
     }
 }
 
-/// The name of an edge: the path of its first output.
+/// Returns the name of an edge: the path of its first output.
 pub(crate) fn name_of(parts: &Parts, edge: u32) -> Option<&[u8]>
     ensures { option_map (λ path. path.now) result ≡ first_output parts.now edge }
 {
     first_path(parts, outputs(parts, edge))
 }
 
-/// The label of an edge.
+/// Returns the label of an edge.
 pub(crate) fn label_of(parts: &Parts, edge: u32) -> Option<&[u8]>
     ensures { option_map (λ label. label.now) result ≡ label_of parts.now edge }
 {
@@ -51,7 +51,7 @@ pub(crate) fn label_of(parts: &Parts, edge: u32) -> Option<&[u8]>
     }
 }
 
-/// Whether an edge has a command.
+/// Checks whether an edge has a command.
 pub(crate) fn has_command(parts: &Parts, edge: u32) -> bool
     ensures { result ≡ has_command parts.now edge }
 {

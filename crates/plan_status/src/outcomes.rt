@@ -1,4 +1,4 @@
-//! How the edges of an image came out.
+//! How the edges of an image ended.
 
 ghost use Rattle.std.specs.Prelude.{◌≡◌, IfOk, Some, length, option_map, slice_get};
 ghost use Rattle.std.specs.Result.{result_err};
@@ -18,7 +18,7 @@ use plan_text::{Sink, write_all, writes_join};
 use plan_verify::Verified;
 use std::alloc::{AllocError, Global};
 
-/// Why an edge failed, behind a word.
+/// Returns `Failed` and why an edge failed.
 fn failed_text(alloc: Global, parts: &Parts, cause: Cause) -> Result<Vec<u8>, AllocError>
     ensures { IfOk result (λ text. text.items ≡ defined.failed_text parts.now cause) }
 {
@@ -28,7 +28,7 @@ fn failed_text(alloc: Global, parts: &Parts, cause: Cause) -> Result<Vec<u8>, Al
     }
 }
 
-/// The edge over which another was skipped, behind a word.
+/// Returns `Skipped` and the edge because of which another was skipped.
 fn skipped_text(alloc: Global, wait: u32) -> Result<Vec<u8>, AllocError>
     ensures { IfOk result (λ text. text.items ≡ defined.skipped_text wait) }
 {
@@ -36,7 +36,7 @@ fn skipped_text(alloc: Global, wait: u32) -> Result<Vec<u8>, AllocError>
     joined(alloc, &[b"Skipped ".as_slice(), wait.as_bytes()])
 }
 
-/// An outcome that has no number; `Unended` where there is none.
+/// Returns the text of an outcome that has no number, or `Unended` if there is no outcome.
 fn plain_text(outcome: Option<Outcome>) -> &'static [u8]
     ensures { result.now ≡ defined.plain_outcome outcome }
 {
@@ -49,7 +49,7 @@ fn plain_text(outcome: Option<Outcome>) -> &'static [u8]
     }
 }
 
-/// An outcome; `Unended` where there is none.
+/// Returns the text of an outcome, or `Unended` if there is none.
 fn outcome_text(
     alloc: Global,
     parts: &Parts,
@@ -64,7 +64,7 @@ fn outcome_text(
     }
 }
 
-/// The name of an edge; empty where its first output isn't in the image.
+/// Returns the name of an edge. It is empty if its first output isn't in the image.
 fn edge_name<'a>(parts: &'a Parts, outputs: &[u32]) -> &'a [u8]
     ensures { result.now ≡ defined.edge_name parts.now outputs.now }
 {
@@ -74,7 +74,7 @@ fn edge_name<'a>(parts: &'a Parts, outputs: &[u32]) -> &'a [u8]
     }
 }
 
-/// `NUMBER NAME OUTCOME`
+/// Returns `NUMBER NAME OUTCOME`.
 fn outcome_line(
     alloc: Global,
     parts: &Parts,
@@ -93,7 +93,7 @@ fn outcome_line(
     )
 }
 
-/// Writes how an edge came out.
+/// Writes how an edge ended.
 fn print_outcome<W: Sink>(
     alloc: Global,
     parts: &Parts,
@@ -109,11 +109,11 @@ fn print_outcome<W: Sink>(
     Ok(())
 }
 
-/// Writes `NUMBER NAME OUTCOME` for each edge of the image, in their order, with the name of its first output. An outcome
-/// is `Clean`, `Ran`, `Failed CAUSE`, `Skipped NUMBER`, `Stopped`, `NotWanted`, or `Unended` where there is none.
+/// Writes `NUMBER NAME OUTCOME` for each edge of the image, in their order, with the name of its first output. An
+/// outcome is `Clean`, `Ran`, `Failed CAUSE`, `Skipped NUMBER`, `Stopped`, `NotWanted`, or `Unended` if there is none.
 ///
 /// # Errors
-/// `Memory`, `Write`: then the sink took a front of the lines.
+/// `Memory` or `Write`. Then the sink took a prefix of the lines.
 pub fn print_outcomes<W: Sink>(
     alloc: Global,
     image: &Verified,
@@ -136,7 +136,7 @@ pub fn print_outcomes<W: Sink>(
     Ok(())
 }
 
-/// Whether an edge ended well, or isn't wanted.
+/// Checks whether an edge succeeded, or isn't wanted.
 fn is_done(outcome: Option<Outcome>) -> bool
     ensures { result ≡ defined.is_done outcome }
 {
@@ -146,7 +146,7 @@ fn is_done(outcome: Option<Outcome>) -> bool
     )
 }
 
-/// Whether all wanted edges of the image ended well.
+/// Checks whether all wanted edges of the image succeeded.
 pub fn all_done(image: &Verified, state: &State) -> bool
     ensures { result ≡ defined.all_done image.now state.now.going.now }
 {

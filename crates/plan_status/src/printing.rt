@@ -15,7 +15,7 @@ use plan_text::{Sink, write_all, writes_join};
 use plan_verify::Verified;
 use std::alloc::{AllocError, Global};
 
-/// A number of command edges that came out, with one more mark.
+/// Returns the number of command edges that have ended, after one more mark.
 pub(crate) fn counted_on(parts: &Parts, n: u64, mark: Mark) -> u64
     requires { n < 18446744073709551615 }
     ensures { result ≡ (if defined.tells_end parts.now mark then 1 else 0) + n }
@@ -23,14 +23,14 @@ pub(crate) fn counted_on(parts: &Parts, n: u64, mark: Mark) -> u64
     if tells_end(parts, mark) { n + 1 } else { n }
 }
 
-/// The status lines of the marks of a run, from the first to the last; `total` is the number of command edges that the
-/// run may come to. An edge whose command ran gives `[n/m] LABEL`: `n` counts the marks so far that say how a command edge
-/// came out, `m` is the total. A failed edge gives `FAILED NAME: CAUSE`; a command edge that was skipped or stopped
-/// `SKIPPED NAME: needs NAME` or `STOPPED NAME`. A mark that names an edge or a file outside the image gives no line, and
-/// isn't counted.
+/// Returns the status lines of the marks of a run, from the first to the last. `total` is the number of command edges
+/// that the run may come to. An edge whose command ran gives `[n/m] LABEL`: `n` counts the marks so far that say how a
+/// command edge ended, and `m` is the total. A failed edge gives `FAILED NAME: CAUSE`, and a command edge that was
+/// skipped or stopped `SKIPPED NAME: needs NAME` or `STOPPED NAME`. A mark that names an edge or a file outside the
+/// image gives no line, and isn't counted.
 ///
 /// # Errors
-/// Want of memory alone.
+/// `AllocError` if memory runs out.
 pub fn status_lines(
     alloc: Global,
     image: &Verified,
@@ -50,7 +50,7 @@ pub fn status_lines(
     Ok(text)
 }
 
-/// Writes the line of a mark, where so many command edges came out with it.
+/// Writes the line of a mark. `n` is the number of command edges that have ended, with this one.
 fn print_line<W: Sink>(
     alloc: Global,
     parts: &Parts,
@@ -66,7 +66,7 @@ fn print_line<W: Sink>(
     Ok(())
 }
 
-/// Writes the lines of the marks behind the first so many, of which `n` say how a command edge came out.
+/// Writes the lines of the marks from index `from` on. `n` of the marks before them say how a command edge ended.
 pub(crate) fn print_behind<W: Sink>(
     alloc: Global,
     image: &Verified,
@@ -94,10 +94,10 @@ pub(crate) fn print_behind<W: Sink>(
     Ok(())
 }
 
-/// Writes the status lines of the marks of a run, as `status_lines` makes them. It holds one line at a time.
+/// Writes the status lines of the marks of a run, as `status_lines` returns them. It holds one line at a time.
 ///
 /// # Errors
-/// `Memory`, `Write`: then the sink took a front of the lines.
+/// `Memory` or `Write`. Then the sink took a prefix of the lines.
 pub fn print<W: Sink>(
     alloc: Global,
     image: &Verified,

@@ -10,7 +10,7 @@ use plan_machine::Mark;
 use plan_verify::Verified;
 use std::alloc::Global;
 
-/// A feed for the lines of one run, none of which is shown behind a console command that is under way.
+/// A feed for the lines of one run. No line of it is shown while a console command runs.
 #[derive(Drop)]
 pub struct Showing {
     pub(crate) feed: Feed,
@@ -23,10 +23,11 @@ impl Showing {
     ghost use Rattle.plan_machine.specs.declared.mark.Mark.{Mark as Told};
     ghost use Rattle.plan_status.specs.Live.{IsFed, IsShowing, IsUnused, SameFeed};
 
-    /// Nothing was shown of a run of this image that may come to so many command edges.
+    /// Creates the state in which nothing was shown of a run of this image. `total` is the number of command edges that
+    /// the run may come to.
     ///
     /// # Errors
-    /// Where memory is wanted, the feed comes back.
+    /// The feed, if memory runs out.
     pub fn new(alloc: Global, image: &Verified, total: u64, feed: Feed) -> Result<Showing, Feed>
         requires { IsUnused feed }
         ensures shows { IfOk result (λ s. (marks : List Told) → IsShowing image.now marks s) }
@@ -43,7 +44,7 @@ impl Showing {
         }
     }
 
-    /// Shows the lines of the marks that may be told of and weren't yet, as far as there is room. It never waits.
+    /// Shows the lines of the marks that may be reported and weren't yet, as far as there is room. It never waits.
     pub fn show(&mut self, image: &Verified, marks: &[Mark])
         requires { IsShowing image.now marks.now self.old }
         ensures shows { IsShowing image.now marks.now self.new }
@@ -54,7 +55,7 @@ impl Showing {
             .show(image, self.total, &marks[..self.consoles.free]);
     }
 
-    /// The feed.
+    /// Returns the feed.
     pub fn into_feed(self) -> Feed
         ensures { result ≡ self.feed }
     {

@@ -17,20 +17,20 @@ use plan_verify::Verified;
 use rtrb::{Consumer, RingBuffer};
 use std::alloc::{AllocError, Global};
 
-/// The end of a ring from which status lines are printed while a run goes on, and what stopped it.
+/// The end of a ring from which status lines are printed while a run goes on, and the reason if printing stopped.
 #[derive(Drop)]
 pub struct Tap {
     alloc: Global,
     pub(crate) ring: Consumer<Items<u8>>,
-    /// Why nothing is written any more.
+    /// The reason why nothing more is written.
     pub(crate) stop: Option<PrintFault>,
 }
 
-/// The two ends of a ring for so many lines: lanes fill one while a thread of its own prints from the other. Into a ring
-/// without room no line is put.
+/// Returns the two ends of a ring with room for `capacity` lines. Lanes fill one end while another thread prints from
+/// the other. No line is put into a ring without room.
 ///
 /// # Errors
-/// Want of memory alone.
+/// `AllocError` if memory runs out.
 pub fn live(alloc: Global, capacity: usize) -> Result<(Feed, Tap), AllocError>
     ensures ends { IfOk result (λ r. AreEnds r.0 r.1) }
     ensures begin { IfOk result (λ r. IsUnused r.0 × IsUntapped r.1) }
@@ -51,7 +51,7 @@ pub fn live(alloc: Global, capacity: usize) -> Result<(Feed, Tap), AllocError>
     Ok((feed, tap))
 }
 
-/// Writes a text behind what was written, unless that was stopped; and tells what stopped it.
+/// Writes a text after what was written, unless writing was stopped. Returns the reason if it is stopped.
 fn write_on<W: Sink>(stop: Option<PrintFault>, text: &[u8], out: &mut W) -> Option<PrintFault>
     ensures { (start : ℕ × Option (List ℕ)) (done : List ℕ)
         → Prints done stop start (W.failures out.old, W.taken out.old) → Prints (done ++ text.now) result start (W.failures out.new, W.taken out.new) }
@@ -74,8 +74,8 @@ impl Tap {
     ghost use Rattle.plan_status.specs.Live.{AreEnds, IsFed, SameTap, received_text, sent_text};
     ghost use Rattle.plan_status.specs.Printing.{Prints};
 
-    /// Takes the lines that are in the ring and writes them, until a write fails; from then on it takes them alone. It
-    /// never waits for lanes.
+    /// Takes the lines in the ring and writes them, until a write fails. After that it only takes them. It never waits
+    /// for lanes.
     pub fn print<W: Sink>(&mut self, out: &mut W)
         ensures printed { (start : ℕ × Option (List ℕ)) → Prints (received_text self.old) self.old.stop start (W.failures out.old, W.taken out.old)
             → Prints (received_text self.new) self.new.stop start (W.failures out.new, W.taken out.new) }
@@ -104,12 +104,12 @@ impl Tap {
         }
     }
 
-    /// Prints all that is left of a run, once lanes have given the feed back: the lines that are still in the ring, and
-    /// those that were not put in. With what was printed before these are the lines of all marks, each once and in their
-    /// order, exactly where it answers Ok.
+    /// Prints the rest of a run when lanes have returned the feed: the lines that are still in the ring, and those that
+    /// weren't put in. If it returns Ok, these and the lines printed before are the lines of all marks, each once and
+    /// in their order.
     ///
     /// # Errors
-    /// `Memory`, `Write`, now or in a print before: then a front of the lines is written.
+    /// `Memory` or `Write`, now or in an earlier print. Then a prefix of the lines is written.
     pub fn settle<W: Sink>(
         self,
         feed: Feed,
