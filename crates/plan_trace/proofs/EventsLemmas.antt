@@ -1,4 +1,4 @@
--- Words that are too few. Serves src/events.rt.
+-- Lines with too few words. Lemmas for src/events.rt.
 use Rattle.std.proofs.Common.{◌≡◌, ◌<◌, ℕ, List, [], ◌∷◌, None, length, map, arith, refl}
 use Rattle.plan_trace.specs.Reading.{event_of}
 

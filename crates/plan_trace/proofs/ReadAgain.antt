@@ -1,4 +1,4 @@
--- What is spelled is read again. Serves src/laws.rt.
+-- The spelling of a trace is read as that trace. Proofs for src/laws.rt.
 use Rattle.std.proofs.Common.{◌≡◌, ◌<◌, ◌≤◌, ℕ, ◌+◌, ◌-◌, ◌*◌, ◌/◌, ◌%◌, ◌^◌, Bool, true, false, not, ◌&&◌, nat_le, nat_lt, List, [], ◌∷◌, ◌++◌, Option, Some, None, Ok, map, option_map, if◌then◌else◌, refl, sym, ap, ◌∙◌, append_assoc, arith, codes, length}
 use Rattle.std.specs.Prelude.{◌==◌}
 use Rattle.std.specs.List.{concat, flat_map, list_all, onto_first}
@@ -30,7 +30,7 @@ use Rattle.plan_trace.proofs.SpellingLaw.{both, glyph_high, glyph_low}
 abbrev above : ℕ → List ℕ → Bool
 above low xs = list_all (λ b. nat_lt low b) xs
 
--- words without a blank or an end of line
+-- words without a space or an end of line
 abbrev plain : List ℕ → Bool
 plain word = above 32 word
 
@@ -359,7 +359,7 @@ record Targets (targets : List ℕ) (rest : List ℕ) : Type 0 where
   told : targets_of (parts_at 10 (flat_map target_line targets ++ rest)) ≡ targets
   left : behind_targets (parts_at 10 (flat_map target_line targets ++ rest)) ≡ parts_at 10 rest
 
--- events tell no target
+-- events are no targets
 none_again : (events : List Event) → list_all fits_event events ≡ true → Targets [] (flat_map event_line events)
 none_again [] h = record { told = refl; left = refl }
 none_again (e ∷ events) h =

@@ -1,4 +1,4 @@
--- Lines of a trace, one after another. Serves src/reading.rt.
+-- Lines of a trace, one after another. Lemmas for src/reading.rt.
 use Rattle.std.proofs.Common.{◌≡◌, ◌≢◌, ℕ, ◌+◌, ◌==◌, Bool, true, false, List, [], ◌∷◌, ◌++◌, Option, Some, None, Result, Ok, Err, cond, refl, sym, ap, ◌∙◌, append_assoc}
 use Rattle.std.specs.List.{onto_first}
 use Rattle.plan_machine.specs.declared.event.Event.{Event}
@@ -72,7 +72,7 @@ pub last_event : (n : ℕ) (text : List ℕ) → parts_at 10 text ≡ text ∷ [
 last_event n [] whole some = absurd (some refl)
 last_event n (b ∷ text) whole some = ap (events_of n) whole
 
--- events that were read, and what is read behind them
+-- the events that were read, before those that remain to be read
 abbrev pub with_front : List Event → Result (List Event) TraceFault → Result (List Event) TraceFault
 with_front done (Ok events) = Ok (done ++ events)
 with_front done (Err fault) = Err fault

@@ -1,10 +1,10 @@
--- Paths of an entry, one after another. Serves src/replies.rt.
+-- Paths of an entry, one after another. Lemmas for src/replies.rt.
 use Rattle.std.proofs.Common.{◌≡◌, ℕ, ◌+◌, ◌<◌, List, [], ◌∷◌, ◌++◌, Option, Some, None, length, get_or, drop, map, option_map, refl, sym, ap, ◌∙◌, append_assoc}
 use Rattle.std.proofs.lemmas.List.{drop_more}
 use Rattle.plan_trace.specs.Reading.{path_onto, paths_of}
 use Rattle.plan_trace.specs.Words.{bytes_of}
 
--- paths that were read, and what is read behind them
+-- the paths that were read, before those that remain to be read
 abbrev pub behind : List (List ℕ) → Option (List (List ℕ)) → Option (List (List ℕ))
 behind done rest = option_map (λ more. done ++ more) rest
 

@@ -1,4 +1,4 @@
--- What is read is spelled so. Serves src/laws.rt.
+-- A text that is read as a trace is its spelling. Proofs for src/laws.rt.
 use Rattle.std.proofs.Common.{◌≡◌, ◌<◌, ◌≤◌, ℕ, ◌+◌, ◌-◌, ◌*◌, ◌/◌, ◌%◌, Bool, true, false, ◌&&◌, nat_le, nat_lt, List, [], ◌∷◌, ◌++◌, Option, Some, None, Result, Ok, Err, map, option_map, if◌then◌else◌, refl, sym, ap, ◌∙◌, append_assoc, arith, codes, length}
 use Rattle.std.specs.List.{concat, flat_map, join_with_byte}
 use Rattle.std.specs.Str.{bytes_eq}
@@ -20,7 +20,7 @@ use Rattle.plan_trace.specs.Words.{byte_by, byte_of, bytes_of, digit_value, if_s
 use Rattle.plan_trace.specs.Spelling.{behind, event_line, event_words, line, options_words, reply_words, target_line, target_words, text_of}
 use Rattle.plan_trace.specs.Reading.{behind_by, behind_targets, entry_by, entry_of, event_by, event_of, event_with, events_of, is_head, options_by, options_of, path_onto, paths_of, plain_event, plain_reply, read_of, reply_of, reply_with, skip_of, target_of, targets_by, targets_of, then_event, trace_of, with_events, with_head, worded_entry, words_of}
 
--- ---- taking answers apart
+-- ---- taking results apart
 
 nothing : {A P : Type 0} {a : A} → None ≡ Some a → P
 nothing h = absurd cc
@@ -341,7 +341,7 @@ spaced (w ∷ v ∷ words) =
 line_of_words : (text : List ℕ) (words : List (List ℕ)) → words_of text ≡ words → text ++ 10 ∷ [] ≡ line words
 line_of_words text words is = ap (λ (x : List ℕ). x ++ 10 ∷ []) (sym (join_with_byte-slice_split 32 text) ∙ ap (join_with_byte 32) is) ∙ spaced words
 
--- a line in front of others
+-- a line before other lines
 in_front : (text next : List ℕ) (lines : List (List ℕ)) (front rest : List ℕ) → text ++ 10 ∷ [] ≡ front → join_with_byte 10 (next ∷ lines) ≡ rest
     → join_with_byte 10 (text ∷ next ∷ lines) ≡ front ++ rest
 in_front text next lines front rest is then_rest =

@@ -1,15 +1,15 @@
--- Words and digits, one after another. Serves src/words.rt and src/hex.rt.
+-- Words and digits, one after another. Lemmas for src/words.rt and src/hex.rt.
 use Rattle.std.proofs.Common.{◌≡◌, ◌≤◌, ℕ, ◌+◌, ◌<◌, Bool, true, false, List, [], ◌∷◌, ◌++◌, Option, Some, None, length, arith, refl, sym, ap, ◌∙◌, append_assoc, map, option_map}
 use Rattle.std.proofs.lemmas.List.{map_push}
 use Rattle.std.specs.List.{onto_first, position_or_len, slice_split}
 use Rattle.plan_trace.specs.Words.{byte_of, onto, pairs_of}
 
--- a row of items grows by the first of those that are left
+-- a list grows by the first of the remaining items
 pub goes_on : {X Y : Type 0} (f : X → Y) (done : List X) (x : X) (left rest whole : List Y) → left ≡ f x ∷ rest → map f done ++ left ≡ whole → map f (done ++ x ∷ []) ++ rest ≡ whole
 goes_on f done x left rest whole is so_far =
     ap (λ ys. ys ++ rest) (map_push f done x) ∙ append_assoc (map f done) (f x ∷ []) rest ∙ (ap (λ ys. map f done ++ ys) (sym is) ∙ so_far)
 
--- bytes that were read, and what is read behind them
+-- the bytes that were read, before those that remain to be read
 abbrev pub behind : List ℕ → Option (List ℕ) → Option (List ℕ)
 behind done rest = option_map (λ more. done ++ more) rest
 
@@ -26,12 +26,12 @@ pub no_byte : (done : List ℕ) (high low : ℕ) (rest : List ℕ) (whole : Opti
     → behind done (pairs_of (high ∷ low ∷ rest)) ≡ whole → None ≡ whole
 no_byte done high low rest whole is so_far = ap (λ (b : Option ℕ). behind done (onto b (pairs_of rest))) is ∙ so_far
 
--- digits without a partner are no bytes
+-- a single digit is no byte
 pub odd : (b : ℕ) (rest : List ℕ) → length (b ∷ rest) < 2 → pairs_of (b ∷ rest) ≡ None
 odd b [] few = refl
 odd b (c ∷ rest) few = absurd (omega (arith, few))
 
--- where no byte passes, the text is the one part
+-- if no byte passes the test, the text is the only part
 pub whole : (p : ℕ → Bool) (xs : List ℕ) → length xs ≤ position_or_len p xs → slice_split p xs ≡ xs ∷ []
 whole p [] few = refl
 whole p (x ∷ xs) few = by_first p x xs (p x) refl few (λ rest. whole p xs rest)

@@ -1,4 +1,4 @@
--- What holds of all traces.
+-- Laws about all traces.
 use Rattle.std.specs.Prelude.{◌≡◌, ℕ, Bool, true, ◌&&◌, nat_le, nat_lt, List, Ok}
 use Rattle.std.specs.List.{list_all}
 use Rattle.plan_machine.specs.Limits.{Limits}
@@ -10,7 +10,7 @@ use Rattle.plan_trace.specs.declared.trace.Trace.{Trace}
 use Rattle.plan_trace.specs.Spelling.{text_of}
 use Rattle.plan_trace.specs.Reading.{read_of}
 
--- a text that is read as a trace is its spelling: no trace has two
+-- a text that is read as a trace is its spelling: no trace has two spellings
 abbrev pub AreSpelledOnce : Type 0
 AreSpelledOnce = (text : List ℕ) (t : Trace) → read_of text ≡ Ok t → text ≡ text_of t
 
@@ -39,13 +39,13 @@ fits_event (Stop e) = is_edge e
 fits_event (Step e) = is_edge e
 fits_event (Hear e r) = is_edge e && fits_reply r
 
--- 1 to 64 jobs, a number of failures of 32 bits
+-- 1 to 64 jobs, and a failure limit of 32 bits
 abbrev pub fits_options : Limits → Bool
 fits_options o = nat_lt 0 o.jobs && nat_le o.jobs 64 && nat_le o.keep 4294967295
 
 abbrev pub fits : Trace → Bool
 fits t = fits_options t.options && list_all is_edge t.targets && list_all fits_event t.events
 
--- what is spelled is read again
+-- the spelling of a trace is read as that trace
 abbrev pub AreReadAgain : Type 0
 AreReadAgain = (t : Trace) → fits t ≡ true → read_of (text_of t) ≡ Ok t

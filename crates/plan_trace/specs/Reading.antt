@@ -1,4 +1,4 @@
--- What a trace says, line by line.
+-- The meaning of a trace, line by line.
 use Rattle.std.specs.Prelude.{ℕ, Bool, ◌+◌, ◌&&◌, nat_le, nat_lt, List, [], ◌∷◌, length, Option, Some, None, Result, Ok, Err, if◌then◌else◌, option_map, codes}
 use Rattle.std.specs.Str.{bytes_eq}
 use Rattle.plan_text.specs.Bytes.{line_feed, space}
@@ -81,7 +81,7 @@ event_by kind None words = None
 event_by kind (Some e) [] = plain_event kind e
 event_by kind (Some e) (word ∷ words) = event_with kind e (word ∷ words)
 
--- the event that these words tell, the first of them its kind, the second its edge
+-- the event in these words, whose first word is its kind and whose second is its edge
 abbrev pub event_of : List (List ℕ) → Option Event
 event_of (kind ∷ edge ∷ words) = event_by kind (number_of 4294967295 edge) words
 event_of words = None
@@ -104,13 +104,13 @@ abbrev pub target_of : List (List ℕ) → Option ℕ
 target_of (kind ∷ e ∷ []) = if bytes_eq kind (codes "target") then number_of 4294967295 e else None
 target_of words = None
 
--- ---- lines, of which the last is empty: behind each line stands a line feed
+-- ---- lines; the last one is empty, because a line feed follows each line
 
 abbrev pub targets_by : Option ℕ → List ℕ → List ℕ
 targets_by (Some e) more = e ∷ more
 targets_by None more = []
 
--- the targets, as many lines from the front as tell one
+-- the targets, one for each line from the front, as long as lines are targets
 abbrev pub targets_of : List (List ℕ) → List ℕ
 targets_of [] = []
 targets_of (last ∷ []) = []
@@ -120,7 +120,7 @@ abbrev pub behind_by : Option ℕ → List (List ℕ) → List (List ℕ) → Li
 behind_by (Some e) rest lines = rest
 behind_by None rest lines = lines
 
--- the lines behind the targets
+-- the lines after the targets
 abbrev pub behind_targets : List (List ℕ) → List (List ℕ)
 behind_targets [] = []
 behind_targets (last ∷ []) = last ∷ []
@@ -135,7 +135,7 @@ abbrev pub end_of : ℕ → List ℕ → Result (List Event) TraceFault
 end_of n [] = Ok []
 end_of n (b ∷ rest) = Err (BadTrace n)
 
--- the events that the lines from the n-th on tell, one each, or the first line that tells none
+-- the events in the lines from line n on, one for each line, or the first line that is no event
 abbrev pub events_of : ℕ → List (List ℕ) → Result (List Event) TraceFault
 events_of n [] = Ok []
 events_of n (last ∷ []) = end_of n last
@@ -153,7 +153,8 @@ abbrev pub trace_of : List (List ℕ) → Result Trace TraceFault
 trace_of (line ∷ next ∷ lines) = with_head (options_of (words_of line)) (next ∷ lines)
 trace_of lines = Err (BadTrace 1)
 
--- The trace that a text says, or its first line that says nothing, counted from 1: the first line says the options, then
--- come lines that tell a target, then lines that tell an event. Bytes behind the last line feed are a bad line.
+-- The trace in a text, or its first line that is not allowed at its place, counted from 1. The first line has
+-- the options. Then come lines with a target, and then lines with an event. Bytes after the last line feed are
+-- a bad line.
 abbrev pub read_of : List ℕ → Result Trace TraceFault
 read_of text = trace_of (parts_at line_feed text)

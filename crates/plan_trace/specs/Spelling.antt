@@ -1,4 +1,4 @@
--- How a trace is spelled. The format is this project's own choice.
+-- The spelling of a trace. The format is this project's own choice.
 use Rattle.std.specs.Prelude.{ℕ, List, [], ◌∷◌, ◌++◌, map, codes}
 use Rattle.std.specs.List.{flat_map}
 use Rattle.std.specs.Fmt.{decimal}
@@ -12,17 +12,17 @@ use Rattle.plan_machine.specs.declared.reply.Reply.{Reply}
 use Rattle.plan_machine.specs.declared.reply.Reply.TheVariants as reply
 use Rattle.plan_trace.specs.declared.trace.Trace.{Trace}
 
--- each word behind a space
+-- each word after a space
 abbrev pub behind : List (List ℕ) → List ℕ
 behind [] = []
 behind (word ∷ words) = space ∷ word ++ behind words
 
--- words with a space between each two, and the end of the line
+-- words, separated by spaces, and the end of the line
 abbrev pub line : List (List ℕ) → List ℕ
 line [] = line_feed ∷ []
 line (word ∷ words) = word ++ behind words ++ line_feed ∷ []
 
--- the first line: the version, how many jobs there are, how many failures are borne
+-- the first line: the version, the number of jobs, and the failure limit
 abbrev pub options_words : Limits → List (List ℕ)
 options_words o = codes "plan-trace" ∷ codes "1" ∷ codes "j" ∷ decimal o.jobs ∷ codes "k" ∷ decimal o.keep ∷ []
 

@@ -1,11 +1,11 @@
--- Lines and words, and what one word says.
+-- Lines and words, and the value of one word.
 use Rattle.std.specs.Prelude.{ℕ, ◌+◌, ◌-◌, ◌*◌, ◌==◌, ◌&&◌, nat_le, List, [], ◌∷◌, Option, Some, None, if◌then◌else◌, codes}
 use Rattle.std.specs.List.{slice_split}
 use Rattle.std.specs.Str.{bytes_eq}
 use Rattle.std.specs.Fmt.{decimal}
 use Rattle.plan_text.specs.Numerals.{number_in}
 
--- what stands between the bytes of this value
+-- the parts between the bytes with this value
 abbrev pub parts_at : ℕ → List ℕ → List (List ℕ)
 parts_at at text = slice_split (λ b. b == at) text
 
@@ -15,7 +15,7 @@ abbrev pub if_spelled : List ℕ → Option ℕ → Option ℕ
 if_spelled word (Some n) = if bytes_eq word (decimal n) then Some n else None
 if_spelled word None = None
 
--- a number in decimal digits without zeros in front, where it is at most this
+-- a number in decimal digits without leading zeros, if it is at most this
 abbrev pub number_of : ℕ → List ℕ → Option ℕ
 number_of most word = if_spelled word (number_in most word)
 
@@ -47,6 +47,6 @@ abbrev pub some_pairs_of : List ℕ → Option (List ℕ)
 some_pairs_of [] = None
 some_pairs_of (b ∷ rest) = pairs_of (b ∷ rest)
 
--- the bytes that a word says, a dash where there is none
+-- the bytes of a word, or none for a dash
 abbrev pub bytes_of : List ℕ → Option (List ℕ)
 bytes_of word = if bytes_eq word (codes "-") then Some [] else some_pairs_of word

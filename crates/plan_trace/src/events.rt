@@ -1,4 +1,4 @@
-//! Events, targets and options, read from lines.
+//! Reads events, targets and options from lines.
 
 ghost use Rattle.std.specs.Prelude.{◌≡◌, IfOk, Some, map, option_map};
 ghost use Rattle.plan_machine.specs.declared.event.Event.TheVariants.{Reply as Hear};
@@ -11,7 +11,7 @@ use crate::words::words_of;
 use plan_machine::{Event, Options};
 use std::alloc::{AllocError, Global};
 
-/// An event of two words.
+/// Returns an event of two words. Returns None if the words are no event.
 fn plain_event(kind: &[u8], edge: u32) -> Option<Event>
     ensures { result ≡ defined.plain_event kind.now edge }
 {
@@ -26,7 +26,7 @@ fn plain_event(kind: &[u8], edge: u32) -> Option<Event>
     }
 }
 
-/// An edge is skipped over the one that these words say.
+/// Returns the event that skips an edge because of the edge in these words.
 fn skip_of(edge: u32, words: &[&[u8]]) -> Option<Event>
     ensures { result ≡ defined.skip_of edge (map (λ w. w.now) words.now) }
 {
@@ -39,7 +39,7 @@ fn skip_of(edge: u32, words: &[&[u8]]) -> Option<Event>
     }
 }
 
-/// An edge hears the reply that these words say.
+/// Returns the event in which an edge receives the reply in these words.
 fn hear_of(alloc: Global, edge: u32, words: &[&[u8]]) -> Result<Option<Event>, AllocError>
     ensures { IfOk result (λ e. e ≡ option_map (Hear edge) (defined.reply_of (map (λ w. w.now) words.now))) }
 {
@@ -49,7 +49,7 @@ fn hear_of(alloc: Global, edge: u32, words: &[&[u8]]) -> Result<Option<Event>, A
     }
 }
 
-/// An event of three words or more.
+/// Returns an event of three words or more.
 fn event_with(
     alloc: Global,
     kind: &[u8],
@@ -67,7 +67,7 @@ fn event_with(
     Ok(None)
 }
 
-/// An event of an edge.
+/// Returns an event of an edge.
 fn event_by(
     alloc: Global,
     kind: &[u8],
@@ -82,7 +82,7 @@ fn event_by(
     }
 }
 
-/// The event that words tell.
+/// Returns the event in these words. Returns None if they are no event.
 fn event_of(alloc: Global, words: &[&[u8]]) -> Result<Option<Event>, AllocError>
     ensures { IfOk result (λ e. e ≡ defined.event_of (map (λ w. w.now) words.now)) }
 {
@@ -96,7 +96,7 @@ fn event_of(alloc: Global, words: &[&[u8]]) -> Result<Option<Event>, AllocError>
     }
 }
 
-/// The event that a line tells.
+/// Returns the event in a line. Returns None if the line is no event.
 pub(crate) fn event_in(alloc: Global, line: &[u8]) -> Result<Option<Event>, AllocError>
     ensures { IfOk result (λ e. e ≡ defined.event_of (defined.words_of line.now)) }
 {
@@ -104,7 +104,7 @@ pub(crate) fn event_in(alloc: Global, line: &[u8]) -> Result<Option<Event>, Allo
     event_of(alloc, &words)
 }
 
-/// The target that words tell.
+/// Returns the target in these words. Returns None if they are no target.
 fn target_of(words: &[&[u8]]) -> Option<u32>
     ensures { result ≡ defined.target_of (map (λ w. w.now) words.now) }
 {
@@ -119,7 +119,7 @@ fn target_of(words: &[&[u8]]) -> Option<u32>
     }
 }
 
-/// The target that a line tells.
+/// Returns the target in a line. Returns None if the line is no target.
 pub(crate) fn target_in(alloc: Global, line: &[u8]) -> Result<Option<u32>, AllocError>
     ensures { IfOk result (λ e. e ≡ defined.target_of (defined.words_of line.now)) }
 {
@@ -127,7 +127,7 @@ pub(crate) fn target_in(alloc: Global, line: &[u8]) -> Result<Option<u32>, Alloc
     Ok(target_of(&words))
 }
 
-/// Options of two numbers.
+/// Returns the options with these two numbers.
 fn options_by(jobs: &[u8], keep: &[u8]) -> Option<Options>
     ensures { result ≡ defined.options_by (words.number_of 255 jobs.now) (words.number_of 4294967295 keep.now) }
 {
@@ -137,7 +137,7 @@ fn options_by(jobs: &[u8], keep: &[u8]) -> Option<Options>
     }
 }
 
-/// Whether these words stand where the first line has no numbers.
+/// Returns whether these are the words of the first line that are not numbers.
 fn is_head(name: &[u8], version: &[u8], j: &[u8], k: &[u8]) -> bool
     ensures { result ≡ defined.is_head name.now version.now j.now k.now }
 {
@@ -147,7 +147,7 @@ fn is_head(name: &[u8], version: &[u8], j: &[u8], k: &[u8]) -> bool
         && k == b"k".as_slice()
 }
 
-/// The options that words say.
+/// Returns the options in these words. Returns None if they are no options.
 fn options_of(words: &[&[u8]]) -> Option<Options>
     ensures { result ≡ defined.options_of (map (λ w. w.now) words.now) }
 {
@@ -162,7 +162,7 @@ fn options_of(words: &[&[u8]]) -> Option<Options>
     }
 }
 
-/// The options that a line says.
+/// Returns the options in a line. Returns None if the line has none.
 pub(crate) fn options_in(alloc: Global, line: &[u8]) -> Result<Option<Options>, AllocError>
     ensures { IfOk result (λ o. o ≡ defined.options_of (defined.words_of line.now)) }
 {

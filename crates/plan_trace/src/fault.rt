@@ -1,13 +1,13 @@
-//! Why a text is no trace.
+//! The reasons why a text is no trace.
 
 use std::alloc::{AllocError, AllocFailed};
 
-/// Why a text is no trace.
+/// The reason why a text is no trace.
 #[derive(Clone, Copy, Debug, PartialEq, Eq)]
 pub enum TraceFault {
-    /// A line that says nothing where it stands: its number, counted from 1.
+    /// A line is not allowed at its place. Holds its number, counted from 1.
     BadTrace(u64),
-    /// Memory ran out. It says nothing of the text.
+    /// Memory ran out. This fault does not depend on the text.
     Memory,
 }
 

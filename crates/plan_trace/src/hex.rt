@@ -1,4 +1,4 @@
-//! Bytes in hexadecimal digits, read and written.
+//! Reads and writes bytes in hexadecimal digits.
 
 ghost use Rattle.std.specs.Prelude.{◌≡◌, ◌<◌, ◌∷◌, IfOk, IfSome, false, is_ok, length, map, option_map};
 ghost use Rattle.std.specs.Option.{IfNone};
@@ -11,7 +11,7 @@ ghost use Rattle.plan_trace.specs.Words as defined;
 use plan_text::{Sink, SinkFault, write_all, writes_join};
 use std::alloc::{AllocError, Global};
 
-/// The value of a digit.
+/// Returns the value of a digit. Returns None for other bytes.
 fn digit_value(digit: u8) -> Option<u8>
     ensures same { result ≡ defined.digit_value digit }
     ensures small { IfSome result (λ v. v < 16) }
@@ -23,7 +23,7 @@ fn digit_value(digit: u8) -> Option<u8>
     }
 }
 
-/// The byte of two digits.
+/// Returns the byte of two digits. Returns None if one of them is no digit.
 fn byte_of(high: u8, low: u8) -> Option<u8>
     ensures { result ≡ defined.byte_of high low }
 {
@@ -33,7 +33,7 @@ fn byte_of(high: u8, low: u8) -> Option<u8>
     }
 }
 
-/// The first two digits, and what is behind them.
+/// Returns the first two digits, and the bytes after them. Returns None if there are fewer than two.
 fn first_pair(digits: &[u8]) -> Option<(u8, u8, &[u8])>
     ensures some { IfSome result (λ x. digits.now ≡ x.0 ∷ x.1 ∷ x.2.now) }
     ensures none { IfNone result (length digits.now < 2) }
@@ -44,7 +44,7 @@ fn first_pair(digits: &[u8]) -> Option<(u8, u8, &[u8])>
     }
 }
 
-/// The bytes of pairs of digits.
+/// Returns the bytes of pairs of digits. Returns None if the text doesn't consist of pairs of digits.
 #[tactic(auto, using(crate::proofs::WordsLemmas::byte_more, crate::proofs::WordsLemmas::no_byte, crate::proofs::WordsLemmas::odd))]
 fn pairs_of(alloc: Global, digits: &[u8]) -> Result<Option<Vec<u8>>, AllocError>
     ensures { IfOk result (λ bytes. option_map (λ v. v.items) bytes ≡ defined.pairs_of digits.now) }
@@ -64,7 +64,8 @@ fn pairs_of(alloc: Global, digits: &[u8]) -> Result<Option<Vec<u8>>, AllocError>
     Ok(Some(bytes))
 }
 
-/// The bytes that a word says, a dash where there is none.
+/// Returns the bytes of a word in hexadecimal digits. A dash stands for no bytes. Returns None if the word has
+/// another form.
 pub(crate) fn bytes_of(alloc: Global, word: &[u8]) -> Result<Option<Vec<u8>>, AllocError>
     ensures { IfOk result (λ bytes. option_map (λ v. v.items) bytes ≡ defined.bytes_of word.now) }
 {
@@ -77,7 +78,7 @@ pub(crate) fn bytes_of(alloc: Global, word: &[u8]) -> Result<Option<Vec<u8>>, Al
     pairs_of(alloc, word)
 }
 
-/// A digit below 16.
+/// Returns the hexadecimal digit of a number below 16.
 const fn digit(n: u8) -> u8
     requires { n < 16 }
     ensures { result ≡ digit_glyph false n }
@@ -106,7 +107,7 @@ fn write_digits<W: Sink>(bytes: &[u8], out: &mut W) -> Result<(), SinkFault>
     Ok(())
 }
 
-/// Writes bytes in hexadecimal digits, or a dash if there is none. It takes no memory.
+/// Writes bytes in hexadecimal digits, or a dash if there are none. It takes no memory.
 pub(crate) fn write_hex<W: Sink>(bytes: &[u8], out: &mut W) -> Result<(), SinkFault>
     ensures { Writes (is_ok result) (W.failures out.old, W.taken out.old) (W.failures out.new, W.taken out.new) (hex bytes.now) }
 {

@@ -1,14 +1,14 @@
-//! What holds of all traces.
+//! Laws about all traces.
 
 ghost use Rattle.plan_trace.specs.Laws.{AreReadAgain, AreSpelledOnce};
 
-/// A text that is read as a trace is that trace's spelling: no trace has two.
+/// States that a text that is read as a trace is that trace's spelling, so no trace has two spellings.
 pub fn traces_are_spelled_once()
     ensures { AreSpelledOnce }
 {}
 
-/// The spelling of a trace is read as that trace, where its numbers fit their types: what `write_trace` wrote whole,
-/// `read_trace` answers.
+/// States that the spelling of a trace is read as that trace, if its numbers fit their types. If `write_trace`
+/// has written a trace completely, `read_trace` returns the same trace.
 pub fn traces_are_read_again()
     ensures { AreReadAgain }
 {}

@@ -1,10 +1,12 @@
-//! Traces: the text of a run, which has its options, targets and events.
+//! Traces: the text of a run, with its options, targets and events.
 //!
-//! - `Trace`: a run; `read_trace`: the trace that a text says, or its first bad line (`TraceFault`); `write_trace`: its text;
-//!   `write_run`: the text of a run that is in parts. Writing takes no memory.
-//! - `traces_are_spelled_once`, `traces_are_read_again`: what holds of all traces, for the proofs of the crates above.
+//! - `Trace` is a run. `read_trace` reads a trace from a text, or returns its first bad line (`TraceFault`).
+//!   `write_trace` writes the text of a trace. `write_run` writes the text of a run whose events are in a
+//!   journal. Writing takes no memory.
+//! - `traces_are_spelled_once` and `traces_are_read_again` are laws about all traces, for the proofs of the
+//!   crates above.
 //!
-//! The format is this project's own choice; docs/rules/replay.md has it line by line.
+//! The format is this project's own choice. docs/rules/replay.md lists its rules.
 #![tactic(auto)]
 
 mod events;

@@ -1,4 +1,4 @@
-//! Lines of a trace, written. Nothing here takes memory.
+//! Writes lines of a trace. No function here takes memory.
 
 ghost use Rattle.std.specs.Prelude.{◌∷◌, ◌++◌, [], codes, is_ok};
 ghost use Rattle.std.specs.Fmt.{decimal};
@@ -10,7 +10,7 @@ use crate::word_writer::{write_number, write_reply};
 use plan_machine::{Event, Options, Reply};
 use plan_text::{Sink, SinkFault, write_all, writes_join};
 
-/// Writes a word, which begins a line, and a number behind a space.
+/// Writes a word, which begins a line, and a number after a space.
 fn write_begun<W: Sink>(word: &[u8], number: u64, out: &mut W) -> Result<(), SinkFault>
     ensures { Writes (is_ok result) (W.failures out.old, W.taken out.old) (W.failures out.new, W.taken out.new) (word.now ++ 32 ∷ decimal number) }
 {
@@ -21,7 +21,7 @@ fn write_begun<W: Sink>(word: &[u8], number: u64, out: &mut W) -> Result<(), Sin
     }
 }
 
-/// Writes a number behind a space, and the end of the line.
+/// Writes a number after a space, and the end of the line.
 fn write_last_number<W: Sink>(number: u64, out: &mut W) -> Result<(), SinkFault>
     ensures { Writes (is_ok result) (W.failures out.old, W.taken out.old) (W.failures out.new, W.taken out.new) (defined.behind (decimal number ∷ []) ++ 10 ∷ []) }
 {
@@ -32,7 +32,7 @@ fn write_last_number<W: Sink>(number: u64, out: &mut W) -> Result<(), SinkFault>
     }
 }
 
-/// Writes a reply, each word behind a space, and the end of the line.
+/// Writes a reply, each word after a space, and the end of the line.
 fn write_last_reply<W: Sink>(reply: &Reply, out: &mut W) -> Result<(), SinkFault>
     ensures { Writes (is_ok result) (W.failures out.old, W.taken out.old) (W.failures out.new, W.taken out.new) (defined.behind (defined.reply_words reply.now) ++ 10 ∷ []) }
 {
@@ -54,7 +54,7 @@ fn write_short<W: Sink>(word: &[u8], number: u32, out: &mut W) -> Result<(), Sin
     }
 }
 
-/// Writes the line of an edge that is skipped over another.
+/// Writes the line of an edge that is skipped because of another one.
 fn write_skip<W: Sink>(edge: u32, wait: u32, out: &mut W) -> Result<(), SinkFault>
     ensures { Writes (is_ok result) (W.failures out.old, W.taken out.old) (W.failures out.new, W.taken out.new) (defined.event_line (Skip edge wait)) }
 {
@@ -65,7 +65,7 @@ fn write_skip<W: Sink>(edge: u32, wait: u32, out: &mut W) -> Result<(), SinkFaul
     }
 }
 
-/// Writes the line of an edge that hears a reply.
+/// Writes the line of an edge that receives a reply.
 fn write_heard<W: Sink>(edge: u32, reply: &Reply, out: &mut W) -> Result<(), SinkFault>
     ensures { Writes (is_ok result) (W.failures out.old, W.taken out.old) (W.failures out.new, W.taken out.new) (defined.event_line (Hear edge reply.now)) }
 {
@@ -96,7 +96,7 @@ pub(crate) fn write_target<W: Sink>(target: u32, out: &mut W) -> Result<(), Sink
     write_short(b"target", target, out)
 }
 
-/// Writes how many failures are borne, and the end of the first line.
+/// Writes the failure limit, and the end of the first line.
 fn write_keep<W: Sink>(keep: u32, out: &mut W) -> Result<(), SinkFault>
     ensures { Writes (is_ok result) (W.failures out.old, W.taken out.old) (W.failures out.new, W.taken out.new) (defined.behind (codes "k" ∷ decimal keep ∷ []) ++ 10 ∷ []) }
 {

@@ -1,11 +1,12 @@
-//! Numbers as a trace spells them.
+//! Reads numbers in the form that a trace has.
 
 ghost use Rattle.std.specs.Prelude.{◌≡◌};
 ghost use Rattle.plan_trace.specs.Words as defined;
 
 use plan_text::number_in;
 
-/// The number that a word says in decimal digits without zeros in front, where it is at most `most`.
+/// Returns the number of a word in decimal digits without leading zeros. Returns None if the word has another
+/// form, or the number is greater than `most`.
 pub(crate) fn number_of(word: &[u8], most: u64) -> Option<u64>
     ensures { result ≡ defined.number_of most word.now }
 {
@@ -18,7 +19,7 @@ pub(crate) fn number_of(word: &[u8], most: u64) -> Option<u64>
     }
 }
 
-/// A number of 32 bits, as that of an edge.
+/// Returns a number of 32 bits, such as that of an edge.
 pub(crate) fn short_number_of(word: &[u8]) -> Option<u32>
     ensures { result ≡ defined.number_of 4294967295 word.now }
 {

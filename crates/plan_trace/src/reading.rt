@@ -1,4 +1,4 @@
-//! Traces, read from their text.
+//! Reads traces from their text.
 
 ghost use Rattle.std.specs.Prelude.{◌≡◌, ◌≢◌, ◌<◌, ◌≤◌, ◌+◌, ◌^◌, ℕ, [], ◌∷◌, Err, IfOk, IfSome, Some, length};
 ghost use Rattle.std.specs.Option.{IfNone};
@@ -15,7 +15,7 @@ use plan_machine::{Event, Options};
 use plan_text::Items;
 use std::alloc::{AllocError, Global};
 
-/// The target that the first line tells, and what is behind the line.
+/// Returns the target in the first line, and the text after that line. Returns None if the line is no target.
 fn first_target(alloc: Global, text: &[u8]) -> Result<Option<(u32, &[u8])>, AllocError>
     ensures some { IfOk result (λ found. IfSome found (λ x. (defined.targets_of (parts_at 10 text.now) ≡ x.0 ∷ defined.targets_of (parts_at 10 x.1.now))
         × (defined.behind_targets (parts_at 10 text.now) ≡ defined.behind_targets (parts_at 10 x.1.now)) × (length x.1.now < length text.now))) }
@@ -30,7 +30,7 @@ fn first_target(alloc: Global, text: &[u8]) -> Result<Option<(u32, &[u8])>, Allo
     }
 }
 
-/// The targets, and what is behind them.
+/// Returns the targets, and the text after them.
 fn read_targets(alloc: Global, text: &[u8]) -> Result<(Vec<u32>, &[u8]), AllocError>
     ensures targets { IfOk result (λ x. x.0.items ≡ defined.targets_of (parts_at 10 text.now)) }
     ensures behind { IfOk result (λ x. parts_at 10 x.1.now ≡ defined.behind_targets (parts_at 10 text.now)) }
@@ -50,7 +50,7 @@ fn read_targets(alloc: Global, text: &[u8]) -> Result<(Vec<u32>, &[u8]), AllocEr
     Ok((targets, rest))
 }
 
-/// The event that the first line tells, and what is behind the line.
+/// Returns the event in the first line, and the text after that line. Returns None if the line is no event.
 fn first_event(alloc: Global, text: &[u8]) -> Result<Option<(Event, &[u8])>, AllocError>
     ensures some { IfOk result (λ found. IfSome found (λ x. ((n : ℕ) → defined.events_of n (parts_at 10 text.now) ≡ defined.then_event n (Some x.0) (defined.events_of (n + 1) (parts_at 10 x.1.now)))
         × (length x.1.now < length text.now))) }
@@ -65,7 +65,7 @@ fn first_event(alloc: Global, text: &[u8]) -> Result<Option<(Event, &[u8])>, All
     }
 }
 
-/// The events that lines tell, the first of which has this number.
+/// Returns the events in lines, the first of which has this number.
 fn read_events(alloc: Global, text: &[u8], number: u64) -> Result<Vec<Event>, TraceFault>
     requires { number + length text.now < 2 ^ 64 }
     ensures { Meets TraceFault.Memory (λ events. events.items) result (defined.events_of number (parts_at 10 text.now)) }
@@ -86,7 +86,7 @@ fn read_events(alloc: Global, text: &[u8], number: u64) -> Result<Vec<Event>, Tr
     Ok(events)
 }
 
-/// What the lines behind the first say.
+/// Reads the lines after the first one.
 fn read_behind(alloc: Global, options: Options, text: &[u8]) -> Result<Trace, TraceFault>
     ensures { Meets TraceFault.Memory (λ trace. trace) result (defined.with_head (Some options) (parts_at 10 text.now)) }
 {
@@ -99,12 +99,15 @@ fn read_behind(alloc: Global, options: Options, text: &[u8]) -> Result<Trace, Tr
     })
 }
 
-/// The trace that a text says: the first line its options, then lines that tell a target each, then lines that tell an
-/// event each. Words are separated by one space, lines end by a line feed, numbers are decimal without zeros in front,
-/// bytes hexadecimal in small letters, a dash where there is none. So a trace has one spelling.
+/// Reads a trace from a text. The first line has its options. Then come lines with one target each, and then
+/// lines with one event each. Words are separated by one space, and lines end with a line feed. Numbers are
+/// decimal without leading zeros, and bytes are hexadecimal in lower case, or a dash if there are none. A trace
+/// therefore has only one spelling.
 ///
 /// # Errors
-/// `BadTrace` with the first line that says nothing where it stands; `Memory`.
+///
+/// - `BadTrace` with the number of the first line that is not allowed at its place.
+/// - `Memory` if memory runs out.
 pub fn read_trace(alloc: Global, text: &[u8]) -> Result<Trace, TraceFault>
     ensures { Meets TraceFault.Memory (λ trace. trace) result (defined.read_of text.now) }
 {

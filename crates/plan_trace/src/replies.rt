@@ -1,4 +1,4 @@
-//! Replies, read from the words of a line.
+//! Reads replies from the words of a line.
 
 ghost use Rattle.std.specs.Prelude.{◌≡◌, IfOk, map, option_map};
 ghost use Rattle.plan_machine.specs.declared.reply.Reply.TheVariants as replies;
@@ -13,7 +13,7 @@ use plan_text::RowList;
 use plan_verify::{PathList, Words};
 use std::alloc::{AllocError, Global};
 
-/// A reply of one word.
+/// Returns a reply of one word. Returns None if the word is no reply.
 fn plain_reply(word: &[u8]) -> Option<Reply>
     ensures { result ≡ defined.plain_reply word.now }
 {
@@ -32,7 +32,7 @@ fn plain_reply(word: &[u8]) -> Option<Reply>
     }
 }
 
-/// A depfile of these bytes.
+/// Returns the reply with a depfile of these bytes.
 fn depfile_reply(alloc: Global, bytes: Vec<u8>) -> Result<Reply, AllocError>
     ensures { IfOk result (λ r. r ≡ replies.Bytes bytes.items) }
 {
@@ -42,7 +42,7 @@ fn depfile_reply(alloc: Global, bytes: Vec<u8>) -> Result<Reply, AllocError>
     }
 }
 
-/// A depfile of the bytes that a word says.
+/// Returns the reply with a depfile of the bytes in a word.
 fn bytes_reply(alloc: Global, word: &[u8]) -> Result<Option<Reply>, AllocError>
     ensures { IfOk result (λ r. r ≡ option_map replies.Bytes (words.bytes_of word.now)) }
 {
@@ -52,7 +52,7 @@ fn bytes_reply(alloc: Global, word: &[u8]) -> Result<Option<Reply>, AllocError>
     }
 }
 
-/// The time at which a file was last changed.
+/// Returns the reply with the time at which a file was last changed.
 fn stamp_reply(word: &[u8]) -> Option<Reply>
     ensures { result ≡ option_map replies.Stamp (words.number_of 18446744073709551615 word.now) }
 {
@@ -62,7 +62,7 @@ fn stamp_reply(word: &[u8]) -> Option<Reply>
     }
 }
 
-/// The status of a command.
+/// Returns the reply with the exit status of a command.
 fn exit_reply(word: &[u8]) -> Option<Reply>
     ensures { result ≡ option_map replies.Exit (words.number_of 255 word.now) }
 {
@@ -72,7 +72,7 @@ fn exit_reply(word: &[u8]) -> Option<Reply>
     }
 }
 
-/// A reply of two words.
+/// Returns a reply of two words. Returns None if the words are no reply.
 fn reply_with(alloc: Global, word: &[u8], more: &[u8]) -> Result<Option<Reply>, AllocError>
     ensures { IfOk result (λ r. r ≡ defined.reply_with word.now more.now) }
 {
@@ -88,7 +88,7 @@ fn reply_with(alloc: Global, word: &[u8], more: &[u8]) -> Result<Option<Reply>, 
     Ok(None)
 }
 
-/// The paths that words say.
+/// Returns the paths in these words. Returns None if one of the words has another form.
 #[tactic(auto, using(crate::proofs::RepliesLemmas::path_more, crate::proofs::RepliesLemmas::no_path))]
 fn paths_of(alloc: Global, words: &[&[u8]]) -> Result<Option<RowList<u8>>, AllocError>
     ensures { IfOk result (λ p. p ≡ defined.paths_of (map (λ w. w.now) words.now)) }
@@ -103,7 +103,7 @@ fn paths_of(alloc: Global, words: &[&[u8]]) -> Result<Option<RowList<u8>>, Alloc
     Ok(Some(paths))
 }
 
-/// An entry of these parts.
+/// Returns the reply with an entry of these parts.
 fn recorded_reply(
     alloc: Global,
     basis: u64,
@@ -117,7 +117,7 @@ fn recorded_reply(
     Ok(Reply::Entry(Recorded::new(alloc, command, basis, paths)?))
 }
 
-/// An entry of the record.
+/// Returns the reply with an entry of the record.
 fn entry_of(
     alloc: Global,
     basis: &[u8],
@@ -138,7 +138,7 @@ fn entry_of(
     Ok(Some(recorded_reply(alloc, basis, command, paths)?))
 }
 
-/// An entry of the record behind its word.
+/// Returns the reply with an entry of the record, after the word `entry`.
 fn worded_entry(
     alloc: Global,
     word: &[u8],
@@ -154,7 +154,7 @@ fn worded_entry(
     entry_of(alloc, basis, command, paths)
 }
 
-/// The reply that these words say.
+/// Returns the reply in these words. Returns None if they are no reply.
 pub(crate) fn reply_of(alloc: Global, words: &[&[u8]]) -> Result<Option<Reply>, AllocError>
     ensures { IfOk result (λ r. r ≡ defined.reply_of (map (λ w. w.now) words.now)) }
 {

@@ -3,7 +3,8 @@
 use plan_machine::{Event, Options};
 use plan_text::Items;
 
-/// A run: its options, the targets that were given (none stand for the image's defaults), and its events in their order.
+/// A run: its options, the given targets (none if the image's defaults are used), and its events in their
+/// order.
 #[derive(Drop)]
 pub struct Trace {
     pub options: Options,

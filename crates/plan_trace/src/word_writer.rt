@@ -1,4 +1,4 @@
-//! Words of a line, written behind what the line has so far. Nothing here takes memory.
+//! Writes words of a line after the words that it has so far. No function here takes memory.
 
 ghost use Rattle.std.specs.Prelude.{◌∷◌, [], codes, is_ok, map};
 ghost use Rattle.std.specs.Fmt.{decimal};
@@ -11,7 +11,7 @@ use plan_machine::{Recorded, Reply};
 use plan_text::{Sink, SinkFault, write_all, writes_join};
 use plan_verify::PathList;
 
-/// Writes a word behind a space.
+/// Writes a space and a word.
 fn write_word<W: Sink>(word: &[u8], out: &mut W) -> Result<(), SinkFault>
     ensures { Writes (is_ok result) (W.failures out.old, W.taken out.old) (W.failures out.new, W.taken out.new) (32 ∷ word.now) }
 {
@@ -22,7 +22,7 @@ fn write_word<W: Sink>(word: &[u8], out: &mut W) -> Result<(), SinkFault>
     }
 }
 
-/// Writes a number behind a space.
+/// Writes a space and a number.
 pub(crate) fn write_number<W: Sink>(number: u64, out: &mut W) -> Result<(), SinkFault>
     ensures { Writes (is_ok result) (W.failures out.old, W.taken out.old) (W.failures out.new, W.taken out.new) (32 ∷ decimal number) }
 {
@@ -30,7 +30,7 @@ pub(crate) fn write_number<W: Sink>(number: u64, out: &mut W) -> Result<(), Sink
     write_word(digits.format(number).as_bytes(), out)
 }
 
-/// Writes bytes as a word behind a space.
+/// Writes a space, and bytes as a word.
 fn write_bytes<W: Sink>(bytes: &[u8], out: &mut W) -> Result<(), SinkFault>
     ensures { Writes (is_ok result) (W.failures out.old, W.taken out.old) (W.failures out.new, W.taken out.new) (32 ∷ hex bytes.now) }
 {
@@ -41,7 +41,7 @@ fn write_bytes<W: Sink>(bytes: &[u8], out: &mut W) -> Result<(), SinkFault>
     }
 }
 
-/// Writes a word and a number, each behind a space.
+/// Writes a word and a number, each after a space.
 fn write_numbered<W: Sink>(word: &[u8], number: u64, out: &mut W) -> Result<(), SinkFault>
     ensures { Writes (is_ok result) (W.failures out.old, W.taken out.old) (W.failures out.new, W.taken out.new) (defined.behind (word.now ∷ decimal number ∷ [])) }
 {
@@ -52,7 +52,7 @@ fn write_numbered<W: Sink>(word: &[u8], number: u64, out: &mut W) -> Result<(), 
     }
 }
 
-/// Writes a word and bytes, each behind a space.
+/// Writes a word and bytes, each after a space.
 fn write_worded<W: Sink>(word: &[u8], bytes: &[u8], out: &mut W) -> Result<(), SinkFault>
     ensures { Writes (is_ok result) (W.failures out.old, W.taken out.old) (W.failures out.new, W.taken out.new) (defined.behind (word.now ∷ hex bytes.now ∷ [])) }
 {
@@ -63,7 +63,7 @@ fn write_worded<W: Sink>(word: &[u8], bytes: &[u8], out: &mut W) -> Result<(), S
     }
 }
 
-/// Writes each path as a word behind a space.
+/// Writes each path as a word after a space.
 fn write_paths<W: Sink>(paths: &PathList, out: &mut W) -> Result<(), SinkFault>
     ensures { Writes (is_ok result) (W.failures out.old, W.taken out.old) (W.failures out.new, W.taken out.new) (defined.behind (map hex paths.now)) }
 {
@@ -77,7 +77,7 @@ fn write_paths<W: Sink>(paths: &PathList, out: &mut W) -> Result<(), SinkFault>
     Ok(())
 }
 
-/// Writes bytes and paths, each as a word behind a space.
+/// Writes bytes and paths, each as a word after a space.
 fn write_listed<W: Sink>(bytes: &[u8], paths: &PathList, out: &mut W) -> Result<(), SinkFault>
     ensures { Writes (is_ok result) (W.failures out.old, W.taken out.old) (W.failures out.new, W.taken out.new) (defined.behind (hex bytes.now ∷ map hex paths.now)) }
 {
@@ -88,7 +88,7 @@ fn write_listed<W: Sink>(bytes: &[u8], paths: &PathList, out: &mut W) -> Result<
     }
 }
 
-/// Writes the parts of what a record has for an output, each word behind a space.
+/// Writes the parts of a record's entry, each word after a space.
 fn write_entry<W: Sink>(
     basis: u64,
     command: &[u8],
@@ -104,7 +104,7 @@ fn write_entry<W: Sink>(
     }
 }
 
-/// Writes what a record has for an output, each word behind a space.
+/// Writes a record's entry, each word after a space.
 fn write_recorded<W: Sink>(recorded: &Recorded, out: &mut W) -> Result<(), SinkFault>
     ensures { Writes (is_ok result) (W.failures out.old, W.taken out.old) (W.failures out.new, W.taken out.new) (defined.behind (defined.recorded_words recorded.now)) }
 {
@@ -112,7 +112,7 @@ fn write_recorded<W: Sink>(recorded: &Recorded, out: &mut W) -> Result<(), SinkF
     write_entry(recorded.basis(), command, recorded.paths(), out)
 }
 
-/// Writes a reply, each word behind a space.
+/// Writes a reply, each word after a space.
 pub(crate) fn write_reply<W: Sink>(reply: &Reply, out: &mut W) -> Result<(), SinkFault>
     ensures { Writes (is_ok result) (W.failures out.old, W.taken out.old) (W.failures out.new, W.taken out.new) (defined.behind (defined.reply_words reply.now)) }
 {
@@ -120,7 +120,7 @@ pub(crate) fn write_reply<W: Sink>(reply: &Reply, out: &mut W) -> Result<(), Sin
         Reply::Stamp(stamp) => write_numbered(b"stamp", *stamp, out),
         Reply::Entry(recorded) => write_recorded(recorded, out),
         Reply::Exit(status) => write_numbered(b"exit", u64::from(*status), out),
-        Reply::Bytes(depfile) => write_worded(b"bytes", depfile.parsed().bytes(), out),
+        Reply::Bytes(depfile) => write_worded(b"bytes", depfile.bytes(), out),
         Reply::Nothing => write_word(b"none", out),
         Reply::Signal => write_word(b"signal", out),
         Reply::NotStarted => write_word(b"notstarted", out),

@@ -1,4 +1,4 @@
-//! Traces, written. Nothing here takes memory.
+//! Writes traces. No function here takes memory.
 
 ghost use Rattle.std.specs.Prelude.{◌++◌, is_ok};
 ghost use Rattle.std.specs.List.{flat_map};
@@ -7,7 +7,7 @@ ghost use Rattle.plan_trace.specs.Spelling as defined;
 
 use crate::line_writer::{write_event, write_options, write_target};
 use crate::trace::Trace;
-use plan_journal::{Journal, ReadEvent};
+use plan_journal::{KeptJournal, ReadEvent};
 use plan_machine::{Event, Options};
 use plan_text::{Sink, SinkFault, writes_join};
 
@@ -47,7 +47,7 @@ fn write_read<W: Sink>(event: ReadEvent<'_>, out: &mut W) -> Result<(), SinkFaul
 }
 
 /// Writes the lines of a journal's events.
-fn write_journal<W: Sink>(journal: &Journal, out: &mut W) -> Result<(), SinkFault>
+fn write_journal<W: Sink>(journal: &KeptJournal, out: &mut W) -> Result<(), SinkFault>
     ensures { Writes (is_ok result) (W.failures out.old, W.taken out.old) (W.failures out.new, W.taken out.new) (flat_map defined.event_line journal.now) }
 {
     writes_join();
@@ -61,7 +61,7 @@ fn write_journal<W: Sink>(journal: &Journal, out: &mut W) -> Result<(), SinkFaul
     Ok(())
 }
 
-/// Writes the lines in front of those of the events.
+/// Writes the lines before those of the events.
 fn write_head<W: Sink>(options: Options, targets: &[u32], out: &mut W) -> Result<(), SinkFault>
     ensures { Writes (is_ok result) (W.failures out.old, W.taken out.old) (W.failures out.new, W.taken out.new) (defined.line (defined.options_words options) ++ flat_map defined.target_line targets.now) }
 {
@@ -75,11 +75,12 @@ fn write_head<W: Sink>(options: Options, targets: &[u32], out: &mut W) -> Result
 /// Writes the text of the trace of a run with these options, targets and events. It takes no memory.
 ///
 /// # Errors
-/// A write failed: then the sink took a front of the text.
+///
+/// A write failed. The sink then has taken some bytes from the front of the text.
 pub fn write_run<W: Sink>(
     options: Options,
     targets: &[u32],
-    journal: &Journal,
+    journal: &KeptJournal,
     out: &mut W,
 ) -> Result<(), SinkFault>
     ensures { Writes (is_ok result) (W.failures out.old, W.taken out.old) (W.failures out.new, W.taken out.new) (defined.run_text options targets.now journal.now) }
@@ -91,7 +92,7 @@ pub fn write_run<W: Sink>(
     }
 }
 
-/// Writes the text of a trace that is in parts.
+/// Writes the text of a trace, given its parts.
 fn write_parts<W: Sink>(
     options: Options,
     targets: &[u32],
@@ -110,7 +111,8 @@ fn write_parts<W: Sink>(
 /// Writes the text of a trace. It takes no memory.
 ///
 /// # Errors
-/// A write failed: then the sink took a front of the text.
+///
+/// A write failed. The sink then has taken some bytes from the front of the text.
 pub fn write_trace<W: Sink>(trace: &Trace, out: &mut W) -> Result<(), SinkFault>
     ensures { Writes (is_ok result) (W.failures out.old, W.taken out.old) (W.failures out.new, W.taken out.new) (defined.text_of trace.now) }
 {

@@ -4,7 +4,7 @@ use Rattle.plan_text.specs.Sinks.{Writes}
 use Rattle.plan_image.specs.Listing.{hex_byte}
 use Rattle.plan_trace.proofs.hex.write_digits.Given as goal
 
--- what was written, and what is still written behind it
+-- the text that was written, followed by the text that is still to be written
 abbrev pub invariant-loop-byte : goal.invariant-loop-byte
 invariant-loop-byte g l =
     (done : List ℕ) × (done ++ concat (map hex_byte (drop l.byte-index l.bytes)) ≡ concat (map hex_byte l.bytes))

@@ -4,7 +4,7 @@ use Rattle.plan_image.specs.Listing.{hex}
 use Rattle.plan_trace.specs.Spelling.{behind}
 use Rattle.plan_trace.proofs.word_writer.write_paths.Given as goal
 
--- what was written, and what is still written behind it
+-- the text that was written, followed by the text that is still to be written
 abbrev pub invariant-loop-number : goal.invariant-loop-number
 invariant-loop-number g l =
     (done : List ℕ) × (done ++ behind (map hex (drop l.number l.paths)) ≡ behind (map hex l.paths))

@@ -4,7 +4,7 @@ use Rattle.plan_text.specs.Sinks.{Writes}
 use Rattle.plan_trace.specs.Spelling.{event_line}
 use Rattle.plan_trace.proofs.writing.write_journal.Given as goal
 
--- what was written, and what is still written behind it
+-- the text that was written, followed by the text that is still to be written
 abbrev pub invariant-loop-event : goal.invariant-loop-event
 invariant-loop-event g l =
     (done : List ℕ) × (done ++ flat_map event_line l.rest ≡ flat_map event_line l.journal)

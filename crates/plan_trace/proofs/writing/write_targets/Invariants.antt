@@ -4,7 +4,7 @@ use Rattle.plan_text.specs.Sinks.{Writes}
 use Rattle.plan_trace.specs.Spelling.{target_line}
 use Rattle.plan_trace.proofs.writing.write_targets.Given as goal
 
--- what was written, and what is still written behind it
+-- the text that was written, followed by the text that is still to be written
 abbrev pub invariant-loop-target : goal.invariant-loop-target
 invariant-loop-target g l =
     (done : List ℕ) × (done ++ flat_map target_line (drop l.target-index l.targets) ≡ flat_map target_line l.targets)
