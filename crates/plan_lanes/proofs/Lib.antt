@@ -3,6 +3,7 @@ mod ListLemmas
 mod RunLemmas
 mod JournalLemmas
 mod TellingLemmas
+mod StampRowLemmas
 mod BoardLemmas
 mod StepLemmas
 mod RushLemmas

@@ -1,18 +1,16 @@
 -- What a board did that went on by several events. Serves src/board.rt and src/board/rushing.rt.
-use Rattle.std.proofs.Common.{◌≡◌, ◌≢◌, ◌+◌, ℕ, zero, suc, Bool, true, false, List, [], ◌∷◌, ◌++◌, Option, Some, None, length, length-append, refl, sym, ap, ◌∙◌, subst, arith}
-use Rattle.std.specs.Prelude.{◌||◌, ◌&&◌, not, IfOk, Result, Ok, Err, if◌then◌else◌, slice_get}
+use Rattle.std.proofs.Common.{◌≡◌, ◌+◌, ℕ, zero, suc, Bool, true, false, List, [], ◌∷◌, ◌++◌, Option, Some, None, length, length-append, refl, sym, ap, ◌∙◌, subst, arith}
+use Rattle.std.specs.Prelude.{◌||◌, ◌&&◌, not, if◌then◌else◌, slice_get}
 use Rattle.std.proofs.lemmas.List.{append_assoc}
 use Rattle.std.proofs.lemmas.Option.{slice_get_within}
 use Rattle.plan_image.specs.declared.image.Parts.{Parts}
 use Rattle.plan_verify.specs.Sound.{asking as awaiting}
-use Rattle.plan_verify.specs.Turn.{Local, Request, Did, Moved, Took, Released, Turn, Goes, Sets, Asks, Ends, Fails, Wrong, turn}
+use Rattle.plan_verify.specs.Turn.{Local, Request, Moved, Took, Released, Turn, Goes, Sets, Asks, Ends, Fails, Wrong, turn}
 use Rattle.plan_machine.specs.declared.event.Event.{Event}
 use Rattle.plan_machine.specs.declared.event.Event.TheVariants.{Step, Reply as Hear}
 use Rattle.plan_machine.specs.declared.mark.Mark.{Mark}
 use Rattle.plan_machine.specs.declared.mark.Mark.TheVariants as mark
-use Rattle.plan_machine.specs.declared.refused.Refused.{Refused}
 use Rattle.plan_machine.specs.declared.reply.Reply.{Reply}
-use Rattle.plan_machine.specs.declared.reply.Reply.TheVariants as reply
 use Rattle.plan_machine.specs.declared.rush.Rush.{Rush}
 use Rattle.plan_machine.specs.Depfile.{depfile}
 use Rattle.plan_machine.specs.Edges.{edge_of}
@@ -26,11 +24,9 @@ use Rattle.plan_machine.specs.State.{Status, Unbegun, Active, Over, State}
 use Rattle.plan_machine.specs.Step.{Next, NotEnabled, settles, step, stepped, steps}
 use Rattle.plan_lanes.specs.Boards.{Applies, IsOpen}
 use Rattle.plan_lanes.specs.Journals.{IsLastOf}
-use Rattle.plan_lanes.specs.declared.board.rushing.Followed.{Followed}
-use Rattle.plan_lanes.specs.declared.board.rushing.Followed.TheVariants as followed
-use Rattle.plan_lanes.specs.Proceeds.{AsksLast, AwaitsReply, HearsAndGoesOn, MovesOn, asking, asking_by, asks_again}
+use Rattle.plan_lanes.specs.Proceeds.{AsksLast, AwaitsReply, MovesOn, asking, asking_by}
 use Rattle.plan_lanes.specs.Progress.{Progress, going_of}
-use Rattle.plan_lanes.specs.Rushes.{AppliesAll, Follows, Rushes, Sweeps}
+use Rattle.plan_lanes.specs.Rushes.{AppliesAll, Follows, Rushes}
 use Rattle.plan_lanes.proofs.JournalLemmas.{last_here, last_same}
 use Rattle.plan_lanes.proofs.ListLemmas.{get_set}
 use Rattle.plan_lanes.proofs.RestLemmas.{last_step, next_is}
@@ -127,22 +123,6 @@ followed_awaits old new e reply r h asked = by r.steps r.asked asked h.1.run
     by : (n : ℕ) (a : Bool) → a ≡ true → Runs depfile old.opened.parts old.opened.limits old.state (Hear e reply ∷ events_by e n a) (h.0 ∷ marks_by e n a) new.state → AwaitsReply new e
     by n true k run = run_asked old.opened.parts old.opened.limits old.state new.state e n (Hear e reply ∷ steps_of e n) (h.0 ∷ moves_of e n) run
     by n false k run = absurd cc
-
-pub hears_awaits : (old new : Progress) (e : ℕ) (reply : Reply) (result : Result Followed Refused) → IfOk result (λ r. HearsAndGoesOn old new e reply (asks_again r)) → IfOk result (λ r. asks_again r ≡ true → AwaitsReply new e)
-hears_awaits old new e reply (Ok f) hears = λ again. followed_awaits old new e reply hears.0 hears.1 (hears.2 ∙ again)
-hears_awaits old new e reply (Err refused) hears = tt
-
-again_unless : (f : Followed) → f ≢ followed.Rests → asks_again f ≡ true
-again_unless followed.Renewed h = refl
-again_unless followed.Asks h = refl
-again_unless followed.Rests h = absurd (h refl)
-
--- a sweep that goes on is a reply, and a rush of the one step that asks
-pub swept_hears : (old new : Progress) (e stamp : ℕ) (r : Reply) (f : Followed) → Sweeps old new e stamp → r ≡ reply.Stamp stamp → f ≢ followed.Rests → HearsAndGoesOn old new e r (asks_again f)
-swept_hears old new e stamp r f h is asks =
-    let rush : Rush = record { steps = 0; asked = true } in
-    let hears : HearsAndGoesOn old new e (reply.Stamp stamp) (asks_again f) = (rush, (mark.Answered e, h), sym (again_unless f asks)) in
-    subst (λ (x : Reply). HearsAndGoesOn old new e x (asks_again f)) (sym is) hears
 
 -- the number of the last event
 last_number : (journal xs : List Event) (e number : ℕ) → journal ≡ xs ++ Step e ∷ [] → IsLastOf e number journal → number + 1 ≡ length journal

@@ -23,9 +23,14 @@ use Rattle.plan_lanes.specs.Progress.{Progress}
 use Rattle.plan_lanes.specs.Questions.{is_run, shown}
 use Rattle.plan_lanes.specs.Running.{awaits_run}
 use Rattle.plan_lanes.specs.Rushes.{AppliesAll}
+use Rattle.plan_lanes.specs.StampRows.{HaveStamps}
 
 stat_is_no_run : is_run (shown (asked.Stat (97 ∷ []))) ≡ false
 stat_is_no_run = refl
+
+-- a question of a sweep asks for the path at its place
+sweep_asks_for_one : shown (asked.Sweep ((97 ∷ []) ∷ (98 ∷ []) ∷ []) 1) ≡ Stat (98 ∷ [])
+sweep_asks_for_one = refl
 
 run_is_one : shown (asked.Run (120 ∷ []) ((97 ∷ []) ∷ [])) ≡ Run (120 ∷ []) ((97 ∷ []) ∷ [])
 run_is_one = refl
@@ -88,6 +93,23 @@ not_allowed opens allowed =
     let given : reply.Stamp 7 ≡ reply.Stamp 8 =
     allowed 2 0 (reply.Stamp 7) asking (mark.Started 0 ∷ mark.Asked 0 ∷ []) (Stat (97 ∷ [])) 1 refl (record { start = first; opens = opens; run = (begun, refl, (asking, refl, refl)) }) refl asked_by_step in
     cc
+
+-- ---- stamps of a row
+
+-- a world in which each file has the stamp 5
+abbrev always_five : Rule
+always_five number question given = given ≡ reply.Stamp 5
+
+-- has these stamps for two of three paths
+two_of_three : HaveStamps always_five ((97 ∷ []) ∷ (98 ∷ []) ∷ (99 ∷ []) ∷ []) (5 ∷ 5 ∷ [])
+two_of_three = (λ number. refl, (λ number. refl, tt))
+
+-- but the one that adds seven allows no stamp under every number
+abbrev adds_number : Rule
+adds_number number question given = given ≡ reply.Stamp (number + 7)
+
+none_ahead : HaveStamps adds_number ((97 ∷ []) ∷ []) (7 ∷ []) → ⊥
+none_ahead have = let clash : reply.Stamp 7 ≡ reply.Stamp 8 = have.0 1 in cc
 
 -- ---- many events at once
 

@@ -1,14 +1,14 @@
 -- What a board keeps, many events of one edge later.
-use Rattle.std.proofs.Common.{◌≡◌, ◌<◌, ◌-◌, ℕ, zero, suc, Bool, true, false, List, [], ◌∷◌, ◌++◌, Some, length, length-append, refl, sym, ap, ◌∙◌, subst, arith}
-use Rattle.std.specs.Prelude.{◌==◌, ◌&&◌, not, IfOk, OnErr, Result, Ok, Err, slice_get, slice_set}
+use Rattle.std.proofs.Common.{◌≡◌, ◌<◌, ◌+◌, ◌-◌, ℕ, zero, suc, Bool, true, false, List, [], ◌∷◌, ◌++◌, Some, length, length-append, refl, sym, ap, ◌∙◌, subst, arith}
+use Rattle.std.specs.Prelude.{◌==◌, ◌&&◌, not, IfOk, OnErr, Result, Ok, Err, drop, get_or, slice_get, slice_set}
 use Rattle.std.proofs.lemmas.Bool.{eqb-true}
-use Rattle.std.proofs.lemmas.List.{append-nil, append_assoc}
+use Rattle.std.proofs.lemmas.List.{append-nil, append_assoc, get_or-drop}
 use Rattle.plan_image.specs.declared.image.Parts.{Parts}
 use Rattle.plan_machine.specs.declared.event.Event.{Event}
 use Rattle.plan_machine.specs.declared.event.Event.TheVariants.{Step, Reply as Hear}
 use Rattle.plan_machine.specs.declared.mark.Mark.{Mark}
 use Rattle.plan_machine.specs.declared.refused.Refused.{Refused}
-use Rattle.plan_verify.specs.Turn.{Request, Stat}
+use Rattle.plan_verify.specs.Turn.{Local, Request, Stat}
 use Rattle.plan_machine.specs.declared.reply.Reply.{Reply}
 use Rattle.plan_machine.specs.declared.reply.Reply.TheVariants as reply
 use Rattle.plan_machine.specs.Requests.{asked_at}
@@ -22,23 +22,23 @@ use Rattle.plan_machine.specs.NeverStuck.{is_own}
 use Rattle.plan_machine.specs.Replaying.{RunsTo}
 use Rattle.plan_machine.specs.Runs.{Runs}
 use Rattle.plan_machine.specs.Rushes.{events_by, is_still, marks_by, rush_events, rush_marks, steps_of}
-use Rattle.plan_machine.specs.State.{State}
-use Rattle.plan_machine.specs.Sweeping.{sweep_events, sweep_marks}
+use Rattle.plan_machine.specs.State.{Active, State}
+use Rattle.plan_machine.specs.Sweeping.{IsSweptAt, IsSweptRow, row_events, row_marks, sweep_events, sweep_marks}
 use Rattle.plan_machine.specs.Total.{total_of}
 use Rattle.plan_lanes.specs.declared.board.Advance.{Advance}
 use Rattle.plan_lanes.specs.declared.board.Advance.TheVariants.{Moved, Job, Wait, Ended}
 use Rattle.plan_lanes.specs.Advances.{Advances}
-use Rattle.plan_lanes.specs.Boards.{Applies, AreNumbers, IsKept, IsNumbered, MayJournal}
+use Rattle.plan_lanes.specs.Boards.{Applies, AreNumbers, IsKept, IsNumbered, IsOpen, MayJournal}
 use Rattle.plan_lanes.specs.Journals.{IsLastOf, Rule}
-use Rattle.plan_lanes.specs.Progress.{Opened, Progress, progress}
-use Rattle.plan_lanes.specs.Rushes.{AppliesAll, GoesOn, Sweeps}
+use Rattle.plan_lanes.specs.Progress.{Opened, Progress, going_of, progress}
+use Rattle.plan_lanes.specs.Rushes.{AppliesAll, GoesOn}
+use Rattle.plan_lanes.specs.StampRows.{HaveStamps}
 use Rattle.plan_lanes.specs.Telling.{telling}
 use Rattle.plan_lanes.proofs.BoardLemmas.{IsRecorded, kept_of, later_by, recorded_more, recorded_of}
 use Rattle.plan_lanes.proofs.ListLemmas.{both_on}
 use Rattle.plan_lanes.proofs.RunLemmas.{total_stays}
-use Rattle.plan_lanes.proofs.JournalLemmas.{last_same}
 use Rattle.plan_lanes.proofs.StepLemmas.{asked_active, own_may_journal}
-use Rattle.plan_lanes.proofs.TellingLemmas.{telling_append}
+use Rattle.plan_lanes.proofs.TellingLemmas.{row_leaves, telling_append}
 
 -- ---- steps of an edge
 
@@ -220,19 +220,95 @@ still_so p targets r next journal marks b e rush same run still =
 pub one_and_all : {X : Type 0} (a b c xs : List X) (x : X) → b ≡ a ++ x ∷ [] → c ≡ b ++ xs → c ≡ a ++ x ∷ xs
 one_and_all a b c xs x one all = all ∙ ap (λ l. l ++ xs) one ∙ append_assoc a (x ∷ []) xs
 
--- ---- a sweep that goes on
+-- ---- a row of a sweep
 
--- the stamp of a path that an edge asked for, as the event at this position, may be journaled where the rule allows it
-pub sweep_may : (rule : Rule) (b : Progress) (e number stamp : ℕ) (path : List ℕ) → rule number (Stat path) (reply.Stamp stamp) → asked_at b.opened.parts b.state e ≡ Some (Stat path) → IsNumbered b e number
+-- the stamp of a path that an edge asked for may be journaled where the rule allows it under every number
+stamp_may : (rule : Rule) (b : Progress) (e stamp : ℕ) (path : List ℕ) → ((number : ℕ) → rule number (Stat path) (reply.Stamp stamp)) → asked_at b.opened.parts b.state e ≡ Some (Stat path)
     → MayJournal rule b (Hear e (reply.Stamp stamp))
-sweep_may rule b e number stamp path allows asked numbered f r q n is at last =
+stamp_may rule b e stamp path allows asked f r q n is at last =
     let same_edge : e ≡ f = cc in
     let same_reply : reply.Stamp stamp ≡ r = cc in
-    let under_way = asked_active b.opened.parts b.state e (Stat path) asked in
-    let same_number : number ≡ n = last_same b.journal e number n (numbered under_way.0 under_way.1) (subst (λ (g : ℕ). IsLastOf g n b.journal) (sym same_edge) last) in
     let both : Some (Stat path) ≡ Some q = sym asked ∙ ap (asked_at b.opened.parts b.state) same_edge ∙ at in
     let same_question : Stat path ≡ q = cc in
-    subst (λ (k : ℕ). rule k q r) same_number (subst (λ (x : Request). rule number x r) same_question (subst (λ (x : Reply). rule number (Stat path) x) same_reply allows))
+    subst (λ (x : Request). rule n x r) same_question (subst (λ (x : Reply). rule n (Stat path) x) same_reply (allows n))
+
+module _ (rule : Rule) (e : ℕ) where
+  -- a board some stamps of a row later
+  recorded_row : (numbers : List ℕ) (b : Progress) (paths : List (List ℕ)) (stamps : List ℕ) (new : Going) → IsRecorded rule numbers b → HaveStamps rule paths stamps → 0 < length stamps
+      → IsSweptRow b.opened.parts (going_of b) e paths stamps new
+      → IsRecorded rule (slice_set numbers e (length (b.journal ++ row_events e stamps) - 1)) (after_all b (row_events e stamps) (row_marks e stamps) new.now)
+  recorded_row numbers b paths [] new kept have some row = absurd (omega (arith, some))
+  recorded_row numbers b [] (stamp ∷ stamps) new kept have some row = absurd row
+  recorded_row numbers b (path ∷ paths) (stamp ∷ []) new kept have some row =
+      let one = recorded_all rule e numbers b (Hear e (reply.Stamp stamp)) (Step e ∷ []) (sweep_marks e) row.0.now kept refl (stamp_may rule b e stamp path have.0 row.1) (refl, tt) row.2.run in
+      subst (λ (g : Going). IsRecorded rule (slice_set numbers e (length (b.journal ++ sweep_events e stamp) - 1)) (after_all b (sweep_events e stamp) (sweep_marks e) g.now)) (sym row.4) one
+  recorded_row numbers b (path ∷ paths) (stamp ∷ (next ∷ stamps)) new kept have some row =
+      let xs : List Event = sweep_events e stamp in
+      let ms : List Mark = sweep_marks e in
+      let ys : List Event = row_events e (next ∷ stamps) in
+      let ns : List Mark = row_marks e (next ∷ stamps) in
+      let number : ℕ = length (b.journal ++ xs) - 1 in
+      let mid : Progress = after_all b xs ms row.0.now in
+      let one : IsRecorded rule (slice_set numbers e number) mid = recorded_all rule e numbers b (Hear e (reply.Stamp stamp)) (Step e ∷ []) ms row.0.now kept refl (stamp_may rule b e stamp path have.0 row.1) (refl, tt) row.2.run in
+      let limits : row.0 ≡ going_by b.opened.limits row.0.now = ap (λ (l : Limits). going_by l row.0.now) row.2.limits in
+      let left : IsSweptRow b.opened.parts (going_of mid) e paths (next ∷ stamps) new = subst (λ (g : Going). IsSweptRow b.opened.parts g e paths (next ∷ stamps) new) limits row.4 in
+      let rest = recorded_row (slice_set numbers e number) mid paths (next ∷ stamps) new one have.1 (omega arith) left in
+      let events : (b.journal ++ xs) ++ ys ≡ b.journal ++ (xs ++ ys) = append_assoc b.journal xs ys in
+      let marks : (b.marks ++ telling ms) ++ telling ns ≡ b.marks ++ telling (ms ++ ns) = append_assoc b.marks (telling ms) (telling ns) ∙ ap (λ (l : List Mark). b.marks ++ l) (sym (telling_append ms ns)) in
+      let whole : List Event = b.journal ++ (xs ++ ys) in
+      let joined : IsRecorded rule (slice_set (slice_set numbers e number) e (length whole - 1)) (after_all b (xs ++ ys) (ms ++ ns) new.now)
+      = subst (λ (l : List Event). IsRecorded rule (slice_set (slice_set numbers e number) e (length l - 1)) (record { opened = b.opened; state = new.now; journal = l; marks = b.marks ++ telling (ms ++ ns) })) events
+      (subst (λ (l : List Mark). IsRecorded rule (slice_set (slice_set numbers e number) e (length ((b.journal ++ xs) ++ ys) - 1)) (record { opened = b.opened; state = new.now; journal = (b.journal ++ xs) ++ ys; marks = l })) marks rest) in
+      subst (λ (l : List ℕ). IsRecorded rule l (after_all b (xs ++ ys) (ms ++ ns) new.now)) (set_again numbers e number (length whole - 1)) joined
+
+  -- and with its books
+  pub kept_row : (numbers : List ℕ) (r next : Running) (p : Parts) (targets : List ℕ) (journal longer : List Event) (marks : List Mark) (paths : List (List ℕ)) (stamps : List ℕ) (after : List ℕ)
+      → IsKept rule numbers r (progress p targets r.going journal marks) → HaveStamps rule paths stamps → 0 < length stamps → IsSweptRow p r.going e paths stamps next.going
+      → RunsTo p r.going (row_events e stamps) (row_marks e stamps) next.going → IsStateOf p next → longer ≡ journal ++ row_events e stamps → after ≡ slice_set numbers e (length longer - 1)
+      → IsKept rule after next (progress p targets next.going longer marks)
+  kept_row numbers r next p targets journal longer marks paths stamps after kept have some row runs state events put =
+      let b : Progress = progress p targets r.going journal marks in
+      let whole : List Event = journal ++ row_events e stamps in
+      let recorded = recorded_row numbers b paths stamps next.going (recorded_of rule numbers r b kept refl) have some row in
+      let all : IsKept rule (slice_set numbers e (length whole - 1)) next (progress p targets next.going whole (marks ++ telling (row_marks e stamps))) =
+      kept_of rule (slice_set numbers e (length whole - 1)) next b whole (marks ++ telling (row_marks e stamps)) kept.inside recorded runs.limits state in
+      subst (λ (l : List ℕ). IsKept rule l next (progress p targets next.going longer marks)) (sym put)
+      (subst (λ (l : List Mark). IsKept rule (slice_set numbers e (length longer - 1)) next (progress p targets next.going longer l)) (sym (row_leaves marks e stamps))
+      (subst (λ (l : List Event). IsKept rule (slice_set numbers e (length l - 1)) next (progress p targets next.going l (marks ++ telling (row_marks e stamps)))) (sym events) all))
+
+-- what the edge asked before
+row_first : (p : Parts) (old new : Going) (e : ℕ) (paths : List (List ℕ)) (stamps : List ℕ) → 0 < length stamps → IsSweptRow p old e paths stamps new → asked_at p old.now e ≡ Some (Stat (get_or paths 0 []))
+row_first p old new e paths [] some row = absurd (omega (arith, some))
+row_first p old new e [] (stamp ∷ stamps) some row = absurd row
+row_first p old new e (path ∷ paths) (stamp ∷ stamps) some row = row.1
+
+pub row_open : (v b : Progress) (e number : ℕ) (paths : List (List ℕ)) (from : ℕ) (stamps : List ℕ) (new : Going) → v ≡ b → 0 < length stamps → IsSweptRow v.opened.parts (going_of v) e (drop from paths) stamps new → IsNumbered b e number
+    → IsOpen b e number (Stat (get_or paths from []))
+row_open v b e number paths from stamps new same some row numbered =
+    let swept : IsSweptRow b.opened.parts (going_of b) e (drop from paths) stamps new = subst (λ (w : Progress). IsSweptRow w.opened.parts (going_of w) e (drop from paths) stamps new) same row in
+    let here : from + 0 ≡ from = omega arith in
+    let path : get_or (drop from paths) 0 [] ≡ get_or paths from [] = get_or-drop from paths 0 [] ∙ ap (λ (n : ℕ). get_or paths n []) here in
+    let asked : asked_at b.opened.parts b.state e ≡ Some (Stat (get_or paths from [])) = row_first b.opened.parts (going_of b) new e (drop from paths) stamps some swept ∙ ap (λ (p : List ℕ). Some (Stat p)) path in
+    let active = asked_active b.opened.parts b.state e (Stat (get_or paths from [])) asked in
+    record { asked = asked; position = numbered active.0 active.1 }
+
+-- and that it asks again
+row_asks : (p : Parts) (old new : Going) (e : ℕ) (paths : List (List ℕ)) (stamps : List ℕ) → 0 < length stamps → IsSweptRow p old e paths stamps new → IsSweptAt p new.now e
+row_asks p old new e paths [] some row = absurd (omega (arith, some))
+row_asks p old new e [] (stamp ∷ stamps) some row = absurd row
+row_asks p old new e (path ∷ paths) (stamp ∷ []) some row = subst (λ (g : Going). IsSweptAt p g.now e) (sym row.4) row.3
+row_asks p old new e (path ∷ paths) (stamp ∷ (next ∷ stamps)) some row = row_asks p row.0 new e paths (next ∷ stamps) (omega arith) row.4
+
+pub row_awaits : (p : Parts) (old new : Going) (e f : ℕ) (paths : List (List ℕ)) (stamps : List ℕ) → 0 < length stamps → IsSweptRow p old e paths stamps new → e ≡ f
+    → (l : Local) × (slice_get new.now.edges f ≡ Some (Active l)) × (l.asked ≡ true)
+row_awaits p old new e f paths stamps some row same =
+    let at = row_asks p old new e paths stamps some row in
+    subst (λ (k : ℕ). (l : Local) × (slice_get new.now.edges k ≡ Some (Active l)) × (l.asked ≡ true)) same (at.0, at.1, at.2.asked)
+
+-- a row has events
+pub row_long : (e : ℕ) (stamps : List ℕ) → 0 < length stamps → 0 < length (row_events e stamps)
+row_long e [] some = absurd (omega (arith, some))
+row_long e (stamp ∷ stamps) some = omega arith
 
 -- what is kept of the numbers tells of each edge's last event
 pub numbered_so : (numbers : List ℕ) (b : Progress) (e number : ℕ) → AreNumbers numbers b → slice_get numbers e ≡ Some number → IsNumbered b e number
@@ -272,6 +348,11 @@ goes_none old new same =
       };
     }
 
+-- an event was applied, or refused
+pub goes_result : (old new : Progress) (event : Event) (result : Result Mark Refused) → IfOk result (λ m. Applies old new event m) → OnErr result (new ≡ old) → GoesOn old new
+goes_result old new event (Ok m) ok err = goes_one old new event m ok
+goes_result old new event (Err refused) ok err = goes_none old new err
+
 -- a rush that was still changed nothing
 pub still_stays : (old new : Progress) (e : ℕ) (r : Rush) → AppliesAll old new (rush_events e r) (rush_marks e r) → is_still r ≡ true → new ≡ old
 still_stays old new e r h still =
@@ -295,10 +376,3 @@ goes_advanced old new Ended h = goes_none old new h.0
 pub goes_by : (old new : Progress) (result : Result Advance Refused) → IfOk result (λ a. Advances old new a) → OnErr result (new ≡ old) → GoesOn old new
 goes_by old new (Ok a) ok err = goes_advanced old new a ok
 goes_by old new (Err refused) ok err = goes_none old new err
-
--- a sweep went on, or didn't
-pub goes_swept : (old new : Progress) (e stamp : ℕ) (result : Result Bool Refused) → IfOk result (λ swept. swept ≡ true → Sweeps old new e stamp) → IfOk result (λ swept. swept ≡ false → new ≡ old)
-    → OnErr result (new ≡ old) → GoesOn old new
-goes_swept old new e stamp (Ok true) on off err = record { events = sweep_events e stamp; told = sweep_marks e; applies = on refl }
-goes_swept old new e stamp (Ok false) on off err = goes_none old new (off refl)
-goes_swept old new e stamp (Err refused) on off err = goes_none old new err

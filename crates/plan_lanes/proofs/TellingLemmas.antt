@@ -7,6 +7,7 @@ use Rattle.plan_machine.specs.declared.mark.Mark.{Mark}
 use Rattle.plan_machine.specs.declared.mark.Mark.TheVariants.{Started, Skipped, Stopped, Took, Released, Asked, Moved, Answered, Ended, Failed}
 use Rattle.plan_machine.specs.declared.rush.Rush.{Rush}
 use Rattle.plan_machine.specs.Rushes.{marks_by, moves_of, rush_marks}
+use Rattle.plan_machine.specs.Sweeping.{row_marks}
 use Rattle.plan_status.specs.Lines.{ends, line_of, lines_behind, tells_end}
 use Rattle.plan_lanes.specs.Telling.{TellAllLines, telling, tells}
 
@@ -33,6 +34,14 @@ rush_silent e r = by r.asked
 
 pub rush_leaves : (marks : List Mark) (e : ℕ) (r : Rush) → marks ≡ marks ++ telling (rush_marks e r)
 rush_leaves marks e r = sym (append-nil marks) ∙ ap (λ (l : List Mark). marks ++ l) (sym (rush_silent e r))
+
+-- nor does a row of a sweep
+row_silent : (e : ℕ) (stamps : List ℕ) → telling (row_marks e stamps) ≡ []
+row_silent e [] = refl
+row_silent e (stamp ∷ stamps) = row_silent e stamps
+
+pub row_leaves : (marks : List Mark) (e : ℕ) (stamps : List ℕ) → marks ≡ marks ++ telling (row_marks e stamps)
+row_leaves marks e stamps = sym (append-nil marks) ∙ ap (λ (l : List Mark). marks ++ l) (sym (row_silent e stamps))
 
 -- the mark of a reply, and behind it a rush
 pub reply_alone : (told : Mark) (e : ℕ) (r : Rush) → telling (told ∷ []) ≡ telling (told ∷ rush_marks e r)

@@ -1,6 +1,6 @@
 -- What a lane holds, and what it takes.
-use Rattle.std.specs.Prelude.{◌≡◌, ℕ, true, false, List, [], ◌∷◌, ◌++◌, map}
-use Rattle.plan_verify.specs.Turn.{Request}
+use Rattle.std.specs.Prelude.{◌≡◌, ◌⊎◌, ℕ, true, false, List, [], ◌∷◌, ◌++◌, Option, IfSome, get_or, map}
+use Rattle.plan_verify.specs.Turn.{Request, Stat}
 use Rattle.plan_machine.specs.declared.event.Event.{Event}
 use Rattle.plan_machine.specs.declared.event.Event.TheVariants.{Reply as Hear}
 use Rattle.plan_machine.specs.declared.mark.Mark.{Mark}
@@ -11,10 +11,11 @@ use Rattle.plan_lanes.specs.declared.lanes.Taken.{Taken}
 use Rattle.plan_lanes.specs.declared.lanes.Taken.TheVariants.{Full, Run, Wait, Ended, NoMemory}
 use Rattle.plan_lanes.specs.Boards.{Applies, IsOpen}
 use Rattle.plan_lanes.specs.Journals.{Rule}
-use Rattle.plan_lanes.specs.Proceeds.{CanOnlyWait, asking}
+use Rattle.plan_lanes.specs.Proceeds.{AnswersRow, CanOnlyWait, asking}
 use Rattle.plan_lanes.specs.Progress.{Progress}
 use Rattle.plan_lanes.specs.Questions.{is_run, shown}
 use Rattle.plan_lanes.specs.Rushes.{AppliesAll, GoesOn}
+use Rattle.plan_lanes.specs.StampRows.{Stamps}
 
 -- a question of an edge
 pub record Held : Type 0 where
@@ -32,6 +33,21 @@ IsHeldOpen b h = IsOpen b h.edge h.number h.request
 -- the edge awaited the reply to it, and heard one that the rule allows
 abbrev pub Answers : Rule → Progress → Progress → Held → Type 0
 Answers rule old new h = (reply : Reply) × (told : Mark) × rule h.number h.request reply × Applies old new (Hear h.edge reply) told × IsHeldOpen old h
+
+-- or it did so of the first stamp of a row
+abbrev pub HandsIn : Rule → Progress → Progress → Held → Type 0
+HandsIn rule old new h = Answers rule old new h ⊎ ((stamps : List ℕ) × AnswersRow old new h.edge stamps false × IsHeldOpen old h)
+
+-- the stamps of a row are for it
+pub record IsRowOf (h : Held) (r : Stamps) : Type 0 where
+  pub edge : r.edge ≡ h.edge
+  pub number : r.number ≡ h.number
+  pub request : Stat (get_or r.paths r.from []) ≡ h.request
+
+-- what was heard is a reply that the rule allows for it, or the stamps of a row
+pub record IsHeard (rule : Rule) (h : Held) (given : Option Reply) (stamps : Option Stamps) : Type 0 where
+  pub reply : IfSome given (λ r. rule h.number h.request r)
+  pub row : IfSome stamps (λ r. IsRowOf h r)
 
 -- none of them is to run a command
 abbrev pub RunNothing : List Held → Type 0

@@ -1,6 +1,7 @@
 pub mod Questions
 pub mod Alike
 pub mod Journals
+pub mod StampRows
 pub mod Progress
 pub mod Telling
 pub mod Boards

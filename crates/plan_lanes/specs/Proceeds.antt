@@ -1,11 +1,13 @@
 -- What lanes' own calls of a board do: as an advance and an answer, over several events.
-use Rattle.std.specs.Prelude.{◌≡◌, ◌+◌, ℕ, Bool, true, false, List, [], ◌∷◌, ◌++◌, Option, Some, IfSome, is_some, length, slice_get}
+use Rattle.std.specs.Prelude.{◌≡◌, ◌+◌, ◌⊎◌, ℕ, Bool, true, false, List, [], ◌∷◌, ◌++◌, Option, Some, IfSome, is_some, length, slice_get, take}
 use Rattle.plan_image.specs.declared.image.Parts.{Parts}
 use Rattle.plan_verify.specs.Turn.{Local, Request}
 use Rattle.plan_machine.specs.declared.event.Event.{Event}
+use Rattle.plan_machine.specs.declared.event.Event.TheVariants.{Reply as Hear}
 use Rattle.plan_machine.specs.declared.mark.Mark.{Mark}
 use Rattle.plan_machine.specs.declared.mark.Mark.TheVariants as mark
 use Rattle.plan_machine.specs.declared.reply.Reply.{Reply}
+use Rattle.plan_machine.specs.declared.reply.Reply.TheVariants.{Stamp}
 use Rattle.plan_machine.specs.declared.rush.Rush.{Rush}
 use Rattle.plan_machine.specs.NeverStuck.{Awaits, is_own}
 use Rattle.plan_machine.specs.Picking.{IsEnabled}
@@ -14,12 +16,10 @@ use Rattle.plan_status.specs.Consoles.{is_console}
 use Rattle.plan_lanes.specs.declared.board.Advance.{Advance}
 use Rattle.plan_lanes.specs.declared.board.Advance.TheVariants.{Moved, Job, Wait, Ended}
 use Rattle.plan_lanes.specs.declared.board.Permit.{Permit}
-use Rattle.plan_lanes.specs.declared.board.rushing.Followed.{Followed}
-use Rattle.plan_lanes.specs.declared.board.rushing.Followed.TheVariants.{Renewed, Asks, Rests}
-use Rattle.plan_lanes.specs.Boards.{IsOpen}
+use Rattle.plan_lanes.specs.Boards.{Applies, IsOpen}
 use Rattle.plan_lanes.specs.Progress.{Progress, going_of}
 use Rattle.plan_lanes.specs.Questions.{is_run, shown}
-use Rattle.plan_lanes.specs.Rushes.{AppliesAll, Follows}
+use Rattle.plan_lanes.specs.Rushes.{AppliesAll, Follows, SweepsRow}
 
 -- the edges that asked, by some marks
 abbrev pub asking_by : Mark → List ℕ
@@ -67,11 +67,24 @@ Proceeds old new Ended = (new ≡ old) × (has_ended old.state ≡ true)
 abbrev pub AwaitsReply : Progress → ℕ → Type 0
 AwaitsReply b e = (l : Local) × (slice_get b.state.edges e ≡ Some (Active l)) × (l.asked ≡ true)
 
-abbrev pub asks_again : Followed → Bool
-asks_again Renewed = true
-asks_again Asks = true
-asks_again Rests = false
-
 -- an edge heard a reply and went on by itself, up to a question or not
 abbrev pub HearsAndGoesOn : Progress → Progress → ℕ → Reply → Bool → Type 0
 HearsAndGoesOn old new e reply asked = (rush : Rush) × Follows old new e reply rush × (rush.asked ≡ asked)
+
+-- an edge heard the first stamps of a row, and asked for the next path behind each; of the stamps this is the next
+pub record HearsFront (old new : Progress) (e : ℕ) (stamps : List ℕ) (stamp : ℕ) : Type 0 where
+  pub count : ℕ
+  pub front : SweepsRow old new e (take count stamps)
+  pub next : slice_get stamps count ≡ Some stamp
+
+-- It heard all stamps of a row so; or only the first, and then the next one, after which it went on by itself.
+abbrev pub HearsRow : Progress → Progress → ℕ → List ℕ → Bool → Type 0
+HearsRow old new e stamps asked =
+    (SweepsRow old new e stamps × (asked ≡ true))
+    ⊎ ((mid : Progress) × (stamp : ℕ) × HearsFront old mid e stamps stamp × HearsAndGoesOn mid new e (Stamp stamp) asked)
+
+-- the same, but the next one is all that it heard then
+abbrev pub AnswersRow : Progress → Progress → ℕ → List ℕ → Bool → Type 0
+AnswersRow old new e stamps asked =
+    (SweepsRow old new e stamps × (asked ≡ true))
+    ⊎ ((mid : Progress) × (stamp : ℕ) × (told : Mark) × HearsFront old mid e stamps stamp × Applies mid new (Hear e (Stamp stamp)) told × (asked ≡ false))

@@ -1,5 +1,5 @@
 -- What a report says.
-use Rattle.std.specs.Prelude.{◌≡◌, ◌≢◌, ◌≤◌, ◌+◌, List, false, length}
+use Rattle.std.specs.Prelude.{◌≡◌, ◌≢◌, ◌≤◌, ◌+◌, Bool, List, None, Some, false, if◌then◌else◌, length}
 use Rattle.plan_verify.specs.Budget.{image_budget}
 use Rattle.plan_verify.specs.Turn.{Flaw}
 use Rattle.plan_machine.specs.declared.event.Event.{Event}
@@ -33,3 +33,7 @@ pub record IsRunOf (rule : Rule) (o : Opened) (r : Report) : Type 0 where
   pub safe : (event : Event) (flaw : Flaw) → step depfile o.parts o.limits r.state.going.now event ≢ Wrong flaw
   pub orderly : IsOrderly o.parts o.limits left
   pub bounded : length r.journal ≤ image_budget o.parts + all_bytes r.journal
+
+-- The report has the events of its journal to be read exactly if journals are kept.
+abbrev pub IsKeptBy : Bool → Report → Type 0
+IsKeptBy keeps r = r.kept ≡ (if keeps then Some r.journal else None)

@@ -8,7 +8,7 @@ use Rattle.plan_machine.specs.declared.rush.Rush.{Rush}
 use Rattle.plan_machine.specs.Depfile.{depfile}
 use Rattle.plan_machine.specs.Runs.{Runs}
 use Rattle.plan_machine.specs.Rushes.{rush_events, rush_marks}
-use Rattle.plan_machine.specs.Sweeping.{sweep_events, sweep_marks}
+use Rattle.plan_machine.specs.Sweeping.{row_events, row_marks}
 use Rattle.plan_lanes.specs.Progress.{Progress}
 use Rattle.plan_lanes.specs.Telling.{telling}
 
@@ -27,9 +27,9 @@ Rushes old new e r = AppliesAll old new (rush_events e r) (rush_marks e r)
 abbrev pub Follows : Progress → Progress → ℕ → Reply → Rush → Type 0
 Follows old new e reply r = (told : Mark) × AppliesAll old new (Hear e reply ∷ rush_events e r) (told ∷ rush_marks e r)
 
--- an edge heard the stamp of a path that it sweeps, and asked for the next
-abbrev pub Sweeps : Progress → Progress → ℕ → ℕ → Type 0
-Sweeps old new e stamp = AppliesAll old new (sweep_events e stamp) (sweep_marks e)
+-- an edge heard the stamps of paths that it goes through, and asked for the next path behind each
+abbrev pub SweepsRow : Progress → Progress → ℕ → List ℕ → Type 0
+SweepsRow old new e stamps = AppliesAll old new (row_events e stamps) (row_marks e stamps)
 
 -- only events were applied
 pub record GoesOn (old new : Progress) : Type 0 where

@@ -1,4 +1,4 @@
-//! What lanes share: the run so far.
+//! The run so far, which lanes share.
 
 ghost use Rattle.std.specs.Prelude.{◌≡◌, ◌≢◌, ◌⊎◌, ◌↔◌, ◌∷◌, [], ◌++◌, IfErr, IfOk, IfSome, IsTrue, OnErr, OnOk, false, is_some, length, slice_set, true};
 ghost use Rattle.plan_image.specs.declared.image.Parts.{Parts};
@@ -18,15 +18,16 @@ ghost use Rattle.plan_lanes.specs.Journals.{IsLastOf};
 ghost use Rattle.plan_lanes.specs.Proceeds.{Proceeds};
 ghost use Rattle.plan_lanes.specs.Progress.{Opened, going_of};
 ghost use Rattle.plan_lanes.specs.Questions.{is_run, shown};
-ghost use Rattle.plan_lanes.specs.Reports.{IsRunOf};
+ghost use Rattle.plan_lanes.specs.Reports.{IsKeptBy, IsRunOf};
 ghost use Rattle.plan_lanes.specs.Rushes.{GoesOn};
 
 pub(crate) mod rushing;
 
 use crate::asked::{Asked, Question};
+use crate::keeping_of::KeepingOf;
 use crate::telling::keep;
 use crate::world::World;
-use plan_journal::{Diary, Journal};
+use plan_journal::{Journal, JournalBuilder, KeptJournal};
 use plan_machine::{
     Event, Mark, Options, Refused, Reply, State, depfiles_are_frugal, marks_are_orderly,
     never_wrong, stays_in_budget,
@@ -36,8 +37,8 @@ use plan_verify::Verified;
 use std::alloc::{AllocError, Global};
 use std::marker::{Model, PhantomData};
 
-/// The leave to run one command. Only a board makes one, with the question to run it, and nothing copies or drops it:
-/// whoever runs the command spends it.
+/// The permit to run one command. Only a board creates one, together with the question to run the command. Nothing
+/// copies or drops a permit: the call that runs the command spends it.
 pub struct Permit {
     edge: u32,
     console: bool,
@@ -46,60 +47,61 @@ pub struct Permit {
 impl Permit {
     ghost use Rattle.std.specs.Prelude.{◌≡◌};
 
-    /// Creates the permit for the command of an edge, which is a console edge or isn't.
+    /// Creates the permit for the command of an edge. `console` says whether it is a console edge.
     fn new(edge: u32, console: bool) -> Permit
         ensures { result.console ≡ console }
     {
         Permit { edge, console }
     }
 
-    /// Whether it is of a console edge: its command has the program's own standard input, output and error, and no other
-    /// output comes between (the Ninja manual, "The console pool").
+    /// Checks whether it is the permit of a console edge. Such a command has the program's own standard input, output
+    /// and error, and no other output comes between (the Ninja manual, "The console pool").
     pub fn console(&self) -> bool
         ensures { result ≡ self.now.console }
     {
         self.console
     }
 
-    /// Gives the leave up.
+    /// Spends the permit.
     pub fn spend(self) {
         let Permit { edge, console } = self;
         let _ = (edge, console);
     }
 }
 
-/// What an advance did.
+/// The result of an advance.
 pub enum Advance {
     /// An edge went on, and asked nothing.
     Moved,
-    /// An edge asked: its number, the question, and leave to run the command exactly where it asks for that.
+    /// An edge asked: its number, the question, and a permit if it asks to run its command.
     Job(u32, Question, Option<Permit>),
-    /// Nothing: no edge can go on before a reply comes.
+    /// Nothing was done: no edge can go on before a reply comes.
     Wait,
-    /// Nothing: the run has ended.
+    /// Nothing was done: the run has ended.
     Ended,
 }
 
-/// The state of a run, its events, and those of their marks that tell of something: how an edge came out, and that it took
-/// or gave back a place. Status lines tell of no others.
+/// The state of a run, its events, and the marks that report something: how an edge ended, and that it took or released
+/// a job token. Status lines report no other marks. The events can be read if the world of the run keeps its journal.
 #[derive(Drop)]
 pub struct Report {
     pub state: State,
     pub journal: Journal,
+    pub kept: Option<KeptJournal>,
     pub marks: Vec<Mark>,
 }
 
-/// A run and its history. A contract sees it as what it was opened with and how far it is. Each change of it is one
-/// event of the machine; each reply in its journal is one that the world's rule allows for its question.
+/// A run with its history. A contract sees what it was opened with, and how far it is. Each change of a board is an
+/// event of the machine. Each reply in its journal is one that the world's rule allows for its question.
 #[derive(Drop)]
 pub struct Board<'v, W: World> {
     alloc: Global,
     image: &'v Verified,
     targets: Vec<u32>,
     state: State,
-    diary: Diary,
+    diary: JournalBuilder<KeepingOf<W>>,
     marks: Vec<Mark>,
-    /// For each edge the position of its last event.
+    /// The position of the last event of each edge.
     numbers: Vec<u64>,
     world: PhantomData<W>,
 }
@@ -115,7 +117,7 @@ impl<'v, W: World> Model for Board<'v, W> {
     ghost invariant = { λ b. IsKept W.allows b.numbers.items b.state (progress b.image.now b.targets.items b.state.going b.diary.events b.marks.items) };
 }
 
-/// The edge that an event changes.
+/// Returns the edge that an event changes.
 fn edge_of(event: &Event) -> u32
     ensures { result ≡ edge_of event.now }
 {
@@ -128,7 +130,7 @@ fn edge_of(event: &Event) -> u32
     }
 }
 
-/// Sets the number at a place, where there is one.
+/// Sets the number at an index, if there is one.
 fn put(numbers: &mut Vec<u64>, at: usize, number: u64)
     ensures { numbers.new.items ≡ slice_set numbers.old.items at number }
 {
@@ -137,7 +139,7 @@ fn put(numbers: &mut Vec<u64>, at: usize, number: u64)
     }
 }
 
-/// The leave to run an edge's command, where that is what it asks.
+/// Returns the permit for an edge's command if that is what the edge asks for.
 fn permit_for(image: &Verified, edge: u32, request: &Asked) -> Option<Permit>
     ensures run { is_some result ≡ is_run (shown request.now) }
     ensures console { IfSome result (λ p. p.console ≡ is_console image.now edge) }
@@ -149,10 +151,12 @@ fn permit_for(image: &Verified, edge: u32, request: &Asked) -> Option<Permit>
 }
 
 impl<'v, W: World> Board<'v, W> {
-    /// A run of an image that begins: no targets stand for the image's defaults. It makes all room that the state needs.
+    /// Opens a run of an image. If there are no targets, the run is for the image's defaults. All memory that the state
+    /// needs is allocated here.
     ///
     /// # Errors
-    /// As `State::open`: `BadTarget` exactly where a target is no edge of the image, and `Memory`.
+    /// As for `State::open`: `BadTarget` if and only if a target is no edge of the image, unless memory runs out first;
+    /// and `Memory`.
     pub fn open(
         alloc: Global,
         image: &'v Verified,
@@ -170,35 +174,36 @@ impl<'v, W: World> Board<'v, W> {
             image,
             targets,
             state,
-            diary: Diary::new(alloc),
+            diary: JournalBuilder::new(alloc),
             marks: Vec::new(alloc),
             numbers,
             world: PhantomData,
         })
     }
 
-    /// The image.
+    /// Returns the image.
     pub fn image(&self) -> &Verified
         ensures { result.now ≡ self.now.opened.parts }
     {
         self.image
     }
 
-    /// The marks of the events so far, as a report has them.
+    /// Returns the marks of the events so far, as a report has them.
     pub fn marks(&self) -> &[Mark]
         ensures { result.now ≡ self.now.marks }
     {
         &self.marks
     }
 
-    /// How many edges have a command and are wanted.
+    /// Returns the number of wanted edges that have a command.
     pub fn total(&self) -> u64
         ensures { result ≡ total_of self.now.opened.parts self.now.state }
     {
         self.state.total()
     }
 
-    /// Applies one event and journals it, with its mark where that tells of something. A refusal changes nothing.
+    /// Applies an event and appends it to the journal, and its mark if that reports something. If the event is refused,
+    /// nothing changes.
     fn record(&mut self, event: Event) -> Result<Mark, Refused>
         requires { MayJournal W.allows self.old event }
         ensures ok { IfOk result (λ m. Applies self.old self.new event m) }
@@ -223,18 +228,18 @@ impl<'v, W: World> Board<'v, W> {
         }
     }
 
-    /// What an event would ask, exactly where it is enabled and asks.
-    fn question(&self, rooms: &mut Vec<Vec<u8>>, event: &Event) -> Result<Option<Asked>, AllocError>
+    /// Returns what an event would ask, if it is enabled and asks.
+    fn question(&self, event: &Event) -> Result<Option<Asked>, AllocError>
         ensures { IfOk result (λ asked. WouldAsk self.now.opened.parts (going_of self.now) event.now asked) }
     {
         match self.state.asks(self.image, event) {
-            Some(request) => Ok(Some(Asked::of(self.alloc, rooms, &request)?)),
+            Some(request) => Ok(Some(Asked::of(self.alloc, &request)?)),
             None => Ok(None),
         }
     }
 
-    /// Applies an event that needs no reply, and tells what it asked.
-    fn go_on(&mut self, rooms: &mut Vec<Vec<u8>>, event: Event) -> Result<Advance, Refused>
+    /// Applies an event that needs no reply, and returns what it asked.
+    fn go_on(&mut self, event: Event) -> Result<Advance, Refused>
         requires own { is_own event ≡ true }
         requires enabled { IsEnabled self.old.opened.parts (going_of self.old) event }
         ensures goes { GoesOn self.old self.new }
@@ -243,7 +248,7 @@ impl<'v, W: World> Board<'v, W> {
         ensures err { OnErr result (self.new ≡ self.old) }
         ensures memory { IfErr result (λ r. r ≡ Refused.Memory) }
     {
-        let asked = self.question(rooms, &event)?;
+        let asked = self.question(&event)?;
         let image = self.image;
         let edge = edge_of(&event);
         let number = self.diary.len() as u64;
@@ -257,22 +262,21 @@ impl<'v, W: World> Board<'v, W> {
         }
     }
 
-    /// Does what can be done next without a reply: one event, or nothing where there is none. It takes as long for any
-    /// number of edges, but for those that wait for one which ends.
+    /// Does what can be done next without a reply: one event, or nothing if there is none. The time doesn't depend on
+    /// the number of edges, except for the edges that wait for one which ends.
     ///
     /// # Errors
-    /// `Memory` alone; then nothing changed.
+    /// `Memory` if memory runs out. Then nothing changed.
     pub fn advance(&mut self) -> Result<Advance, Refused>
         ensures ok { IfOk result (λ a. Advances self.old self.new a) }
         ensures err { OnErr result (self.new ≡ self.old) }
         ensures memory { IfErr result (λ r. r ≡ Refused.Memory) }
     {
-        let mut rooms = Vec::new(self.alloc);
-        self.advance_in(&mut rooms)
+        self.advance_one()
     }
 
-    /// As `advance`; rooms that are left serve for the path of a question.
-    pub(crate) fn advance_in(&mut self, rooms: &mut Vec<Vec<u8>>) -> Result<Advance, Refused>
+    /// Like `advance`, with a clause about several events too.
+    pub(crate) fn advance_one(&mut self) -> Result<Advance, Refused>
         ensures goes { GoesOn self.old self.new }
         ensures ok { IfOk result (λ a. Advances self.old self.new a) }
         ensures proceeds { IfOk result (λ a. Proceeds self.old self.new a) }
@@ -285,10 +289,10 @@ impl<'v, W: World> Board<'v, W> {
             }
             return Ok(Advance::Wait);
         };
-        self.go_on(rooms, event)
+        self.go_on(event)
     }
 
-    /// Whether an advance would do an event. It takes as long for any image.
+    /// Checks whether an advance would apply an event. The time doesn't depend on the image.
     pub fn enabled(&self) -> bool
         ensures can { result ≡ true → CanGo depfile self.now.opened.parts self.now.opened.limits self.now.state }
         ensures cannot { result ≡ false → CanGo depfile self.now.opened.parts self.now.opened.limits self.now.state → ⊥ }
@@ -299,7 +303,7 @@ impl<'v, W: World> Board<'v, W> {
         }
     }
 
-    /// Whether an edge awaits the reply to just this question.
+    /// Checks whether an edge awaits the reply to this question.
     fn is_open(&self, edge: u32, question: &Question) -> bool
         ensures { IsTrue result ↔ IsOpen self.now edge question.now.number (shown question.now.request) }
     {
@@ -312,11 +316,14 @@ impl<'v, W: World> Board<'v, W> {
         }
     }
 
-    /// Applies a reply that the world's rule allows for a question, and journals it.
+    /// Applies a reply that the world's rule allows for a question, and appends it to the journal.
     ///
     /// # Errors
-    /// `NotEnabled` exactly where the edge doesn't await the reply to just this question, or the reply is of a sort that
-    /// doesn't fit it; and `Memory`. Then nothing changed.
+    /// - `NotEnabled` if and only if the edge doesn't await the reply to this question, or the reply doesn't suit it,
+    ///   unless memory runs out first.
+    /// - `Memory` if memory runs out.
+    ///
+    /// Then nothing changed.
     pub fn answer(&mut self, edge: u32, question: Question, reply: Reply) -> Result<Mark, Refused>
         requires { W.allows question.number (shown question.request) reply }
         ensures ok { IfOk result (λ m. Applies self.old self.new (Hear edge reply) m × IsOpen self.old edge question.number (shown question.request)) }
@@ -328,7 +335,7 @@ impl<'v, W: World> Board<'v, W> {
         self.answer_to(edge, &question, reply)
     }
 
-    /// As `answer`, of a question that is lent.
+    /// Like `answer`, but borrows the question.
     pub(crate) fn answer_to(
         &mut self,
         edge: u32,
@@ -336,6 +343,7 @@ impl<'v, W: World> Board<'v, W> {
         reply: Reply,
     ) -> Result<Mark, Refused>
         requires { W.allows question.now.number (shown question.now.request) reply }
+        ensures goes { GoesOn self.old self.new }
         ensures ok { IfOk result (λ m. Applies self.old self.new (Hear edge reply) m × IsOpen self.old edge question.now.number (shown question.now.request)) }
         ensures err { OnErr result (self.new ≡ self.old) }
         ensures refused { IfErr result (λ r. r ≡ Refused.NotEnabled → IsOpen self.old edge question.now.number (shown question.now.request) → step depfile self.old.opened.parts self.old.opened.limits self.old.state (Hear edge reply) ≡ NotEnabled) }
@@ -348,10 +356,11 @@ impl<'v, W: World> Board<'v, W> {
         self.record(Event::Reply(edge, reply))
     }
 
-    /// The run so far. It takes no memory.
+    /// Returns the run so far. This takes no memory.
     pub fn into_report(self) -> Report
         ensures same { (result.state.going.now ≡ self.entry.state) × (result.journal ≡ self.entry.journal) × (result.marks.items ≡ self.entry.marks) }
         ensures run { IsRunOf W.allows self.entry.opened result }
+        ensures kept { IsKeptBy W.keeps result }
     {
         never_wrong();
         marks_are_orderly();
@@ -364,9 +373,11 @@ impl<'v, W: World> Board<'v, W> {
             marks,
             ..
         } = self;
+        let (journal, kept) = diary.finish();
         Report {
             state,
-            journal: diary.finish(),
+            journal,
+            kept,
             marks,
         }
     }

@@ -1,26 +1,26 @@
-//! What lies under the lanes' lock.
+//! What lanes share under their lock.
 
-ghost use Rattle.std.specs.Prelude.{◌≡◌, ◌≢◌, ◌⊎◌, IfErr, IfOk, IfSome, None, false, true};
+ghost use Rattle.std.specs.Prelude.{◌≡◌, ◌≢◌, ◌⊎◌, [], IfErr, IfOk, None, Ok, false, get_or, true};
+ghost use Rattle.plan_verify.specs.Turn.{Stat};
 ghost use Rattle.plan_machine.specs.declared.event.Event.TheVariants.{Reply as Hear};
 ghost use Rattle.plan_machine.specs.declared.mark.Mark.{Mark};
 ghost use Rattle.plan_machine.specs.Requests.{asked_at};
 ghost use Rattle.plan_lanes.specs.Boards.{Applies, IsOpen};
 ghost use Rattle.plan_lanes.specs.Desks.{IsDesk};
-ghost use Rattle.plan_lanes.specs.Proceeds.{AwaitsReply, Proceeds};
+ghost use Rattle.plan_lanes.specs.Proceeds.{AnswersRow, AwaitsReply, Proceeds};
 ghost use Rattle.plan_lanes.specs.Questions.{shown};
 ghost use Rattle.plan_lanes.specs.Rushes.{GoesOn};
 
 use crate::asked::Question;
-use crate::board::rushing::Followed;
 use crate::board::{Advance, Board};
+use crate::stamp_row::StampRow;
 use crate::world::World;
 use plan_machine::{Refused, Reply};
 use plan_status::{Showing, ends_stay, marks_may_come};
 use std::marker::{Brand, Model, PhantomData};
-use std::mem;
 
-/// Which run it is: what the run that lies under a lock was opened with, and the feed that gets its lines, where one does.
-/// Each call of `run_lanes` picks it.
+/// Names a run: what the run under a lock was opened with, and the feed that gets its lines, if there is one. Each call
+/// of `run_lanes` picks the names.
 pub trait Naming {
     ghost use Rattle.std.specs.Prelude.{Option};
     ghost use Rattle.plan_status.specs.declared.feed.Feed.{Feed};
@@ -46,14 +46,14 @@ pub enum Stopped {
     No,
     /// Memory ran out, and a reply may be lost.
     Memory,
-    /// A reply didn't fit its question.
+    /// A reply didn't suit its question.
     Unfit,
     /// No thread could be started.
     NoLane,
 }
 
-/// What lanes share under the lock: the board of the run that `J` names, what shows its lines, why they stop, and how many
-/// of them sleep. A contract sees the run so far, and why lanes stop.
+/// What lanes share under the lock: the board of the run that `J` names, what shows its lines, why lanes stop, and how
+/// many of them sleep. A contract sees the run so far, and why lanes stop.
 #[derive(Drop)]
 pub struct Desk<'v, W: World, J: Naming> {
     board: Board<'v, W>,
@@ -74,7 +74,7 @@ impl<'v, W: World, J: Naming> Model for Desk<'v, W, J> {
 }
 
 impl<'v, W: World, J: Naming> Desk<'v, W, J> {
-    /// A desk with this board, on which nobody waits.
+    /// Creates a desk with this board, at which no lane sleeps.
     pub fn new(board: Board<'v, W>, showing: Option<Showing>) -> Desk<'v, W, J>
         requires { IsDesk J.run J.feed board showing }
     {
@@ -87,7 +87,7 @@ impl<'v, W: World, J: Naming> Desk<'v, W, J> {
         }
     }
 
-    /// Shows the lines of the marks that may be told of, as far as there is room.
+    /// Shows the lines of the marks that may be reported, as far as there is room.
     pub fn show(&mut self)
         ensures { self.new ≡ self.old }
     {
@@ -97,8 +97,8 @@ impl<'v, W: World, J: Naming> Desk<'v, W, J> {
         }
     }
 
-    /// Does what can be done next without a reply. Rooms that are left serve for the path of a question.
-    pub fn advance(&mut self, rooms: &mut Vec<Vec<u8>>) -> Result<Advance, Refused>
+    /// Does what can be done next without a reply.
+    pub fn advance(&mut self) -> Result<Advance, Refused>
         ensures goes { GoesOn self.old.run self.new.run }
         ensures ok { IfOk result (λ a. Proceeds self.old.run self.new.run a) }
         ensures memory { IfErr result (λ r. r ≡ Refused.Memory) }
@@ -106,13 +106,14 @@ impl<'v, W: World, J: Naming> Desk<'v, W, J> {
         ensures stopped { self.new.stopped ≡ self.old.stopped }
     {
         marks_may_come();
-        self.board.proceed(rooms)
+        self.board.proceed()
     }
 
-    /// Hands a reply in that the world's rule allows. Where the board doesn't take it, lanes stop.
+    /// Applies a reply that the world's rule allows. If the board refuses it, lanes stop.
     pub fn answer(&mut self, edge: u32, question: &Question, reply: Reply)
         requires { W.allows question.now.number (shown question.now.request) reply }
-        ensures { (self.new.stopped ≢ Stopped.No) ⊎ ((told : Mark) × Applies self.old.run self.new.run (Hear edge reply) told × IsOpen self.old.run edge question.now.number (shown question.now.request)) }
+        ensures goes { GoesOn self.old.run self.new.run }
+        ensures answered { (self.new.stopped ≢ Stopped.No) ⊎ ((told : Mark) × Applies self.old.run self.new.run (Hear edge reply) told × IsOpen self.old.run edge question.now.number (shown question.now.request)) }
     {
         marks_may_come();
         let answered = self.board.answer_to(edge, question, reply);
@@ -123,15 +124,9 @@ impl<'v, W: World, J: Naming> Desk<'v, W, J> {
         }
     }
 
-    /// Hands a reply in that the world's rule allows, and lets its edge go on by itself. True where it asks again: then that
-    /// question stands in the place of the one before. Where the board doesn't take the reply, lanes stop.
-    pub fn follow(
-        &mut self,
-        rooms: &mut Vec<Vec<u8>>,
-        edge: u32,
-        question: &mut Question,
-        reply: Reply,
-    ) -> bool
+    /// Applies a reply that the world's rule allows, and lets its edge go on by itself. If the edge asks again, returns
+    /// true, and `question` is its next question. If the board refuses the reply, lanes stop.
+    pub fn follow(&mut self, edge: u32, question: &mut Question, reply: Reply) -> bool
         requires { W.allows question.old.number (shown question.old.request) reply }
         ensures goes { GoesOn self.old.run self.new.run }
         ensures asks { result ≡ true → IsOpen self.new.run edge question.new.number (shown question.new.request) }
@@ -139,10 +134,45 @@ impl<'v, W: World, J: Naming> Desk<'v, W, J> {
     {
         marks_may_come();
         let followed = self.board.follow(edge, question, reply);
-        match followed {
-            Ok(Followed::Renewed) => true,
-            Ok(Followed::Asks) => self.ask_again(rooms, edge, question),
-            Ok(Followed::Rests) => false,
+        self.ask_on(edge, question, followed)
+    }
+
+    /// Applies the stamps of a row and lets its edge go on by itself, like `follow`.
+    pub fn follow_row(&mut self, question: &mut Question, row: StampRow<W>) -> bool
+        ensures goes { GoesOn self.old.run self.new.run }
+        ensures asks { result ≡ true → IsOpen self.new.run row.edge question.new.number (shown question.new.request) }
+        ensures rests { result ≡ false → (self.new.stopped ≢ Stopped.No) ⊎ (asked_at self.new.run.opened.parts self.new.run.state row.edge ≡ None) }
+    {
+        marks_may_come();
+        let edge = row.edge();
+        let followed = self.board.follow_row(row);
+        self.ask_on(edge, question, followed)
+    }
+
+    /// Applies the stamps of a row, like `answer`. If its edge asks for the next path, returns true, and `question` is
+    /// that question.
+    pub fn answer_row(&mut self, question: &mut Question, row: StampRow<W>) -> bool
+        ensures goes { GoesOn self.old.run self.new.run }
+        ensures asks { result ≡ true → IsOpen self.new.run row.edge question.new.number (shown question.new.request) }
+        ensures rests { result ≡ false → (self.new.stopped ≢ Stopped.No) ⊎ (AnswersRow self.old.run self.new.run row.edge row.stamps false × IsOpen self.old.run row.edge row.number (Stat (get_or row.paths row.from []))) }
+    {
+        marks_may_come();
+        let edge = row.edge();
+        let answered = self.board.answer_row(row);
+        self.ask_on(edge, question, answered)
+    }
+
+    /// Sets `question` to the next question of an edge that heard a reply, if it asks again, and returns whether it
+    /// does. If the board refused the reply, lanes stop.
+    fn ask_on(&mut self, edge: u32, question: &mut Question, heard: Result<bool, Refused>) -> bool
+        requires { IfOk heard (λ again. again ≡ true → AwaitsReply self.old.run edge) }
+        ensures run { self.new.run ≡ self.old.run }
+        ensures asks { result ≡ true → IsOpen self.new.run edge question.new.number (shown question.new.request) }
+        ensures rests { result ≡ false → (self.new.stopped ≢ Stopped.No) ⊎ (heard ≡ Ok false) }
+    {
+        match heard {
+            Ok(true) => self.ask_again(edge, question),
+            Ok(false) => false,
             Err(Refused::Memory) => {
                 self.stop(Stopped::Memory);
                 false
@@ -154,70 +184,47 @@ impl<'v, W: World, J: Naming> Desk<'v, W, J> {
         }
     }
 
-    /// The question whose reply an edge awaits, in the place of the one before, whose room serves again. Where memory ran
-    /// out, lanes stop.
-    fn ask_again(&mut self, rooms: &mut Vec<Vec<u8>>, edge: u32, question: &mut Question) -> bool
+    /// Sets `question` to the question whose reply an edge awaits, and returns true. If memory runs out, lanes stop.
+    fn ask_again(&mut self, edge: u32, question: &mut Question) -> bool
         requires { AwaitsReply self.old.run edge }
         ensures run { self.new.run ≡ self.old.run }
         ensures asks { result ≡ true → IsOpen self.new.run edge question.new.number (shown question.new.request) }
         ensures stops { result ≡ false → self.new.stopped ≢ Stopped.No }
     {
-        match self.board.renew(edge, question) {
-            Ok(true) => return true,
-            Ok(false) => {}
-            Err(_error) => {
-                self.stop(Stopped::Memory);
-                return false;
-            }
-        }
-        match self.next_question(rooms, edge) {
-            Some(next) => {
-                let told = mem::replace(question, next);
-                told.request.leave(rooms);
+        match self.board.open_question(edge) {
+            Ok(next) => {
+                *question = next;
                 true
             }
-            None => false,
-        }
-    }
-
-    /// Returns the question whose reply an edge awaits. If memory ran out, it returns None, and lanes stop.
-    fn next_question(&mut self, rooms: &mut Vec<Vec<u8>>, edge: u32) -> Option<Question>
-        requires { AwaitsReply self.old.run edge }
-        ensures run { self.new.run ≡ self.old.run }
-        ensures awaited { IfSome result (λ q. IsOpen self.new.run edge q.number (shown q.request)) }
-        ensures stops { result ≡ None → self.new.stopped ≢ Stopped.No }
-    {
-        match self.board.open_question(rooms, edge) {
-            Ok(question) => Some(question),
             Err(_error) => {
                 self.stop(Stopped::Memory);
-                None
+                false
             }
         }
     }
 
-    /// Why lanes stop, if they do.
+    /// Returns why lanes stop, if they do.
     pub fn stopped(&self) -> Stopped
         ensures { result ≡ self.now.stopped }
     {
         self.stopped
     }
 
-    /// One more lane sleeps.
+    /// Counts one more lane that sleeps.
     pub fn sleeps(&mut self)
         ensures { self.new ≡ self.old }
     {
         self.waiting = self.waiting.saturating_add(1);
     }
 
-    /// One lane less sleeps.
+    /// Counts one lane less that sleeps.
     pub fn wakes_up(&mut self)
         ensures { self.new ≡ self.old }
     {
         self.waiting = self.waiting.saturating_sub(1);
     }
 
-    /// The board, what shows its lines, and why lanes stopped.
+    /// Returns the board, what shows its lines, and why lanes stopped.
     pub fn into_parts(self) -> (Board<'v, W>, Option<Showing>, Stopped)
         ensures { IsDesk J.run J.feed result.0 result.1 }
     {
@@ -230,7 +237,7 @@ impl<'v, W: World, J: Naming> Desk<'v, W, J> {
         (board, showing, stopped)
     }
 
-    /// Stops the lanes for a cause, if they weren't stopped before.
+    /// Stops the lanes for a reason, if they weren't stopped before.
     pub fn stop(&mut self, cause: Stopped)
         ensures run { self.new.run ≡ self.old.run }
         ensures stops { cause ≢ Stopped.No → self.new.stopped ≢ Stopped.No }
@@ -240,7 +247,7 @@ impl<'v, W: World, J: Naming> Desk<'v, W, J> {
         }
     }
 
-    /// Whether a lane sleeps that has something to do.
+    /// Checks whether a lane sleeps that would have something to do.
     pub fn wakes(&self) -> bool {
         self.waiting > 0 && self.board.enabled()
     }

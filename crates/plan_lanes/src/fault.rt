@@ -1,4 +1,4 @@
-//! Why no whole run is reported.
+//! Why a run isn't reported as whole.
 
 ghost use Rattle.std.specs.Prelude.{◌≡◌};
 ghost use Rattle.plan_lanes.specs.Faults.{number_of};
@@ -6,24 +6,24 @@ ghost use Rattle.plan_lanes.specs.Faults.{number_of};
 use crate::board::Report;
 use plan_machine::Refused;
 
-/// Why lanes report no whole run. Once the run was opened, the run so far comes with it.
+/// The reason why lanes report no whole run. If the run was opened, the run so far is part of it.
 #[derive(Drop)]
 pub enum LaneFault {
     /// The run wasn't opened: a target is no edge, or memory ran out.
     Opening(Refused),
-    /// A reply of the world wasn't enabled: it is of a sort that doesn't fit its question.
+    /// A reply of the world wasn't enabled: it doesn't suit its question.
     NotEnabled(Report),
     /// Memory ran out, in a lane or in the world.
     NoMemory(Report),
     /// No thread could be started.
     NoLane(Report),
-    /// All lanes came back, but the run hasn't ended.
+    /// All lanes returned, but the run hasn't ended.
     OtherBoard(Report),
 }
 
 impl LaneFault {
-    /// The number under which a program prints the fault: that of the machine's refusal, 110 where a reply doesn't fit,
-    /// 120 to 122 in the order of the other variants. This project's own choice.
+    /// Returns the number of the fault that a program prints: that of the machine's refusal, 110 if a reply doesn't
+    /// suit, or 120 to 122 in the order of the other variants. The numbers are this project's own.
     pub fn number(&self) -> u8
         ensures { result ≡ number_of self.now }
     {

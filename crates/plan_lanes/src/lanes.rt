@@ -8,7 +8,7 @@ ghost use Rattle.plan_lanes.specs.Desks.{IsDesk, IsLeft};
 ghost use Rattle.plan_lanes.specs.Faults.{FaultReports, fault_of, report_of};
 ghost use Rattle.plan_lanes.specs.Hands.{Takes};
 ghost use Rattle.plan_lanes.specs.Progress.{Opened};
-ghost use Rattle.plan_lanes.specs.Reports.{IsRunOf};
+ghost use Rattle.plan_lanes.specs.Reports.{IsKeptBy, IsRunOf};
 
 use crate::asked::{Asked, Question};
 use crate::board::{Advance, Board, Permit, Report};
@@ -21,24 +21,21 @@ use plan_status::Showing;
 use plan_verify::Verified;
 use std::alloc::Global;
 use std::marker::Brand;
-use std::sync::{Condvar, Mutex, Wait};
+use std::sync::{Condvar, Mutex, MutexGuard, Wait};
 use std::thread;
 use std::thread::Threads;
 
-/// The most questions that a lane takes at one visit.
-const HAND: usize = 64;
-
-/// What a visit to the desk left to do.
+/// What is left to do after a visit to the desk.
 enum Left {
-    /// To ask what is in the hand.
+    /// To ask the questions in the hand.
     Asks,
-    /// That, and then to run a command.
+    /// To ask them, and then to run a command.
     Runs(u32, Question, Permit),
     /// Nothing: the run has ended, or lanes stop.
     Nothing,
 }
 
-/// Why a hand was filled no further.
+/// The reason why a hand was filled no further.
 enum Taken {
     Full,
     Run(u32, Question, Permit),
@@ -47,12 +44,14 @@ enum Taken {
     NoMemory,
 }
 
-/// Runs an image by as many threads as the options have jobs, each of which takes questions from one board, asks the
-/// world, and hands its replies in. No targets stand for the image's defaults. It may wait for the world.
+/// Runs an image by as many threads as the options have jobs. Each thread takes questions from one board, asks the
+/// world, and applies its replies. If there are no targets, the run is for the image's defaults. The call may wait for
+/// the world.
 ///
 /// # Errors
-/// As `Board::open`, without a report; else the run so far, and why it hasn't ended. Which of the faults comes is only
-/// tested: `NotEnabled` where a reply doesn't fit its question, `NoMemory`, `NoLane` where no thread could be started.
+/// As for `Board::open`, without a report. Otherwise the run so far, and why it hasn't ended. Which of these faults
+/// comes is only tested: `NotEnabled` if a reply doesn't suit its question, `NoMemory`, or `NoLane` if no thread could
+/// be started.
 pub fn run_lanes<W: World + Send + Sync, R: Threads + Wait + Sync>(
     rt: &R,
     alloc: Global,
@@ -64,6 +63,8 @@ pub fn run_lanes<W: World + Send + Sync, R: Threads + Wait + Sync>(
     ensures run { IfOk result (λ r. IsRunOf W.allows (record { parts = image.now; limits = options; targets = targets.now }) r) }
     ensures ended { IfOk result (λ r. has_ended r.state.going.now ≡ true) }
     ensures fault { IfErr result (λ f. FaultReports W.allows (record { parts = image.now; limits = options; targets = targets.now }) f) }
+    ensures kept { IfOk result (λ r. IsKeptBy W.keeps r) }
+    ensures kept_so_far { IfErr result (λ f. IfSome (report_of f) (λ r. IsKeptBy W.keeps r)) }
 {
     let board: Board<'_, W> = match Board::open(alloc, image, options, targets) {
         Ok(board) => board,
@@ -80,7 +81,7 @@ pub fn run_lanes<W: World + Send + Sync, R: Threads + Wait + Sync>(
     judged(report, stopped)
 }
 
-/// Whether a run has ended, by its report and why its lanes stopped.
+/// Returns a report if its run has ended, and otherwise the fault for which its lanes stopped.
 pub(crate) fn judged(report: Report, stopped: Stopped) -> Result<Report, LaneFault>
     ensures ok { IfOk result (λ r. r ≡ report) }
     ensures ended { (p : Image) → IsStateOf p report.state → IfOk result (λ r. has_ended r.state.going.now ≡ true) }
@@ -100,8 +101,8 @@ pub(crate) fn judged(report: Report, stopped: Stopped) -> Result<Report, LaneFau
     Ok(report)
 }
 
-/// Runs what a board begins, by so many lanes, and shows its lines where there is what shows them. It reports the run, why
-/// its lanes stopped, and what showed.
+/// Runs what a board begins, by `count` lanes, and shows its lines if `showing` is there. Returns the report of the
+/// run, why its lanes stopped, and what showed the lines.
 pub(crate) fn run_named<J: Naming + Send + Sync, W: World + Send + Sync, R: Threads + Wait + Sync>(
     rt: &R,
     alloc: Global,
@@ -112,6 +113,7 @@ pub(crate) fn run_named<J: Naming + Send + Sync, W: World + Send + Sync, R: Thre
 ) -> (Report, Stopped, Option<Showing>)
     requires { IsDesk J.run J.feed board showing }
     ensures run { IsRunOf W.allows J.run result.0 }
+    ensures kept { IsKeptBy W.keeps result.0 }
     ensures there { is_some result.2 ≡ is_some J.feed }
     ensures left { IfSome result.2 (λ s. IsLeft J.run J.feed result.0 s) }
 {
@@ -123,7 +125,7 @@ pub(crate) fn run_named<J: Naming + Send + Sync, W: World + Send + Sync, R: Thre
     (board.into_report(), stopped, showing)
 }
 
-/// Starts lanes and waits for them. True where one started.
+/// Starts lanes, and waits for them. Returns whether at least one started.
 fn start_lanes<J: Naming + Send + Sync, W: World + Send + Sync, R: Threads + Wait + Sync>(
     rt: &R,
     alloc: Global,
@@ -154,17 +156,16 @@ fn lane<J: Naming, W: World, R: Wait>(
     moved: &Condvar,
     world: &W,
 ) {
-    let Ok(mut hand) = Hand::new(alloc, HAND) else {
+    let Ok(mut hand) = Hand::new(alloc) else {
         stop(rt, desk, moved);
         return;
     };
     for _ in rt.forever() {
-        match visit(rt, desk, moved, &mut hand) {
+        match visit(rt, desk, moved, &mut hand, world) {
             Left::Nothing => return,
-            Left::Asks => hand.ask(world),
+            Left::Asks => {}
             Left::Runs(edge, question, permit) => {
-                hand.ask(world);
-                if !hand_in(rt, desk, moved, &mut hand) {
+                if !ask_out(rt, desk, moved, &mut hand, world) {
                     permit.spend();
                     return;
                 }
@@ -178,15 +179,35 @@ fn lane<J: Naming, W: World, R: Wait>(
     }
 }
 
-/// Hands in what is in the hand, keeps the questions that its edges ask next, fills it again, and shows the lines that came
-/// of it. It sleeps while nothing can be asked and the hand is empty.
+/// Asks the world the questions in the hand, and takes the lock. While other lanes have the lock, goes on asking as
+/// long as questions are left.
+fn ask_and_lock<'a, 'v, J: Naming, W: World, R: Wait>(
+    rt: &R,
+    desk: &'a Mutex<Desk<'v, W, J>>,
+    hand: &mut Hand<W>,
+    world: &W,
+) -> MutexGuard<'a, Desk<'v, W, J>> {
+    for _ in rt.forever() {
+        if !hand.ask_some(world) {
+            return desk.lock(rt);
+        }
+        if let Some(guard) = desk.try_lock() {
+            return guard;
+        }
+    }
+    desk.lock(rt)
+}
+
+/// Asks the world the questions in the hand, applies what was heard, keeps the questions that edges ask next, fills the
+/// hand again, and shows the lines that result. Sleeps while nothing can be asked and the hand is empty.
 fn visit<J: Naming, W: World, R: Wait>(
     rt: &R,
     desk: &Mutex<Desk<'_, W, J>>,
     moved: &Condvar,
     hand: &mut Hand<W>,
+    world: &W,
 ) -> Left {
-    let mut guard = desk.lock(rt);
+    let mut guard = ask_and_lock(rt, desk, hand, world);
     hand.follow(&mut guard);
     for _ in rt.forever() {
         if guard.stopped() != Stopped::No {
@@ -198,7 +219,7 @@ fn visit<J: Naming, W: World, R: Wait>(
         let left = match taken {
             Taken::Full => Left::Asks,
             Taken::Run(edge, question, permit) => Left::Runs(edge, question, permit),
-            Taken::Wait if hand.len() == 0 => {
+            Taken::Wait if hand.is_empty() => {
                 guard.sleeps();
                 guard = moved.wait(rt, guard);
                 guard.wakes_up();
@@ -225,16 +246,33 @@ fn visit<J: Naming, W: World, R: Wait>(
     Left::Nothing
 }
 
-/// Hands in what is in the hand, shows the lines that came of it, and takes nothing. False where lanes stop.
+/// Asks the world until the hand is empty. Returns false if lanes stop.
+fn ask_out<J: Naming, W: World, R: Wait>(
+    rt: &R,
+    desk: &Mutex<Desk<'_, W, J>>,
+    moved: &Condvar,
+    hand: &mut Hand<W>,
+    world: &W,
+) -> bool {
+    for _ in rt.forever() {
+        if hand.is_empty() {
+            return true;
+        }
+        hand.ask(world);
+        if !hand_in(rt, desk, moved, hand) {
+            return false;
+        }
+    }
+    false
+}
+
+/// Applies what was heard, and shows the lines that result. Takes no question. Returns false if lanes stop.
 fn hand_in<J: Naming, W: World, R: Wait>(
     rt: &R,
     desk: &Mutex<Desk<'_, W, J>>,
     moved: &Condvar,
     hand: &mut Hand<W>,
 ) -> bool {
-    if hand.len() == 0 {
-        return true;
-    }
     let mut guard = desk.lock(rt);
     hand.hand_in(&mut guard);
     guard.show();
@@ -260,7 +298,7 @@ fn take<J: Naming, W: World, R: Wait>(
     ensures { Takes desk.old.run desk.new.run hand.old hand.new result }
 {
     for _ in rt.forever() {
-        if hand.len() >= HAND {
+        if hand.is_full() {
             return Taken::Full;
         }
         match hand.advance(desk) {
@@ -281,7 +319,7 @@ fn take<J: Naming, W: World, R: Wait>(
     Taken::NoMemory
 }
 
-/// Runs a command: its question with the reply, or without one where memory ran out.
+/// Runs a command. Returns its question with the reply, or without a reply if memory ran out.
 fn run<W: World>(world: &W, edge: u32, question: Question, permit: Permit) -> Member<W> {
     let reply = match &question.request {
         Asked::Run(command, outputs) => {
@@ -294,13 +332,10 @@ fn run<W: World>(world: &W, edge: u32, question: Question, permit: Permit) -> Me
             None
         }
     };
-    match reply {
-        Some(reply) => Member::replied(edge, question, reply),
-        None => Member::open(edge, question),
-    }
+    Member::replied(edge, question, reply)
 }
 
-/// Stops all lanes, since memory ran out.
+/// Stops all lanes, because memory ran out.
 fn stop<J: Naming, W: World, R: Wait>(rt: &R, desk: &Mutex<Desk<'_, W, J>>, moved: &Condvar) {
     desk.lock(rt).stop(Stopped::Memory);
     moved.notify_all();

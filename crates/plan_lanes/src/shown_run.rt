@@ -4,9 +4,9 @@ ghost use Rattle.std.specs.Prelude.{◌≡◌, IfErr, IfOk, IfSome, is_some, tru
 ghost use Rattle.plan_machine.specs.State.{has_ended};
 ghost use Rattle.plan_status.specs.Live.{IsUnused, SameFeed};
 ghost use Rattle.plan_lanes.specs.Desks.{FaultIsFed, ReportIsFed};
-ghost use Rattle.plan_lanes.specs.Faults.{FaultReports};
+ghost use Rattle.plan_lanes.specs.Faults.{FaultReports, report_of};
 ghost use Rattle.plan_lanes.specs.Progress.{Opened};
-ghost use Rattle.plan_lanes.specs.Reports.{IsRunOf};
+ghost use Rattle.plan_lanes.specs.Reports.{IsKeptBy, IsRunOf};
 
 use crate::board::{Board, Report};
 use crate::fault::LaneFault;
@@ -20,7 +20,7 @@ use std::marker::{Brand, Model};
 use std::sync::Wait;
 use std::thread::Threads;
 
-/// A run that is open, of which nothing is done yet, and what is to show its lines. A contract sees it as what it was
+/// A run that is open and in which nothing was done yet, with what is to show its lines. A contract sees what it was
 /// opened with, and the feed.
 #[derive(Drop)]
 pub struct ShownRun<'v, W: World> {
@@ -47,14 +47,14 @@ impl<'v, W: World> ShownRun<'v, W> {
     ghost use Rattle.plan_status.specs.Live.{IsUnused, SameFeed};
     ghost use Rattle.plan_lanes.specs.Desks.{ReportIsFed, ready};
     ghost use Rattle.plan_lanes.specs.Faults.{FaultReports, report_of};
-    ghost use Rattle.plan_lanes.specs.Reports.{IsRunOf};
+    ghost use Rattle.plan_lanes.specs.Reports.{IsKeptBy, IsRunOf};
     ghost use Rattle.plan_lanes.specs.declared.fault.LaneFault.TheVariants.{Opening};
 
-    /// Opens a run of an image, the lines of which are to go into a feed. No targets stand for the image's defaults.
-    /// Nothing is asked of a world.
+    /// Opens a run of an image whose lines are to go into a feed. If there are no targets, the run is for the image's
+    /// defaults. The world isn't asked.
     ///
     /// # Errors
-    /// As `Board::open`, and `Memory` where memory for the feed's books is wanted. The feed comes back.
+    /// As for `Board::open`, and `Memory` if there is no memory for what shows the lines. The feed is returned.
     pub fn open(
         alloc: Global,
         image: &'v Verified,
@@ -89,10 +89,11 @@ impl<W: World + Send + Sync> ShownRun<'_, W> {
     ghost use Rattle.plan_status.specs.Live.{SameFeed};
     ghost use Rattle.plan_lanes.specs.Desks.{ReportIsFed};
     ghost use Rattle.plan_lanes.specs.Faults.{FaultReports, report_of};
-    ghost use Rattle.plan_lanes.specs.Reports.{IsRunOf};
+    ghost use Rattle.plan_lanes.specs.Reports.{IsKeptBy, IsRunOf};
 
-    /// Runs it as `run_lanes` does, and puts the status line of each event into the feed before its lane gives the lock
-    /// back, or once there is room for it and no console command is under way. The feed comes back to be settled.
+    /// Runs it like `run_lanes`, and puts the status line of each event into the feed before its lane releases the
+    /// lock, or as soon as there is room for it and no console command runs. Returns the feed too, whose lines are to
+    /// be settled.
     ///
     /// # Errors
     /// The run so far, and why it hasn't ended.
@@ -105,6 +106,8 @@ impl<W: World + Send + Sync> ShownRun<'_, W> {
         ensures ended { IfOk result.0 (λ r. has_ended r.state.going.now ≡ true) }
         ensures fault { IfErr result.0 (λ f. FaultReports W.allows self.entry.opened f) }
         ensures begun { IfErr result.0 (λ f. is_some (report_of f) ≡ true) }
+        ensures kept { IfOk result.0 (λ r. IsKeptBy W.keeps r) }
+        ensures kept_so_far { IfErr result.0 (λ f. IfSome (report_of f) (λ r. IsKeptBy W.keeps r)) }
         ensures same { SameFeed self.entry.feed result.1 }
         ensures fed { IfOk result.0 (λ r. ReportIsFed self.entry.opened r result.1) }
         ensures fed_so_far { IfErr result.0 (λ f. IfSome (report_of f) (λ r. ReportIsFed self.entry.opened r result.1)) }
@@ -130,13 +133,13 @@ impl<W: World + Send + Sync> ShownRun<'_, W> {
     }
 }
 
-/// Runs an image as `run_lanes` does, and puts the status line of each event into a feed before its lane gives the lock
-/// back, or once there is room for it and no console command is under way. The lines that were put in are those of the
-/// first marks of the report, and the feed comes back to be settled, whatever came of the run. It never waits for who
-/// prints them.
+/// Runs an image like `run_lanes`, and puts the status line of each event into a feed before its lane releases the
+/// lock, or as soon as there is room for it and no console command runs. The lines in the feed are those of the first
+/// marks of the report. The feed is returned in any case, to be settled. The call never waits for the reader of the
+/// feed.
 ///
 /// # Errors
-/// As `run_lanes`; where memory for the feed's books is wanted, `Opening` with `Memory`.
+/// As for `run_lanes`, and `Opening` with `Memory` if there is no memory for what shows the lines.
 pub fn run_lanes_shown<W: World + Send + Sync, R: Threads + Wait + Sync>(
     rt: &R,
     alloc: Global,
@@ -150,6 +153,8 @@ pub fn run_lanes_shown<W: World + Send + Sync, R: Threads + Wait + Sync>(
     ensures run { IfOk result.0 (λ r. IsRunOf W.allows (record { parts = image.now; limits = options; targets = targets.now }) r) }
     ensures ended { IfOk result.0 (λ r. has_ended r.state.going.now ≡ true) }
     ensures fault { IfErr result.0 (λ f. FaultReports W.allows (record { parts = image.now; limits = options; targets = targets.now }) f) }
+    ensures kept { IfOk result.0 (λ r. IsKeptBy W.keeps r) }
+    ensures kept_so_far { IfErr result.0 (λ f. IfSome (report_of f) (λ r. IsKeptBy W.keeps r)) }
     ensures same { SameFeed feed result.1 }
     ensures fed { IfOk result.0 (λ r. ReportIsFed (record { parts = image.now; limits = options; targets = targets.now }) r result.1) }
     ensures fed_so_far { IfErr result.0 (λ f. FaultIsFed (record { parts = image.now; limits = options; targets = targets.now }) f result.1) }

@@ -1,4 +1,4 @@
-//! Marks that tell of something.
+//! Marks that report something.
 
 ghost use Rattle.std.specs.Prelude.{◌≡◌, ◌≤◌, ◌+◌, ◌++◌, ◌∷◌, [], vec_capacity, vec_len};
 ghost use Rattle.plan_lanes.specs.Telling as defined;
@@ -6,7 +6,7 @@ ghost use Rattle.plan_lanes.specs.Telling.{TellAllLines, telling};
 
 use plan_machine::Mark;
 
-/// Whether a mark tells of something: how an edge came out, or that it took or gave back a place.
+/// Checks whether a mark reports something: how an edge ended, or that it took or released a job token.
 fn tells(mark: Mark) -> bool
     ensures { result ≡ defined.tells mark }
 {
@@ -16,7 +16,7 @@ fn tells(mark: Mark) -> bool
     )
 }
 
-/// Puts a mark behind others, where it tells of something.
+/// Appends a mark if it reports something.
 pub(crate) fn keep(marks: &mut Vec<Mark>, mark: Mark)
     requires { vec_len marks.old + 1 ≤ vec_capacity marks.old }
     ensures { marks.new.items ≡ marks.old.items ++ telling (mark ∷ []) }
@@ -26,7 +26,7 @@ pub(crate) fn keep(marks: &mut Vec<Mark>, mark: Mark)
     }
 }
 
-/// The status lines of a run's marks are those of the marks that tell of something.
+/// States that the status lines of a run's marks are those of the marks that report something.
 pub fn lines_are_told()
     ensures { TellAllLines }
 {}

@@ -1,7 +1,8 @@
 //! The world outside: files, commands, the record.
 
-ghost use Rattle.std.specs.Prelude.{ℕ, IfOk};
+ghost use Rattle.std.specs.Prelude.{ℕ, ◌≡◌, IfOk, IfSome};
 ghost use Rattle.plan_machine.specs.declared.reply.Reply.{Reply as Answer};
+ghost use Rattle.plan_machine.specs.declared.reply.Reply.TheVariants.{Stamp};
 ghost use Rattle.plan_verify.specs.Turn.{Deps, Keep, Recall, Request, Run, Stat};
 
 use crate::board::Permit;
@@ -10,26 +11,43 @@ use plan_text::RowList;
 use plan_verify::PathList;
 use std::alloc::AllocError;
 
-/// What is outside. Each call answers what an edge asked, by the number of the question: the position in the journal of
-/// the event that asked. Lanes call it at once from several threads, never under a lock. A call may fail for want of
-/// memory alone: a file or a command that fails is a reply.
+/// What is outside. Each call replies to what an edge asked, under the number of the question: the position in the
+/// journal of the event that asked. Lanes call it from several threads at once, never under a lock. A call fails only
+/// if memory runs out: a file or a command that fails is a reply.
 pub trait World {
-    ghost use Rattle.std.specs.Prelude.{ℕ};
+    ghost use Rattle.std.specs.Prelude.{ℕ, Bool, false};
     ghost use Rattle.plan_machine.specs.declared.reply.Reply.{Reply as Answer};
     ghost use Rattle.plan_verify.specs.Turn.{Request};
 
     /// The rule of the world: this reply may be given to the question of this number.
     ghost allows: { ℕ → Request → Answer → Type 0 };
 
-    /// When the file of a path was last changed.
+    /// The journals of runs in this world are kept.
+    ghost keeps: { Bool } = { false };
+
+    /// Checks whether the journal of a run in this world is kept, so that it can be read when the run is over. If it
+    /// isn't, a run takes no memory for its events.
+    fn keeps_journal() -> bool
+        ensures { result ≡ Self.keeps };
+
+    /// Returns when the file of a path was last changed.
     fn stat(&self, number: u64, path: &[u8]) -> Result<Reply, AllocError>
         ensures { IfOk result (λ r. Self.allows number (Stat path.now) r) };
 
-    /// What the record has for an output.
+    /// Returns when the file of a path was last changed, if the rule allows that stamp for the path under every number.
+    /// Lanes ask in this way for the paths of a sweep, one after another, before their questions have numbers. None if
+    /// a rule depends on numbers, the path has no stamp, or memory ran out: then `stat` is asked.
+    fn stat_ahead(&self, _path: &[u8]) -> Option<u64>
+        ensures { IfSome result (λ stamp. (number : ℕ) → Self.allows number (Stat _path.now) (Stamp stamp)) }
+    {
+        None
+    }
+
+    /// Returns what the record has for an output.
     fn recall(&self, number: u64, output: &[u8]) -> Result<Reply, AllocError>
         ensures { IfOk result (λ r. Self.allows number (Recall output.now) r) };
 
-    /// Runs a command, which makes these files. It may wait for the command to end.
+    /// Runs a command, which makes these files. May wait for the command to end.
     fn run(
         &self,
         number: u64,
@@ -39,11 +57,11 @@ pub trait World {
     ) -> Result<Reply, AllocError>
         ensures { IfOk result (λ r. Self.allows number (Run command.now outputs.now) r) };
 
-    /// The depfile of a path.
+    /// Returns the depfile of a path.
     fn read_depfile(&self, number: u64, path: &[u8]) -> Result<Reply, AllocError>
         ensures { IfOk result (λ r. Self.allows number (Deps path.now) r) };
 
-    /// Keeps in the record for an output its command, the stamp that it was made from, and its dependencies.
+    /// Keeps an entry in the record for an output: its command, the stamp that it was made from, and its dependencies.
     fn keep(
         &self,
         number: u64,

@@ -1,4 +1,4 @@
-use Rattle.std.proofs.Common.{◌≡◌, true, false, subst, sym}
+use Rattle.std.proofs.Common.{subst, sym}
 use Rattle.plan_lanes.specs.Proceeds.{AwaitsReply}
 use Rattle.plan_lanes.specs.Progress.{Progress, progress}
 use Rattle.plan_lanes.proofs.ListLemmas.{none_within}
@@ -6,12 +6,6 @@ use Rattle.plan_lanes.proofs.board.Board.open_question.Goals as goal
 
 pub unreachable-requires : goal.unreachable-requires
 unreachable-requires g c =
-    let b = c.self.inside in
-    let awaits : AwaitsReply (progress b.image.now b.targets.items b.state.going b.diary.events b.marks.items) c.args.edge = subst (λ (v : Progress). AwaitsReply v c.args.edge) (sym c.self.view_is) c.requires in
-    let clash : false ≡ true = c.in_default.ensures.some awaits.0 awaits.1 awaits.2 in cc
-
-pub unreachable-requires-in-None : goal.unreachable-requires-in-None
-unreachable-requires-in-None g c =
     let b = c.self.inside in
     let awaits : AwaitsReply (progress b.image.now b.targets.items b.state.going b.diary.events b.marks.items) c.args.edge = subst (λ (v : Progress). AwaitsReply v c.args.edge) (sym c.self.view_is) c.requires in
     let known = c.self.invariant.numbered c.args.edge awaits.0 awaits.1 in

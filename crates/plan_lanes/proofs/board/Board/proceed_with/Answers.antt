@@ -26,13 +26,13 @@ pub returns-then-is_still-clause-ok : goal.returns-then-is_still-clause-ok
 returns-then-is_still-clause-ok g c =
     let old : Progress = c.args.self.now in
     let same : c.record_rush.new.self ≡ old = still_stays old c.record_rush.new.self c.args.edge c.in_ok-rush.rush c.in_ok-rush.ensures.ok (sym c.is_still.ensures ∙ c.if-is_still.true) in
-    subst (λ (b : Progress). IfOk c.advance_in.result (λ a. Proceeds b c.advance_in.new.self a)) same c.advance_in.ensures.proceeds
+    subst (λ (b : Progress). IfOk c.advance_one.result (λ a. Proceeds b c.advance_one.new.self a)) same c.advance_one.ensures.proceeds
 
 pub returns-then-is_still-clause-goes : goal.returns-then-is_still-clause-goes
 returns-then-is_still-clause-goes g c =
     let old : Progress = c.args.self.now in
     let same : c.record_rush.new.self ≡ old = still_stays old c.record_rush.new.self c.args.edge c.in_ok-rush.rush c.in_ok-rush.ensures.ok (sym c.is_still.ensures ∙ c.if-is_still.true) in
-    subst (λ (b : Progress). GoesOn b c.advance_in.new.self) same c.advance_in.ensures.goes
+    subst (λ (b : Progress). GoesOn b c.advance_one.new.self) same c.advance_one.ensures.goes
 
 pub returns-clause-ok : goal.returns-clause-ok
 returns-clause-ok g c = rushed_moves c.args.self.now c.record_rush.new.self c.args.edge c.in_ok-rush.rush c.in_ok-rush.ensures.ok c.if-rush.false (sym c.is_still.ensures ∙ c.if-is_still.false)

@@ -2,7 +2,7 @@ use Rattle.std.proofs.Common.{refl}
 use Rattle.plan_lanes.specs.Progress.{Progress, progress}
 use Rattle.plan_lanes.proofs.RushLemmas.{goes_none}
 use Rattle.plan_lanes.proofs.StepLemmas.{awaits_so, ended_so, none_so}
-use Rattle.plan_lanes.proofs.board.Board.advance_in.Goals as goal
+use Rattle.plan_lanes.proofs.board.Board.advance_one.Goals as goal
 
 pub returns-then-ended-clause-ok : goal.returns-then-ended-clause-ok
 returns-then-ended-clause-ok g c =
