@@ -1,39 +1,50 @@
 -- Replies that suit their questions. Serves src/depfile.rt and src/world.rt.
-use Rattle.std.proofs.Common.{◌≡◌, List, ℕ, [], Option, Some, None, Result, Ok, Err, inl, inr, sym, subst}
-use Rattle.std.specs.Prelude.{IfOk, IsUtf8}
+use Rattle.std.proofs.Common.{◌≡◌, List, ℕ, [], Option, Some, None, Result, Ok, Err, inl, inr, refl, sym, subst}
+use Rattle.std.specs.Prelude.{IfErr, IfOk, IsUtf8, ℤ}
+use Rattle.std.specs.declared.alloc.Global.{Global}
+use Rattle.std.specs.declared.process.command.Command.{Command}
 use Rattle.plan_record.specs.Entries.{EntryData}
 use Rattle.plan_verify.specs.Turn.{Stat, Recall, Run, Deps}
 use Rattle.plan_machine.specs.Recording.{Recording}
 use Rattle.plan_machine.specs.declared.reply.Reply.{Reply}
 use Rattle.plan_machine.specs.declared.reply.Reply.TheVariants.{Bytes, Fault, NotStarted}
-use Rattle.plan_world.specs.Answers.{IsAnswer, MayAnswer, NamesAskable}
+use Rattle.plan_world.specs.Answers.{IsAnswer, IsByShell, MayAnswer, NamesAskable}
 use Rattle.plan_world.specs.Askable.{IsRecalled, RecallsAs}
 use Rattle.plan_world.specs.Depfiles.{IsDepfileOf, IsFrontOf, longest}
-use Rattle.plan_world.specs.Shells.{AreTexts}
+use Rattle.plan_world.specs.Shells.{AreTexts, IsShellOf, ending}
 
 -- what was gathered is a depfile
 pub gathered_depfile : (old new : Option (List ℕ)) (bytes : List ℕ) (r : Reply) → r ≡ Bytes bytes → IsFrontOf 16777217 bytes old new → IsDepfileOf old new r
 unfolding longest
 gathered_depfile old new bytes r same h = subst (λ (x : Reply). IsDepfileOf old new x) (sym same) h
 
+-- what is replied of a shell that was given just this command
+pub by_shell : {E F : Type 0} (ended : Command Global → Option ℤ → Type 0) (shell : Command Global) (command records : List ℕ) (run : Result (Option ℤ) E) (told : Result Reply F)
+    → IsShellOf shell command records → IfOk run (λ code. ended shell code) → IfOk run (λ code. told ≡ Ok (ending code)) → IfErr run (λ _. IfOk told (λ r. r ≡ NotStarted))
+    → IfOk told (λ r. IsByShell ended command r)
+by_shell {F = F} ended shell command records (Ok code) told is ran replied not =
+    subst (λ (x : Result Reply F). IfOk x (λ r. IsByShell ended command r)) (sym replied) (inr (shell, records, code, is, ran, refl))
+by_shell ended shell command records (Err e) (Ok r) is ran replied not = inl not
+by_shell ended shell command records (Err e) (Err f) is ran replied not = tt
+
 -- ---- the rule of the world
 
-pub may_stat : {E : Type 0} (path : List ℕ) (told : Result Reply E) → IfOk told (λ r. IsAnswer (Stat path) r) → (¬ (IsUtf8 path) → told ≡ Ok Fault)
-    → IfOk told (λ r. MayAnswer (Stat path) r)
-may_stat path (Ok r) answer text = record { answer = answer; texts = λ no. let same = text no in cc }
-may_stat path (Err e) answer text = tt
+pub may_stat : (ended : Command Global → Option ℤ → Type 0) {E : Type 0} (path : List ℕ) (told : Result Reply E) → IfOk told (λ r. IsAnswer (Stat path) r) → (¬ (IsUtf8 path) → told ≡ Ok Fault)
+    → IfOk told (λ r. MayAnswer ended (Stat path) r)
+may_stat ended path (Ok r) answer text = record { answer = answer; texts = (λ no. let same = text no in cc); run = tt }
+may_stat ended path (Err e) answer text = tt
 
-pub may_read : {E : Type 0} (path : List ℕ) (told : Result Reply E) → IfOk told (λ r. IsAnswer (Deps path) r) → (¬ (IsUtf8 path) → told ≡ Ok Fault)
-    → IfOk told (λ r. MayAnswer (Deps path) r)
-may_read path (Ok r) answer text = record { answer = answer; texts = λ no. let same = text no in cc }
-may_read path (Err e) answer text = tt
+pub may_read : (ended : Command Global → Option ℤ → Type 0) {E : Type 0} (path : List ℕ) (told : Result Reply E) → IfOk told (λ r. IsAnswer (Deps path) r) → (¬ (IsUtf8 path) → told ≡ Ok Fault)
+    → IfOk told (λ r. MayAnswer ended (Deps path) r)
+may_read ended path (Ok r) answer text = record { answer = answer; texts = (λ no. let same = text no in cc); run = tt }
+may_read ended path (Err e) answer text = tt
 
-pub may_run : {E : Type 0} (command : List ℕ) (outputs : List (List ℕ)) (told : Result Reply E) → IfOk told (λ r. IsAnswer (Run command outputs) r)
+pub may_run : (ended : Command Global → Option ℤ → Type 0) {E : Type 0} (command : List ℕ) (outputs : List (List ℕ)) (told : Result Reply E) → IfOk told (λ r. IsAnswer (Run command outputs) r)
     → (outputs ≡ [] → told ≡ Ok NotStarted) → (¬ (AreTexts outputs) → told ≡ Ok NotStarted) → (¬ (IsUtf8 command) → IfOk told (λ r. r ≡ NotStarted))
-    → IfOk told (λ r. MayAnswer (Run command outputs) r)
-may_run command outputs (Ok r) answer some paths text =
-    record { answer = answer; texts = record { some = λ none. let same = some none in cc; paths = λ no. let same = paths no in cc; text = text } }
-may_run command outputs (Err e) answer some paths text = tt
+    → IfOk told (λ r. IsByShell ended command r) → IfOk told (λ r. MayAnswer ended (Run command outputs) r)
+may_run ended command outputs (Ok r) answer some paths text ran =
+    record { answer = answer; texts = record { some = λ none. let same = some none in cc; paths = λ no. let same = paths no in cc; text = text }; run = ran }
+may_run ended command outputs (Err e) answer some paths text ran = tt
 
 -- a reply to a recall names only paths that the system can be asked about
 recalled_names : (found : Option EntryData) (r : Reply) → IsRecalled found r → NamesAskable r
@@ -41,10 +52,10 @@ recalled_names None r same = subst (λ (x : Reply). NamesAskable x) (sym same) t
 recalled_names (Some e) r (inl (askable, same)) = subst (λ (x : Reply). NamesAskable x) (sym same) askable
 recalled_names (Some e) r (inr (never, same)) = subst (λ (x : Reply). NamesAskable x) (sym same) tt
 
-pub may_recall : {E : Type 0} (output : List ℕ) (found : Option EntryData) (told : Result Reply E) → IfOk told (λ r. IsAnswer (Recall output) r)
-    → IfOk told (λ r. IsRecalled found r) → IfOk told (λ r. MayAnswer (Recall output) r)
-may_recall output found (Ok r) answer recalled = record { answer = answer; texts = recalled_names found r recalled }
-may_recall output found (Err e) answer recalled = tt
+pub may_recall : (ended : Command Global → Option ℤ → Type 0) {E : Type 0} (output : List ℕ) (found : Option EntryData) (told : Result Reply E) → IfOk told (λ r. IsAnswer (Recall output) r)
+    → IfOk told (λ r. IsRecalled found r) → IfOk told (λ r. MayAnswer ended (Recall output) r)
+may_recall ended output found (Ok r) answer recalled = record { answer = answer; texts = recalled_names found r recalled; run = tt }
+may_recall ended output found (Err e) answer recalled = tt
 
 -- what the entry that was found says is replied
 pub recalled_as : (found : Option EntryData) (e : EntryData) (said : Recording) (r : Reply) → found ≡ Some e

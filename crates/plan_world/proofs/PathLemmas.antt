@@ -1,10 +1,13 @@
--- Paths gone through one by one. Serves src/askable.rt, src/recorded.rt and src/shell.rt.
-use Rattle.std.proofs.Common.{◌≡◌, ◌+◌, ◌<◌, ◌⊎◌, ℕ, List, [], ◌∷◌, ◌++◌, None, inl, inr, sym, subst, ◌∙◌, arith, slice_get}
-use Rattle.std.specs.Prelude.{get_or}
-use Rattle.std.proofs.lemmas.Bool.{cases_order}
+-- Paths gone through one by one, and the names in a path. Serves src/askable.rt, src/recorded.rt and src/shell.rt.
+use Rattle.std.proofs.Common.{◌≡◌, ◌+◌, ◌<◌, ◌≤◌, ◌⊎◌, ℕ, Bool, true, false, List, [], ◌∷◌, ◌++◌, length, None, inl, inr, refl, sym, ap, subst, ◌∙◌, arith, cond, slice_get, suc, not, ◌||◌}
+use Rattle.std.specs.Prelude.{◌==◌, get_or}
+use Rattle.std.specs.List.{list_all, list_any, onto_first, position_or_len}
+use Rattle.plan_text.specs.Path.{components_of}
+use Rattle.plan_world.specs.Askable.{is_name}
+use Rattle.std.proofs.lemmas.Bool.{cases_order, le-leb}
 use Rattle.std.proofs.lemmas.List.{append-nil}
 
--- where none is to come, all were pushed
+-- if none is to come, all were pushed
 pub nothing_more : (rows paths all : List (List ℕ)) → None ≡ slice_get paths 0 → rows ++ paths ≡ all → rows ≡ all
 nothing_more rows [] all none h = sym (append-nil rows) ∙ h
 nothing_more rows (p ∷ ps) all none h = absurd cc
@@ -18,3 +21,80 @@ one_more P n paths path same before here k lt = by k lt (cases_order k n)
     by k lt (inl is) = rw is (subst P same here)
     by k lt (inr (inl below)) = before k below
     by k lt (inr (inr above)) = absurd (omega (arith, lt, above))
+
+-- ---- the names in a short path
+
+-- the parts of a path between slashes: the first is no longer than the path, and files can have the names of the others
+record HasNames (path : List ℕ) : Type 0 where
+  pub first : List ℕ
+  pub rest : List (List ℕ)
+  pub is : components_of path ≡ first ∷ rest
+  pub short : length first ≤ length path
+  pub names : list_all is_name rest ≡ true
+
+short_is_name : (name : List ℕ) → length name ≤ 255 → is_name name ≡ true
+short_is_name name le = le-leb (length name) 255 le
+
+all_names : (first : List ℕ) (rest : List (List ℕ)) → length first ≤ 255 → list_all is_name rest ≡ true → list_all is_name (first ∷ rest) ≡ true
+all_names first rest le names = rw (short_is_name first le) names
+
+one_more_byte : (b : ℕ) (bs : List ℕ) → length bs < 255 → HasNames bs → (at : Bool) → (b == 47) ≡ at → HasNames (b ∷ bs)
+one_more_byte b bs lt inner true e =
+    let short = inner.short in
+    record {
+      first = [];
+      rest = components_of bs;
+      is = ap (λ x. cond x ([] ∷ components_of bs) (onto_first b (components_of bs))) e;
+      short = omega arith;
+      names = subst (λ (parts : List (List ℕ)). list_all is_name parts ≡ true) (sym inner.is) (all_names inner.first inner.rest (omega (arith, short, lt)) inner.names);
+    }
+one_more_byte b bs lt inner false e =
+    let short = inner.short in
+    record {
+      first = b ∷ inner.first;
+      rest = inner.rest;
+      is = ap (λ x. cond x ([] ∷ components_of bs) (onto_first b (components_of bs))) e ∙ ap (onto_first b) inner.is;
+      short = omega (arith, short);
+      names = inner.names;
+    }
+
+has_names : (path : List ℕ) → length path ≤ 255 → HasNames path
+has_names [] le = record { first = []; rest = []; is = refl; short = omega arith; names = refl }
+has_names (b ∷ bs) le = one_more_byte b bs (omega (arith, le)) (has_names bs (omega (arith, le))) (b == 47) refl
+
+-- Files can have each name of a path of 255 bytes or less.
+pub short_names : (path : List ℕ) → length path ≤ 255 → list_all is_name (components_of path) ≡ true
+short_names path le =
+    let has = has_names path le in
+    let short = has.short in
+    subst (λ (parts : List (List ℕ)). list_all is_name parts ≡ true) (sym has.is) (all_names has.first has.rest (omega (arith, short, le)) has.names)
+
+-- ---- the first NUL byte
+
+pub from_not : (any : Bool) → not any ≡ true → any ≡ false
+from_not true e = absurd cc
+from_not false e = refl
+
+pub not_from : (any : Bool) → any ≡ false → not any ≡ true
+not_from true e = absurd cc
+not_from false e = refl
+
+-- If no byte is NUL, the first NUL byte is at the end.
+pub whole_if_none : (path : List ℕ) → list_any (λ b. b == 0) path ≡ false → position_or_len (λ b. b == 0) path ≡ length path
+whole_if_none [] e = refl
+whole_if_none (b ∷ bs) e = by (b == 0) e (whole_if_none bs)
+  where
+    by : (nul : Bool) → (nul || list_any (λ b. b == 0) bs) ≡ false → (list_any (λ b. b == 0) bs ≡ false → position_or_len (λ b. b == 0) bs ≡ length bs)
+        → cond (not nul) (1 + position_or_len (λ b. b == 0) bs) 0 ≡ suc (length bs)
+    by true e rest = absurd cc
+    by false e rest = let same = rest e in omega (arith, same)
+
+-- If the first NUL byte is at the end, no byte is NUL.
+pub none_if_whole : (path : List ℕ) → position_or_len (λ b. b == 0) path ≡ length path → list_any (λ b. b == 0) path ≡ false
+none_if_whole [] e = refl
+none_if_whole (b ∷ bs) e = by (b == 0) e (none_if_whole bs)
+  where
+    by : (nul : Bool) → cond (not nul) (1 + position_or_len (λ b. b == 0) bs) 0 ≡ suc (length bs)
+        → (position_or_len (λ b. b == 0) bs ≡ length bs → list_any (λ b. b == 0) bs ≡ false) → (nul || list_any (λ b. b == 0) bs) ≡ false
+    by true e rest = absurd (omega (arith, e))
+    by false e rest = rest (omega (arith, e))

@@ -1,5 +1,5 @@
 -- What is kept of the record's file. Serves src/record_file.rt.
-use Rattle.std.proofs.Common.{◌≡◌, refl, ◌+◌, ℕ, Bool, true, false, List, [], ◌∷◌, ◌++◌, Option, Some, None, IfSome, length, option_map, ap, sym, subst, ◌∙◌, bytes_eq, length-append, length-take-le, if◌then◌else◌}
+use Rattle.std.proofs.Common.{◌≡◌, refl, ◌+◌, ℕ, Bool, true, false, List, [], ◌∷◌, ◌++◌, Option, Some, None, IfSome, length, ap, sym, subst, ◌∙◌, bytes_eq, length-append, length-take-le, if◌then◌else◌}
 use Rattle.std.specs.List.{flat_map}
 use Rattle.std.proofs.lemmas.List.{flat_map_more}
 use Rattle.std.proofs.lemmas.Slice.Eq.{bytes_eq-Decides}
@@ -25,7 +25,5 @@ last_is_of : (output : List ℕ) (xs : List EntryData) → IfSome (last_of outpu
 last_is_of output [] = tt
 last_is_of output (x ∷ xs) = later_of output x (bytes_eq x.output output) (last_of output xs) refl (last_is_of output xs)
 
-pub found_is_of : {R : Type 0} (entry : R → EntryData) (output : List ℕ) (xs : List EntryData) (found : Option R) → option_map entry found ≡ last_of output xs
-    → IfSome found (λ r. (entry r).output ≡ output)
-found_is_of entry output xs (Some r) same = subst (λ (e : Option EntryData). IfSome e (λ y. y.output ≡ output)) (sym same) (last_is_of output xs)
-found_is_of entry output xs None same = tt
+pub found_is_of : (output : List ℕ) (xs : List EntryData) (found : Option EntryData) → found ≡ last_of output xs → IfSome found (λ e. e.output ≡ output)
+found_is_of output xs found same = subst (λ (e : Option EntryData). IfSome e (λ y. y.output ≡ output)) (sym same) (last_is_of output xs)

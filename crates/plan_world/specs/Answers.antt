@@ -1,5 +1,7 @@
 -- What the real world may answer.
-use Rattle.std.specs.Prelude.{◌≡◌, ℕ, ◌≤◌, true, List, [], length, IsUtf8}
+use Rattle.std.specs.Prelude.{◌≡◌, ◌⊎◌, ℕ, ◌≤◌, true, List, [], length, Option, IsUtf8, ℤ}
+use Rattle.std.specs.declared.alloc.Global.{Global}
+use Rattle.std.specs.declared.process.command.Command.{Command}
 use Rattle.plan_verify.specs.Turn.{Request, Stat, Recall, Run, Deps, Keep}
 use Rattle.plan_verify.specs.Seam.{suits}
 use Rattle.plan_machine.specs.Step.{answer_of}
@@ -7,7 +9,7 @@ use Rattle.plan_machine.specs.declared.reply.Reply.{Reply}
 use Rattle.plan_machine.specs.declared.reply.Reply.TheVariants as reply
 use Rattle.plan_world.specs.Askable.{AreAskable}
 use Rattle.plan_world.specs.Depfiles.{longest}
-use Rattle.plan_world.specs.Shells.{AreTexts}
+use Rattle.plan_world.specs.Shells.{AreTexts, IsShellOf, ending}
 
 -- A reply that suits the question; a depfile is lent no further than one byte past the limit of depfiles.
 pub record IsAnswer (question : Request) (r : Reply) : Type 0 where
@@ -19,6 +21,12 @@ pub record StartsTexts (command : List ℕ) (outputs : List (List ℕ)) (r : Rep
   pub some : outputs ≡ [] → r ≡ reply.NotStarted
   pub paths : ¬ (AreTexts outputs) → r ≡ reply.NotStarted
   pub text : ¬ (IsUtf8 command) → r ≡ reply.NotStarted
+
+-- A command wasn't started, or a shell was that runs just this command; it ended, and the reply is what its status says.
+abbrev pub IsByShell : (ended : Command Global → Option ℤ → Type 0) → (command : List ℕ) → Reply → Type 0
+IsByShell ended command r =
+    (r ≡ reply.NotStarted)
+    ⊎ ((shell : Command Global) × (records : List ℕ) × (code : Option ℤ) × IsShellOf shell command records × ended shell code × (r ≡ ending code))
 
 -- an entry that is recalled names only paths that the system can be asked about
 abbrev pub NamesAskable : Reply → Type 0
@@ -33,7 +41,13 @@ IsOfTexts (Run command outputs) r = StartsTexts command outputs r
 IsOfTexts (Deps path) r = ¬ (IsUtf8 path) → r ≡ reply.Fault
 IsOfTexts (Keep output command basis paths) r = Unit {0}
 
--- the rule of this world
-pub record MayAnswer (question : Request) (r : Reply) : Type 0 where
+-- the reply to a command is by a shell that ran it
+abbrev pub IsRun : (ended : Command Global → Option ℤ → Type 0) → Request → Reply → Type 0
+IsRun ended (Run command outputs) r = IsByShell ended command r
+IsRun ended question r = Unit {0}
+
+-- the rule of this world, whose shells say what it means that one ended
+pub record MayAnswer (ended : Command Global → Option ℤ → Type 0) (question : Request) (r : Reply) : Type 0 where
   pub answer : IsAnswer question r
   pub texts : IsOfTexts question r
+  pub run : IsRun ended question r

@@ -4,7 +4,7 @@ use Rattle.std.specs.Io.KnownBytes.{Consumes, IsAtEnd}
 use Rattle.plan_machine.specs.declared.reply.Reply.{Reply}
 use Rattle.plan_machine.specs.declared.reply.Reply.TheVariants.{Bytes}
 
--- one byte more than a depfile may have, so that one which is too long is seen to be
+-- one byte more than a depfile may have, so that a depfile that is too long is noticed
 unfoldable pub longest : ℕ
 longest = 16777217
 

@@ -9,6 +9,6 @@ use Rattle.plan_machine.specs.declared.reply.Reply.TheVariants.{Fault}
 abbrev pub IsMissing : ErrorKind → Type 0
 IsMissing kind = (kind ≡ NotFound) ⊎ (kind ≡ NotADirectory)
 
--- this reply where it is missing, else that it can't be known
+-- this reply if it is missing, otherwise that it can't be known
 abbrev pub IsToldOf : ErrorKind → (missing told : Reply) → Type 0
 IsToldOf kind missing told = (IsMissing kind × (told ≡ missing)) ⊎ (¬ (IsMissing kind) × (told ≡ Fault))

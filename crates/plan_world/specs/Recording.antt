@@ -31,7 +31,7 @@ Grows old new = (others : List EntryData) × (new ≡ old ++ others)
 abbrev pub EndsWith : (old new : List EntryData) (entry : EntryData) → Type 0
 EndsWith old new entry = (others : List EntryData) × (new ≡ old ++ others ++ entry ∷ [])
 
--- behind the old entries come those of the longest front of these bytes that is whole entries, a front of this length
+-- after the old entries come those of the longest prefix of these bytes that is whole entries, a prefix of this length
 abbrev pub TakesIn : (bytes : List ℕ) (len : ℕ) (old new : List EntryData) → Type 0
 TakesIn bytes len old new = (others : List EntryData) × IsGoodFront bytes others len × (new ≡ old ++ others)
 

@@ -28,7 +28,7 @@ pub record IsShellOf (command : Command Global) (text records : List ℕ) : Type
   pub variables : (name : List ℕ) → name ≢ record_variable → command_var command name ≡ None
   pub environment : clears_env command ≡ false
 
--- what a status says; none where a signal ended the command
+-- what a status says; none if a signal ended the command
 abbrev pub ending : Option ℤ → Reply
 ending (Some (pos status)) = if nat_lt status 256 then reply.Exit status else reply.Signal
 ending _ = reply.Signal

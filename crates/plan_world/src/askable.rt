@@ -1,18 +1,17 @@
 //! Paths that the system can be asked about.
 
-ghost use Rattle.std.specs.Prelude.{◌≡◌, ◌↔◌, IsTrue, IsUtf8};
-ghost use Rattle.std.specs.List.{list_all};
+ghost use Rattle.std.specs.Prelude.{◌≡◌, ◌==◌, ◌↔◌, IsTrue, IsUtf8, length};
+ghost use Rattle.std.specs.List.{list_all, position_or_len};
 ghost use Rattle.plan_text.specs.Path.{components_of};
 ghost use Rattle.plan_world.specs.Askable.{AreAskable, IsAskable, is_name};
 
-use plan_text::nul_at;
 use plan_verify::PathList;
 use std::str;
 
-/// The length in bytes that a path must not reach: the system counts a NUL byte behind it.
+/// The length in bytes that a path must not reach: the system counts the NUL byte after it too.
 const PATH_LIMIT: usize = 4096;
 
-/// The most bytes that a file's name may have.
+/// The greatest number of bytes in a file's name.
 const LONGEST_NAME: usize = 255;
 
 /// Checks whether a file can have this name, by its length.
@@ -22,28 +21,37 @@ fn is_name(name: &[u8]) -> bool
     name.len() <= LONGEST_NAME
 }
 
-/// Checks whether files can have the names between the slashes of a path.
+/// Checks whether files can have the names between the slashes of a path. In a short path each name is short.
 fn are_names(path: &[u8]) -> bool
     ensures { result ≡ list_all is_name (components_of path.now) }
 {
+    if path.len() <= LONGEST_NAME {
+        return true;
+    }
     path.split(|b| *b == b'/').all(|name| is_name(name))
 }
 
-/// Checks whether a path is text.
+/// Checks whether a path is text. Most paths are ASCII, for which a faster test is enough.
 fn is_text(path: &[u8]) -> bool
     ensures { IsTrue result ↔ IsUtf8 path.now }
 {
-    str::from_utf8(path).is_ok()
+    path.is_ascii() || str::from_utf8(path).is_ok()
 }
 
-/// Checks whether the system can be asked about a path: it answers an error of its own for any other, whatever files there
-/// are.
+/// Checks whether a path has no NUL byte.
+fn is_whole(path: &[u8]) -> bool
+    ensures { IsTrue result ↔ (position_or_len (λ b. b == 0) path.now ≡ length path.now) }
+{
+    !path.contains(&0)
+}
+
+/// Checks whether the system can be asked about a path: it answers an error of its own for any other, whatever files
+/// there are.
 pub(crate) fn is_askable(path: &[u8]) -> bool
     ensures { IsTrue result ↔ IsAskable path.now }
 {
-    let whole = nul_at(path) == path.len();
     let short = path.len() < PATH_LIMIT;
-    is_text(path) & whole & short & are_names(path)
+    is_text(path) & is_whole(path) & short & are_names(path)
 }
 
 /// Checks whether the system can be asked about each of these paths.

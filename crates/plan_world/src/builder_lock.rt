@@ -10,8 +10,8 @@ use std::rt::Files;
 use std::time::{Clock, Duration};
 use std::{io, thread};
 
-/// The environment variable that tells a command which locks the builders above it hold: for each its file's device and
-/// inode, as `DEVICE:INODE`, with blanks between them.
+/// The environment variable that names the locks which the builders above a command hold: the device and the inode of
+/// each lock's file, as `DEVICE:INODE`, with blanks between them.
 pub(crate) const VARIABLE: &str = "PLAN_NINJA_RECORDS";
 
 /// How often a builder looks for the lock before it says that it waits.
@@ -68,7 +68,7 @@ fn wait_for<R: Clock + Eprint, F: SharedFile>(rt: &R, file: &F, record: &str) ->
     file.lock()
 }
 
-/// Takes the lock of a record, whose folder there must be. A builder that was started by a command of the builder which
+/// Takes the lock of a record, whose folder must exist. A builder that was started by a command of the builder which
 /// holds it goes on without it, since that one waits for the command; every other builder waits.
 ///
 /// # Errors

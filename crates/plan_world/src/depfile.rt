@@ -18,10 +18,11 @@ use std::{fs, str};
 /// How many bytes are read at once.
 const PIECE: usize = 65_536;
 
-/// How many bytes of a depfile are read: one more than it may have, so that one which is too long is seen to be.
+/// How many bytes of a depfile are read at most: one more than it may have, so that a depfile that is too long is
+/// noticed.
 const MOST: usize = 16_777_217;
 
-/// The next bytes of a reader, at most so many; none only at its end.
+/// Returns the next bytes of a reader, at most this many. There are none only at its end.
 fn read_piece<F: Read>(alloc: Global, file: &mut F, most: usize) -> Result<Vec<u8>, DeviceFault>
     requires { 0 < most }
     ensures few { IfOk result (λ piece. length piece.items ≤ most) }
@@ -34,7 +35,7 @@ fn read_piece<F: Read>(alloc: Global, file: &mut F, most: usize) -> Result<Vec<u
     Ok(piece)
 }
 
-/// The front of what a reader has, at most so many bytes, read as a depfile while it comes.
+/// Reads the first bytes of a reader, at most this many, as a depfile, piece by piece.
 fn gather<F: Read>(alloc: Global, file: &mut F, most: usize) -> Result<Gather, DeviceFault>
     ensures { IfOk result (λ gathered. IsFrontOf most gathered (F.remaining file.old) (F.remaining file.new)) }
 {
@@ -51,7 +52,7 @@ fn gather<F: Read>(alloc: Global, file: &mut F, most: usize) -> Result<Gather, D
     Ok(gathered)
 }
 
-/// A depfile that was gathered, as a reply.
+/// Returns a depfile that was read as a reply.
 fn lent(alloc: Global, gathered: Gather) -> Result<Reply, AllocError>
     ensures { IfOk result (λ r. r ≡ Bytes gathered) }
 {
@@ -61,7 +62,7 @@ fn lent(alloc: Global, gathered: Gather) -> Result<Reply, AllocError>
     }
 }
 
-/// What a depfile that was opened says: its bytes, up to its end or one more than it may have.
+/// Returns the bytes of an open depfile, up to its end, but at most one byte more than a depfile may have.
 fn parse<F: Read>(alloc: Global, file: &mut F) -> Result<Reply, DeviceFault>
     ensures { IfOk result (λ r. IsDepfileOf (F.remaining file.old) (F.remaining file.new) r) }
 {
@@ -69,10 +70,10 @@ fn parse<F: Read>(alloc: Global, file: &mut F) -> Result<Reply, DeviceFault>
     Ok(lent(alloc, gathered)?)
 }
 
-/// The depfile of a path, read in pieces; `Nothing` where it is missing.
+/// Returns the depfile at a path, or `Nothing` if it is missing.
 ///
 /// # Errors
-/// Want of memory alone: what can't be read otherwise, or isn't UTF-8, is answered by `Fault`.
+/// Only that memory ran out. A path that isn't UTF-8, and a file that can't be read, are the reply `Fault`.
 pub(crate) fn read_depfile<R: Files + AllocGlobal>(rt: &R, path: &[u8]) -> Result<Reply, AllocError>
     ensures suits { IfOk result (λ r. IsAnswer (Deps path.now) r) }
     ensures no_text { ¬ (IsUtf8 path.now) → result ≡ Ok Fault }

@@ -11,13 +11,13 @@ use std::alloc::{AllocError, AllocFailed};
 use std::io::{self, ErrorKind};
 use thiserror::Error;
 
-/// Why there is no real world over a record file.
+/// Why a record can't be opened.
 #[derive(Clone, Copy, Debug, PartialEq, Eq, Error)]
 pub enum OpenFault {
-    /// Memory ran out. It says nothing of the record.
+    /// Memory ran out. The record may be good.
     #[error("memory ran out")]
     Memory,
-    /// The record file can't be made, read or cut.
+    /// The record's file can't be created, read or cut.
     #[error("the record can't be opened")]
     Device,
 }
@@ -40,16 +40,16 @@ impl From<DeviceFault> for OpenFault {
 /// Why a file can't be read or written.
 #[derive(Clone, Copy, Debug, PartialEq, Eq, Error)]
 pub(crate) enum DeviceFault {
-    /// Memory ran out. It says nothing of the file.
+    /// Memory ran out. The file may be good.
     #[error("memory ran out")]
     Memory,
-    /// The system refused it, for this reason.
+    /// The system refused the call, for this reason.
     #[error("{0}")]
     System(ErrorKind),
-    /// There is no entry of these parts: one of them is too long.
+    /// One of the parts is too long for an entry.
     #[error("a path or a command is too long")]
     TooLong,
-    /// A cut of the record failed before, or its file was removed.
+    /// The record can't be written any more: its file was removed, or could not be cut before.
     #[error("the build record was lost")]
     Lost,
 }
@@ -119,7 +119,7 @@ impl From<io::Error> for DeviceFault {
 }
 
 impl DeviceFault {
-    /// What is replied to a question at which this came: `otherwise`, and nothing where memory ran out.
+    /// Returns the reply to the question that this fault ended: `otherwise`, or an error if memory ran out.
     pub(crate) fn replied(self, otherwise: Reply) -> Result<Reply, AllocError>
         ensures memory { IsErr result ↔ (self ≡ DeviceFault.Memory) }
         ensures device { IfOk result (λ r. r ≡ otherwise) }
@@ -131,7 +131,7 @@ impl DeviceFault {
     }
 }
 
-/// What is replied of a file that can't be had: `missing` where there is none, else that it is unknown.
+/// Returns the reply for a file that can't be read or looked up: `missing` if there is none, otherwise `Fault`.
 pub(crate) fn without(error: io::Error, missing: Reply) -> Result<Reply, AllocError>
     ensures memory { IsErr result ↔ (error_kind error ≡ ErrorKind.OutOfMemory) }
     ensures told { IfOk result (λ r. IsToldOf (error_kind error) missing r) }

@@ -1,9 +1,10 @@
 //! The real world that a running image asks: files, commands, the build record.
 //!
 //! - `RealWorld`: stamps of files, commands run by `/bin/sh`, depfiles, and a record file that is open.
-//! - `OpenFault`: why there is none.
+//! - `Shells`: who starts the shells of commands and waits for them. `SystemShells`: the system's.
+//! - `OpenFault`: why a record can't be opened.
 //! - `recompact`, `restat`, `recorded_outputs`: what is done with a record between builds.
-//! - `SharedFile`: a file with a lock, as the record's file is one.
+//! - `SharedFile`: a file with a lock, such as the record's file.
 //!
 //! docs/rules/world.md has the rules one by one.
 #![tactic(auto)]
@@ -22,12 +23,14 @@ mod restating;
 mod rewriting;
 mod shared_file;
 mod shell;
+mod shells;
 mod stamp;
 mod world;
 
 pub use fault::OpenFault;
 pub use maintenance::{recompact, recorded_outputs, restat};
 pub use shared_file::SharedFile;
+pub use shells::{Shells, SystemShells};
 pub use world::RealWorld;
 
 #[cfg(test)]

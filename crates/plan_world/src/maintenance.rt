@@ -65,8 +65,8 @@ where
 /// It waits while a builder uses the record. Below a builder that holds the record's lock the record stays as it is.
 ///
 /// # Errors
-/// `Device` if the record or its lock can't be opened, read or locked, or if the new file can't be written, and `Memory`.
-/// Then the record is as it was.
+/// `Device` if the record or its lock can't be opened, read or locked, or if the new file can't be written, and
+/// `Memory`. Then the record is as it was.
 pub fn recompact<R: Files + Env + Clock + Eprint + AllocGlobal>(
     rt: &R,
     record: &str,
@@ -101,9 +101,9 @@ where
     Ok(())
 }
 
-/// Rewrites a record as `recompact` does. The basis of the last entry of each of these outputs, or of all outputs if none
-/// is named, becomes the stamp that the output's file has now, or 0 if it is missing. An entry that says that its edge was
-/// begun stays as it is.
+/// Rewrites a record as `recompact` does. The basis of the last entry of each of these outputs, or of all outputs if
+/// none is named, becomes the stamp that the output's file has now, or 0 if it is missing. An entry that says that its
+/// edge was begun stays as it is.
 ///
 /// # Errors
 /// As for `recompact`, and `Device` if the stamp of an output can't be determined.
@@ -138,8 +138,8 @@ where
     file.outputs(rt.alloc())
 }
 
-/// Returns the outputs that a record has entries of, each once, in the order of their last entries. If there is no record,
-/// there are none, and none is created.
+/// Returns the outputs that a record has entries of, each once, in the order of their last entries. If there is no
+/// record, there are none, and none is created.
 ///
 /// It waits while a builder uses the record, unless it is below that builder.
 ///

@@ -3,8 +3,8 @@
 use crate::fault::DeviceFault;
 use std::str;
 
-/// Says on standard error what can't be done with a file, and why. Nothing is said if memory ran out, since the run then
-/// stops and says so itself.
+/// Says on standard error what can't be done with a file, and why. Nothing is said if memory ran out, since the run
+/// then stops and says so itself.
 pub(crate) fn say<R: Eprint>(rt: &R, what: &str, file: &[u8], fault: DeviceFault) {
     if fault == DeviceFault::Memory {
         return;

@@ -1,6 +1,6 @@
 //! The record's file, while it is open.
 
-ghost use Rattle.std.specs.Prelude.{◌≡◌, ◌++◌, ◌∷◌, [], false, IfOk, IfSome, OnOk, OnErr, map, option_map};
+ghost use Rattle.std.specs.Prelude.{◌≡◌, ◌++◌, ◌∷◌, [], false, IfOk, IfSome, OnOk, OnErr, map};
 ghost use Rattle.std.specs.Io.KnownBytes.{Appends};
 ghost use Rattle.std.specs.List.{flat_map};
 ghost use Rattle.plan_record.specs.Compaction.{last_entries};
@@ -13,7 +13,7 @@ use crate::fault::DeviceFault;
 use crate::record_sink::{RecordSink, bytes_of};
 use crate::recorded::{begun_entry, entry_of, outputs_of};
 use crate::shared_file::{SharedFile, open_shared};
-use plan_record::{Entry, Record, load};
+use plan_record::{Entry, Record, load, read_entries};
 use plan_text::RowList;
 use plan_verify::PathList;
 use std::alloc::Global;
@@ -22,13 +22,13 @@ use std::io::{ErrorKind, Read, Seek, Write};
 use std::marker::Model;
 use std::rt::Files;
 
-/// How many entries a record may have that is never compacted.
+/// A record with this many entries or fewer isn't compacted.
 const FEW: usize = 100;
 
-/// How many entries for each output a record may have before it is compacted.
+/// A record with this many entries or fewer for each output isn't compacted.
 const MOST_EACH: u128 = 3;
 
-/// That the record says of an output that its edge was begun: nothing else makes one. Contracts see the output.
+/// A token: the record says that the edge of this output was begun. Nothing else creates one. Contracts see the output.
 #[derive(Drop)]
 pub(crate) struct Begun<'a> {
     output: &'a [u8],
@@ -42,7 +42,7 @@ impl<'a> Model for Begun<'a> {
     ghost view = { λ b. b.output.now };
 }
 
-/// That the record has the entry of an edge that ran: nothing else makes one. Contracts see the entry.
+/// A token: the record has the entry of an edge that ran. Nothing else creates one. Contracts see the entry.
 #[derive(Drop)]
 pub(crate) struct Kept<'a> {
     output: &'a [u8],
@@ -60,8 +60,8 @@ impl<'a> Model for Kept<'a> {
     ghost view = { λ k. edge_entry k.output.now k.command.now k.basis k.paths.now };
 }
 
-/// The record, open for more entries. Each entry of it is one that the file had when it was opened, one that this builder
-/// appended, or one that another builder appended before that.
+/// The record, open for more entries. Each entry of it is one that the file had when it was opened, one that this
+/// builder appended, or one that another builder appended before that.
 #[derive(Drop)]
 pub(crate) struct RecordFile<F> {
     sink: RecordSink<F>,
@@ -78,17 +78,19 @@ impl<F> Model for RecordFile<F> {
     ghost invariant = { λ r. IsInStep r.entries r.sink.good };
 }
 
-/// Returns all bytes of a file.
-fn read_all<F: Read>(alloc: Global, file: &mut F) -> Result<Vec<u8>, DeviceFault>
+/// Returns all bytes of a file. Room for them is allocated once, by the file's length.
+fn read_all<F: Read + OpenFile>(alloc: Global, file: &mut F) -> Result<Vec<u8>, DeviceFault>
     ensures { IfOk result (λ bytes. IfSome (F.remaining file.old) (λ all. bytes.items ≡ all)) }
 {
-    let mut bytes = Vec::new(alloc);
+    let len = file.metadata()?.len();
+    let room = usize::try_from(len).map_err(|_| DeviceFault::Memory)?;
+    let mut bytes = Vec::with_capacity(alloc, room)?;
     file.read_to_end(&mut bytes)?;
     Ok(bytes)
 }
 
-/// Reads the record that a file has from here to its end: the longest front of whole entries, to which the file is cut if it
-/// may be written. Its lock has to be held.
+/// Reads the record in a file, from the current position on: the longest prefix that is whole entries. The file is cut
+/// to that prefix if it may be written. Its lock must be held.
 #[tactic(auto, using(crate::proofs::RecordingLemmas::front_spelled))]
 pub(crate) fn load_file<F>(
     alloc: Global,
@@ -111,8 +113,8 @@ where
     Ok(RecordFile { sink, entries })
 }
 
-/// Opens the file of a path, or creates an empty one if there is none, and returns why it may only be read, if it may not be
-/// written. What is no file is refused: it may have no end.
+/// Opens the file at a path, or creates an empty one. If it may not be written, returns the reason too. Folders,
+/// devices and pipes are refused, since they may have no end.
 pub(crate) fn open_file<R: Files>(
     rt: &R,
     path: &str,
@@ -127,8 +129,8 @@ where
     Ok((file, unwritable))
 }
 
-/// Opens the record of a path, or creates an empty one if there is none, and cuts it to its good front. A record that may not
-/// be written is only read. What is no file is refused.
+/// Opens the record at a path, or creates an empty one, and cuts it to its whole entries. A record that may not be
+/// written is only read. Folders, devices and pipes are refused.
 pub(crate) fn open_record<R: Files + AllocGlobal>(
     rt: &R,
     path: &str,
@@ -146,18 +148,18 @@ where
 
 impl<F> RecordFile<F> {
     /// Returns the last entry of an output.
-    pub(crate) fn last(&self, output: &[u8]) -> Option<&Entry>
-        ensures last { option_map (λ e. e.now) result ≡ last_of output.now self.now.entries }
-        ensures own { IfSome result (λ e. e.now.output ≡ output.now) }
+    pub(crate) fn last(&self, alloc: Global, output: &[u8]) -> Result<Option<Entry>, DeviceFault>
+        ensures last { IfOk result (λ found. found ≡ last_of output.now self.now.entries) }
+        ensures own { IfOk result (λ found. IfSome found (λ e. e.output ≡ output.now)) }
     {
-        self.entries.entry(output)
+        Ok(self.entries.entry(alloc, output)?)
     }
 
-    /// Checks whether the record has grown so that it is compacted.
+    /// Checks whether the record has grown enough to be compacted.
     pub(crate) fn has_grown(&self) -> bool
         ensures { result ≡ has_grown self.now.entries }
     {
-        let count = self.entries.entries().len();
+        let count = self.entries.count();
         (count > FEW) & (count as u128 > MOST_EACH * self.entries.count_outputs() as u128)
     }
 
@@ -190,7 +192,7 @@ impl<F> RecordFile<F> {
         ensures well { self.new.broken ≡ self.old.broken }
     {
         let end = self.sink.end_of(bytes_of(alloc, entry)?.len())?;
-        self.entries.add(alloc, entry.copy()?)?;
+        self.entries.add(alloc, entry)?;
         self.sink.accept(end);
         Ok(())
     }
@@ -207,15 +209,15 @@ impl<F> RecordFile<F> {
         Ok(())
     }
 
-    /// Takes in the entries that other builders appended in these bytes, and returns how long their front of whole entries
-    /// is.
+    /// Takes in the whole entries at the beginning of bytes that other builders appended, and returns how many bytes
+    /// these entries have.
     fn take_in_all(&mut self, alloc: Global, bytes: Vec<u8>) -> Result<u64, DeviceFault>
         ensures taken { IfOk result (λ len. TakesIn bytes.items len self.old.entries self.new.entries) }
         ensures grows { Grows self.old.entries self.new.entries }
         ensures well { self.new.broken ≡ self.old.broken }
     {
-        let (others, len) = load(alloc, bytes)?;
-        self.take_in_each(alloc, others.entries())?;
+        let (others, len) = read_entries(alloc, bytes)?;
+        self.take_in_each(alloc, &others)?;
         Ok(len)
     }
 }
@@ -226,22 +228,22 @@ impl<F: SharedFile> RecordFile<F> {
         self.sink.lock()
     }
 
-    /// Gives the file's lock back.
+    /// Releases the file's lock.
     pub(crate) fn unlock(&self) {
         self.sink.unlock();
     }
 }
 
 impl<F: OpenFile> RecordFile<F> {
-    /// What the system says of the file.
+    /// Returns what the system says about the file.
     pub(crate) fn metadata(&self) -> Result<Metadata, DeviceFault> {
         self.sink.metadata()
     }
 }
 
 impl<F: Read + Seek + OpenFile> RecordFile<F> {
-    /// Takes in what other builders appended since this one read or wrote the file, and cuts off what is no whole entry:
-    /// a builder was ended in the middle of it. The file's lock has to be held.
+    /// Takes in what other builders appended since this one read or wrote the file, and cuts off an incomplete entry,
+    /// which a killed builder left. The file's lock must be held.
     pub(crate) fn catch_up(&mut self, alloc: Global) -> Result<(), DeviceFault>
         ensures grows { Grows self.old.entries self.new.entries }
         ensures well { OnOk result (self.new.broken ≡ self.old.broken) }
@@ -266,7 +268,7 @@ impl<F: Read + Write + Seek + OpenFile + SharedFile> RecordFile<F> {
     {
         let bytes = bytes_of(alloc, &entry)?;
         let end = self.sink.put(&bytes)?;
-        match self.entries.add(alloc, entry) {
+        match self.entries.add(alloc, &entry) {
             Ok(()) => {
                 self.sink.accept(end);
                 Ok(())
@@ -278,7 +280,7 @@ impl<F: Read + Write + Seek + OpenFile + SharedFile> RecordFile<F> {
         }
     }
 
-    /// Keeps an entry behind those that other builders appended meanwhile. The file's lock has to be held.
+    /// Takes in what other builders appended meanwhile, and appends an entry. The file's lock must be held.
     fn keep_last(&mut self, alloc: Global, entry: Entry) -> Result<(), DeviceFault>
         ensures kept { OnOk result (EndsWith self.old.entries self.new.entries entry) }
         ensures written { OnOk result (IsWritten F.contents self.new.file (spelling entry)) }
@@ -289,7 +291,7 @@ impl<F: Read + Write + Seek + OpenFile + SharedFile> RecordFile<F> {
         self.append(alloc, entry)
     }
 
-    /// Keeps an entry, once no other builder is writing to the file.
+    /// Takes the file's lock, appends an entry, and releases the lock.
     fn keep(&mut self, alloc: Global, entry: Entry) -> Result<(), DeviceFault>
         ensures kept { OnOk result (EndsWith self.old.entries self.new.entries entry) }
         ensures written { OnOk result (IsWritten F.contents self.new.file (spelling entry)) }
@@ -302,7 +304,7 @@ impl<F: Read + Write + Seek + OpenFile + SharedFile> RecordFile<F> {
         kept
     }
 
-    /// Keeps what an edge that ran has to say.
+    /// Appends the entry of an edge that ran.
     pub(crate) fn keep_edge<'a>(
         &mut self,
         alloc: Global,
@@ -328,7 +330,7 @@ impl<F: Read + Write + Seek + OpenFile + SharedFile> RecordFile<F> {
         })
     }
 
-    /// Says of an output that its edge's command is about to start.
+    /// Appends an entry that says that the command of this output's edge is about to start.
     pub(crate) fn begin<'a>(
         &mut self,
         alloc: Global,

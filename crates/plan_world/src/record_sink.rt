@@ -25,7 +25,7 @@ pub(crate) fn bytes_of(alloc: Global, entry: &Entry) -> Result<Vec<u8>, DeviceFa
     }
 }
 
-/// Writes all of the bytes by one write, so that what others append doesn't come between.
+/// Writes all bytes by one write, so that what others append can't come between them.
 fn write_at_once<F: Write>(file: &mut F, bytes: &[u8]) -> Result<(), DeviceFault>
     ensures { OnOk result (Appends (F.contents file.old) (F.contents file.new) bytes.now) }
 {
@@ -36,12 +36,12 @@ fn write_at_once<F: Write>(file: &mut F, bytes: &[u8]) -> Result<(), DeviceFault
     Ok(())
 }
 
-/// The record's file, opened to append, or only to be read if it may not be written. Its front of `good` bytes is whole entries, which this builder has read or written.
-/// What other builders appended since then comes behind.
+/// The record's file, opened to append, or only to be read if it may not be written. Its first `good` bytes are whole
+/// entries, which this builder has read or written. What other builders appended since then comes after them.
 #[derive(Drop)]
 pub(crate) struct RecordSink<F> {
     file: F,
-    /// The length of the front that this builder knows, in bytes.
+    /// How many bytes at the beginning this builder has read or written.
     good: u64,
     /// Whether a cut failed, or the file was removed: then nothing more is written.
     broken: bool,
@@ -50,8 +50,8 @@ pub(crate) struct RecordSink<F> {
 }
 
 impl<F> RecordSink<F> {
-    /// A file whose front of `good` bytes was read and is whole entries, and why it may only be read, if it may not be
-    /// written.
+    /// Returns the sink of a file whose first `good` bytes are whole entries that were read. If the file may not be
+    /// written, `unwritable` says why.
     pub(crate) fn new(file: F, good: u64, unwritable: Option<ErrorKind>) -> RecordSink<F>
         ensures { (result.good ≡ good) × (result.broken ≡ false) }
     {
@@ -63,7 +63,7 @@ impl<F> RecordSink<F> {
         }
     }
 
-    /// Returns the length that the front has with `len` more bytes.
+    /// Returns the number of good bytes with `len` bytes more.
     pub(crate) fn end_of(&self, len: usize) -> Result<u64, DeviceFault>
         ensures { IfOk result (λ end. end ≡ self.now.good + len) }
     {
@@ -73,7 +73,7 @@ impl<F> RecordSink<F> {
         }
     }
 
-    /// Sets the length of the front, after an entry behind it was read or written.
+    /// Sets the number of good bytes, after the entry that follows them was read or written.
     pub(crate) fn accept(&mut self, end: u64)
         ensures { (self.new.file ≡ self.old.file) × (self.new.good ≡ end) × (self.new.broken ≡ self.old.broken) }
     {
@@ -96,20 +96,20 @@ impl<F: SharedFile> RecordSink<F> {
         Ok(())
     }
 
-    /// Gives the file's lock back.
+    /// Releases the file's lock.
     pub(crate) fn unlock(&self) {
         let _ = self.file.unlock();
     }
 }
 
 impl<F: OpenFile> RecordSink<F> {
-    /// What the system says of the file.
+    /// Returns what the system says about the file.
     pub(crate) fn metadata(&self) -> Result<Metadata, DeviceFault> {
         Ok(self.file.metadata()?)
     }
 
-    /// Cuts the file to the front. If that fails, nothing more is written. Nobody else may be writing meanwhile, so the
-    /// file's lock has to be held.
+    /// Cuts the file to its good bytes. If that fails, nothing more is written. The file's lock must be held, since
+    /// nobody else may write meanwhile.
     pub(crate) fn cut(&mut self) -> Result<(), DeviceFault>
         ensures file { self.new.file ≡ self.old.file }
         ensures good { self.new.good ≡ self.old.good }
@@ -125,8 +125,8 @@ impl<F: OpenFile> RecordSink<F> {
         }
     }
 
-    /// Returns how many bytes the file has behind the front. A file that is shorter, or that was removed, is another
-    /// record: then nothing more is written.
+    /// Returns how many bytes the file has after its good bytes. If the file is shorter, or was removed, it is another
+    /// record, and nothing more is written.
     fn unread_len(&mut self) -> Result<u64, DeviceFault>
         ensures file { self.new.file ≡ self.old.file }
         ensures good { self.new.good ≡ self.old.good }
@@ -144,7 +144,7 @@ impl<F: OpenFile> RecordSink<F> {
 }
 
 impl<F: Read + Seek + OpenFile> RecordSink<F> {
-    /// Returns the bytes behind the front, which other builders appended.
+    /// Returns the bytes after the good ones, which other builders appended.
     pub(crate) fn unread(&mut self, alloc: Global) -> Result<Vec<u8>, DeviceFault>
         ensures good { self.new.good ≡ self.old.good }
         ensures well { OnOk result (self.new.broken ≡ self.old.broken) }
@@ -159,8 +159,8 @@ impl<F: Read + Seek + OpenFile> RecordSink<F> {
 }
 
 impl<F: Write + OpenFile> RecordSink<F> {
-    /// Appends bytes to the file, which ends with the front, and returns the length that it has then. The bytes count to
-    /// the front once they are accepted. If they can't be written whole, the file is cut to the front.
+    /// Appends bytes to the file, which ends with its good bytes, and returns the length that it has then. The bytes
+    /// count as good once they are accepted. If not all of them can be written, the file is cut to its good bytes.
     pub(crate) fn put(&mut self, bytes: &[u8]) -> Result<u64, DeviceFault>
         ensures written { OnOk result (Appends (F.contents self.old.file) (F.contents self.new.file) bytes.now) }
         ensures good { self.new.good ≡ self.old.good }

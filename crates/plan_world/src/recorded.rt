@@ -8,7 +8,7 @@ ghost use Rattle.plan_world.specs.Rewriting.{is_begun};
 
 use crate::fault::DeviceFault;
 use plan_machine::Recorded;
-use plan_record::{Entry, Paths};
+use plan_record::Entry;
 use plan_text::{Items, RowList};
 use plan_verify::{PathList, Words};
 use std::alloc::{AllocError, Global};
@@ -19,38 +19,17 @@ const BEGUN: [u8; 1] = [0];
 /// A path that is always missing, since `/dev/null` is no folder.
 const MISSING: [u8; 15] = *b"/dev/null/begun";
 
-/// The paths that are still to come.
-fn rows_of(alloc: Global, paths: Paths) -> Result<RowList<u8>, AllocError>
-    ensures { IfOk result (λ rows. rows ≡ paths) }
-{
-    let mut paths = paths;
-    let mut rows = RowList::new(alloc);
-    while let Some(path) = paths.first() {
-        rows.push(path)?;
-        paths.advance();
-    }
-    Ok(rows)
-}
-
-/// The same, with no more room than they take: a run keeps them to its end.
-fn exact_rows_of(alloc: Global, paths: Paths) -> Result<RowList<u8>, AllocError>
-    ensures { IfOk result (λ rows. rows ≡ paths) }
-{
-    let rows = rows_of(alloc, paths)?;
-    rows.copy(alloc)
-}
-
-/// What an entry says, but for its output.
+/// Returns what an entry says, apart from its output.
 pub(crate) fn recorded_of(alloc: Global, entry: &Entry) -> Result<Recorded, DeviceFault>
     ensures said { IfOk result (λ r. r ≡ record { command = entry.now.command; basis = entry.now.basis; paths = entry.now.paths }) }
     ensures memory { IfErr result (λ f. f ≡ DeviceFault.Memory) }
 {
     let command = Words::of(alloc, entry.command())?;
-    let paths = PathList::new(alloc, exact_rows_of(alloc, entry.paths()?)?)?;
+    let paths = PathList::shared(alloc, entry.paths()?.into_rows(alloc)?)?;
     Ok(Recorded::new(alloc, command, entry.basis(), paths)?)
 }
 
-/// These paths, each with bytes of its own.
+/// Returns these paths, each with its own bytes.
 fn items_of(alloc: Global, paths: &PathList) -> Result<Vec<Items<u8>>, AllocError>
     ensures { IfOk result (λ items. items.items ≡ paths.now) }
 {
@@ -61,7 +40,7 @@ fn items_of(alloc: Global, paths: &PathList) -> Result<Vec<Items<u8>>, AllocErro
     Ok(items)
 }
 
-/// The entry of an edge that ran.
+/// Returns the entry of an edge that ran.
 pub(crate) fn entry_of(
     alloc: Global,
     output: &[u8],
@@ -95,7 +74,7 @@ pub(crate) fn outputs_of(alloc: Global, entries: &[Entry]) -> Result<RowList<u8>
     Ok(rows)
 }
 
-/// The entry of an edge whose command is about to start.
+/// Returns the entry of an edge whose command is about to start.
 pub(crate) fn begun_entry(alloc: Global, output: &[u8]) -> Result<Entry, DeviceFault>
     ensures made { IfOk result (λ entry. entry ≡ begun output.now) }
     ensures within { OnOk result (HasSpelling (begun output.now)) }

@@ -1,4 +1,4 @@
-//! Files that are replaced whole.
+//! Files that are replaced as a whole.
 
 ghost use Rattle.std.specs.Prelude.{◌≡◌, IfOk, OnOk};
 ghost use Rattle.std.specs.Io.KnownBytes.{Appends};
@@ -10,7 +10,8 @@ use std::marker::Model;
 use std::os::unix::fs::{MetadataExt, chown};
 use std::rt::Files;
 
-/// That a file got these bytes, and that the system was told to keep them: nothing else makes one. Contracts see the bytes.
+/// A token: all of these bytes were written to a file and flushed to the disk. Nothing else creates one. Contracts see
+/// the bytes.
 #[derive(Drop)]
 pub(crate) struct Written<'a> {
     bytes: &'a [u8],
@@ -57,7 +58,7 @@ fn create_like<'a, R: Files>(
     write_whole(&mut file, bytes)
 }
 
-/// Puts a file that was written in the place of another one.
+/// Renames a file that was written, so that it replaces another one.
 fn put_in_place<R: Files>(
     rt: &R,
     new: &str,
@@ -68,7 +69,7 @@ fn put_in_place<R: Files>(
     Ok(())
 }
 
-/// Creates a file with these bytes, and puts it in the place of another one.
+/// Creates a file with these bytes, and renames it, so that it replaces another one.
 fn create_in_place<R: Files>(
     rt: &R,
     new: &str,
@@ -80,9 +81,9 @@ fn create_in_place<R: Files>(
     put_in_place(rt, new, path, written)
 }
 
-/// Replaces a file by one with these bytes, and with its owner and its permissions. The new file is PATH.new until it is
-/// whole, so a kill at any time leaves the old file or the new one at the path. Whoever has the old file open finds that it
-/// has no name: so a file with several names is refused.
+/// Replaces a file by one with these bytes, and with its owner and its permissions. The new file is PATH.new until it
+/// is whole, so a kill at any time leaves the old file or the new one at the path. Whoever has the old file open finds
+/// that it has no name: so a file with several names is refused.
 ///
 /// # Errors
 /// `System` if the new file can't be created, written or renamed, or if the file has several names, and `Memory`.

@@ -87,8 +87,8 @@ pub(crate) fn restated(
     Ok(made)
 }
 
-/// Returns the stamp that an entry's output has now, if the entry is restated; otherwise its basis. The basis stays too if
-/// the system can't be asked about the output, since then the entry is spoilt.
+/// Returns the stamp that an entry's output has now, if the entry is restated; otherwise its basis. The basis stays too
+/// if the system can't be asked about the output, since then the entry is spoilt.
 fn stamp_for<R: Files>(rt: &R, outputs: &[&[u8]], entry: &Entry) -> Result<u64, DeviceFault> {
     if is_restated(outputs, entry) & is_askable(entry.output()) {
         stamp_of(rt, entry.output())

@@ -1,4 +1,4 @@
-//! A record whose file is replaced by one with its last entries.
+//! Rewrites a record, so that it has only its last entries.
 
 ghost use Rattle.std.specs.Prelude.{◌≡◌, List, ℕ, length, IfOk};
 ghost use Rattle.std.specs.List.{flat_map};
@@ -19,7 +19,7 @@ use std::fs::OpenFile;
 use std::io::{Read, Seek, Write};
 use std::rt::Files;
 
-/// Replaces a record's file by one with its last entries. The file's lock has to be held.
+/// Replaces a record's file by one with its last entries. The file's lock must be held.
 fn compact_locked<R: Files + AllocGlobal>(
     rt: &R,
     path: &str,
@@ -34,7 +34,7 @@ where
     replace_file(rt, path, &bytes, &file.metadata()?)
 }
 
-/// Replaces a record's file by one with its last entries, while nobody appends to it. The record's lock has to be held.
+/// Replaces a record's file by one with its last entries, while nobody appends to it. The record's lock must be held.
 pub(crate) fn compact<R: Files + AllocGlobal>(
     rt: &R,
     path: &str,
@@ -66,7 +66,7 @@ where
     Ok(spellings(rt.alloc(), &made)?)
 }
 
-/// Replaces a record's file by one with its last entries, restated. The file's lock has to be held.
+/// Replaces a record's file by one with its last entries, restated. The file's lock must be held.
 fn restate_locked<R: Files + AllocGlobal>(
     rt: &R,
     path: &str,
@@ -81,8 +81,8 @@ where
     replace_file(rt, path, &bytes, &file.metadata()?)
 }
 
-/// Replaces a record's file by one with its last entries, restated, while nobody appends to it. The record's lock has to be
-/// held.
+/// Replaces a record's file by one with its last entries, restated, while nobody appends to it. The record's lock must
+/// be held.
 pub(crate) fn restate<R: Files + AllocGlobal>(
     rt: &R,
     path: &str,

@@ -13,7 +13,7 @@ pub trait SharedFile {
     /// Takes the lock, and returns false if another process holds it.
     fn try_lock(&self) -> io::Result<bool>;
 
-    /// Gives the lock back.
+    /// Releases the lock.
     fn unlock(&self) -> io::Result<()>;
 }
 
@@ -22,8 +22,8 @@ fn is_unwritable(kind: ErrorKind) -> bool {
     kind == ErrorKind::PermissionDenied || kind == ErrorKind::ReadOnlyFilesystem
 }
 
-/// Opens a file to read it and to append to it, and creates it if it is missing. A file that may not be written is opened
-/// only to be read, and the reason is returned.
+/// Opens a file to read it and to append to it, and creates it if it is missing. A file that may not be written is
+/// opened only to be read, and the reason is returned.
 pub(crate) fn open_shared<R: Files>(
     rt: &R,
     path: &str,
@@ -40,7 +40,7 @@ pub(crate) fn open_shared<R: Files>(
     }
 }
 
-/// Passes over the error of a file system that has no locks.
+/// Turns the error of a file system that has no locks into success.
 fn granted(locked: io::Result<()>) -> io::Result<()> {
     match locked {
         Err(error) if error.kind() == ErrorKind::Unsupported => Ok(()),

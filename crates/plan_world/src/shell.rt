@@ -4,25 +4,26 @@ ghost use Rattle.std.specs.Prelude.{◌≡◌, ◌↔◌, ◌++◌, true, IfErr,
 ghost use Rattle.std.specs.Io.KnownBytes.{Appends};
 ghost use Rattle.plan_machine.specs.declared.reply.Reply.TheVariants.{NotStarted};
 ghost use Rattle.plan_verify.specs.Turn.{Run};
-ghost use Rattle.plan_world.specs.Answers.{IsAnswer};
+ghost use Rattle.plan_world.specs.Answers.{IsAnswer, IsByShell};
 ghost use Rattle.plan_world.specs.Shells.{AreTexts, IsShellOf, ending};
 
 use crate::builder_lock::VARIABLE;
 use crate::fault::DeviceFault;
 use crate::reasons::say;
 use crate::record_file::Begun;
+use crate::shells::Shells;
 use plan_machine::Reply;
 use plan_text::RowList;
 use std::alloc::{AllocError, Global};
 use std::io::{self, Write};
 use std::path::Path;
-use std::process::{Command, Output, Processes};
+use std::process::{Command, Output};
 use std::rt::Files;
 use std::sync::{Mutex, Wait};
 use std::{fs, str};
 
-/// Returns the shell with a command as its argument, and with these names of locked records in its environment. A command
-/// that begins with a hyphen is no option.
+/// Returns the shell with a command as its argument, and with these names of locked records in its environment. A
+/// command that begins with a hyphen is no option.
 fn shell_of(alloc: Global, text: &str, records: &str) -> Result<Command, AllocError>
     ensures { IfOk result (λ command. IsShellOf command text.now records.now) }
 {
@@ -32,7 +33,7 @@ fn shell_of(alloc: Global, text: &str, records: &str) -> Result<Command, AllocEr
     Ok(shell)
 }
 
-/// What the status says that a shell ended with.
+/// Returns the reply to a command whose shell ended with this exit code. None if a signal ended it.
 fn how_ended(code: Option<i32>) -> Reply
     ensures { result ≡ ending code }
 {
@@ -45,7 +46,7 @@ fn how_ended(code: Option<i32>) -> Reply
     }
 }
 
-/// Returns the reply to the question to run a command that a shell was to run.
+/// Returns the reply to a command, by how its shell ended or why it could not be run.
 fn replied(ended: Result<Option<i32>, DeviceFault>) -> Result<Reply, AllocError>
     ensures run { IfOk ended (λ code. result ≡ Ok (ending code)) }
     ensures not { IfErr ended (λ _. IfOk result (λ r. r ≡ NotStarted)) }
@@ -57,7 +58,7 @@ fn replied(ended: Result<Option<i32>, DeviceFault>) -> Result<Reply, AllocError>
     }
 }
 
-/// Writes what a command printed, its standard output in front.
+/// Writes what a command printed: first its standard output, then its standard error.
 fn write_printed<W: Write>(out: &mut W, printed: &Output) -> io::Result<()>
     ensures { OnOk result (Appends (W.contents out.old) (W.contents out.new) (printed.now.stdout.items ++ printed.now.stderr.items)) }
 {
@@ -66,9 +67,9 @@ fn write_printed<W: Write>(out: &mut W, printed: &Output) -> io::Result<()>
     out.flush()
 }
 
-/// Writes what a command printed, its standard output in front, to this program's. The screen is locked meanwhile, so
-/// that no other command's output comes between. A write that fails is passed over: the status lines that come behind
-/// fail as well, and tell.
+/// Writes what a command printed to this program's standard output. The screen is locked meanwhile, so that no other
+/// command's output comes between. A write that fails is ignored here: the status lines that follow fail as well, and
+/// report it.
 fn show<R: Print + Wait>(rt: &R, screen: &Mutex<()>, printed: &Output) {
     if printed.stdout.is_empty() && printed.stderr.is_empty() {
         return;
@@ -87,7 +88,7 @@ fn create_folder<R: Files>(rt: &R, path: &str) -> Result<(), DeviceFault> {
     }
 }
 
-/// Creates the folder of a file, if it is missing, and returns whether it is there. If not, it says why.
+/// Creates the folder of a file if it is missing, and returns whether it exists then. If not, standard error says why.
 fn make_folder<R: Files + Eprint>(rt: &R, file: &[u8]) -> bool
     ensures { result ≡ true → IsUtf8 file.now }
 {
@@ -103,7 +104,7 @@ fn make_folder<R: Files + Eprint>(rt: &R, file: &[u8]) -> bool
     }
 }
 
-/// Creates the folders of files that are missing, and returns whether all are there.
+/// Creates the missing folders of files, and returns whether all exist then.
 pub(crate) fn make_folders<R: Files + Eprint>(rt: &R, files: &RowList<u8>) -> bool
     ensures { result ≡ true → AreTexts files.now }
 {
@@ -115,38 +116,69 @@ pub(crate) fn make_folders<R: Files + Eprint>(rt: &R, files: &RowList<u8>) -> bo
     true
 }
 
-/// Runs a shell with empty standard input, shows what its command printed, and gives its status.
-fn run_aside<R: Processes + Print + Wait>(
+/// Runs a shell with empty standard input, shows what its command printed, and returns its exit code. None if a signal
+/// ended it.
+fn run_aside<R: Print + Wait, S: Shells>(
     rt: &R,
     screen: &Mutex<()>,
-    shell: &mut Command,
-) -> Result<Option<i32>, DeviceFault> {
-    let printed = shell.output(rt)?;
+    shells: &S,
+    shell: Command,
+) -> Result<Option<i32>, DeviceFault>
+    ensures { IfOk result (λ code. S.ended shell code) }
+{
+    let printed = shells.output(shell)?;
     show(rt, screen, &printed);
     Ok(printed.status.code())
 }
 
-/// Runs a shell whose command has this program's own standard input, output and error, and gives its status. The screen
-/// is locked as long as it runs, so that nothing else comes between.
-fn run_on_terminal<R: Processes + Wait>(
+/// Runs a shell whose command has this program's own standard input, output and error, and returns its exit code. None
+/// if a signal ended it. The screen is locked as long as the shell runs, so that nothing else is printed.
+fn run_on_terminal<R: Wait, S: Shells>(
     rt: &R,
     screen: &Mutex<()>,
-    shell: &mut Command,
-) -> Result<Option<i32>, DeviceFault> {
+    shells: &S,
+    shell: Command,
+) -> Result<Option<i32>, DeviceFault>
+    ensures { IfOk result (λ code. S.ended shell code) }
+{
     let guard = screen.lock(rt);
-    let status = shell.status(rt)?;
+    let status = shells.status(shell)?;
     drop(guard);
     Ok(status.code())
 }
 
-/// Runs a command of an edge that the record says was begun: on the terminal if it is a console command, else with empty
-/// standard input, and then it shows what the command printed. If the shell can't be started, it says why.
-///
-/// # Errors
-/// Out of memory only, also for what the command printed: then it was killed.
-pub(crate) fn run_shell<R: Processes + Print + Eprint + Wait + AllocGlobal>(
+/// Says on standard error why the shell of an edge's command could not be run, if it could not.
+fn say_if_lost<R: Eprint>(rt: &R, output: &[u8], ended: Result<Option<i32>, DeviceFault>) {
+    if let Err(fault) = ended {
+        say(rt, "can't start the command of", output, fault);
+    }
+}
+
+/// Runs a shell, on the terminal if its command is a console command.
+fn run_where<R: Print + Wait, S: Shells>(
     rt: &R,
     screen: &Mutex<()>,
+    shells: &S,
+    shell: Command,
+    console: bool,
+) -> Result<Option<i32>, DeviceFault>
+    ensures { IfOk result (λ code. S.ended shell code) }
+{
+    if console {
+        return run_on_terminal(rt, screen, shells, shell);
+    }
+    run_aside(rt, screen, shells, shell)
+}
+
+/// Runs the command of an edge that was begun by the record: a console command on the terminal, any other with empty
+/// standard input, and then shows what it printed. If the shell can't be started, standard error says why.
+///
+/// # Errors
+/// Only that memory ran out, also for what the command printed: then the command was killed.
+pub(crate) fn run_shell<R: Print + Eprint + Wait + AllocGlobal, S: Shells>(
+    rt: &R,
+    screen: &Mutex<()>,
+    shells: &S,
     command: &[u8],
     console: bool,
     outputs: &RowList<u8>,
@@ -156,18 +188,13 @@ pub(crate) fn run_shell<R: Processes + Print + Eprint + Wait + AllocGlobal>(
     requires { slice_get outputs.now 0 ≡ Some begun }
     ensures suits { IfOk result (λ r. IsAnswer (Run command.now outputs.now) r) }
     ensures no_text { ¬ (IsUtf8 command.now) → result ≡ Ok NotStarted }
+    ensures ran { IfOk result (λ r. IsByShell S.ended command.now r) }
 {
     let Ok(text) = str::from_utf8(command) else {
         return Ok(Reply::NotStarted);
     };
-    let mut shell = shell_of(rt.alloc(), text, records)?;
-    let ended = if console {
-        run_on_terminal(rt, screen, &mut shell)
-    } else {
-        run_aside(rt, screen, &mut shell)
-    };
-    if let Err(fault) = ended {
-        say(rt, "can't start the command of", outputs.row(0), fault);
-    }
+    let shell = shell_of(rt.alloc(), text, records)?;
+    let ended = run_where(rt, screen, shells, shell, console);
+    say_if_lost(rt, outputs.row(0), ended);
     replied(ended)
 }

@@ -17,10 +17,10 @@ use std::os::unix::fs::MetadataExt;
 use std::rt::Files;
 use std::{fs, str};
 
-/// How many nanoseconds a second has.
+/// The number of nanoseconds in a second.
 const SECOND: u64 = 1_000_000_000;
 
-/// Nanoseconds since 1970, of seconds and nanoseconds: at least 1 and at most the greatest stamp.
+/// Returns a time in nanoseconds since 1970, at least 1 and at most the greatest stamp.
 fn stamp_at(seconds: i64, nanoseconds: i64) -> u64
     ensures stamp { result ≡ stamp_of seconds nanoseconds }
     ensures there { 1 ≤ result }
@@ -34,7 +34,7 @@ fn stamp_at(seconds: i64, nanoseconds: i64) -> u64
         .max(1)
 }
 
-/// What is replied of a file that was looked for.
+/// Returns the reply for a file that was looked up.
 fn seen(found: io::Result<Metadata>) -> Result<Reply, AllocError>
     ensures there { OnOk found (IsOkAnd result IsThere) }
     ensures memory { IfErr found (λ e. IsErr result ↔ (error_kind e ≡ ErrorKind.OutOfMemory)) }
@@ -47,10 +47,10 @@ fn seen(found: io::Result<Metadata>) -> Result<Reply, AllocError>
     }
 }
 
-/// The stamp of the file at a path, links followed, in nanoseconds since 1970; 0 where it is missing.
+/// Returns the stamp of the file at a path, in nanoseconds since 1970, or 0 if it is missing. Links are followed.
 ///
 /// # Errors
-/// Want of memory alone: what can't be known otherwise, or isn't UTF-8, is answered by `Fault`.
+/// Only that memory ran out. A path that isn't UTF-8, and a file that can't be looked up, are the reply `Fault`.
 pub(crate) fn stat<R: Files>(rt: &R, path: &[u8]) -> Result<Reply, AllocError>
     ensures suits { IfOk result (λ r. IsAnswer (Stat path.now) r) }
     ensures no_text { ¬ (IsUtf8 path.now) → result ≡ Ok Fault }
@@ -61,7 +61,7 @@ pub(crate) fn stat<R: Files>(rt: &R, path: &[u8]) -> Result<Reply, AllocError>
     seen(fs::metadata(rt, path))
 }
 
-/// The stamp of a file that was looked for; 0 where it is missing.
+/// Returns the stamp of a file that was looked up, or 0 if it is missing.
 fn found_stamp(found: io::Result<Metadata>) -> Result<u64, DeviceFault>
     ensures there { OnOk found (IsOkAnd result (λ stamp. 1 ≤ stamp)) }
     ensures missing { IfErr found (λ e. IsMissing (error_kind e) → result ≡ Ok 0) }
@@ -76,7 +76,7 @@ fn found_stamp(found: io::Result<Metadata>) -> Result<u64, DeviceFault>
     }
 }
 
-/// The stamp of the file at a path, as `stat` replies it, and why it can't be known.
+/// Returns the stamp of the file at a path, as `stat` replies it, or why it can't be determined.
 pub(crate) fn stamp_of<R: Files>(rt: &R, path: &[u8]) -> Result<u64, DeviceFault>
     ensures { ¬ (IsUtf8 path.now) → IsErr result }
 {

@@ -2,7 +2,9 @@
 
 use crate::builder_lock::is_named;
 use crate::record_file::{RecordFile, load_file};
-use crate::{OpenFault, RealWorld, SharedFile, recompact, recorded_outputs, restat};
+use crate::{
+    OpenFault, RealWorld, SharedFile, Shells, SystemShells, recompact, recorded_outputs, restat,
+};
 use plan_lanes::World;
 use plan_machine::{Recorded, Reply};
 use plan_text::RowList;
@@ -10,7 +12,7 @@ use plan_verify::PathList;
 use std::alloc::{AllocError, Global};
 use std::fs::{File, Metadata, OpenFile, OpenOptions};
 use std::io::{self, ErrorKind, Read, Seek, SeekFrom, Write};
-use std::process::Processes;
+use std::process::{Command, ExitStatus, Output, Processes};
 use std::rt::Files;
 use std::sync::Wait;
 use std::sync::atomic::{AtomicU64, Ordering};
@@ -22,11 +24,11 @@ const ENTRY: [u8; 24] = [
     0, 0, 0, 20, 0, 1, b'a', 0, 0, 0, 1, b't', 0, 0, 0, 0, 0, 0, 0, 7, 0, 0, 0, 0,
 ];
 
-/// What an entry of output `a` says of an edge that was begun.
+/// The entry of output `a` whose edge was begun.
 const BEGUN_ENTRY: [u8; 41] =
     *b"\0\0\0\x25\0\x01a\0\0\0\x01\0\0\0\0\0\0\0\0\0\0\0\0\x01\0\x0f/dev/null/begun";
 
-/// An empty folder of this test's own.
+/// Creates an empty folder for this test.
 fn folder(rt: &HostRuntime, name: &str) -> Result<String, Fail> {
     let path = format!(in rt.alloc(); "/tmp/plan_world-{name}-{}", process::id(rt.process()))?;
     let _ = fs::remove_dir_all(rt, path.as_str());
@@ -34,7 +36,7 @@ fn folder(rt: &HostRuntime, name: &str) -> Result<String, Fail> {
     Ok(path)
 }
 
-/// These paths, one behind the other.
+/// Returns these paths as rows, in order.
 fn rows(alloc: Global, paths: &[&[u8]]) -> Result<RowList<u8>, AllocError> {
     let mut rows = RowList::new(alloc);
     for path in paths {
@@ -43,7 +45,7 @@ fn rows(alloc: Global, paths: &[&[u8]]) -> Result<RowList<u8>, AllocError> {
     Ok(rows)
 }
 
-/// A reply in words.
+/// Returns a reply in words.
 fn said(alloc: Global, reply: Reply) -> Result<String, AllocError> {
     match reply {
         Reply::Stamp(stamp) => format!(in alloc; "stamp {stamp}"),
@@ -71,10 +73,13 @@ fn lent_to_lanes(rt: HostRuntime) -> Result<(), Fail> {
     Ok(())
 }
 
-/// A world with its record in a folder.
-fn world_in(rt: &HostRuntime, folder: &str) -> Result<RealWorld<HostRuntime>, Fail> {
+/// Opens a world with its record in a folder.
+fn world_in(
+    rt: &HostRuntime,
+    folder: &str,
+) -> Result<RealWorld<HostRuntime, SystemShells<HostRuntime>>, Fail> {
     let record = format!(in rt.alloc(); "{folder}/record")?;
-    Ok(RealWorld::open(rt.clone()?, record.as_str())?)
+    Ok(RealWorld::open(rt.clone()?, SystemShells::new(rt.clone()?), record.as_str())?)
 }
 
 #[test]
@@ -195,8 +200,8 @@ fn depfiles(rt: HostRuntime) -> Result<(), Fail> {
     fs::write(&rt, path.as_str(), text.as_slice())?;
     match world.read_depfile(0, path.as_bytes())? {
         Reply::Bytes(depfile) => {
-            assert_eq!(rt; depfile.parsed().bytes(), text.as_slice());
-            match depfile.parsed().result() {
+            assert_eq!(rt; depfile.bytes(), text.as_slice());
+            match depfile.result(alloc)? {
                 Ok(paths) => {
                     assert_eq!(rt; paths.len(), 1);
                     assert_eq!(rt; paths.path(0), b"ab".as_slice());
@@ -258,7 +263,7 @@ fn torn_record(rt: HostRuntime) -> Result<(), Fail> {
     );
     fs::remove_dir_all(&rt, folder.as_str())?;
     for path in [record.as_str(), "/dev/null", "/tmp"] {
-        match RealWorld::open(rt.clone()?, path) {
+        match RealWorld::open(rt.clone()?, SystemShells::new(rt.clone()?), path) {
             Ok(_) => panic!(rt; "a record without its folder, or no file"),
             Err(fault) => assert_eq!(rt; fault, OpenFault::Device),
         }
@@ -266,12 +271,12 @@ fn torn_record(rt: HostRuntime) -> Result<(), Fail> {
     Ok(())
 }
 
-/// What the record has for the output `a`.
+/// Returns what the record has for the output `a`.
 fn recalled<R: Files + Processes + Print + Eprint + Wait + AllocGlobal>(
-    world: &RealWorld<R>,
+    world: &RealWorld<R, SystemShells<R>>,
 ) -> Result<Recorded, Fail>
 where
-    R::File: Read + Write + Seek + OpenFile + SharedFile,
+    R::File: Read + Write + Seek + OpenFile + SharedFile + Drop,
 {
     match world.recall(0, b"a")? {
         Reply::Entry(recorded) => Ok(recorded),
@@ -471,10 +476,10 @@ fn entries_of_another_builder(rt: HostRuntime) -> Result<(), Fail> {
     let mut other = OpenOptions::new().append(true).open(&rt, path.as_str())?;
     other.write_all(&BEGUN_ENTRY)?;
     other.write_all(&ENTRY[..10])?;
-    assert!(rt; record.last(b"a").is_none());
+    assert!(rt; record.last(alloc, b"a")?.is_none());
     let none = PathList::empty(alloc)?;
     assert!(rt; record.keep_edge(alloc, b"b", b"t", 7, &none).is_ok());
-    match record.last(b"a") {
+    match record.last(alloc, b"a")? {
         Some(entry) => assert_eq!(rt; entry.command(), b"\0".as_slice()),
         None => panic!(rt; "no entry"),
     }
@@ -486,7 +491,7 @@ fn entries_of_another_builder(rt: HostRuntime) -> Result<(), Fail> {
     Ok(())
 }
 
-/// A record that was removed while it is open keeps nothing more: another file may stand in its place.
+/// A record that was removed while it is open keeps nothing more: its path may be that of another file now.
 #[test]
 fn removed_record(rt: HostRuntime) -> Result<(), Fail> {
     let alloc = rt.alloc();
@@ -543,7 +548,7 @@ fn names_of_locks(rt: HostRuntime) -> Result<(), Fail> {
     Ok(())
 }
 
-/// Writes a record of the entry of 24 bytes, so many times.
+/// Writes a record that has the entry of 24 bytes this many times.
 fn write_entries(rt: &HostRuntime, record: &str, count: usize) -> Result<(), Fail> {
     let mut bytes = Vec::new(rt.alloc());
     for _ in 0..count {
@@ -563,6 +568,102 @@ fn grown_record(rt: HostRuntime) -> Result<(), Fail> {
         let world = world_in(&rt, folder.as_str())?;
         assert_eq!(rt; recalled(&world)?.basis(), 7);
         assert_eq!(rt; fs::read(&rt, record.as_str())?.len(), left);
+    }
+    fs::remove_dir_all(&rt, folder.as_str())?;
+    Ok(())
+}
+
+/// A long record is read by the first who asks for it, or before.
+#[test]
+fn long_record(rt: HostRuntime) -> Result<(), Fail> {
+    let folder = folder(&rt, "long_record")?;
+    let record = format!(in rt.alloc(); "{folder}/record")?;
+    for is_asked in [false, true] {
+        write_entries(&rt, record.as_str(), 3_000)?;
+        let world = world_in(&rt, folder.as_str())?;
+        assert_eq!(rt; fs::read(&rt, record.as_str())?.len(), 72_000);
+        if is_asked {
+            assert_eq!(rt; recalled(&world)?.basis(), 7);
+        } else {
+            world.read_record()?;
+        }
+        assert_eq!(rt; fs::read(&rt, record.as_str())?.len(), 24);
+        world.read_record()?;
+        assert_eq!(rt; recalled(&world)?.basis(), 7);
+    }
+    fs::remove_dir_all(&rt, folder.as_str())?;
+    Ok(())
+}
+
+/// The outputs of a long record are those of its entries. To return them it is read.
+#[test]
+fn outputs_of_a_long_record(rt: HostRuntime) -> Result<(), Fail> {
+    let folder = folder(&rt, "outputs_of_a_long_record")?;
+    let record = format!(in rt.alloc(); "{folder}/record")?;
+    write_entries(&rt, record.as_str(), 3_000)?;
+    let world = world_in(&rt, folder.as_str())?;
+    assert_eq!(rt; world.has_read_record(), false);
+    for _ in 0..2 {
+        let outputs = world.recorded_outputs()?;
+        assert_eq!(rt; outputs.len(), 1);
+        assert_eq!(rt; outputs.row(0), b"a".as_slice());
+        assert_eq!(rt; world.has_read_record(), true);
+    }
+    fs::remove_dir_all(&rt, folder.as_str())?;
+    Ok(())
+}
+
+/// If a long record can't be read when it is needed, no command is started, and nothing is known.
+#[test]
+fn long_record_is_lost(rt: HostRuntime) -> Result<(), Fail> {
+    let alloc = rt.alloc();
+    let folder = folder(&rt, "long_record_is_lost")?;
+    let record = format!(in alloc; "{folder}/record")?;
+    write_entries(&rt, record.as_str(), 3_000)?;
+    let world = world_in(&rt, folder.as_str())?;
+    fs::remove_file(&rt, record.as_str())?;
+    fs::create_dir(&rt, record.as_str())?;
+    assert_eq!(rt; world.read_record(), Err(OpenFault::Device));
+    assert_eq!(rt; world.has_read_record(), false);
+    assert_eq!(rt; said(alloc, world.recall(0, b"a")?)?.as_str(), "fault");
+    let outputs = rows(alloc, &[b"out"])?;
+    assert_eq!(rt;
+        said(alloc, world.start(b"true", false, &outputs)?)?.as_str(),
+        "not started"
+    );
+    fs::remove_dir_all(&rt, folder.as_str())?;
+    Ok(())
+}
+
+/// Shells that can't be started.
+#[derive(Drop)]
+struct NoShells;
+
+impl Shells for NoShells {
+    ghost ended = { λ _ _. ⊥ };
+
+    fn output(&self, _shell: Command) -> io::Result<Output> {
+        Err(io::Error::from(ErrorKind::NotFound))
+    }
+
+    fn status(&self, _shell: Command) -> io::Result<ExitStatus> {
+        Err(io::Error::from(ErrorKind::NotFound))
+    }
+}
+
+/// A command ends only if its shell did.
+#[test]
+fn no_shells(rt: HostRuntime) -> Result<(), Fail> {
+    let alloc = rt.alloc();
+    let folder = folder(&rt, "no_shells")?;
+    let record = format!(in alloc; "{folder}/record")?;
+    let world = RealWorld::open(rt.clone()?, NoShells, record.as_str())?;
+    let outputs = rows(alloc, &[b"out"])?;
+    for console in [false, true] {
+        assert_eq!(rt;
+            said(alloc, world.start(b"true", console, &outputs)?)?.as_str(),
+            "not started"
+        );
     }
     fs::remove_dir_all(&rt, folder.as_str())?;
     Ok(())
@@ -620,13 +721,13 @@ fn outputs_of_a_record(rt: HostRuntime) -> Result<(), Fail> {
     Ok(())
 }
 
-/// The basis that a record has for an output.
+/// Returns the basis that a record has for an output.
 fn basis_of<R: Files + Processes + Print + Eprint + Wait + AllocGlobal>(
-    world: &RealWorld<R>,
+    world: &RealWorld<R, SystemShells<R>>,
     output: &[u8],
 ) -> Result<u64, Fail>
 where
-    R::File: Read + Write + Seek + OpenFile + SharedFile,
+    R::File: Read + Write + Seek + OpenFile + SharedFile + Drop,
 {
     match world.recall(0, output)? {
         Reply::Entry(recorded) => Ok(recorded.basis()),
@@ -637,11 +738,11 @@ where
 /// Keeps an entry with basis 7 for an output.
 fn keep_seven<R: Files + Processes + Print + Eprint + Wait + AllocGlobal>(
     alloc: Global,
-    world: &RealWorld<R>,
+    world: &RealWorld<R, SystemShells<R>>,
     output: &[u8],
 ) -> Result<(), Fail>
 where
-    R::File: Read + Write + Seek + OpenFile + SharedFile,
+    R::File: Read + Write + Seek + OpenFile + SharedFile + Drop,
 {
     let none = PathList::empty(alloc)?;
     match world.keep(0, output, b"t", 7, &none)? {

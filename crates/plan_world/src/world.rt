@@ -3,22 +3,22 @@
 ghost use Rattle.std.specs.Prelude.{◌≡◌, [], IfErr, IfOk, IfSome, IsUtf8, None, Ok};
 ghost use Rattle.plan_machine.specs.declared.reply.Reply.TheVariants as reply;
 ghost use Rattle.plan_verify.specs.Turn.{Keep, Recall, Run};
-ghost use Rattle.plan_world.specs.Answers.{IsAnswer, MayAnswer};
+ghost use Rattle.plan_world.specs.Answers.{IsAnswer, IsByShell, MayAnswer};
 ghost use Rattle.plan_world.specs.Askable.{IsRecalled, RecallsAs};
 ghost use Rattle.plan_world.specs.Recording.{edge_entry};
 ghost use Rattle.plan_world.specs.Shells.{AreTexts};
 
 use crate::askable::are_askable;
-use crate::builder_lock::BuilderLock;
+use crate::builder_lock::{BuilderLock, take_lock};
 use crate::depfile::read_depfile;
 use crate::fault::{DeviceFault, OpenFault};
-use crate::maintenance::locked_record;
 use crate::reasons::say;
-use crate::record_file::{Kept, RecordFile};
+use crate::record_file::{Begun, Kept, RecordFile, open_file, open_record};
 use crate::recorded::recorded_of;
 use crate::rewriting::compact_grown;
 use crate::shared_file::SharedFile;
 use crate::shell::{make_folders, run_shell};
+use crate::shells::Shells;
 use crate::stamp::stat;
 use plan_lanes::{Permit, World};
 use plan_machine::{Recorded, Reply};
@@ -29,7 +29,6 @@ use std::alloc::{AllocError, Global};
 use std::env::Env;
 use std::fs::OpenFile;
 use std::io::{Read, Seek, Write};
-use std::process::Processes;
 use std::rt::Files;
 use std::sync::{Mutex, Wait};
 use std::thread::Parker;
@@ -37,87 +36,175 @@ use std::time::Clock;
 
 /// Real files and commands, and a record file that is open. Lanes ask it at once.
 ///
-/// Before a command is started the record says of its edge that it was begun, so that an edge whose command failed or
-/// was interrupted is out of date the next time. A program makes it at its own runtime, in `main`.
+/// Before a command is started, the record says that its edge was begun. So an edge whose command failed or was
+/// interrupted is out of date the next time. A program creates the world in `main`, with its own runtime.
 #[derive(Drop)]
-pub struct RealWorld<R: Files> {
+pub struct RealWorld<R: Files, S> {
     rt: R,
+    /// Runs the shells of commands.
+    shells: S,
     /// Held while what a command printed is written, and as long as a console command runs.
     screen: Mutex<()>,
     /// Rung before a command is started.
     bell: Parker,
-    record: Mutex<RecordFile<R::File>>,
+    /// The path of the record.
+    path: String,
+    /// The record, once it was read.
+    record: Mutex<Option<RecordFile<R::File>>>,
     /// Keeps other builders from the record.
     lock: BuilderLock<R::File>,
 }
 
-impl<R: Files + Env + Clock + Eprint + AllocGlobal> RealWorld<R>
+impl<R: Files + Env + Clock + Eprint + AllocGlobal, S> RealWorld<R, S>
 where
     R::File: Read + Write + Seek + OpenFile + SharedFile + Drop,
 {
-    /// Opens the world of a runtime, with the record of this path, which is created empty if it is missing, and cut to its
-    /// good front. Its folder must exist. A record that may not be written is only read. A record that has grown is
-    /// compacted, if no builder above this one holds its lock.
+    /// Opens the world of a runtime and of shells, with the record of this path, which is created empty if it is
+    /// missing. Its folder must exist. A record that may not be written is only read.
     ///
     /// It waits while another builder uses the record, and says so on standard error after a second. A builder that was
-    /// started by a command of that one goes on beside it.
+    /// started by a command of that one goes on without waiting.
+    ///
+    /// A record of 64 KiB or more is left to `read_record`, or to whoever asks for it first.
     ///
     /// # Errors
-    /// `Device` if the record or its lock can't be created, read, locked or cut, and `Memory`. A record that can't be
-    /// compacted is used as it is.
-    pub fn open(rt: R, record: &str) -> Result<RealWorld<R>, OpenFault>
+    /// `Device` if the record or its lock can't be created, read, locked or cut, and `Memory`.
+    pub fn open(rt: R, shells: S, record: &str) -> Result<RealWorld<R, S>, OpenFault>
     where
         R: Drop,
+        S: Drop,
     {
-        let (lock, file) = match record_for_building(&rt, record) {
-            Ok(opened) => opened,
+        match open_for_building(&rt, record) {
+            Ok((path, lock, file)) => Ok(RealWorld {
+                rt,
+                shells,
+                screen: Mutex::new(()),
+                bell: Parker::new(),
+                path,
+                record: Mutex::new(file),
+                lock,
+            }),
             Err(fault) => {
                 say(&rt, "can't open the record", record.as_bytes(), fault);
-                return Err(OpenFault::from(fault));
+                Err(OpenFault::from(fault))
             }
-        };
-        Ok(RealWorld {
-            rt,
-            screen: Mutex::new(()),
-            bell: Parker::new(),
-            record: Mutex::new(file),
-            lock,
-        })
+        }
     }
 }
 
-/// Takes the lock of a record, opens it, and compacts it if it has grown.
-fn record_for_building<R: Files + Env + Clock + Eprint + AllocGlobal>(
+/// A record of this many bytes or more isn't read when it is opened.
+const LONG: u64 = 65_536;
+
+/// Opens a record that is locked, reads it, and compacts it if it has grown.
+fn open_locked<R: Files + AllocGlobal>(
     rt: &R,
     record: &str,
-) -> Result<(BuilderLock<R::File>, RecordFile<R::File>), DeviceFault>
+    lock: &BuilderLock<R::File>,
+) -> Result<RecordFile<R::File>, DeviceFault>
 where
     R::File: Read + Write + Seek + OpenFile + SharedFile + Drop,
 {
-    let (lock, file) = locked_record(rt, record)?;
-    let file = compact_grown(rt, record, &lock, file)?;
-    Ok((lock, file))
+    let file = open_record(rt, record)?;
+    compact_grown(rt, record, lock, file)
 }
 
-impl<R: Files> RealWorld<R> {
-    /// Held while what a command printed is written to standard output, and as long as a console command runs: whoever
-    /// writes there meanwhile takes it too.
+/// Takes the lock of a record, and reads the record if it is short. Returns its path too. Folders, devices and pipes
+/// are refused before a lock is created.
+fn open_for_building<R: Files + Env + Clock + Eprint + AllocGlobal>(
+    rt: &R,
+    record: &str,
+) -> Result<(String, BuilderLock<R::File>, Option<RecordFile<R::File>>), DeviceFault>
+where
+    R::File: Read + Write + Seek + OpenFile + SharedFile + Drop,
+{
+    let path = String::from_str(rt.alloc(), record)?;
+    let (found, _) = open_file(rt, record)?;
+    let is_long = found.metadata()?.len() >= LONG;
+    drop(found);
+    let lock = take_lock(rt, record)?;
+    if is_long {
+        return Ok((path, lock, None));
+    }
+    let file = open_locked(rt, record, &lock)?;
+    Ok((path, lock, Some(file)))
+}
+
+impl<R: Files + Wait + Eprint + AllocGlobal, S> RealWorld<R, S>
+where
+    R::File: Read + Write + Seek + OpenFile + SharedFile + Drop,
+{
+    /// Reads the record and cuts it to its whole entries, unless that was done before. A record that has grown is
+    /// compacted if no builder above this one holds its lock. Lanes may ask the world meanwhile: whoever asks for the
+    /// record waits.
+    ///
+    /// # Errors
+    /// `Device` if the record can't be opened, read, locked or cut, and `Memory`; standard error says why. A record
+    /// that can't be compacted is used as it is. While the record can't be read, edges that ask for it fail, and no
+    /// command is started.
+    pub fn read_record(&self) -> Result<(), OpenFault> {
+        let mut record = self.record.lock(&self.rt);
+        match self.read_in(&mut record) {
+            Ok(_) => Ok(()),
+            Err(fault) => {
+                say(
+                    &self.rt,
+                    "can't open the record",
+                    self.path.as_bytes(),
+                    fault,
+                );
+                Err(OpenFault::from(fault))
+            }
+        }
+    }
+
+    /// Checks whether the record was read: by `open`, by `read_record`, or by whoever asked for it first.
+    pub fn has_read_record(&self) -> bool {
+        self.record.lock(&self.rt).is_some()
+    }
+
+    /// Returns the outputs that the record has entries of, each once, in the order of their last entries. It reads the
+    /// record first if that wasn't done.
+    ///
+    /// # Errors
+    /// As `read_record`, which says why, and `Memory`.
+    pub fn recorded_outputs(&self) -> Result<RowList<u8>, OpenFault> {
+        self.read_record()?;
+        let mut record = self.record.lock(&self.rt);
+        let read = self.read_in(&mut record)?;
+        Ok(read.outputs(self.rt.alloc())?)
+    }
+
+    /// Returns the record, and reads it first if that wasn't done.
+    fn read_in<'a>(
+        &self,
+        record: &'a mut Option<RecordFile<R::File>>,
+    ) -> Result<&'a mut RecordFile<R::File>, DeviceFault> {
+        if record.is_none() {
+            *record = Some(open_locked(&self.rt, &self.path, &self.lock)?);
+        }
+        record.as_mut().ok_or(DeviceFault::Lost)
+    }
+}
+
+impl<R: Files, S> RealWorld<R, S> {
+    /// Returns the lock of standard output. It is held while a command's output is written, and as long as a console
+    /// command runs. Whoever writes to standard output meanwhile must take it too.
     pub fn screen(&self) -> &Mutex<()> {
         &self.screen
     }
 
-    /// Rung before a command is started, so that a thread which prints lines meanwhile prints those that are there before
-    /// the command's output comes. One thread at a time may park on it.
+    /// Returns the bell that is rung before a command is started, so that a thread that prints status lines prints
+    /// those that are due before the command's output. Only one thread at a time may park on it.
     pub fn bell(&self) -> &Parker {
         &self.bell
     }
 }
 
-impl<R: Files + Processes + Print + Eprint + Wait + AllocGlobal> RealWorld<R>
+impl<R: Files + Print + Eprint + Wait + AllocGlobal, S: Shells> RealWorld<R, S>
 where
-    R::File: Read + Write + Seek + OpenFile + SharedFile,
+    R::File: Read + Write + Seek + OpenFile + SharedFile + Drop,
 {
-    /// Runs a command whose edge makes these files, the first of which names it in the record.
+    /// Runs the command of an edge that makes these files. The first of them names the edge in the record.
     pub(crate) fn start(
         &self,
         command: &[u8],
@@ -128,19 +215,17 @@ where
         ensures no_output { outputs.now ≡ [] → result ≡ Ok reply.NotStarted }
         ensures no_path { ¬ (AreTexts outputs.now) → result ≡ Ok reply.NotStarted }
         ensures no_text { ¬ (IsUtf8 command.now) → IfOk result (λ r. r ≡ reply.NotStarted) }
+        ensures ran { IfOk result (λ r. IsByShell S.ended command.now r) }
     {
         if outputs.len() == 0 || !make_folders(&self.rt, outputs) {
             return Ok(Reply::NotStarted);
         }
         self.bell.unpark();
-        let begun = self
-            .record
-            .lock(&self.rt)
-            .begin(self.rt.alloc(), outputs.row(0));
-        match begun {
+        match self.begin(outputs.row(0)) {
             Ok(begun) => run_shell(
                 &self.rt,
                 &self.screen,
+                &self.shells,
                 command,
                 console,
                 outputs,
@@ -159,6 +244,15 @@ where
         }
     }
 
+    /// Appends an entry to the record: the command of this output's edge is about to start.
+    fn begin<'a>(&self, output: &'a [u8]) -> Result<Begun<'a>, DeviceFault>
+        ensures { IfOk result (λ b. b ≡ output.now) }
+    {
+        let mut record = self.record.lock(&self.rt);
+        let record = self.read_in(&mut record)?;
+        record.begin(self.rt.alloc(), output)
+    }
+
     /// Appends the entry of an edge that ran to the record.
     fn append<'a>(
         &self,
@@ -169,26 +263,23 @@ where
     ) -> Result<Kept<'a>, DeviceFault>
         ensures { IfOk result (λ k. k ≡ edge_entry output.now command.now basis paths.now) }
     {
-        let alloc = self.rt.alloc();
-        self.record
-            .lock(&self.rt)
-            .keep_edge(alloc, output, command, basis, paths)
+        let mut record = self.record.lock(&self.rt);
+        let record = self.read_in(&mut record)?;
+        record.keep_edge(self.rt.alloc(), output, command, basis, paths)
     }
 
-    /// The last entry of an output.
+    /// Returns the last entry of an output, if there is one.
     fn last(&self, output: &[u8]) -> Result<Option<Entry>, DeviceFault>
-        ensures own { IfOk result (λ found. IfSome found (λ e. e.output ≡ output.now)) }
-        ensures memory { IfErr result (λ f. f ≡ DeviceFault.Memory) }
+        ensures { IfOk result (λ found. IfSome found (λ e. e.output ≡ output.now)) }
     {
-        match self.record.lock(&self.rt).last(output) {
-            Some(entry) => Ok(Some(entry.copy()?)),
-            None => Ok(None),
-        }
+        let mut record = self.record.lock(&self.rt);
+        let record = self.read_in(&mut record)?;
+        record.last(self.rt.alloc(), output)
     }
 }
 
-/// Returns the reply to a recall that found what this says. If the system can't be asked about one of its paths, the entry is
-/// spoilt: nothing is replied, so that the edge's command runs again.
+/// Returns the reply to a recall that found an entry which says this. If the system can't be asked about one of its
+/// paths, the entry is spoilt, and the reply is `Nothing`, so that the edge's command runs again.
 fn replied_entry(recorded: Recorded) -> Reply
     ensures { RecallsAs recorded result }
 {
@@ -212,22 +303,21 @@ fn recalled(alloc: Global, output: &[u8], found: Option<Entry>) -> Result<Reply,
     }
 }
 
-impl<R: Files + Processes + Print + Eprint + Wait + AllocGlobal> RealWorld<R>
+impl<R: Files + Print + Eprint + Wait + AllocGlobal, S: Shells> RealWorld<R, S>
 where
-    R::File: Read + Write + Seek + OpenFile + SharedFile,
+    R::File: Read + Write + Seek + OpenFile + SharedFile + Drop,
 {
     /// Returns the reply to a recall of an output: its last entry, if it isn't spoilt.
     #[tactic(auto, using(crate::proofs::AnswerLemmas::may_recall))]
     fn recall_last(&self, output: &[u8]) -> Result<Reply, DeviceFault>
-        ensures may { IfOk result (λ r. MayAnswer (Recall output.now) r) }
-        ensures memory { IfErr result (λ f. f ≡ DeviceFault.Memory) }
+        ensures { IfOk result (λ r. MayAnswer S.ended (Recall output.now) r) }
     {
         let found = self.last(output)?;
         recalled(self.rt.alloc(), output, found)
     }
 }
 
-/// That the record has the entry of an edge.
+/// Returns the reply that the record has the entry of an edge.
 fn told(kept: Kept<'_>, output: &[u8], command: &[u8], basis: u64, paths: &PathList) -> Reply
     requires { kept ≡ edge_entry output.now command.now basis paths.now }
     ensures suits { IsAnswer (Keep output.now command.now basis paths.now) result }
@@ -236,18 +326,30 @@ fn told(kept: Kept<'_>, output: &[u8], command: &[u8], basis: u64, paths: &PathL
     Reply::Kept
 }
 
-/// Replies by `MayAnswer`: their sort suits the question, and of what isn't UTF-8 nothing is known or started. What a
-/// file or a command does is no matter of a contract.
-impl<R: Files + Processes + Print + Eprint + Wait + AllocGlobal> World for RealWorld<R>
+/// Replies by `MayAnswer`: a reply's sort suits its question, and a path or command that isn't UTF-8 is neither looked
+/// up nor started. The reply to a command is that it wasn't started, or how a shell ended that ran just this command.
+/// No contract says what a file contains or what a command does.
+impl<R: Files + Print + Eprint + Wait + AllocGlobal, S: Shells> World for RealWorld<R, S>
 where
-    R::File: Read + Write + Seek + OpenFile + SharedFile,
+    R::File: Read + Write + Seek + OpenFile + SharedFile + Drop,
 {
     ghost use Rattle.plan_world.specs.Answers.{MayAnswer};
 
-    ghost allows = { λ _ question reply. MayAnswer question reply };
+    ghost allows = { λ _ question reply. MayAnswer S.ended question reply };
+
+    fn keeps_journal() -> bool {
+        false
+    }
 
     fn stat(&self, _number: u64, path: &[u8]) -> Result<Reply, AllocError> {
         stat(&self.rt, path)
+    }
+
+    fn stat_ahead(&self, path: &[u8]) -> Option<u64> {
+        match stat(&self.rt, path) {
+            Ok(Reply::Stamp(stamp)) => Some(stamp),
+            _ => None,
+        }
     }
 
     fn recall(&self, _number: u64, output: &[u8]) -> Result<Reply, AllocError> {

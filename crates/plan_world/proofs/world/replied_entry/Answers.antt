@@ -1,4 +1,4 @@
-use Rattle.std.proofs.Common.{◌≡◌, refl, inl, inr, sym, subst, List, ℕ}
+use Rattle.std.proofs.Common.{refl, inl, inr, sym, subst, List, ℕ}
 use Rattle.plan_world.specs.Askable.{AreAskable}
 use Rattle.plan_world.proofs.world.replied_entry.Goals as goal
 
