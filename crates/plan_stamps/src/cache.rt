@@ -21,11 +21,18 @@ struct Inner<W> {
 }
 
 impl<W: World> Inner<W> {
-    /// Asks for the stamp of a path.
-    fn stat(&self, number: u64, path: &[u8]) -> Result<Reply, AllocError>
+    /// Asks for the stamp of a path. Without a number it asks before the question has one; then a path without a stamp
+    /// counts as `AllocError`.
+    fn stat(&self, number: Option<u64>, path: &[u8]) -> Result<Reply, AllocError>
         ensures { IfOk result (λ r. AllowsOnce W.allows (Stat path.now) r) }
     {
-        self.world.stat(number, path)
+        if let Some(number) = number {
+            return self.world.stat(number, path);
+        }
+        match self.world.stat_ahead(path) {
+            Some(stamp) => Ok(Reply::Stamp(stamp)),
+            None => Err(AllocError),
+        }
     }
 
     /// Runs a command that was counted.
@@ -95,6 +102,16 @@ impl<'a, R, W: World> StampCache<'a, R, W> {
         })
     }
 
+    /// Returns the runtime.
+    pub(crate) fn rt(&self) -> &R {
+        self.rt
+    }
+
+    /// Checks whether a command has begun.
+    pub(crate) fn has_begun(&self) -> bool {
+        self.commands.count() > 0
+    }
+
     /// Returns the inner world.
     pub fn inner(&self) -> &W
         ensures { result.now ≡ self.now.inner.world }
@@ -117,7 +134,7 @@ impl<R: Wait, W: World> StampCache<'_, R, W> {
     }
 
     /// Asks the inner world, and keeps the stamp that it replies. A fault isn't kept.
-    fn ask(&self, number: u64, path: &[u8], moment: &Moment) -> Result<Reply, AllocError>
+    fn ask(&self, number: Option<u64>, path: &[u8], moment: &Moment) -> Result<Reply, AllocError>
         ensures { IfOk result (λ r. AllowsOnce W.allows (Stat path.now) r) }
     {
         let reply = self.inner.stat(number, path)?;
@@ -128,7 +145,7 @@ impl<R: Wait, W: World> StampCache<'_, R, W> {
     }
 
     /// Returns the reply for a path: the stamp that was kept, or what the inner world replies.
-    fn look(&self, number: u64, path: &[u8]) -> Result<Reply, AllocError>
+    fn look(&self, number: Option<u64>, path: &[u8]) -> Result<Reply, AllocError>
         ensures { IfOk result (λ r. AllowsOnce W.allows (Stat path.now) r) }
     {
         let Some(moment) = self.commands.quiet() else {
@@ -146,8 +163,21 @@ impl<R: Wait, W: World> World for StampCache<'_, R, W> {
 
     ghost allows = { λ _ question reply. AllowsOnce W.allows question reply };
 
+    ghost keeps = { W.keeps };
+
+    fn keeps_journal() -> bool {
+        W::keeps_journal()
+    }
+
     fn stat(&self, number: u64, path: &[u8]) -> Result<Reply, AllocError> {
-        self.look(number, path)
+        self.look(Some(number), path)
+    }
+
+    fn stat_ahead(&self, path: &[u8]) -> Option<u64> {
+        match self.look(None, path) {
+            Ok(Reply::Stamp(stamp)) => Some(stamp),
+            _ => None,
+        }
     }
 
     fn recall(&self, number: u64, output: &[u8]) -> Result<Reply, AllocError> {

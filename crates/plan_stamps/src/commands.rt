@@ -62,6 +62,11 @@ impl Commands {
         moment_of(begun, ended)
     }
 
+    /// Returns how many commands have begun.
+    pub fn count(&self) -> u64 {
+        self.begun.load(Ordering::SeqCst)
+    }
+
     /// Counts a command that is about to start.
     pub fn begin(&self) -> Running {
         let begun = self.begun.fetch_add(1, Ordering::SeqCst);
