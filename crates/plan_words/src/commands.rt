@@ -1,4 +1,4 @@
-//! The commands of the program and their arguments, as clap knows them.
+//! The commands of the program and their arguments, as clap needs them.
 
 use crate::run::run_command;
 use clap::{Arg, ArgAction, Command};
@@ -74,7 +74,7 @@ const TRACE2_HELP: &str = "Second trace: compare both runs";
 
 const IMAGE_HELP: &str = "Plan image to read";
 
-/// A command that reads one file.
+/// Creates a command that reads one file.
 fn file_command<'a>(
     alloc: Global,
     name: &'a str,
@@ -91,7 +91,7 @@ fn file_command<'a>(
         .arg(file)
 }
 
-/// The command that reads one file and writes another.
+/// Creates the command that reads a manifest and writes a plan image.
 fn compile_command<'a>(alloc: Global) -> Result<Command<'a>, AllocError> {
     let about = (COMPILE_ABOUT, COMPILE_LONG_ABOUT);
     let output = Arg::new(alloc, "IMG")
@@ -103,7 +103,7 @@ fn compile_command<'a>(alloc: Global) -> Result<Command<'a>, AllocError> {
     file_command(alloc, "compile", about, ("FILE", FILE_HELP))?.arg(output)
 }
 
-/// The command that reads an image and a trace, or two.
+/// Creates the command that reads an image and one or two traces.
 fn replay_command<'a>(alloc: Global) -> Result<Command<'a>, AllocError> {
     let about = (REPLAY_ABOUT, REPLAY_LONG_ABOUT);
     let trace = Arg::new(alloc, "TRACE")
@@ -118,25 +118,25 @@ fn replay_command<'a>(alloc: Global) -> Result<Command<'a>, AllocError> {
         .arg(other)
 }
 
-/// The command that prints the commands of a manifest.
+/// Creates the command that prints the commands of a manifest.
 fn commands_command<'a>(alloc: Global) -> Result<Command<'a>, AllocError> {
     let about = (COMMANDS_ABOUT, COMMANDS_LONG_ABOUT);
     file_command(alloc, "commands", about, ("FILE", FILE_HELP))
 }
 
-/// The command that lists an image.
+/// Creates the command that lists an image.
 fn dump_command<'a>(alloc: Global) -> Result<Command<'a>, AllocError> {
     let about = (DUMP_ABOUT, DUMP_LONG_ABOUT);
     file_command(alloc, "dump", about, ("IMG", IMAGE_HELP))
 }
 
-/// The command that checks an image.
+/// Creates the command that checks an image.
 fn verify_command<'a>(alloc: Global) -> Result<Command<'a>, AllocError> {
     let about = (VERIFY_ABOUT, VERIFY_LONG_ABOUT);
     file_command(alloc, "verify", about, ("IMG", IMAGE_HELP))
 }
 
-/// The commands and arguments that the program knows.
+/// Creates the program's command with all of its subcommands and their arguments.
 pub fn program_command<'a>(alloc: Global) -> Result<Command<'a>, AllocError> {
     let program = Command::new(alloc, "plan_ninja")
         .about(ABOUT)

@@ -1,11 +1,11 @@
-//! The words of plan_ninja's command line, and what they ask for.
+//! The command line of plan_ninja, and the requests that it makes.
 //!
-//! - `words_in`: the words that the program was started with.
-//! - `request_in`: what the words ask for, a `Request`; or a `NoRequest`: help, or why the words are refused.
+//! - `words_in` returns the words that the program was started with.
+//! - `request_in` returns the request that the words make, or a `NoRequest`: the text of the help, or the reason why
+//!   the words are refused.
 //!
-//! Commands, options and their help are this project's own (docs/developing/architecture.md); clap reads the words and
-//! lays out the texts.
-//! No contract says what the words mean, the rows of tests/rows show it.
+//! The commands, the options and their help are this project's own (docs/developing/architecture.md). clap parses the
+//! words and lays out the texts. No contract specifies the meaning of the words. The rows of tests/rows test it.
 #![tactic(auto)]
 
 mod commands;

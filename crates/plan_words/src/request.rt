@@ -1,4 +1,4 @@
-//! What the words of the command line ask for.
+//! Requests of the command line.
 
 use crate::commands::program_command;
 use crate::run::{RunWords, run_words};
@@ -8,44 +8,44 @@ use std::alloc::{AllocError, Global};
 use std::rt::Env;
 use std::{env, io};
 
-/// What the command line asks for.
+/// A request of the command line.
 #[derive(Drop)]
 pub enum Request<'a> {
-    /// A command that reads files, and tells or writes what they mean.
+    /// A command that only reads files, and prints or writes a result.
     Files(FileRequest<'a>),
-    /// To run an image.
+    /// The command `run`, which runs an image.
     Run(RunWords<'a>),
 }
 
-/// What is asked of files alone.
+/// A request that only involves files.
 #[derive(Clone, Copy)]
 pub enum FileRequest<'a> {
-    /// The commands of the manifest at this path.
+    /// Print the commands of the manifest at this path.
     Commands(&'a str),
-    /// The image of the manifest at the first path, in a file at the second one.
+    /// Compile the manifest at the first path into an image file at the second path.
     Compile(&'a str, &'a str),
-    /// The listing of the image at this path.
+    /// Print the listing of the image at this path.
     Dump(&'a str),
-    /// The run of the image at the first path that the trace at the second one tells.
+    /// Replay the run of the image at the first path, from the trace at the second path.
     Replay(&'a str, &'a str),
-    /// Whether the runs of the image at the first path that the traces at the second and the third one tell end alike.
+    /// Compare how two runs of the image at the first path end, from the traces at the second and the third path.
     Compare(&'a str, &'a str, &'a str),
-    /// The verdict on the image at this path.
+    /// Check the image at this path.
     Verify(&'a str),
 }
 
-/// What is told in place of doing something.
+/// The outcome of a command line that makes no request.
 #[derive(Drop)]
 pub enum NoRequest {
-    /// There was no memory to read the words.
+    /// Memory ran out while the words were read.
     Memory,
-    /// The help or the version, which was asked for.
+    /// The text of the help or the version, which was requested.
     Help(String),
-    /// Why the words are refused.
+    /// The reason why the words are refused.
     Refused(String),
 }
 
-/// What is told for an error of clap, which help is too.
+/// Converts an error of clap. clap also returns help and version as errors.
 fn told(alloc: Global, error: &Error) -> NoRequest {
     if error.kind() == ErrorKind::OutOfMemory {
         return NoRequest::Memory;
@@ -57,7 +57,8 @@ fn told(alloc: Global, error: &Error) -> NoRequest {
     }
 }
 
-/// The error of words that can't be read: one that is no text, or want of memory.
+/// Creates clap's error for words that can't be read because one isn't valid UTF-8. Returns `AllocError` for any other
+/// error.
 fn words_error(alloc: Global, error: &io::Error) -> Result<Error, AllocError> {
     let mut command = program_command(alloc)?;
     match error.kind() {
@@ -68,7 +69,11 @@ fn words_error(alloc: Global, error: &io::Error) -> Result<Error, AllocError> {
     }
 }
 
-/// The words of the command line, the program's own name first. A word that is not valid UTF-8 is refused.
+/// Returns the words of the command line, beginning with the program's own name.
+///
+/// # Errors
+///
+/// `Refused` if a word isn't valid UTF-8, `Memory` if memory runs out.
 pub fn words_in<R: Env + AllocGlobal>(rt: &R) -> Result<Vec<String>, NoRequest> {
     let alloc = rt.alloc();
     match env::args(rt) {
@@ -83,7 +88,7 @@ pub fn words_in<R: Env + AllocGlobal>(rt: &R) -> Result<Vec<String>, NoRequest> 
     }
 }
 
-/// What `replay` asks of files: the run of one trace, or whether two end alike; nothing where one of its words is missing.
+/// Returns the request of `replay`: replay one trace or compare two. Returns `None` if a word is missing.
 fn replay_request<'a>(found: &ArgMatches<'a>) -> Option<FileRequest<'a>> {
     let (image, trace) = (found.get_str("IMG")?, found.get_str("TRACE")?);
     match found.get_str("TRACE2") {
@@ -92,7 +97,8 @@ fn replay_request<'a>(found: &ArgMatches<'a>) -> Option<FileRequest<'a>> {
     }
 }
 
-/// What a command asks of files; nothing where it is another command, or where one of its words is missing.
+/// Returns the request of a command that only involves files. Returns `None` for another command, or if a word is
+/// missing.
 fn file_request<'a>(name: &str, found: &ArgMatches<'a>) -> Option<FileRequest<'a>> {
     match name {
         "commands" => Some(FileRequest::Commands(found.get_str("FILE")?)),
@@ -104,7 +110,7 @@ fn file_request<'a>(name: &str, found: &ArgMatches<'a>) -> Option<FileRequest<'a
     }
 }
 
-/// What the words that were found ask for; nothing where one is missing.
+/// Returns the request of the words that clap found. Returns `None` if a word is missing.
 fn found_request<'a>(
     alloc: Global,
     matches: &ArgMatches<'a>,
@@ -116,7 +122,7 @@ fn found_request<'a>(
     }
 }
 
-/// What the words ask for, by clap.
+/// Parses the words by clap and returns their request.
 fn parsed<'a>(alloc: Global, words: &'a [String]) -> Result<Request<'a>, Error> {
     let mut command = program_command(alloc)?;
     let matches = command.try_get_matches_from_mut(words)?;
@@ -126,7 +132,11 @@ fn parsed<'a>(alloc: Global, words: &'a [String]) -> Result<Request<'a>, Error> 
     }
 }
 
-/// What the words of the command line ask for, the program's own name first.
+/// Returns the request of the words of the command line, which begin with the program's own name.
+///
+/// # Errors
+///
+/// `Help` if the words ask for help or the version, `Refused` if clap refuses them, `Memory` if memory runs out.
 pub fn request_in<'a>(alloc: Global, words: &'a [String]) -> Result<Request<'a>, NoRequest> {
     match parsed(alloc, words) {
         Ok(request) => Ok(request),

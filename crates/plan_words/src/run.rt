@@ -1,22 +1,22 @@
-//! The words of the command `run`.
+//! The arguments of the command `run`.
 
 use clap::{Arg, ArgAction, ArgMatches, Command, value_parser};
 use std::alloc::{AllocError, Global};
 
-/// What `run` is asked for.
+/// The request of `run`.
 #[derive(Drop)]
 pub struct RunWords<'a> {
     /// The path of the image.
     pub image: &'a str,
-    /// How many commands may run at once: 1 to 64.
+    /// The greatest number of commands that run at once, 1 to 64.
     pub jobs: u8,
-    /// How many failures are borne; 0: any number.
+    /// The number of failures after which no more commands are started. 0 means no limit.
     pub keep: u32,
     /// The path of the build record.
     pub record: &'a str,
-    /// The path of the file that is to get the run's trace.
+    /// The path of the file to which the trace of the run is written, if there is one.
     pub trace: Option<&'a str>,
-    /// The names of the targets; none where the image's defaults are built.
+    /// The names of the targets. If there are none, the image's default targets are built.
     pub targets: Vec<&'a str>,
 }
 
@@ -46,7 +46,7 @@ const TRACE_HELP: &str =
 
 const TARGETS_HELP: &str = "Files to build, instead of the default targets";
 
-/// The options of `run`.
+/// Adds the options of `run` to a command.
 fn options<'a>(alloc: Global, command: Command<'a>) -> Result<Command<'a>, AllocError> {
     let jobs = Arg::new(alloc, "N")
         .short('j')
@@ -68,7 +68,7 @@ fn options<'a>(alloc: Global, command: Command<'a>) -> Result<Command<'a>, Alloc
     command.arg(jobs)?.arg(keep)?.arg(record)?.arg(trace)
 }
 
-/// The command `run` and its arguments.
+/// Creates the command `run` with its arguments.
 pub fn run_command<'a>(alloc: Global, image_help: &'a str) -> Result<Command<'a>, AllocError> {
     let image = Arg::new(alloc, "IMG")
         .required(true)
@@ -85,7 +85,7 @@ pub fn run_command<'a>(alloc: Global, image_help: &'a str) -> Result<Command<'a>
     options(alloc, command)?.arg(targets)
 }
 
-/// What the words ask of `run`; nothing where one that it needs is missing.
+/// Returns the request of `run`. Returns `None` if a required word is missing.
 pub fn run_words<'a>(
     alloc: Global,
     found: &ArgMatches<'a>,
