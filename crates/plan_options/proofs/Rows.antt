@@ -19,7 +19,7 @@ letters_share_a_word : reading (codes "-vj3" ∷ codes "a" ∷ codes "-f" ∷ co
     ≡ argument.Flag flag.Verbose ∷ argument.Setting setting.Jobs (codes "3") ∷ argument.Target (codes "a") ∷ argument.Setting setting.Manifest (codes "x") ∷ argument.Target (codes "b") ∷ []
 letters_share_a_word = refl
 
--- `-j -1`: a value may begin with a hyphen
+-- `-j -1`: A value may begin with a hyphen.
 value_with_a_hyphen : reading (codes "-j" ∷ codes "-1" ∷ []) ≡ argument.Setting setting.Jobs (codes "-1") ∷ []
 value_with_a_hyphen = refl
 
@@ -110,7 +110,7 @@ named_targets = refl
 nothing_stops : first_stop said ≡ None
 nothing_stops = refl
 
--- `-j x --version`: the first counts
+-- `-j x --version`: The first argument at which ninja ends counts.
 first_stop_counts : first_stop (reading (codes "-j" ∷ codes "x" ∷ codes "--version" ∷ [])) ≡ Some (argument.Setting setting.Jobs (codes "x"))
 first_stop_counts = refl
 
@@ -121,7 +121,7 @@ as_many_as_can_be = refl
 dry_run_among_letters : is_dry_run (reading (codes "a" ∷ codes "-vn" ∷ [])) ≡ true
 dry_run_among_letters = refl
 
--- `-t clean -n`: it is a word of the tool
+-- `-t clean -n`: `-n` is a word of the tool.
 no_dry_run_of_a_tool : is_dry_run (reading (codes "-t" ∷ codes "clean" ∷ codes "-n" ∷ [])) ≡ false
 no_dry_run_of_a_tool = refl
 

@@ -9,24 +9,24 @@ use Rattle.plan_options.specs.declared.integer.Integer.TheVariants.{Negative, At
 abbrev pub plus : ℕ
 plus = 43
 
--- a blank, or one of the bytes 9 to 13: a tab, a line's or a page's end
+-- White space of C: a space, or one of the bytes 9 to 13, among them the tab and the ends of lines and pages.
 abbrev pub is_white : ℕ → Bool
 is_white b = b == space || (nat_le 9 b && nat_le b 13)
 
--- a text after the white space that it begins with
+-- A text after the white space that it begins with.
 abbrev pub past_white : List ℕ → List ℕ
 past_white text = drop (prefix_len is_white text) text
 
--- the number that digits mean, or this if it is greater
+-- The number that digits mean, or `most` if it is greater.
 abbrev pub magnitude : ℕ → List ℕ → Option ℕ
 magnitude most digits = if is_numeral digits then Some (min (number_past 0 digits) most) else None
 
--- a number with a minus before it: 0 stays what it is
+-- A number with a minus before it. Minus 0 is 0.
 abbrev pub negative : ℕ → Integer
 negative zero = AtLeastZero 0
 negative (suc n) = Negative
 
--- the number of digits after a sign, or without one
+-- The number of digits that may have a sign before them.
 abbrev pub signed : ℕ → List ℕ → Option Integer
 signed most [] = None
 signed most (b ∷ more) =
@@ -34,7 +34,7 @@ signed most (b ∷ more) =
     else if b == plus then option_map (λ n. AtLeastZero n) (magnitude most more)
     else option_map (λ n. AtLeastZero n) (magnitude most (b ∷ more))
 
--- The number that a text says, or `most` if it is greater; an empty text is 0.
+-- The number in a text, or `most` if it is greater. An empty text is 0.
 abbrev pub integer_in : ℕ → List ℕ → Option Integer
 integer_in most [] = Some (AtLeastZero 0)
 integer_in most (b ∷ more) = signed most (past_white (b ∷ more))

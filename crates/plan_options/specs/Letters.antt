@@ -6,7 +6,7 @@ use Rattle.plan_options.specs.declared.argument.Setting.TheVariants as setting
 use Rattle.plan_options.specs.declared.letters.Letter.{Letter}
 use Rattle.plan_options.specs.declared.letters.Letter.TheVariants as letter
 
--- The option that has a letter: `h`, `n`, `v`, and with a value `C`, `d`, `f`, `j`, `k`, `l`, `t`, `w`.
+-- The option with a letter: `h`, `n`, `v`, and with a value `C`, `d`, `f`, `j`, `k`, `l`, `t`, `w`.
 abbrev pub letter_of : ℕ → Letter
 letter_of b =
     if b == 104 then letter.Flag flag.Help
@@ -22,7 +22,7 @@ letter_of b =
     else if b == 119 then letter.Setting setting.Warning
     else letter.Unknown
 
--- the letter of an option with a value
+-- The letter of an option with a value.
 abbrev pub letter_for : Setting → ℕ
 letter_for setting.Folder = 67
 letter_for setting.Mode = 100

@@ -1,4 +1,4 @@
--- What the words of a command line are, as ninja's getopt_long reads them.
+-- The arguments in the words of a command line, as ninja's getopt_long reads them.
 --
 -- A word is an option, a target, the value of an option before it, or a word of a tool. Options may come after targets.
 -- After `--` all words are targets, and after `-t TOOL` all words are the tool's. The first word that isn't understood is
@@ -22,37 +22,39 @@ use Rattle.plan_options.specs.LongOptions.{flags_named, name_in, value_in}
 abbrev pub Text : Type 0
 Text = List ℕ
 
--- ---- the forms of a word
+-- ---- Forms of a word
 
--- what a word is that begins with two hyphens and then this
+-- The form of a word that begins with two hyphens, followed by this text.
 abbrev pub form_past : Text → Form
 form_past [] = form.Dashes
 form_past (b ∷ more) = form.Long
 
--- the form of a word: `--` itself, `--name`, letters after a hyphen, or anything else, also `-` itself
+-- The form of a word: `--` itself, `--name`, letters after a hyphen, or anything else, including `-` itself.
 abbrev pub form_of : Text → Form
 form_of [] = form.Name
 form_of (b ∷ []) = form.Name
 form_of (b ∷ c ∷ more) = if b == hyphen then (if c == hyphen then form_past more else form.Letters) else form.Name
 
--- ---- letters
+-- ---- Letters
 
--- the argument of an option with a value, if these letters after it are its value; none if the next word is
+-- The argument of an option with a value, if these letters after it are its value. If there are no letters, the next
+-- word is its value.
 abbrev pub joined : Setting → Text → List Argument
 joined s [] = []
 joined s (b ∷ more) = argument.Setting s (b ∷ more) ∷ []
 
--- what comes after the value of an option
+-- The kind of the word after the value of an option.
 abbrev pub after_value : Setting → Expected
 after_value setting.Tool = expected.ToolWord
 after_value other = expected.Any
 
--- what comes after an option and the letters after it
+-- The kind of the word after an option and its letters.
 abbrev pub after_joined : Setting → Text → Expected
 after_joined s [] = expected.Value s
 after_joined s (b ∷ more) = after_value s
 
--- The arguments of letters: each is an option, up to one with a value, to which the other letters belong.
+-- The arguments of letters. Each letter is an option, up to the first option with a value, which takes the letters
+-- after it.
 abbrev pub letters : Text → List Argument
 letters [] = []
 letters (b ∷ more) = elim (letter_of b) [
@@ -61,7 +63,7 @@ letters (b ∷ more) = elim (letter_of b) [
   | letter.Unknown ↦ argument.Misuse (misuse.UnknownLetter b) ∷ []
 ]
 
--- what comes after letters
+-- The kind of the word after letters.
 abbrev pub after_letters : Text → Expected
 after_letters [] = expected.Any
 after_letters (b ∷ more) = elim (letter_of b) [
@@ -70,45 +72,45 @@ after_letters (b ∷ more) = elim (letter_of b) [
   | letter.Unknown ↦ expected.Nothing
 ]
 
--- ---- long options
+-- ---- Long options
 
--- the argument of a word that names an option, and then says this behind the name
+-- The argument of a word that names an option without a value, followed by this text.
 abbrev pub without_value : Flag → Text → Argument
 without_value f [] = argument.Flag f
 without_value f (b ∷ more) = argument.Misuse (misuse.TakesNoValue f)
 
--- the argument of a word that these options may be meant by, and that says this behind the name
+-- The argument of a word whose name may mean these options, followed by this text.
 abbrev pub only : List Flag → Text → Text → Argument
 only [] word value = argument.Misuse (misuse.UnknownName word)
 only (f ∷ []) word value = without_value f value
 only (f ∷ g ∷ more) word value = argument.Misuse (misuse.Ambiguous word)
 
--- the argument of a word that begins with two hyphens
+-- The argument of a word that begins with two hyphens.
 abbrev pub long_argument : Text → Argument
 long_argument word = only (flags_named (name_in (drop 2 word))) word (value_in (drop 2 word))
 
--- what comes after an argument: nothing after one that isn't understood
+-- The kind of the word after an argument. No word is read after one that isn't understood.
 abbrev pub after : Argument → Expected
 after (argument.Misuse m) = expected.Nothing
 after other = expected.Any
 
--- ---- words
+-- ---- Words
 
--- the arguments that a word of this form gives
+-- The arguments of a word with this form.
 abbrev pub of_form : Form → Text → List Argument
 of_form form.Name word = argument.Target word ∷ []
 of_form form.Dashes word = []
 of_form form.Long word = long_argument word ∷ []
 of_form form.Letters word = letters (drop 1 word)
 
--- what comes after a word of this form
+-- The kind of the word after one with this form.
 abbrev pub after_form : Form → Text → Expected
 after_form form.Name word = expected.Any
 after_form form.Dashes word = expected.Target
 after_form form.Long word = after (long_argument word)
 after_form form.Letters word = after_letters (drop 1 word)
 
--- the arguments that the next word gives
+-- The arguments of a word of this kind.
 abbrev pub given : Expected → Text → List Argument
 given expected.Any word = of_form (form_of word) word
 given (expected.Value s) word = argument.Setting s word ∷ []
@@ -116,7 +118,7 @@ given expected.Target word = argument.Target word ∷ []
 given expected.ToolWord word = argument.ToolWord word ∷ []
 given expected.Nothing word = []
 
--- what comes after the next word
+-- The kind of the word after one of this kind.
 abbrev pub next : Expected → Text → Expected
 next expected.Any word = after_form (form_of word) word
 next (expected.Value s) word = after_value s
@@ -124,16 +126,16 @@ next expected.Target word = expected.Target
 next expected.ToolWord word = expected.ToolWord
 next expected.Nothing word = expected.Nothing
 
--- the arguments of no more words: a value that is expected is missing
+-- The argument at the end of the words, if a value is still expected.
 abbrev pub at_end : Expected → List Argument
 at_end (expected.Value s) = argument.Misuse (misuse.NeedsValue s) ∷ []
 at_end other = []
 
--- the arguments of words, of which the first is expected to be this
+-- The arguments in words, the first of which has this kind.
 abbrev pub reading_from : Expected → List Text → List Argument
 reading_from e [] = at_end e
 reading_from e (word ∷ words) = given e word ++ reading_from (next e word) words
 
--- The arguments that the words after a program's name are.
+-- The arguments in the words after a program's name.
 abbrev pub reading : List Text → List Argument
 reading words = reading_from expected.Any words

@@ -1,4 +1,4 @@
--- What the arguments of a command line say together: of an option that comes more than once the last one counts.
+-- The meaning of all arguments of a command line together. If an option comes more than once, the last one counts.
 use Rattle.std.specs.Prelude.{ℕ, zero, suc, ◌==◌, Bool, true, false, List, [], ◌∷◌, Option, Some, None, filter_map, find, is_some, option_and_then, if◌then◌else◌}
 use Rattle.std.specs.List.{list_any}
 use Rattle.plan_options.specs.declared.argument.Flag.{Flag}
@@ -16,7 +16,7 @@ use Rattle.plan_options.specs.Stops.{stop_of}
 abbrev pub Text : Type 0
 Text = List ℕ
 
--- the first argument at which ninja ends
+-- The first argument at which ninja ends.
 abbrev pub first_stop : List Argument → Option Argument
 first_stop arguments = find (λ a. is_some (stop_of a)) arguments
 
@@ -24,36 +24,36 @@ abbrev pub or_else : {V : Type 0} → Option V → Option V → Option V
 or_else (Some v) other = Some v
 or_else None other = other
 
--- the last that is found in a list
+-- The last result in a list.
 abbrev pub last_found : {X V : Type 0} → (X → Option V) → List X → Option V
 last_found f [] = None
 last_found f (x ∷ xs) = or_else (last_found f xs) (f x)
 
--- the value that an argument gives to an option
+-- The value that an argument gives to an option.
 abbrev pub value_of : Setting → Argument → Option Text
 value_of s (argument.Setting own value) = if letter_for own == letter_for s then Some value else None
 value_of s other = None
 
--- the last value of an option
+-- The last value of an option.
 abbrev pub last_value : Setting → List Argument → Option Text
 last_value s arguments = last_found (value_of s) arguments
 
--- `-v` and `--quiet`
+-- The flag of an argument that is `-v` or `--quiet`.
 abbrev pub verbosity_of : Argument → Option Flag
 verbosity_of (argument.Flag flag.Verbose) = Some flag.Verbose
 verbosity_of (argument.Flag flag.Quiet) = Some flag.Quiet
 verbosity_of other = None
 
--- the last of `-v` and `--quiet`
+-- The last of `-v` and `--quiet`.
 abbrev pub verbosity : List Argument → Option Flag
 verbosity arguments = last_found verbosity_of arguments
 
--- `-n`
+-- Whether an argument is `-n`.
 abbrev pub is_dry : Argument → Bool
 is_dry (argument.Flag flag.DryRun) = true
 is_dry other = false
 
--- whether one of them is `-n`
+-- Whether one of the arguments is `-n`.
 abbrev pub is_dry_run : List Argument → Bool
 is_dry_run arguments = list_any is_dry arguments
 
@@ -61,7 +61,7 @@ abbrev pub target_of : Argument → Option Text
 target_of (argument.Target name) = Some name
 target_of other = None
 
--- the targets, in their order
+-- The targets, in their order.
 abbrev pub targets : List Argument → List Text
 targets arguments = filter_map target_of arguments
 
@@ -69,21 +69,21 @@ abbrev pub tool_word_of : Argument → Option Text
 tool_word_of (argument.ToolWord word) = Some word
 tool_word_of other = None
 
--- the words of the tool, in their order
+-- The words of the tool, in their order.
 abbrev pub tool_words : List Argument → List Text
 tool_words arguments = filter_map tool_word_of arguments
 
--- how many commands a number of `-j` asks for: 0 is as many as there can be
+-- The number of commands that a number of `-j` allows at once. 0 allows 64.
 abbrev pub jobs_of : Option Integer → Option ℕ
 jobs_of (Some (AtLeastZero zero)) = Some 64
 jobs_of (Some (AtLeastZero (suc n))) = Some (suc n)
 jobs_of other = None
 
--- how many commands may run at once, if `-j` says it: at most 64
+-- The number of commands that may run at once, at most 64, if `-j` gives it.
 abbrev pub jobs : List Argument → Option ℕ
 jobs arguments = option_and_then (λ value. jobs_of (integer_in 64 value)) (last_value setting.Jobs arguments)
 
--- how many failures a number of `-k` asks for: 0, and what is less, is any number
+-- The number of failures that a number of `-k` allows. 0 and negative numbers mean any number, written as 0.
 abbrev pub failures_of : Option Integer → ℕ
 failures_of (Some (AtLeastZero n)) = n
 failures_of (Some Negative) = 0
@@ -93,6 +93,6 @@ abbrev pub failures_if_any : ℕ → Option Text → ℕ
 failures_if_any most (Some value) = failures_of (integer_in most value)
 failures_if_any most None = 1
 
--- after how many failures no more commands start: at most this, 0 is any number; 1 without `-k`
+-- The number of failures after which no more commands start, at most `most`. 0 means any number. It is 1 without `-k`.
 abbrev pub failures : ℕ → List Argument → ℕ
 failures most arguments = failures_if_any most (last_value setting.Failures arguments)

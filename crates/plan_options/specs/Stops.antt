@@ -15,7 +15,7 @@ use Rattle.plan_options.specs.declared.integer.Integer.{Integer}
 use Rattle.plan_options.specs.declared.integer.Integer.TheVariants.{AtLeastZero}
 use Rattle.plan_options.specs.Integers.{integer_in, past_white, plus}
 
--- `-h`, `--version`, `--about`
+-- `-h`, `--version` and `--about` end ninja.
 abbrev pub stop_of_flag : Flag → Option Stop
 stop_of_flag flag.Help = Some stop.Help
 stop_of_flag flag.Version = Some stop.Version
@@ -24,17 +24,17 @@ stop_of_flag flag.DryRun = None
 stop_of_flag flag.Verbose = None
 stop_of_flag flag.Quiet = None
 
--- `-j` takes a number from 0 on
+-- `-j` takes a number from 0 on.
 abbrev pub stop_of_jobs : Option Integer → Option Stop
 stop_of_jobs (Some (AtLeastZero n)) = None
 stop_of_jobs other = Some stop.InvalidJobs
 
--- `-k` takes any number
+-- `-k` takes any number.
 abbrev pub stop_of_failures : Option Integer → Option Stop
 stop_of_failures (Some n) = None
 stop_of_failures None = Some stop.InvalidFailures
 
--- a text after a sign, if it begins with one
+-- A text after a sign, if it begins with one.
 abbrev pub past_sign : List ℕ → List ℕ
 past_sign [] = []
 past_sign (b ∷ more) = if b == hyphen || b == plus then more else b ∷ more
@@ -43,20 +43,20 @@ abbrev pub begins_with_digit : List ℕ → Bool
 begins_with_digit [] = false
 begins_with_digit (b ∷ more) = is_digit b
 
--- a digit, or a point and a digit
+-- A text begins with a digit, or with a point and a digit.
 abbrev pub begins_with_decimal : List ℕ → Bool
 begins_with_decimal [] = false
 begins_with_decimal (b ∷ more) = if b == dot then begins_with_digit more else is_digit b
 
--- `-l` takes a text that begins with a number
+-- `-l` takes a text that begins with a number.
 abbrev pub stop_of_load : List ℕ → Option Stop
 stop_of_load text = if begins_with_decimal (past_sign (past_white text)) then None else Some stop.InvalidLoad
 
--- the debugging modes of ninja 1.11
+-- The debugging modes of ninja 1.11.
 abbrev pub modes : List (List ℕ)
 modes = codes "stats" ∷ codes "explain" ∷ codes "keepdepfile" ∷ codes "keeprsp" ∷ codes "nostatcache" ∷ []
 
--- the warnings of ninja 1.11, with how each is treated
+-- The warnings of ninja 1.11, each with its treatment.
 abbrev pub warnings : List (List ℕ)
 warnings = codes "dupbuild=err" ∷ codes "dupbuild=warn" ∷ codes "phonycycle=err" ∷ codes "phonycycle=warn" ∷ codes "depfilemulti=err" ∷ codes "depfilemulti=warn" ∷ []
 
@@ -69,7 +69,7 @@ stop_of_mode text = if bytes_eq text (codes "list") then Some stop.ModeList else
 abbrev pub stop_of_warning : List ℕ → Option Stop
 stop_of_warning text = if bytes_eq text (codes "list") then Some stop.WarningList else if is_one_of text warnings then None else Some stop.UnknownWarning
 
--- an option and its value
+-- The reason why ninja ends at an option and its value.
 abbrev pub stop_of_setting : Setting → List ℕ → Option Stop
 stop_of_setting setting.Jobs value = stop_of_jobs (integer_in 64 value)
 stop_of_setting setting.Failures value = stop_of_failures (integer_in 64 value)
@@ -80,7 +80,7 @@ stop_of_setting setting.Folder value = None
 stop_of_setting setting.Manifest value = None
 stop_of_setting setting.Tool value = None
 
--- Why ninja ends at an argument; None if it goes on.
+-- The reason why ninja ends at an argument, or None if it goes on.
 abbrev pub stop_of : Argument → Option Stop
 stop_of (argument.Flag f) = stop_of_flag f
 stop_of (argument.Setting s value) = stop_of_setting s value

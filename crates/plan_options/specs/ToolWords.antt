@@ -4,7 +4,7 @@ use Rattle.std.specs.Prelude.{List, [], ◌∷◌, ◌++◌, drop}
 use Rattle.plan_options.specs.Reading.{Text, form_of}
 use Rattle.plan_options.specs.declared.form.Form.TheVariants as form
 
--- the letters of the options, in their order
+-- The letters of the options, in their order.
 abbrev pub option_letters : List Text → Text
 option_letters [] = []
 option_letters (word ∷ words) = elim (form_of word) [
@@ -14,7 +14,7 @@ option_letters (word ∷ words) = elim (form_of word) [
   | form.Letters ↦ drop 1 word ++ option_letters words
 ]
 
--- the operands, in their order
+-- The operands, in their order.
 abbrev pub operands : List Text → List Text
 operands [] = []
 operands (word ∷ words) = elim (form_of word) [

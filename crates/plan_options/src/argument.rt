@@ -1,4 +1,4 @@
-//! What a command line consists of.
+//! The parts of a command line.
 
 use plan_text::Items;
 
@@ -36,11 +36,11 @@ pub enum Setting {
     Mode,
     /// `-t TOOL`: a tool to run instead of a build. The words after it are the tool's.
     Tool,
-    /// `-w FLAG`: how a warning is treated.
+    /// `-w FLAG`: the treatment of a warning.
     Warning,
 }
 
-/// Why a word isn't understood.
+/// The reason why a word isn't understood.
 #[derive(Debug, Drop)]
 pub enum Misuse {
     /// No option has this letter.

@@ -1,4 +1,4 @@
-//! A command line, and what its arguments say together.
+//! A command line, and the meaning of all of its arguments together.
 
 ghost use Rattle.std.specs.Prelude.{◌≡◌, ◌-◌, ◌^◌, IfOk, map, option_map};
 ghost use Rattle.plan_options.specs.Reading as reading;
@@ -13,7 +13,7 @@ use plan_text::Memory;
 use std::alloc::Global;
 use std::marker::Model;
 
-/// The arguments of a command line, in their order. A contract sees it as these.
+/// The arguments of a command line, in their order. Contracts see them as a list.
 #[derive(Debug, Drop)]
 pub struct CommandLine {
     arguments: Vec<Argument>,
@@ -28,10 +28,11 @@ impl Model for CommandLine {
     ghost view = { λ l. l.arguments.items };
 }
 
-/// The most commands that may run at once.
+/// The greatest number of commands that may run at once.
 const MOST_JOBS: u32 = 64;
 
-/// Returns how many commands a value of `-j` asks for: 0 is as many as there can be.
+/// Returns the number of commands that a value of `-j` allows at once, at most 64. The value 0 allows 64. Returns
+/// `None` if the value isn't a number from 0 on.
 fn jobs_of(value: &[u8]) -> Option<u8>
     ensures { result ≡ defined.jobs_of (integer_in 64 value.now) }
 {
@@ -42,7 +43,8 @@ fn jobs_of(value: &[u8]) -> Option<u8>
     }
 }
 
-/// Returns how many failures a value of `-k` asks for: 0, and what is less, is any number.
+/// Returns the number of failures that a value of `-k` allows. 0 and negative values mean any number, for which it
+/// returns 0. Returns 1 if the value isn't a number.
 fn failures_of(value: &[u8]) -> u32
     ensures { result ≡ defined.failures_of (integer_in (2 ^ 32 - 1) value.now) }
 {
@@ -53,7 +55,7 @@ fn failures_of(value: &[u8]) -> u32
     }
 }
 
-/// Returns the first argument at which ninja ends.
+/// Returns the first argument at which ninja ends, or `None` if there is none.
 fn first_stop(arguments: &[Argument]) -> Option<&Argument>
     ensures { option_map (λ a. a.now) result ≡ defined.first_stop arguments.now }
 {
@@ -65,7 +67,7 @@ fn first_stop(arguments: &[Argument]) -> Option<&Argument>
     None
 }
 
-/// Returns the value that an argument gives to an option.
+/// Returns the value that an argument gives to an option, or `None` if it gives none.
 fn value_of(argument: &Argument, setting: Setting) -> Option<&[u8]>
     ensures { option_map (λ v. v.now) result ≡ defined.value_of setting argument.now }
 {
@@ -81,7 +83,7 @@ fn value_of(argument: &Argument, setting: Setting) -> Option<&[u8]>
     }
 }
 
-/// Returns the last value of an option.
+/// Returns the last value of an option, or `None` if no argument gives one.
 fn last_value(arguments: &[Argument], setting: Setting) -> Option<&[u8]>
     ensures { option_map (λ v. v.now) result ≡ defined.last_value setting arguments.now }
 {
@@ -95,7 +97,7 @@ fn last_value(arguments: &[Argument], setting: Setting) -> Option<&[u8]>
     last
 }
 
-/// Returns an argument that is `-v` or `--quiet`.
+/// Returns the flag of an argument that is `-v` or `--quiet`, or `None` for another argument.
 fn verbosity_of(argument: &Argument) -> Option<Flag>
     ensures { result ≡ defined.verbosity_of argument.now }
 {
@@ -106,7 +108,7 @@ fn verbosity_of(argument: &Argument) -> Option<Flag>
     }
 }
 
-/// Returns the last of `-v` and `--quiet`.
+/// Returns the last of `-v` and `--quiet`, or `None` if neither is there.
 fn last_verbosity(arguments: &[Argument]) -> Option<Flag>
     ensures { result ≡ defined.verbosity arguments.now }
 {
@@ -120,14 +122,14 @@ fn last_verbosity(arguments: &[Argument]) -> Option<Flag>
     last
 }
 
-/// Whether an argument is `-n`.
+/// Checks whether an argument is `-n`.
 fn is_dry(argument: &Argument) -> bool
     ensures { result ≡ defined.is_dry argument.now }
 {
     matches!(argument, Argument::Flag(Flag::DryRun))
 }
 
-/// Whether one of these arguments is `-n`.
+/// Checks whether one of these arguments is `-n`.
 fn has_dry(arguments: &[Argument]) -> bool
     ensures { result ≡ defined.is_dry_run arguments.now }
 {
@@ -185,35 +187,35 @@ impl CommandLine {
         &self.arguments
     }
 
-    /// Returns the first argument at which ninja ends. None if it goes on.
+    /// Returns the first argument at which ninja ends, or `None` if it goes on.
     pub fn stop(&self) -> Option<&Argument>
         ensures { option_map (λ a. a.now) result ≡ defined.first_stop self.now }
     {
         first_stop(self.arguments())
     }
 
-    /// Returns the last value of an option. None if it isn't there.
+    /// Returns the last value of an option, or `None` if it isn't there.
     pub fn value(&self, setting: Setting) -> Option<&[u8]>
         ensures { option_map (λ v. v.now) result ≡ defined.last_value setting self.now }
     {
         last_value(self.arguments(), setting)
     }
 
-    /// Returns the last of `-v` and `--quiet`. None if neither is there.
+    /// Returns the last of `-v` and `--quiet`, or `None` if neither is there.
     pub fn verbosity(&self) -> Option<Flag>
         ensures { result ≡ defined.verbosity self.now }
     {
         last_verbosity(self.arguments())
     }
 
-    /// Whether `-n` is there: no command is to run, and nothing is to be changed.
+    /// Checks whether `-n` is there. No command may run then, and nothing may be changed.
     pub fn is_dry_run(&self) -> bool
         ensures { result ≡ defined.is_dry_run self.now }
     {
         has_dry(self.arguments())
     }
 
-    /// Returns how many commands may run at once, 1 to 64. None if no `-j` says it.
+    /// Returns the number of commands that may run at once, 1 to 64. Returns `None` if no `-j` gives it.
     pub fn jobs(&self) -> Option<u8>
         ensures { result ≡ defined.jobs self.now }
     {
@@ -223,7 +225,8 @@ impl CommandLine {
         }
     }
 
-    /// Returns after how many failures no more commands start; 0 is any number. It is 1 if no `-k` says it.
+    /// Returns the number of failures after which no more commands start. 0 means any number. Returns 1 if no `-k`
+    /// gives it.
     pub fn failures(&self) -> u32
         ensures { result ≡ defined.failures (2 ^ 32 - 1) self.now }
     {

@@ -1,26 +1,26 @@
-//! What the next word of a command line is.
+//! The kinds of words that a command line may have next.
 
 ghost use Rattle.std.specs.Prelude.{◌≡◌};
 ghost use Rattle.plan_options.specs.Reading as reading;
 
 use crate::argument::{Argument, Setting};
 
-/// What the next word is.
+/// The kind of the next word.
 #[derive(Clone, Copy, Debug, PartialEq, Eq)]
 pub(crate) enum Expected {
     /// An option or a target.
     Any,
     /// The value of this option.
     Value(Setting),
-    /// A target, since `--` was read.
+    /// A target, because `--` was read.
     Target,
     /// A word of the tool.
     ToolWord,
-    /// It isn't read.
+    /// The word isn't read.
     Nothing,
 }
 
-/// Returns what comes after the value of an option.
+/// Returns the kind of the word after the value of an option.
 pub(crate) fn after_value(setting: Setting) -> Expected
     ensures { result ≡ reading.after_value setting }
 {
@@ -30,7 +30,7 @@ pub(crate) fn after_value(setting: Setting) -> Expected
     }
 }
 
-/// Returns what comes after an argument.
+/// Returns the kind of the word after an argument.
 pub(crate) fn after(argument: &Argument) -> Expected
     ensures { result ≡ reading.after argument.now }
 {

@@ -3,16 +3,16 @@
 ghost use Rattle.std.specs.Prelude.{◌≡◌};
 ghost use Rattle.plan_options.specs.Reading.{form_of};
 
-/// What a word looks like.
+/// The form of a word.
 #[derive(Clone, Copy, Debug, PartialEq, Eq)]
 pub(crate) enum Form {
-    /// It is no option: the name of a target.
+    /// It isn't an option: the name of a target.
     Name,
     /// It is `--`.
     Dashes,
-    /// It is `--` and a name.
+    /// It is `--` followed by a name.
     Long,
-    /// It is `-` and letters.
+    /// It is `-` followed by letters.
     Letters,
 }
 

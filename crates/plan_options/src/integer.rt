@@ -7,23 +7,23 @@ ghost use Rattle.plan_options.specs.Integers as defined;
 
 use plan_text::number_in;
 
-/// A number that a value says.
+/// A number in a value.
 #[derive(Clone, Copy, Debug, PartialEq, Eq)]
 pub enum Integer {
     /// It is below 0.
     Negative,
-    /// It is this number, or greater than the most that was asked for, and this is the most.
+    /// It is this number. A number above the given maximum is replaced by the maximum.
     AtLeastZero(u32),
 }
 
-/// Whether a byte is white space of C.
+/// Checks whether C counts a byte as white space.
 fn is_white(b: u8) -> bool
     ensures { result ≡ defined.is_white b }
 {
     b == b' ' || (9 <= b && b <= 13)
 }
 
-/// Returns how many bytes of white space a text begins with.
+/// Returns the number of bytes of white space that a text begins with.
 fn white_len(text: &[u8]) -> usize
     ensures len { result ≡ prefix_len defined.is_white text.now }
     ensures within { result ≤ length text.now }
@@ -38,21 +38,21 @@ pub(crate) fn past_white(text: &[u8]) -> &[u8]
     &text[white_len(text)..]
 }
 
-/// Whether each byte of a text is a digit.
+/// Checks whether each byte of a text is a digit.
 fn is_all_digits(text: &[u8]) -> bool
     ensures { result ≡ list_all numerals.is_digit text.now }
 {
     text.iter().all(|b| matches!(*b, b'0'..=b'9'))
 }
 
-/// Whether a text is a digit or more.
+/// Checks whether a text is one or more digits.
 fn is_numeral(text: &[u8]) -> bool
     ensures { result ≡ numerals.is_numeral text.now }
 {
     !text.is_empty() && is_all_digits(text)
 }
 
-/// Returns the number that digits mean, or `most` if it is greater.
+/// Returns the number that digits mean, or `most` if the number is greater. Returns `None` if the text isn't digits.
 fn magnitude(digits: &[u8], most: u32) -> Option<u32>
     ensures { result ≡ defined.magnitude most digits.now }
 {
@@ -65,7 +65,7 @@ fn magnitude(digits: &[u8], most: u32) -> Option<u32>
     }
 }
 
-/// Returns a number with a minus before it.
+/// Returns a number with a minus before it. Minus 0 is 0.
 fn negative(number: Option<u32>) -> Option<Integer>
     ensures { result ≡ option_map defined.negative number }
 {
@@ -86,7 +86,7 @@ fn at_least_zero(number: Option<u32>) -> Option<Integer>
     }
 }
 
-/// Returns the number of digits after a sign, or without one.
+/// Returns the number of digits that may have a sign before them.
 fn signed(text: &[u8], most: u32) -> Option<Integer>
     ensures { result ≡ defined.signed most text.now }
 {
@@ -98,8 +98,8 @@ fn signed(text: &[u8], most: u32) -> Option<Integer>
     }
 }
 
-/// Returns the number that a text says in decimal digits, with a sign and white space before it or without them, as C's
-/// strtol reads it; `most` if it is greater. An empty text is 0. None if the text is anything else.
+/// Returns the decimal number in a text, as C's strtol reads it: white space and a sign may come before the digits.
+/// Returns `most` if the number is greater, and 0 for an empty text. Returns `None` for any other text.
 pub fn integer_in(text: &[u8], most: u32) -> Option<Integer>
     ensures { result ≡ defined.integer_in most text.now }
 {

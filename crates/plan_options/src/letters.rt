@@ -20,7 +20,7 @@ pub(crate) enum Letter {
     Unknown,
 }
 
-/// Returns the option that has a letter.
+/// Returns the option with a letter.
 pub(crate) fn letter_of(letter: u8) -> Letter
     ensures { result ≡ defined.letter_of letter }
 {
@@ -65,7 +65,8 @@ pub(crate) fn copied(alloc: Global, bytes: &[u8]) -> Result<Items<u8>, Memory>
     Ok(Items::new(Vec::from_slice(alloc, bytes)?))
 }
 
-/// Appends the argument of an option with a value, if letters after it are its value, and returns what comes after them.
+/// Reads the letters after an option with a value. If there are any, they are its value, and its argument is appended.
+/// Returns the kind of the next word.
 fn read_joined(
     alloc: Global,
     setting: Setting,
@@ -83,7 +84,7 @@ fn read_joined(
     }
 }
 
-/// Appends the arguments of letters, and returns what comes after them.
+/// Appends the arguments of letters, and returns the kind of the next word.
 pub(crate) fn read_letters(
     alloc: Global,
     letters: &[u8],

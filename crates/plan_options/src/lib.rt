@@ -1,14 +1,14 @@
-//! The words of ninja's command line.
+//! Reads ninja's command line.
 //!
-//! - `CommandLine`: the options, targets and words of a tool that a command line consists of, in their order, as
-//!   ninja's getopt_long reads them; and what they say together.
-//! - `Argument`: one of them. `Flag` and `Setting` are the options without and with a value, and `Misuse` says why a
-//!   word isn't understood.
-//! - `Stop`: why ninja ends at an argument, before it does anything else.
-//! - `integer_in`: the number that a value says.
-//! - `option_letters`, `operands`: the options and the other words among a tool's.
+//! - `CommandLine`: the options, the targets and the words of a tool in a command line, in their order, as ninja's
+//!   getopt_long reads them, and their meaning together.
+//! - `Argument`: one of them. `Flag` and `Setting` are the options without and with a value, and `Misuse` is the reason
+//!   why a word isn't understood.
+//! - `Stop`: the reason why ninja ends at an argument before it does anything else.
+//! - `integer_in`: reads the number in a value.
+//! - `option_letters`, `operands`: return the options and the other words among a tool's words.
 //!
-//! The options are those of ninja 1.11 (`ninja -h`); the Ninja manual's section "Running Ninja" names some of them.
+//! The options are those of ninja 1.11 (`ninja -h`). The Ninja manual's section "Running Ninja" names some of them.
 #![tactic(auto)]
 
 mod argument;

@@ -10,7 +10,7 @@ use crate::letters::copied;
 use plan_text::Memory;
 use std::alloc::Global;
 
-/// The options that have a long name, in the order of ninja's table; `--about` is this program's own.
+/// The options that have a long name, in the order of ninja's table. `--about` is this program's own.
 const NAMED: [Flag; 5] = [
     Flag::Help,
     Flag::Version,
@@ -19,7 +19,7 @@ const NAMED: [Flag; 5] = [
     Flag::About,
 ];
 
-/// Returns the long name of an option, without the hyphens; it is empty if there is none.
+/// Returns the long name of an option without the hyphens. It is empty if the option has none.
 pub fn name_of(flag: Flag) -> &'static [u8]
     ensures { result.now ≡ defined.name_of flag }
 {
@@ -33,9 +33,10 @@ pub fn name_of(flag: Flag) -> &'static [u8]
     }
 }
 
-/// Returns the options whose long name begins with this text.
+/// Returns the options whose long names begin with this text.
 ///
 /// # Errors
+///
 /// `Memory` if memory runs out.
 pub fn flags_named(alloc: Global, front: &[u8]) -> Result<Vec<Flag>, Memory>
     ensures { IfOk result (λ flags. flags.items ≡ defined.flags_named front.now) }
@@ -49,7 +50,7 @@ pub fn flags_named(alloc: Global, front: &[u8]) -> Result<Vec<Flag>, Memory>
     Ok(found)
 }
 
-/// Returns how many bytes of a long option come before a `=`.
+/// Returns the number of bytes of a long option before a `=`.
 fn name_len(option: &[u8]) -> usize
     ensures len { result ≡ prefix_len defined.is_in_name option.now }
     ensures within { result ≤ length option.now }
@@ -64,7 +65,7 @@ fn name_in(option: &[u8]) -> &[u8]
     &option[..name_len(option)]
 }
 
-/// Returns the rest of a long option: `=` and a value, if it gives one.
+/// Returns the rest of a long option: `=` and a value, or an empty text if it gives none.
 fn value_in(option: &[u8]) -> &[u8]
     ensures { result.now ≡ defined.value_in option.now }
 {
@@ -81,15 +82,16 @@ fn past_hyphens(word: &[u8]) -> &[u8]
     }
 }
 
-/// Returns the name in a word that begins with two hyphens: what comes after these, up to a `=`. Another word has an empty
-/// name.
+/// Returns the name in a word that begins with two hyphens: the bytes after them, up to a `=`. Any other word has an
+/// empty name.
 pub fn long_name_in(word: &[u8]) -> &[u8]
     ensures { result.now ≡ defined.name_in (drop 2 word.now) }
 {
     name_in(past_hyphens(word))
 }
 
-/// Returns the argument of a word that names an option, and then says this behind the name.
+/// Returns the argument of a word that names an option without a value. `value` is the text after the name. If it isn't
+/// empty, the word is misused.
 fn without_value(flag: Flag, value: &[u8]) -> Argument
     ensures { result ≡ reading.without_value flag value.now }
 {
@@ -99,7 +101,7 @@ fn without_value(flag: Flag, value: &[u8]) -> Argument
     }
 }
 
-/// Returns the argument of a word that these options may be meant by, and that says this behind the name.
+/// Returns the argument of a word whose name may mean these options. `value` is the text after the name.
 fn only(alloc: Global, flags: &[Flag], word: &[u8], value: &[u8]) -> Result<Argument, Memory>
     ensures { IfOk result (λ a. a ≡ reading.only flags.now word.now value.now) }
 {

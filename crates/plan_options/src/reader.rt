@@ -1,4 +1,4 @@
-//! Words are read one after another.
+//! Reads words one after another.
 
 ghost use Rattle.std.specs.Prelude.{◌≡◌, ◌++◌, ◌∷◌, [], IfOk, OnOk, drop, map};
 ghost use Rattle.plan_options.specs.Reading as defined;
@@ -11,7 +11,7 @@ use crate::long_option::long_argument;
 use plan_text::Memory;
 use std::alloc::Global;
 
-/// Appends the argument of a word that begins with two hyphens, and returns what comes after it.
+/// Appends the argument of a word that begins with two hyphens, and returns the kind of the next word.
 fn read_long(alloc: Global, word: &[u8], read: &mut Vec<Argument>) -> Result<Expected, Memory>
     ensures read { IfOk result (λ e. (read.new.items ≡ read.old.items ++ defined.long_argument word.now ∷ []) × (e ≡ defined.after (defined.long_argument word.now))) }
 {
@@ -31,7 +31,7 @@ pub(crate) fn past_hyphen(word: &[u8]) -> &[u8]
     }
 }
 
-/// Appends the arguments of a word that is an option or a target, and returns what comes after it.
+/// Appends the arguments of a word that is an option or a target, and returns the kind of the next word.
 fn read_any(alloc: Global, word: &[u8], read: &mut Vec<Argument>) -> Result<Expected, Memory>
     ensures read { IfOk result (λ e. (read.new.items ≡ read.old.items ++ defined.of_form (defined.form_of word.now) word.now) × (e ≡ defined.after_form (defined.form_of word.now) word.now)) }
 {
@@ -46,7 +46,7 @@ fn read_any(alloc: Global, word: &[u8], read: &mut Vec<Argument>) -> Result<Expe
     }
 }
 
-/// Appends the arguments of the next word, and returns what comes after it.
+/// Appends the arguments of a word of this kind, and returns the kind of the next word.
 fn read_word(
     alloc: Global,
     expected: Expected,
@@ -73,7 +73,7 @@ fn read_word(
     }
 }
 
-/// Appends that the value of an option is missing, if it is still expected.
+/// Appends a misuse if the value of an option is still expected at the end.
 fn read_end(expected: Expected, read: &mut Vec<Argument>) -> Result<(), Memory>
     ensures read { OnOk result (read.new.items ≡ read.old.items ++ defined.at_end expected) }
 {
@@ -86,7 +86,7 @@ fn read_end(expected: Expected, read: &mut Vec<Argument>) -> Result<(), Memory>
     }
 }
 
-/// Returns the arguments that words are.
+/// Returns the arguments in words.
 pub(crate) fn arguments(alloc: Global, words: &[&[u8]]) -> Result<Vec<Argument>, Memory>
     ensures { IfOk result (λ read. read.items ≡ defined.reading (map (λ w. w.now) words.now)) }
 {

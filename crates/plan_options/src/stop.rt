@@ -8,28 +8,28 @@ ghost use Rattle.plan_options.specs.Stops as defined;
 use crate::argument::{Argument, Flag, Setting};
 use crate::integer::{Integer, integer_in, past_white};
 
-/// Why ninja ends at an argument.
+/// The reason why ninja ends at an argument.
 #[derive(Clone, Copy, Debug, PartialEq, Eq)]
 pub enum Stop {
-    /// The version is asked for.
+    /// The version is requested.
     Version,
-    /// The options are asked for.
+    /// The list of options is requested.
     Help,
-    /// What this program is is asked for.
+    /// The description of this program is requested.
     About,
     /// A word isn't understood.
     Misuse,
-    /// `-j` has no number, or one below 0.
+    /// The value of `-j` isn't a number, or is below 0.
     InvalidJobs,
-    /// `-k` has no number.
+    /// The value of `-k` isn't a number.
     InvalidFailures,
-    /// `-l` has no number.
+    /// The value of `-l` isn't a number.
     InvalidLoad,
-    /// The debugging modes are asked for.
+    /// The list of debugging modes is requested.
     ModeList,
     /// There is no such debugging mode.
     UnknownMode,
-    /// The warnings are asked for.
+    /// The list of warnings is requested.
     WarningList,
     /// There is no such warning.
     UnknownWarning,
@@ -44,7 +44,7 @@ const MODES: [&[u8]; 5] = [
     b"nostatcache",
 ];
 
-/// The warnings of ninja 1.11, with how each is treated.
+/// The warnings of ninja 1.11, each with its treatment.
 const WARNINGS: [&[u8]; 6] = [
     b"dupbuild=err",
     b"dupbuild=warn",
@@ -54,7 +54,7 @@ const WARNINGS: [&[u8]; 6] = [
     b"depfilemulti=warn",
 ];
 
-/// Whether a text is one of these.
+/// Checks whether a text is one of these.
 fn is_one_of(text: &[u8], names: &[&[u8]]) -> bool
     ensures { result ≡ defined.is_one_of text.now (map (λ n. n.now) names.now) }
 {
@@ -66,7 +66,7 @@ fn is_one_of(text: &[u8], names: &[&[u8]]) -> bool
     false
 }
 
-/// Whether a byte is a digit.
+/// Checks whether a byte is a digit.
 fn is_digit(b: u8) -> bool
     ensures { result ≡ is_digit b }
 {
@@ -83,7 +83,7 @@ fn past_sign(text: &[u8]) -> &[u8]
     }
 }
 
-/// Whether a text begins with a digit.
+/// Checks whether a text begins with a digit.
 fn begins_with_digit(text: &[u8]) -> bool
     ensures { result ≡ defined.begins_with_digit text.now }
 {
@@ -93,7 +93,7 @@ fn begins_with_digit(text: &[u8]) -> bool
     }
 }
 
-/// Whether a text begins with a digit, or with a point and a digit.
+/// Checks whether a text begins with a digit, or with a point and a digit.
 fn begins_with_decimal(text: &[u8]) -> bool
     ensures { result ≡ defined.begins_with_decimal text.now }
 {
@@ -103,7 +103,7 @@ fn begins_with_decimal(text: &[u8]) -> bool
     }
 }
 
-/// Returns why ninja ends at a flag.
+/// Returns the reason why ninja ends at a flag, or `None` if it goes on.
 fn stop_of_flag(flag: Flag) -> Option<Stop>
     ensures { result ≡ defined.stop_of_flag flag }
 {
@@ -117,7 +117,7 @@ fn stop_of_flag(flag: Flag) -> Option<Stop>
     }
 }
 
-/// Returns why ninja ends at a value of `-j`.
+/// Returns the reason why ninja ends at a value of `-j`, or `None` if it goes on.
 fn stop_of_jobs(value: &[u8]) -> Option<Stop>
     ensures { result ≡ defined.stop_of_jobs (integer_in 64 value.now) }
 {
@@ -127,7 +127,7 @@ fn stop_of_jobs(value: &[u8]) -> Option<Stop>
     }
 }
 
-/// Returns why ninja ends at a value of `-k`.
+/// Returns the reason why ninja ends at a value of `-k`, or `None` if it goes on.
 fn stop_of_failures(value: &[u8]) -> Option<Stop>
     ensures { result ≡ defined.stop_of_failures (integer_in 64 value.now) }
 {
@@ -137,7 +137,7 @@ fn stop_of_failures(value: &[u8]) -> Option<Stop>
     }
 }
 
-/// Returns why ninja ends at a value of `-l`.
+/// Returns the reason why ninja ends at a value of `-l`, or `None` if it goes on.
 fn stop_of_load(value: &[u8]) -> Option<Stop>
     ensures { result ≡ defined.stop_of_load value.now }
 {
@@ -148,7 +148,7 @@ fn stop_of_load(value: &[u8]) -> Option<Stop>
     }
 }
 
-/// Returns why ninja ends at a value of `-d`.
+/// Returns the reason why ninja ends at a value of `-d`, or `None` if it goes on.
 fn stop_of_mode(value: &[u8]) -> Option<Stop>
     ensures { result ≡ defined.stop_of_mode value.now }
 {
@@ -162,7 +162,7 @@ fn stop_of_mode(value: &[u8]) -> Option<Stop>
     }
 }
 
-/// Returns why ninja ends at a value of `-w`.
+/// Returns the reason why ninja ends at a value of `-w`, or `None` if it goes on.
 fn stop_of_warning(value: &[u8]) -> Option<Stop>
     ensures { result ≡ defined.stop_of_warning value.now }
 {
@@ -176,7 +176,7 @@ fn stop_of_warning(value: &[u8]) -> Option<Stop>
     }
 }
 
-/// Returns why ninja ends at an option with a value.
+/// Returns the reason why ninja ends at an option with a value, or `None` if it goes on.
 fn stop_of_setting(setting: Setting, value: &[u8]) -> Option<Stop>
     ensures { result ≡ defined.stop_of_setting setting value.now }
 {
@@ -192,7 +192,7 @@ fn stop_of_setting(setting: Setting, value: &[u8]) -> Option<Stop>
     }
 }
 
-/// Returns why ninja ends at an argument. None if it goes on.
+/// Returns the reason why ninja ends at an argument, or `None` if it goes on.
 pub fn stop_of(argument: &Argument) -> Option<Stop>
     ensures { result ≡ defined.stop_of argument.now }
 {

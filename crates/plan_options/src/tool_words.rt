@@ -8,9 +8,10 @@ use crate::reader::past_hyphen;
 use plan_text::Memory;
 use std::alloc::Global;
 
-/// Returns the letters of the options among the words of a tool, in their order. A word of two hyphens ends them.
+/// Returns the letters of the options among the words of a tool, in their order. The word `--` ends the options.
 ///
 /// # Errors
+///
 /// `Memory` if memory runs out.
 pub fn option_letters(alloc: Global, words: &[&[u8]]) -> Result<Vec<u8>, Memory>
     ensures { IfOk result (λ letters. letters.items ≡ defined.option_letters (map (λ w. w.now) words.now)) }
@@ -26,9 +27,10 @@ pub fn option_letters(alloc: Global, words: &[&[u8]]) -> Result<Vec<u8>, Memory>
     Ok(letters)
 }
 
-/// Returns those words of a tool that are no options, in their order.
+/// Returns the words of a tool that aren't options, in their order.
 ///
 /// # Errors
+///
 /// `Memory` if memory runs out.
 pub fn operands<'a>(alloc: Global, words: &[&'a [u8]]) -> Result<Vec<&'a [u8]>, Memory>
     ensures { IfOk result (λ names. map (λ n. n.now) names.items ≡ defined.operands (map (λ w. w.now) words.now)) }
