@@ -1,8 +1,12 @@
--- Texts written one behind another. Serves src/parts.rt and src/targets.rt.
+-- Texts written one behind another. Serves src/json.rt, src/parts.rt and src/targets.rt.
 use Rattle.std.proofs.Common.{◌≡◌, ℕ, zero, suc, ◌+◌, ◌-◌, ◌<◌, true, false, List, [], ◌∷◌, ◌++◌, Option, length, get_or, drop, Bor, sym, ap, subst, ◌∙◌, append_assoc, append-nil, arith}
 use Rattle.std.proofs.lemmas.List.{drop_more}
+use Rattle.std.proofs.lemmas.List.Concat.{flat_map-append}
 use Rattle.plan_text.specs.Laws.{FailedWriteStays, WritesJoin}
 use Rattle.plan_text.specs.Sinks.{Writes}
+use Rattle.plan_scope.specs.Scopes.{Text}
+use Rattle.plan_scope.specs.TextLists.{whole}
+use Rattle.plan_tools.specs.Json.{json_byte, json_text}
 use Rattle.plan_tools.specs.Listings.{of_first}
 
 -- the bytes that are lent
@@ -49,3 +53,7 @@ behind_first each i n lt =
     let sum : (n - suc i) + suc i ≡ n = omega (arith, lt) in
     let h = more_first each (suc i) (n - suc i) in
     (h.0, h.1 ∙ ap (of_first each) sum)
+
+-- a text in JSON, part by part
+pub json_joined : (part : Text) (parts : List Text) → json_text (whole (part ∷ parts)) ≡ json_text part ++ json_text (whole parts)
+json_joined part parts = flat_map-append json_byte part (whole parts)

@@ -1,9 +1,15 @@
 -- The commands of edges, as `-t commands` lists them.
-use Rattle.std.specs.Prelude.{ℕ, [], Option, Some, None, slice_get, if◌then◌else◌}
+use Rattle.std.specs.Prelude.{ℕ, List, [], Option, Some, None, slice_get, if◌then◌else◌}
 use Rattle.plan_scope.specs.Scopes.{Text}
 use Rattle.plan_scope.specs.Edge.{Edge}
+use Rattle.plan_scope.specs.TextLists.{whole}
 use Rattle.plan_scope.specs.declared.manifest.Manifest.{Manifest}
 use Rattle.plan_tools.specs.Listings.{line}
+
+-- a text by its parts; empty if there is none
+abbrev pub text_or_none : Option (List Text) → Text
+text_or_none (Some parts) = whole parts
+text_or_none None = []
 
 -- the command of an edge; none of a phony, or if there is no edge
 abbrev pub command_in : Option Edge → Option Text

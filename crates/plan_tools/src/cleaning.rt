@@ -3,11 +3,12 @@
 ghost use Rattle.std.specs.Prelude.{◌≡◌, ◌++◌, IfOk, OnOk, Some, [], ◌∷◌, bytes_eq, filter, get_or, if◌then◌else◌, length, map, option_map, slice_get};
 ghost use Rattle.std.specs.List.{list_any};
 ghost use Rattle.plan_tools.specs.Cleaning as defined;
+ghost use Rattle.plan_tools.specs.Commands.{text_or_none};
 ghost use Rattle.plan_tools.specs.Listings.{path_at as path_of};
 
 use crate::targets::path_at;
 use plan_graph::Graph;
-use plan_scope::Manifest;
+use plan_scope::{EdgeText, Manifest};
 use plan_text::{Memory, RowList};
 use std::alloc::Global;
 
@@ -135,16 +136,6 @@ fn add_outputs(
     Ok(())
 }
 
-/// The depfile of an edge; empty if it has none, or there is no such edge.
-fn depfile_at(manifest: &Manifest, edge: usize) -> &[u8]
-    ensures { result.now ≡ defined.depfile_of (slice_get manifest.now.edges edge) }
-{
-    if edge >= manifest.edges.len() {
-        return &[];
-    }
-    manifest.edges.edge(edge).depfile()
-}
-
 /// Appends a path unless it is empty.
 fn add_path(path: &[u8], files: &mut RowList<u8>) -> Result<(), Memory>
     ensures { OnOk result (files.new ≡ files.old ++ defined.unless_empty path.now) }
@@ -156,8 +147,36 @@ fn add_path(path: &[u8], files: &mut RowList<u8>) -> Result<(), Memory>
     Ok(())
 }
 
+/// Returns the depfile of an edge; none if there is no such edge.
+fn depfile_at(manifest: &Manifest, edge: usize) -> Option<EdgeText<'_>>
+    ensures { text_or_none result ≡ defined.depfile_of (slice_get manifest.now.edges edge) }
+{
+    if edge >= manifest.edges.len() {
+        return None;
+    }
+    Some(manifest.edges.edge(edge).depfile())
+}
+
+/// Appends a text unless it is empty, or there is none.
+fn add_text(
+    alloc: Global,
+    text: &Option<EdgeText<'_>>,
+    files: &mut RowList<u8>,
+) -> Result<(), Memory>
+    ensures { OnOk result (files.new ≡ files.old ++ defined.unless_empty (text_or_none text.now)) }
+{
+    match text {
+        Some(text) => {
+            let joined = text.joined(alloc)?;
+            add_path(joined.as_slice(), files)
+        }
+        None => Ok(()),
+    }
+}
+
 /// Appends the files of an edge.
 fn add_files(
+    alloc: Global,
     manifest: &Manifest,
     graph: &Graph<'_>,
     counted: Option<&[bool]>,
@@ -167,7 +186,7 @@ fn add_files(
     ensures { OnOk result (files.new ≡ files.old ++ defined.files_of_edge manifest.now graph.now (option_map (λ c. c.now) counted.entry) edge) }
 {
     add_outputs(graph, counted, graph.outputs.row(edge as usize), files)?;
-    add_path(depfile_at(manifest, edge as usize), files)
+    add_text(alloc, &depfile_at(manifest, edge as usize), files)
 }
 
 /// Returns the outputs of some edges, those that count if that is told, and their depfiles.
@@ -185,7 +204,7 @@ pub fn files_of_edges(
 {
     let mut files = RowList::new(alloc);
     for edge in edges {
-        add_files(manifest, graph, counted, *edge, &mut files)?;
+        add_files(alloc, manifest, graph, counted, *edge, &mut files)?;
     }
     Ok(files)
 }

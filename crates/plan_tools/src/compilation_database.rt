@@ -2,6 +2,7 @@
 
 ghost use Rattle.std.specs.Prelude.{◌≡◌, ◌++◌, ◌<◌, IfOk, OnOk, codes, is_ok, length, map, slice_get};
 ghost use Rattle.plan_text.specs.Sinks.{Writes};
+ghost use Rattle.plan_tools.specs.Commands.{text_or_none};
 ghost use Rattle.plan_tools.specs.CompilationDatabase as defined;
 ghost use Rattle.plan_tools.specs.Inputs.{inputs_at};
 ghost use Rattle.plan_tools.specs.Listings.{of_first};
@@ -11,7 +12,7 @@ use crate::json::{Piece, write_pieces};
 use crate::roots::is_made_by;
 use crate::targets::path_at;
 use plan_graph::Graph;
-use plan_scope::Manifest;
+use plan_scope::{EdgeText, Manifest};
 use plan_text::{Memory, RowList, Sink, SinkFault, write_all, writes_join};
 use std::alloc::Global;
 
@@ -113,19 +114,19 @@ fn comma_before(number: usize) -> &'static [u8]
 fn write_object<'x, W: Sink>(
     front: &'x [u8],
     folder: &'x [u8],
-    command: &'x [u8],
+    command: &'x Option<EdgeText<'x>>,
     file: &'x [u8],
     output: &'x [u8],
     out: &mut W,
 ) -> Result<(), SinkFault>
-    ensures { Writes (is_ok result) (W.failures out.old, W.taken out.old) (W.failures out.new, W.taken out.new) (front.now ++ defined.object folder.now command.now file.now output.now) }
+    ensures { Writes (is_ok result) (W.failures out.old, W.taken out.old) (W.failures out.new, W.taken out.new) (front.now ++ defined.object folder.now (text_or_none command.now) file.now output.now) }
 {
     let pieces = [
         Piece::Plain(front),
         Piece::Plain(b"\n  {\n    \"directory\": \""),
         Piece::Json(folder),
         Piece::Plain(b"\",\n    \"command\": \""),
-        Piece::Json(command),
+        Piece::JsonText(command),
         Piece::Plain(b"\",\n    \"file\": \""),
         Piece::Json(file),
         Piece::Plain(b"\",\n    \"output\": \""),
@@ -151,7 +152,7 @@ fn write_listed<W: Sink>(
     write_object(
         comma_before(number),
         folder,
-        command_at(manifest, edge),
+        &command_at(manifest, edge),
         first_input_path(graph, edge),
         first_path(graph, graph.outputs.row(edge)),
         out,

@@ -3,9 +3,12 @@
 ghost use Rattle.std.specs.Prelude.{◌≡◌, ◌<◌, is_ok};
 ghost use Rattle.std.specs.List.{flat_map};
 ghost use Rattle.plan_text.specs.Sinks.{Writes};
+ghost use Rattle.plan_scope.specs.TextLists.{whole};
+ghost use Rattle.plan_tools.specs.Commands.{text_or_none};
 ghost use Rattle.plan_tools.specs.Json as defined;
 ghost use Rattle.plan_tools.specs.Pieces as pieces;
 
+use plan_scope::EdgeText;
 use plan_text::{Sink, SinkFault, write_all, writes_join};
 
 /// A digit of a number in base 16.
@@ -59,6 +62,30 @@ fn write_json_text<W: Sink>(text: &[u8], out: &mut W) -> Result<(), SinkFault>
     Ok(())
 }
 
+/// Writes a text of an edge as it stands between the quotes of a JSON string.
+fn write_json_parts<W: Sink>(text: &EdgeText<'_>, out: &mut W) -> Result<(), SinkFault>
+    ensures { Writes (is_ok result) (W.failures out.old, W.taken out.old) (W.failures out.new, W.taken out.new) (defined.json_text (whole text.now)) }
+{
+    writes_join();
+    for number in 0..text.len() {
+        match write_json_text(text.part(number), out) {
+            Ok(()) => {}
+            Err(fault) => return Err(fault),
+        }
+    }
+    Ok(())
+}
+
+/// Writes a text of an edge, if there is one.
+fn write_json_option<W: Sink>(text: &Option<EdgeText<'_>>, out: &mut W) -> Result<(), SinkFault>
+    ensures { Writes (is_ok result) (W.failures out.old, W.taken out.old) (W.failures out.new, W.taken out.new) (defined.json_text (text_or_none text.now)) }
+{
+    match text {
+        Some(text) => write_json_parts(text, out),
+        None => Ok(()),
+    }
+}
+
 /// A part of a JSON text.
 #[derive(Clone, Copy)]
 pub(crate) enum Piece<'a> {
@@ -66,6 +93,8 @@ pub(crate) enum Piece<'a> {
     Plain(&'a [u8]),
     /// It stands in a string.
     Json(&'a [u8]),
+    /// It stands in a string, if there is one.
+    JsonText(&'a Option<EdgeText<'a>>),
 }
 
 /// Writes a part of a JSON text.
@@ -75,6 +104,7 @@ fn write_piece<W: Sink>(piece: &Piece<'_>, out: &mut W) -> Result<(), SinkFault>
     match piece {
         Piece::Plain(text) => write_all(out, text),
         Piece::Json(text) => write_json_text(text, out),
+        Piece::JsonText(text) => write_json_option(text, out),
     }
 }
 

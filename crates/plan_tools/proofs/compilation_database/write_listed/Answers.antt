@@ -1,5 +1,6 @@
 use Rattle.std.proofs.Common.{◌≡◌, ◌++◌, ◌∙◌, List, Option, ℕ, ap, subst, is_ok, get_or, slice_get, []}
 use Rattle.plan_text.specs.Sinks.{Writes}
+use Rattle.plan_tools.specs.Commands.{text_or_none}
 use Rattle.plan_tools.specs.Inputs.{inputs_at}
 use Rattle.plan_tools.specs.CompilationDatabase.{command_of, comma_before, first_path, object}
 use Rattle.plan_tools.proofs.compilation_database.write_listed.Goals as goal
@@ -15,8 +16,8 @@ returns g c =
     let output : List ℕ = first_path graph (get_or graph.outputs edge []) in
     let file_is : c.first_input_path.result.now ≡ file = c.first_input_path.ensures in
     let output_is : c.first_path.result.now ≡ output = c.first_path.ensures ∙ ap (first_path graph) c.row.ensures in
-    let is : c.comma_before.result.now ++ object folder c.command_at.result.now c.first_input_path.result.now c.first_path.result.now ≡ front ++ object folder command file output =
-    ap (λ (t : List ℕ). t ++ object folder c.command_at.result.now c.first_input_path.result.now c.first_path.result.now) c.comma_before.ensures
+    let is : c.comma_before.result.now ++ object folder (text_or_none c.command_at.result) c.first_input_path.result.now c.first_path.result.now ≡ front ++ object folder command file output =
+    ap (λ (t : List ℕ). t ++ object folder (text_or_none c.command_at.result) c.first_input_path.result.now c.first_path.result.now) c.comma_before.ensures
     ∙ (ap (λ (t : List ℕ). front ++ object folder t c.first_input_path.result.now c.first_path.result.now) c.command_at.ensures
     ∙ (ap (λ (t : List ℕ). front ++ object folder command t c.first_path.result.now) file_is
     ∙ ap (λ (t : List ℕ). front ++ object folder command file t) output_is)) in
