@@ -1,9 +1,9 @@
--- Bytes that are held back. Serves src/buffer.rt.
+-- Lemmas about held bytes. Serves src/buffer.rt.
 use Rattle.std.proofs.Common.{◌+◌, ◌≤◌, ℕ, List, ◌++◌, Option, Some, None, length, take, drop, ap, sym, subst, ◌∙◌, ◌-◌, arith}
 use Rattle.std.specs.Io.KnownBytes.{Appends, Keeps, append_known}
 use Rattle.std.proofs.lemmas.List.{append_assoc, length-drop, take-append-drop, take_all, drop-drop}
 
--- what was taken of the held bytes is no longer held
+-- Held bytes that the sink took are no longer held.
 pub handed_on : (old new : Option (List ℕ)) (bytes : List ℕ) (start n : ℕ) → Appends old new (take n (drop start bytes))
     → Keeps (append_known old (drop start bytes)) (append_known new (drop (start + n) bytes))
 handed_on None new bytes start n h = tt
@@ -13,7 +13,7 @@ handed_on (Some xs) (Some ys) bytes start n h =
     ap (λ z. z ++ drop (start + n) bytes) h ∙ append_assoc xs (take n held) (drop (start + n) bytes)
     ∙ ap (λ z. xs ++ (take n held ++ z)) (sym (drop-drop n start bytes)) ∙ ap (λ z. xs ++ z) (take-append-drop n held)
 
--- the same of a slice to the end
+-- The same for a slice up to the end.
 pub rest_handed_on : (old new : Option (List ℕ)) (bytes : List ℕ) (start n : ℕ) → Appends old new (take n (take (length bytes - start) (drop start bytes)))
     → Keeps (append_known old (drop start bytes)) (append_known new (drop (start + n) bytes))
 rest_handed_on old new bytes start n h =

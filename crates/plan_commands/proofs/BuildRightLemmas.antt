@@ -1,4 +1,4 @@
--- What the end of a build means. Serves src/laws.rt.
+-- Lemmas about the end of a build. Serves src/laws.rt.
 use Rattle.std.proofs.Common.{◌≡◌, ◌∙◌, ℕ, Bool, true, false, List, [], Some, refl, sym, ap, subst}
 use Rattle.std.specs.Prelude.{slice_get}
 use Rattle.plan_image.specs.declared.image.Parts.{Parts}
@@ -26,7 +26,7 @@ use Rattle.plan_commands.specs.declared.building.Done.TheVariants as done
 use Rattle.plan_commands.specs.Building.{EndsAs, HasRunNothing, exit_status, opened, outcome_in}
 use Rattle.plan_commands.specs.BuildIsRight.{BuildIsRight, IdleBuildsRunNothing}
 
--- status 0 is given only if all that was wanted succeeded
+-- Status 0 is given only if all wanted edges succeeded.
 all_succeeded : (p : Parts) (r : Report) (d : Done) → exit_status d ≡ 0 → EndsAs p r d → all_done p r.state.going.now ≡ true
 all_succeeded p r done.Built zero ends = ends.0
 all_succeeded p r done.UpToDate zero ends = ends.0
@@ -34,7 +34,7 @@ all_succeeded p r done.Failed zero ends = absurd cc
 all_succeeded p r done.ManifestFails zero ends = absurd ends
 all_succeeded p r done.NeverSettles zero ends = absurd ends
 
--- the tables of a run, if they are a manifest's image
+-- The tables of a run, if they are the image of a manifest.
 run_is_right : (rule : Rule) → FinishedRunsAreRight rule → (m : Manifest) (g : Graph) → IsSound m → IsGraph m g → (limits : Limits) (edges : List ℕ) (r : Report) (p : Parts) → p ≡ compiled Stricter m g
     → (run : IsRunOf rule (opened p limits edges) r) → all_done p r.state.going.now ≡ true → AllIsBuilt rule Stricter m g edges r run.left
 run_is_right rule right m g sound graph limits edges r p same =
@@ -45,7 +45,7 @@ build_is_right gives rule right a old new d zero b =
     run_is_right rule right b.read.manifest b.read.image.graph b.read.image.sound b.read.image.is_graph a.limits b.edges b.report b.parts b.read.image.same b.run.run
     (all_succeeded b.parts b.report d zero b.ends)
 
--- an edge that succeeded in a run in which no command ran asked for none
+-- An edge that succeeded in a run in which no command ran asked for no command.
 asked_for_none : (r : Report) (e : ℕ) → HasRunNothing r → CommandsRunOnce → (phony : Bool) (meaning : Meaning) (c : Command) (conversation : List Exchange) (ran : Bool) (left : Left)
     → slice_get r.state.going.now.edges e ≡ Some (Over (ended ran)) → Succeeds phony meaning c ran conversation left → commands_in conversation ≡ []
 asked_for_none r e nothing once phony meaning c conversation true left is succeeds = absurd (nothing e (ap outcome_at is))

@@ -1,4 +1,4 @@
--- What a build comes to. Serves src/building.rt.
+-- Lemmas about the results of builds. Serves src/building.rt.
 use Rattle.std.proofs.Common.{◌≡◌, ◌⊎◌, ◌∙◌, ℕ, suc, ◌+◌, ◌<◌, ◌≤◌, true, false, List, [], ◌∷◌, Option, Some, None, Result, Ok, Err, IfOk, IfErr, IfSome, IfNone, OnOk, inl, inr, refl, sym, ap, subst, arith, length, get_or}
 use Rattle.std.specs.Prelude.{slice_get}
 use Rattle.std.proofs.lemmas.Bool.{cases_order}
@@ -39,7 +39,7 @@ use Rattle.plan_commands.proofs.TargetLemmas.{all_inside}
 -- ---- the manifest is read
 
 module _ (g h : FileContents) (m n : PathSet) (gh : (p : Text) (bytes : Option (List ℕ)) → g p bytes → h p bytes) (mn : (p : Text) → m p → n p) where
-  -- what may be loaded if files may hold more, and more may be missing
+  -- A possible result of loading stays possible if files may hold more, and more files may be missing.
   loads_wider : (left : ℕ) (job : Job) (above : List TreeStatement) (out : Outcome) → MayLoad g m left job above out → MayLoad h n left job above out
   loads_wider left job above out (is_missing l path scopes a miss) = is_missing l path scopes a (mn path miss)
   loads_wider left job above out (has_fault l path scopes a bytes fault given faulty) = has_fault l path scopes a bytes fault (gh path (Some bytes) given) faulty
@@ -52,7 +52,7 @@ module _ (g h : FileContents) (m n : PathSet) (gh : (p : Text) (bytes : Option (
   loads_wider left job above out (includes_fault l path scopes a s more inner fault fine names inside) =
       includes_fault l path scopes a s more inner fault fine names (loads_wider l _ a (Err fault) inside)
 
-  -- a refusal by what may be loaded
+  -- A possible refusal stays possible too.
   refused_wider : (path : Text) (fault : PlanFault) → IsRefused (LoadsFirst g m) path fault → IsRefused (LoadsFirst h n) path fault
   refused_wider path fault (inl r) = inl (record { lines = r.lines; cause = r.cause; loaded = loads_wider more_files _ [] _ r.loaded; means = r.means; says = r.says })
   refused_wider path fault (inr (inl r)) = inr (inl (record { cause = r.cause; loaded = loads_wider more_files _ [] _ r.loaded; says = r.says }))
@@ -66,10 +66,9 @@ module _ (g h : FileContents) (m n : PathSet) (gh : (p : Text) (bytes : Option (
   compiled_wider path fault (inr (inr r)) = inr (inr r)
 
   not_read_wider : (path : Text) (fault : PlanFault) → IsNotRead g m path fault → IsNotRead h n path fault
-  not_read_wider path fault (inl r) = inl (compiled_wider path fault r)
-  not_read_wider path fault (inr r) = inr r
+  not_read_wider = compiled_wider
 
--- all lines are loaded only if no file is missing
+-- All lines are loaded only if no file is missing.
 loads_there : (g : FileContents) (m : PathSet) (left : ℕ) (job : Job) (above : List TreeStatement) (out : Outcome) (lines : List TreeStatement) → out ≡ Ok lines → MayLoad g m left job above out
     → MayLoad g Nowhere left job above out
 loads_there g m left job above out lines is (is_missing l path scopes a miss) = absurd cc
@@ -82,7 +81,7 @@ loads_there g m left job above out lines is (includes_file l path scopes a s mor
     includes_file l path scopes a s more inner within o fine names (loads_there g m l _ a (Ok within) within refl inside) (loads_there g m (suc l) _ within o lines is rest)
 loads_there g m left job above out lines is (includes_fault l path scopes a s more inner fault fine names inside) = absurd cc
 
--- the image of a manifest that may be loaded is read
+-- The image of a manifest that may be loaded is read.
 pub read_of : (g : FileContents) (f : PathSet) (b c : ℕ) (path : Text) (manifest : Manifest) (result : Result Parts PlanFault) → IsMeant (loading_by g f b c) path manifest
     → IfOk result (λ p. IsImageOf Stricter manifest p) → IfOk result (λ p. IsRead g path p)
 read_of g f b c path manifest (Ok p) m image =
@@ -110,7 +109,7 @@ stopped_run rule o (Err (lanes.NoLane r)) stop old new fault inside run ended re
 stopped_run rule o (Err (lanes.OtherBoard r)) stop old new fault inside run ended reports printed none lost =
     inr (r, inl (record { run = reports; stop = stop; printed = printed; stopped = lanes.OtherBoard r; reports = refl; says = lost }))
 
--- why a run has no report, if its clauses hold
+-- The reason why a run has no report, from its clauses.
 pub not_run : (rule : Rule) (o : Opened) (ran : Result Report LaneFault) (stop : Option PrintFault) (old new : SinkState) (result : Result Report PlanFault) → any_outside o.parts o.targets ≡ false
     → IfOk ran (λ r. IsRunOf rule o r) → IfOk ran (λ r. has_ended r.state.going.now ≡ true) → IfErr ran (λ f. FaultReports rule o f)
     → IfSome (report_in ran) (λ r. Prints (lines_in o.parts r) stop old new) → IfNone (report_in ran) (new ≡ old)
@@ -130,7 +129,7 @@ maker_inside p path e is = all_inside p (path ∷ []) (e ∷ []) (rw (target_of_
 pub maker_is : (p q : Parts) (path : Text) (m : ℕ) (o : Option ℕ) → q ≡ p → ◌≡◌ {A = Option ℕ} o (Some m) → ◌≡◌ {A = Option ℕ} o (maker_of q path) → ◌≡◌ {A = Option ℕ} (Some m) (maker_of p path)
 maker_is p q path m o same is by = sym is ∙ by ∙ ap (λ (x : Parts). maker_of x path) same
 
--- what a round did, by the run of the maker
+-- How a round goes, from the run of the maker.
 pub round_by : (gives : FileContents) (rule : Rule) (a : Asked) (p : Parts) (maker : ℕ) (r : Report) (old new : SinkState) (x : Round) → IsRead gives a.path p → Some maker ≡ maker_of p a.path
     → EndsPrinted rule (opened p a.limits (maker ∷ [])) r old new → IsRoundOf p maker r x → EndsRound gives rule a old new x
 round_by gives rule a p maker r old new (round.UpToDate q) read makes run is =
@@ -139,7 +138,7 @@ round_by gives rule a p maker r old new (round.UpToDate q) read makes run is =
 round_by gives rule a p maker r old new round.Remade read makes run is = record { parts = p; read = read; maker = maker; makes = sym makes; report = r; run = run; well = is.0; ran = is.1 }
 round_by gives rule a p maker r old new round.Failed read makes run is = record { parts = p; read = read; maker = maker; makes = sym makes; report = r; run = run; ill = is }
 
--- why a round stops, by the run of the maker
+-- The reason why a round stops, from the run of the maker.
 pub maker_stops : (gives : FileContents) (missing : PathSet) (rule : Rule) (a : Asked) (p : Parts) (maker : ℕ) (old new : SinkState) (fault : PlanFault) → IsRead gives a.path p → Some maker ≡ maker_of p a.path
     → IsNotRun rule (opened p a.limits (maker ∷ [])) old new fault → RoundStops gives missing rule a old new fault
 maker_stops gives missing rule a p maker old new fault read makes (inl x) = inl (x.0, inr (inr x.1))
@@ -163,7 +162,7 @@ module _ (g h : FileContents) (gh : (p : Text) (bytes : Option (List ℕ)) → g
 
 -- ---- facts on the way
 
--- a sink that came back as it was has the same counts
+-- A sink that is returned unchanged has the same counts.
 pub same_if_none : {A : Type 0} (P Q : Type 0) (o : Option A) → (P → Q) → IfNone o P → IfNone o Q
 same_if_none P Q None f p = f p
 same_if_none P Q (Some x) f p = tt
@@ -185,7 +184,7 @@ same_targets p q names edges same is = ap (λ (x : Parts). targets x names) (sym
 
 -- ---- how a build ends
 
--- no edge with a number below this ran its command
+-- No edge with a number below this ran its command.
 abbrev pub HasRunNoneBelow : Report → ℕ → Type 0
 HasRunNoneBelow r n = (e : ℕ) → e < n → outcome_in r e ≡ Some Ran → ⊥
 
@@ -223,7 +222,7 @@ targets_run rule a p q edges given ran r old new d same is as' ok run ended =
       ends = ended;
     }
 
--- no edge makes a target, or memory ran out
+-- No edge makes a target, or memory ran out.
 pub unknown_target : (a : Asked) (rule : Rule) (p q : Parts) (s : SinkState) (memory fault : PlanFault) → q ≡ p → (fault ≡ memory) ⊎ (targets q a.names ≡ Err fault) → ((fault ≡ memory) → LacksMemory fault)
     → TargetsStop rule a p s s fault
 unknown_target a rule p q s memory fault same (inl is) lacks = inl (refl, inr (lacks is))
@@ -237,7 +236,7 @@ targets_stop rule a p q edges given old new fault same is as' (inr x) =
 
 -- ---- rounds
 
--- n rounds went by, and what files may hold is what they might at first
+-- The given number of rounds were done, and the files may hold the same as before them.
 pub record AreRounds (g h : FileContents) (f k : PathSet) (b c : ℕ) (rule : Rule) (a : Asked) (n : ℕ) (old new : SinkState) : Type 0 where
   pub same : SameFiles h k g f
   pub count : c ≡ b

@@ -1,4 +1,4 @@
--- Two traces that were compared, and why others weren't.
+-- Lemmas about two traces that were compared, and about the reasons why others weren't.
 use Rattle.std.proofs.Common.{◌≡◌, ◌⊎◌, ℕ, Bool, true, List, Result, Ok, Err, subst, inl, inr}
 use Rattle.std.specs.Prelude.{IfErr}
 use Rattle.plan_scope.specs.Scopes.{Text}

@@ -1,4 +1,4 @@
--- What a dry build comes to. Serves src/dry.rt.
+-- Lemmas about the results of dry builds. Serves src/dry.rt.
 use Rattle.std.proofs.Common.{◌≡◌, Result, Ok, Err, IfOk, IfErr, inl, inr}
 use Rattle.plan_scope.specs.Loading.{FileContents, PathSet}
 use Rattle.plan_image.specs.declared.image.Parts.{Parts}
@@ -22,7 +22,7 @@ module _ (gives : FileContents) (rule : Rule) (a : Asked) (p : Parts) (old middl
   previews done.ManifestFails run = absurd run.ends
   previews done.NeverSettles run = absurd run.ends
 
-  -- the run for the targets of a manifest that is up to date
+  -- The run for the targets of a manifest that is up to date.
   pub previewed : (result : Result Done PlanFault) → IfOk result (λ d. RunsTargets rule a p middle new d) → IfOk result (λ d. Previews gives rule a old new d)
   previewed (Ok d) run = previews d run
   previewed (Err fault) run = tt

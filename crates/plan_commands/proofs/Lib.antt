@@ -1,5 +1,6 @@
 pub mod Rows
 pub mod VerdictsLemmas
+mod MakerLemmas
 mod TargetLemmas
 mod RunningLemmas
 mod BufferLemmas

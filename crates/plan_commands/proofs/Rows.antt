@@ -1,5 +1,5 @@
--- Worked examples: how faults of graphs are printed, the edge that makes a manifest, how builds end, and what a dry build
--- takes for a reply.
+-- Worked examples: printed faults of graphs, the edge that makes a manifest, the ends of builds, and the replies that a
+-- dry build takes.
 use Rattle.std.proofs.Common.{◌≡◌, ℕ, List, [], ◌∷◌, None, Some, refl}
 use Rattle.std.specs.Prelude.{codes, false, map}
 use Rattle.plan_scope.specs.Edge.{Edge}
@@ -45,7 +45,7 @@ three = record {
   defaults = [];
 }
 
--- a fault of these edges, as it is printed
+-- A fault of these edges, as it is printed.
 abbrev said : GraphFault → PlanFault
 said fault = printed_graph_fault three fault
 
@@ -105,22 +105,22 @@ empty_path_has_no_maker = refl
 statuses : map exit_status (done.Built ∷ done.UpToDate ∷ done.Failed ∷ done.ManifestFails ∷ done.NeverSettles ∷ []) ≡ 0 ∷ 0 ∷ 1 ∷ 1 ∷ 1 ∷ []
 statuses = refl
 
--- so many rounds as ninja's
+-- The largest number of rounds is the same as in ninja.
 hundred_rounds : most_rounds ≡ 100
 hundred_rounds = refl
 
 -- ---- dry builds
 
-dry_command_ends_well : (rule : Rule) (command : List ℕ) (outputs : List (List ℕ)) → dry_rule rule 7 (Run command outputs) (reply.Exit 0)
-dry_command_ends_well rule command outputs = refl
+dry_command_ends_well : (allowed : Rule) (command : List ℕ) (outputs : List (List ℕ)) → dry_rule allowed 7 (Run command outputs) (reply.Exit 0)
+dry_command_ends_well allowed command outputs = refl
 
--- a reply of the world is none to a command of a dry build
-dry_command_is_not_run : (rule : Rule) (command : List ℕ) (outputs : List (List ℕ)) → dry_rule rule 7 (Run command outputs) (reply.Exit 1) → ⊥
-dry_command_is_not_run rule command outputs is = cc
+-- A dry build doesn't take a reply of the world for a command.
+dry_command_is_not_run : (allowed : Rule) (command : List ℕ) (outputs : List (List ℕ)) → dry_rule allowed 7 (Run command outputs) (reply.Exit 1) → ⊥
+dry_command_is_not_run allowed command outputs is = cc
 
-dry_entry_is_kept : (rule : Rule) (output command : List ℕ) → dry_rule rule 9 (Keep output command 5 []) reply.Kept
-dry_entry_is_kept rule output command = refl
+dry_entry_is_kept : (allowed : Rule) (output command : List ℕ) → dry_rule allowed 9 (Keep output command 5 []) reply.Kept
+dry_entry_is_kept allowed output command = refl
 
--- files are asked by the rule of the world
-dry_stamp : (rule : Rule) (path : List ℕ) → dry_rule rule 1 (Stat path) reply.Fault ≡ rule 1 (Stat path) reply.Fault
-dry_stamp rule path = refl
+-- Files are asked by the rule of the world.
+dry_stamp : (allowed : Rule) (path : List ℕ) → dry_rule allowed 1 (Stat path) reply.Fault ≡ allowed 1 (Stat path) reply.Fault
+dry_stamp allowed path = refl

@@ -1,4 +1,4 @@
--- What a run that is told comes to. Serves src/running.rt.
+-- Lemmas about the results of runs. Serves src/running.rt.
 use Rattle.std.proofs.Common.{◌≡◌, ◌⊎◌, ◌∙◌, ℕ, Bool, true, List, Option, Some, None, Result, Ok, Err, IfOk, IfErr, IfSome, IfNone, inl, inr, false, refl, sym, ap, subst}
 use Rattle.plan_image.specs.declared.image.Parts.{Parts}
 use Rattle.plan_verify.specs.WellShaped.{IsWellShaped}
@@ -20,10 +20,10 @@ use Rattle.plan_commands.specs.declared.fault.PlanFault.{PlanFault}
 use Rattle.plan_commands.specs.Faults.{no_memory}
 use Rattle.plan_commands.specs.Images.{IsImageAt, SinkState}
 use Rattle.plan_commands.specs.Targets.{targets}
-use Rattle.plan_commands.specs.Running.{FailsToRun, IsNotBegun, IsOpened, IsUnknown, Runs, Tells, TellsAll, TellsSome, Traces, Wanted, WritesTrace, Written, both, lines_in, opening_memory, printed_lane_fault, report_in}
+use Rattle.plan_commands.specs.Running.{FailsToRun, IsKeptFor, IsNotBegun, IsOpened, IsUnknown, Runs, Tells, TellsAll, TellsSome, Traces, Wanted, WritesTrace, Written, both, lines_in, opening_memory, printed_lane_fault, report_in}
 use Rattle.plan_commands.proofs.TargetLemmas.{all_inside}
 
--- a run that has ended, was told and has its trace
+-- A run that has ended, was printed, and has its trace.
 whole_run : (gives : FileContents) (rule : Rule) (w : Wanted) (o : Opened) (r : Report) (old new : Written) (told : Result ℕ PlanFault) (written : Result Unit PlanFault)
     → IsOpened gives w o → IsRunOf rule o r → has_ended r.state.going.now ≡ true → Tells o.parts r old.0 new.0 told → WritesTrace w.trace o.limits o.targets r old.1 new.1 written
     → IfOk (both told written) (λ status. Runs gives rule w old new status)
@@ -42,7 +42,7 @@ run_done gives rule w o (Ok r) old new result is run ended tells err =
     (whole_run gives rule w o r old new tells.0 tells.1 is run ended tells.2 tells.3)
 run_done gives rule w o (Err f) old new result is run ended tells err = subst (λ (t : Result ℕ PlanFault). IfOk t (λ status. Runs gives rule w old new status)) (sym err) tt
 
--- why a run gives no status, `same` being that nothing was printed or written
+-- The reasons why a run gives no status. `same` says that nothing was printed or written.
 abbrev pub IsRefusedRun : (same : Type 0) → FileContents → PathSet → Rule → Wanted → (old new : Written) → PlanFault → Type 0
 IsRefusedRun same gives missing rule w old new fault = (same × IsNotBegun gives missing w fault) ⊎ FailsToRun gives rule w old new fault
 
@@ -57,7 +57,7 @@ untold same gives missing rule w o r old new (Err fault) (Ok done) is run ended 
 untold same gives missing rule w o r old new (Err fault) (Err other) is run ended told written =
     inr (inr (inl (record { opened = o; is = is; report = r; fails = record { run = run; ended = ended; stop = told.0; printed = told.1; says = told.2 }; whole = false; traced = written.0 })))
 
--- lanes that stopped with a report
+-- Lanes stopped with a report.
 stopped_with : (same : Type 0) (gives : FileContents) (missing : PathSet) (rule : Rule) (w : Wanted) (o : Opened) (r : Report) (f : LaneFault) (old new : Written)
     → IsOpened gives w o → IsRunOf rule o r → report_of f ≡ Some r → TellsSome w.trace o.parts o.limits o.targets r old new
     → IsRefusedRun same gives missing rule w old new (printed_lane_fault f)
@@ -76,7 +76,7 @@ stopped_run same gives missing rule w o (lanes.NoMemory r) old new is reports no
 stopped_run same gives missing rule w o (lanes.NoLane r) old new is reports none some = stopped_with same gives missing rule w o r (lanes.NoLane r) old new is reports refl some
 stopped_run same gives missing rule w o (lanes.OtherBoard r) old new is reports none some = stopped_with same gives missing rule w o r (lanes.OtherBoard r) old new is reports refl some
 
--- no edge makes a target, or memory ran out
+-- No edge makes a target, or memory ran out.
 pub not_opened : (gives : FileContents) (path : Text) (names : List Text) (p q : Parts) (fault : PlanFault) → q ≡ p → IsImageAt gives path p × IsWellShaped p
     → (fault ≡ no_memory) ⊎ (targets q names ≡ Err fault) → IsUnknown gives path names fault ⊎ ((fault ≡ no_memory) ⊎ (fault ≡ opening_memory))
 not_opened gives path names p q fault same image (inl is) = inr (inl is)
@@ -125,7 +125,18 @@ pub told_none : (one other : Type 0) (ran : Result Report LaneFault) → IfNone 
 told_none one other (Ok r) x y = tt
 told_none one other (Err f) x y = none_of one other (report_of f) x y
 
--- targets that are equal
+-- ---- which events are kept
+
+-- A run without a trace needs none.
+pub nothing_kept : (o : Option Report) → IfSome o (λ r. IsKeptFor None r)
+nothing_kept None = tt
+nothing_kept (Some r) = tt
+
+-- What is kept of the report that was found.
+pub kept_of : (trace : Option Text) (o : Option Report) (r : Report) → IfSome o (λ r. IsKeptFor trace r) → Some r ≡ o → IsKeptFor trace r
+kept_of trace o r kept is = subst (λ (o : Option Report). IfSome o (λ r. IsKeptFor trace r)) (sym is) kept
+
+-- Equal lists of targets open the same run.
 pub with_targets : (gives : FileContents) (w : Wanted) (within : Limits) (p : Parts) (ts us : List ℕ) → us ≡ ts
     → IsOpened gives w (record { parts = p; limits = within; targets = ts }) → IsOpened gives w (record { parts = p; limits = within; targets = us })
 with_targets gives w within p ts us same is = subst (λ (vs : List ℕ). IsOpened gives w (record { parts = p; limits = within; targets = vs })) (sym same) is

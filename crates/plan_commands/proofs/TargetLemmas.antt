@@ -1,4 +1,4 @@
--- Names one by one: the edges of those in front, and what is said of the others.
+-- Lemmas about names, one by one: the edges of the names before, and the result for the remaining names.
 use Rattle.std.proofs.Common.{Bool, true, false, Option, Some, None, suc, subst, ◌≡◌, ◌⊎◌, inl, inr, ◌<◌, ◌+◌, ℕ, ◌++◌, ◌∷◌, [], List, length, get_or, drop, map, ap, refl, sym, ◌∙◌, append_assoc, arith, Result, Ok, Err, Bor}
 use Rattle.std.proofs.lemmas.Bool.{lt-leb}
 use Rattle.std.proofs.lemmas.List.{drop_more}
@@ -22,18 +22,18 @@ regroup : {B : Type 0} (front : List B) (y : B) (r : Result (List B) PlanFault) 
 regroup front y (Ok ys) = ap (λ (v : List _). Ok v) (append_assoc front (y ∷ []) ys)
 regroup front y (Err e) = refl
 
--- one more
+-- One more name has an edge.
 pub one_more : {A B : Type 0} (f : A → Result B PlanFault) (front : List B) (x : A) (xs : List A) (y : B) (all : Result (List B) PlanFault) → f x ≡ Ok y
     → in_front front (each f (x ∷ xs)) ≡ all → in_front (front ++ y ∷ []) (each f xs) ≡ all
 one_more f front x xs y all e so_far = regroup front y (each f xs) ∙ ap (λ r. in_front front (r >>= λ y. each f xs >>= λ ys. Ok (y ∷ ys))) (sym e) ∙ so_far
 
--- one that is refused
+-- One name is refused.
 pub one_refused : {A B : Type 0} (f : A → Result B PlanFault) (front : List B) (x : A) (xs : List A) (e memory : PlanFault) (all : Result (List B) PlanFault)
     → (e ≡ memory) ⊎ (f x ≡ Err e) → in_front front (each f (x ∷ xs)) ≡ all → (e ≡ memory) ⊎ (all ≡ Err e)
 one_refused f front x xs e memory all (inl is) so_far = inl is
 one_refused f front x xs e memory all (inr is) so_far = inr (sym so_far ∙ ap (λ r. in_front front (r >>= λ y. each f xs >>= λ ys. Ok (y ∷ ys))) is)
 
--- the texts from one on
+-- The names from an index on are the name at the index and the names after it.
 pub names_from : (ns : List (Bor (List ℕ))) (i : ℕ) (n : Bor (List ℕ)) → i < length ns → n ≡ get_or ns i n → map {B = List ℕ} (λ m. m.now) (drop i ns) ≡ n.now ∷ map (λ m. m.now) (drop (i + 1) ns)
 names_from ns i n h e = ap (map (λ m. m.now)) (drop_more ns i n h ∙ ap (λ (x : Bor (List ℕ)). x ∷ drop (i + 1) ns) (sym e))
 

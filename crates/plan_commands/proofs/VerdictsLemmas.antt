@@ -1,4 +1,4 @@
--- Why an image at a path is rejected.
+-- The reasons why an image at a path is rejected.
 use Rattle.std.proofs.Common.{◌≡◌, ◌⊎◌, inl, inr}
 use Rattle.plan_scope.specs.Scopes.{Text}
 use Rattle.plan_scope.specs.Loading.{FileContents, PathSet}
@@ -11,7 +11,7 @@ use Rattle.plan_commands.specs.Faults.{printed_verify_fault, no_memory}
 use Rattle.plan_commands.specs.Images.{IsImageAt}
 use Rattle.plan_commands.specs.Verdicts.{IsRejected}
 
--- by the verifier's fault, or for want of memory
+-- An image is rejected for the verifier's fault, or because memory ran out.
 pub rejected : (gives : FileContents) (missing : PathSet) (path : Text) (parts : Parts) (fault : VerifyFault) (printed : PlanFault) → IsImageAt gives path parts → IsVerifyFault parts fault
     → (printed ≡ printed_verify_fault fault) ⊎ (printed ≡ no_memory) → IsRejected gives missing path printed
 rejected gives missing path parts fault printed at bad (inr none) = inr (inr (inr none))

@@ -1,4 +1,4 @@
--- What the end of a build means for the edges of the manifest.
+-- Laws about the edges of a manifest when its build ends.
 use Rattle.std.specs.Prelude.{◌≡◌, ℕ, []}
 use Rattle.plan_scope.specs.Loading.{FileContents}
 use Rattle.plan_compile.specs.declared.baseline.OutOfDateRule.TheVariants.{Stricter}
@@ -10,15 +10,15 @@ use Rattle.plan_commands.specs.declared.building.Done.TheVariants as done
 use Rattle.plan_commands.specs.Images.{SinkState}
 use Rattle.plan_commands.specs.Building.{Asked, BuildsTargets, exit_status}
 
--- If a build ends with status 0, each wanted edge of the manifest that was read last is built by the run of its image: the
--- edge began after everything that it waits for had succeeded, and then it was clean by the stricter out-of-date rule, or
--- its own command ran to exit status 0. The world's rule allows each reply that says so.
+-- If a build ends with status 0, the run of the image builds each wanted edge of the manifest that was read last. The
+-- edge began after everything that it waits for had succeeded. Then it was clean by the stricter out-of-date rule, or
+-- its own command ran to exit status 0. The world's rule allows each of these replies.
 abbrev pub BuildIsRight : FileContents → Rule → Type 0
 BuildIsRight gives rule =
     (a : Asked) (old new : SinkState) (d : Done) → exit_status d ≡ 0 → (b : BuildsTargets gives rule a old new d)
     → AllIsBuilt rule Stricter b.read.manifest b.read.image.graph b.edges b.report b.run.run.left
 
--- If a build ends with no work to do, no edge that is built by the run asked for a command in it.
+-- If a build ends with no work to do, no edge that the run builds asked for a command in it.
 abbrev pub IdleBuildsRunNothing : FileContents → Rule → Type 0
 IdleBuildsRunNothing gives rule =
     (a : Asked) (old new : SinkState) (b : BuildsTargets gives rule a old new done.UpToDate) (e : ℕ)

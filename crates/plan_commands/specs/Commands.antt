@@ -1,4 +1,4 @@
--- What `commands FILE` does.
+-- The behavior of `commands FILE`.
 use Rattle.std.specs.Prelude.{◌≡◌, ◌⊎◌, ℕ, List, Option, None, Result, Ok, Err, true, false}
 use Rattle.plan_text.specs.Sinks.{Writes}
 use Rattle.plan_scope.specs.Trees.{TreeStatement}
@@ -14,16 +14,16 @@ use Rattle.plan_graph.specs.declared.fault.GraphFault.{GraphFault}
 use Rattle.plan_commands.specs.declared.fault.PlanFault.{PlanFault}
 use Rattle.plan_commands.specs.Faults.{printed_fault, printed_graph_fault, graph_memory, no_memory, output_fault}
 
--- the manifest has a graph: nothing is at fault, and no edge waits for itself, through others too
+-- The manifest has a graph: it has no fault, and no edge waits for itself, directly or through other edges.
 abbrev pub HasGraph : Manifest → Type 0
 HasGraph m = (first_fault m ≡ None) × (ranks : List ℕ) × AreRanks (all_waits m.edges) ranks
 
--- what may be loaded from a path: all lines, or a fault
+-- The results that loading from a path may have: all lines, or a fault.
 abbrev pub MayLoad : Type 1
 MayLoad = Text → Result (List TreeStatement) ScopeFault → Type 0
 
--- no write failed, and the sink took the commands of the manifest that some lines mean which may be loaded from the
--- path, the text of each and a newline, in order; and the manifest has a graph
+-- The manifest that may be loaded from the path has a graph. No write failed. The sink took the commands of the
+-- manifest in order, each with a newline after it.
 pub record WritesAll (loads : MayLoad) (path : Text) (old new : ℕ × Option (List ℕ)) : Type 0 where
   pub lines : List TreeStatement
   pub manifest : Manifest
@@ -32,7 +32,7 @@ pub record WritesAll (loads : MayLoad) (path : Text) (old new : ℕ × Option (L
   pub graph : HasGraph manifest
   pub written : Writes true old new (commands_of manifest)
 
--- some lines that may be loaded from the path are refused, for this cause
+-- Lines that may be loaded from the path are refused for this cause.
 pub record RefusesLines (loads : MayLoad) (path : Text) (fault : PlanFault) : Type 0 where
   pub lines : List TreeStatement
   pub cause : ScopeFault
@@ -40,13 +40,13 @@ pub record RefusesLines (loads : MayLoad) (path : Text) (fault : PlanFault) : Ty
   pub means : manifest_of lines ≡ Err cause
   pub says : fault ≡ printed_fault cause
 
--- loading from the path may be refused, for this cause
+-- Loading from the path may be refused for this cause.
 pub record RefusesToLoad (loads : MayLoad) (path : Text) (fault : PlanFault) : Type 0 where
   pub cause : ScopeFault
   pub loaded : loads path (Err cause)
   pub says : fault ≡ printed_fault cause
 
--- the manifest that some lines mean which may be loaded from the path has no graph, for this cause
+-- The manifest that may be loaded from the path has no graph for this cause.
 pub record RefusesGraph (loads : MayLoad) (path : Text) (fault : PlanFault) : Type 0 where
   pub lines : List TreeStatement
   pub manifest : Manifest
@@ -56,24 +56,23 @@ pub record RefusesGraph (loads : MayLoad) (path : Text) (fault : PlanFault) : Ty
   pub refused : Refuses manifest cause
   pub says : fault ≡ printed_graph_fault manifest cause
 
--- want of memory, of the loader, the evaluator, the graph or the program
+-- The loader, the evaluator, the graph or the program ran out of memory.
 abbrev pub LacksMemory : PlanFault → Type 0
 LacksMemory fault = (fault ≡ printed_fault LoadMemory) ⊎ ((fault ≡ printed_fault Memory) ⊎ ((fault ≡ graph_memory) ⊎ (fault ≡ no_memory)))
 
--- the manifest has no graph, for the cause that is printed; or memory ran out
+-- The manifest has no graph, and the cause is printed. Or memory ran out.
 abbrev pub LacksGraph : Manifest → PlanFault → Type 0
 LacksGraph manifest fault = ((cause : GraphFault) × Refuses manifest cause × (fault ≡ printed_graph_fault manifest cause)) ⊎ (fault ≡ no_memory)
 
--- why there is nothing to print
+-- The reasons why no commands are printed.
 abbrev pub IsRefused : MayLoad → Text → PlanFault → Type 0
 IsRefused loads path fault = RefusesLines loads path fault ⊎ (RefusesToLoad loads path fault ⊎ (RefusesGraph loads path fault ⊎ LacksMemory fault))
 
--- the manifest is the meaning of some lines that may be loaded from the path
+-- The manifest is the meaning of lines that may be loaded from the path.
 abbrev pub IsMeant : MayLoad → Text → Manifest → Type 0
 IsMeant loads path manifest = (lines : List TreeStatement) × loads path (Ok lines) × (manifest_of lines ≡ Ok manifest)
 
--- a write failed, behind a front of the commands of the manifest that some lines mean which may be loaded from the
--- path; and the manifest has a graph
+-- The manifest that may be loaded from the path has a graph. A write failed after a prefix of its commands was written.
 pub record FailsToWrite (loads : MayLoad) (path : Text) (old new : ℕ × Option (List ℕ)) (fault : PlanFault) : Type 0 where
   pub lines : List TreeStatement
   pub manifest : Manifest
@@ -83,7 +82,7 @@ pub record FailsToWrite (loads : MayLoad) (path : Text) (old new : ℕ × Option
   pub failed : Writes false old new (commands_of manifest)
   pub says : fault ≡ output_fault
 
--- what may be loaded by what a source may give and which of its reads may fail, where its count of failed reads was
--- this before and is that now
+-- The results that loading may have, from the contents that a source may give and the reads that may fail. `before` and
+-- `now` are the numbers of failed reads before and after loading.
 abbrev pub loading_by : (gives : Text → Option (List ℕ) → Type 0) → (fails : Text → Type 0) → (before now : ℕ) → MayLoad
 loading_by gives fails before now = LoadsFirst gives (IsMissing gives fails before now)

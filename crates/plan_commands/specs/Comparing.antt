@@ -1,4 +1,4 @@
--- What `replay IMG TRACE TRACE2` does.
+-- The behavior of `replay IMG TRACE TRACE2`.
 use Rattle.std.specs.Prelude.{◌≡◌, ◌⊎◌, ℕ, Bool, true, false, ◌&&◌, ◌==◌, List, [], ◌∷◌, ◌++◌, codes}
 use Rattle.plan_text.specs.Bytes.{line_feed}
 use Rattle.plan_text.specs.Sinks.{Writes}
@@ -25,17 +25,18 @@ abbrev pub has_none : List ℕ → Bool
 has_none [] = true
 has_none (t ∷ ts) = false
 
--- both begin with the same line, and none has a line `target`
+-- Both traces begin with the same line, and neither has a line `target`.
 abbrev pub are_comparable : Trace → Trace → Bool
 are_comparable first second = same_options first.options second.options && (has_none first.targets && has_none second.targets)
 
--- Of two traces that can be compared: whether their runs have both ended, with the same outcomes and the same slots.
+-- Two traces can be compared. `same` is whether their runs have both ended with the same outcomes and the same slots.
 pub record AreCompared (p : Parts) (first second : Trace) (same : Bool) : Type 0 where
   pub comparable : are_comparable first second ≡ true
   pub tells : TellsEnds p first.options first.events second.events same
   pub never_apart : NeverTellsApart p first.options first.events second.events same
 
--- why two traces aren't compared: they differ in front, one of their events isn't enabled, or for want of memory
+-- The reasons why two traces aren't compared: their first lines differ or one has targets, one of their events isn't
+-- enabled, or memory ran out.
 abbrev pub AreNotCompared : Parts → Trace → Trace → PlanFault → Type 0
 AreNotCompared p first second fault =
     ((are_comparable first second ≡ false) × (fault ≡ traces_differ))
@@ -52,9 +53,9 @@ abbrev pub answer_status : Bool → ℕ
 answer_status true = 0
 answer_status false = 1
 
--- ---- an image at hand
+-- ---- with a given image
 
--- the traces that the sources may give for two paths were compared
+-- The traces that the sources may give for two paths were compared.
 pub record IsAnswer (p : Parts) (firsts : FileContents) (first : Text) (seconds : FileContents) (second : Text) (same : Bool) : Type 0 where
   pub one : Trace
   pub other : Trace
@@ -62,7 +63,7 @@ pub record IsAnswer (p : Parts) (firsts : FileContents) (first : Text) (seconds 
   pub other_given : IsTraceAt seconds second other
   pub compared : AreCompared p one other same
 
--- why there is no answer: first of all the faults of the first trace count, and then those of the second
+-- The reasons why there is no answer. Faults of the first trace come before faults of the second trace.
 abbrev pub LacksAnswer : Parts → FileContents → PathSet → Text → FileContents → PathSet → Text → PlanFault → Type 0
 LacksAnswer p firsts no_first first seconds no_second second fault =
     LacksTrace firsts no_first first fault
@@ -70,8 +71,8 @@ LacksAnswer p firsts no_first first seconds no_second second fault =
 
 -- ---- the command
 
--- Of a well-shaped image that the first source may give for its path and two traces that the others may give: no write
--- failed, and the sink took the answer.
+-- The first source may give a well-shaped image, and the other sources may give two traces. No write failed, and the
+-- sink took the answer.
 pub record Compares (images : FileContents) (image : Text) (firsts : FileContents) (first : Text) (seconds : FileContents) (second : Text) (old new : SinkState) (status : ℕ) : Type 0 where
   pub parts : Parts
   pub image_given : IsImageAt images image parts
@@ -81,13 +82,13 @@ pub record Compares (images : FileContents) (image : Text) (firsts : FileContent
   pub written : Writes true old new (answer_line same)
   pub status_is : status ≡ answer_status same
 
--- why nothing is printed: first of all the image's faults count
+-- The reasons why nothing is printed. Faults of the image come before all others.
 abbrev pub IsNotAnswered : FileContents → PathSet → Text → FileContents → PathSet → Text → FileContents → PathSet → Text → PlanFault → Type 0
 IsNotAnswered images no_image image firsts no_first first seconds no_second second fault =
     IsRejected images no_image image fault
     ⊎ ((p : Parts) × IsImageAt images image p × IsWellShaped p × (LacksAnswer p firsts no_first first seconds no_second second fault ⊎ (fault ≡ no_memory)))
 
--- there is an answer, but a write of it failed
+-- There is an answer, but a write of it failed.
 pub record FailsToAnswer (images : FileContents) (image : Text) (firsts : FileContents) (first : Text) (seconds : FileContents) (second : Text) (old new : SinkState) (fault : PlanFault) : Type 0 where
   pub parts : Parts
   pub image_given : IsImageAt images image parts

@@ -1,4 +1,4 @@
--- What `compile FILE -o IMG` does.
+-- The behavior of `compile FILE -o IMG`.
 use Rattle.std.specs.Prelude.{◌≡◌, ◌⊎◌, ℕ, true, false, List, Ok}
 use Rattle.plan_text.specs.Sinks.{Writes}
 use Rattle.plan_scope.specs.Trees.{TreeStatement}
@@ -22,7 +22,7 @@ use Rattle.plan_commands.specs.Faults.{printed_compile_fault, printed_image_faul
 use Rattle.plan_commands.specs.Commands.{MayLoad, IsRefused}
 use Rattle.plan_commands.specs.Images.{SinkState}
 
--- the tables are the image of a sound manifest with a graph of it, by that out-of-date rule, and the image is well shaped
+-- The tables are the image of a sound manifest and its graph, by this out-of-date rule. The image is well shaped.
 pub record IsImageOf (rule : OutOfDateRule) (manifest : Manifest) (p : Parts) : Type 0 where
   pub sound : IsSound manifest
   pub graph : Graph
@@ -30,7 +30,7 @@ pub record IsImageOf (rule : OutOfDateRule) (manifest : Manifest) (p : Parts) : 
   pub same : p ≡ compiled rule manifest graph
   pub shaped : IsWellShaped p
 
--- the bytes are those of the image of the manifest with a graph of it, by that rule, and the verifier accepts that image
+-- The bytes spell the image of the manifest and its graph, by this out-of-date rule. The verifier accepts the image.
 pub record SpellsImage (rule : OutOfDateRule) (manifest : Manifest) (bytes : List ℕ) : Type 0 where
   pub graph : Graph
   pub is_graph : IsGraph manifest graph
@@ -38,13 +38,13 @@ pub record SpellsImage (rule : OutOfDateRule) (manifest : Manifest) (bytes : Lis
   pub shaped : IsWellShaped (compiled rule manifest graph)
   pub same : bytes ≡ spelling (compiled rule manifest graph)
 
--- the manifest has a graph, and no image of it is made, for this cause: memory, or a limit, and then the image has no
--- spelling
+-- The manifest has a graph, but no image for this cause: memory ran out, or a limit is exceeded, so that the image has
+-- no spelling.
 abbrev pub LacksImageOf : OutOfDateRule → Manifest → PlanFault → Type 0
 LacksImageOf rule manifest fault =
     (graph : Graph) × (cause : CompileFault) × IsGraph manifest graph × compiles.IsRefused rule manifest graph cause × (fault ≡ printed_compile_fault cause)
 
--- no image is made of the manifest that some lines mean which may be loaded from the path, for this cause
+-- The manifest that may be loaded from the path has no image for this cause.
 pub record RefusesImage (rule : OutOfDateRule) (loads : MayLoad) (path : Text) (fault : PlanFault) : Type 0 where
   pub lines : List TreeStatement
   pub manifest : Manifest
@@ -52,12 +52,12 @@ pub record RefusesImage (rule : OutOfDateRule) (loads : MayLoad) (path : Text) (
   pub means : manifest_of lines ≡ Ok manifest
   pub refused : LacksImageOf rule manifest fault
 
--- why nothing is written
+-- The reasons why nothing is written.
 abbrev pub IsNotCompiled : OutOfDateRule → MayLoad → Text → PlanFault → Type 0
 IsNotCompiled rule loads path fault = IsRefused loads path fault ⊎ (RefusesImage rule loads path fault ⊎ (fault ≡ printed_image_fault image.Memory))
 
--- no write failed, and the sink took the bytes of the image, by the specified out-of-date rule, of the manifest that some
--- lines mean which may be loaded from the path
+-- No write failed. The sink took the bytes of the image of the manifest that may be loaded from the path, by the
+-- specified out-of-date rule.
 pub record Compiles (loads : MayLoad) (path : Text) (old new : SinkState) : Type 0 where
   pub lines : List TreeStatement
   pub manifest : Manifest
@@ -67,7 +67,7 @@ pub record Compiles (loads : MayLoad) (path : Text) (old new : SinkState) : Type
   pub spells : SpellsImage Specified manifest bytes
   pub written : Writes true old new bytes
 
--- a write to the file of this name failed, behind a front of those bytes
+-- A write to the file with this name failed after a prefix of these bytes was written.
 pub record FailsToCompile (loads : MayLoad) (path output : Text) (old new : SinkState) (fault : PlanFault) : Type 0 where
   pub lines : List TreeStatement
   pub manifest : Manifest

@@ -1,4 +1,4 @@
--- What a dry build does: files and the record are asked, but no command runs.
+-- How a dry build goes: files and the record are asked, but no command runs.
 use Rattle.std.specs.Prelude.{◌≡◌, ◌⊎◌}
 use Rattle.plan_scope.specs.Loading.{FileContents, PathSet}
 use Rattle.plan_image.specs.declared.image.Parts.{Parts}
@@ -11,8 +11,8 @@ use Rattle.plan_commands.specs.declared.building.Done.TheVariants as done
 use Rattle.plan_commands.specs.Images.{SinkState}
 use Rattle.plan_commands.specs.Building.{Asked, IsRead, IsUpToDate, Remakes, MakerFails, RunsTargets, RoundStops, LastRunStops}
 
--- Files and the record are asked by the rule of a world. Each command ended with status 0, each depfile is missing, and
--- each entry is kept.
+-- The rule of a world in which no command runs. Replies about files and the record are allowed by another rule. Each
+-- command ends with status 0, each depfile is missing, and each entry is kept.
 abbrev pub dry_rule : Rule → Rule
 dry_rule rule number (Stat path) r = rule number (Stat path) r
 dry_rule rule number (Recall output) r = rule number (Recall output) r
@@ -20,7 +20,7 @@ dry_rule rule number (Run command outputs) r = r ≡ reply.Exit 0
 dry_rule rule number (Deps path) r = r ≡ reply.Nothing
 dry_rule rule number (Keep output command basis paths) r = r ≡ reply.Kept
 
--- the manifest is up to date, and its image was run for the targets
+-- The manifest is up to date, and its image was run for the targets.
 pub record PreviewsTargets (gives : FileContents) (rule : Rule) (a : Asked) (old new : SinkState) (d : Done) : Type 0 where
   pub parts : Parts
   pub read : IsRead gives a.path parts
@@ -28,7 +28,8 @@ pub record PreviewsTargets (gives : FileContents) (rule : Rule) (a : Asked) (old
   pub settled : IsUpToDate rule a parts old middle
   pub run : RunsTargets rule a parts middle new d
 
--- What a dry build that ends so did. It was built if a command would run, be it that of the manifest's maker alone.
+-- How a dry build goes that ends in this way. It ends as `Built` if a command would run, even if only the command of
+-- the manifest's maker.
 abbrev pub Previews : FileContents → Rule → Asked → (old new : SinkState) → Done → Type 0
 Previews gives rule a old new done.Built = Remakes gives rule a old new ⊎ PreviewsTargets gives rule a old new done.Built
 Previews gives rule a old new done.UpToDate = PreviewsTargets gives rule a old new done.UpToDate
@@ -36,6 +37,6 @@ Previews gives rule a old new done.Failed = PreviewsTargets gives rule a old new
 Previews gives rule a old new done.ManifestFails = MakerFails gives rule a old new
 Previews gives rule a old new done.NeverSettles = ⊥
 
--- why a dry build stops: the round does, or the run for the targets
+-- The reasons why a dry build stops: the round stops, or the run for the targets stops.
 abbrev pub DryStops : FileContents → PathSet → Rule → Asked → (old new : SinkState) → PlanFault → Type 0
 DryStops gives missing rule a old new fault = RoundStops gives missing rule a old new fault ⊎ LastRunStops gives rule a old new fault

@@ -1,4 +1,4 @@
--- What the program prints of a fault.
+-- The texts that the program prints for faults.
 use Rattle.std.specs.Prelude.{ℕ, ◌==◌, List, [], ◌∷◌, ◌++◌, Option, Some, None, if◌then◌else◌, codes, slice_get}
 use Rattle.std.specs.Fmt.{decimal}
 use Rattle.std.specs.List.{join_by}
@@ -24,7 +24,7 @@ use Rattle.plan_machine.specs.declared.refused.Refused.TheVariants as machine
 use Rattle.plan_compile.specs.declared.fault.CompileFault.{CompileFault}
 use Rattle.plan_commands.specs.declared.fault.PlanFault.{PlanFault}
 
--- a space, a path and an offset in it
+-- ` PATH:OFFSET`
 abbrev pub place : List ℕ → ℕ → List ℕ
 place path offset = space ∷ path ++ colon ∷ decimal offset
 
@@ -32,7 +32,7 @@ abbrev pub place_at : List ℕ → Option ℕ → List ℕ
 place_at path None = []
 place_at path (Some offset) = place path offset
 
--- what is printed behind the name of a fault
+-- The text that is printed after the name of a manifest's fault.
 abbrev pub rest_of : ScopeFault → List ℕ
 rest_of (SourceMissing path) = place path 0
 rest_of (Parse path fault) = place_at path (statements.offset_of fault)
@@ -40,7 +40,7 @@ rest_of (Refused path offset cause) = place path offset
 rest_of LoadMemory = []
 rest_of Memory = []
 
--- a fault of a manifest, as the program prints it
+-- A fault of a manifest, as the program prints it.
 abbrev pub printed_fault : ScopeFault → PlanFault
 printed_fault fault = record { number = scopes.number_of fault; rest = rest_of fault }
 
@@ -48,7 +48,7 @@ abbrev pub first_path : List (List ℕ) → List ℕ
 first_path [] = []
 first_path (path ∷ more) = path
 
--- the first output of an edge, explicit before implicit
+-- The name of an edge: its first explicit output, or its first implicit output if it has no explicit ones.
 abbrev pub name_of_edge : Edge → List ℕ
 name_of_edge e = first_path (outputs_of e)
 
@@ -56,11 +56,11 @@ abbrev pub edge_name_if_any : Option Edge → List ℕ
 edge_name_if_any None = []
 edge_name_if_any (Some e) = name_of_edge e
 
--- the name of the edge of a number
+-- The name of the edge with a number, or an empty text if there is no such edge.
 abbrev pub edge_name_at : List Edge → ℕ → List ℕ
 edge_name_at edges n = edge_name_if_any (slice_get edges n)
 
--- what is printed behind the name of a fault of a graph: a space, and a path or the names of a cycle's edges
+-- The text that is printed after the name of a graph's fault: a space, and a path or the names of the edges of a cycle.
 abbrev pub rest_of_graph : List Edge → GraphFault → List ℕ
 rest_of_graph edges (graph.TwoProducers path) = space ∷ path
 rest_of_graph edges (graph.Cycle es) = space ∷ join_by (edge_name_at edges) (codes " -> ") es
@@ -68,37 +68,37 @@ rest_of_graph edges (graph.UnknownDefault path) = space ∷ path
 rest_of_graph edges graph.TooManyEdges = []
 rest_of_graph edges graph.Memory = []
 
--- why a manifest has no graph, as the program prints it
+-- The reason why a manifest has no graph, as the program prints it.
 abbrev pub printed_graph_fault : Manifest → GraphFault → PlanFault
 printed_graph_fault manifest fault = record { number = graphs.number_of fault; rest = rest_of_graph manifest.edges fault }
 
--- want of memory while a graph was built
+-- Memory ran out while a graph was built.
 abbrev pub graph_memory : PlanFault
 graph_memory = record { number = 54; rest = [] }
 
--- a space, the word at, and an offset
+-- ` at OFFSET`, or an empty text if there is no offset.
 abbrev pub at_offset : Option ℕ → List ℕ
 at_offset None = []
 at_offset (Some offset) = codes " at " ++ decimal offset
 
--- why bytes are no image, as the program prints it
+-- The reason why bytes aren't an image, as the program prints it.
 abbrev pub printed_image_fault : ImageFault → PlanFault
 printed_image_fault fault = record { number = images.number_of fault; rest = at_offset (images.offset_of fault) }
 
--- the edge and the place in its code, where there are any
+-- ` at edge EDGE place PLACE`, or an empty text if one of the two is missing.
 abbrev pub at_edge : Option ℕ → Option ℕ → List ℕ
 at_edge (Some edge) (Some place) = codes " at edge " ++ decimal edge ++ codes " place " ++ decimal place
 at_edge edge place = []
 
--- why an image can't be run, as the program prints it
+-- The reason why an image can't be run, as the program prints it.
 abbrev pub printed_verify_fault : VerifyFault → PlanFault
 printed_verify_fault fault = record { number = verdicts.number_of fault; rest = at_edge (verdicts.edge_of fault) (verdicts.place_of fault) }
 
--- why a manifest has no image, as the program prints it
+-- The reason why a manifest has no image, as the program prints it.
 abbrev pub printed_compile_fault : CompileFault → PlanFault
 printed_compile_fault fault = record { number = compiles.number_of fault; rest = [] }
 
--- why events can't be replayed, as the program prints it: where one isn't enabled, its place, counted from 0
+-- The event with this number isn't enabled. Numbers of events count from 0.
 abbrev pub event_fault : ℕ → PlanFault
 event_fault event = record { number = 110; rest = codes " at event " ++ decimal event }
 
@@ -106,31 +106,32 @@ abbrev pub printed_refusal : ℕ → Refusal → PlanFault
 printed_refusal event machine.NotEnabled = event_fault event
 printed_refusal event refusal = record { number = machines.number_of refusal; rest = [] }
 
--- a line of a trace that says nothing where it stands, counted from 1
+-- A line of a trace is malformed or not allowed there. Numbers of lines count from 1.
 abbrev pub trace_fault : ℕ → PlanFault
 trace_fault line = record { number = 130; rest = codes " at line " ++ decimal line }
 
--- a file that can't be read or written
+-- A file can't be read or written.
 abbrev pub file_fault : List ℕ → PlanFault
 file_fault path = record { number = 133; rest = space ∷ path }
 
--- a target that no edge makes
+-- No edge makes a target.
 abbrev pub unknown_target : List ℕ → PlanFault
 unknown_target name = record { number = 132; rest = space ∷ name }
 
--- two traces that can't be compared: their first lines differ, or one has targets
+-- Two traces can't be compared: their first lines differ, or one has targets.
 abbrev pub traces_differ : PlanFault
 traces_differ = record { number = 134; rest = [] }
 
--- want of memory of the program itself
+-- The program itself ran out of memory.
 abbrev pub no_memory : PlanFault
 no_memory = record { number = 131; rest = [] }
 
--- a write to the standard output failed
+-- A write to standard output failed.
 abbrev pub output_fault : PlanFault
 output_fault = record { number = 133; rest = codes " -" }
 
--- the name of each fault by its number; every other number is want of memory
+-- The names of faults of reading a manifest or an image, by their numbers. `late_names` has the names of the other
+-- faults. A number in neither list means that memory ran out.
 abbrev pub names : List (ℕ × List ℕ)
 names =
     (1, codes "TabBlank")
@@ -206,7 +207,7 @@ late_names =
     ∷ (134, codes "TracesDiffer")
     ∷ []
 
--- the name at a number, another one where none stands there
+-- The name with a number, or another name if the list doesn't have the number.
 abbrev pub name_among : List ℕ → List (ℕ × List ℕ) → ℕ → List ℕ
 name_among other [] n = other
 name_among other (x ∷ more) n = if n == x.0 then x.1 else name_among other more n
@@ -217,6 +218,6 @@ late_name_of n = name_among (codes "Memory") late_names n
 abbrev pub name_of : ℕ → List ℕ
 name_of n = name_among (late_name_of n) names n
 
--- the line that the program prints of a fault
+-- The line that the program prints for a fault.
 abbrev pub line_of : PlanFault → List ℕ
 line_of fault = codes "plan: " ++ decimal fault.number ++ space ∷ name_of fault.number ++ fault.rest ++ line_feed ∷ []

@@ -7,6 +7,7 @@ pub mod Compiling
 pub mod Dry
 pub mod Faults
 pub mod Images
+pub mod MakerMaps
 pub mod Replaying
 pub mod Verdicts
 pub mod Running

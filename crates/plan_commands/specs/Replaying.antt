@@ -1,4 +1,4 @@
--- What `replay IMG TRACE` does.
+-- The behavior of `replay IMG TRACE`.
 use Rattle.std.specs.Prelude.{◌≡◌, ◌≢◌, ◌⊎◌, ℕ, ◌+◌, ◌≤◌, true, List, ◌++◌, length, Some, Ok, Err, if◌then◌else◌}
 use Rattle.plan_text.specs.Sinks.{Writes}
 use Rattle.plan_scope.specs.Scopes.{Text}
@@ -33,40 +33,40 @@ use Rattle.plan_commands.specs.Verdicts.{IsRejected}
 
 -- ---- traces
 
--- the source may give a text for the path that says this trace
+-- The source may give a text for the path that spells this trace.
 abbrev pub IsTraceAt : FileContents → Text → Trace → Type 0
 IsTraceAt gives path trace = (text : List ℕ) × gives path (Some text) × (read_of text ≡ Ok trace)
 
--- the source may give a text for the path that is no trace; the line is printed
+-- The source may give a text for the path that isn't a trace. The number of the line is printed.
 abbrev pub IsNoTraceAt : FileContents → Text → PlanFault → Type 0
 IsNoTraceAt gives path fault = (text : List ℕ) × (line : ℕ) × gives path (Some text) × (read_of text ≡ Err (BadTrace line)) × (fault ≡ trace_fault line)
 
--- why no trace is read
+-- The reasons why no trace is read.
 abbrev pub LacksTrace : FileContents → PathSet → Text → PlanFault → Type 0
 LacksTrace gives missing path fault = IsNoTraceAt gives path fault ⊎ (HasNoFile missing path fault ⊎ (fault ≡ no_memory))
 
 -- ---- runs
 
--- The run of an image that a trace tells: its events lead from the opening to this end and leave these marks. None of
--- them went wrong, nor can one of the end; the marks are orderly; the events are bounded.
+-- The run of a trace of an image: the events lead from the start to this end and leave these marks. None of the events
+-- went wrong, and no event can go wrong at the end. The marks are orderly, and the number of the events is bounded.
 pub record IsRun (p : Parts) (trace : Trace) (marks : List Mark) (end : State) : Type 0 where
   pub reached : Reached depfile p trace.options trace.targets trace.events marks end
   pub safe : (event : Event) (flaw : Flaw) → step depfile p trace.options end event ≢ Wrong flaw
   pub orderly : IsOrderly p trace.options marks
   pub bounded : length trace.events ≤ image_budget p + all_bytes trace.events
 
--- the status lines of a run, and how each edge came out
+-- The status lines of a run, followed by the outcome of each edge.
 abbrev pub run_text : Parts → List Mark → State → List ℕ
 run_text p marks end = lines_of p (total_of p end) marks ++ outcomes_of p end
 
--- 0 where all wanted edges ended well
+-- The status of a run: 0 if all wanted edges succeeded, otherwise 1.
 abbrev pub run_status : Parts → State → ℕ
 run_status p end = if all_done p end then 0 else 1
 
--- ---- an image at hand
+-- ---- with a given image
 
--- no write failed, and the sink took what there is to say of the run of this image that a trace tells which the source
--- may give for the path
+-- The source may give a trace for the path. No write failed, and the sink took the status lines and outcomes of its
+-- run.
 pub record Tells (p : Parts) (gives : FileContents) (path : Text) (old new : SinkState) (status : ℕ) : Type 0 where
   pub trace : Trace
   pub marks : List Mark
@@ -76,15 +76,15 @@ pub record Tells (p : Parts) (gives : FileContents) (path : Text) (old new : Sin
   pub written : Writes true old new (run_text p marks end)
   pub status_is : status ≡ run_status p end
 
--- the events of a trace aren't those of a run of this image; where and why is printed
+-- The events of a trace aren't a run of this image. The place and the cause are printed.
 abbrev pub TellsNoEvents : Parts → Trace → PlanFault → Type 0
 TellsNoEvents p trace fault = (n : ℕ) × (refused : Refused) × IsReplayFault p trace.options trace.targets trace.events n refused × (fault ≡ printed_refusal n refused)
 
--- a trace that the source may give for the path tells no run of this image
+-- A trace that the source may give for the path has no run of this image.
 abbrev pub TellsNoRun : Parts → FileContents → Text → PlanFault → Type 0
 TellsNoRun p gives path fault = (trace : Trace) × IsTraceAt gives path trace × TellsNoEvents p trace fault
 
--- why there is no run to tell of
+-- The reasons why there is no run to print.
 abbrev pub LacksRun : Parts → FileContents → PathSet → Text → PlanFault → Type 0
 LacksRun p gives missing path fault = LacksTrace gives missing path fault ⊎ TellsNoRun p gives path fault
 
@@ -92,11 +92,11 @@ abbrev pub printed_stop : PrintFault → PlanFault
 printed_stop print.Write = output_fault
 printed_stop print.Memory = no_memory
 
--- a write failed, or memory ran out, behind a front of a text
+-- A write failed, or memory ran out, after a prefix of a text.
 abbrev pub StopsTelling : List ℕ → (old new : SinkState) → PlanFault → Type 0
 StopsTelling text old new fault = (stop : PrintFault) × Prints text (Some stop) old new × (fault ≡ printed_stop stop)
 
--- a write failed, or memory ran out, behind a front of what there is to say
+-- A write failed, or memory ran out, after a prefix of the status lines and outcomes.
 pub record FailsToTell (p : Parts) (gives : FileContents) (path : Text) (old new : SinkState) (fault : PlanFault) : Type 0 where
   pub trace : Trace
   pub marks : List Mark
@@ -107,19 +107,19 @@ pub record FailsToTell (p : Parts) (gives : FileContents) (path : Text) (old new
 
 -- ---- the command
 
--- Of a well-shaped image that the first source may give for its path and a trace that the second may give: no write
--- failed, and the sink took the status lines of the run, and how each edge came out.
+-- The first source may give a well-shaped image, and the second source may give a trace. No write failed, and the sink
+-- took the status lines and outcomes of the run.
 abbrev pub Replays : FileContents → Text → FileContents → Text → (old new : SinkState) → ℕ → Type 0
 Replays images image traces trace old new status = (p : Parts) × IsImageAt images image p × IsWellShaped p × Tells p traces trace old new status
 
--- a well-shaped image has no run that the trace tells
+-- A well-shaped image has no run for the trace.
 abbrev pub LacksRunOf : FileContents → Text → FileContents → PathSet → Text → PlanFault → Type 0
 LacksRunOf images image traces missing trace fault = (p : Parts) × IsImageAt images image p × IsWellShaped p × LacksRun p traces missing trace fault
 
--- why nothing is printed: first of all the image's faults count
+-- The reasons why nothing is printed. Faults of the image come before all others.
 abbrev pub IsNotReplayed : FileContents → PathSet → Text → FileContents → PathSet → Text → PlanFault → Type 0
 IsNotReplayed images no_image image traces no_trace trace fault = IsRejected images no_image image fault ⊎ LacksRunOf images image traces no_trace trace fault
 
--- what was printed is not all
+-- A write failed, or memory ran out, and the status lines and outcomes weren't printed to the end.
 abbrev pub FailsToReplay : FileContents → Text → FileContents → Text → (old new : SinkState) → PlanFault → Type 0
 FailsToReplay images image traces trace old new fault = (p : Parts) × IsImageAt images image p × IsWellShaped p × FailsToTell p traces trace old new fault

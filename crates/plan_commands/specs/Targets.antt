@@ -1,4 +1,4 @@
--- Which edges the targets of a command line name.
+-- The edges that make the targets of a command line.
 use Rattle.std.specs.Prelude.{ℕ, List, Option, Some, None, Result, Ok, Err}
 use Rattle.plan_text.specs.Outcome.{each}
 use Rattle.plan_text.specs.declared.fault.TextFault.{TextFault}
@@ -17,10 +17,10 @@ abbrev pub maker : Parts → Text → Result (List ℕ) TextFault → Result ℕ
 maker p name (Ok path) = or_unknown name (first_maker p path 0 p.edges)
 maker p name (Err fault) = Err (unknown_target name)
 
--- the least edge that makes the file of this name, in canonical form; an empty name is unknown
+-- The least edge that makes the file with this name, in canonical form. An empty name is unknown.
 abbrev pub target : Parts → Text → Result ℕ PlanFault
 target p name = maker p name (canonical_of name)
 
--- the edges of these names, in their order, or the fault of the first that no edge makes
+-- The edges that make the files with these names, in order, or the fault of the first name that no edge makes.
 abbrev pub targets : Parts → List Text → Result (List ℕ) PlanFault
 targets p names = each (target p) names

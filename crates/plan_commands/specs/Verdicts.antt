@@ -1,4 +1,4 @@
--- What `verify IMG` does.
+-- The behavior of `verify IMG`.
 use Rattle.std.specs.Prelude.{◌≡◌, ◌⊎◌, ℕ, true, false, List, [], ◌∷◌, ◌++◌, length, codes}
 use Rattle.std.specs.Fmt.{decimal}
 use Rattle.plan_text.specs.Bytes.{line_feed, space}
@@ -14,28 +14,28 @@ use Rattle.plan_commands.specs.declared.fault.PlanFault.{PlanFault}
 use Rattle.plan_commands.specs.Faults.{printed_verify_fault, no_memory, output_fault}
 use Rattle.plan_commands.specs.Images.{SinkState, IsImageAt, LacksImage}
 
--- `ok`, the number of edges, and the budget
+-- The line `ok EDGES BUDGET`, with the number of edges and the budget.
 abbrev pub verdict_line : Parts → List ℕ
 verdict_line parts = codes "ok " ++ decimal (length parts.edges) ++ space ∷ decimal (image_budget parts) ++ line_feed ∷ []
 
--- An image that the source may give for the path is well shaped; no write failed, and the sink took the verdict on it.
+-- An image that the source may give for the path is well shaped. No write failed, and the sink took the verdict.
 abbrev pub Accepts : FileContents → Text → (old new : SinkState) → Type 0
 Accepts gives path old new = (parts : Parts) × IsImageAt gives path parts × IsWellShaped parts × Writes true old new (verdict_line parts)
 
--- An image that the source may give for the path fails a check; the first of these is printed.
+-- An image that the source may give for the path fails a check. The first failed check is printed.
 abbrev pub Rejects : FileContents → Text → PlanFault → Type 0
 Rejects gives path fault =
     (parts : Parts) × (edge : ℕ) × (place : ℕ) × (refusal : Refusal) × IsImageAt gives path parts × IsRefused parts edge place refusal
     × (fault ≡ printed_verify_fault (verdict.Refused refusal edge place))
 
--- want of memory, of the verifier or the program
+-- The verifier or the program ran out of memory.
 abbrev pub LacksMemory : PlanFault → Type 0
 LacksMemory fault = (fault ≡ printed_verify_fault verdict.Memory) ⊎ (fault ≡ no_memory)
 
--- why there is no verdict to print
+-- The reasons why there is no verdict to print.
 abbrev pub IsRejected : FileContents → PathSet → Text → PlanFault → Type 0
 IsRejected gives missing path fault = LacksImage gives missing path fault ⊎ (Rejects gives path fault ⊎ LacksMemory fault)
 
--- An image that the source may give for the path is well shaped; but a write of the verdict failed.
+-- An image that the source may give for the path is well shaped, but a write of the verdict failed.
 abbrev pub FailsToAccept : FileContents → Text → (old new : SinkState) → PlanFault → Type 0
 FailsToAccept gives path old new fault = (parts : Parts) × IsImageAt gives path parts × IsWellShaped parts × Writes false old new (verdict_line parts) × (fault ≡ output_fault)

@@ -1,4 +1,4 @@
-//! Bytes that are held back before a sink.
+//! A sink that buffers bytes before it writes them.
 
 ghost use Rattle.std.specs.Prelude.{◌≡◌, ◌≤◌, ◌+◌, ◌++◌, ◌⊎◌, [], Err, IfErr, IfOk, Ok, OnOk, drop, is_ok, length, if◌then◌else◌, vec_capacity, vec_len};
 ghost use Rattle.std.specs.Io.KnownBytes.{Keeps, append_known};
@@ -10,7 +10,7 @@ use plan_text::{Sink, SinkFault};
 use std::alloc::Global;
 use std::marker::Model;
 
-/// Appends bytes for which there is room.
+/// Appends bytes to a list that has room for them.
 fn hold(held: &mut Vec<u8>, bytes: &[u8])
     requires { vec_len held.old + length bytes.now ≤ vec_capacity held.old }
     ensures { held.new.items ≡ held.old.items ++ bytes.now }
@@ -20,8 +20,8 @@ fn hold(held: &mut Vec<u8>, bytes: &[u8])
     };
 }
 
-/// Hands on bytes from a place on, and returns the place behind those that the sink took. At the first failed write it
-/// stops.
+/// Writes `bytes[start..]` to the sink, until a write fails. Returns the index of the first byte that the sink didn't
+/// take, which is the length of `bytes` if it took all.
 fn hand_on_from<W: Sink>(out: &mut W, bytes: &[u8], start: usize) -> (usize, Result<(), SinkFault>)
     requires { start ≤ length bytes.now }
     ensures taken { Keeps (append_known (W.taken out.old) (drop start bytes.now)) (append_known (W.taken out.new) (drop result.0 bytes.now)) }
@@ -39,14 +39,14 @@ fn hand_on_from<W: Sink>(out: &mut W, bytes: &[u8], start: usize) -> (usize, Res
     (place, Ok(()))
 }
 
-/// A sink that hands its bytes on in large pieces: it holds back as many as fit in its room. Contracts see the sink behind
-/// it, and the bytes that are held back.
+/// A sink that buffers bytes before it writes them to an inner sink. Bytes that don't fit into the free room are
+/// written directly, after the held bytes. Contracts see the inner sink and the held bytes.
 #[derive(Drop)]
 pub struct Buffer<W> {
     out: W,
-    /// The bytes that were held back since the room was empty.
+    /// The bytes that were appended since the room was last empty.
     room: Vec<u8>,
-    /// How many of them were handed on.
+    /// The number of bytes of `room` that the inner sink has taken.
     start: usize,
 }
 
@@ -62,7 +62,8 @@ impl<W> Model for Buffer<W> {
 }
 
 impl<W: Sink> Buffer<W> {
-    /// Creates a buffer before a sink, with the capacity of this list as its room.
+    /// Creates an empty buffer for an inner sink. The capacity of `room` is the size of the buffer; its bytes are
+    /// discarded.
     pub fn new(out: W, room: Vec<u8>) -> Buffer<W>
         ensures { result ≡ buffered out [] }
     {
@@ -75,7 +76,7 @@ impl<W: Sink> Buffer<W> {
         }
     }
 
-    /// Hands on what is held back. At the first failed write it stops; what is left stays held back.
+    /// Writes the held bytes to the inner sink, until a write fails. Bytes that the inner sink didn't take stay held.
     fn hand_on(&mut self) -> Result<(), SinkFault>
         ensures taken { Keeps (seen W.taken self.old) (seen W.taken self.new) }
         ensures failures { W.failures self.new.out ≡ (if is_ok result then W.failures self.old.out else W.failures self.old.out + 1) }
@@ -90,7 +91,8 @@ impl<W: Sink> Buffer<W> {
         done
     }
 
-    /// Hands on what is held back, and returns the sink.
+    /// Writes the held bytes to the inner sink, and returns the result and the inner sink. If a write fails, the held
+    /// bytes that weren't written are discarded.
     pub fn finish(self) -> (Result<(), SinkFault>, W)
         ensures taken { OnOk result.0 (Keeps (seen W.taken self) (W.taken result.1)) }
         ensures failures { W.failures result.1 ≡ (if is_ok result.0 then W.failures self.out else W.failures self.out + 1) }
@@ -102,7 +104,7 @@ impl<W: Sink> Buffer<W> {
 }
 
 impl<W> Buffer<W> {
-    /// Returns the sink, without what is held back.
+    /// Returns the inner sink, and discards the held bytes.
     fn into_sink(self) -> W
         ensures { result ≡ self.out }
     {
@@ -111,8 +113,13 @@ impl<W> Buffer<W> {
     }
 }
 
-/// Ends a command whose output goes through a buffer: if the command ended well, hands on what is held back. Returns the
-/// status of the command, or why it is refused, and the sink. The status is Ok only if the sink took all.
+/// Finishes the output of a command that wrote to a buffer. If the command succeeded, writes the held bytes; if it
+/// failed, discards them. Returns the status of the command, and the inner sink.
+///
+/// # Errors
+/// - The fault of the command.
+/// - 133 ` -`, or 131 if there is no memory for that fault: the command succeeded, but a write of the held bytes
+///   failed.
 pub fn ended<W: Sink>(
     alloc: Global,
     done: Result<u8, PlanFault>,

@@ -1,4 +1,4 @@
-//! The building of a manifest's targets: the manifest is read, remade if it is out of date, and its image is run.
+//! Builds the targets of a manifest: reads the manifest, remakes it if it is out of date, and runs its image.
 
 ghost use Rattle.std.specs.Prelude.{◌≡◌, ◌⊎◌, IfErr, IfOk, None, OnOk, Ok, false, map, true, ◌∷◌, []};
 ghost use Rattle.std.specs.Result.{result_err};
@@ -12,13 +12,12 @@ ghost use Rattle.plan_commands.specs.Commands.{LacksGraph};
 ghost use Rattle.plan_commands.specs.Compiling.{IsImageOf, LacksImageOf};
 ghost use Rattle.plan_commands.specs.Faults as faults;
 ghost use Rattle.plan_commands.specs.Building as defined;
-ghost use Rattle.plan_commands.specs.Building.{Builds, EndsAs, EndsRound, HasRun, HasRunNothing, IsLost, IsNotRead, IsNotRun, IsRead, IsRoundOf, LacksVerdict, RoundStops, RunsTargets, Stops, TargetsStop};
+ghost use Rattle.plan_commands.specs.Building.{Builds, EndsAs, EndsRound, HasRun, HasRunNothing, IsLost, IsNotRead, IsNotRun, IsRead, IsRoundOf, RoundStops, RunsTargets, Stops, TargetsStop};
 ghost use Rattle.plan_commands.specs.Running.{EndsPrinted};
 
 use crate::commands::manifest_at;
 use crate::compiling::image_of;
 use crate::fault::{PlanFault, no_memory};
-use crate::image_fault::printed_verify_fault;
 use crate::playing::{Played, play};
 use crate::running::{printed_lane_fault, printed_print_fault};
 use crate::targets::targets_of;
@@ -29,35 +28,36 @@ use plan_machine::{Options, Outcome};
 use plan_scope::{Manifest, Source, loaded_manifests_are_sound};
 use plan_status::all_done;
 use plan_text::{Sink, TextFault, canonical};
-use plan_verify::{Verified, verify_by};
+use plan_verify::Verified;
 use std::alloc::Global;
 use std::mem::forget;
 use std::sync::Wait;
 use std::thread::{Parker, Threads};
 
-/// What a build is asked for.
+/// A request to build targets of a manifest.
 #[derive(Clone, Copy)]
 pub struct Order<'a> {
     /// The path of the manifest.
     pub manifest: &'a [u8],
-    /// How many commands may run at once, and after how many failures no further command starts.
+    /// The number of commands that may run at once, and the number of failures after which no further command starts.
     pub options: Options,
-    /// The names of the targets; none for the manifest's defaults.
+    /// The names of the targets. If there are none, the defaults of the manifest are built.
     pub targets: &'a [&'a [u8]],
 }
 
 /// How a build ended.
 #[derive(Clone, Copy, Debug, PartialEq, Eq)]
 pub enum Done {
-    /// All wanted edges succeeded, and a command of one of them ran.
+    /// All wanted edges succeeded, and the command of at least one edge ran.
     Built,
     /// All wanted edges were up to date: no command ran for the targets. Commands that remade the manifest don't count.
     UpToDate,
     /// A wanted edge failed, was skipped, or was stopped.
     Failed,
-    /// The manifest isn't up to date: an edge that it needs failed, was skipped, or was stopped. The targets were not run.
+    /// The manifest isn't up to date: an edge that it needs failed, was skipped, or was stopped. The targets weren't
+    /// run.
     ManifestFails,
-    /// The manifest was remade 100 times, and may still be out of date. The targets were not run.
+    /// The manifest was remade 100 times, and may still be out of date. The targets weren't run.
     NeverSettles,
 }
 
@@ -73,38 +73,24 @@ impl Done {
     }
 }
 
-/// The greatest number of times that a manifest is remade.
+/// The largest number of times that a manifest is remade.
 const MOST_ROUNDS: u32 = 100;
 
-/// Returns the image of a manifest by the stricter out-of-date rule, which the verifier accepts. That many threads verify it.
-fn verified_image<R: Threads + Sync>(
-    rt: &R,
-    alloc: Global,
-    threads: u8,
-    manifest: &Manifest,
-) -> Result<Verified, PlanFault>
+/// Compiles a manifest into an image with the stricter out-of-date rule. The image isn't verified again, since the
+/// verifier accepts each image that the compiler makes.
+fn image_to_run(alloc: Global, manifest: &Manifest) -> Result<Verified, PlanFault>
     requires { IsSound manifest.now }
     ensures image { IfOk result (λ image. IsImageOf OutOfDateRule.Stricter manifest.now image) }
-    ensures refused { IfErr result (λ fault. (LacksGraph manifest.now fault ⊎ LacksImageOf OutOfDateRule.Stricter manifest.now fault) ⊎ LacksVerdict fault) }
+    ensures refused { IfErr result (λ fault. LacksGraph manifest.now fault ⊎ LacksImageOf OutOfDateRule.Stricter manifest.now fault) }
 {
-    let image = match image_of(alloc, manifest, OutOfDateRule::Stricter) {
-        Ok(image) => image,
-        Err(fault) => return Err(fault),
-    };
-    match verify_by(rt, alloc, threads, image) {
-        Ok(verified) => Ok(verified),
-        Err((_, fault)) => Err(printed_verify_fault(alloc, fault)),
+    match image_of(alloc, manifest, OutOfDateRule::Stricter) {
+        Ok(image) => Ok(Verified::of_shaped(image)),
+        Err(fault) => Err(fault),
     }
 }
 
 /// Reads the manifest at a path, and returns its image.
-fn read_image<S: Source, R: Threads + Sync>(
-    rt: &R,
-    alloc: Global,
-    threads: u8,
-    source: &mut S,
-    path: &[u8],
-) -> Result<Verified, PlanFault>
+fn read_image<S: Source>(alloc: Global, source: &mut S, path: &[u8]) -> Result<Verified, PlanFault>
     ensures read { IfOk result (λ p. IsRead (S.gives source.old) path.now p) }
     ensures whole { OnOk result (S.failures source.new ≡ S.failures source.old) }
     ensures same { SameFiles (S.gives source.new) (S.fails source.new) (S.gives source.old) (S.fails source.old) }
@@ -116,13 +102,13 @@ fn read_image<S: Source, R: Threads + Sync>(
         Err(fault) => return Err(fault),
     };
     loaded_manifests_are_sound::<S>();
-    let image = verified_image(rt, alloc, threads, &manifest);
-    // It is not freed piece by piece: the program ends soon.
-    forget(manifest);
+    let image = image_to_run(alloc, &manifest);
+    // Frees the memory before the run.
+    drop(manifest);
     image
 }
 
-/// Returns the edge that makes the manifest, if there is one.
+/// Returns the edge that makes the manifest at this path, if there is one.
 fn maker_of(alloc: Global, image: &Image, path: &[u8]) -> Result<Option<u32>, PlanFault>
     ensures maker { IfOk result (λ m. m ≡ defined.maker_of image.now path.now) }
     ensures memory { IfErr result (λ fault. fault ≡ faults.no_memory) }
@@ -135,7 +121,7 @@ fn maker_of(alloc: Global, image: &Image, path: &[u8]) -> Result<Option<u32>, Pl
     Ok(edge_of(image, &path))
 }
 
-/// Returns the report of a run that has ended and whose lines were printed.
+/// Returns the report of a run that has ended, if all its lines were printed.
 fn printed_run(alloc: Global, played: Played) -> Result<Report, PlanFault>
     ensures done { IfOk result (λ r. (played.ran ≡ Ok r) × (result_err played.printed ≡ None)) }
     ensures fault { IfErr result (λ fault. IsLost played.ran (result_err played.printed) fault) }
@@ -154,7 +140,7 @@ fn printed_run(alloc: Global, played: Played) -> Result<Report, PlanFault>
     }
 }
 
-/// Runs an image for some edges, and prints its lines.
+/// Runs an image for the given edges, prints its status lines, and returns its report and the sink.
 fn run_edges<W: World + Send + Sync, O: Sink + Send + Drop, R: Threads + Wait + Sync>(
     rt: &R,
     alloc: Global,
@@ -175,15 +161,15 @@ fn run_edges<W: World + Send + Sync, O: Sink + Send + Drop, R: Threads + Wait + 
 
 /// How a round ended.
 pub(crate) enum Round {
-    /// The manifest was remade, and has to be read again.
+    /// The manifest was remade. It has to be read again.
     Remade,
-    /// The manifest's maker, or an edge that it needs, did not succeed.
+    /// The manifest's maker, or an edge that the maker needs, did not succeed.
     Failed,
-    /// The manifest is up to date, and this is its image.
+    /// The manifest is up to date. This is its image.
     UpToDate(Verified),
 }
 
-/// Returns how a round ended in which the manifest's maker was run alone, with this report.
+/// Returns how a round ended, from the report of the run of the manifest's maker.
 fn round_of(image: Verified, maker: u32, report: Report) -> Round
     requires { IsStateOf image report.state }
     ensures { IsRoundOf image maker report result }
@@ -202,7 +188,7 @@ fn round_of(image: Verified, maker: u32, report: Report) -> Round
     Round::Remade
 }
 
-/// Reads the manifest, and runs the edge that makes it, if there is one.
+/// Reads the manifest, runs the edge that makes it, if there is one, and returns how the round ended.
 pub(crate) fn update_manifest<
     S: Source,
     W: World + Send + Sync,
@@ -225,7 +211,7 @@ pub(crate) fn update_manifest<
         let missing = IsMissing (S.gives source.old) (S.fails source.old) (S.failures source.old) (S.failures source.new) in
         IfErr result.0 (λ fault. RoundStops (S.gives source.old) missing W.allows a (O.failures out, O.taken out) (O.failures result.1, O.taken result.1) fault) }
 {
-    let image = match read_image(rt, alloc, order.options.jobs(), source, order.manifest) {
+    let image = match read_image(alloc, source, order.manifest) {
         Ok(image) => image,
         Err(fault) => return (Err(fault), out),
     };
@@ -247,7 +233,7 @@ pub(crate) fn update_manifest<
     }
 }
 
-/// Checks whether a command ran in a run of the image, and its edge succeeded.
+/// Checks whether at least one edge of the image ran its command and succeeded in this run.
 fn has_run(image: &Verified, report: &Report) -> bool
     requires { IsStateOf image.now report.now.state }
     ensures ran { result ≡ true → HasRun report.now }
@@ -261,7 +247,7 @@ fn has_run(image: &Verified, report: &Report) -> bool
     false
 }
 
-/// Returns how a build ends whose last run has this report.
+/// Returns how a build ends, from the report of its last run.
 fn end_of(image: &Verified, report: &Report) -> Done
     requires { IsStateOf image.now report.now.state }
     ensures { EndsAs image.now report.now result }
@@ -275,7 +261,7 @@ fn end_of(image: &Verified, report: &Report) -> Done
     Done::UpToDate
 }
 
-/// Runs the image of a manifest that is up to date for the targets.
+/// Builds the targets with the image of a manifest that is up to date, and returns how the build ended.
 pub(crate) fn build_targets<
     W: World + Send + Sync,
     O: Sink + Send + Drop,
@@ -305,7 +291,7 @@ pub(crate) fn build_targets<
     match ran {
         Ok(report) => {
             let done = end_of(&image, &report);
-            // They are not freed piece by piece: the program ends soon.
+            // The memory isn't freed, since the program ends soon.
             forget(report);
             forget(image);
             (Ok(done), out)
@@ -317,18 +303,20 @@ pub(crate) fn build_targets<
     }
 }
 
-/// Builds the targets of a manifest, prints the status lines while commands run, and returns how the build ended. The sink
-/// comes back. Unparking the bell makes the lines that are there be printed.
+/// Builds the targets of a manifest, and prints the status lines while commands run. Returns how the build ended, and
+/// the sink. Unpark `bell` to print the lines that are ready.
 ///
-/// The manifest is read and compiled. If an edge makes it, that edge is run first, with all that it needs. As long as its
-/// command ran, the manifest is read again, at most 100 times (the Ninja manual, "The build file": a build statement may
-/// have the manifest as its output). Then the image of the manifest that was read last is run for the targets.
+/// The manifest is read and compiled. If an edge makes the manifest, that edge runs first, with all edges that it
+/// needs. Each time that its command ran, the manifest is read again, at most 100 times (the Ninja manual, "The build
+/// file": a build statement may have the manifest as its output). Then the image of the last manifest is run for the
+/// targets.
 ///
 /// # Errors
-/// - The manifest, or a file that it includes, is missing or refused, or it has no graph or no image: as of `do_compile`.
-/// - 132, with the name: the first target that no edge makes. The manifest is up to date then.
-/// - 110, 120 to 122: lanes stopped. The lines of what was done were printed, or a prefix of them.
-/// - 133 ` -`: the lines were not printed to the end.
+/// - The manifest, or a file that it includes, is missing or refused, or it has no graph or no image: as in
+///   `do_compile`.
+/// - 132, with the name: no edge makes a target. The first such target is named. The manifest is up to date then.
+/// - 110, 120 to 122: lanes stopped early. The lines of the work until then were printed, or a prefix of them.
+/// - 133 ` -`: a write of the lines failed.
 /// - 111, 131 or the number of a lower layer: memory ran out.
 pub fn do_build<S: Source, W: World + Send + Sync, O: Sink + Send + Drop, R: Threads + Wait + Sync>(
     rt: &R,

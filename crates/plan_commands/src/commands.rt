@@ -12,7 +12,7 @@ use plan_text::Sink;
 use std::alloc::Global;
 use std::mem::forget;
 
-/// What the manifest at the path means.
+/// Reads the manifest at a path, and evaluates it.
 pub fn manifest_at<S: Source>(
     alloc: Global,
     source: &mut S,
@@ -46,11 +46,14 @@ fn check_graph(alloc: Global, manifest: &Manifest) -> Result<(), PlanFault>
     }
 }
 
-/// Writes the command of each edge of the manifest at the path that isn't a phony, in order, a newline after each, and
-/// answers the status 0: then no read and no write failed.
+/// Writes the command of each edge of the manifest at a path, except phony edges, in order, with a newline after each.
+/// Returns the status 0. Then no read and no write failed.
 ///
-/// Where the manifest, or a file that it includes, is missing or refused, or the manifest has no graph, nothing is
-/// written, and the fault says why and where. Where a write fails, the fault is that of the output.
+/// # Errors
+/// - The manifest, or a file that it includes, is missing or refused, or the manifest has no graph: the fault has the
+///   cause and the place. Nothing is written.
+/// - 133 ` -`: a write failed.
+/// - 131 or the number of a lower layer: memory ran out. Nothing is written.
 pub fn do_commands<S: Source, W: Sink>(
     alloc: Global,
     source: &mut S,
@@ -65,12 +68,16 @@ pub fn do_commands<S: Source, W: Sink>(
         ⊎ FailsToWrite loads path.now (W.failures out.old, W.taken out.old) (W.failures out.new, W.taken out.new) fault) }
 {
     let manifest = manifest_at(alloc, source, path)?;
-    check_graph(alloc, &manifest)?;
+    if let Err(fault) = check_graph(alloc, &manifest) {
+        forget(manifest);
+        return Err(fault);
+    }
     let Ok(failed) = output_fault(alloc) else {
+        forget(manifest);
         return Err(no_memory(alloc));
     };
     let written = write_commands(&manifest, out);
-    // It is not freed piece by piece: the program ends soon.
+    // The memory isn't freed, since the program ends soon.
     forget(manifest);
     match written {
         Ok(()) => Ok(0),

@@ -1,4 +1,4 @@
-//! The command `replay` of two traces.
+//! The command `replay` with two traces.
 
 ghost use Rattle.std.specs.Prelude.{◌≡◌, ◌⊎◌, IfOk, IfErr, OnOk, false, true};
 ghost use Rattle.plan_scope.specs.Loading.{IsMissing};
@@ -19,7 +19,7 @@ use plan_verify::Verified;
 use std::alloc::Global;
 use std::mem::forget;
 
-/// What is to be compared.
+/// The paths of an image and of two traces to compare.
 #[derive(Clone, Copy)]
 pub struct Compared<'a> {
     /// The path of the image.
@@ -30,7 +30,7 @@ pub struct Compared<'a> {
     pub second: &'a [u8],
 }
 
-/// Two traces differ in their first lines, or have targets.
+/// Creates the fault that two traces have different first lines, or that one of them has targets.
 fn traces_differ(alloc: Global) -> PlanFault
     ensures { result ≡ traces_differ }
 {
@@ -40,7 +40,7 @@ fn traces_differ(alloc: Global) -> PlanFault
     }
 }
 
-/// Whether two traces have the same first line, and no targets.
+/// Checks whether two traces have the same first line, and no targets.
 fn are_comparable(first: &Trace, second: &Trace) -> bool
     ensures { result ≡ defined.are_comparable first.now second.now }
 {
@@ -49,7 +49,7 @@ fn are_comparable(first: &Trace, second: &Trace) -> bool
         && (has_none(first.targets.as_slice()) && has_none(second.targets.as_slice()))
 }
 
-/// Whether there are no targets.
+/// Checks whether there are no targets.
 fn has_none(targets: &[u32]) -> bool
     ensures { result ≡ defined.has_none targets.now }
 {
@@ -59,7 +59,7 @@ fn has_none(targets: &[u32]) -> bool
     }
 }
 
-/// Whether the runs that two traces tell end alike.
+/// Replays two traces, and checks whether both runs have ended with the same outcomes and the same slots.
 fn compare_runs(
     alloc: Global,
     image: &Verified,
@@ -79,7 +79,7 @@ fn compare_runs(
     }
 }
 
-/// Whether the runs that the traces at two paths tell end alike.
+/// Reads the traces at two paths, and checks whether their runs have ended with the same outcomes and the same slots.
 fn answer_of<S: Source>(
     alloc: Global,
     image: &Verified,
@@ -102,13 +102,13 @@ fn answer_of<S: Source>(
         Err(fault) => return Err(fault),
     };
     let same = compare_runs(alloc, image, &first, &second);
-    // They are not freed piece by piece: the program ends soon.
+    // The memory isn't freed, since the program ends soon.
     forget(first);
     forget(second);
     same
 }
 
-/// Writes an answer, and says with which status the program ends.
+/// Writes `same` or `different`, and returns the status: 0 if the runs are the same, otherwise 1.
 fn write_answer<W: Sink>(alloc: Global, same: bool, out: &mut W) -> Result<u8, PlanFault>
     ensures done { IfOk result (λ status. (status ≡ defined.answer_status same) × Writes true (W.failures out.old, W.taken out.old) (W.failures out.new, W.taken out.new) (defined.answer_line same)) }
     ensures refused { IfErr result (λ fault. ((out.new ≡ out.old) × (fault ≡ no_memory))
@@ -128,13 +128,21 @@ fn write_answer<W: Sink>(alloc: Global, same: bool, out: &mut W) -> Result<u8, P
     }
 }
 
-/// Writes `same` where the runs that two traces tell of an image have both ended, with the same outcomes and the same
-/// slots (whichever edge a skipped one names), and else `different`; and answers the status, 0 or 1. No read and no write
-/// failed. Where any number of failures is borne and each edge got the same replies in both, ended runs are the same.
+/// Replays two traces of an image. Writes `same` if both runs have ended with the same outcomes and the same slots,
+/// otherwise `different`. Skipped edges are the same, whichever edge they name. Returns the status: 0 for `same`, 1 for
+/// `different`. Then no read and no write failed.
 ///
-/// Where the image is missing, no image, or a check of it fails, where a trace is missing or no trace, where their first
-/// lines differ or one has targets, or where an event isn't enabled, nothing is written, and the fault says why and
-/// where, of these in this order. Where a write fails, the fault is that of the output.
+/// If any number of failures is allowed, and each edge got the same replies in both traces, runs that have ended are
+/// the same.
+///
+/// # Errors
+/// The first that applies, with the cause and the place. Nothing is written, except if a write fails.
+/// - The image is missing, isn't an image, or fails a check.
+/// - The first trace is missing or isn't a trace, or else the second one.
+/// - 134: the first lines of the traces differ, or one has targets.
+/// - 110: an event isn't enabled.
+/// - 133 ` -`: a write failed.
+/// - 131 or the number of a lower layer, at any time: memory ran out.
 pub fn do_compare<S: Source, W: Sink>(
     alloc: Global,
     images: &mut S,

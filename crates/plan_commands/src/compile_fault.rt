@@ -1,4 +1,4 @@
-//! Why a manifest has no image, as it is printed.
+//! Faults of the compiler, as they are printed.
 
 ghost use Rattle.std.specs.Prelude.{◌≡◌};
 ghost use Rattle.plan_commands.specs.Faults as defined;
@@ -8,7 +8,7 @@ use plan_compile::CompileFault;
 use plan_text::Items;
 use std::alloc::Global;
 
-/// Why a manifest has no image, as it is printed.
+/// Converts the reason why a manifest has no image into the fault that is printed.
 pub fn printed_compile_fault(alloc: Global, fault: CompileFault) -> PlanFault
     ensures { result ≡ defined.printed_compile_fault fault }
 {

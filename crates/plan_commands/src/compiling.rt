@@ -21,7 +21,7 @@ use plan_text::Sink;
 use std::alloc::Global;
 use std::mem::forget;
 
-/// The graph of the manifest.
+/// Returns the graph of a manifest.
 fn graph_of<'a>(alloc: Global, manifest: &'a Manifest) -> Result<Graph<'a>, PlanFault>
     ensures graph { IfOk result (λ g. IsGraph manifest.now g) }
     ensures refused { IfErr result (λ fault. LacksGraph manifest.now fault) }
@@ -32,10 +32,10 @@ fn graph_of<'a>(alloc: Global, manifest: &'a Manifest) -> Result<Graph<'a>, Plan
     }
 }
 
-/// How many bytes of an image are written at once.
+/// The size of the buffer through which an image is written, in bytes.
 const ROOM: usize = 65_536;
 
-/// Returns the image of a manifest, by an out-of-date rule. The verifier accepts it.
+/// Compiles a manifest into an image with an out-of-date rule. The verifier accepts the image.
 pub fn image_of(alloc: Global, manifest: &Manifest, rule: OutOfDateRule) -> Result<Image, PlanFault>
     requires { IsSound manifest.now }
     ensures spelled { IfOk result (λ image. SpellsImage rule manifest.now (spelling image)) }
@@ -51,11 +51,14 @@ pub fn image_of(alloc: Global, manifest: &Manifest, rule: OutOfDateRule) -> Resu
     }
 }
 
-/// Writes the image of the manifest at the path, by the specified out-of-date rule, and answers the status 0: then no read and no write failed, and the
-/// verifier accepts the image. `output` is the name of the sink's file.
+/// Writes the image of the manifest at a path, compiled with the specified out-of-date rule. The verifier accepts the
+/// image. `output` is the name of the sink's file. Returns the status 0. Then no read and no write failed.
 ///
-/// Where the manifest, or a file that it includes, is missing or refused, or the manifest has no graph or no image,
-/// nothing is written, and the fault says why and where. Where a write fails, the fault is that of the sink's file.
+/// # Errors
+/// - The manifest, or a file that it includes, is missing or refused, or the manifest has no graph or no image: the
+///   fault has the cause and the place. Nothing is written.
+/// - 133, with `output`: a write failed.
+/// - 131 or the number of a lower layer: memory ran out. Nothing is written.
 pub fn do_compile<S: Source, W: Sink>(
     alloc: Global,
     source: &mut S,
@@ -73,7 +76,7 @@ pub fn do_compile<S: Source, W: Sink>(
     let manifest = manifest_at(alloc, source, path)?;
     loaded_manifests_are_sound::<S>();
     let image = image_of(alloc, &manifest, OutOfDateRule::Specified);
-    // It is not freed piece by piece: the program ends soon.
+    // The memory isn't freed, since the program ends soon.
     forget(manifest);
     let image = match image {
         Ok(image) => image,

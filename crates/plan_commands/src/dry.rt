@@ -1,4 +1,4 @@
-//! Dry builds, in which no command runs.
+//! Dry builds, which run no commands.
 
 ghost use Rattle.std.specs.Prelude.{◌≡◌, IfErr, IfOk, OnOk, map};
 ghost use Rattle.plan_scope.specs.Loading.{IsMissing};
@@ -16,8 +16,9 @@ use std::alloc::{AllocError, Global};
 use std::sync::Wait;
 use std::thread::{Parker, Threads};
 
-/// Another world, of which only files and the record are asked. Each command is said to have ended with status 0, each
-/// depfile to be missing, and each entry to be kept.
+/// A world that runs no commands and keeps no entries. It asks another world for files and the record. It replies to
+/// each command that it ended with status 0, to each read of a depfile that it is missing, and to each entry that it is
+/// kept.
 #[derive(Drop)]
 struct DryWorld<'a, W> {
     world: &'a W,
@@ -27,6 +28,12 @@ impl<W: World> World for DryWorld<'_, W> {
     ghost use Rattle.plan_commands.specs.Dry.{dry_rule};
 
     ghost allows = { dry_rule W.allows };
+
+    ghost keeps = { W.keeps };
+
+    fn keeps_journal() -> bool {
+        W::keeps_journal()
+    }
 
     fn stat(&self, number: u64, path: &[u8]) -> Result<Reply, AllocError> {
         self.world.stat(number, path)
@@ -63,15 +70,15 @@ impl<W: World> World for DryWorld<'_, W> {
     }
 }
 
-/// Prints the status lines of a build of a manifest's targets, but runs no command and keeps no entry: of the world only
-/// the files and the record are asked. Each command counts as one that ended with status 0, and leaves its outputs as they
+/// Prints the status lines of a build of a manifest's targets, but runs no command and keeps no entry. Asks the world
+/// only for files and the record. Each command counts as one that ended with status 0, and leaves its outputs as they
 /// are. So an edge that uses outputs of a `restat` edge is listed only if it is out of date already.
 ///
-/// If the command of the edge that makes the manifest would run, the build ends behind it, as `Built`: what the manifest
-/// would say then is not known. It never ends as `NeverSettles`.
+/// If the command of the edge that makes the manifest would run, the build ends after it, as `Built`: the content of
+/// the new manifest isn't known. The build never ends as `NeverSettles`.
 ///
 /// # Errors
-/// As of `do_build`.
+/// As in `do_build`.
 pub fn do_dry_build<
     S: Source,
     W: World + Send + Sync,

@@ -1,4 +1,4 @@
-//! Why the program refuses, as it is printed.
+//! Faults of the program, as they are printed.
 
 ghost use Rattle.std.specs.Prelude.{◌≡◌, ◌⊎◌, ◌∷◌, IfOk};
 ghost use Rattle.plan_text.specs.Bytes.{space};
@@ -8,16 +8,17 @@ use plan_scope::ScopeFault;
 use plan_text::Items;
 use std::alloc::{AllocError, Global};
 
-/// Why the program refuses.
+/// The reason why the program refuses, and the details that are printed.
 #[derive(Debug, Drop)]
 pub struct PlanFault {
     /// The number of the fault: 1 to 134.
     pub number: u8,
-    /// What is printed behind its name, as ` build.ninja:5` or ` a -> b`.
+    /// The text that is printed after the fault's name, such as ` build.ninja:5` or ` a -> b`.
     pub rest: Items<u8>,
 }
 
-/// The name of a fault that is none of manifests and images read.
+/// Returns the name of a fault that isn't about reading a manifest or an image. A number without a name of its own
+/// means that memory ran out.
 fn late_name_of(number: u8) -> &'static str
     ensures { result.now ≡ defined.late_name_of number }
 {
@@ -36,7 +37,7 @@ fn late_name_of(number: u8) -> &'static str
     }
 }
 
-/// The name that is printed behind the number of a fault.
+/// Returns the name that is printed after the number of a fault.
 fn name_of(number: u8) -> &'static str
     ensures { result.now ≡ defined.name_of number }
 {
@@ -103,7 +104,7 @@ fn name_of(number: u8) -> &'static str
 }
 
 impl PlanFault {
-    /// The line that is printed: `plan: NUMBER NAME`, the rest, and a newline.
+    /// Returns the line that is printed: `plan: NUMBER NAME`, the rest, and a newline.
     pub fn line(&self, alloc: Global) -> Result<Vec<u8>, AllocError>
         ensures { IfOk result (λ line. line.items ≡ defined.line_of self.now) }
     {
@@ -118,7 +119,7 @@ impl PlanFault {
     }
 }
 
-/// Want of memory of the program itself.
+/// Creates the fault that the program itself ran out of memory: 131.
 pub fn no_memory(alloc: Global) -> PlanFault
     ensures { result ≡ defined.no_memory }
 {
@@ -128,7 +129,7 @@ pub fn no_memory(alloc: Global) -> PlanFault
     }
 }
 
-/// ` PATH`
+/// Returns ` PATH`.
 fn spaced(alloc: Global, path: &[u8]) -> Result<Vec<u8>, AllocError>
     ensures { IfOk result (λ text. text.items ≡ space ∷ path.now) }
 {
@@ -138,7 +139,7 @@ fn spaced(alloc: Global, path: &[u8]) -> Result<Vec<u8>, AllocError>
     Ok(text)
 }
 
-/// ` PATH:OFFSET`
+/// Returns ` PATH:OFFSET`.
 fn place(alloc: Global, path: &[u8], offset: u64) -> Result<Vec<u8>, AllocError>
     ensures { IfOk result (λ text. text.items ≡ defined.place path.now offset) }
 {
@@ -151,7 +152,7 @@ fn place(alloc: Global, path: &[u8], offset: u64) -> Result<Vec<u8>, AllocError>
     Ok(text)
 }
 
-/// A write to the standard output failed.
+/// Creates the fault that a write to standard output failed: 133 ` -`.
 pub fn output_fault(alloc: Global) -> Result<PlanFault, AllocError>
     ensures { IfOk result (λ fault. fault ≡ defined.output_fault) }
 {
@@ -161,7 +162,7 @@ pub fn output_fault(alloc: Global) -> Result<PlanFault, AllocError>
     })
 }
 
-/// Returns the fault of the standard output, or that memory ran out if there is none for it.
+/// Like `output_fault`, but returns `no_memory` if memory runs out.
 pub fn lost_output(alloc: Global) -> PlanFault
     ensures { (result ≡ defined.output_fault) ⊎ (result ≡ defined.no_memory) }
 {
@@ -171,7 +172,7 @@ pub fn lost_output(alloc: Global) -> PlanFault
     }
 }
 
-/// A write to the file at this path failed.
+/// Creates the fault that a write to the file at this path failed: 133, with the path.
 pub fn write_fault(alloc: Global, path: &[u8]) -> Result<PlanFault, AllocError>
     ensures { IfOk result (λ fault. fault ≡ defined.file_fault path.now) }
 {
@@ -181,7 +182,8 @@ pub fn write_fault(alloc: Global, path: &[u8]) -> Result<PlanFault, AllocError>
     })
 }
 
-/// The file at this path can't be read; or want of memory where that finds none.
+/// Creates the fault that the file at this path can't be read or written: 133, with the path. Returns `no_memory` if
+/// memory runs out.
 pub fn file_fault(alloc: Global, path: &[u8]) -> PlanFault
     ensures { (result ≡ defined.file_fault path.now) ⊎ (result ≡ defined.no_memory) }
 {
@@ -194,7 +196,7 @@ pub fn file_fault(alloc: Global, path: &[u8]) -> PlanFault
     }
 }
 
-/// No edge makes this target; or want of memory where that finds none.
+/// Creates the fault that no edge makes this target: 132, with the name. Returns `no_memory` if memory runs out.
 pub fn unknown_target(alloc: Global, name: &[u8]) -> PlanFault
     ensures { (result ≡ defined.unknown_target name.now) ⊎ (result ≡ defined.no_memory) }
 {
@@ -207,7 +209,7 @@ pub fn unknown_target(alloc: Global, name: &[u8]) -> PlanFault
     }
 }
 
-/// What is printed behind the name of a fault.
+/// Returns the text that is printed after the name of a manifest's fault.
 fn rest_of(alloc: Global, fault: &ScopeFault) -> Result<Vec<u8>, AllocError>
     ensures { IfOk result (λ rest. rest.items ≡ defined.rest_of fault.now) }
 {
@@ -222,7 +224,7 @@ fn rest_of(alloc: Global, fault: &ScopeFault) -> Result<Vec<u8>, AllocError>
     }
 }
 
-/// A fault of a manifest as it is printed, or want of memory where that finds none.
+/// Converts a fault of a manifest into the fault that is printed. Returns `no_memory` if memory runs out.
 pub fn printed_fault(alloc: Global, fault: &ScopeFault) -> PlanFault
     ensures { (result ≡ defined.printed_fault fault.now) ⊎ (result ≡ defined.no_memory) }
 {

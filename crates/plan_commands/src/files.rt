@@ -1,4 +1,4 @@
-//! The files of the system.
+//! Files of the system, as sources and as outputs.
 
 ghost use Rattle.std.specs.Prelude.{◌≡◌};
 ghost use Rattle.std.specs.Io.{WritesAtMost};
@@ -12,26 +12,27 @@ use std::io::{ErrorKind, Read, Write};
 use std::rt::Files;
 use std::{fs, io, str};
 
-/// One byte more than a manifest may have, so that one which is too long is seen to be.
+/// The most bytes that are read of a manifest: one more than is allowed, so that a longer manifest is noticed.
 pub const MANIFEST_BYTES: u64 = MAX_SOURCE as u64 + 1;
 
-/// One byte more than an image may have, so that one which is too long is seen to be.
+/// The most bytes that are read of an image: one more than is allowed, so that a longer image is noticed.
 pub const IMAGE_BYTES: u64 = MAX_IMAGE as u64 + 1;
 
-/// A trace may have any length.
+/// The most bytes that are read of a trace. A trace may have any length.
 pub const TRACE_BYTES: u64 = u64::MAX;
 
-/// The files of the system, by their paths. If one can't be read, standard error says why.
+/// The files of the system, by their paths. If a file can't be read, the cause is printed to standard error. This
+/// doesn't apply to missing manifests and to lack of memory, for which the fault is enough.
 #[derive(Drop)]
 pub struct FileSource<'a, R> {
     rt: &'a R,
-    /// How many bytes of a file are read.
+    /// The most bytes that are read of a file.
     most: u64,
     failures: Tally,
 }
 
 impl<'a, R: Files> FileSource<'a, R> {
-    /// Returns the files that the runtime reaches, `most` bytes of each, no read of which has failed.
+    /// Creates a source of the files that the runtime reaches, which reads at most `most` bytes of each.
     pub fn new(rt: &'a R, most: u64) -> FileSource<'a, R>
         ensures { result.failures.count ≡ 0 }
     {
@@ -43,7 +44,8 @@ impl<'a, R: Files> FileSource<'a, R> {
     }
 }
 
-/// Says on standard error what can't be done with a file, and why. Nothing is said if memory ran out: the fault says so.
+/// Prints to standard error what can't be done with a file, and why. Prints nothing if memory ran out, since the fault
+/// reports it.
 fn say<R: Eprint>(rt: &R, what: &str, path: &str, error: &io::Error) {
     if error.kind() != ErrorKind::OutOfMemory {
         let _ = eprintln!(rt; "plan_ninja: can't {what} {path}: {error}");
@@ -51,7 +53,7 @@ fn say<R: Eprint>(rt: &R, what: &str, path: &str, error: &io::Error) {
 }
 
 impl<R: Eprint> FileSource<'_, R> {
-    /// Says on standard error why a file can't be read.
+    /// Prints to standard error why a file can't be read.
     fn say(&self, path: &[u8], error: &io::Error) {
         say(
             self.rt,
@@ -62,8 +64,8 @@ impl<R: Eprint> FileSource<'_, R> {
     }
 }
 
-/// Reads the file at a path, or a front of so many bytes of a longer one. Room is made at once for the length that the
-/// system tells, and a byte more, so that its end is seen without growing.
+/// Reads the file at a path, but at most `most` bytes. Reserves memory for the length that the system reports and one
+/// byte more, so that the end of the file is found without growing.
 fn read_file<R: Files>(rt: &R, alloc: Global, path: &[u8], most: u64) -> io::Result<Vec<u8>> {
     let Ok(path) = str::from_utf8(path) else {
         return Err(io::Error::from(ErrorKind::InvalidInput));
@@ -89,7 +91,7 @@ impl<R: Files + Eprint> Source for FileSource<'_, R> {
             Ok(bytes) => Ok(bytes),
             Err(error) => match error.kind() {
                 ErrorKind::NotFound | ErrorKind::NotADirectory => {
-                    // A manifest that is missing has a fault of its own.
+                    // A missing manifest has a fault of its own.
                     if self.most != MANIFEST_BYTES {
                         self.say(path, &error);
                     }
@@ -111,18 +113,18 @@ impl<R: Files + Eprint> Source for FileSource<'_, R> {
     }
 }
 
-/// A file that is created, or emptied if it is there, at the first write to it. If it can't be written, standard error says
-/// why.
+/// A file that is created at the first write to it, or emptied if it exists. If it can't be written, the cause is
+/// printed to standard error.
 #[derive(Drop)]
 pub struct NewFile<'a, R: Files> {
     rt: &'a R,
     path: &'a str,
-    /// What was made at the first write.
+    /// The open file, if there was a first write.
     file: Option<R::File>,
 }
 
 impl<'a, R: Files> NewFile<'a, R> {
-    /// The file at a path, which isn't made yet.
+    /// Creates a writer to the file at a path. The file isn't created yet.
     pub fn new(rt: &'a R, path: &'a str) -> NewFile<'a, R> {
         NewFile {
             rt,
@@ -133,7 +135,7 @@ impl<'a, R: Files> NewFile<'a, R> {
 }
 
 impl<R: Files> NewFile<'_, R> {
-    /// Writes to the file, which is created if it isn't yet.
+    /// Writes to the file. Creates it if that isn't done yet.
     fn put(&mut self, bytes: &[u8]) -> io::Result<usize>
         ensures { WritesAtMost result bytes.now }
     {

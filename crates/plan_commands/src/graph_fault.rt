@@ -1,4 +1,4 @@
-//! Why a manifest has no graph, as it is printed.
+//! Faults of graphs, as they are printed.
 
 ghost use Rattle.std.specs.Prelude.{◌≡◌, ◌⊎◌, ◌++◌, ◌∷◌, IfOk, OnOk, codes, flat_map};
 ghost use Rattle.std.specs.List.{join_by};
@@ -11,7 +11,7 @@ use plan_scope::{EdgeList, EdgeRef, Manifest};
 use plan_text::Items;
 use std::alloc::{AllocError, Global};
 
-/// The name of an edge: its first output, explicit before implicit.
+/// Returns the name of an edge: its first explicit output, or its first implicit output if it has no explicit ones.
 fn name_of_edge<'a>(edge: &EdgeRef<'a>) -> &'a [u8]
     ensures { result.now ≡ defined.name_of_edge edge.now }
 {
@@ -22,7 +22,7 @@ fn name_of_edge<'a>(edge: &EdgeRef<'a>) -> &'a [u8]
     edge.implicit_outputs().path(0)
 }
 
-/// The name of the edge of this number.
+/// Returns the name of the edge with this number, or an empty name if there is no such edge.
 fn edge_name_at(edges: &EdgeList, number: usize) -> &[u8]
     ensures { result.now ≡ defined.edge_name_at edges.now number }
 {
@@ -32,7 +32,7 @@ fn edge_name_at(edges: &EdgeList, number: usize) -> &[u8]
     name_of_edge(&edges.edge(number))
 }
 
-/// Appends an arrow and the name of the edge for each of these numbers.
+/// Appends ` -> ` and the name of the edge for each of these numbers.
 fn append_names(edges: &EdgeList, numbers: &[usize], text: &mut Vec<u8>) -> Result<(), AllocError>
     ensures { OnOk result (text.new.items ≡ text.old.items ++ flat_map (λ n. codes " -> " ++ defined.edge_name_at edges.now n) numbers.now) }
 {
@@ -43,7 +43,7 @@ fn append_names(edges: &EdgeList, numbers: &[usize], text: &mut Vec<u8>) -> Resu
     Ok(())
 }
 
-/// A space, and the names of the edges of these numbers, an arrow between each two.
+/// Returns a space, and the names of the edges with these numbers, separated by ` -> `.
 fn cycle_text(alloc: Global, edges: &EdgeList, numbers: &[usize]) -> Result<Vec<u8>, AllocError>
     ensures { IfOk result (λ text. text.items ≡ space ∷ join_by (defined.edge_name_at edges.now) (codes " -> ") numbers.now) }
 {
@@ -58,7 +58,7 @@ fn cycle_text(alloc: Global, edges: &EdgeList, numbers: &[usize]) -> Result<Vec<
     }
 }
 
-/// ` PATH`
+/// Returns ` PATH`.
 fn path_text(alloc: Global, path: &[u8]) -> Result<Vec<u8>, AllocError>
     ensures { IfOk result (λ text. text.items ≡ space ∷ path.now) }
 {
@@ -67,7 +67,7 @@ fn path_text(alloc: Global, path: &[u8]) -> Result<Vec<u8>, AllocError>
     Ok(text)
 }
 
-/// What is printed behind the name of a fault of a graph.
+/// Returns the text that is printed after the name of a graph's fault.
 fn rest_of_graph(alloc: Global, edges: &EdgeList, fault: &GraphFault) -> Result<Vec<u8>, AllocError>
     ensures { IfOk result (λ rest. rest.items ≡ defined.rest_of_graph edges.now fault.now) }
 {
@@ -79,7 +79,8 @@ fn rest_of_graph(alloc: Global, edges: &EdgeList, fault: &GraphFault) -> Result<
     }
 }
 
-/// Why a manifest has no graph, as it is printed, or want of memory where that finds none.
+/// Converts the reason why a manifest has no graph into the fault that is printed. Returns `no_memory` if memory runs
+/// out.
 pub fn printed_graph_fault(alloc: Global, manifest: &Manifest, fault: &GraphFault) -> PlanFault
     ensures { (result ≡ defined.printed_graph_fault manifest.now fault.now) ⊎ (result ≡ defined.no_memory) }
 {

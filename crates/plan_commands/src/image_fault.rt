@@ -1,4 +1,4 @@
-//! Why an image is refused, or can't be run, as it is printed.
+//! Faults of reading and verifying images, as they are printed.
 
 ghost use Rattle.std.specs.Prelude.{◌≡◌, ◌⊎◌, IfOk};
 ghost use Rattle.plan_commands.specs.Faults as defined;
@@ -9,7 +9,7 @@ use plan_text::Items;
 use plan_verify::VerifyFault;
 use std::alloc::{AllocError, Global};
 
-/// ` at OFFSET`
+/// Returns ` at OFFSET`, or an empty text if there is no offset.
 fn at_offset(alloc: Global, offset: Option<u64>) -> Result<Vec<u8>, AllocError>
     ensures { IfOk result (λ text. text.items ≡ defined.at_offset offset) }
 {
@@ -22,7 +22,8 @@ fn at_offset(alloc: Global, offset: Option<u64>) -> Result<Vec<u8>, AllocError>
     Ok(text)
 }
 
-/// Why bytes are no image, as it is printed; or want of memory where that finds none.
+/// Converts the reason why bytes aren't an image into the fault that is printed. Returns `no_memory` if memory runs
+/// out.
 pub fn printed_image_fault(alloc: Global, fault: ImageFault) -> PlanFault
     ensures { (result ≡ defined.printed_image_fault fault) ⊎ (result ≡ defined.no_memory) }
 {
@@ -35,7 +36,7 @@ pub fn printed_image_fault(alloc: Global, fault: ImageFault) -> PlanFault
     }
 }
 
-/// ` at edge EDGE place PLACE`
+/// Returns ` at edge EDGE place PLACE`, or an empty text if one of the two is missing.
 fn at_edge(alloc: Global, edge: Option<u32>, place: Option<u32>) -> Result<Vec<u8>, AllocError>
     ensures { IfOk result (λ text. text.items ≡ defined.at_edge edge place) }
 {
@@ -51,7 +52,8 @@ fn at_edge(alloc: Global, edge: Option<u32>, place: Option<u32>) -> Result<Vec<u
     Ok(text)
 }
 
-/// Why an image can't be run, as it is printed; or want of memory where that finds none.
+/// Converts the reason why an image can't be run into the fault that is printed. Returns `no_memory` if memory runs
+/// out.
 pub fn printed_verify_fault(alloc: Global, fault: VerifyFault) -> PlanFault
     ensures { (result ≡ defined.printed_verify_fault fault) ⊎ (result ≡ defined.no_memory) }
 {

@@ -1,4 +1,4 @@
-//! Images read from a source, and the command `dump`.
+//! Reading images from a source, and the command `dump`.
 
 ghost use Rattle.std.specs.Prelude.{◌≡◌, ◌⊎◌, IfOk, IfErr, OnOk};
 ghost use Rattle.plan_scope.specs.Loading.{IsMissing};
@@ -12,7 +12,7 @@ use plan_text::Sink;
 use std::alloc::Global;
 use std::mem::forget;
 
-/// The image at the path. The bytes of the file are freed.
+/// Reads the image at a path. Frees the bytes of the file.
 pub fn image_at<S: Source>(alloc: Global, source: &mut S, path: &[u8]) -> Result<Image, PlanFault>
     ensures image { IfOk result (λ image. IsImageAt (S.gives source.old) path.now image) }
     ensures read { OnOk result (S.failures source.new ≡ S.failures source.old) }
@@ -30,11 +30,13 @@ pub fn image_at<S: Source>(alloc: Global, source: &mut S, path: &[u8]) -> Result
     }
 }
 
-/// Writes the listing of the image at the path, and answers the status 0: then no read and no write failed. Whether the
-/// image can be run is not asked.
+/// Writes the listing of the image at a path, and returns the status 0. Then no read and no write failed. The image
+/// isn't verified.
 ///
-/// Where the file is missing or no image, nothing is written, and the fault says why and where. Where a write fails, the
-/// fault is that of the output.
+/// # Errors
+/// - The file is missing or isn't an image: the fault has the cause and the place. Nothing is written.
+/// - 133 ` -`: a write failed.
+/// - 131 or the number of a lower layer: memory ran out. Nothing is written.
 pub fn do_dump<S: Source, W: Sink>(
     alloc: Global,
     source: &mut S,
@@ -53,7 +55,7 @@ pub fn do_dump<S: Source, W: Sink>(
         return Err(no_memory(alloc));
     };
     let written = listing(&image, out);
-    // It is not freed piece by piece: the program ends soon.
+    // The memory isn't freed, since the program ends soon.
     forget(image);
     match written {
         Ok(()) => Ok(0),

@@ -1,4 +1,4 @@
-//! Laws: what the end of a build means.
+//! Laws about the end of a build.
 
 ghost use Rattle.plan_commands.specs.BuildIsRight.{BuildIsRight, IdleBuildsRunNothing};
 
@@ -6,15 +6,16 @@ use plan_lanes::World;
 use plan_laws::{commands_run_once, finished_runs_are_right};
 use plan_scope::Source;
 
-/// If a build ends with status 0, each wanted edge of the manifest that was read last began after everything that it waits
-/// for had succeeded, and was clean by its out-of-date rule, or its own command ran to exit status 0 in this build.
+/// Proves that if a build ends with status 0, each wanted edge of the manifest that was read last began after
+/// everything that it waits for had succeeded. Each of these edges was clean by its out-of-date rule, or its own
+/// command ran to exit status 0 in this build.
 pub fn build_is_right<S: Source, W: World>()
     ensures { (source : S) → BuildIsRight (S.gives source) W.allows }
 {
     finished_runs_are_right::<W>();
 }
 
-/// If a build ends with no work to do, no wanted edge asked for a command in the run for the targets.
+/// Proves that if a build ends with no work to do, no wanted edge asked for a command in the run for the targets.
 pub fn idle_builds_run_nothing<S: Source, W: World>()
     ensures { (source : S) → IdleBuildsRunNothing (S.gives source) W.allows }
 {

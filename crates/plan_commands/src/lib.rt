@@ -1,15 +1,15 @@
-//! The commands of plan_ninja, over any files, outputs and worlds, and the real files.
+//! The commands of plan_ninja, for any files, outputs and worlds, and the real files.
 //!
-//! - `do_commands`, `do_compile`, `do_verify`, `do_dump`, `do_replay`, `do_compare`: what a command writes to a sink, by
-//!   what its sources give, and the status that it ends with.
+//! - `do_commands`, `do_compile`, `do_verify`, `do_dump`, `do_replay`, `do_compare`: read from sources, write to a
+//!   sink, and return the exit status.
 //! - `do_run`: runs an image in a world.
-//! - `do_build`: brings a manifest up to date, and builds its targets in a world. `do_dry_build`: without running anything.
-//! - `build_is_right`, `idle_builds_run_nothing`: what the end of a build means for the edges of the manifest.
-//! - `PlanFault`: why a command is refused, with the line that is printed; `printed_fault` and `printed_graph_fault` make
-//!   one of the fault of a manifest.
-//! - `FileSource`, `NewFile`: the files of the system. `Buffer`: bytes held back before a sink.
-//! - `Standard`, `Screen`: standard output, as one thread writes to it and as several do. `open_streams`: the streams that
-//!   a program was started without.
+//! - `do_build`: brings a manifest up to date, and builds its targets in a world. `do_dry_build`: runs no commands.
+//! - `build_is_right`, `idle_builds_run_nothing`: laws about the edges of a manifest when its build ends.
+//! - `PlanFault`: the reason why a command is refused, with the line that is printed. `printed_fault` and
+//!   `printed_graph_fault` convert faults of a manifest.
+//! - `FileSource`, `NewFile`: the files of the system. `Buffer`: a sink that buffers bytes for another sink.
+//! - `Standard`, `Screen`: standard output for one thread, and for several threads. `open_streams`: opens the standard
+//!   streams that are closed when the program starts.
 //!
 //! docs/using/running.md, docs/rules/replay.md and docs/rules/manifest.md have the rules one by one.
 #![tactic(auto)]
@@ -27,6 +27,7 @@ mod graph_fault;
 mod image_fault;
 mod images;
 mod laws;
+mod makers;
 mod playing;
 mod replay_fault;
 mod replaying;

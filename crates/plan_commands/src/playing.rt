@@ -10,7 +10,7 @@ ghost use Rattle.plan_status.specs.Printing.{Prints};
 ghost use Rattle.plan_lanes.specs.Desks.{ReportIsFed};
 ghost use Rattle.plan_lanes.specs.Faults as faults;
 ghost use Rattle.plan_lanes.specs.Faults.{FaultReports};
-ghost use Rattle.plan_lanes.specs.Reports.{IsRunOf};
+ghost use Rattle.plan_lanes.specs.Reports.{IsKeptBy, IsRunOf};
 ghost use Rattle.plan_commands.specs.Running as defined;
 ghost use Rattle.plan_commands.specs.Running.{lines_in};
 
@@ -25,22 +25,22 @@ use std::sync::atomic::{AtomicBool, Ordering};
 use std::thread::{Parker, Threads, join};
 use std::time::Duration;
 
-/// How many lines may wait to be printed while lanes work.
+/// The largest number of lines that may wait to be printed while lanes work.
 const LINES: usize = 256;
 
-/// How many milliseconds the printing thread sleeps between two looks at most.
+/// The longest pause of the printing thread before it looks for lines again, in milliseconds.
 const PAUSE: u64 = 10;
 
-/// What came of a run, and of printing its lines.
+/// The result of a run, and the result of printing its lines.
 #[derive(Drop)]
 pub struct Played {
-    /// The run.
+    /// The report of the run, or the fault of lanes that stopped it.
     pub ran: Result<Report, LaneFault>,
-    /// Whether all lines of its report were printed; `Ok` where it has none.
+    /// Whether all lines of the report were printed. `Ok` if there is no report.
     pub printed: Result<(), PrintFault>,
 }
 
-/// The report that comes with a fault of lanes.
+/// Returns the report that comes with a fault of lanes, if there is one.
 pub fn report_of(fault: &LaneFault) -> Option<&Report>
     ensures { option_map (λ r. r.now) result ≡ faults.report_of fault.now }
 {
@@ -53,7 +53,7 @@ pub fn report_of(fault: &LaneFault) -> Option<&Report>
     }
 }
 
-/// The report of a run that has ended, or of one that has stopped.
+/// Returns the report of a run that has ended, or of a run that has stopped, if there is one.
 fn report_in(ran: &Result<Report, LaneFault>) -> Option<&Report>
     ensures { option_map (λ r. r.now) result ≡ defined.report_in ran.now }
 {
@@ -63,7 +63,7 @@ fn report_in(ran: &Result<Report, LaneFault>) -> Option<&Report>
     }
 }
 
-/// Whether lanes are done, for the thread that prints meanwhile, and the bell that wakes it.
+/// A flag that is set when lanes are done, and the bell that wakes the thread that prints meanwhile.
 #[derive(Drop)]
 struct End<'a> {
     reached: AtomicBool,
@@ -71,7 +71,7 @@ struct End<'a> {
 }
 
 impl<'a> End<'a> {
-    /// They aren't.
+    /// Creates the flag. Lanes aren't done yet.
     fn new(bell: &'a Parker) -> End<'a> {
         End {
             reached: AtomicBool::new(false),
@@ -79,24 +79,24 @@ impl<'a> End<'a> {
         }
     }
 
-    /// Whether they are.
+    /// Checks whether lanes are done.
     fn is_reached(&self) -> bool {
         self.reached.load(Ordering::SeqCst)
     }
 
-    /// They are: who waits is woken.
+    /// Sets the flag, and wakes the thread that prints.
     fn reach(&self) {
         self.reached.store(true, Ordering::SeqCst);
         self.bell.unpark();
     }
 
-    /// Waits until the bell is rung, and no longer than a pause.
+    /// Waits until the bell is rung, but at most `PAUSE` milliseconds.
     fn wait<R: Wait>(&self, rt: &R) {
         self.bell.park_timeout(rt, Duration::from_millis(PAUSE));
     }
 }
 
-/// Prints the lines that come, until lanes are done; then it looks once more.
+/// Prints lines as they come, until lanes are done. Looks for lines once more after that.
 fn print_along<R: Wait, O: Sink>(rt: &R, end: &End<'_>, tap: &mut Tap, out: &mut O)
     ensures printed { (start : ℕ × Option (List ℕ)) → Prints (received_text tap.old) tap.old.stop start (O.failures out.old, O.taken out.old)
         → Prints (received_text tap.new) tap.new.stop start (O.failures out.new, O.taken out.new) }
@@ -112,7 +112,7 @@ fn print_along<R: Wait, O: Sink>(rt: &R, end: &End<'_>, tap: &mut Tap, out: &mut
     }
 }
 
-/// Prints the lines that come, and gives back what it needs for that.
+/// Like `print_along`, but takes the tap and the sink, and returns them.
 fn print_till_end<R: Wait, O: Sink>(rt: &R, end: &End<'_>, tap: Tap, out: O) -> (Tap, O)
     ensures printed { (start : ℕ × Option (List ℕ)) → Prints (received_text tap) tap.stop start (O.failures out, O.taken out)
         → Prints (received_text result.0) result.0.stop start (O.failures result.1, O.taken result.1) }
@@ -123,7 +123,7 @@ fn print_till_end<R: Wait, O: Sink>(rt: &R, end: &End<'_>, tap: Tap, out: O) -> 
     (tap, out)
 }
 
-/// Runs what is open, and tells who prints that lanes are done.
+/// Executes an opened run, and then sets the flag that lanes are done.
 fn run_till_end<W: World + Send + Sync, R: Threads + Wait + Sync>(
     rt: &R,
     end: &End<'_>,
@@ -134,6 +134,7 @@ fn run_till_end<W: World + Send + Sync, R: Threads + Wait + Sync>(
     ensures ended { IfOk result.0 (λ r. has_ended r.state.going.now ≡ true) }
     ensures fault { IfErr result.0 (λ f. FaultReports W.allows run.entry.opened f) }
     ensures begun { is_some (defined.report_in result.0) ≡ true }
+    ensures kept { IfSome (defined.report_in result.0) (λ r. IsKeptBy W.keeps r) }
     ensures same { SameFeed run.entry.feed result.1 }
     ensures fed { IfSome (defined.report_in result.0) (λ r. ReportIsFed run.entry.opened r result.1) }
 {
@@ -142,7 +143,7 @@ fn run_till_end<W: World + Send + Sync, R: Threads + Wait + Sync>(
     ran
 }
 
-/// Runs what is open while a thread of its own prints from the tap; where none can be started, that is done afterwards.
+/// Executes an opened run while a thread prints from the tap. If no thread can be started, prints afterwards.
 fn run_and_print<W: World + Send + Sync, O: Sink + Send + Drop, R: Threads + Wait + Sync>(
     rt: &R,
     run: ShownRun<'_, W>,
@@ -155,6 +156,7 @@ fn run_and_print<W: World + Send + Sync, O: Sink + Send + Drop, R: Threads + Wai
     ensures ended { IfOk result.1.0 (λ r. has_ended r.state.going.now ≡ true) }
     ensures fault { IfErr result.1.0 (λ f. FaultReports W.allows run.entry.opened f) }
     ensures begun { is_some (defined.report_in result.1.0) ≡ true }
+    ensures kept { IfSome (defined.report_in result.1.0) (λ r. IsKeptBy W.keeps r) }
     ensures same { SameFeed run.entry.feed result.1.1 }
     ensures fed { IfSome (defined.report_in result.1.0) (λ r. ReportIsFed run.entry.opened r result.1.1) }
     ensures printed { (start : ℕ × Option (List ℕ)) → Prints (received_text tap) tap.stop start (O.failures out, O.taken out)
@@ -169,7 +171,7 @@ fn run_and_print<W: World + Send + Sync, O: Sink + Send + Drop, R: Threads + Wai
     )
 }
 
-/// Prints what is left of the lines of a run that has ended, or of one that has stopped.
+/// Prints the lines that are left of a run that has ended or has stopped.
 fn settle<O: Sink>(
     image: &Verified,
     ran: &Result<Report, LaneFault>,
@@ -190,7 +192,7 @@ fn settle<O: Sink>(
     }
 }
 
-/// Runs an image, and prints its lines while lanes work: a run that isn't opened prints nothing.
+/// Runs an image, and prints its lines while lanes work. Prints nothing if the run can't be opened.
 fn play_live<W: World + Send + Sync, O: Sink + Send + Drop, R: Threads + Wait + Sync>(
     rt: &R,
     alloc: Global,
@@ -209,6 +211,7 @@ fn play_live<W: World + Send + Sync, O: Sink + Send + Drop, R: Threads + Wait + 
     ensures fault { IfErr result.0.ran (λ f. FaultReports W.allows (record { parts = image.now; limits = options; targets = targets.now }) f) }
     ensures printed { IfSome (defined.report_in result.0.ran) (λ r. Prints (lines_in image.now r) (result_err result.0.printed) (O.failures out, O.taken out) (O.failures result.1, O.taken result.1)) }
     ensures silent { IfNone (defined.report_in result.0.ran) (result.1 ≡ out) }
+    ensures kept { IfSome (defined.report_in result.0.ran) (λ r. IsKeptBy W.keeps r) }
 {
     ends_stay();
     let (feed, tap) = ends;
@@ -225,7 +228,7 @@ fn play_live<W: World + Send + Sync, O: Sink + Send + Drop, R: Threads + Wait + 
     (Played { ran, printed }, out)
 }
 
-/// Prints the lines of a run that has ended, or of one that has stopped.
+/// Prints the lines of a run that has ended or has stopped. Prints nothing if there is no report.
 fn print_all<O: Sink>(
     alloc: Global,
     image: &Verified,
@@ -242,7 +245,7 @@ fn print_all<O: Sink>(
     }
 }
 
-/// Runs an image, and prints its lines when lanes are done.
+/// Runs an image, and prints its lines after lanes are done.
 fn play_silently<W: World + Send + Sync, O: Sink, R: Threads + Wait + Sync>(
     rt: &R,
     alloc: Global,
@@ -257,6 +260,7 @@ fn play_silently<W: World + Send + Sync, O: Sink, R: Threads + Wait + Sync>(
     ensures fault { IfErr result.0.ran (λ f. FaultReports W.allows (record { parts = image.now; limits = options; targets = targets.now }) f) }
     ensures printed { IfSome (defined.report_in result.0.ran) (λ r. Prints (lines_in image.now r) (result_err result.0.printed) (O.failures out, O.taken out) (O.failures result.1, O.taken result.1)) }
     ensures silent { IfNone (defined.report_in result.0.ran) (result.1 ≡ out) }
+    ensures kept { IfSome (defined.report_in result.0.ran) (λ r. IsKeptBy W.keeps r) }
 {
     let mut out = out;
     let ran = run_lanes(rt, alloc, image, options, targets, world);
@@ -264,8 +268,8 @@ fn play_silently<W: World + Send + Sync, O: Sink, R: Threads + Wait + Sync>(
     (Played { ran, printed }, out)
 }
 
-/// Runs an image by lanes and prints its status lines: as they come where there is memory for that, else at the end. The
-/// thread that prints looks now and then, and where the bell is rung.
+/// Runs an image with lanes, and prints its status lines. Prints them as they come if there is memory for that,
+/// otherwise at the end. The printing thread looks for lines every `PAUSE` milliseconds, and when the bell is rung.
 pub fn play<W: World + Send + Sync, O: Sink + Send + Drop, R: Threads + Wait + Sync>(
     rt: &R,
     alloc: Global,
@@ -281,6 +285,7 @@ pub fn play<W: World + Send + Sync, O: Sink + Send + Drop, R: Threads + Wait + S
     ensures fault { IfErr result.0.ran (λ f. FaultReports W.allows (record { parts = image.now; limits = options; targets = targets.now }) f) }
     ensures printed { IfSome (defined.report_in result.0.ran) (λ r. Prints (lines_in image.now r) (result_err result.0.printed) (O.failures out, O.taken out) (O.failures result.1, O.taken result.1)) }
     ensures silent { IfNone (defined.report_in result.0.ran) (result.1 ≡ out) }
+    ensures kept { IfSome (defined.report_in result.0.ran) (λ r. IsKeptBy W.keeps r) }
 {
     match live(alloc, LINES) {
         Ok(ends) => play_live(rt, alloc, image, options, targets, world, bell, ends, out),

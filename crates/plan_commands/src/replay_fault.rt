@@ -1,4 +1,4 @@
-//! Why a trace is refused, as it is printed.
+//! Faults of traces and of their replay, as they are printed.
 
 ghost use Rattle.std.specs.Prelude.{◌≡◌, ◌⊎◌, ◌++◌, IfOk};
 ghost use Rattle.std.specs.Fmt.{decimal};
@@ -9,7 +9,7 @@ use plan_machine::Refused;
 use plan_text::Items;
 use std::alloc::{AllocError, Global};
 
-/// Words, and a number behind them.
+/// Returns the words, followed by the number.
 fn counted(alloc: Global, words: &[u8], number: u64) -> Result<Vec<u8>, AllocError>
     ensures { IfOk result (λ text. text.items ≡ words.now ++ decimal number) }
 {
@@ -19,7 +19,8 @@ fn counted(alloc: Global, words: &[u8], number: u64) -> Result<Vec<u8>, AllocErr
     Ok(text)
 }
 
-/// A line of a trace that says nothing where it stands; or want of memory where that finds none.
+/// Creates the fault that a line of a trace is malformed or not allowed there: 130, with the number of the line.
+/// Returns `no_memory` if memory runs out.
 pub fn trace_fault(alloc: Global, line: u64) -> PlanFault
     ensures { (result ≡ defined.trace_fault line) ⊎ (result ≡ defined.no_memory) }
 {
@@ -32,7 +33,8 @@ pub fn trace_fault(alloc: Global, line: u64) -> PlanFault
     }
 }
 
-/// The place of an event that isn't enabled.
+/// Creates the fault that an event isn't enabled: 110, with the number of the event. Returns `no_memory` if memory runs
+/// out.
 fn event_fault(alloc: Global, event: u64) -> PlanFault
     ensures { (result ≡ defined.event_fault event) ⊎ (result ≡ defined.no_memory) }
 {
@@ -45,7 +47,8 @@ fn event_fault(alloc: Global, event: u64) -> PlanFault
     }
 }
 
-/// Why events aren't replayed, as it is printed, with the place of the event; or want of memory where that finds none.
+/// Converts the reason why events can't be replayed into the fault that is printed. Adds the number of the event if the
+/// event isn't enabled. Returns `no_memory` if memory runs out.
 pub fn printed_refusal(alloc: Global, event: usize, refused: Refused) -> PlanFault
     ensures { (result ≡ defined.printed_refusal event refused) ⊎ (result ≡ defined.no_memory) }
 {

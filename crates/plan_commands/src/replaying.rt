@@ -21,7 +21,7 @@ use plan_verify::Verified;
 use std::alloc::Global;
 use std::mem::forget;
 
-/// The trace at the path. The bytes of the file are freed.
+/// Reads the trace at a path. Frees the bytes of the file.
 pub(crate) fn trace_at<S: Source>(
     alloc: Global,
     source: &mut S,
@@ -44,7 +44,7 @@ pub(crate) fn trace_at<S: Source>(
     }
 }
 
-/// Where the run that a trace tells leads, and its marks.
+/// Replays a trace of an image, and returns the state at its end and its marks.
 fn run_of(alloc: Global, image: &Verified, trace: &Trace) -> Result<(State, Vec<Mark>), PlanFault>
     ensures run { IfOk result (λ x. IsRun image.now trace.now x.1.items x.0.going.now) }
     ensures state { IfOk result (λ x. IsStateOf image.now x.0) }
@@ -63,7 +63,7 @@ fn run_of(alloc: Global, image: &Verified, trace: &Trace) -> Result<(State, Vec<
     }
 }
 
-/// Writes the status lines of a run, and how each edge came out.
+/// Writes the status lines of a run, and then the outcome of each edge.
 fn print_run<W: Sink>(
     alloc: Global,
     image: &Verified,
@@ -81,14 +81,14 @@ fn print_run<W: Sink>(
     }
 }
 
-/// 0 where all wanted edges ended well, else 1.
+/// Returns the status: 0 if all wanted edges succeeded, otherwise 1.
 fn status_of(image: &Verified, state: &State) -> u8
     ensures { result ≡ run_status image.now state.now.going.now }
 {
     if all_done(image, state) { 0 } else { 1 }
 }
 
-/// Writes what there is to say of a run, and answers the status.
+/// Writes the status lines and the outcomes of a run, and returns the status.
 fn tell_run<W: Sink>(
     alloc: Global,
     image: &Verified,
@@ -111,7 +111,8 @@ fn tell_run<W: Sink>(
     }
 }
 
-/// Writes what there is to say of the run of the image that the trace at the path tells.
+/// Replays the trace at a path with the image. Writes the status lines and the outcomes of the run, and returns the
+/// status.
 fn tell<S: Source, W: Sink>(
     alloc: Global,
     image: &Verified,
@@ -128,19 +129,22 @@ fn tell<S: Source, W: Sink>(
     let trace = trace_at(alloc, source, path)?;
     let (state, marks) = run_of(alloc, image, &trace)?;
     let told = tell_run(alloc, image, &state, &marks, out);
-    // They are not freed piece by piece: the program ends soon.
+    // The memory isn't freed, since the program ends soon.
     forget(trace);
     forget(state);
     told
 }
 
-/// Writes the status lines of the run that the trace tells of the image, and then how each edge came out, and answers the
-/// status: 0 where all wanted edges ended well, else 1. No read and no write failed. The run kept to the rules: none of
-/// its events went wrong, its marks are orderly, its events are bounded.
+/// Replays a trace of an image. Writes the status lines of the run, and then the outcome of each edge. Returns the
+/// status: 0 if all wanted edges succeeded, otherwise 1. Then no read and no write failed. The run kept to the rules:
+/// none of its events went wrong, its marks are orderly, and the number of its events is bounded.
 ///
-/// Where the image is missing, no image, or a check of it fails, where the trace is missing or no trace, or where one of
-/// its events isn't enabled or of its targets no edge, nothing is written, and the fault says why and where. Where a write
-/// fails, the fault is that of the output.
+/// # Errors
+/// - The image is missing, isn't an image, or fails a check: the fault has the cause and the place. Nothing is written.
+/// - The trace is missing or isn't a trace, one of its events isn't enabled, or one of its targets isn't an edge: the
+///   fault has the cause and the place. Nothing is written.
+/// - 133 ` -`: a write failed.
+/// - 131 or the number of a lower layer: memory ran out.
 pub fn do_replay<S: Source, W: Sink>(
     alloc: Global,
     images: &mut S,

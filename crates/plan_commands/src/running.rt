@@ -1,21 +1,23 @@
 //! The command `run`.
 
-ghost use Rattle.std.specs.Prelude.{◌≡◌, ◌⊎◌, Bool, Err, IfErr, IfNone, IfOk, IfSome, OnOk, Some, map, option_map};
+ghost use Rattle.std.specs.Prelude.{◌≡◌, ◌⊎◌, Bool, Err, IfErr, IfNone, IfOk, IfSome, OnOk, Some, map, option_map, true};
 ghost use Rattle.std.specs.Result.{result_err};
 ghost use Rattle.plan_scope.specs.Loading.{IsMissing};
 ghost use Rattle.plan_machine.specs.Kept.{IsStateOf};
+ghost use Rattle.plan_machine.specs.State.{has_ended};
 ghost use Rattle.plan_status.specs.Printing.{Prints};
 ghost use Rattle.plan_lanes.specs.Faults as faults;
+ghost use Rattle.plan_lanes.specs.Reports.{IsRunOf};
 ghost use Rattle.plan_commands.specs.Faults.{no_memory};
 ghost use Rattle.plan_commands.specs.Images.{SinkState};
 ghost use Rattle.plan_commands.specs.Running as defined;
-ghost use Rattle.plan_commands.specs.Running.{FailsToRun, IsNotBegun, IsOpened, Runs, Tells, TellsAll, Traces, WritesTrace, lines_in};
+ghost use Rattle.plan_commands.specs.Running.{FailsToRun, IsKeptFor, IsNotBegun, IsOpened, Runs, Tells, TellsAll, Traces, WritesTrace, lines_in};
 
 use crate::fault::{PlanFault, file_fault, lost_output, no_memory};
 use crate::playing::{Played, play, report_of};
 use crate::targets::targets_of;
 use crate::verdicts::verified_by;
-use plan_lanes::{LaneFault, Report, World};
+use plan_lanes::{Journaled, LaneFault, Report, World};
 use plan_machine::Options;
 use plan_scope::Source;
 use plan_status::{PrintFault, all_done};
@@ -27,20 +29,20 @@ use std::mem::forget;
 use std::sync::Wait;
 use std::thread::{Parker, Threads};
 
-/// What `run` is asked for.
+/// A request to run an image.
 #[derive(Clone, Copy)]
 pub struct Build<'a> {
     /// The path of the image.
     pub image: &'a [u8],
-    /// How many commands may run at once, and how many failures are borne.
+    /// The number of commands that may run at once, and the number of failures after which no further command starts.
     pub options: Options,
-    /// The names of the targets; none where the image's defaults are built.
+    /// The names of the targets. If there are none, the defaults of the image are built.
     pub targets: &'a [&'a [u8]],
-    /// The path of the file that is to get the trace of the run.
+    /// The path of the file for the trace of the run, if a trace is written.
     pub trace: Option<&'a [u8]>,
 }
 
-/// Why a text wasn't printed, as the program prints it.
+/// Converts the reason why a text wasn't printed into the fault of the program.
 pub fn printed_print_fault(alloc: Global, fault: PrintFault) -> PlanFault
     ensures { (result ≡ defined.printed_print_fault fault) ⊎ (result ≡ no_memory) }
 {
@@ -50,7 +52,7 @@ pub fn printed_print_fault(alloc: Global, fault: PrintFault) -> PlanFault
     }
 }
 
-/// The status of a run that has ended, where its lines were printed.
+/// Returns the status of a run that has ended, if its lines were printed.
 fn tell(
     alloc: Global,
     image: &Verified,
@@ -66,7 +68,8 @@ fn tell(
     }
 }
 
-/// Writes the trace of a run of these targets to the file at a path. Only a failed write refuses it: it takes no memory.
+/// Writes the trace of a run of these targets to the file at a path. Writing takes no memory, so this fails only if a
+/// write fails.
 fn traced_at<T: Sink>(
     alloc: Global,
     path: &[u8],
@@ -75,15 +78,19 @@ fn traced_at<T: Sink>(
     report: &Report,
     trace: &mut T,
 ) -> Result<(), PlanFault>
+    requires { report.now.kept ≡ Some report.now.journal }
     ensures { WritesTrace (Some path.now) options targets.now report.now (T.failures trace.old, T.taken trace.old) (T.failures trace.new, T.taken trace.new) result }
 {
-    match write_run(options, targets, &report.journal, trace) {
+    let Some(journal) = &report.kept else {
+        unreachable!()
+    };
+    match write_run(options, targets, journal, trace) {
         Ok(()) => Ok(()),
         Err(_) => Err(file_fault(alloc, path)),
     }
 }
 
-/// Writes the trace of a run of these targets, where it is to have one.
+/// Writes the trace of a run of these targets, if the run is to have one.
 fn traced<T: Sink>(
     alloc: Global,
     build: &Build<'_>,
@@ -91,6 +98,7 @@ fn traced<T: Sink>(
     report: &Report,
     trace: &mut T,
 ) -> Result<(), PlanFault>
+    requires { IsKeptFor (option_map (λ t. t.now) build.now.trace) report.now }
     ensures { WritesTrace (option_map (λ t. t.now) build.now.trace) build.now.options targets.now report.now (T.failures trace.old, T.taken trace.old) (T.failures trace.new, T.taken trace.new) result }
 {
     match build.trace {
@@ -99,7 +107,7 @@ fn traced<T: Sink>(
     }
 }
 
-/// Writes the trace of a run that has ended, and answers its status.
+/// Writes the trace of a run that has ended, and returns its status.
 fn tell_all<T: Sink>(
     alloc: Global,
     build: &Build<'_>,
@@ -109,7 +117,8 @@ fn tell_all<T: Sink>(
     printed: Result<(), PrintFault>,
     trace: &mut T,
 ) -> Result<u8, PlanFault>
-    requires { IsStateOf image.now report.now.state }
+    requires state { IsStateOf image.now report.now.state }
+    requires kept { IsKeptFor (option_map (λ t. t.now) build.now.trace) report.now }
     ensures { (old new : SinkState) → Prints (lines_in image.now report.now) (result_err printed) old new → TellsAll (option_map (λ t. t.now) build.now.trace) image.now build.now.options targets.now report.now
         (old, (T.failures trace.old, T.taken trace.old)) (new, (T.failures trace.new, T.taken trace.new)) result }
 {
@@ -120,7 +129,7 @@ fn tell_all<T: Sink>(
     }
 }
 
-/// A fault of lanes, as the program prints it.
+/// Converts a fault of lanes into the fault of the program.
 pub fn printed_lane_fault(alloc: Global, fault: &LaneFault) -> PlanFault
     ensures { result ≡ defined.printed_lane_fault fault.now }
 {
@@ -130,7 +139,8 @@ pub fn printed_lane_fault(alloc: Global, fault: &LaneFault) -> PlanFault
     }
 }
 
-/// The image at a path, which so many threads verify as may run commands, and the edges that make its targets.
+/// Reads the image at a path, and finds the edges that make the targets. Verifies the image with as many threads as
+/// commands may run at once.
 fn opened_at<S: Source, R: Threads + Sync>(
     rt: &R,
     alloc: Global,
@@ -157,7 +167,8 @@ fn opened_at<S: Source, R: Threads + Sync>(
     }
 }
 
-/// What came of a run is told, and its trace written.
+/// Writes the trace of a run that has ended or has stopped. Returns its status, or the fault that stopped it.
+#[tactic(auto, using(crate::proofs::RunningLemmas::kept_of))]
 fn told<T: Sink>(
     alloc: Global,
     build: &Build<'_>,
@@ -167,6 +178,7 @@ fn told<T: Sink>(
     trace: &mut T,
 ) -> Result<u8, PlanFault>
     requires ok { IfOk played.now.ran (λ r. IsStateOf image.now r.state) }
+    requires kept { IfSome (defined.report_in played.now.ran) (λ r. IsKeptFor (option_map (λ t. t.now) build.now.trace) r) }
     ensures ended { IfOk played.now.ran (λ r. (old new : SinkState) → Prints (lines_in image.now r) (result_err played.now.printed) old new → TellsAll (option_map (λ t. t.now) build.now.trace) image.now build.now.options targets.now r
         (old, (T.failures trace.old, T.taken trace.old)) (new, (T.failures trace.new, T.taken trace.new)) result) }
     ensures err { IfErr played.now.ran (λ f. result ≡ Err (defined.printed_lane_fault f)) }
@@ -185,13 +197,46 @@ fn told<T: Sink>(
     }
 }
 
-/// Runs the image at a path by as many threads as there may be commands at once, prints the status lines while they work,
-/// writes the trace where it is to have one, and answers 0 where all that is wanted ended well, else 1. The sink comes
-/// back. Whoever rings the bell has the lines printed that are there.
+/// Runs an image, and prints its lines while lanes work. Keeps the journal if the run is to have a trace.
+#[tactic(auto, using(crate::proofs::RunningLemmas::nothing_kept))]
+fn play_for<W: World + Send + Sync, O: Sink + Send + Drop, R: Threads + Wait + Sync>(
+    rt: &R,
+    alloc: Global,
+    build: &Build<'_>,
+    image: &Verified,
+    targets: &[u32],
+    world: &W,
+    bell: &Parker,
+    out: O,
+) -> (Played, O)
+    ensures run { IfOk result.0.ran (λ r. IsRunOf W.allows (record { parts = image.now; limits = build.now.options; targets = targets.now }) r) }
+    ensures ended { IfOk result.0.ran (λ r. has_ended r.state.going.now ≡ true) }
+    ensures fault { IfErr result.0.ran (λ f. faults.FaultReports W.allows (record { parts = image.now; limits = build.now.options; targets = targets.now }) f) }
+    ensures printed { IfSome (defined.report_in result.0.ran) (λ r. Prints (lines_in image.now r) (result_err result.0.printed) (O.failures out, O.taken out) (O.failures result.1, O.taken result.1)) }
+    ensures silent { IfNone (defined.report_in result.0.ran) (result.1 ≡ out) }
+    ensures kept { IfSome (defined.report_in result.0.ran) (λ r. IsKeptFor (option_map (λ t. t.now) build.now.trace) r) }
+{
+    let options = build.options;
+    match build.trace {
+        Some(_) => {
+            let journaled = Journaled::new(world);
+            play(rt, alloc, image, options, targets, &journaled, bell, out)
+        }
+        None => play(rt, alloc, image, options, targets, world, bell, out),
+    }
+}
+
+/// Runs the image at a path with as many threads as commands may run at once, and prints the status lines while they
+/// work. Writes the trace if the run is to have one. Returns the status, and the sink. The status is 0 if all wanted
+/// edges succeeded, otherwise 1. Unpark `bell` to print the lines that are ready.
 ///
-/// If the image is missing or isn't accepted, or a target is unknown, nothing is asked of the world, and nothing is
-/// printed or written. If lanes stop early, the lines of what was done are printed, and the fault is theirs. Whenever a
-/// run began, its trace is written whole, or a write of its file failed.
+/// If a run began, its whole trace is written, or a write of its file failed.
+///
+/// # Errors
+/// - The image is missing or isn't accepted, or a target is unknown: the world isn't asked, and nothing is written.
+/// - 110, 120 to 122: lanes stopped early. The lines of the work until then were printed, or a prefix of them.
+/// - 133: a write of the lines (` -`) or of the trace failed.
+/// - 111, 131 or the number of a lower layer: memory ran out.
 pub fn do_run<
     S: Source,
     W: World + Send + Sync,
@@ -223,9 +268,9 @@ pub fn do_run<
         Err(fault) => return (Err(fault), out),
     };
     let edges = targets.as_slice();
-    let (played, out) = play(rt, alloc, &image, build.options, edges, world, bell, out);
+    let (played, out) = play_for(rt, alloc, build, &image, edges, world, bell, out);
     let status = told(alloc, build, &image, edges, &played, trace);
-    // They are not freed piece by piece: the program ends soon.
+    // The memory isn't freed, since the program ends soon.
     forget(played);
     forget(image);
     forget(targets);

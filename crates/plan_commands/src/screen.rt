@@ -1,4 +1,4 @@
-//! Standard output, as several threads share it.
+//! Standard output, with and without a lock.
 
 ghost use Rattle.std.specs.Prelude.{◌≡◌};
 
@@ -7,8 +7,8 @@ use std::io;
 use std::io::Write;
 use std::sync::{Mutex, Wait};
 
-/// Standard output, locked while a piece is written, which is written whole: so it waits while a console command runs, and
-/// doesn't come between what another command printed.
+/// Standard output that is locked during each write. Each piece is written whole. So a write waits while a console
+/// command runs, and doesn't split the output of another command.
 #[derive(Drop)]
 pub struct Screen<'a, R> {
     rt: &'a R,
@@ -17,7 +17,7 @@ pub struct Screen<'a, R> {
 }
 
 impl<'a, R: Print + Wait> Screen<'a, R> {
-    /// The standard output of a runtime, no write of which has failed, and the lock that is held round its writes.
+    /// Creates a sink for the standard output of a runtime. Holds the lock during each write.
     pub fn new(rt: &'a R, lock: &'a Mutex<()>) -> Screen<'a, R>
         ensures { result.failures.count ≡ 0 }
     {
@@ -50,7 +50,7 @@ impl<R: Print + Wait> Sink for Screen<'_, R> {
     }
 }
 
-/// Standard output, unlocked.
+/// Standard output without a lock.
 #[derive(Drop)]
 pub struct Standard<'a, R> {
     rt: &'a R,
@@ -58,7 +58,7 @@ pub struct Standard<'a, R> {
 }
 
 impl<'a, R: Print> Standard<'a, R> {
-    /// Returns the standard output of a runtime, no write of which has failed.
+    /// Creates a sink for the standard output of a runtime.
     pub fn new(rt: &'a R) -> Standard<'a, R>
         ensures { result.failures.count ≡ 0 }
     {

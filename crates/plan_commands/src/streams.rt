@@ -4,15 +4,15 @@ use std::fs::File;
 use std::os::fd::AsRawFd;
 use std::{fs, io};
 
-/// The number of standard streams: input, output, error.
+/// The number of standard streams: input, output and error.
 const STREAMS: i32 = 3;
 
-/// Opens `/dev/null` for each standard stream that the program was started without, and returns these files, which the
-/// caller keeps to its end. No file that is opened later takes the number of a stream, so that nothing that is printed
-/// gets into it. A write to such a stream fails, since the file is open only to read.
+/// Opens `/dev/null` for each standard stream that is closed when the program starts. Returns these files, which the
+/// caller keeps until the program ends. So no file that is opened later gets the number of a stream, and no printed
+/// text ends up in it. A write to such a stream fails, since the file is open only for reading.
 ///
 /// # Errors
-/// The error of `/dev/null`, if a stream is closed and it can't be opened.
+/// `/dev/null` can't be opened, or memory ran out.
 pub fn open_streams(rt: &HostRuntime) -> io::Result<Vec<File>> {
     let mut opened = Vec::new(rt.alloc());
     for _ in 0..STREAMS {

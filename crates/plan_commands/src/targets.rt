@@ -1,16 +1,25 @@
 //! The targets that the command line names.
 
-ghost use Rattle.std.specs.Prelude.{◌≡◌, ◌⊎◌, Err, IfErr, IfOk, Ok, map};
+ghost use Rattle.std.specs.Prelude.{◌≡◌, ◌⊎◌, Err, IfErr, IfOk, IfSome, Ok, map};
 ghost use Rattle.plan_commands.specs.Faults as defined;
+ghost use Rattle.plan_commands.specs.MakerMaps.{AreMakers};
 ghost use Rattle.plan_commands.specs.Targets as meant;
 
 use crate::fault::{PlanFault, no_memory, unknown_target};
-use plan_image::{Image, edge_of};
+use crate::makers::{maker_of, makers_for};
+use indexmap::IndexMap;
+use plan_image::Image;
 use plan_text::{TextFault, canonical};
 use std::alloc::Global;
 
-/// The edge that makes the file of this name.
-fn target_of(alloc: Global, image: &Image, name: &[u8]) -> Result<u32, PlanFault>
+/// Returns the edge that makes the file with this name. Uses the map of all makers if there is one.
+fn target_of(
+    alloc: Global,
+    image: &Image,
+    makers: &Option<IndexMap<&[u8], u32>>,
+    name: &[u8],
+) -> Result<u32, PlanFault>
+    requires { IfSome makers.now (λ m. AreMakers image.now 0 m) }
     ensures ok { IfOk result (λ edge. meant.target image.now name.now ≡ Ok edge) }
     ensures refused { IfErr result (λ fault. (fault ≡ defined.no_memory) ⊎ (meant.target image.now name.now ≡ Err fault)) }
 {
@@ -19,17 +28,21 @@ fn target_of(alloc: Global, image: &Image, name: &[u8]) -> Result<u32, PlanFault
         Err(TextFault::Memory) => return Err(no_memory(alloc)),
         Err(_) => return Err(unknown_target(alloc, name)),
     };
-    match edge_of(image, &path) {
+    match maker_of(image, makers, &path) {
         Some(edge) => Ok(edge),
         None => Err(unknown_target(alloc, name)),
     }
 }
 
-/// The edges that make the files of these names, compared in canonical form.
-///
-/// The first name that no edge makes is 132, with the name as it stands; so is an empty one.
+/// Returns the edges that make the files with these names, in order, by the map of all makers if there is one.
 #[tactic(auto, using(crate::proofs::TargetLemmas::one_refused))]
-pub fn targets_of(alloc: Global, image: &Image, names: &[&[u8]]) -> Result<Vec<u32>, PlanFault>
+fn edges_of(
+    alloc: Global,
+    image: &Image,
+    makers: &Option<IndexMap<&[u8], u32>>,
+    names: &[&[u8]],
+) -> Result<Vec<u32>, PlanFault>
+    requires { IfSome makers.now (λ m. AreMakers image.now 0 m) }
     ensures ok { IfOk result (λ edges. meant.targets image.now (map (λ n. n.now) names.now) ≡ Ok edges.items) }
     ensures refused { IfErr result (λ fault. (fault ≡ defined.no_memory) ⊎ (meant.targets image.now (map (λ n. n.now) names.now) ≡ Err fault)) }
 {
@@ -37,7 +50,7 @@ pub fn targets_of(alloc: Global, image: &Image, names: &[&[u8]]) -> Result<Vec<u
         return Err(no_memory(alloc));
     };
     for name in names {
-        match target_of(alloc, image, name) {
+        match target_of(alloc, image, makers, name) {
             Ok(edge) => {
                 if edges.push(edge).is_err() {
                     return Err(no_memory(alloc));
@@ -47,4 +60,22 @@ pub fn targets_of(alloc: Global, image: &Image, names: &[&[u8]]) -> Result<Vec<u
         }
     }
     Ok(edges)
+}
+
+/// Returns the edges that make the files with these names, in order. Names are compared in canonical form.
+///
+/// # Errors
+/// - 132, with the name as it was given: no edge makes the file, or the name is empty. The first such name is reported.
+/// - 131: memory ran out.
+pub fn targets_of(alloc: Global, image: &Image, names: &[&[u8]]) -> Result<Vec<u32>, PlanFault>
+    ensures ok { IfOk result (λ edges. meant.targets image.now (map (λ n. n.now) names.now) ≡ Ok edges.items) }
+    ensures refused { IfErr result (λ fault. (fault ≡ defined.no_memory) ⊎ (meant.targets image.now (map (λ n. n.now) names.now) ≡ Err fault)) }
+{
+    let makers = match makers_for(alloc, image, names.len()) {
+        Ok(makers) => makers,
+        Err(_) => return Err(no_memory(alloc)),
+    };
+    let edges = edges_of(alloc, image, &makers, names);
+    drop(makers);
+    edges
 }

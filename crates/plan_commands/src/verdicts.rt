@@ -16,7 +16,7 @@ use std::alloc::{AllocError, Global};
 use std::mem::forget;
 use std::thread::Threads;
 
-/// The image at the path, which is well shaped.
+/// Reads the image at a path, and verifies it.
 pub fn verified_at<S: Source>(
     alloc: Global,
     source: &mut S,
@@ -34,7 +34,7 @@ pub fn verified_at<S: Source>(
     }
 }
 
-/// The same image, verified by so many threads.
+/// Like `verified_at`, but verifies the image with the given number of threads.
 pub fn verified_by<S: Source, R: Threads + Sync>(
     rt: &R,
     alloc: Global,
@@ -54,7 +54,7 @@ pub fn verified_by<S: Source, R: Threads + Sync>(
     }
 }
 
-/// The line that says how many edges an image has, and its budget.
+/// Returns the line `ok EDGES BUDGET`, with the number of edges of an image and its budget.
 fn line_of(alloc: Global, verified: &Verified) -> Result<Vec<u8>, AllocError>
     ensures { IfOk result (λ line. line.items ≡ verdict_line verified.now) }
 {
@@ -68,11 +68,14 @@ fn line_of(alloc: Global, verified: &Verified) -> Result<Vec<u8>, AllocError>
     Ok(line)
 }
 
-/// Writes `ok`, the number of edges and the budget of the image at the path, and answers the status 0: then the image is
+/// Writes `ok`, the number of edges and the budget of the image at a path, and returns the status 0. Then the image is
 /// well shaped, and no read and no write failed.
 ///
-/// Where the file is missing or no image, or a check of the image fails, nothing is written, and the fault says why and
-/// where. Where a write fails, the fault is that of the output.
+/// # Errors
+/// - The file is missing or isn't an image, or the image fails a check: the fault has the cause and the place. Nothing
+///   is written.
+/// - 133 ` -`: a write failed.
+/// - 131 or the number of a lower layer: memory ran out. Nothing is written.
 pub fn do_verify<S: Source, W: Sink>(
     alloc: Global,
     source: &mut S,
@@ -93,7 +96,7 @@ pub fn do_verify<S: Source, W: Sink>(
     let Ok(line) = line_of(alloc, &verified) else {
         return Err(no_memory(alloc));
     };
-    // It is not freed piece by piece: the program ends soon.
+    // The memory isn't freed, since the program ends soon.
     forget(verified);
     match write_all(out, &line) {
         Ok(()) => Ok(0),

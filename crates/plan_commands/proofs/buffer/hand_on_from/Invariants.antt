@@ -2,7 +2,7 @@ use Rattle.std.proofs.Common.{◌≡◌, ◌≤◌, ◌-◌, length, drop}
 use Rattle.std.specs.Io.KnownBytes.{Keeps, append_known}
 use Rattle.plan_commands.proofs.buffer.hand_on_from.Given as goal
 
--- nothing is lost, and no write has failed
+-- Nothing is lost, and no write has failed.
 abbrev pub invariant-loop-place : goal.invariant-loop-place
 invariant-loop-place g l =
     Keeps (append_known (g.W.Sink.taken l.fn.out) (drop l.fn.start l.bytes)) (append_known (g.W.Sink.taken l.out) (drop l.place l.bytes))

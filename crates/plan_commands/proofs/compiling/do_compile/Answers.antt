@@ -1,5 +1,6 @@
-use Rattle.std.proofs.Common.{inl, refl}
+use Rattle.std.proofs.Common.{inl, inr, refl, rules}
 use Rattle.plan_compile.specs.declared.baseline.OutOfDateRule.TheVariants.{Specified}
+use Rattle.plan_image.specs.Spelling.{spelling}
 use Rattle.plan_commands.proofs.CompilingLemmas.{not_compiled}
 use Rattle.plan_commands.proofs.compiling.do_compile.Goals as goal
 
@@ -10,3 +11,17 @@ image_of-image-requires g c =
 
 pub returns-in-Err-clause-refused : goal.returns-in-Err-clause-refused
 returns-in-Err-clause-refused g c = inl (refl, not_compiled Specified _ c.args.path.now c.in_ok-manifest.manifest c.in-Err.fault c.in_ok-manifest.ensures.meant c.in-Err.ensures.refused)
+
+pub returns-clause-refused : goal.returns-clause-refused
+returns-clause-refused g c =
+    let meant = c.in_ok-manifest.ensures.meant in
+    inr (record {
+      lines = meant.0;
+      manifest = c.in_ok-manifest.manifest;
+      bytes = spelling c.in-Ok.image;
+      loaded = meant.1;
+      means = meant.2;
+      spells = c.in-Ok.ensures.spelled;
+      failed = search rules;
+      says = c.in-Ok-write_fault.ensures;
+    })

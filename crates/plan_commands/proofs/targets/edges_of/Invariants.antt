@@ -1,7 +1,7 @@
 use Rattle.std.proofs.Common.{◌≡◌, drop, map}
 use Rattle.plan_commands.specs.Targets.{targets}
 use Rattle.plan_commands.proofs.TargetLemmas.{in_front}
-use Rattle.plan_commands.proofs.targets.targets_of.Given as goal
+use Rattle.plan_commands.proofs.targets.edges_of.Given as goal
 
 abbrev pub invariant-loop-name : goal.invariant-loop-name
 invariant-loop-name l =
