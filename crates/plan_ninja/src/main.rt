@@ -1,4 +1,4 @@
-//! plan_ninja: a builder for Ninja manifests. This is the program; the work is done in the crates below it.
+//! plan_ninja: a builder for Ninja manifests. This crate is the program. The crates that it depends on do the work.
 #![tactic(auto)]
 
 ghost use Rattle.std.specs.Prelude.{◌≡◌};
@@ -12,20 +12,20 @@ use plan_lanes::World;
 use plan_machine::Options;
 use plan_text::{Counted, Sink};
 use plan_words::{FileRequest, NoRequest, Request, RunWords, request_in, words_in};
-use plan_world::{OpenFault, RealWorld};
+use plan_world::{OpenFault, RealWorld, SystemShells};
 use std::alloc::{AllocError, Global};
 use std::process::ExitCode;
 use std::rt::Files;
 use std::sync::{Mutex, Wait};
-use std::thread::{Parker, Threads};
+use std::thread::{Parker, Threads, join};
 
-/// The status of a program that was refused.
+/// The exit status if a request is refused.
 const REFUSED: u8 = 2;
 
-/// How many bytes of output are written at once.
+/// The size of the output buffer in bytes.
 const OUTPUT_BUFFER: usize = 65_536;
 
-/// Writes what is asked for to a sink, or to the file that is asked for, and says with which status the program ends.
+/// Writes the result of a request to a sink, or for `compile` to a new file. Returns the exit status.
 fn answer<R: Files + Eprint + AllocGlobal, W: Sink>(
     rt: &R,
     request: FileRequest<'_>,
@@ -69,7 +69,7 @@ fn answer<R: Files + Eprint + AllocGlobal, W: Sink>(
     }
 }
 
-/// Prints what is asked for, and returns the status that the program ends with.
+/// Prints the result of a request, and returns the exit status.
 fn print<R: Files + Print + Eprint + AllocGlobal>(
     rt: &R,
     request: FileRequest<'_>,
@@ -84,19 +84,20 @@ fn print<R: Files + Print + Eprint + AllocGlobal>(
     status
 }
 
-/// Prints why the program is refused.
+/// Prints the line of a fault to standard error, and returns the exit status.
 fn report<E: Print>(alloc: Global, errors: &E, fault: &PlanFault) -> u8
     ensures { result ≡ REFUSED }
 {
     let _ = match fault.line(alloc) {
         Ok(line) => errors.write_all(&line),
-        // The same line without taking memory.
+        // The line of the fault `Memory`, without allocating it.
         Err(_) => errors.write_all(b"plan: 131 Memory\n"),
     };
     REFUSED
 }
 
-/// Shows the help that was asked for, or why the words are refused.
+/// Prints the help to standard output, or to standard error the reason why the words are refused. Returns the exit
+/// status.
 fn show<R: Print + Eprint + AllocGlobal, E: Print>(rt: &R, errors: &E, told: &NoRequest) -> u8 {
     match told {
         NoRequest::Memory => report(rt.alloc(), errors, &no_memory(rt.alloc())),
@@ -111,7 +112,7 @@ fn show<R: Print + Eprint + AllocGlobal, E: Print>(rt: &R, errors: &E, told: &No
     }
 }
 
-/// The names of targets, as bytes.
+/// Returns the names of targets as bytes.
 fn names_of<'a>(alloc: Global, targets: &[&'a str]) -> Result<Vec<&'a [u8]>, AllocError> {
     let mut names = Vec::with_capacity(alloc, targets.len())?;
     for target in targets {
@@ -120,7 +121,7 @@ fn names_of<'a>(alloc: Global, targets: &[&'a str]) -> Result<Vec<&'a [u8]>, All
     Ok(names)
 }
 
-/// A path as bytes, where there is one.
+/// Returns a path as bytes. None if there is no path.
 fn bytes_of(path: Option<&str>) -> Option<&[u8]> {
     match path {
         Some(path) => Some(path.as_bytes()),
@@ -128,20 +129,31 @@ fn bytes_of(path: Option<&str>) -> Option<&[u8]> {
     }
 }
 
-/// The world of real files and commands, with the record of this path.
-fn world_at(rt: &HostRuntime, record: &str) -> Result<RealWorld<HostRuntime>, PlanFault> {
-    let own: Result<HostRuntime, AllocError> = rt.clone();
-    let Ok(own) = own else {
-        return Err(no_memory(rt.alloc()));
-    };
-    match RealWorld::open(own, record) {
-        Ok(world) => Ok(world),
-        Err(OpenFault::Memory) => Err(no_memory(rt.alloc())),
-        Err(OpenFault::Device) => Err(file_fault(rt.alloc(), record.as_bytes())),
+/// The world of real files and commands.
+type SystemWorld = RealWorld<HostRuntime, SystemShells<HostRuntime>>;
+
+/// Returns the fault of a record that can't be used.
+fn record_fault(alloc: Global, record: &str, fault: OpenFault) -> PlanFault {
+    match fault {
+        OpenFault::Memory => no_memory(alloc),
+        OpenFault::Device => file_fault(alloc, record.as_bytes()),
     }
 }
 
-/// Runs an image in a world, and says with which status the program ends.
+/// Opens the world of real files and commands, with the record at a path.
+fn world_at(rt: &HostRuntime, record: &str) -> Result<SystemWorld, PlanFault> {
+    let own: Result<HostRuntime, AllocError> = rt.clone();
+    let other: Result<HostRuntime, AllocError> = rt.clone();
+    let (Ok(own), Ok(other)) = (own, other) else {
+        return Err(no_memory(rt.alloc()));
+    };
+    match RealWorld::open(own, SystemShells::new(other), record) {
+        Ok(world) => Ok(world),
+        Err(fault) => Err(record_fault(rt.alloc(), record, fault)),
+    }
+}
+
+/// Runs an image in a world, and returns the exit status.
 fn run_image<
     R: Threads + Wait + Sync + Files + Print + Eprint + AllocGlobal,
     W: World + Send + Sync,
@@ -178,10 +190,10 @@ fn run_image<
     }
 }
 
-/// The fault of a file that doesn't begin as an image does.
+/// The number of the fault that a file doesn't begin like an image.
 const BAD_MAGIC: u8 = 60;
 
-/// If a manifest was given for an image, says what to do instead.
+/// Prints a hint to standard error if a manifest was given instead of an image.
 fn advise<R: Eprint>(rt: &R, image: &str, done: &Result<u8, PlanFault>) {
     match done {
         Err(fault) if fault.number == BAD_MAGIC && image.ends_with(".ninja") => {
@@ -193,7 +205,7 @@ fn advise<R: Eprint>(rt: &R, image: &str, done: &Result<u8, PlanFault>) {
     }
 }
 
-/// The status that the program ends with, where a refusal is printed.
+/// Returns the exit status, and reports the fault if there is one.
 fn status_of<E: Print>(alloc: Global, errors: &E, done: Result<u8, PlanFault>) -> u8 {
     match done {
         Ok(status) => status,
@@ -214,9 +226,16 @@ fn main(rt: HostRuntime) -> ExitCode {
     let done = match request_in(rt.alloc(), &words) {
         Ok(Request::Run(asked)) => match world_at(&rt, asked.record) {
             Ok(world) => {
-                let done = run_image(&rt, &asked, &world, world.screen(), world.bell());
+                let (read, done) = join(
+                    &rt,
+                    || world.read_record(),
+                    || run_image(&rt, &asked, &world, world.screen(), world.bell()),
+                );
                 advise(&rt, asked.image, &done);
-                done
+                match read {
+                    Ok(()) => done,
+                    Err(fault) => Err(record_fault(rt.alloc(), asked.record, fault)),
+                }
             }
             Err(fault) => Err(fault),
         },
