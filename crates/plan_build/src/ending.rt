@@ -1,4 +1,4 @@
-//! How a build ended.
+//! Lines on how a build ended.
 
 ghost use Rattle.std.specs.Prelude.{◌≡◌};
 ghost use Rattle.plan_commands.specs.Building.{exit_status};
@@ -7,10 +7,10 @@ use crate::said::{complain_of, say, status_after};
 use plan_commands::Done;
 use std::alloc::Global;
 
-/// What ninja says of a manifest that is still dirty after as many tries as are made.
+/// ninja's words for a manifest that is still dirty after 100 tries.
 const TRIES: &[u8] = b"100 tries, perhaps system time is not set";
 
-/// Returns ninja's sentence on a build that failed, where so many failures were borne, 0 for any number.
+/// Returns ninja's reason for a failed build. `failures` is the value of `-k`: 0 allows any number of failures.
 fn failed(failures: u32) -> &'static [u8] {
     match failures {
         0 => b"cannot make progress due to previous errors",
@@ -19,7 +19,8 @@ fn failed(failures: u32) -> &'static [u8] {
     }
 }
 
-/// Says that a manifest can't be brought up to date, because a command failed or because it never is.
+/// Reports that a manifest can't be brought up to date, because a command failed or because it is still dirty after all
+/// tries.
 fn refuse_manifest<E: Print>(
     alloc: Global,
     errors: &E,
@@ -50,13 +51,13 @@ fn refuse_manifest<E: Print>(
     }
 }
 
-/// Says that there is nothing to do, and returns the exit status: 0, or 1 if it can't be written.
+/// Prints that there is nothing to do, and returns the exit status: 0, or 1 if the line can't be written.
 pub fn no_work<R: Print + AllocGlobal, E: Print>(rt: &R, errors: &E) -> u8 {
     status_after(say(rt, errors, &[b"ninja: no work to do.\n"]), 0)
 }
 
-/// Says how the build of a manifest ended, in ninja's words, and returns the exit status: that of the build, or 1 if
-/// `no work to do` can't be written. Standard error says so then.
+/// Prints how the build of a manifest ended, in ninja's words. Returns the exit status of the build, or 1 if
+/// `no work to do` can't be written. That failure is reported on standard error.
 pub fn end_build<R: Print + AllocGlobal, E: Print>(
     rt: &R,
     errors: &E,

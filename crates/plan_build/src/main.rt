@@ -1,27 +1,29 @@
-//! plan_build: builds what a Ninja manifest says, with ninja's command line. This is the program; the work is done in the
-//! crates below it.
+//! plan_build: builds the targets of a Ninja manifest, with ninja's command line. This crate is the program. The crates
+//! that it depends on do the work.
 #![tactic(auto)]
 
+mod ahead;
 mod building;
 mod ending;
 mod pointing;
 mod refusal;
 mod said;
+mod sentences;
 mod stopping;
 mod tool;
 mod words;
 
 use crate::building::Builder;
-use crate::refusal::{refuse, refuse_loading};
+use crate::refusal::{refuse, refuse_loading, refuse_record};
 use crate::said::{REFUSED, complain, complain_of, say};
 use crate::stopping::{stop_at, warn};
 use crate::tool::{request_in, run_tool, tool_named, unknown_tool};
-use crate::words::{MANIFEST, after_name, manifest_in, name_in, words_in};
-use plan_commands::{file_fault, no_memory, open_streams};
+use crate::words::{MANIFEST, RECORD, after_name, manifest_in, name_in, words_in};
+use plan_commands::{no_memory, open_streams};
 use plan_lanes::World;
 use plan_options::{CommandLine, Flag, Setting};
 use plan_stamps::StampCache;
-use plan_world::{OpenFault, RealWorld};
+use plan_world::{RealWorld, SystemShells};
 use std::alloc::{AllocError, Global};
 use std::io::ErrorKind;
 use std::process::ExitCode;
@@ -29,11 +31,8 @@ use std::rt::{Env, Files};
 use std::thread::Threads;
 use std::{env, fs, str, thread};
 
-/// The path of the build record, in the folder of the build.
-const RECORD: &str = ".plan_record";
-
-/// Returns how many commands run at once if no `-j` says it, as ninja has it: two for one processor, three for two, and
-/// otherwise two more than there are, at most 64.
+/// Returns how many commands run at once if `-j` isn't given, like ninja: two for one processor, three for two, and
+/// otherwise two more than there are processors. The limit is 64.
 fn default_jobs<R: Threads>(rt: &R) -> u8 {
     match thread::available_parallelism(rt) {
         Ok(processors) => match processors.get() {
@@ -45,7 +44,30 @@ fn default_jobs<R: Threads>(rt: &R) -> u8 {
     }
 }
 
-/// Changes to the folder that `-C` names, and says so unless a tool or `--quiet` is asked for.
+/// Checks whether a command line names no target, so that the defaults of the manifest are built.
+fn names_no_target(alloc: Global, line: &CommandLine) -> bool {
+    match line.targets(alloc) {
+        Ok(targets) => targets.is_empty(),
+        Err(_) => false,
+    }
+}
+
+/// Returns how many threads ask for stamps ahead of a build: as many as there are processors that no job needs. If a
+/// target is named, or if the number of processors is unknown, there are none.
+fn threads_ahead<R: Threads + AllocGlobal>(rt: &R, line: &CommandLine, jobs: u8) -> usize {
+    if !names_no_target(rt.alloc(), line) {
+        return 0;
+    }
+    match thread::available_parallelism(rt) {
+        Ok(processors) => processors.get().saturating_sub(usize::from(jobs)),
+        Err(_) => 0,
+    }
+}
+
+/// Changes to the folder that `-C` names, if any. Prints its name first, unless `-t` or `--quiet` is given.
+///
+/// # Errors
+/// The exit status if the change or the output fails. The reason is reported on standard error.
 fn enter<R: Env + Print + Eprint + AllocGlobal, E: Print>(
     rt: &R,
     errors: &E,
@@ -73,7 +95,7 @@ fn enter<R: Env + Print + Eprint + AllocGlobal, E: Print>(
     }
 }
 
-/// Returns why a manifest can't be read, before it is opened. None if nothing is known against it.
+/// Returns the reason why a manifest can't be read, without opening it. None if no reason is found.
 fn missing<R: Files>(rt: &R, manifest: &[u8]) -> Option<ErrorKind> {
     match fs::metadata(rt, str::from_utf8(manifest).unwrap_or("")) {
         Ok(found) => {
@@ -87,52 +109,52 @@ fn missing<R: Files>(rt: &R, manifest: &[u8]) -> Option<ErrorKind> {
     }
 }
 
-/// Opens the world of files and commands, with the record in the folder of the build. If the manifest is missing, no record
-/// is created.
+/// The world of real files and commands.
+type SystemWorld = RealWorld<HostRuntime, SystemShells<HostRuntime>>;
+
+/// Opens the world of real files and commands, with the record in the folder of the build. If the manifest is missing,
+/// no record is created.
 ///
 /// # Errors
-/// The exit status, if there is no world; standard error says why.
+/// The exit status if the world can't be opened. The reason is reported on standard error.
 fn open_world<E: Print>(
     rt: &HostRuntime,
     errors: &E,
     line: &CommandLine,
-) -> Result<RealWorld<HostRuntime>, u8> {
+) -> Result<SystemWorld, u8> {
     let alloc = rt.alloc();
     let manifest = manifest_in(line);
     if let Some(kind) = missing(rt, manifest) {
         return Err(refuse_loading(alloc, errors, manifest, kind));
     }
     let own: Result<HostRuntime, AllocError> = rt.clone();
-    let Ok(own) = own else {
+    let other: Result<HostRuntime, AllocError> = rt.clone();
+    let (Ok(own), Ok(other)) = (own, other) else {
         return Err(refuse(rt, errors, manifest, &no_memory(alloc)));
     };
-    match RealWorld::open(own, RECORD) {
+    match RealWorld::open(own, SystemShells::new(other), RECORD) {
         Ok(world) => Ok(world),
-        Err(OpenFault::Memory) => Err(refuse(rt, errors, manifest, &no_memory(alloc))),
-        Err(OpenFault::Device) => {
-            let fault = file_fault(alloc, RECORD.as_bytes());
-            Err(refuse(rt, errors, manifest, &fault))
-        }
+        Err(fault) => Err(refuse_record(rt, errors, manifest, fault)),
     }
 }
 
-/// The least and the greatest room for stamps.
+/// The smallest and the largest room, as numbers of stamps.
 const LEAST_ROOM: usize = 16_384;
 
 const GREATEST_ROOM: usize = 4_194_304;
 
-/// Returns for how many stamps there is room if the manifest has this many bytes. A path takes 16 bytes of most manifests,
-/// or more: this is room for twice as many stamps as there are paths.
+/// Returns the room, as a number of stamps, for a manifest of this many bytes. In most manifests a path takes 16 bytes
+/// or more, so there is room for at least twice as many stamps as paths.
 fn room_for(bytes: u64) -> usize {
     usize::try_from(bytes / 8)
         .unwrap_or(GREATEST_ROOM)
         .clamp(LEAST_ROOM, GREATEST_ROOM)
 }
 
-/// Returns a world over another one, which asks for the stamp of a path once while no command runs.
+/// Wraps a world in a cache that asks for the stamp of each path only once while no command runs.
 ///
 /// # Errors
-/// The exit status if memory runs out; standard error says so.
+/// The exit status if memory runs out. That is reported on standard error.
 fn cache_over<'a, R: Files + Eprint + AllocGlobal, E: Print, W: World + Drop>(
     rt: &'a R,
     errors: &E,
@@ -149,7 +171,10 @@ fn cache_over<'a, R: Files + Eprint + AllocGlobal, E: Print, W: World + Drop>(
     }
 }
 
-/// Refuses targets before `-t`, which are no words of the tool.
+/// Refuses targets before `-t`, because they aren't words of the tool.
+///
+/// # Errors
+/// The exit status if there are targets. The first one is reported on standard error.
 fn check_no_targets<E: Print>(alloc: Global, errors: &E, targets: &[&[u8]]) -> Result<(), u8> {
     if let [target, ..] = targets {
         complain(
@@ -169,7 +194,7 @@ fn check_no_targets<E: Print>(alloc: Global, errors: &E, targets: &[&[u8]]) -> R
 /// Runs a tool in the folder that `-C` names.
 ///
 /// # Errors
-/// The exit status of a tool that does nothing.
+/// The exit status if the tool isn't run.
 fn use_tool<E: Print>(
     rt: &HostRuntime,
     errors: &E,
@@ -192,7 +217,7 @@ fn use_tool<E: Print>(
 /// Reads the words after the program's name.
 ///
 /// # Errors
-/// The exit status, if the program ends at them; it has said why.
+/// The exit status if an argument ends the program or memory runs out. The answer or the reason was printed.
 fn read_line<R: Files + Print + Eprint + AllocGlobal, E: Print>(
     rt: &R,
     errors: &E,
@@ -214,10 +239,10 @@ fn read_line<R: Files + Print + Eprint + AllocGlobal, E: Print>(
     Ok(line)
 }
 
-/// Reads the command line, runs the tool that it names, or else changes to the folder of the build.
+/// Reads the command line. Runs the tool that it names, or else changes to the folder of the build.
 ///
 /// # Errors
-/// The exit status, if there is nothing to build.
+/// The exit status if there is nothing to build.
 fn order_in<E: Print>(rt: &HostRuntime, errors: &E, jobs: u8) -> Result<CommandLine, u8> {
     let words = match words_in(rt) {
         Ok(words) => words,
@@ -256,6 +281,7 @@ fn main(rt: HostRuntime) -> ExitCode {
         Ok(world) => world,
         Err(status) => return ExitCode::from(status),
     };
+    let is_long = !world.has_read_record();
     let world = match cache_over(&rt, &errors, manifest_in(&line), world) {
         Ok(world) => world,
         Err(status) => return ExitCode::from(status),
@@ -267,5 +293,11 @@ fn main(rt: HostRuntime) -> ExitCode {
         screen: world.inner().screen(),
         bell: world.inner().bell(),
     };
-    ExitCode::from(builder.build_line(&line, jobs))
+    let status = if is_long {
+        let threads = threads_ahead(&rt, &line, line.jobs().unwrap_or(jobs));
+        builder.build_looking_ahead(&line, jobs, threads)
+    } else {
+        builder.build_line(&line, jobs)
+    };
+    ExitCode::from(status)
 }

@@ -1,4 +1,4 @@
-//! The line of a place in a file, as ninja shows it.
+//! Error messages with a line of a file, as ninja shows them.
 
 use plan_commands::{FileSource, MANIFEST_BYTES};
 use plan_scope::Source;
@@ -15,10 +15,10 @@ pub struct Place<'a> {
     pub offset: u64,
 }
 
-/// How many bytes of a long line are shown.
+/// The number of bytes of a long line that are shown.
 const SHOWN: usize = 120;
 
-/// Returns the place that a text says, as `FILE:OFFSET`. None if it says none.
+/// Parses a place of the form `FILE:OFFSET`. None if the text has another form.
 pub fn place_in(text: &[u8]) -> Option<Place<'_>> {
     for back in 1..text.len() {
         let at = text.len() - back;
@@ -35,7 +35,7 @@ pub fn place_in(text: &[u8]) -> Option<Place<'_>> {
     None
 }
 
-/// Returns the number of the line that a text ends in, from 1, and how many bytes that line has so far.
+/// Returns the number of the last line of a text, from 1, and the number of bytes of that line.
 fn line_and_column(text: &[u8]) -> (u64, usize) {
     let mut line = 1u64;
     let mut column = 0usize;
@@ -50,7 +50,7 @@ fn line_and_column(text: &[u8]) -> (u64, usize) {
     (line, column)
 }
 
-/// Returns the first line of a text, without its end.
+/// Returns the first line of a text, without the line feed.
 fn first_line(text: &[u8]) -> &[u8] {
     for at in 0..text.len() {
         if text[at] == b'\n' {
@@ -60,13 +60,13 @@ fn first_line(text: &[u8]) -> &[u8] {
     text
 }
 
-/// How a column of a line is shown.
+/// The part of a line that is shown, and the column of the caret.
 #[derive(Clone, Copy)]
 struct Excerpt<'a> {
     before: &'static [u8],
     shown: &'a [u8],
     after: &'static [u8],
-    /// How many blanks come before the caret.
+    /// The number of blanks before the caret.
     blanks: usize,
 }
 
@@ -83,39 +83,63 @@ fn excerpt_of(line: &[u8], column: usize) -> Excerpt<'_> {
     }
 }
 
-/// Returns ninja's lines on what is wrong at an offset of a file's bytes.
+/// A message about a place in a file.
+#[derive(Drop)]
+pub struct Message {
+    /// Its first line, without the newline.
+    pub head: Vec<u8>,
+    /// The line of the place, and a line with a caret below it.
+    pub lines: Vec<u8>,
+}
+
+/// Returns the first line of a message about a line of a file, without the newline.
+fn head_of(
+    alloc: Global,
+    file: &[u8],
+    number: u64,
+    sentence: &[u8],
+) -> Result<Vec<u8>, AllocError> {
+    let digits = number.to_string(alloc)?;
+    let mut head = Vec::from_slice(alloc, b"ninja: error: ")?;
+    head.extend_from_slice(file)?;
+    head.push(b':')?;
+    head.extend_from_slice(digits.as_bytes())?;
+    head.extend_from_slice(b": ")?;
+    head.extend_from_slice(sentence)?;
+    Ok(head)
+}
+
+/// Returns the part of a line that is shown, and a line with a caret below it.
+fn lines_of(alloc: Global, excerpt: Excerpt<'_>) -> Result<Vec<u8>, AllocError> {
+    let mut lines = Vec::from_slice(alloc, excerpt.before)?;
+    lines.extend_from_slice(excerpt.shown)?;
+    lines.extend_from_slice(excerpt.after)?;
+    lines.push(b'\n')?;
+    for _ in 0..excerpt.blanks {
+        lines.push(b' ')?;
+    }
+    lines.extend_from_slice(b"^ near here\n")?;
+    Ok(lines)
+}
+
+/// Returns ninja's message for an error at a place in a file with these bytes.
 fn shown(
     alloc: Global,
     place: Place<'_>,
     bytes: &[u8],
     sentence: &[u8],
-) -> Result<Vec<u8>, AllocError> {
+) -> Result<Message, AllocError> {
     let offset = usize::try_from(place.offset)
         .unwrap_or(usize::MAX)
         .min(bytes.len());
     let (number, column) = line_and_column(&bytes[..offset]);
     let line = first_line(&bytes[offset - column.min(offset)..]);
-    let excerpt = excerpt_of(line, column);
-    let digits = number.to_string(alloc)?;
-    let mut text = Vec::from_slice(alloc, b"ninja: error: ")?;
-    text.extend_from_slice(place.file)?;
-    text.push(b':')?;
-    text.extend_from_slice(digits.as_bytes())?;
-    text.extend_from_slice(b": ")?;
-    text.extend_from_slice(sentence)?;
-    text.push(b'\n')?;
-    text.extend_from_slice(excerpt.before)?;
-    text.extend_from_slice(excerpt.shown)?;
-    text.extend_from_slice(excerpt.after)?;
-    text.push(b'\n')?;
-    for _ in 0..excerpt.blanks {
-        text.push(b' ')?;
-    }
-    text.extend_from_slice(b"^ near here\n")?;
-    Ok(text)
+    let head = head_of(alloc, place.file, number, sentence)?;
+    let lines = lines_of(alloc, excerpt_of(line, column))?;
+    Ok(Message { head, lines })
 }
 
-/// Returns ninja's lines on what is wrong at a place of a file, which is read again.
+/// Reads a file again, and returns ninja's message for an error at a place in it.
 ///
 /// # Errors
 /// If memory runs out, or the file can't be read.
@@ -123,7 +147,7 @@ pub fn pointed<R: Files + Eprint + AllocGlobal>(
     rt: &R,
     place: Place<'_>,
     sentence: &[u8],
-) -> Result<Vec<u8>, AllocError> {
+) -> Result<Message, AllocError> {
     let mut files = FileSource::new(rt, MANIFEST_BYTES);
     match files.read(rt.alloc(), place.file) {
         Ok(bytes) => shown(rt.alloc(), place, &bytes, sentence),

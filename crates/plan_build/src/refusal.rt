@@ -1,13 +1,22 @@
-//! Why a build is refused.
+//! Error messages for a build that is refused.
 
-use crate::pointing::{Place, place_in, pointed};
-use crate::said::{LOST_OUTPUT, REFUSED, complain, complain_of, reason_of};
-use plan_commands::PlanFault;
-use std::alloc::Global;
+ghost use Rattle.std.specs.Prelude.{◌≡◌};
+
+use crate::pointing::{Message, Place, place_in, pointed};
+use crate::said::{LOST_OUTPUT, NO_ROOM, REFUSED, complain, complain_of, joined, reason_of};
+use crate::sentences::{advice_for, sentence_of};
+use crate::words::RECORD;
+use plan_commands::{PlanFault, file_fault, no_memory};
+use plan_text::Items;
+use plan_world::OpenFault;
+use std::alloc::{AllocError, Global};
 use std::io::ErrorKind;
 use std::rt::Files;
 
-/// The numbers of faults that are said in ninja's words.
+/// The first word of a fault's line.
+const PLAN: &[u8] = b"plan: ";
+
+/// The numbers of faults that `refuse` reports in their own way.
 const SOURCE_MISSING: u8 = 20;
 
 const UNKNOWN_DEFAULT: u8 = 52;
@@ -16,11 +25,54 @@ const NO_MEMORY: u8 = 131;
 
 const FILE_FAULT: u8 = 133;
 
-/// No edge makes a target.
+/// The number of the fault that no edge makes a target.
 pub const UNKNOWN_TARGET: u8 = 132;
 
-/// Says that a manifest can't be loaded, in ninja's words, and returns the exit status.
-pub fn refuse_loading<E: Print>(alloc: Global, errors: &E, path: &[u8], kind: ErrorKind) -> u8 {
+/// Returns the number and the name of a fault, as they end the first line of a message: ` [NUMBER NAME]`.
+fn code_of(alloc: Global, number: u8) -> Result<Vec<u8>, AllocError> {
+    let fault = PlanFault {
+        number,
+        rest: Items::empty(alloc),
+    };
+    let line = fault.line(alloc)?;
+    let end = line.len().saturating_sub(1);
+    let code = line.get(PLAN.len()..end).unwrap_or(&[]);
+    joined(alloc, &[b" [", code, b"]\n"])
+}
+
+/// Returns the message for a fault: the first line `head` with the fault's number and name, `lines`, and advice if there
+/// is any.
+fn text_of(alloc: Global, head: &[u8], lines: &[u8], number: u8) -> Result<Vec<u8>, AllocError> {
+    let code = code_of(alloc, number)?;
+    let mut text = Vec::from_slice(alloc, head)?;
+    text.extend_from_slice(&code)?;
+    text.extend_from_slice(lines)?;
+    text.extend_from_slice(advice_for(number))?;
+    Ok(text)
+}
+
+/// Writes the message for a fault to standard error in one piece.
+fn complain_at<E: Print>(alloc: Global, errors: &E, head: &[u8], lines: &[u8], number: u8) {
+    let _ = match text_of(alloc, head, lines, number) {
+        Ok(text) => errors.write_all(&text),
+        Err(_) => errors.write_all(NO_ROOM),
+    };
+}
+
+/// Writes the message for a fault to standard error in one piece. These texts are its first line.
+fn complain_with<E: Print>(alloc: Global, errors: &E, head: &[&[u8]], number: u8) {
+    match joined(alloc, head) {
+        Ok(head) => complain_at(alloc, errors, &head, &[], number),
+        Err(_) => {
+            let _ = errors.write_all(NO_ROOM);
+        }
+    }
+}
+
+/// Reports that a manifest can't be loaded, in ninja's words, and returns the exit status.
+pub fn refuse_loading<E: Print>(alloc: Global, errors: &E, path: &[u8], kind: ErrorKind) -> u8
+    ensures { result ≡ 1 }
+{
     let reason = reason_of(kind);
     complain_of(
         alloc,
@@ -33,13 +85,17 @@ pub fn refuse_loading<E: Print>(alloc: Global, errors: &E, path: &[u8], kind: Er
     REFUSED
 }
 
-/// Says that a file which a manifest includes is missing.
-fn refuse_include<E: Print>(alloc: Global, errors: &E, path: &[u8], fault: &PlanFault) {
-    let _ = refuse_loading(alloc, errors, path, ErrorKind::NotFound);
-    refuse_plainly(alloc, errors, &[], fault);
+/// Reports that a file that a manifest includes is missing.
+fn refuse_include<E: Print>(alloc: Global, errors: &E, path: &[u8]) {
+    let head: &[&[u8]] = &[
+        b"ninja: error: loading '",
+        &*path,
+        b"': No such file or directory",
+    ];
+    complain_with(alloc, errors, head, SOURCE_MISSING);
 }
 
-/// Says that no edge makes a target, in ninja's words.
+/// Reports that no edge makes a target, in ninja's words.
 fn refuse_target<E: Print>(alloc: Global, errors: &E, name: &[u8]) {
     if name.is_empty() {
         complain(alloc, errors, &[b"ninja: error: empty path\n"]);
@@ -52,122 +108,94 @@ fn refuse_target<E: Print>(alloc: Global, errors: &E, name: &[u8]) {
     }
 }
 
-/// Says why something is refused, with this program's own line.
-fn refuse_plainly<E: Print>(alloc: Global, errors: &E, before: &[&[u8]], fault: &PlanFault) {
-    complain(alloc, errors, before);
-    let _ = match fault.line(alloc) {
-        Ok(line) => errors.write_all(&line),
-        Err(_) => errors.write_all(b"plan: 131 Memory\n"),
-    };
+/// Reports that no edge makes a default target, in ninja's words.
+fn refuse_default<E: Print>(alloc: Global, errors: &E, name: &[u8]) {
+    let head: &[&[u8]] = &[b"ninja: error: unknown target '", &*name, b"'"];
+    complain_with(alloc, errors, head, UNKNOWN_DEFAULT);
 }
 
-/// Says that a file can't be read or written; `-` is standard output.
-fn refuse_file<E: Print>(alloc: Global, errors: &E, path: &[u8], fault: &PlanFault) {
+/// Reports that a file can't be read or written. The path `-` is standard output.
+fn refuse_file<E: Print>(alloc: Global, errors: &E, path: &[u8]) {
     if path == b"-".as_slice() {
-        refuse_plainly(alloc, errors, &[LOST_OUTPUT], fault);
+        complain(alloc, errors, &[LOST_OUTPUT]);
     } else {
-        let before: &[&[u8]] = &[b"ninja: error: can't read or write ", &*path, b"\n"];
-        refuse_plainly(alloc, errors, before, fault);
+        let head: &[&[u8]] = &[b"ninja: error: can't read or write ", &*path];
+        complain_with(alloc, errors, head, FILE_FAULT);
     }
 }
 
-/// Returns ninja's sentence on a fault of a manifest, or this project's, if ninja has none.
-fn sentence_of(number: u8) -> &'static [u8] {
-    match number {
-        1 => b"tabs are not allowed, use spaces",
-        2 => b"a NUL byte",
-        3 => b"bad $-escape (literal $ must be written as $$)",
-        4 => b"the file is too long",
-        10 => b"expected a name",
-        11 => b"expected '='",
-        12 => b"expected ':'",
-        13 => b"expected path",
-        14 => b"unexpected indent",
-        15 => b"unexpected variable",
-        16 => b"expected 'command =' line",
-        17 => b"invalid pool depth",
-        18 => b"validations (|@) are not supported",
-        19 => b"expected newline",
-        20 => b"loading it: No such file or directory",
-        21 => b"include and subninja lines nest too deep",
-        30 => b"duplicate rule",
-        31 => b"unknown build rule",
-        32 => b"duplicate pool",
-        33 => b"unknown pool name",
-        34 => b"cycle in rule variables",
-        35 => b"empty path",
-        36 => b"dyndep is not supported",
-        37 => b"response files are not supported",
-        38 => b"unknown deps type",
-        39 => b"a path is too long",
-        40 => b"a text is too long",
-        42 => b"invalid pool depth",
-        50 => b"multiple rules generate",
-        51 => b"dependency cycle:",
-        53 => b"there are too many build statements",
-        100 => b"the build has too many parts",
-        120 | 131 => b"out of memory",
-        121 => b"no thread can be started",
-        _ => b"the manifest has no plan:",
-    }
-}
-
-/// Says why a build is refused, in ninja's words if it has them, and returns the exit status. A fault of a manifest is shown
-/// at its line.
+/// Reports why a build is refused, in ninja's words if it has them, and returns the exit status. A fault of a manifest
+/// is shown with its line.
 pub fn refuse<R: Files + Eprint + AllocGlobal, E: Print>(
     rt: &R,
     errors: &E,
     manifest: &[u8],
     fault: &PlanFault,
-) -> u8 {
+) -> u8
+    ensures { result ≡ 1 }
+{
     let alloc = rt.alloc();
     let rest = fault.rest.as_slice();
     let name = if rest.is_empty() { rest } else { &rest[1..] };
-    let sentence = sentence_of(fault.number);
     match (fault.number, place_in(name)) {
         (UNKNOWN_TARGET, _) => refuse_target(alloc, errors, name),
-        (UNKNOWN_DEFAULT, _) => {
-            refuse_target(alloc, errors, name);
-            refuse_plainly(alloc, errors, &[], fault);
-        }
+        (UNKNOWN_DEFAULT, _) => refuse_default(alloc, errors, name),
         (SOURCE_MISSING, Some(place)) if place.file == manifest => {
             return refuse_loading(alloc, errors, manifest, ErrorKind::NotFound);
         }
-        (SOURCE_MISSING, Some(place)) => refuse_include(alloc, errors, place.file, fault),
-        (FILE_FAULT, _) => refuse_file(alloc, errors, name, fault),
-        (NO_MEMORY, _) => refuse_plainly(alloc, errors, &[b"ninja: fatal: out of memory\n"], fault),
-        (_, Some(place)) => point_at(rt, errors, place, sentence, fault),
-        (_, None) => refuse_simply(alloc, errors, sentence, rest, fault),
+        (SOURCE_MISSING, Some(place)) => refuse_include(alloc, errors, place.file),
+        (FILE_FAULT, _) => refuse_file(alloc, errors, name),
+        (NO_MEMORY, _) => complain_at(
+            alloc,
+            errors,
+            b"ninja: fatal: out of memory",
+            &[],
+            NO_MEMORY,
+        ),
+        (number, Some(place)) => point_at(rt, errors, place, number, rest),
+        (number, None) => refuse_simply(alloc, errors, sentence_of(number), rest, number),
     }
     REFUSED
 }
 
-/// Says what is wrong at a place, and shows its line, or only the sentence if its file can't be read again.
+/// Reports that the record can't be used, and returns the exit status.
+pub fn refuse_record<R: Files + Eprint + AllocGlobal, E: Print>(
+    rt: &R,
+    errors: &E,
+    manifest: &[u8],
+    fault: OpenFault,
+) -> u8
+    ensures { result ≡ 1 }
+{
+    let fault = match fault {
+        OpenFault::Memory => no_memory(rt.alloc()),
+        OpenFault::Device => file_fault(rt.alloc(), RECORD.as_bytes()),
+    };
+    refuse(rt, errors, manifest, &fault)
+}
+
+/// Reports a fault at a place, with the line of the place. If the file can't be read again, the line is left out.
 fn point_at<R: Files + Eprint + AllocGlobal, E: Print>(
     rt: &R,
     errors: &E,
     place: Place<'_>,
-    sentence: &[u8],
-    fault: &PlanFault,
+    number: u8,
+    rest: &[u8],
 ) {
-    match pointed(rt, place, sentence) {
-        Ok(text) => refuse_plainly(rt.alloc(), errors, &[text.as_slice()], fault),
-        Err(_) => refuse_simply(rt.alloc(), errors, sentence, fault.rest.as_slice(), fault),
+    match pointed(rt, place, sentence_of(number)) {
+        Ok(Message { head, lines }) => complain_at(rt.alloc(), errors, &head, &lines, number),
+        Err(_) => refuse_simply(rt.alloc(), errors, sentence_of(number), rest, number),
     }
 }
 
-/// Says what is wrong, without a place.
+/// Reports a fault without the line of its place.
 fn refuse_simply<'a, E: Print>(
     alloc: Global,
     errors: &E,
     sentence: &'a [u8],
     rest: &'a [u8],
-    fault: &PlanFault,
+    number: u8,
 ) {
-    refuse_plainly(
-        alloc,
-        errors,
-        &[b"ninja: error: ", &*sentence, &*rest, b"\n"],
-        fault,
-    )
+    let head: &[&[u8]] = &[b"ninja: error: ", &*sentence, &*rest];
+    complain_with(alloc, errors, head, number);
 }

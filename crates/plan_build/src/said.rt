@@ -1,19 +1,21 @@
-//! What the program says.
+//! Output of lines and error messages.
 
 ghost use Rattle.std.specs.Prelude.{◌≡◌, IfErr, OnOk};
 
-use plan_commands::lost_output;
 use std::alloc::{AllocError, Global};
 use std::io;
 use std::io::{ErrorKind, Write};
 
-/// The status of a program that was refused, or of a build that failed.
+/// The exit status if the command line or a manifest is refused, or if a build fails.
 pub const REFUSED: u8 = 1;
 
-/// What is said if a write to standard output fails.
-pub const LOST_OUTPUT: &[u8] = b"ninja: error: standard output can't be written\n";
+/// The error message for a failed write to standard output.
+pub const LOST_OUTPUT: &[u8] = b"ninja: error: standard output can't be written [133 FileFault]\n";
 
-/// Returns texts one after another.
+/// The error message if memory runs out for another message.
+pub const NO_ROOM: &[u8] = b"ninja: fatal: out of memory [131 Memory]\n";
+
+/// Concatenates texts.
 ///
 /// # Errors
 /// If memory runs out.
@@ -25,15 +27,15 @@ pub fn joined(alloc: Global, parts: &[&[u8]]) -> Result<Vec<u8>, AllocError> {
     Ok(text)
 }
 
-/// Writes texts to standard error by one write. If memory runs out, it says so instead.
+/// Writes texts to standard error in one piece. If memory runs out, reports that instead.
 pub fn complain<E: Print>(alloc: Global, errors: &E, parts: &[&[u8]]) {
     let _ = match joined(alloc, parts) {
         Ok(text) => errors.write_all(&text),
-        Err(_) => errors.write_all(b"ninja: fatal: out of memory\n"),
+        Err(_) => errors.write_all(NO_ROOM),
     };
 }
 
-/// Writes to standard error what can't be done with a file, and why.
+/// Reports on standard error what can't be done with a file, and the reason.
 pub fn complain_of<'a, E: Print>(
     alloc: Global,
     errors: &E,
@@ -45,10 +47,10 @@ pub fn complain_of<'a, E: Print>(
     complain(alloc, errors, &[before, file, between, reason, b"\n"]);
 }
 
-/// Writes texts to standard output by one write.
+/// Writes texts to standard output in one piece.
 ///
 /// # Errors
-/// The exit status, if they aren't written; standard error says why.
+/// The exit status 1 if the texts can't be written. The reason is reported on standard error.
 pub fn say<R: Print + AllocGlobal, E: Print>(rt: &R, errors: &E, parts: &[&[u8]]) -> Result<(), u8>
     ensures { IfErr result (λ status. status ≡ 1) }
 {
@@ -60,14 +62,11 @@ pub fn say<R: Print + AllocGlobal, E: Print>(rt: &R, errors: &E, parts: &[&[u8]]
     if written {
         return Ok(());
     }
-    match lost_output(alloc).line(alloc) {
-        Ok(line) => complain(alloc, errors, &[LOST_OUTPUT, &line]),
-        Err(_) => complain(alloc, errors, &[b"plan: 131 Memory\n"]),
-    }
+    complain(alloc, errors, &[LOST_OUTPUT]);
     Err(REFUSED)
 }
 
-/// Returns the status of what was said last: `status`, unless it wasn't written.
+/// Returns the exit status after the last output: `status` if it was written, and otherwise the status of its error.
 pub fn status_after(said: Result<(), u8>, status: u8) -> u8
     ensures written { OnOk said (result ≡ status) }
     ensures lost { IfErr said (λ refused. result ≡ refused) }
@@ -78,7 +77,7 @@ pub fn status_after(said: Result<(), u8>, status: u8) -> u8
     }
 }
 
-/// Returns what C's strerror says of an error of a file.
+/// Returns the text of C's strerror for an error of a file.
 pub fn reason_of(kind: ErrorKind) -> &'static [u8] {
     match kind {
         ErrorKind::NotFound => b"No such file or directory",

@@ -1,4 +1,4 @@
-//! Arguments at which the program ends before it does anything else.
+//! Arguments that end the program before it does anything else.
 
 use crate::said::{REFUSED, complain, say, status_after};
 use plan_options::{
@@ -7,7 +7,7 @@ use plan_options::{
 use plan_text::Memory;
 use std::alloc::{AllocError, Global};
 
-/// The version of ninja that programs are told. Since 1.10 they use dyndep, which this program doesn't know.
+/// The ninja version that `--version` prints. From 1.10 on, other programs would use dyndep, which isn't supported.
 const VERSION: &[u8] = b"1.9.0\n";
 
 const ABOUT: &[u8] = b"plan_build 0.2.0: a formally verified builder with ninja's command line.
@@ -55,7 +55,7 @@ const WARNINGS: &[u8] = b"warning flags:
   phonycycle={err,warn}  phony build statement references itself
 ";
 
-/// Returns the digits of a number, or a mark if there was no memory for them.
+/// Returns the digits of a number, or `?` if memory ran out.
 fn digits_in(digits: &Result<String, AllocError>) -> &[u8] {
     match digits {
         Ok(digits) => digits.as_bytes(),
@@ -63,7 +63,7 @@ fn digits_in(digits: &Result<String, AllocError>) -> &[u8] {
     }
 }
 
-/// Prints the options on standard error, after a line on what is wrong.
+/// Prints a line on what is wrong, and then the options, to standard error.
 fn print_usage<E: Print>(alloc: Global, errors: &E, line: &[u8], jobs: u8) {
     let digits: Result<String, AllocError> = jobs.to_string(alloc);
     let default = digits_in(&digits);
@@ -74,7 +74,7 @@ fn print_usage<E: Print>(alloc: Global, errors: &E, line: &[u8], jobs: u8) {
     );
 }
 
-/// Appends ` '--NAME'` of each long option that begins with this.
+/// Appends ` '--NAME'` for each long option whose name begins with `front`.
 fn append_possible(alloc: Global, text: &mut Vec<u8>, front: &[u8]) -> Result<(), Memory> {
     for flag in flags_named(alloc, front)? {
         text.extend_from_slice(b" '--")?;
@@ -84,7 +84,7 @@ fn append_possible(alloc: Global, text: &mut Vec<u8>, front: &[u8]) -> Result<()
     Ok(())
 }
 
-/// Returns what is wrong with a word, as C's getopt_long says it after the program's name.
+/// Returns the reason why a word is refused, in the words that C's getopt_long prints after the program's name.
 fn misuse_text(alloc: Global, misuse: &Misuse) -> Result<Vec<u8>, Memory> {
     let mut text = Vec::new(alloc);
     match misuse {
@@ -122,7 +122,7 @@ fn misuse_text(alloc: Global, misuse: &Misuse) -> Result<Vec<u8>, Memory> {
     Ok(text)
 }
 
-/// Says what is wrong with an argument that isn't understood, and prints the options.
+/// Reports what is wrong with an argument, if anything is, and prints the options.
 fn refuse_misuse<E: Print>(
     alloc: Global,
     errors: &E,
@@ -142,7 +142,7 @@ fn refuse_misuse<E: Print>(
     print_usage(alloc, errors, &line, jobs);
 }
 
-/// Returns the value of an option.
+/// Returns the value of an option. Empty if it takes none.
 fn value_in(argument: &Argument) -> &[u8] {
     match argument {
         Argument::Setting(_, value) => value.as_slice(),
@@ -150,7 +150,7 @@ fn value_in(argument: &Argument) -> &[u8] {
     }
 }
 
-/// Says why the value of an option is refused.
+/// Reports why the value of an option is refused.
 fn refuse_value<E: Print>(alloc: Global, errors: &E, stop: Stop, value: &[u8]) {
     match stop {
         Stop::InvalidJobs => complain(alloc, errors, &[b"ninja: fatal: invalid -j parameter\n"]),
@@ -182,7 +182,7 @@ fn refuse_value<E: Print>(alloc: Global, errors: &E, stop: Stop, value: &[u8]) {
     }
 }
 
-/// Says what an argument asks for at which the program ends, or why it is refused, and returns the exit status.
+/// Prints the answer to an argument that ends the program, or reports why it is refused. Returns the exit status.
 pub fn stop_at<R: Print + AllocGlobal, E: Print>(
     rt: &R,
     errors: &E,
@@ -207,7 +207,7 @@ pub fn stop_at<R: Print + AllocGlobal, E: Print>(
     }
 }
 
-/// Says on standard error which options have no effect.
+/// Reports on standard error which options have no effect.
 pub fn warn<E: Print>(alloc: Global, errors: &E, line: &CommandLine) {
     if let Some(mode) = line.value(Setting::Mode) {
         complain(

@@ -1,4 +1,4 @@
-//! Tools, as `-t` names them.
+//! The tools that `-t` runs.
 
 mod clean;
 mod fault;
@@ -25,19 +25,19 @@ use std::alloc::Global;
 /// A tool of ninja that this program has.
 #[derive(Clone, Copy, Debug, PartialEq, Eq)]
 pub enum Tool {
-    /// Removes what commands made.
+    /// Removes files that commands made.
     Clean,
     /// Lists the commands that targets need.
     Commands,
     /// Lists targets.
     Targets,
-    /// Lists commands for tools that read sources.
+    /// Prints a compilation database.
     CompilationDatabase,
     /// Drops old entries of the record.
     Recompact,
-    /// Takes the files as they are for what the commands left.
+    /// Records the files as they are now as the results of their commands.
     Restat,
-    /// Removes outputs that the manifest has no more.
+    /// Removes outputs that the manifest no longer names.
     CleanDead,
     /// Lists the tools.
     List,
@@ -69,7 +69,7 @@ impl Tool {
         }
     }
 
-    /// Returns the line of the tool in the list.
+    /// Returns the line for the tool in the list of tools.
     fn line(self) -> &'static [u8] {
         match self {
             Tool::Clean => b"      clean  clean built files\n",
@@ -90,7 +90,7 @@ impl Tool {
     }
 }
 
-/// Returns the tool of a name. None if there is no such tool.
+/// Returns the tool with a name. None if there is no such tool.
 pub fn tool_named(name: &[u8]) -> Option<Tool> {
     for tool in TOOLS {
         if tool.name() == name {
@@ -103,7 +103,7 @@ pub fn tool_named(name: &[u8]) -> Option<Tool> {
     None
 }
 
-/// Returns the name of the tool that may be meant by one that there isn't. Empty if there is none.
+/// Returns the name of the tool that is closest to an unknown name. Empty if no tool is close.
 fn near_name(alloc: Global, name: &[u8]) -> &'static [u8] {
     let mut names: [&[u8]; 7] = [b""; 7];
     for at in 0..TOOLS.len() {
@@ -115,7 +115,7 @@ fn near_name(alloc: Global, name: &[u8]) -> &'static [u8] {
     }
 }
 
-/// Says that there is no tool of this name, but maybe one of another name.
+/// Reports an unknown tool, and suggests the tool `near` unless it is empty.
 fn say_unknown<'a, E: Print>(alloc: Global, errors: &E, name: &'a [u8], near: &'a [u8]) {
     if near.is_empty() {
         complain(
@@ -138,7 +138,7 @@ fn say_unknown<'a, E: Print>(alloc: Global, errors: &E, name: &'a [u8], near: &'
     }
 }
 
-/// Says that there is no tool of this name, and returns the exit status.
+/// Reports an unknown tool, and returns the exit status.
 pub fn unknown_tool<E: Print>(alloc: Global, errors: &E, name: &[u8]) -> u8
     ensures { result ≡ 1 }
 {
@@ -146,7 +146,7 @@ pub fn unknown_tool<E: Print>(alloc: Global, errors: &E, name: &[u8]) -> u8
     REFUSED
 }
 
-/// Lists the tools, and returns the exit status.
+/// Prints the list of tools, and returns the exit status.
 fn list_tools<R: Print + AllocGlobal, E: Print>(rt: &R, errors: &E) -> u8 {
     let mut lines: [&[u8]; 8] = [b"ninja subtools:\n"; 8];
     for at in 0..TOOLS.len() {
@@ -155,7 +155,7 @@ fn list_tools<R: Print + AllocGlobal, E: Print>(rt: &R, errors: &E) -> u8 {
     status_after(say(rt, errors, &lines), 0)
 }
 
-/// Runs a tool as the words ask for it, and returns the exit status.
+/// Runs the tool of a request, and returns the exit status.
 pub fn run_tool(rt: &HostRuntime, line: &CommandLine, request: &Request<'_>) -> u8 {
     let errors = rt.stderr();
     let manifest = manifest_in(line);

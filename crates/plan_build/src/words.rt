@@ -1,4 +1,7 @@
-//! The words that the program was started with.
+//! The words of the command line.
+
+ghost use Rattle.std.specs.Prelude.{◌≡◌};
+ghost use Rattle.plan_build.specs.Statuses.{manifest_in};
 
 use plan_options::{CommandLine, Flag, Setting};
 use plan_text::Memory;
@@ -9,12 +12,17 @@ use std::{env, io};
 /// The manifest that is read if none is named.
 pub const MANIFEST: &[u8] = b"build.ninja";
 
+/// The path of the build record, in the folder of the build.
+pub const RECORD: &str = ".plan_record";
+
 /// Returns the path of the manifest.
-pub fn manifest_in(line: &CommandLine) -> &[u8] {
+pub fn manifest_in(line: &CommandLine) -> &[u8]
+    ensures { result.now ≡ manifest_in line.now }
+{
     line.value(Setting::Manifest).unwrap_or(MANIFEST)
 }
 
-/// Whether `-v` is asked for.
+/// Checks whether the last option for verbosity is `-v`.
 pub fn is_verbose(line: &CommandLine) -> bool {
     line.verbosity() == Some(Flag::Verbose)
 }
@@ -22,7 +30,7 @@ pub fn is_verbose(line: &CommandLine) -> bool {
 /// Returns the words of the command line, the program's own name first.
 ///
 /// # Errors
-/// Why they can't be read: one isn't UTF-8, or memory runs out.
+/// The reason as a text, if a word isn't UTF-8 or memory runs out.
 pub fn words_in<R: Env + AllocGlobal>(rt: &R) -> Result<Vec<String>, &'static [u8]> {
     match env::args(rt) {
         Ok(words) => match words.collect(rt.alloc()) {
@@ -36,7 +44,7 @@ pub fn words_in<R: Env + AllocGlobal>(rt: &R) -> Result<Vec<String>, &'static [u
     }
 }
 
-/// Returns the program's own name.
+/// Returns the program's own name, or `ninja` if there are no words.
 pub fn name_in(words: &[String]) -> &[u8] {
     match words {
         [name, ..] => name.as_bytes(),

@@ -19,18 +19,18 @@ use std::io::{self, ErrorKind};
 use std::rt::Files;
 use std::{fs, str};
 
-/// How many bytes of output are written at once.
+/// The size of the output buffer in bytes.
 const OUTPUT_BUFFER: usize = 4096;
 
 /// Files that are removed together.
 #[derive(Drop)]
 struct Batch {
-    /// What is printed before them, if the tool is verbose.
+    /// The lines that are printed before the files if the tool is verbose.
     heading: Vec<u8>,
     files: RowList<u8>,
 }
 
-/// Returns the files of all commands, with `-g` also those of generators.
+/// Returns the files of all commands. Files of generators are included if `generators` is set.
 fn all_files(
     alloc: Global,
     loaded: &Loaded,
@@ -44,7 +44,7 @@ fn all_files(
     })
 }
 
-/// Returns the files that targets need.
+/// Returns the outputs that targets need, and the depfiles of their commands.
 fn files_of_targets(
     alloc: Global,
     loaded: &Loaded,
@@ -80,7 +80,7 @@ fn files_of_rule(
     })
 }
 
-/// Refuses a name that no rule has.
+/// Checks that each name is the name of a rule.
 fn check_rules(alloc: Global, loaded: &Loaded, names: &[&[u8]]) -> Result<(), ToolFault> {
     for name in names {
         if !loaded.has_rule(name) {
@@ -90,7 +90,7 @@ fn check_rules(alloc: Global, loaded: &Loaded, names: &[&[u8]]) -> Result<(), To
     Ok(())
 }
 
-/// Returns the files that a tool is asked to remove.
+/// Returns the files that a request asks to remove.
 fn batches(
     alloc: Global,
     loaded: &Loaded,
@@ -112,16 +112,16 @@ fn batches(
     Ok(batches)
 }
 
-/// How files are removed.
+/// The way in which files are removed.
 #[derive(Clone, Copy)]
 struct Manner {
-    /// Nothing is removed.
+    /// Whether files are only counted, not removed.
     is_dry: bool,
-    /// Each file that is removed is named.
+    /// Whether the path of each removed file is printed.
     is_verbose: bool,
 }
 
-/// Returns how a command line asks for files to be removed. A dry run names them.
+/// Returns the way in which a command line asks to remove files. A dry run is always verbose.
 fn manner_of(line: &CommandLine) -> Manner {
     let is_dry = line.is_dry_run();
     Manner {
@@ -143,20 +143,21 @@ fn remove<R: Files>(rt: &R, path: &str) -> io::Result<bool> {
     }
 }
 
-/// What was removed.
+/// The state of a removal.
 #[derive(Drop)]
 struct Removal {
     manner: Manner,
-    /// The paths that were met.
+    /// The paths that were seen so far.
     met: IndexMap<Vec<u8>, ()>,
-    /// How many files were removed.
+    /// The number of files that were removed, or that a dry run would remove.
     count: u64,
     /// Whether a file could not be removed.
     has_failed: bool,
 }
 
 impl Removal {
-    /// Removes a file, and returns whether there was one. Standard error says why one can't be removed.
+    /// Removes a file, and returns whether it existed. A dry run only checks that. If the file can't be removed,
+    /// reports the reason, but not for a path that isn't UTF-8.
     fn remove<R: Files + AllocGlobal, E: Print>(
         &mut self,
         rt: &R,
@@ -188,7 +189,7 @@ impl Removal {
         }
     }
 
-    /// Removes a file once, and prints its path if the tool is verbose.
+    /// Removes a file, unless its path was seen before. Prints the path if the tool is verbose.
     fn remove_once<R: Files + AllocGlobal, E: Print, W: Sink>(
         &mut self,
         rt: &R,
@@ -232,7 +233,7 @@ impl Removal {
     }
 }
 
-/// Removes files, and writes what was removed. Returns the exit status.
+/// Removes files, and writes their paths if the tool is verbose, and their number. Returns the exit status.
 fn remove_batches<R: Files + AllocGlobal, E: Print, W: Sink>(
     rt: &R,
     errors: &E,
@@ -258,7 +259,7 @@ fn remove_batches<R: Files + AllocGlobal, E: Print, W: Sink>(
     Ok(if removal.has_failed { REFUSED } else { 0 })
 }
 
-/// Removes files, and prints what was removed. Returns the exit status.
+/// Removes files like `remove_batches`, and prints the lines to standard output. Returns the exit status.
 fn remove_printing<R: Files + Print + AllocGlobal, E: Print>(
     rt: &R,
     errors: &E,
@@ -273,10 +274,11 @@ fn remove_printing<R: Files + Print + AllocGlobal, E: Print>(
     status
 }
 
-/// Removes what commands made: all of it, what some targets need, or what is made by some rules. Returns the exit status.
+/// Removes files that commands made: all of them, those that targets need, or those of rules. Returns the exit status.
 ///
 /// # Errors
-/// If the manifest or a word is refused, or memory runs out; then nothing is removed. If standard output can't be written.
+/// If the manifest or a word is refused. Then nothing is removed. If memory runs out or standard output can't be
+/// written. Then files may have been removed.
 pub fn clean<R: Files + Print + Eprint + AllocGlobal, E: Print>(
     rt: &R,
     errors: &E,
@@ -293,10 +295,10 @@ pub fn clean<R: Files + Print + Eprint + AllocGlobal, E: Print>(
     remove_printing(rt, errors, manner_of(line), &batches)
 }
 
-/// Removes those of some outputs that no build line names any more. Returns the exit status.
+/// Removes each of these outputs that no build line names. Returns the exit status.
 ///
 /// # Errors
-/// As `clean`.
+/// Like `clean`.
 pub fn clean_dead<R: Files + Print + Eprint + AllocGlobal, E: Print>(
     rt: &R,
     errors: &E,

@@ -1,4 +1,4 @@
-//! Why a tool is refused.
+//! Faults of tools.
 
 use crate::refusal::refuse;
 use crate::said::{REFUSED, complain, joined};
@@ -8,7 +8,7 @@ use plan_tools::{OrderFault, TreeFault};
 use std::alloc::{AllocError, AllocFailed, Global};
 use std::rt::Files;
 
-/// Why a tool is refused.
+/// The reason why a tool is refused.
 #[derive(Debug, Drop)]
 pub enum ToolFault {
     /// Memory ran out.
@@ -17,7 +17,7 @@ pub enum ToolFault {
     LostOutput,
     /// The manifest is refused, or a file can't be read or written.
     Plan(PlanFault),
-    /// Something is wrong, as this sentence says.
+    /// Another reason, as a sentence.
     Said(Vec<u8>),
 }
 
@@ -60,7 +60,7 @@ impl From<OrderFault> for ToolFault {
     }
 }
 
-/// Returns a fault that is told by these texts.
+/// Returns a fault with a sentence of these texts, or `Memory` if memory runs out.
 pub fn fault_of(alloc: Global, parts: &[&[u8]]) -> ToolFault {
     match joined(alloc, parts) {
         Ok(text) => ToolFault::Said(text),
@@ -68,7 +68,7 @@ pub fn fault_of(alloc: Global, parts: &[&[u8]]) -> ToolFault {
     }
 }
 
-/// Says why a tool is refused, and returns the exit status.
+/// Reports why a tool is refused, and returns the exit status.
 pub fn refuse_tool<R: Files + Eprint + AllocGlobal, E: Print>(
     rt: &R,
     errors: &E,

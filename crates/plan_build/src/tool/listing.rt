@@ -1,4 +1,4 @@
-//! The tools that print what a manifest says.
+//! The tools that print parts of a manifest.
 
 use crate::tool::Tool;
 use crate::tool::fault::{ToolFault, fault_of};
@@ -18,10 +18,10 @@ use std::alloc::Global;
 use std::env;
 use std::rt::{Env, Files};
 
-/// How many bytes of output are written at once.
+/// The size of the output buffer in bytes.
 const OUTPUT_BUFFER: usize = 65_536;
 
-/// Returns the paths that words name, or those that a build without targets makes if there are no words.
+/// Returns the paths that words name, or the default targets if there are no words.
 fn wanted_paths(
     alloc: Global,
     loaded: &Loaded,
@@ -38,7 +38,7 @@ fn wanted_paths(
     Ok(paths)
 }
 
-/// Writes the commands that targets need, in build order, or with `-s` only those that make the targets.
+/// Writes the commands that targets need, in build order. With `-s`, writes only the commands that make the targets.
 fn write_commands<W: Sink>(
     alloc: Global,
     loaded: &Loaded,
@@ -57,7 +57,7 @@ fn write_commands<W: Sink>(
     Ok(())
 }
 
-/// Writes the commands of rules, or of all, as a compilation database for this folder.
+/// Writes a compilation database of the commands of these rules, or of all commands if no rule is named.
 fn write_database<R: Env + AllocGlobal, W: Sink>(
     rt: &R,
     loaded: &Loaded,
@@ -75,7 +75,7 @@ fn write_database<R: Env + AllocGlobal, W: Sink>(
     Ok(())
 }
 
-/// Returns the depth that a word says, as C's atoi reads it: 0, which is no limit, if it says none or one below 0.
+/// Parses a depth. Returns 0, which is no limit, if the word isn't a number or is below 0.
 fn depth_in(word: &[u8]) -> u32 {
     match integer_in(word, u32::MAX) {
         Some(Integer::AtLeastZero(depth)) => depth,
@@ -83,7 +83,7 @@ fn depth_in(word: &[u8]) -> u32 {
     }
 }
 
-/// Writes the tree of the targets that no edge uses, so many levels of it; 0 is no limit.
+/// Writes the trees of the targets that no edge uses, with `depth` levels. Depth 0 is no limit.
 fn write_tree<W: Sink>(
     alloc: Global,
     loaded: &Loaded,
@@ -99,7 +99,7 @@ fn write_tree<W: Sink>(
     Ok(())
 }
 
-/// How many modes `targets` has.
+/// The number of modes of `targets`.
 const MODES: usize = 3;
 
 /// Returns the name of a mode of `targets`.
@@ -111,7 +111,7 @@ fn mode_name(number: usize) -> &'static [u8] {
     }
 }
 
-/// Returns the mode that may be meant by a word. Empty if there is none.
+/// Returns the mode that is closest to a word. Empty if no mode is close.
 fn near_mode(alloc: Global, word: &[u8]) -> &'static [u8] {
     let mut names: [&[u8]; MODES] = [b""; MODES];
     for at in 0..MODES {
@@ -123,7 +123,7 @@ fn near_mode(alloc: Global, word: &[u8]) -> &'static [u8] {
     }
 }
 
-/// Returns the fault of a word that is no mode of `targets`, but maybe this one.
+/// Returns the fault of a word that isn't a mode of `targets`. It suggests the mode `near` unless that is empty.
 fn mode_fault<'a>(alloc: Global, word: &'a [u8], near: &'a [u8]) -> ToolFault {
     if near.is_empty() {
         return fault_of(alloc, &[b"unknown target tool mode '", &*word, b"'"]);
@@ -140,12 +140,12 @@ fn mode_fault<'a>(alloc: Global, word: &'a [u8], near: &'a [u8]) -> ToolFault {
     )
 }
 
-/// Returns the fault of a word that is no mode of `targets`.
+/// Returns the fault of a word that isn't a mode of `targets`, with the closest mode as a suggestion.
 fn unknown_mode(alloc: Global, word: &[u8]) -> ToolFault {
     mode_fault(alloc, word, near_mode(alloc, word))
 }
 
-/// Writes the targets that the words ask for.
+/// Writes the targets that the words of a request select.
 fn write_targets<W: Sink>(
     alloc: Global,
     loaded: &Loaded,
@@ -167,7 +167,7 @@ fn write_targets<W: Sink>(
     Ok(())
 }
 
-/// Writes what a tool lists.
+/// Writes the listing of a tool.
 fn write_listing<R: Env + AllocGlobal, W: Sink>(
     rt: &R,
     loaded: &Loaded,
@@ -183,7 +183,7 @@ fn write_listing<R: Env + AllocGlobal, W: Sink>(
     }
 }
 
-/// Prints what a tool lists, and returns the exit status.
+/// Prints the listing of a tool, and returns the exit status.
 ///
 /// # Errors
 /// If the manifest or a word is refused, memory runs out, or standard output can't be written.

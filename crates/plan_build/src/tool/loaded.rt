@@ -1,4 +1,4 @@
-//! A manifest, as tools read it.
+//! Manifests that tools read.
 
 use crate::tool::fault::ToolFault;
 use plan_commands::{FileSource, MANIFEST_BYTES, printed_fault, printed_graph_fault};
@@ -14,13 +14,13 @@ use std::rt::Files;
 #[derive(Drop)]
 pub struct Loaded {
     tree: Tree,
-    /// What it means.
+    /// The evaluated manifest.
     pub manifest: Manifest,
     /// The rule of each edge.
     pub rules: RowList<u8>,
 }
 
-/// Reads the manifest at a path.
+/// Reads and evaluates the manifest at a path.
 ///
 /// # Errors
 /// If it can't be read or is refused, or memory runs out.
@@ -50,7 +50,7 @@ impl Loaded {
     /// Returns the graph of the manifest.
     ///
     /// # Errors
-    /// If it has none, or memory runs out.
+    /// If the manifest has no graph, or memory runs out.
     pub fn graph(&self, alloc: Global) -> Result<Graph<'_>, ToolFault> {
         match graph(alloc, &self.manifest) {
             Ok(graph) => Ok(graph),
@@ -58,7 +58,7 @@ impl Loaded {
         }
     }
 
-    /// Checks whether the manifest, or a file that it includes, has a rule of this name.
+    /// Checks whether the manifest or a file that it includes has a rule with this name. `phony` is always one.
     pub fn has_rule(&self, name: &[u8]) -> bool {
         for statement in self.tree.statements() {
             if let Said::Directive(DirectiveKind::Rule(rule)) = statement.said() {

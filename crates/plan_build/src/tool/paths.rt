@@ -9,7 +9,7 @@ use std::alloc::{AllocError, Global};
 use std::rt::Files;
 use std::{fs, str};
 
-/// Returns a path in canonical form.
+/// Returns the canonical form of a path.
 fn canonical_path(alloc: Global, word: &[u8]) -> Result<Vec<u8>, ToolFault> {
     match canonical(alloc, word) {
         Ok(path) => Ok(path),
@@ -19,12 +19,12 @@ fn canonical_path(alloc: Global, word: &[u8]) -> Result<Vec<u8>, ToolFault> {
     }
 }
 
-/// Returns the fault of a word that names no path, with a hint behind it.
+/// Returns the fault of a word that names no path, followed by a hint.
 fn unknown_target(alloc: Global, word: &[u8], hint: &[u8]) -> ToolFault {
     fault_of(alloc, &[b"unknown target '", word, b"'", hint])
 }
 
-/// Returns the fault of a path that the graph lacks, with what may have been meant.
+/// Returns the fault of a path that the graph lacks, with a suggestion if there is one.
 fn unknown_path(alloc: Global, graph: &Graph<'_>, path: &[u8]) -> ToolFault {
     if path == b"clean".as_slice() {
         return unknown_target(alloc, path, b", did you mean 'ninja -t clean'?");
@@ -42,7 +42,7 @@ fn unknown_path(alloc: Global, graph: &Graph<'_>, path: &[u8]) -> ToolFault {
     }
 }
 
-/// Returns the number of a path.
+/// Returns the number of a path in the graph.
 fn number_of(alloc: Global, graph: &Graph<'_>, path: &[u8]) -> Result<u32, ToolFault> {
     match graph.files.number(path) {
         Some(number) => match u32::try_from(number) {
@@ -66,7 +66,8 @@ fn first_made_of(alloc: Global, graph: &Graph<'_>, path: &[u8]) -> Result<u32, T
     Err(fault_of(alloc, &[b"'", path, b"' has no out edge"]))
 }
 
-/// Returns the path that a word names, in canonical form. A path and `^` name the first output that is made of it.
+/// Returns the number of the path that a word names, which needn't be in canonical form. `PATH^` names the first output
+/// of the first edge that takes PATH as an input.
 fn path_named(alloc: Global, graph: &Graph<'_>, word: &[u8]) -> Result<u32, ToolFault> {
     let path = canonical_path(alloc, word)?;
     match path.as_slice() {
@@ -75,7 +76,7 @@ fn path_named(alloc: Global, graph: &Graph<'_>, word: &[u8]) -> Result<u32, Tool
     }
 }
 
-/// Returns the paths that words name.
+/// Returns the numbers of the paths that words name.
 ///
 /// # Errors
 /// If one of them names no path of the graph, or memory runs out.
@@ -91,7 +92,7 @@ pub fn paths_named(
     Ok(paths)
 }
 
-/// Returns the edges that make paths, each once.
+/// Returns the edges that make these paths, each once.
 ///
 /// # Errors
 /// If memory runs out.
@@ -111,7 +112,7 @@ pub fn makers_of(alloc: Global, graph: &Graph<'_>, paths: &[u32]) -> Result<Vec<
     Ok(makers)
 }
 
-/// Paths, each of which an edge makes.
+/// Paths that edges make.
 #[derive(Drop)]
 pub struct Paths {
     rows: RowList<u8>,
@@ -131,16 +132,16 @@ impl Paths {
     }
 }
 
-/// What words name.
+/// The paths that words name.
 #[derive(Drop)]
 pub enum Named {
-    /// Only files that no edge makes, and that are there.
+    /// Only files that no edge makes. They exist.
     Sources,
-    /// These paths, and maybe such files.
+    /// These paths, and maybe files as in `Sources`.
     Targets(Paths),
 }
 
-/// Refuses a path that no edge makes, if its file is missing.
+/// Checks that the file of a path that no edge makes exists.
 fn check_source<R: Files + AllocGlobal>(rt: &R, path: &[u8]) -> Result<(), ToolFault> {
     if fs::exists(rt, str::from_utf8(path).unwrap_or("")).unwrap_or(false) {
         return Ok(());
@@ -151,7 +152,7 @@ fn check_source<R: Files + AllocGlobal>(rt: &R, path: &[u8]) -> Result<(), ToolF
     ))
 }
 
-/// Returns what words name in a manifest.
+/// Returns the paths that words name in a manifest.
 ///
 /// # Errors
 /// If the manifest is refused, a word names no path of its graph, the file of a source is missing, or memory runs out.

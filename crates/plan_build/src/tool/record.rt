@@ -1,16 +1,16 @@
 //! The tools that read or change the record of builds.
 
-use crate::RECORD;
 use crate::tool::clean::clean_dead;
 use crate::tool::fault::ToolFault;
 use crate::tool::loaded::load_manifest;
+use crate::words::RECORD;
 use plan_commands::file_fault;
 use plan_options::CommandLine;
 use plan_text::RowList;
 use plan_world::{OpenFault, recompact, recorded_outputs, restat};
 use std::alloc::Global;
 
-/// Returns why the record can't be used.
+/// Returns the fault of a record that can't be used.
 fn record_fault(alloc: Global, fault: OpenFault) -> ToolFault {
     match fault {
         OpenFault::Memory => ToolFault::Memory,
@@ -18,7 +18,7 @@ fn record_fault(alloc: Global, fault: OpenFault) -> ToolFault {
     }
 }
 
-/// Drops the entries of the record that no longer count, and returns the exit status.
+/// Rewrites the record with only the last entry of each output, and returns the exit status.
 ///
 /// # Errors
 /// If the manifest is refused, the record can't be read or written, or memory runs out.
@@ -30,8 +30,8 @@ pub fn recompact_record(rt: &HostRuntime, manifest: &[u8]) -> Result<u8, ToolFau
     }
 }
 
-/// Takes the files of outputs as they are for what their commands left, of all outputs if none is named. Returns the exit
-/// status.
+/// Records the current stamps of outputs as the bases of their entries, for all outputs if none is named. Returns the
+/// exit status.
 ///
 /// # Errors
 /// If the record can't be read or written, or memory runs out.
@@ -50,7 +50,7 @@ fn outputs_recorded(rt: &HostRuntime) -> Result<RowList<u8>, ToolFault> {
     }
 }
 
-/// Removes the outputs in the record that no build line names any more, and returns the exit status.
+/// Removes the outputs in the record that no build line names anymore, and returns the exit status.
 ///
 /// # Errors
 /// If the manifest is refused, the record can't be read, memory runs out, or standard output can't be written.

@@ -29,7 +29,7 @@ const TARGETS_USAGE: &[u8] = b"usage: ninja -t targets [all | rule [NAME] | dept
 ";
 
 impl Tool {
-    /// Returns the letters of the tool's options, beside `h`.
+    /// Returns the letters of the tool's options, except `h`.
     fn letters(self) -> &'static [u8] {
         match self {
             Tool::Clean => b"gr",
@@ -39,7 +39,7 @@ impl Tool {
         }
     }
 
-    /// Returns how the tool is used.
+    /// Returns the usage text of the tool.
     fn usage(self) -> &'static [u8] {
         match self {
             Tool::Clean => CLEAN_USAGE,
@@ -53,31 +53,32 @@ impl Tool {
         }
     }
 
-    /// Whether the tool takes words that are no options.
+    /// Checks whether the tool takes words that aren't options.
     fn takes_names(self) -> bool {
         !matches!(self, Tool::Recompact | Tool::CleanDead | Tool::List)
     }
 }
 
-/// What the words after `-t TOOL` ask for.
+/// The request of a command line for a tool.
 #[derive(Drop)]
 pub struct Request<'a> {
     /// The tool.
     pub tool: Tool,
-    /// The letters of the options, each of which the tool has.
+    /// The letters of the options. The tool has them all.
     letters: Vec<u8>,
-    /// The words that are no options.
+    /// The words that aren't options.
     pub names: Vec<&'a [u8]>,
 }
 
 impl Request<'_> {
-    /// Whether the option of a letter is there.
+    /// Checks whether the option with a letter is given.
     pub fn has(&self, letter: u8) -> bool {
         self.letters.contains(&letter)
     }
 }
 
-/// Reads the words after `-t TOOL`. The words of `targets` are no options, so that it takes numbers below 0.
+/// Reads the words after `-t TOOL`. The words of `targets` aren't read as options, because a depth may be below 0. Only
+/// `-h` as its first word is an option.
 fn read_request<'a>(alloc: Global, tool: Tool, words: &[&'a [u8]]) -> Result<Request<'a>, Memory> {
     let mut names = Vec::new(alloc);
     if tool != Tool::Targets {
@@ -97,7 +98,7 @@ fn read_request<'a>(alloc: Global, tool: Tool, words: &[&'a [u8]]) -> Result<Req
     })
 }
 
-/// Returns the first letter at which the tool does nothing: `h`, or an option that it lacks.
+/// Returns the first letter for which the tool does nothing: `h`, or an option that it lacks. None if there is none.
 fn stop_in(request: &Request<'_>) -> Option<u8> {
     for letter in &request.letters {
         if !request.tool.letters().contains(letter) {
@@ -107,7 +108,7 @@ fn stop_in(request: &Request<'_>) -> Option<u8> {
     None
 }
 
-/// Prints how a tool is used, after what is wrong with a letter if it isn't `h`, and returns the exit status.
+/// Prints the usage of a tool, and returns the exit status. If the letter isn't `h`, first reports it as invalid.
 fn show_usage<R: Print + AllocGlobal, E: Print>(rt: &R, errors: &E, tool: Tool, letter: u8) -> u8 {
     if letter != b'h' {
         let alloc = rt.alloc();
@@ -121,7 +122,7 @@ fn show_usage<R: Print + AllocGlobal, E: Print>(rt: &R, errors: &E, tool: Tool, 
     status_after(say(rt, errors, &[tool.usage()]), REFUSED)
 }
 
-/// Says that a tool takes no such word.
+/// Reports that a tool doesn't take a word.
 fn refuse_name<'a, E: Print>(alloc: Global, errors: &E, tool: &'a [u8], name: &'a [u8]) {
     complain(
         alloc,
@@ -136,10 +137,10 @@ fn refuse_name<'a, E: Print>(alloc: Global, errors: &E, tool: &'a [u8], name: &'
     );
 }
 
-/// Reads the words after `-t TOOL`, and refuses those that the tool doesn't take.
+/// Reads the words after `-t TOOL`, and refuses words that the tool doesn't take.
 ///
 /// # Errors
-/// The exit status, if the tool does nothing; it was said why.
+/// The exit status if the tool does nothing. The usage or the reason was printed.
 pub fn request_in<'a, R: Print + AllocGlobal, E: Print>(
     rt: &R,
     errors: &E,

@@ -1,0 +1,65 @@
+-- What the exit status 0 of a build says.
+use Rattle.std.specs.Prelude.{◌≡◌, ◌⊎◌, ◌^◌, ◌-◌, ℕ, false, List, [], ◌∷◌}
+use Rattle.std.specs.Option.{unwrap_or}
+use Rattle.plan_scope.specs.Scopes.{Text}
+use Rattle.plan_scope.specs.Loading.{FileContents, IsMissing, PathSet}
+use Rattle.plan_machine.specs.Limits.{Limits}
+use Rattle.plan_lanes.specs.Journals.{Rule}
+use Rattle.plan_options.specs.Saying.{failures, is_dry_run, jobs, last_value, targets}
+use Rattle.plan_options.specs.declared.argument.Argument.{Argument}
+use Rattle.plan_options.specs.declared.argument.Setting.TheVariants as setting
+use Rattle.plan_commands.specs.Building.{Asked, Builds, Stops, asked, exit_status}
+use Rattle.plan_commands.specs.Images.{SinkState}
+use Rattle.plan_commands.specs.declared.building.Done.{Done}
+use Rattle.plan_commands.specs.declared.fault.PlanFault.{PlanFault}
+
+-- `build.ninja`
+abbrev pub default_manifest : Text
+default_manifest = 98 ∷ 117 ∷ 105 ∷ 108 ∷ 100 ∷ 46 ∷ 110 ∷ 105 ∷ 110 ∷ 106 ∷ 97 ∷ []
+
+-- The path of the manifest that a command line names.
+abbrev pub manifest_in : List Argument → Text
+manifest_in line = unwrap_or (last_value setting.Manifest line) default_manifest
+
+-- The options of a build, if `-j` isn't given: this many jobs.
+abbrev pub limits_of : List Argument → ℕ → Limits
+limits_of line default = record { jobs = unwrap_or (jobs line) default; keep = failures (2 ^ 32 - 1) line }
+
+-- What a command line asks a build for.
+abbrev pub asked_by : List Argument → (default : ℕ) → Asked
+asked_by line default = asked (manifest_in line) (limits_of line default) (targets line)
+
+-- A manifest may have any contents, and reading it may fail.
+abbrev pub any_contents : FileContents
+any_contents path bytes = Unit {0}
+
+abbrev pub any_path : PathSet
+any_path path = Unit {0}
+
+-- A build ended in this way.
+pub record Ended (rule : Rule) (a : Asked) (done : Done) : Type 0 where
+  pub before : SinkState
+  pub after : SinkState
+  pub built : Builds any_contents rule a before after done
+
+-- A build was refused because one of its targets is unknown.
+pub record HasUnknownTarget (rule : Rule) (a : Asked) : Type 0 where
+  pub before : SinkState
+  pub after : SinkState
+  pub fault : PlanFault
+  pub reads : ℕ
+  pub failed : ℕ
+  pub number : fault.number ≡ 132
+  pub stopped : Stops any_contents (IsMissing any_contents any_path reads failed) rule a before after fault
+
+-- A build ended with status 0, by its own exit status.
+pub record EndedWell (rule : Rule) (a : Asked) : Type 0 where
+  pub done : Done
+  pub ended : Ended rule a done
+  pub well : exit_status done ≡ 0
+
+-- What a status of 0 says of a command line without `-n`: its build ended well. Or one of its targets is unknown to the
+-- manifest, and the words name other paths.
+abbrev pub SaysBuilt : Rule → List Argument → (default : ℕ) → (status : ℕ) → Type 0
+SaysBuilt rule line default status =
+    status ≡ 0 → is_dry_run line ≡ false → EndedWell rule (asked_by line default) ⊎ HasUnknownTarget rule (asked_by line default)
