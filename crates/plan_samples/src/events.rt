@@ -1,4 +1,4 @@
-//! Events made by hand, what runs of them leave, and images for them.
+//! Handmade events, images to run them on, and the results of such runs.
 
 use crate::making::{RUNS, SampleEdge, make_sample};
 use plan_depfile::Parsed;
@@ -12,19 +12,19 @@ use std::alloc::{AllocError, Global};
 pub enum Plain {
     /// An edge begins.
     Start(u32),
-    /// It makes a step.
+    /// An edge makes its next step.
     Step(u32),
-    /// It is skipped over another.
+    /// An edge is skipped over one that it waits for (the second).
     Skip(u32, u32),
-    /// It is stopped.
+    /// An edge is stopped.
     Stop(u32),
-    /// Its command ended with this status.
+    /// The command of an edge ended with this status.
     Exit(u32, u8),
-    /// It hears a stamp.
+    /// An edge gets a stamp as its reply.
     Stamp(u32, u64),
 }
 
-/// The event that it says.
+/// Converts a plain event to an `Event`.
 pub fn event_of(plain: Plain) -> Event {
     match plain {
         Plain::Start(edge) => Event::Start(edge),
@@ -36,7 +36,10 @@ pub fn event_of(plain: Plain) -> Event {
     }
 }
 
-/// The events that these say.
+/// Converts plain events to `Event`s.
+///
+/// # Errors
+/// Out of memory.
 pub fn events_of(alloc: Global, plain: &[Plain]) -> Result<Vec<Event>, AllocError> {
     let mut events = Vec::with_capacity(alloc, plain.len())?;
     for event in plain {
@@ -45,7 +48,7 @@ pub fn events_of(alloc: Global, plain: &[Plain]) -> Result<Vec<Event>, AllocErro
     Ok(events)
 }
 
-/// An edge that runs a command in the pool.
+/// An edge that runs a command in pool 0.
 pub const RUNNING: SampleEdge<'static> = SampleEdge {
     sort: Sort::Command,
     pool: Some(0),
@@ -54,7 +57,8 @@ pub const RUNNING: SampleEdge<'static> = SampleEdge {
     code: &RUNS,
 };
 
-/// The image of these edges, with one pool of depth 1 and the text `x`.
+/// Creates an image of these edges, with one pool of depth 1 and the text `x`.
+/// Returns `None` if `make_sample` does.
 pub fn image_of(alloc: Global, edges: &[SampleEdge<'_>], defaults: &[u32]) -> Option<Verified> {
     make_sample(
         alloc,
@@ -65,15 +69,20 @@ pub fn image_of(alloc: Global, edges: &[SampleEdge<'_>], defaults: &[u32]) -> Op
     )
 }
 
-/// Three edges of the pool.
+/// Creates an image of three edges of the pool, which are all built by default.
 pub fn three(alloc: Global) -> Option<Verified> {
     image_of(alloc, &[RUNNING, RUNNING, RUNNING], &[0, 1, 2])
 }
 
-/// How many marks events leave, the last one, and whether the run has ended; or where they stop.
+/// The result of a run: the number of its marks, the last mark, and whether the run has ended. If an event is refused,
+/// the result is the place of that event, from 0, and the reason.
 pub type Left = Result<(usize, Option<Mark>, bool), (usize, Refused)>;
 
-/// What a run from the opening for the defaults leaves, with so many jobs and failures borne.
+/// Runs events from the opening for the image's defaults, with at most `jobs` jobs. Failures are allowed until their
+/// number reaches `keep`, and 0 means no limit.
+///
+/// # Errors
+/// Those of `replay`, and `Memory` at place 0 if `jobs` isn't 1 to 64.
 pub fn left_by(alloc: Global, image: &Verified, jobs: u8, keep: u32, events: &[Event]) -> Left {
     let Some(options) = Options::new(jobs, keep) else {
         return Err((0, Refused::Memory));
@@ -84,7 +93,10 @@ pub fn left_by(alloc: Global, image: &Verified, jobs: u8, keep: u32, events: &[E
     }
 }
 
-/// The same of events that are said.
+/// Like `left_by`, but takes plain events.
+///
+/// # Errors
+/// Those of `left_by`, and `Memory` at place 0 if the events can't be converted.
 pub fn ran(alloc: Global, image: &Verified, jobs: u8, keep: u32, plain: &[Plain]) -> Left {
     match events_of(alloc, plain) {
         Ok(events) => left_by(alloc, image, jobs, keep, &events),
@@ -92,7 +104,10 @@ pub fn ran(alloc: Global, image: &Verified, jobs: u8, keep: u32, plain: &[Plain]
     }
 }
 
-/// A depfile with these bytes.
+/// Creates the reply that brings a depfile with these bytes.
+///
+/// # Errors
+/// `Memory`. A malformed depfile isn't an error here.
 pub fn depfile(alloc: Global, bytes: &[u8]) -> Result<Reply, Refused> {
     let bytes = Vec::from_slice(alloc, bytes)?;
     match Parsed::of(alloc, bytes) {
@@ -101,7 +116,7 @@ pub fn depfile(alloc: Global, bytes: &[u8]) -> Result<Reply, Refused> {
     }
 }
 
-/// An edge that runs its command and reads its depfile.
+/// The code of an edge that runs its command and reads its depfile.
 pub const READS: [Instr; 8] = [
     Instr::Take,
     Instr::Text(0),
@@ -113,7 +128,7 @@ pub const READS: [Instr; 8] = [
     Instr::End,
 ];
 
-/// Adds the events of an edge whose command ends with this status: 7 where that is 0, else 5.
+/// Appends the events of an edge whose command ends with this status: 7 events if the status is 0, and 5 otherwise.
 fn push_run(events: &mut Vec<Plain>, edge: u32, status: u8) -> Result<(), AllocError> {
     events.push(Plain::Start(edge))?;
     for _i in 0..3usize {
@@ -127,7 +142,11 @@ fn push_run(events: &mut Vec<Plain>, edge: u32, status: u8) -> Result<(), AllocE
     Ok(())
 }
 
-/// The events of edges, one after another, each with the status of its command; and then one more, where there is one.
+/// Returns the events of a run of edges, one after another, and then the event `last`, if any. Each edge comes with the
+/// status of its command.
+///
+/// # Errors
+/// Out of memory.
 pub fn run_of(
     alloc: Global,
     edges: &[(u32, u8)],

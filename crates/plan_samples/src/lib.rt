@@ -1,11 +1,11 @@
-//! Images and events made by hand, for the tests of plan_machine.
+//! Handmade images and events, for the tests of plan_machine.
 //!
-//! - `make_sample`: an image with an edge for each `SampleEdge`; `RUNS`: the code of an edge that runs a command.
-//!   `image_of`, `three`: such images with one pool, of edges such as `RUNNING`.
-//! - `Plain`: an event that can be copied; `run_of`, `events_of`, `event_of`, `depfile` make events; `ran`, `left_by` tell what
-//!   a run of them has `Left`.
+//! - `make_sample` creates an image with an edge for each `SampleEdge`. `RUNS` is the code of an edge that runs a
+//!   command. `image_of` and `three` create images with one pool, of edges such as `RUNNING`.
+//! - `Plain` is an event that can be copied. `run_of` lists the plain events of a run, `events_of` and `event_of`
+//!   convert plain events, and `depfile` creates a reply. `ran` and `left_by` run events and return the result, `Left`.
 //!
-//! No contract says what it makes: `verify` accepts it, and the tests say what comes of it.
+//! No contract describes the images: `verify` accepts them, and the tests check how they run.
 #![tactic(auto)]
 
 mod events;

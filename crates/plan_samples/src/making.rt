@@ -1,11 +1,11 @@
-//! An image of few edges, from what tells it from others.
+//! Creates small images from the parts in which they differ.
 
 use plan_image::{Edge, EdgeCode, Edges, Image, Instr, Parts, Pool, Sort};
 use plan_text::{Items, RowList};
 use plan_verify::{Verified, verify};
 use std::alloc::{AllocError, Global};
 
-/// The code of an edge that runs a command, text 0, in a place, and ends.
+/// The code of an edge that takes a place, runs a command (text 0), gives the place back and ends.
 pub const RUNS: [Instr; 5] = [
     Instr::Take,
     Instr::Text(0),
@@ -14,16 +14,16 @@ pub const RUNS: [Instr; 5] = [
     Instr::End,
 ];
 
-/// An edge. Edge n has the rank n, and makes file n.
+/// An edge of a sample. Edge n has the rank n and the single output n.
 #[derive(Clone, Copy)]
 pub struct SampleEdge<'a> {
-    /// What it is.
+    /// Its sort.
     pub sort: Sort,
-    /// Its pool, by its number.
+    /// The number of its pool, if any.
     pub pool: Option<u32>,
-    /// The number of its label's text.
+    /// The number of the text that is its label.
     pub label: u32,
-    /// The edges that it waits for, ascending.
+    /// The numbers of the edges that it waits for, ascending.
     pub waits: &'a [u32],
     /// Its instructions.
     pub code: &'a [Instr],
@@ -37,7 +37,7 @@ fn texts_of(alloc: Global, texts: &[&[u8]]) -> Result<RowList<u8>, AllocError> {
     Ok(rows)
 }
 
-/// The names of so many files.
+/// Returns the names of `count` files. They differ if there are at most 702.
 fn files_of(alloc: Global, count: usize) -> Result<RowList<u8>, AllocError> {
     let mut rows = RowList::new(alloc);
     for number in 0..count {
@@ -121,9 +121,10 @@ fn parts_of(
     })
 }
 
-/// The image of labels and commands, names and depths of pools, edges, and the numbers of those that are built by default,
-/// ascending; none where it isn't accepted, or memory runs out. Its files are `a` to `z` and then names of two letters, one
-/// an edge.
+/// Creates an image of texts (labels and commands), pools (names and depths) and edges. `defaults` are the numbers of
+/// the edges that are built by default, ascending. Each edge has one file: `a` to `z`, and then names of two letters.
+///
+/// Returns `None` if the image isn't accepted or memory runs out.
 pub fn make_sample(
     alloc: Global,
     texts: &[&[u8]],
