@@ -1,4 +1,4 @@
-//! Each public function once, on manifests from outside.
+//! Calls each public function of plan_graph on manifests, as another crate would.
 
 use plan_graph::*;
 use plan_scope::{Manifest, Source, SourceFault, evaluate, load};
@@ -6,7 +6,7 @@ use plan_text::RowList;
 use std::alloc::Global;
 use std::test::Fail;
 
-/// A source that gives one text under each path.
+/// A source that returns one text for each path.
 #[derive(Drop)]
 struct Text {
     bytes: &'static [u8],
@@ -27,7 +27,7 @@ impl Source for Text {
     }
 }
 
-/// What a text means.
+/// Loads and evaluates a text. Returns `None` if it is refused.
 fn manifest_of(alloc: Global, bytes: &'static [u8]) -> Option<Manifest> {
     let Ok(tree) = load(alloc, &mut Text { bytes }, b"build.ninja") else {
         return None;
@@ -38,10 +38,10 @@ fn manifest_of(alloc: Global, bytes: &'static [u8]) -> Option<Manifest> {
     }
 }
 
-/// Three edges: the first waits for the others, the last for the second.
+/// Three edges. The first waits for both others, and the last waits for the second.
 const THREE: &[u8] = b"rule r\n  command = true\nbuild c: r a b\nbuild a: r\nbuild b: r a\n";
 
-/// Whether the rows are these.
+/// Checks whether the rows are these.
 fn are_rows(rows: &RowList<u32>, expected: &[&[u32]]) -> bool {
     if rows.len() != expected.len() {
         return false;
@@ -54,7 +54,7 @@ fn are_rows(rows: &RowList<u32>, expected: &[&[u32]]) -> bool {
     true
 }
 
-/// Whether the graph of a text has these waits, ranks and default edges.
+/// Checks whether the graph of a text has these waits, ranks and default edges.
 fn is_graph(
     alloc: Global,
     text: &'static [u8],
@@ -75,7 +75,7 @@ fn is_graph(
     }
 }
 
-/// The number of the fault of a text, 0 where it has a graph.
+/// Returns the number of the fault of a text's graph, 0 if it has a graph, and 255 if it has no manifest.
 fn refusal(alloc: Global, text: &'static [u8]) -> u8 {
     let Some(manifest) = manifest_of(alloc, text) else {
         return 255;
@@ -86,7 +86,7 @@ fn refusal(alloc: Global, text: &'static [u8]) -> u8 {
     }
 }
 
-/// The edges of the cycle of a text.
+/// Checks whether a text has a cycle of these edges.
 fn has_cycle(alloc: Global, text: &'static [u8], edges: &[usize]) -> bool {
     let Some(manifest) = manifest_of(alloc, text) else {
         return false;
@@ -97,7 +97,7 @@ fn has_cycle(alloc: Global, text: &'static [u8], edges: &[usize]) -> bool {
     }
 }
 
-/// The edge that makes a path of the three edges.
+/// Returns the edge that produces a path in the graph of `THREE`.
 fn producer(alloc: Global, path: &[u8]) -> Option<u32> {
     let manifest = manifest_of(alloc, THREE)?;
     match graph(alloc, &manifest) {
@@ -106,7 +106,7 @@ fn producer(alloc: Global, path: &[u8]) -> Option<u32> {
     }
 }
 
-/// Whether this is the path of a number, of the three edges; empty where there is none.
+/// Checks whether a number has this path in the graph of `THREE`. An empty path means that the number has none.
 fn has_path(alloc: Global, number: usize, path: &[u8]) -> bool {
     let Some(manifest) = manifest_of(alloc, THREE) else {
         return false;
@@ -120,10 +120,11 @@ fn has_path(alloc: Global, number: usize, path: &[u8]) -> bool {
     }
 }
 
-/// Two edges: the first names a path twice, and one that the second makes.
+/// Two edges. The first names a path twice, and it names a path that the second produces.
 const TWO: &[u8] = b"rule r\n  command = true\nbuild b | c: r a a || d\nbuild d: r e | a\n";
 
-/// Whether the two edges have these rows of outputs, of inputs and of waits, and an empty one past each end.
+/// Checks whether the graph of `TWO` has these rows of outputs, inputs and waits, and an empty row after the last of
+/// each.
 fn has_rows(alloc: Global, outputs: &[&[u32]], inputs: &[&[u32]], waits: &[&[u32]]) -> bool {
     let Some(manifest) = manifest_of(alloc, TWO) else {
         return false;
@@ -141,7 +142,7 @@ fn has_rows(alloc: Global, outputs: &[&[u32]], inputs: &[&[u32]], waits: &[&[u32
     }
 }
 
-/// The number of a path of the two edges.
+/// Returns the number of a path in the graph of `TWO`.
 fn number(alloc: Global, path: &[u8]) -> Option<usize> {
     let manifest = manifest_of(alloc, TWO)?;
     match graph(alloc, &manifest) {
@@ -150,7 +151,7 @@ fn number(alloc: Global, path: &[u8]) -> Option<usize> {
     }
 }
 
-/// The edge that makes the path of a number, of the two edges.
+/// Returns the edge that produces the path with a number in the graph of `TWO`.
 fn producer_at(alloc: Global, number: usize) -> Option<u32> {
     let manifest = manifest_of(alloc, TWO)?;
     match graph(alloc, &manifest) {
@@ -159,7 +160,7 @@ fn producer_at(alloc: Global, number: usize) -> Option<u32> {
     }
 }
 
-/// How many paths the edges of a text name.
+/// Returns the number of paths in the graph of a text.
 fn path_count(alloc: Global, text: &'static [u8]) -> Option<usize> {
     let manifest = manifest_of(alloc, text)?;
     match graph(alloc, &manifest) {

@@ -1,5 +1,5 @@
-//! The tests of plan_text, plan_parse, plan_scope and plan_graph. They stand apart from the code, since a
-//! crate with tests is proved twice.
+//! The tests of plan_text, plan_parse, plan_scope and plan_graph. They are in a crate of their own because a crate with
+//! tests is proved twice.
 #![tactic(auto)]
 
 #[cfg(test)]

@@ -1,11 +1,12 @@
-//! Manifests from outside: the examples of the manual and of ninja's own tests, and refusals of each sort.
+//! Parses manifests, as another crate would: the examples of the manual and of ninja's own tests, and refusals of each
+//! kind.
 
 use plan_parse::*;
 use plan_text::{Items, Piece, PieceList, TextFault};
 use std::alloc::{AllocError, Global};
 use std::test::Fail;
 
-/// Appends the pieces of a text, each reference as `<name>`.
+/// Appends the pieces of a text. Writes each reference as `<name>`.
 fn spell(text: &mut Vec<u8>, pieces: &PieceList) -> Result<(), AllocError> {
     for piece in pieces.as_slice() {
         match piece {
@@ -20,14 +21,14 @@ fn spell(text: &mut Vec<u8>, pieces: &PieceList) -> Result<(), AllocError> {
     Ok(())
 }
 
-/// A text, and whether its pieces spell it.
+/// Checks whether the pieces spell a text.
 fn spells(alloc: Global, pieces: &PieceList, want: &[u8]) -> Result<bool, AllocError> {
     let mut text = Vec::new(alloc);
     spell(&mut text, pieces)?;
     Ok(text.as_slice() == want)
 }
 
-/// A text, and whether the paths of a list spell it, each with a `;` behind it.
+/// Checks whether the paths of a list spell a text. Each path is followed by `;`.
 fn lists(alloc: Global, paths: &Items<PieceList>, want: &[u8]) -> Result<bool, AllocError> {
     let mut text = Vec::new(alloc);
     for path in paths.as_slice() {
@@ -37,7 +38,7 @@ fn lists(alloc: Global, paths: &Items<PieceList>, want: &[u8]) -> Result<bool, A
     Ok(text.as_slice() == want)
 }
 
-/// A text, and whether bindings spell it, each as `name=value;`.
+/// Checks whether bindings spell a text. Each binding is written as `name=value;`.
 fn binds(alloc: Global, bindings: &[Binding], want: &[u8]) -> Result<bool, AllocError> {
     let mut text = Vec::new(alloc);
     for binding in bindings {
@@ -49,7 +50,7 @@ fn binds(alloc: Global, bindings: &[Binding], want: &[u8]) -> Result<bool, Alloc
     Ok(text.as_slice() == want)
 }
 
-/// Appends the right side of a binding that is kept beside its text.
+/// Appends the value of a binding that refers to its text.
 fn spell_value(
     alloc: Global,
     text: &mut Vec<u8>,
@@ -62,7 +63,7 @@ fn spell_value(
     Ok(())
 }
 
-/// A text, and whether the bindings of a build line spell it, each as `name=value;`.
+/// Checks whether the bindings of a build line spell a text. Each binding is written as `name=value;`.
 fn binds_again(alloc: Global, block: &BindingsInText<'_>, want: &[u8]) -> Result<bool, AllocError> {
     let mut text = Vec::new(alloc);
     for binding in block.bindings {
@@ -74,8 +75,8 @@ fn binds_again(alloc: Global, block: &BindingsInText<'_>, want: &[u8]) -> Result
     Ok(text.as_slice() == want)
 }
 
-/// Appends a path part by part, each reference as `<name>`, and `!` for a fault. Each part has a byte, so there are no
-/// more parts than bytes.
+/// Appends a path part by part. Writes each reference as `<name>`, and `!` for a fault. Each part has at least one
+/// byte, so there are no more parts than bytes.
 fn spell_parts(text: &mut Vec<u8>, at: usize, path: &[u8]) -> Result<(), AllocError> {
     let mut rest = path;
     for _ in path {
@@ -99,7 +100,7 @@ fn spell_parts(text: &mut Vec<u8>, at: usize, path: &[u8]) -> Result<(), AllocEr
     Ok(())
 }
 
-/// The same of a list that is kept beside its text.
+/// Checks whether the paths of a list that refers to its text spell a text. Each path is followed by `;`.
 fn lists_again(alloc: Global, paths: &PathsInText<'_>, want: &[u8]) -> Result<bool, AllocError> {
     let mut text = Vec::new(alloc);
     for path in paths.paths {
@@ -112,7 +113,7 @@ fn lists_again(alloc: Global, paths: &PathsInText<'_>, want: &[u8]) -> Result<bo
     Ok(text.as_slice() == want)
 }
 
-/// What a statement says that is a directive.
+/// Returns the contents of a statement that is a directive, or `None` for another statement.
 fn directive(statement: &CompactStatement) -> Option<&DirectiveKind> {
     match statement {
         CompactStatement::Directive(directive) => Some(&directive.kind),
@@ -120,7 +121,7 @@ fn directive(statement: &CompactStatement) -> Option<&DirectiveKind> {
     }
 }
 
-/// The fault of a text that is refused.
+/// Returns the fault of a text that is refused, or `None` if it is accepted.
 fn refuse(alloc: Global, text: &[u8]) -> Option<ParseFault> {
     match parse(alloc, text) {
         Ok(_) => None,

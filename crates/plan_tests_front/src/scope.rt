@@ -1,15 +1,15 @@
-//! Each public function once, on files and trees from outside.
+//! Calls each public function of plan_scope on files and trees, as another crate would.
 
 use plan_scope::*;
 use plan_text::Counted;
-use std::alloc::Global;
+use std::alloc::{AllocError, Global};
 use std::test::Fail;
 
 /// A source of a few files.
 #[derive(Drop)]
 struct Files;
 
-/// The bytes of a file.
+/// Returns the bytes of a file, or `None` if the source doesn't have it.
 fn bytes_of(path: &[u8]) -> Option<&'static [u8]> {
     if path == b"build.ninja".as_slice() {
         return Some(b"x = 1\ninclude a.ninja\nsubninja b.ninja\ny = $x\n");
@@ -69,7 +69,7 @@ impl Source for Files {
     }
 }
 
-/// Whether the tree of a file has so many statements.
+/// Checks whether the tree of a file has this number of statements.
 fn has_statements(alloc: Global, path: &[u8], count: usize) -> bool {
     match load(alloc, &mut Files, path) {
         Ok(tree) => {
@@ -80,7 +80,7 @@ fn has_statements(alloc: Global, path: &[u8], count: usize) -> bool {
     }
 }
 
-/// Whether a statement of the tree of a file stands at this place, and sees these scopes.
+/// Checks whether a statement of the tree of a file has this path and offset, and sees these scopes.
 fn is_at(
     alloc: Global,
     tree: &[u8],
@@ -100,7 +100,7 @@ fn is_at(
     }
 }
 
-/// Whether a file is refused at this place for this cause.
+/// Checks whether a file is refused at this place for this cause.
 fn is_refused(alloc: Global, path: &[u8], at: &[u8], offset: u64, cause: Cause) -> bool {
     match load(alloc, &mut Files, path) {
         Err(ScopeFault::Refused(file, place, why)) => {
@@ -122,7 +122,7 @@ fn included_statement(rt: HostRuntime) -> Result<(), Fail> {
     Ok(())
 }
 
-/// Each file opens a scope of its own, though the first has no statement but one that includes another.
+/// Checks that each file opens a scope of its own, although the only statement of the first one includes another file.
 #[test]
 fn scopes_of_two_subninja_files(rt: HostRuntime) -> Result<(), Fail> {
     assert!(rt; has_statements(rt.alloc(), b"two.ninja", 2));
@@ -205,7 +205,7 @@ fn no_statement(rt: HostRuntime) -> Result<(), Fail> {
     Ok(())
 }
 
-/// A file under any path.
+/// A source that returns this file for each path.
 #[derive(Drop)]
 struct OneFile(&'static [u8]);
 
@@ -221,19 +221,19 @@ impl Source for OneFile {
     }
 }
 
-/// What a manifest means.
+/// Loads and evaluates a manifest.
 fn meaning(alloc: Global, text: &'static [u8]) -> Result<Manifest, ScopeFault> {
     let tree = load(alloc, &mut OneFile(text), b"build.ninja")?;
     evaluate(alloc, &tree)
 }
 
-/// Whether the commands of a manifest are these.
+/// Checks whether a manifest has these commands.
 fn has_commands(alloc: Global, manifest: &Manifest, wanted: &[u8]) -> bool {
     let mut out = Counted::new(Vec::new(alloc));
     write_commands(manifest, &mut out).is_ok() && out.into_writer().as_slice() == wanted
 }
 
-/// Whether the commands of a manifest are printed so.
+/// Checks whether a text has a manifest with these commands.
 fn prints(alloc: Global, text: &'static [u8], wanted: &[u8]) -> bool {
     match meaning(alloc, text) {
         Ok(manifest) => has_commands(alloc, &manifest, wanted),
@@ -241,10 +241,10 @@ fn prints(alloc: Global, text: &'static [u8], wanted: &[u8]) -> bool {
     }
 }
 
-/// A file that includes another one three times. Before the third time the other one changes.
+/// A source of a file that includes another file three times. The other file changes before it is read the third time.
 #[derive(Drop)]
 struct Changing {
-    /// How often the other one was read.
+    /// The number of times that the other file was read.
     reads: usize,
 }
 
@@ -270,7 +270,7 @@ impl Source for Changing {
     }
 }
 
-/// A file that is the same as before is kept once, and one that isn't is read anew.
+/// Checks that a file with the same contents as before is shared, and that a changed file is parsed again.
 #[test]
 fn file_that_changes_between_two_reads(rt: HostRuntime) {
     let meant = match load(rt.alloc(), &mut Changing { reads: 0 }, b"build.ninja") {
@@ -285,7 +285,7 @@ fn file_that_changes_between_two_reads(rt: HostRuntime) {
     }
 }
 
-/// The only edge of a manifest.
+/// Returns the only edge of a manifest, or `None` if it doesn't have exactly one.
 fn only_edge(manifest: &Manifest) -> Option<EdgeRef<'_>> {
     if manifest.edges.len() != 1 {
         return None;
@@ -293,9 +293,17 @@ fn only_edge(manifest: &Manifest) -> Option<EdgeRef<'_>> {
     Some(manifest.edges.edge(0))
 }
 
-/// Whether a list has this path alone.
+/// Checks whether a list has only this path.
 fn is_only<'a>(paths: &PathRange<'a>, wanted: &[u8]) -> bool {
     paths.len() == 1 && paths.path(0) == wanted
+}
+
+/// Checks whether a text of an edge has these bytes.
+fn is_text(alloc: Global, text: &EdgeText<'_>, wanted: &[u8]) -> bool {
+    match text.joined(alloc) {
+        Ok(joined) => joined.as_slice() == wanted && text.is_empty() == wanted.is_empty(),
+        Err(_) => false,
+    }
 }
 
 #[test]
@@ -347,7 +355,7 @@ fn lists_of_an_edge(rt: HostRuntime) -> Result<(), Fail> {
     assert!(rt; is_only(&edge.inputs(), b"d"));
     assert!(rt; is_only(&edge.implicit_inputs(), b"f"));
     assert!(rt; is_only(&edge.order_only_inputs(), b"g"));
-    assert_eq!(rt; edge.command(), b"c".as_slice());
+    assert!(rt; is_text(rt.alloc(), &edge.command(), b"c"));
     Ok(())
 }
 
@@ -361,10 +369,91 @@ fn texts_of_an_edge(rt: HostRuntime) -> Result<(), Fail> {
     let Some(edge) = only_edge(&manifest) else {
         panic!(rt; "not one edge");
     };
-    assert_eq!(rt; edge.description(), b"D 'a b'".as_slice());
-    assert_eq!(rt; edge.depfile(), b"a b.d".as_slice());
-    assert_eq!(rt; edge.pool(), b"p".as_slice());
+    assert!(rt; is_text(rt.alloc(), &edge.description(), b"D 'a b'"));
+    assert!(rt; is_text(rt.alloc(), &edge.depfile(), b"a b.d"));
+    assert!(rt; is_text(rt.alloc(), &edge.pool(), b"p"));
     assert!(rt; edge.has_restat() && !edge.is_generator() && !edge.is_phony());
+    Ok(())
+}
+
+/// A source of one file. Its two edges use the same variable of 40,000 bytes.
+#[derive(Drop)]
+struct LongVariable;
+
+/// Returns the contents of the file.
+fn long_variable(alloc: Global) -> Result<Vec<u8>, AllocError> {
+    let mut text = Vec::from_slice(alloc, b"v =")?;
+    for number in 0..8_000u32 {
+        text.extend_from_slice(b" -I")?;
+        text.push(97 + (number.wrapping_mul(number) / 7 % 26) as u8)?;
+        text.push(97 + (number % 26) as u8)?;
+    }
+    text.extend_from_slice(b"\nrule r\n  command = $out $v $in\n")?;
+    text.extend_from_slice(b"build a: r b\nbuild long/name: r c d\n")?;
+    Ok(text)
+}
+
+impl Source for LongVariable {
+    ghost gives = { λ _ _ _. Unit {0} };
+
+    ghost fails = { λ _ _. ⊥ };
+
+    ghost failures = { λ _. 0 };
+
+    fn read(&mut self, alloc: Global, _path: &[u8]) -> Result<Vec<u8>, SourceFault> {
+        long_variable(alloc).map_err(|_| SourceFault::Memory)
+    }
+}
+
+/// Loads and evaluates the file.
+fn long_commands(alloc: Global) -> Result<Manifest, Fail> {
+    let meant = match load(alloc, &mut LongVariable, b"build.ninja") {
+        Ok(tree) => evaluate(alloc, &tree),
+        Err(fault) => Err(fault),
+    };
+    match meant {
+        Ok(manifest) => Ok(manifest),
+        Err(_) => Err(Fail::new("no manifest")),
+    }
+}
+
+/// Returns the second one of two edges, or `None` if the manifest doesn't have two.
+fn second_edge(manifest: &Manifest) -> Option<EdgeRef<'_>> {
+    if manifest.edges.len() != 2 {
+        return None;
+    }
+    Some(manifest.edges.edge(1))
+}
+
+#[test]
+fn long_text_has_several_parts(rt: HostRuntime) -> Result<(), Fail> {
+    let manifest = long_commands(rt.alloc())?;
+    let Some(edge) = second_edge(&manifest) else {
+        panic!(rt; "not two edges");
+    };
+    let command = edge.command();
+    assert!(rt; command.len() > 8);
+    assert!(rt; !command.is_empty());
+    assert!(rt; !command.part(1).is_empty());
+    Ok(())
+}
+
+#[test]
+fn long_text_is_joined(rt: HostRuntime) -> Result<(), Fail> {
+    let manifest = long_commands(rt.alloc())?;
+    let Some(edge) = second_edge(&manifest) else {
+        panic!(rt; "not two edges");
+    };
+    let command = edge.command();
+    let joined = command.joined(rt.alloc())?;
+    let text = joined.as_slice();
+    assert_eq!(rt; text.len(), 40_013);
+    assert!(rt; text.starts_with(b"long/name -Iaa"));
+    assert!(rt; text.ends_with(b" c d"));
+    assert!(rt; command.part(command.len()).is_empty());
+    let mut out = Counted::new(Vec::new(rt.alloc()));
+    assert!(rt; write_text(&command, &mut out).is_ok());
+    assert!(rt; out.into_writer().as_slice() == text);
     Ok(())
 }
 

@@ -1,8 +1,9 @@
-//! Each public function once, on values from outside.
+//! Calls each public function of plan_text on values, as another crate would.
 
 use plan_text::*;
 use std::alloc::Global;
 use std::io::{self, Write};
+use std::sync::Arc;
 use std::test::Fail;
 
 #[test]
@@ -20,7 +21,7 @@ fn canonical_paths(rt: HostRuntime) -> Result<(), Fail> {
     Ok(())
 }
 
-/// Whether a list has a literal of these bytes at a place.
+/// Checks whether the piece at a place of a list is a literal with these bytes.
 fn has_literal(list: &PieceList, at: usize, bytes: &[u8]) -> bool {
     match list.as_slice().get(at) {
         Some(Piece::Literal(text)) => text.as_slice() == bytes,
@@ -28,7 +29,7 @@ fn has_literal(list: &PieceList, at: usize, bytes: &[u8]) -> bool {
     }
 }
 
-/// Whether a list has a reference to a variable of this name at a place.
+/// Checks whether the piece at a place of a list is a reference with this name.
 fn has_reference(list: &PieceList, at: usize, name: &[u8]) -> bool {
     match list.as_slice().get(at) {
         Some(Piece::Reference(text)) => text.as_slice() == name,
@@ -184,7 +185,7 @@ fn canonical_already(rt: HostRuntime) {
     assert!(rt; !is_canonical(b""));
 }
 
-/// Two bytes, or the one fault that there is.
+/// Returns two bytes. Its fault is the only one that `Memory` has.
 fn two_bytes(alloc: Global) -> Result<Vec<u8>, Memory> {
     let mut bytes = Vec::from_slice(alloc, b"a")?;
     bytes.push(b'b')?;
@@ -235,7 +236,7 @@ fn lengths(rt: HostRuntime) {
     assert_eq!(rt; escape_len(b"{}"), None);
 }
 
-/// Two bytes, as a pair.
+/// A unit of two bytes.
 struct PairUnit;
 
 impl Unit for PairUnit {
@@ -284,7 +285,7 @@ fn fault_numbers(rt: HostRuntime) {
     }
 }
 
-/// Takes two bytes at a call, but for one call that fails.
+/// A writer that takes at most two bytes a call, and fails at one call.
 #[derive(Drop)]
 struct Faltering {
     taken: Vec<u8>,
@@ -352,5 +353,82 @@ fn rows_of_items(rt: HostRuntime) -> Result<(), Fail> {
     assert!(rt; rows.get(3).is_none());
     let same = rows.copy(rt.alloc())?;
     assert_eq!(rt; same.row(2), b"de".as_slice());
+    Ok(())
+}
+
+/// Checks that rows in shared bytes may overlap, and may be partly or wholly after the end of the bytes.
+#[test]
+fn rows_of_shared_bytes(rt: HostRuntime) -> Result<(), Fail> {
+    let alloc = rt.alloc();
+    let bytes = Arc::new(alloc, Vec::from_slice(alloc, b"..abcdef".as_slice())?)?;
+    let mut places = Vec::new(alloc);
+    for (start, len) in [(0, 2), (1, 3), (4, 9), (2, 0), (7, 1)] {
+        places.push(Place::new(start, len)?)?;
+    }
+    let rows = SharedRows::new(bytes, 2, places);
+    assert_eq!(rt; rows.len(), 5);
+    for (number, row) in [b"ab".as_slice(), b"bcd", b"ef", b"", b"", b""]
+        .into_iter()
+        .enumerate()
+    {
+        assert_eq!(rt; rows.row(number), row);
+    }
+    assert!(rt; Place::new(0, 4_294_967_295).is_ok());
+    assert!(rt; Place::new(4_294_967_296, 0).is_err());
+    assert!(rt; Place::new(0, 4_294_967_296).is_err());
+    Ok(())
+}
+
+/// Returns the rows at these places of a copy of the bytes, which count from the byte `first`.
+fn shared(
+    alloc: Global,
+    bytes: &[u8],
+    first: usize,
+    places: &[(usize, usize)],
+) -> Result<SharedRows, Fail> {
+    let bytes = Arc::new(alloc, Vec::from_slice(alloc, bytes)?)?;
+    let mut list = Vec::new(alloc);
+    for (start, len) in places {
+        list.push(Place::new(*start, *len)?)?;
+    }
+    Ok(SharedRows::new(bytes, first, list))
+}
+
+/// Checks that lists of shared rows are the same if their rows are, wherever these are.
+#[test]
+fn same_shared_rows(rt: HostRuntime) -> Result<(), Fail> {
+    let alloc = rt.alloc();
+    let rows = shared(alloc, b"..abcdef", 2, &[(0, 2), (1, 3), (4, 9), (2, 0)])?;
+    for (bytes, first, places) in [
+        (b"..abcdef".as_slice(), 2, [(0, 2), (1, 3), (4, 9), (2, 0)]),
+        (b"abcdef".as_slice(), 0, [(0, 2), (1, 3), (4, 9), (2, 0)]),
+        (
+            b"....ef..bcd.ab".as_slice(),
+            4,
+            [(8, 2), (4, 3), (0, 2), (90, 1)],
+        ),
+    ] {
+        assert!(rt; rows.is_same(&shared(alloc, bytes, first, &places)?));
+    }
+    for (bytes, first, places) in [
+        (b"..abcdeg".as_slice(), 2, [(0, 2), (1, 3), (4, 9), (2, 0)]),
+        (b"..abcdefg".as_slice(), 2, [(0, 2), (1, 3), (4, 9), (2, 0)]),
+        (b"..abcdef".as_slice(), 1, [(0, 2), (1, 3), (4, 9), (2, 0)]),
+        (b"..abcdef".as_slice(), 2, [(0, 2), (1, 3), (4, 9), (2, 1)]),
+    ] {
+        assert!(rt; !rows.is_same(&shared(alloc, bytes, first, &places)?));
+    }
+    assert!(rt; !rows.is_same(&shared(alloc, b"..abcdef", 2, &[(0, 2), (1, 3), (4, 9)])?));
+    assert!(rt; shared(alloc, b"ab", 0, &[])?.is_same(&shared(alloc, b"", 7, &[])?));
+    Ok(())
+}
+
+/// Checks that bytes between rows may differ, and bytes of a row before the last one may be the last of all.
+#[test]
+fn same_shared_rows_with_gaps(rt: HostRuntime) -> Result<(), Fail> {
+    let alloc = rt.alloc();
+    let rows = shared(alloc, b"ab.cdefgh", 0, &[(0, 2), (3, 6), (4, 2)])?;
+    assert!(rt; rows.is_same(&shared(alloc, b"ab,cdefgh", 0, &[(0, 2), (3, 6), (4, 2)])?));
+    assert!(rt; !rows.is_same(&shared(alloc, b"ab.cdefgx", 0, &[(0, 2), (3, 6), (4, 2)])?));
     Ok(())
 }
