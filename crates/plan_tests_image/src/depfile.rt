@@ -1,11 +1,11 @@
-//! Each public function once, on values from outside.
+//! Calls each public function of plan_depfile on values, as another crate would.
 
 use plan_depfile::*;
 use plan_text::Memory;
 use std::alloc::Global;
 use std::test::Fail;
 
-/// Whether these are the paths.
+/// Checks whether the paths are these.
 fn has_paths(found: &Paths, want: &[&[u8]]) -> bool {
     if found.len() != want.len() {
         return false;
@@ -18,7 +18,7 @@ fn has_paths(found: &Paths, want: &[&[u8]]) -> bool {
     true
 }
 
-/// The paths that a reader finds where the text comes in two pieces.
+/// Returns the paths that a reader finds in a text that comes in two pieces.
 fn cut_at(alloc: Global, text: &[u8], at: usize) -> Result<Paths, DepFault> {
     let mut reader = Reader::new(alloc);
     let (front, rest) = text.split_at(at.min(text.len()));
@@ -30,7 +30,7 @@ fn cut_at(alloc: Global, text: &[u8], at: usize) -> Result<Paths, DepFault> {
     }
 }
 
-/// The fault of a text, where it has one.
+/// Returns the fault of a text, or `None` if it has none.
 fn fault_of(alloc: Global, text: &[u8]) -> Option<DepFault> {
     match cut_at(alloc, text, text.len()) {
         Ok(_) => None,
@@ -152,7 +152,7 @@ fn numbers_and_offsets(rt: HostRuntime) {
     assert_eq!(rt; DepFault::Memory.offset(), None);
 }
 
-/// Feeds a piece, once more where memory was refused.
+/// Feeds a piece to a reader. Tries once more if memory was refused.
 fn feed_again(reader: &mut Reader, piece: &[u8]) -> Result<(), DepFault> {
     match reader.feed(piece) {
         Err(DepFault::Memory) => reader.feed(piece),
@@ -160,7 +160,7 @@ fn feed_again(reader: &mut Reader, piece: &[u8]) -> Result<(), DepFault> {
     }
 }
 
-/// The paths of a reader, which is asked once more where memory was refused.
+/// Returns the paths of a reader. Tries once more if memory was refused.
 fn finish_again(reader: Reader) -> Result<Paths, DepFault> {
     let reader = match reader.finish() {
         Ok(paths) => return Ok(paths),
@@ -173,7 +173,7 @@ fn finish_again(reader: Reader) -> Result<Paths, DepFault> {
     }
 }
 
-/// Gathers a text, each call once more where memory was refused.
+/// Collects a text piece by piece. Tries each call once more if memory was refused.
 fn gather_again(alloc: Global, text: &[u8]) -> Result<Parsed, Memory> {
     let mut gather = Gather::new(alloc);
     for piece in text.chunks(7) {
@@ -194,7 +194,8 @@ fn gather_again(alloc: Global, text: &[u8]) -> Result<Parsed, Memory> {
 const REFUSED_ONCE: &[u8] =
     b"# x\nout: ./a\\ b.h \\\r\n $$b.h a\\ b.h ../c/./d.h\\:e\nx:/usr/include/y.h a/../z";
 
-/// `rt try --test --fail-alloc N` refuses one allocation: that call answers want of memory, and nothing is lost.
+/// Checks a call whose allocation is refused by `rt try --test --fail-alloc N`: the call returns `Memory`, and nothing
+/// is lost.
 #[test]
 fn reads_after_refused_memory(rt: HostRuntime) -> Result<(), DepFault> {
     let want = [
@@ -213,7 +214,7 @@ fn reads_after_refused_memory(rt: HostRuntime) -> Result<(), DepFault> {
     Ok(())
 }
 
-/// The same for what is gathered, and for a copy of it.
+/// Checks the same for a text that is collected, and for a copy of it.
 #[test]
 fn gathers_after_refused_memory(rt: HostRuntime) -> Result<(), Memory> {
     let parsed = gather_again(rt.alloc(), REFUSED_ONCE)?;

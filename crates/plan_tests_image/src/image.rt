@@ -1,4 +1,4 @@
-//! Each public function once, on values from outside.
+//! Calls each public function of plan_image on values, as another crate would.
 
 use byteorder::{BigEndian, ByteOrder};
 use plan_image::*;
@@ -7,19 +7,19 @@ use std::alloc::Global;
 use std::io::{self, Write};
 use std::test::Fail;
 
-/// One edge in version 1.
+/// An image of version 1 with one edge.
 const ONE_EDGE: [u8; 74] =
     *b"PLANIMG\x01\0\0\0\x01\0\0\0\x01x\0\0\0\x01\0\x01a\0\0\0\0\0\0\0\0\0\0\0\x01\0\0\0\0\0\0\0\0\0\0\0\0\0\0\0\0\x01\0\0\0\0\0\0\0\0\0\0\0\x01\0\0\0\0\x01\0\0\0\0";
 
-/// The same in version 2.
+/// The same image in version 2.
 const ONE_SHARED: [u8; 82] =
     *b"PLANIMG\x02\0\0\0\x01\0\0\0\x01x\0\0\0\x01\0\x01a\0\0\0\0\0\0\0\0\0\0\0\x01\0\0\0\x01\0\0\0\0\x01\0\0\0\0\0\0\0\0\0\0\0\0\0\0\0\0\x01\0\0\0\0\0\0\0\0\0\0\0\0\0\0\0\x01\0\0\0\0";
 
-/// A pool, a slot, two edges, and a body with open operands.
+/// An image with a pool, a slot, two edges, and a body with open operands.
 const OPEN: [u8; 161] =
     *b"PLANIMG\x02\0\0\0\0\0\0\0\x01\0\x02ab\0\0\0\x01\0\x01p\0\0\0\x02\0\0\0\x01\0\0\0\0\x02\0\0\0\x01\0\0\0\x06\x0c\x01\x04\x03\x14\0\0\0\x05\x02\x1b\0\0\0\x02\0\0\0\0\x01\0\0\0\x07\0\0\0\x09\0\0\0\x02\0\0\0\0\0\0\0\0\0\0\0\0\0\0\0\0\0\0\0\0\0\0\0\0\0\0\0\x0c\x01\0\0\0\0\0\0\0\x08\0\0\0\x09\0\0\0\0\0\0\0\x01\0\0\0\0\0\0\0\0\0\0\0\x01\0\0\0\x02\0\0\0\x03\0\0\0\x02\0\0\0\0\0\0\0\x01";
 
-/// The fault of bytes, where they have one.
+/// Returns the fault of bytes, or `None` if they are an image.
 fn fault_of(alloc: Global, bytes: &[u8]) -> Option<ImageFault> {
     match read_image(alloc, bytes) {
         Ok(_) => None,
@@ -27,14 +27,14 @@ fn fault_of(alloc: Global, bytes: &[u8]) -> Option<ImageFault> {
     }
 }
 
-/// Whether an image is printed as these bytes, where so many are held back.
+/// Checks whether an image is printed as these bytes by a buffer with this capacity.
 fn is_printed(alloc: Global, image: &Image, room: usize, bytes: &[u8]) -> Result<bool, ImageFault> {
     let mut room = Vec::with_capacity(alloc, room)?;
     let mut out = Counted::new(Vec::new(alloc));
     Ok(print_image(image, &mut room, &mut out).is_ok() && out.into_writer().as_slice() == bytes)
 }
 
-/// Whether an image that is read, taken apart and made again is printed as it was.
+/// Checks whether an image that is read, taken apart and put together again is printed as it was.
 fn comes_back(alloc: Global, bytes: &[u8]) -> Result<bool, ImageFault> {
     let image = read_image(alloc, bytes)?;
     let printed = is_printed(alloc, &image, 7, bytes)?;
@@ -44,7 +44,7 @@ fn comes_back(alloc: Global, bytes: &[u8]) -> Result<bool, ImageFault> {
     }
 }
 
-/// Whether the bytes are those of an image with this listing.
+/// Checks whether the bytes are an image with this listing.
 fn is_listed(alloc: Global, bytes: &[u8], text: &[u8]) -> bool {
     let Ok(image) = read_image(alloc, bytes) else {
         return false;
@@ -88,10 +88,12 @@ fn what_an_image_has(rt: HostRuntime) -> Result<(), Fail> {
         let image = read_image(rt.alloc(), bytes)?;
         assert_eq!(rt; edge_of(&image, b"a"), Some(0));
         assert_eq!(rt; edge_of(&image, b"b"), None);
-        assert_eq!(rt; image.code_len(0), 1);
-        assert_eq!(rt; image.code_len(1), 0);
         assert!(rt; image.instr(0, 0) == Some(Instr::End));
         assert!(rt; image.instr(0, 1) == None);
+        assert_eq!(rt; image.edge_code(0).len(), 1);
+        assert!(rt; image.edge_code(0).instr(0) == Some(Instr::End));
+        assert!(rt; image.edge_code(0).instr(1) == None);
+        assert_eq!(rt; image.edge_code(1).len(), 0);
         assert_eq!(rt; image.parts().files.row(0), b"a".as_slice());
         assert_eq!(rt; image.parts().texts.len(), 1);
     }
@@ -123,7 +125,7 @@ fn each_bit_flipped(rt: HostRuntime) -> Result<(), Fail> {
     Ok(())
 }
 
-/// The fault of an image where one byte is another.
+/// Returns the fault of an image in which one byte is replaced.
 fn with_byte(alloc: Global, bytes: &[u8], at: usize, byte: u8) -> Result<Option<ImageFault>, Fail> {
     let mut turned = Vec::from_slice(alloc, bytes)?;
     if let Some(place) = turned.get_mut(at) {
@@ -152,7 +154,7 @@ fn refused_bytes(rt: HostRuntime) -> Result<(), Fail> {
     Ok(())
 }
 
-/// Returns the head of an image, and this count of texts.
+/// Returns the head of an image with this count of texts.
 fn counted_texts(count: u32) -> [u8; 12] {
     let mut bytes = *b"PLANIMG\x01\0\0\0\0";
     BigEndian::write_u32(&mut bytes[8..], count);
@@ -167,7 +169,7 @@ fn refused_counts(rt: HostRuntime) {
     assert_eq!(rt; fault, Some(ImageFault::Limit(8)));
 }
 
-/// Tables of one edge without outputs, and these defaults.
+/// Creates tables of one edge without outputs, with this code and these defaults.
 fn tables(alloc: Global, code: EdgeCode, defaults: &[u32]) -> Result<Parts, Fail> {
     let mut edges = Edges::new(alloc);
     let edge = Edge {
@@ -191,7 +193,8 @@ fn tables(alloc: Global, code: EdgeCode, defaults: &[u32]) -> Result<Parts, Fail
     })
 }
 
-/// Why tables are handed back, and how many edges they have then.
+/// Returns the number of edges in tables that are refused and handed back, and the fault. Returns `None` if they are
+/// accepted.
 fn handed_back(parts: Parts) -> Option<(usize, ImageFault)> {
     match Image::new(parts) {
         Ok(_) => None,
@@ -256,7 +259,7 @@ fn faults(rt: HostRuntime) {
     assert_eq!(rt; ImageFault::Memory.offset(), None);
 }
 
-/// Takes no more than some writes.
+/// A writer that fails after a number of writes.
 #[derive(Drop)]
 struct Failing {
     left: u32,

@@ -1,4 +1,4 @@
-//! Each public function once, on images made by hand.
+//! Calls each public function of plan_verify on images, as another crate would.
 
 use plan_image::{
     Edge, EdgeCode, Edges, Image, Instr, Kind, Parts, Pool, Slot, Sort, print_image, split,
@@ -8,7 +8,7 @@ use plan_verify::*;
 use std::alloc::{AllocError, Global};
 use std::test::Fail;
 
-/// An edge with label 0 and output 0.
+/// Creates an edge with label 0 and output 0.
 fn edge(alloc: Global, rank: u32, waits: &[u32], code: EdgeCode) -> Result<Edge, AllocError> {
     Ok(Edge {
         sort: Sort::Command,
@@ -21,7 +21,7 @@ fn edge(alloc: Global, rank: u32, waits: &[u32], code: EdgeCode) -> Result<Edge,
     })
 }
 
-/// The tables of these edges: text 0 is `x`, file 0 is `a`, edge 0 is built by default.
+/// Creates the tables of these edges. Text 0 is `x`, file 0 is `a`, and edge 0 is a default.
 fn parts_of(alloc: Global, slots: &[Slot], edges: Edges) -> Result<Parts, AllocError> {
     let mut texts = RowList::new(alloc);
     texts.push(b"x")?;
@@ -38,7 +38,7 @@ fn parts_of(alloc: Global, slots: &[Slot], edges: Edges) -> Result<Parts, AllocE
     })
 }
 
-/// What the verifier says of tables.
+/// Returns the verifier's verdict on tables.
 fn verdict_on(alloc: Global, parts: Parts) -> Result<u64, VerifyFault> {
     let Ok(image) = Image::new(parts) else {
         return Err(VerifyFault::Memory);
@@ -49,7 +49,7 @@ fn verdict_on(alloc: Global, parts: Parts) -> Result<u64, VerifyFault> {
     }
 }
 
-/// What the verifier says of one edge's code in version 1.
+/// Returns the verifier's verdict on the code of one edge in version 1.
 fn verdict(alloc: Global, code: &[Instr], slots: &[Slot]) -> Result<u64, VerifyFault> {
     let own = EdgeCode::Own(Items::new(Vec::from_slice(alloc, code)?));
     let mut edges = Edges::new(alloc);
@@ -57,7 +57,7 @@ fn verdict(alloc: Global, code: &[Instr], slots: &[Slot]) -> Result<u64, VerifyF
     verdict_on(alloc, parts_of(alloc, slots, edges)?)
 }
 
-/// What it says of the code as a body in version 2.
+/// Returns the verifier's verdict on the code as a body in version 2.
 fn verdict_on_body(alloc: Global, code: &[Instr], slots: &[Slot]) -> Result<u64, VerifyFault> {
     let Ok((body, operands)) = split(alloc, code) else {
         return Err(VerifyFault::Memory);
@@ -224,7 +224,7 @@ fn stack_of_65(rt: HostRuntime) -> Result<(), Fail> {
     Ok(())
 }
 
-/// What the verifier says where edge 1 loads the slot of edge 0.
+/// Returns the verifier's verdict on two edges, the second of which loads a slot of the first.
 fn verdict_on_two(alloc: Global, rank: u32, waits: &[u32]) -> Result<u64, VerifyFault> {
     let store = [Instr::Zero, Instr::Store(0), Instr::End];
     let load = [Instr::Load(0), Instr::Drop, Instr::End];
@@ -257,7 +257,7 @@ fn slots_of_waits(rt: HostRuntime) {
     );
 }
 
-/// The tables of one edge whose code is `End`.
+/// Creates the tables of one edge with the code `End`.
 fn plain_parts(alloc: Global) -> Result<Parts, AllocError> {
     let own = EdgeCode::Own(Items::new(Vec::from_slice(alloc, [Instr::End].as_slice())?));
     let mut edges = Edges::new(alloc);
@@ -288,7 +288,7 @@ fn tables_outside(rt: HostRuntime) -> Result<(), Fail> {
     Ok(())
 }
 
-/// The tables of three edges that take a place of pool 0, of which there are some.
+/// Creates the tables of three edges that take a place of pool 0, with these pools.
 fn pooled_parts(alloc: Global, pools: Vec<Pool>) -> Result<Parts, AllocError> {
     let code = [
         Instr::Take,
@@ -328,7 +328,7 @@ fn pool_of_one(rt: HostRuntime) -> Result<(), Fail> {
     Ok(())
 }
 
-/// The bytes of the image that comes back, accepted or refused.
+/// Returns the bytes of the image that `verify` hands back, accepted or refused.
 fn bytes_back(alloc: Global, parts: Parts) -> Result<Vec<u8>, Memory> {
     let Ok(image) = Image::new(parts) else {
         return Err(Memory);
@@ -339,7 +339,7 @@ fn bytes_back(alloc: Global, parts: Parts) -> Result<Vec<u8>, Memory> {
     }
 }
 
-/// The bytes that are printed of an image.
+/// Prints an image and returns the bytes.
 fn printed(alloc: Global, image: &Image) -> Result<Vec<u8>, Memory> {
     let mut room = Vec::with_capacity(alloc, 64)?;
     let mut out = Counted::new(Vec::new(alloc));
