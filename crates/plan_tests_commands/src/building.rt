@@ -1,4 +1,4 @@
-//! Builds of manifests in memory, in a world in which the manifest's maker is out of date a number of times.
+//! Builds of manifests in memory. In most worlds here, the edge that builds the manifest is out of date `rounds` times.
 
 use crate::fakes::{Failing, Generator, Touched, Versions};
 use plan_commands::{Done, Order, PlanFault, do_build, do_dry_build};
@@ -11,25 +11,25 @@ use std::sync::Wait;
 use std::test::Fail;
 use std::thread::{Parker, Threads};
 
-/// What a build printed, and how it ended; or the line of its fault.
+/// The output of a build, and how it ended or the line of its fault.
 type Told = (Vec<u8>, Result<Done, Vec<u8>>);
 
-/// No edge makes it.
+/// A manifest that no edge builds.
 const PLAIN: &[u8] = b"rule cc\n  command = cc $in -o $out\nbuild out: cc in\n";
 
-/// An edge makes it.
+/// A manifest that an edge builds.
 const MADE: &[u8] =
     b"rule cc\n  command = cc $in -o $out\nbuild out: cc in\nrule make\n  command = make $out\n  generator = 1\nbuild build.ninja: make in\n";
 
-/// Another edge makes it, and it has another target.
+/// The manifest with another target, built by another command.
 const REMADE: &[u8] =
     b"rule cc\n  command = cc $in -o $out\nbuild other: cc in\nrule make\n  command = again $out\n  generator = 1\nbuild build.ninja: make in\n";
 
-/// An edge makes it, and its other target, `done`, is up to date.
+/// A manifest that an edge builds, and whose default target `done` is up to date.
 const IDLE: &[u8] =
     b"rule make\n  command = make $out\n  generator = 1\nbuild build.ninja: make in\nbuild done: make in\ndefault done\n";
 
-/// Builds targets of a manifest that changes between its reads, and prints the lines to a sink.
+/// Builds targets of a manifest that changes between its reads, and writes the lines to a sink.
 fn build_to<
     'x,
     R: Threads + Wait + Sync + AllocGlobal,
@@ -63,7 +63,7 @@ fn line_of(alloc: Global, done: Result<Done, PlanFault>) -> Result<Result<Done, 
     }
 }
 
-/// Builds targets of a manifest that changes between its reads.
+/// Builds targets of a manifest that changes between its reads, and returns the lines and how the build ended.
 fn built<'x, R: Threads + Wait + Sync + AllocGlobal, W: World + Send + Sync>(
     rt: &R,
     texts: &'x [&'x [u8]],
@@ -75,7 +75,7 @@ fn built<'x, R: Threads + Wait + Sync + AllocGlobal, W: World + Send + Sync>(
     Ok((out.into_writer(), line_of(rt.alloc(), done)?))
 }
 
-/// Builds all of a manifest without running anything.
+/// Builds the default targets of a manifest without running a command.
 fn previewed<'x, R: Threads + Wait + Sync + AllocGlobal>(
     rt: &R,
     texts: &'x [&'x [u8]],
@@ -96,6 +96,7 @@ fn previewed<'x, R: Threads + Wait + Sync + AllocGlobal>(
     Ok((out.into_writer(), line_of(rt.alloc(), done)?))
 }
 
+/// Checks that a dry build prints the commands that a build would run, and runs none.
 #[test]
 fn dry_build_runs_nothing(rt: HostRuntime) -> Result<(), Fail> {
     let world = Generator::new(0, 0);
@@ -109,6 +110,7 @@ fn dry_build_runs_nothing(rt: HostRuntime) -> Result<(), Fail> {
     Ok(())
 }
 
+/// Checks that a dry build of an outdated manifest prints only the command that builds it.
 #[test]
 fn dry_build_ends_behind_the_maker(rt: HostRuntime) -> Result<(), Fail> {
     let world = Generator::new(1, 0);
@@ -119,6 +121,7 @@ fn dry_build_ends_behind_the_maker(rt: HostRuntime) -> Result<(), Fail> {
     Ok(())
 }
 
+/// Checks that the targets of a manifest that no edge builds are built.
 #[test]
 fn manifest_without_a_maker_is_built(rt: HostRuntime) -> Result<(), Fail> {
     let world = Generator::new(0, 0);
@@ -128,6 +131,7 @@ fn manifest_without_a_maker_is_built(rt: HostRuntime) -> Result<(), Fail> {
     Ok(())
 }
 
+/// Checks that the command that builds the manifest doesn't run if the manifest is up to date.
 #[test]
 fn clean_maker_does_not_run(rt: HostRuntime) -> Result<(), Fail> {
     let world = Generator::new(0, 0);
@@ -138,7 +142,8 @@ fn clean_maker_does_not_run(rt: HostRuntime) -> Result<(), Fail> {
     Ok(())
 }
 
-/// The image of the second manifest is run, and its maker is found to be clean.
+/// Checks that a manifest is read again after the command that builds it ran, and that the targets of the new text are
+/// built.
 #[test]
 fn remade_manifest_is_read_again(rt: HostRuntime) -> Result<(), Fail> {
     let world = Generator::new(1, 0);
@@ -152,7 +157,7 @@ fn remade_manifest_is_read_again(rt: HostRuntime) -> Result<(), Fail> {
     Ok(())
 }
 
-/// The command of the second manifest's maker runs in the second round.
+/// Checks that the new manifest, if it is out of date too, is built by its own command in the second round.
 #[test]
 fn manifest_is_remade_twice(rt: HostRuntime) -> Result<(), Fail> {
     let world = Generator::new(2, 0);
@@ -165,6 +170,7 @@ fn manifest_is_remade_twice(rt: HostRuntime) -> Result<(), Fail> {
     Ok(())
 }
 
+/// Checks that a build that runs no command is up to date.
 #[test]
 fn nothing_to_do_is_up_to_date(rt: HostRuntime) -> Result<(), Fail> {
     let world = Generator::new(0, 0);
@@ -175,7 +181,8 @@ fn nothing_to_do_is_up_to_date(rt: HostRuntime) -> Result<(), Fail> {
     Ok(())
 }
 
-/// The output is later than its input, but the input is later than what the command read. The command runs.
+/// Checks that a command runs if its input is newer than the recorded basis, even if its output is newer than the
+/// input.
 #[test]
 fn touched_output_hides_no_edit(rt: HostRuntime) -> Result<(), Fail> {
     let world = Touched {
@@ -188,7 +195,7 @@ fn touched_output_hides_no_edit(rt: HostRuntime) -> Result<(), Fail> {
     Ok(())
 }
 
-/// The input is what the command read.
+/// Checks that no command runs if the input isn't newer than the recorded basis.
 #[test]
 fn unchanged_input_is_up_to_date(rt: HostRuntime) -> Result<(), Fail> {
     let world = Touched {
@@ -201,7 +208,7 @@ fn unchanged_input_is_up_to_date(rt: HostRuntime) -> Result<(), Fail> {
     Ok(())
 }
 
-/// A command that remade the manifest is no work for the targets.
+/// Checks that a build that runs only the command that builds the manifest is up to date.
 #[test]
 fn remaking_is_no_work(rt: HostRuntime) -> Result<(), Fail> {
     let world = Generator::new(1, 0);
@@ -211,6 +218,7 @@ fn remaking_is_no_work(rt: HostRuntime) -> Result<(), Fail> {
     Ok(())
 }
 
+/// Checks that a build fails if the command of a target fails.
 #[test]
 fn failed_command_fails_the_build(rt: HostRuntime) -> Result<(), Fail> {
     let world = Generator::new(0, 3);
@@ -220,6 +228,7 @@ fn failed_command_fails_the_build(rt: HostRuntime) -> Result<(), Fail> {
     Ok(())
 }
 
+/// Checks that no other command runs if the command that builds the manifest fails.
 #[test]
 fn failed_maker_ends_the_build(rt: HostRuntime) -> Result<(), Fail> {
     let world = Generator::new(1, 3);
@@ -230,6 +239,7 @@ fn failed_maker_ends_the_build(rt: HostRuntime) -> Result<(), Fail> {
     Ok(())
 }
 
+/// Checks that a build ends after 100 rounds if the manifest is still out of date.
 #[test]
 fn manifest_never_settles(rt: HostRuntime) -> Result<(), Fail> {
     let world = Generator::new(1_000, 0);
@@ -240,7 +250,7 @@ fn manifest_never_settles(rt: HostRuntime) -> Result<(), Fail> {
     Ok(())
 }
 
-/// A target is unknown only if the manifest that was read last has no edge that makes it.
+/// Checks that a target is unknown if the manifest that was read last lacks it, even if an earlier one has it.
 #[test]
 fn unknown_target_is_named(rt: HostRuntime) -> Result<(), Fail> {
     let world = Generator::new(1, 0);
@@ -256,6 +266,7 @@ fn unknown_target_is_named(rt: HostRuntime) -> Result<(), Fail> {
     Ok(())
 }
 
+/// Checks that a missing manifest is fault 20.
 #[test]
 fn missing_manifest_is_20(rt: HostRuntime) -> Result<(), Fail> {
     let world = Generator::new(0, 0);
@@ -273,7 +284,7 @@ fn missing_manifest_is_20(rt: HostRuntime) -> Result<(), Fail> {
     Ok(())
 }
 
-/// A manifest that is refused after it was remade is the fault, and the targets are not run.
+/// Checks that no target is built if the manifest is refused when it is read again, and that its fault is returned.
 #[test]
 fn refused_remade_manifest_stops(rt: HostRuntime) -> Result<(), Fail> {
     let world = Generator::new(1, 0);
@@ -290,6 +301,7 @@ fn refused_remade_manifest_stops(rt: HostRuntime) -> Result<(), Fail> {
     Ok(())
 }
 
+/// Checks that a build ends with fault 133 if its lines can't be written.
 #[test]
 fn lost_lines_are_133(rt: HostRuntime) -> Result<(), Fail> {
     let world = Generator::new(1, 0);
@@ -302,6 +314,7 @@ fn lost_lines_are_133(rt: HostRuntime) -> Result<(), Fail> {
     Ok(())
 }
 
+/// Checks that a build that succeeded has exit status 0, and that any other end has status 1.
 #[test]
 fn ends_have_statuses(rt: HostRuntime) -> Result<(), Fail> {
     for (done, status) in [

@@ -1,4 +1,4 @@
-//! Each command over files in memory, with what it writes, its status, and why it is refused.
+//! Tests of each command on files in memory: its output, its status, and its faults.
 
 use crate::fakes::{Failing, File, Files, Fresh};
 use plan_commands::*;
@@ -10,7 +10,7 @@ use std::sync::Wait;
 use std::test::Fail;
 use std::thread::{Parker, Threads};
 
-/// What a command wrote, and its status; or the line of its fault.
+/// The output of a command, and its status or the line of its fault.
 type Told = (Vec<u8>, Result<u8, Vec<u8>>);
 
 const TREE: [File<'static>; 4] = [
@@ -20,7 +20,7 @@ const TREE: [File<'static>; 4] = [
     (b"read.ninja", b"include x/failing\n"),
 ];
 
-/// Returns what a sink took, and the status or the line of the fault.
+/// Returns the bytes that a sink took, and the status or the line of the fault.
 fn told(alloc: Global, out: Counted<Vec<u8>>, done: Result<u8, PlanFault>) -> Result<Told, Fail> {
     let done = match done {
         Ok(status) => Ok(status),
@@ -29,6 +29,7 @@ fn told(alloc: Global, out: Counted<Vec<u8>>, done: Result<u8, PlanFault>) -> Re
     Ok((out.into_writer(), done))
 }
 
+/// Writes the commands of the manifest at a path.
 fn commands_of(alloc: Global, path: &[u8]) -> Result<Told, Fail> {
     let mut source = Files::new(&TREE);
     let mut out = Counted::new(Vec::new(alloc));
@@ -36,6 +37,7 @@ fn commands_of(alloc: Global, path: &[u8]) -> Result<Told, Fail> {
     told(alloc, out, done)
 }
 
+/// Writes the image of the manifest at a path.
 fn compiled(alloc: Global, path: &[u8]) -> Result<Told, Fail> {
     let mut source = Files::new(&TREE);
     let mut out = Counted::new(Vec::new(alloc));
@@ -43,6 +45,7 @@ fn compiled(alloc: Global, path: &[u8]) -> Result<Told, Fail> {
     told(alloc, out, done)
 }
 
+/// Checks that the commands of a manifest and of its included files are written.
 #[test]
 fn commands_are_written(rt: HostRuntime) -> Result<(), Fail> {
     let (text, done) = commands_of(rt.alloc(), b"build.ninja")?;
@@ -51,6 +54,7 @@ fn commands_are_written(rt: HostRuntime) -> Result<(), Fail> {
     Ok(())
 }
 
+/// Checks that a manifest that is refused, is missing or can't be read has no output.
 #[test]
 fn refusals_write_nothing(rt: HostRuntime) -> Result<(), Fail> {
     for (path, line) in [
@@ -72,6 +76,7 @@ fn refusals_write_nothing(rt: HostRuntime) -> Result<(), Fail> {
     Ok(())
 }
 
+/// Checks that a failed write to standard output is fault 133.
 #[test]
 fn failed_output_is_133(rt: HostRuntime) -> Result<(), Fail> {
     let mut source = Files::new(&TREE);
@@ -86,7 +91,7 @@ fn failed_output_is_133(rt: HostRuntime) -> Result<(), Fail> {
     Ok(())
 }
 
-/// Verifies the image at a path, where `plan.img` has these bytes.
+/// Verifies the image at a path. The only file is `plan.img`, which has these bytes.
 fn verified(alloc: Global, image: &[u8], path: &[u8]) -> Result<Told, Fail> {
     let files = [(b"plan.img".as_slice(), image)];
     let mut source = Files::new(&files);
@@ -95,7 +100,7 @@ fn verified(alloc: Global, image: &[u8], path: &[u8]) -> Result<Told, Fail> {
     told(alloc, out, done)
 }
 
-/// Lists the image of these bytes.
+/// Lists the image in these bytes.
 fn listed(alloc: Global, image: &[u8]) -> Result<Told, Fail> {
     let files = [(b"plan.img".as_slice(), image)];
     let mut source = Files::new(&files);
@@ -104,7 +109,7 @@ fn listed(alloc: Global, image: &[u8]) -> Result<Told, Fail> {
     told(alloc, out, done)
 }
 
-/// The image of `build.ninja`, as `compile` writes it, is verified and listed.
+/// Checks that the image that `compile` writes for `build.ninja` is verified and listed.
 #[test]
 fn image_is_verified_and_listed(rt: HostRuntime) -> Result<(), Fail> {
     let alloc = rt.alloc();
@@ -119,8 +124,8 @@ fn image_is_verified_and_listed(rt: HostRuntime) -> Result<(), Fail> {
     Ok(())
 }
 
-/// Runs targets of `build.ninja`, or the default one, in a world in which its command ends with a status. Writes the lines
-/// and the trace to these sinks.
+/// Runs the targets of an image, or its default targets if `targets` is empty. Each command exits with this status. The
+/// lines and the trace go to these sinks.
 fn run_to<'x, R: Threads + Wait + Sync + AllocGlobal, O: Sink + Send + Drop, T: Sink>(
     rt: &R,
     image: &'x [u8],
@@ -154,8 +159,8 @@ fn run_to<'x, R: Threads + Wait + Sync + AllocGlobal, O: Sink + Send + Drop, T: 
     ))
 }
 
-/// Runs targets of `build.ninja`, or the default one, in a world in which its command ends with a status. Returns what was
-/// printed, the status or the line of the fault, and the trace.
+/// Runs the targets of an image, or its default targets if `targets` is empty. Each command exits with this status.
+/// Returns the lines, the status or the line of the fault, and the trace.
 fn ran<'x, R: Threads + Wait + Sync + AllocGlobal>(
     rt: &R,
     image: &'x [u8],
@@ -169,6 +174,7 @@ fn ran<'x, R: Threads + Wait + Sync + AllocGlobal>(
     Ok((told(alloc, out, done)?, trace.into_writer()))
 }
 
+/// Checks that a replay of a run's trace prints the lines of the run, and then the outcome of each edge.
 #[test]
 fn run_is_printed_and_replayed(rt: HostRuntime) -> Result<(), Fail> {
     let alloc = rt.alloc();
@@ -199,6 +205,7 @@ fn run_is_printed_and_replayed(rt: HostRuntime) -> Result<(), Fail> {
     Ok(())
 }
 
+/// Checks that a run in which a command fails has status 1.
 #[test]
 fn failed_run_has_status_one(rt: HostRuntime) -> Result<(), Fail> {
     let (image, _done) = compiled(rt.alloc(), b"build.ninja")?;
@@ -208,6 +215,7 @@ fn failed_run_has_status_one(rt: HostRuntime) -> Result<(), Fail> {
     Ok(())
 }
 
+/// Checks that a target that no edge builds is fault 132, and that nothing is printed or traced.
 #[test]
 fn unknown_target_runs_nothing(rt: HostRuntime) -> Result<(), Fail> {
     let (image, _done) = compiled(rt.alloc(), b"build.ninja")?;
@@ -220,7 +228,7 @@ fn unknown_target_runs_nothing(rt: HostRuntime) -> Result<(), Fail> {
     Ok(())
 }
 
-/// A run whose lines are lost has its whole trace.
+/// Checks that the trace is written completely even if the lines of the run can't be written.
 #[test]
 fn trace_of_a_run_without_its_lines(rt: HostRuntime) -> Result<(), Fail> {
     let alloc = rt.alloc();
@@ -240,7 +248,7 @@ fn trace_of_a_run_without_its_lines(rt: HostRuntime) -> Result<(), Fail> {
     Ok(())
 }
 
-/// A trace of which a write failed is the fault of a run that has ended.
+/// Checks that a run whose trace can't be written still prints its lines, and ends with fault 133.
 #[test]
 fn lost_trace_is_133(rt: HostRuntime) -> Result<(), Fail> {
     let alloc = rt.alloc();
@@ -262,7 +270,7 @@ fn lost_trace_is_133(rt: HostRuntime) -> Result<(), Fail> {
     Ok(())
 }
 
-/// Compares the runs that two traces tell of an image.
+/// Compares two runs of an image by their traces.
 fn compared<'x>(
     alloc: Global,
     image: &'x [u8],
@@ -292,6 +300,7 @@ fn compared<'x>(
     told(alloc, out, done)
 }
 
+/// Checks that runs with the same outcomes are `same` with status 0, and that others are `different` with status 1.
 #[test]
 fn runs_are_compared(rt: HostRuntime) -> Result<(), Fail> {
     let alloc = rt.alloc();
@@ -307,7 +316,7 @@ fn runs_are_compared(rt: HostRuntime) -> Result<(), Fail> {
     Ok(())
 }
 
-/// Traces of targets, and a text that is no trace, aren't compared.
+/// Checks that traces of runs with named targets aren't compared, and that a text that isn't a trace is fault 130.
 #[test]
 fn other_traces_are_not_compared(rt: HostRuntime) -> Result<(), Fail> {
     let alloc = rt.alloc();
@@ -333,7 +342,7 @@ fn other_traces_are_not_compared(rt: HostRuntime) -> Result<(), Fail> {
     Ok(())
 }
 
-/// A buffer hands on what it holds at its end, and a failed write then is the fault.
+/// Checks that `ended` writes the bytes that a buffer still holds, and that a failure of this write is fault 133.
 #[test]
 fn buffer_is_handed_on(rt: HostRuntime) -> Result<(), Fail> {
     let alloc = rt.alloc();
@@ -363,6 +372,7 @@ fn buffer_is_handed_on(rt: HostRuntime) -> Result<(), Fail> {
     Ok(())
 }
 
+/// Checks that the line of a fault has its number, its name, and its file if it has one.
 #[test]
 fn faults_have_lines(rt: HostRuntime) -> Result<(), Fail> {
     let alloc = rt.alloc();

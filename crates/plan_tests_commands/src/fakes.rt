@@ -1,4 +1,4 @@
-//! Sources, sinks and worlds made for tests.
+//! Sources, sinks and worlds written for tests.
 
 use plan_lanes::{Permit, World};
 use plan_machine::{Recorded, Reply};
@@ -48,8 +48,8 @@ impl Source for Files<'_> {
     }
 }
 
-/// A manifest in memory that changes: the first read gives the first text, each later one the next, and the last text is
-/// given from then on. There is no other file.
+/// A manifest in memory that changes: each read returns the next text, and the last text from then on. There is no
+/// other file.
 #[derive(Drop)]
 pub struct Versions<'a> {
     texts: &'a [&'a [u8]],
@@ -66,7 +66,7 @@ impl<'a> Versions<'a> {
         }
     }
 
-    /// Returns the text of this read.
+    /// Returns the text for the next read, or `None` if there are no texts.
     fn text(&self) -> Option<&'a [u8]> {
         match self.texts.get(self.reads) {
             Some(text) => Some(*text),
@@ -94,7 +94,7 @@ impl Source for Versions<'_> {
     }
 }
 
-/// A sink that takes a number of writes and then fails at each.
+/// A sink that takes `left` writes and fails all later ones.
 #[derive(Drop)]
 pub struct Failing {
     left: u32,
@@ -127,7 +127,7 @@ impl Sink for Failing {
     }
 }
 
-/// A world in which no output exists, nothing is recorded, and each command ends with one status.
+/// A world in which the output `out` is missing and nothing is recorded. Each command exits with `status`.
 #[derive(Drop)]
 pub struct Fresh {
     pub status: u8,
@@ -137,6 +137,10 @@ impl World for Fresh {
     ghost use Rattle.std.specs.Prelude.{⊤};
 
     ghost allows = { λ number request reply. ⊤ };
+
+    fn keeps_journal() -> bool {
+        false
+    }
 
     fn stat(&self, _number: u64, path: &[u8]) -> Result<Reply, AllocError> {
         Ok(Reply::Stamp(if path == b"out".as_slice() { 0 } else { 1 }))
@@ -173,11 +177,11 @@ impl World for Fresh {
     }
 }
 
-/// A world in which `build.ninja` is older than its input until its maker ran a number of times. The file `done` is new,
-/// no other output exists, and nothing is recorded. Commands end with one status.
+/// A world in which `build.ninja` is older than its input until `rounds` commands ran. The file `done` is new, no other
+/// output exists, and nothing is recorded. Each command exits with `status`.
 #[derive(Drop)]
 pub struct Generator {
-    /// How often the maker runs until `build.ninja` is up to date.
+    /// The number of commands that run until `build.ninja` is up to date.
     pub rounds: u64,
     /// The number of commands that ran.
     pub commands: AtomicU64,
@@ -198,7 +202,7 @@ impl Generator {
         self.commands.load(Ordering::SeqCst)
     }
 
-    /// Returns when a file was changed: 0 if it is missing.
+    /// Returns the stamp of a file, which is 0 if the file is missing.
     fn stamp(&self, path: &[u8]) -> u64 {
         match path {
             b"build.ninja" if self.commands() < self.rounds => 1,
@@ -213,6 +217,10 @@ impl World for Generator {
     ghost use Rattle.std.specs.Prelude.{⊤};
 
     ghost allows = { λ number request reply. ⊤ };
+
+    fn keeps_journal() -> bool {
+        false
+    }
 
     fn stat(&self, _number: u64, path: &[u8]) -> Result<Reply, AllocError> {
         Ok(Reply::Stamp(self.stamp(path)))
@@ -250,8 +258,8 @@ impl World for Generator {
     }
 }
 
-/// A world in which the file `in` was changed at 7 and each other file at 9. Each output has an entry with the command `cc
-/// in -o out` and one basis. Commands succeed.
+/// A world in which the file `in` has stamp 7 and each other file has stamp 9. Each output has an entry with the
+/// command `cc in -o out` and the basis `basis`. Commands succeed.
 #[derive(Drop)]
 pub struct Touched {
     pub alloc: Global,
@@ -262,6 +270,10 @@ impl World for Touched {
     ghost use Rattle.std.specs.Prelude.{⊤};
 
     ghost allows = { λ number request reply. ⊤ };
+
+    fn keeps_journal() -> bool {
+        false
+    }
 
     fn stat(&self, _number: u64, path: &[u8]) -> Result<Reply, AllocError> {
         Ok(Reply::Stamp(if path == b"in".as_slice() { 7 } else { 9 }))

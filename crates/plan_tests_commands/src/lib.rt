@@ -1,5 +1,4 @@
-//! The tests of plan_commands. They stand apart from the code, since a
-//! crate with tests is proved twice.
+//! The tests of plan_commands. They are in a crate of their own because a crate with tests is proved twice.
 #![tactic(auto)]
 
 #[cfg(test)]

@@ -1,4 +1,4 @@
-//! Each public function once, on edges made by hand.
+//! Tests `edge_code` on edges made by hand.
 
 use plan_compile::*;
 use plan_image::Instr;
@@ -9,7 +9,7 @@ fn items<T: Copy>(alloc: Global, values: &[T]) -> Result<Items<T>, AllocError> {
     Ok(Items::new(Vec::from_slice(alloc, values)?))
 }
 
-/// An output with slots of its own.
+/// Returns an output with the given file and slots.
 fn output(file: u32, stamp: u32, changed: u32) -> Output {
     Output {
         file,
@@ -18,7 +18,7 @@ fn output(file: u32, stamp: u32, changed: u32) -> Output {
     }
 }
 
-/// A command edge that makes file 0 of file 1, with slots 0 to 2 and text 0.
+/// Returns a command edge that makes file 0 from file 1, with slots 0 to 2 and text 0.
 fn command(alloc: Global, restat: bool, generator: bool) -> Result<CommandWiring, AllocError> {
     Ok(CommandWiring {
         named: items(alloc, [Input::File(1)].as_slice())?,
@@ -35,7 +35,7 @@ fn command(alloc: Global, restat: bool, generator: bool) -> Result<CommandWiring
     })
 }
 
-/// The baseline of an edge by the specified rule.
+/// Returns the baseline that the specified out-of-date rule gives an edge.
 fn baseline(restat: bool) -> Baseline {
     if restat {
         Baseline::Basis
@@ -44,7 +44,7 @@ fn baseline(restat: bool) -> Baseline {
     }
 }
 
-/// Whether the edge has this code.
+/// Checks whether the code of the edge is `expected`.
 fn is_code(alloc: Global, wiring: &Wiring, expected: &[Instr]) -> Result<bool, CompileFault> {
     let code = edge_code(alloc, wiring)?;
     Ok(code.as_slice() == expected)
@@ -58,7 +58,7 @@ fn is_command_code(
     is_code(alloc, &Wiring::Command(wiring), expected)
 }
 
-/// One source file, one output, a depfile.
+/// Returns a command edge with one source file, one output and a depfile.
 fn compiled(alloc: Global) -> Result<CommandWiring, AllocError> {
     let mut wiring = command(alloc, false, false)?;
     wiring.depfile = Some(1);
@@ -123,7 +123,7 @@ fn source_and_depfile(rt: HostRuntime) -> Result<(), AllocError> {
     Ok(())
 }
 
-/// Two inputs of one maker, two outputs, an order-only source file.
+/// Returns a command edge with two inputs that one edge makes, two outputs and an order-only source file.
 fn linked(alloc: Global) -> Result<CommandWiring, AllocError> {
     let mut wiring = command(alloc, false, false)?;
     wiring.named = items(alloc, [Input::Made(0, 1), Input::Made(2, 1)].as_slice())?;
@@ -264,7 +264,8 @@ fn restat_edge(rt: HostRuntime) -> Result<(), AllocError> {
     Ok(())
 }
 
-/// One input that an edge makes, two outputs; the baseline is the earlier of the oldest output and the basis.
+/// Returns a command edge with one input that an edge makes and two outputs. Its baseline is the earlier of the oldest
+/// output and the basis.
 fn joined(alloc: Global) -> Result<CommandWiring, AllocError> {
     let mut wiring = command(alloc, false, false)?;
     wiring.named = items(alloc, [Input::Made(0, 1)].as_slice())?;
@@ -387,7 +388,7 @@ fn phonies(rt: HostRuntime) -> Result<(), AllocError> {
     Ok(())
 }
 
-/// So many outputs.
+/// Returns outputs for the files from 0 to `count` - 1.
 fn many(alloc: Global, count: u32) -> Result<Items<Output>, AllocError> {
     let mut outputs = Vec::new(alloc);
     for file in 0..count {
@@ -396,14 +397,15 @@ fn many(alloc: Global, count: u32) -> Result<Items<Output>, AllocError> {
     Ok(Items::new(outputs))
 }
 
-/// How long the code of a phony with so many outputs is, at five places an output.
+/// Returns the number of instructions of a phony with `count` outputs and no inputs: five for each output, and one
+/// for `End`.
 fn len_alone(alloc: Global, count: u32) -> Result<usize, CompileFault> {
     let outputs = many(alloc, count)?;
     let code = edge_code(alloc, &Wiring::Alone(outputs))?;
     Ok(code.len())
 }
 
-/// So many numbers, from 0 on.
+/// Returns the numbers from 0 to `count` - 1.
 fn numbers(alloc: Global, count: u32) -> Result<Items<u32>, AllocError> {
     let mut found = Vec::new(alloc);
     for number in 0..count {
@@ -412,7 +414,7 @@ fn numbers(alloc: Global, count: u32) -> Result<Items<u32>, AllocError> {
     Ok(Items::new(found))
 }
 
-/// How long the code of a command edge with so many order-only source files is.
+/// Returns the number of instructions of a command edge with `count` order-only source files.
 fn len_ordered(alloc: Global, count: u32) -> Result<usize, CompileFault> {
     let mut wiring = command(alloc, false, false)?;
     wiring.order_only = numbers(alloc, count)?;

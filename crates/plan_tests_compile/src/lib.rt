@@ -1,5 +1,4 @@
-//! The tests of plan_compile. They stand apart from the code, since a
-//! crate with tests is proved twice.
+//! The tests of plan_compile. They are in a crate of their own, because the code of a crate with tests is proved twice.
 #![tactic(auto)]
 
 #[cfg(test)]

@@ -1,4 +1,4 @@
-//! Runs of a chain of two edges, the first one restat, over a world that fails one call.
+//! Runs of a chain of two edges, the first one with `restat`, in a world that fails one call.
 
 use plan_image::read_image;
 use plan_lanes::*;
@@ -37,8 +37,8 @@ fn chain(alloc: Global) -> Option<Verified> {
     }
 }
 
-/// A world of files that no command changes, in which `src` is newer than what `mid` was made from. It counts its calls,
-/// and fails the one of this number, counted from 1.
+/// A world of files that no command changes. `src` is newer than the recorded basis of `mid`. The world counts its
+/// calls, and fails call number `failing`, counted from 1.
 #[derive(Drop)]
 struct Failing {
     alloc: Global,
@@ -47,13 +47,13 @@ struct Failing {
 }
 
 impl Failing {
-    /// Counts a call, and tells whether it fails.
+    /// Counts a call, and returns whether it fails.
     fn fails(&self) -> bool {
         self.calls.fetch_add(1, Ordering::SeqCst).wrapping_add(1) == self.failing
     }
 }
 
-/// Returns when a file of the chain was changed.
+/// Returns the stamp of a file of the chain.
 fn stamp_of(path: &[u8]) -> u64 {
     match path {
         [b's', ..] => 50,
@@ -62,7 +62,7 @@ fn stamp_of(path: &[u8]) -> u64 {
     }
 }
 
-/// Returns what the record has for an output of the chain.
+/// Returns the reply with the record's entry for an output of the chain.
 fn entry_of(alloc: Global, output: &[u8]) -> Result<Reply, AllocError> {
     let (command, basis) = match output {
         [b'm', ..] => (b"sh gen.sh".as_slice(), 20),
@@ -77,6 +77,10 @@ impl World for Failing {
     ghost use Rattle.std.specs.Prelude.{⊤};
 
     ghost allows = { λ number request reply. ⊤ };
+
+    fn keeps_journal() -> bool {
+        false
+    }
 
     fn stat(&self, _number: u64, path: &[u8]) -> Result<Reply, AllocError> {
         if self.fails() {
@@ -128,7 +132,7 @@ impl World for Failing {
     }
 }
 
-/// Runs the chain by this many threads over a world, any number of failures borne.
+/// Runs the chain in a world, with at most `jobs` lanes and any number of failures. None if the run ends with a fault.
 fn ran<R: Threads + Wait + Sync>(
     rt: &R,
     alloc: Global,
@@ -145,12 +149,12 @@ fn ran<R: Threads + Wait + Sync>(
     }
 }
 
-/// Checks whether the edges of a run came out so.
+/// Checks whether the two edges of a run have these outcomes.
 fn came_out(report: &Report, mid: Outcome, out: Outcome) -> bool {
     report.state.outcome(0) == Some(mid) && report.state.outcome(1) == Some(out)
 }
 
-/// Checks whether the lines of a run are this text.
+/// Checks whether the status lines of a run are this text.
 fn tells(alloc: Global, image: &Verified, report: &Report, text: &[u8]) -> bool {
     match status_lines(alloc, image, report.state.total(), &report.marks) {
         Ok(lines) => lines.as_slice() == text,
@@ -158,7 +162,7 @@ fn tells(alloc: Global, image: &Verified, report: &Report, text: &[u8]) -> bool 
     }
 }
 
-/// Returns how both edges come out if the call of this number fails.
+/// Returns the outcomes of both edges if the call of this number fails.
 fn outcomes_behind(failing: u64) -> (Outcome, Outcome) {
     match failing {
         1 | 2 | 6 => (Outcome::Failed(Cause::StatFault), Outcome::Skipped(0)),
@@ -170,7 +174,7 @@ fn outcomes_behind(failing: u64) -> (Outcome, Outcome) {
     }
 }
 
-/// Returns the lines of a run in which the call of this number fails.
+/// Returns the status lines of a run in which the call of this number fails.
 fn lines_behind(failing: u64) -> &'static [u8] {
     match failing {
         1 | 2 | 6 => b"FAILED mid: stat fault\nSKIPPED out: needs mid\n",
@@ -182,7 +186,7 @@ fn lines_behind(failing: u64) -> &'static [u8] {
     }
 }
 
-/// Returns how often the world is asked if the call of this number fails; 0 for none.
+/// Returns how often the world is called if the call of this number fails (0: no call fails).
 fn calls_behind(failing: u64) -> u64 {
     if failing == 0 || failing > 8 {
         8
@@ -191,8 +195,8 @@ fn calls_behind(failing: u64) -> u64 {
     }
 }
 
-/// Each of the eight calls fails once, by one lane and by four; and none does. A failed call ends its edge, and no call
-/// comes twice.
+/// A failed call ends its edge, and no call is repeated. The test fails each of the eight calls and then none, with one
+/// lane and with four.
 #[test]
 fn each_call_fails_once(rt: HostRuntime) -> Result<(), Fail> {
     let Some(image) = chain(rt.alloc()) else {

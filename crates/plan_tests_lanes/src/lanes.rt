@@ -1,4 +1,4 @@
-//! Runs of small images over worlds made for tests, and each public function once.
+//! Runs of small images in worlds written for tests, and calls of the public functions.
 
 use plan_image::{Edge, EdgeCode, Edges, Image, Instr, Parts, Sort};
 use plan_lanes::*;
@@ -16,10 +16,10 @@ use std::thread;
 use std::thread::Threads;
 use std::time::Duration;
 
-/// Asks for a stamp, and forgets it.
+/// Code that asks for a stamp and drops it.
 const LOOKS: [Instr; 2] = [Instr::Stat(0), Instr::Drop];
 
-/// Runs a command.
+/// Code that runs a command.
 const RUNS: [Instr; 5] = [
     Instr::Take,
     Instr::Text(0),
@@ -28,7 +28,7 @@ const RUNS: [Instr; 5] = [
     Instr::End,
 ];
 
-/// An edge of rank and file n that asks for so many stamps and then runs a command.
+/// Returns an edge with rank n and output file n, which asks for `looks` stamps and then runs a command.
 fn edge(alloc: Global, n: u32, waits: &[u32], looks: u32) -> Result<Edge, AllocError> {
     let mut code = Vec::new(alloc);
     for _ in 0..looks {
@@ -46,7 +46,7 @@ fn edge(alloc: Global, n: u32, waits: &[u32], looks: u32) -> Result<Edge, AllocE
     })
 }
 
-/// The tables of these edges, all of which are built by default.
+/// Returns the tables of an image of these edges. All of them are built by default.
 fn parts_of(alloc: Global, edges: &[Edge]) -> Result<Parts, AllocError> {
     let mut texts = RowList::new(alloc);
     texts.push(b"x")?;
@@ -71,7 +71,7 @@ fn parts_of(alloc: Global, edges: &[Edge]) -> Result<Parts, AllocError> {
     })
 }
 
-/// Their image.
+/// Returns the verified image of these edges.
 fn image_of(alloc: Global, edges: &[Edge]) -> Result<Verified, Refused> {
     let Ok(image) = Image::new(parts_of(alloc, edges)?) else {
         return Err(Refused::BadTarget);
@@ -79,7 +79,7 @@ fn image_of(alloc: Global, edges: &[Edge]) -> Result<Verified, Refused> {
     verify(alloc, image).map_err(|_| Refused::BadTarget)
 }
 
-/// 300 edges, of which those from one on take from an empty stack.
+/// Returns an image of 300 edges that isn't verified. The edges from `bad` on take from an empty stack.
 fn edges_bad_from(alloc: Global, bad: u32) -> Result<Image, Refused> {
     let mut edges = Vec::new(alloc);
     for n in 0..300 {
@@ -95,7 +95,7 @@ fn edges_bad_from(alloc: Global, bad: u32) -> Result<Image, Refused> {
     Image::new(parts_of(alloc, &edges)?).map_err(|_| Refused::BadTarget)
 }
 
-/// So many edges; each waits for the one so many before it (0: for none).
+/// Returns a verified image of `count` edges. Edge n waits for edge n - `back`, or for none if `back` is 0 or above n.
 fn edges_of(alloc: Global, count: u32, back: u32, looks: u32) -> Result<Verified, Refused> {
     let mut edges = Vec::new(alloc);
     for n in 0..count {
@@ -108,7 +108,7 @@ fn edges_of(alloc: Global, count: u32, back: u32, looks: u32) -> Result<Verified
     image_of(alloc, &edges)
 }
 
-/// A world in which each command ends once all have begun.
+/// A world in which each command waits until `all` commands have begun. A command that waits about 5 s exits with 99.
 #[derive(Drop)]
 struct Gate<C> {
     clock: C,
@@ -120,6 +120,10 @@ impl<C: Clock> World for Gate<C> {
     ghost use Rattle.std.specs.Prelude.{⊤};
 
     ghost allows = { λ number request reply. ⊤ };
+
+    fn keeps_journal() -> bool {
+        false
+    }
 
     fn stat(&self, _number: u64, _path: &[u8]) -> Result<Reply, AllocError> {
         Ok(Reply::Stamp(1))
@@ -163,7 +167,8 @@ impl<C: Clock> World for Gate<C> {
     }
 }
 
-/// A world that counts its calls, has memory for so many of them, and may give stamps where a command is asked for.
+/// A world that counts its calls. After `most` calls it is out of memory. If `lies` is set, it replies to a command
+/// with a stamp.
 #[derive(Drop)]
 struct Counted {
     most: u64,
@@ -184,7 +189,10 @@ impl Counted {
         }
     }
 
-    /// Counts a call, and gives the reply where there is memory for it.
+    /// Counts a call, and returns the reply.
+    ///
+    /// # Errors
+    /// If there were `most` calls before this one.
     fn tell(&self, reply: Reply) -> Result<Reply, AllocError> {
         if self.calls.fetch_add(1, Ordering::SeqCst) >= self.most {
             return Err(AllocError);
@@ -197,6 +205,10 @@ impl World for Counted {
     ghost use Rattle.std.specs.Prelude.{⊤};
 
     ghost allows = { λ number request reply. ⊤ };
+
+    fn keeps_journal() -> bool {
+        false
+    }
 
     fn stat(&self, _number: u64, _path: &[u8]) -> Result<Reply, AllocError> {
         self.tell(Reply::Stamp(7))
@@ -241,7 +253,7 @@ impl World for Counted {
     }
 }
 
-/// What a run comes to: the number of its fault (0: none), its events, and how many edges ran.
+/// Runs an image. Returns the number of the fault (0: none), the number of events, and the number of edges that ran.
 fn came_out<W: World + Send + Sync, R: Threads + Wait + Sync>(
     rt: &R,
     alloc: Global,
@@ -274,7 +286,7 @@ fn came_out<W: World + Send + Sync, R: Threads + Wait + Sync>(
     Ok((number, report.journal.len(), well))
 }
 
-/// Each command waits until all others run: only with as many lanes at once do they end.
+/// If the jobs limit is n, n commands run at the same time: each command waits until all others have begun.
 #[test]
 fn all_at_once(rt: HostRuntime) -> Result<(), Fail> {
     for n in [2u8, 8, 64] {
@@ -297,8 +309,8 @@ fn all_at_once(rt: HostRuntime) -> Result<(), Fail> {
     Ok(())
 }
 
-/// A lane that has a stamp for one edge and is to run the other's command hands the stamp in first: each command waits
-/// for the other. In either order of the edges.
+/// A lane that has a stamp for one edge hands it in before it runs the command of the other edge. Each command waits
+/// for the other one. Both orders of the edges are tried.
 #[test]
 fn uneven(rt: HostRuntime) -> Result<(), Fail> {
     let alloc = rt.alloc();
@@ -319,7 +331,7 @@ fn uneven(rt: HostRuntime) -> Result<(), Fail> {
     Ok(())
 }
 
-/// Each edge is asked for once, by any number of lanes.
+/// Any number of lanes asks each question of each edge once, and runs at most `jobs` commands at the same time.
 #[test]
 fn each_edge_once(rt: HostRuntime) -> Result<(), Fail> {
     for (back, looks) in [(0u32, 2u32), (1, 1), (10, 0)] {
@@ -343,7 +355,7 @@ fn each_edge_once(rt: HostRuntime) -> Result<(), Fail> {
     Ok(())
 }
 
-/// All lanes end where memory runs out at any call.
+/// Any number of threads returns the same verdict, which names the first bad edge.
 #[test]
 fn same_verdict_by_threads(rt: HostRuntime) -> Result<(), Fail> {
     for threads in [0u8, 1, 2, 4, 64] {
@@ -366,6 +378,7 @@ fn same_verdict_by_threads(rt: HostRuntime) -> Result<(), Fail> {
     Ok(())
 }
 
+/// All lanes end if memory runs out at any call.
 #[test]
 fn memory_runs_out(rt: HostRuntime) -> Result<(), Fail> {
     let Ok(image) = edges_of(rt.alloc(), 100, 3, 2) else {
@@ -383,7 +396,7 @@ fn memory_runs_out(rt: HostRuntime) -> Result<(), Fail> {
     Ok(())
 }
 
-/// All lanes end where a reply doesn't fit.
+/// All lanes end if a reply doesn't fit its question.
 #[test]
 fn replies_that_do_not_fit(rt: HostRuntime) -> Result<(), Fail> {
     let Ok(image) = edges_of(rt.alloc(), 100, 3, 2) else {
@@ -399,7 +412,7 @@ fn replies_that_do_not_fit(rt: HostRuntime) -> Result<(), Fail> {
     Ok(())
 }
 
-/// What an advance did: which of its kinds, and of a job edge, number and whether leave came with it.
+/// The kind of an advance. A job has its edge, the number of its question, and whether a permit came with it.
 #[derive(Clone, Copy, Debug, PartialEq)]
 enum Told {
     Moved,
@@ -408,7 +421,7 @@ enum Told {
     Ended,
 }
 
-/// Advances, and gives the question of a job back.
+/// Advances a board once. Returns the kind of the advance, and the question if it is a job.
 fn advanced<W: World>(board: &mut Board<'_, W>) -> Result<(Told, Option<Question>), Refused> {
     match board.advance()? {
         Advance::Moved => Ok((Told::Moved, None)),
@@ -428,7 +441,7 @@ fn advanced<W: World>(board: &mut Board<'_, W>) -> Result<(Told, Option<Question
     }
 }
 
-/// Whether this is what the next advances tell.
+/// Checks whether the next advances are of these kinds. Stops after the first one that differs.
 fn tells<W: World>(board: &mut Board<'_, W>, expected: &[Told]) -> Result<bool, Refused> {
     for told in expected {
         let (next, _question) = advanced(board)?;
@@ -439,7 +452,7 @@ fn tells<W: World>(board: &mut Board<'_, W>, expected: &[Told]) -> Result<bool, 
     Ok(true)
 }
 
-/// A question for the stamp of a path.
+/// Returns a question for the stamp of a path.
 fn look(alloc: Global, number: u64, path: &[u8]) -> Result<Question, Refused> {
     Ok(Question {
         number,
@@ -447,7 +460,7 @@ fn look(alloc: Global, number: u64, path: &[u8]) -> Result<Question, Refused> {
     })
 }
 
-/// Hands a reply in to an edge, for a question for the stamp of a path.
+/// Answers the question of an edge for the stamp of a path.
 fn reply_to(
     alloc: Global,
     board: &mut Board<'_, Counted>,
@@ -460,7 +473,7 @@ fn reply_to(
     board.answer(edge, question, reply)
 }
 
-/// A board of so many edges, each of which asks for a stamp and then runs a command, for one job.
+/// Opens a board for an image, with a limit of one job.
 fn board_of(alloc: Global, image: &Verified) -> Result<Board<'_, Counted>, Refused> {
     match Options::new(1, 0) {
         Some(options) => Board::open(alloc, image, options, &[]),
@@ -468,8 +481,8 @@ fn board_of(alloc: Global, image: &Verified) -> Result<Board<'_, Counted>, Refus
     }
 }
 
-/// What answers come to where edge 1 asked for a stamp under the number 1: to another edge, under another number, for
-/// another path, of a sort that doesn't fit, and the right one twice.
+/// Returns the results of six answers after edge 1 asked for a stamp under the number 1. The first four are for another
+/// edge, under another number, for another path, and of a kind that doesn't fit. The fifth is right, and is repeated.
 fn answers(alloc: Global, image: &Verified) -> Result<[Result<Mark, Refused>; 6], Refused> {
     let mut board = board_of(alloc, image)?;
     let _ = tells(&mut board, &[Told::Moved, Told::Job(1, 1, false)])?;
@@ -484,6 +497,7 @@ fn answers(alloc: Global, image: &Verified) -> Result<[Result<Mark, Refused>; 6]
     ])
 }
 
+/// A board refuses each answer that it doesn't wait for.
 #[test]
 fn only_what_is_awaited(rt: HostRuntime) {
     let Ok(image) = edges_of(rt.alloc(), 2, 0, 1) else {
@@ -503,7 +517,7 @@ fn only_what_is_awaited(rt: HostRuntime) {
     );
 }
 
-/// A whole run of one edge by hand: whether each advance told what it should.
+/// Runs one edge by hand, and checks whether each advance is of the expected kind.
 fn goes_by_hand(alloc: Global, board: &mut Board<'_, Counted>) -> Result<bool, Refused> {
     let mut told = tells(board, &[Told::Moved, Told::Job(0, 1, false), Told::Wait])?;
     let _ = reply_to(alloc, board, 0, 1, &[1, 1], Reply::Stamp(7))?;
@@ -518,8 +532,8 @@ fn goes_by_hand(alloc: Global, board: &mut Board<'_, Counted>) -> Result<bool, R
     Ok(told)
 }
 
-/// The same, and whether the last mark says that the edge ran, how many events there are, and whether an event was
-/// enabled at first and at the end.
+/// Like `goes_by_hand`, but opens the board itself. Also returns whether the last mark says that the edge ran, the
+/// number of events, and whether an event was enabled at first and at the end.
 fn by_hand(alloc: Global, image: &Verified) -> Result<(bool, bool, usize, bool, bool), Refused> {
     let mut board = board_of(alloc, image)?;
     let first = board.enabled();
@@ -530,6 +544,7 @@ fn by_hand(alloc: Global, image: &Verified) -> Result<(bool, bool, usize, bool, 
     Ok((told, ran, report.journal.len(), first, last))
 }
 
+/// An edge that asks for one stamp and runs a command has ten events. After them no event is enabled.
 #[test]
 fn one_edge_by_hand(rt: HostRuntime) {
     let Ok(image) = edges_of(rt.alloc(), 1, 0, 1) else {
@@ -541,7 +556,7 @@ fn one_edge_by_hand(rt: HostRuntime) {
     );
 }
 
-/// The number of the fault that a run ends with.
+/// Returns the number of the fault that a run ends with. None if it has no fault.
 fn fault_of<R: Threads + Wait + Sync>(
     rt: &R,
     alloc: Global,
@@ -559,7 +574,7 @@ fn fault_of<R: Threads + Wait + Sync>(
     number
 }
 
-/// A target outside is refused, and no lane starts.
+/// A target that the image lacks is refused, and the world isn't asked.
 #[test]
 fn target_outside(rt: HostRuntime) {
     let (Ok(image), Some(options)) = (edges_of(rt.alloc(), 2, 0, 0), Options::new(2, 0)) else {
@@ -573,8 +588,8 @@ fn target_outside(rt: HostRuntime) {
     assert_eq!(rt; world.calls.load(Ordering::SeqCst), 0);
 }
 
-/// Runs an image whose lines go through a ring for so many of them, and settles it: whether all lines were put in while
-/// lanes ran, and whether all were written.
+/// Runs an image, sends its lines through a ring for `room` lines, and settles the ring. Returns whether all lines were
+/// put in while lanes ran, and whether all were written.
 fn shown_run<R: Threads + Wait + Sync, O: Sink>(
     rt: &R,
     alloc: Global,
@@ -600,7 +615,7 @@ fn shown_run<R: Threads + Wait + Sync, O: Sink>(
     }
 }
 
-/// The lines of a run that were put in while lanes ran, and those for which there was no room.
+/// All lines of a run are written, including lines for which the ring had no room while lanes ran.
 #[test]
 fn lines_are_shown(rt: HostRuntime) {
     let alloc = rt.alloc();

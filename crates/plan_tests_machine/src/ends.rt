@@ -1,4 +1,4 @@
-//! Whether two runs end alike, on images made by hand.
+//! Tests `same_end`, which compares the ends of two runs, on handmade images.
 
 use plan_image::{Instr, Sort};
 use plan_machine::{Options, Refused, same_end};
@@ -6,10 +6,13 @@ use plan_samples::{Plain, RUNS, SampleEdge, events_of, image_of, run_of, three};
 use plan_verify::Verified;
 use std::alloc::Global;
 
-/// What is told of two runs, or which event is refused and why.
+/// Whether two runs end alike, or the place of the refused event and the reason.
 type Answer = Result<bool, (usize, Refused)>;
 
-/// What is told of two lists of events, with any number of failures borne.
+/// Checks whether two lists of events end alike, with up to 4 jobs and no limit of failures.
+///
+/// # Errors
+/// Those of `same_end`, and `Memory` at place 99 if memory runs out before it.
 fn told(alloc: Global, image: &Verified, first: &[Plain], second: &[Plain]) -> Answer {
     let (Some(options), Ok(first), Ok(second)) = (
         Options::new(4, 0),
@@ -21,7 +24,11 @@ fn told(alloc: Global, image: &Verified, first: &[Plain], second: &[Plain]) -> A
     same_end(alloc, image, options, &first, &second)
 }
 
-/// What is told of the runs of three edges of a pool: the first in order with the statuses 0, 2 and 0, the second so.
+/// Checks whether two runs end alike. The first one runs the edges 0, 1 and 2 in order, with the statuses 0, 2 and 0.
+/// The second one runs the edges of `second` in order, each with its status.
+///
+/// # Errors
+/// Those of `told`.
 fn orders(alloc: Global, image: &Verified, second: &[(u32, u8)]) -> Answer {
     let (Ok(first), Ok(second)) = (
         run_of(alloc, &[(0, 0), (1, 2), (2, 0)], None),
@@ -52,7 +59,7 @@ fn unended_runs_differ(rt: HostRuntime) {
     assert_eq!(rt; told(rt.alloc(), &image, &begun, &begun), Ok(false));
 }
 
-/// The place of a refusal in the second run is counted on.
+/// The place of an event that is refused in the second run counts the events of the first run, too.
 #[test]
 fn place_in_the_second(rt: HostRuntime) {
     let Some(image) = three(rt.alloc()) else {
@@ -66,7 +73,7 @@ fn place_in_the_second(rt: HostRuntime) {
     );
 }
 
-/// Two edges, and one that waits for both.
+/// Creates an image of two edges that run a command, and a third one that waits for both.
 fn both_waited_for(alloc: Global) -> Option<Verified> {
     let running = SampleEdge {
         sort: Sort::Command,
@@ -83,8 +90,12 @@ fn both_waited_for(alloc: Global) -> Option<Verified> {
     image_of(alloc, &[running, running, last], &[2])
 }
 
-/// What is told where both edges fail, the first with this status in the second run, and the third is skipped over edge 0
-/// in the first run, over this one in the second.
+/// Checks whether two runs end alike in which edges 0 and 1 fail and edge 2 is skipped. In the first run, edge 0 fails
+/// with status 2, and edge 2 is skipped over edge 0. In the second run, edge 0 fails with `status`, and edge 2 is
+/// skipped over `over`.
+///
+/// # Errors
+/// Those of `told`.
 fn skipped(alloc: Global, image: &Verified, status: u8, over: u32) -> Answer {
     let (Ok(first), Ok(second)) = (
         run_of(alloc, &[(0, 2), (1, 2)], Some(Plain::Skip(2, 0))),

@@ -1,4 +1,4 @@
-//! The tests of plan_machine. They stand apart from the code, since a
+//! The tests of plan_machine. They have a crate of their own, since a
 //! crate with tests is proved twice.
 #![tactic(auto)]
 

@@ -1,4 +1,4 @@
-//! Each public function once, on images made by hand.
+//! Tests the public functions on handmade images.
 
 ghost use Rattle.plan_machine.specs.Kept.{IsStateOf};
 
@@ -8,7 +8,7 @@ use plan_samples::{Plain, READS, RUNNING, SampleEdge, depfile, image_of, ran, th
 use plan_verify::Verified;
 use std::alloc::Global;
 
-/// One edge of this code, which has no pool.
+/// Creates an image of one edge with this code and without a pool.
 fn alone(alloc: Global, code: &[Instr]) -> Option<Verified> {
     let edge = SampleEdge {
         sort: Sort::Command,
@@ -20,7 +20,7 @@ fn alone(alloc: Global, code: &[Instr]) -> Option<Verified> {
     image_of(alloc, &[edge], &[0])
 }
 
-/// Three edges, each of which waits for the one before it, and a fourth one.
+/// Creates an image of four edges: edge 1 waits for edge 0, edge 2 waits for edge 1, and edge 3 waits for none.
 fn chain(alloc: Global) -> Option<Verified> {
     let second = SampleEdge {
         waits: &[0],
@@ -33,7 +33,7 @@ fn chain(alloc: Global) -> Option<Verified> {
     image_of(alloc, &[RUNNING, second, third, RUNNING], &[2, 3])
 }
 
-/// The first edge of the pool holds its place until it gives it back: a step of the second is refused, and then isn't.
+/// In a pool of depth 1, an edge can take the place only after the edge that holds it has given it back.
 #[test]
 fn pool_of_one(rt: HostRuntime) {
     let alloc = rt.alloc();
@@ -62,7 +62,7 @@ fn pool_of_one(rt: HostRuntime) {
     );
 }
 
-/// An edge that asked to run its command hears a stamp.
+/// A stamp is refused as the reply to an edge that asked to run its command.
 #[test]
 fn wrong_replies(rt: HostRuntime) {
     let Some(image) = three(rt.alloc()) else {
@@ -81,7 +81,8 @@ fn wrong_replies(rt: HostRuntime) {
     );
 }
 
-/// A chain whose first edge fails: skipped with any failures borne, stopped with one.
+/// Edges that wait for a failed or a skipped edge can be skipped. Another edge can be stopped after the first failure
+/// if the limit of failures is 1, but not if there is no limit.
 #[test]
 fn failures_and_skips(rt: HostRuntime) {
     let Some(image) = chain(rt.alloc()) else {
@@ -107,7 +108,7 @@ fn failures_and_skips(rt: HostRuntime) {
     );
 }
 
-/// An edge that sweeps the paths of its depfile.
+/// The code of an edge that sweeps the paths of its depfile.
 const SWEEPS: [Instr; 9] = [
     Instr::Zero,
     Instr::Flag(false),
@@ -120,7 +121,10 @@ const SWEEPS: [Instr; 9] = [
     Instr::End,
 ];
 
-/// Applies what is picked, and replies for edge 0, until there is none: how many events that were.
+/// Applies the events of `next` until there are none, and returns their number.
+///
+/// # Errors
+/// Those of `next` and `apply`, and `NotEnabled` if there are 20 events or more.
 fn go_on(alloc: Global, state: &mut State, image: &Verified, bytes: &[u8]) -> Result<usize, Refused>
     requires { IsStateOf image.now state.old }
 {
@@ -137,7 +141,11 @@ fn go_on(alloc: Global, state: &mut State, image: &Verified, bytes: &[u8]) -> Re
     Err(Refused::NotEnabled)
 }
 
-/// What is picked or, where nothing is, the reply to edge 0.
+/// Returns the event that is picked or, if there is none, a reply to edge 0: a depfile of these bytes, the status 0 or
+/// the stamp 7. Returns `None` if edge 0 doesn't await a reply either.
+///
+/// # Errors
+/// `Memory`.
 fn next(
     alloc: Global,
     state: &State,
@@ -157,7 +165,10 @@ fn next(
     }
 }
 
-/// How many events the run of an image's one edge has, and its outcome, where its depfile has these bytes.
+/// Runs the only edge of an image, whose depfile has these bytes. Returns the number of events and the outcome.
+///
+/// # Errors
+/// Those of `State::open` and `go_on`.
 fn comes_to(
     alloc: Global,
     image: &Verified,
@@ -197,7 +208,35 @@ fn sweep(rt: HostRuntime) {
     assert_eq!(rt; comes_to(rt.alloc(), &image, words), Ok((15, clean)));
 }
 
-/// Applies what is picked, and counts it.
+/// Checks whether a depfile still has its bytes, and this many paths, in the form that a journal keeps. Returns false
+/// if the depfile is malformed.
+///
+/// # Errors
+/// `Memory`.
+fn is_journaled(alloc: Global, bytes: &[u8], paths: u32) -> Result<bool, Refused> {
+    match depfile(alloc, bytes)?.journaled(alloc)? {
+        Reply::Bytes(kept) => match kept.result(alloc)? {
+            Ok(found) => Ok(kept.bytes() == bytes && found.len() == paths),
+            Err(_) => Ok(false),
+        },
+        _ => Ok(false),
+    }
+}
+
+#[test]
+fn journaled_depfile(rt: HostRuntime) {
+    assert_eq!(rt;
+        is_journaled(rt.alloc(), b"out: a.h b.h ./a.h", 2),
+        Ok(true)
+    );
+    assert_eq!(rt; is_journaled(rt.alloc(), b"", 0), Ok(true));
+    assert_eq!(rt; is_journaled(rt.alloc(), b"out a.h", 0), Ok(false));
+}
+
+/// Applies the events that are picked, at most 20, and returns their number.
+///
+/// # Errors
+/// Those of `apply`.
 fn pick_all(state: &mut State, image: &Verified) -> Result<usize, Refused>
     requires { IsStateOf image.now state.old }
     ensures { IsStateOf image.now state.new }
@@ -215,7 +254,11 @@ fn pick_all(state: &mut State, image: &Verified) -> Result<usize, Refused>
     Ok(count)
 }
 
-/// How many events can be picked, how many of three edges await a reply then, and the total.
+/// Applies events while some can be picked. Returns their number, how many of the edges 0 to 2 then await a reply, and
+/// the number of wanted edges with a command.
+///
+/// # Errors
+/// Those of `State::open` and `pick_all`.
 fn picked(alloc: Global, image: &Verified, jobs: u8) -> Result<(usize, usize, u64), Refused> {
     let Some(options) = Options::new(jobs, 0) else {
         return Err(Refused::Memory);
@@ -236,7 +279,11 @@ fn full_pool(rt: HostRuntime) {
     assert_eq!(rt; picked(rt.alloc(), &image, 4), Ok((6, 1, 3)));
 }
 
-/// Whether the step of edge 0 asks something before its start, and for the stamp of `a` behind it.
+/// Checks whether the step of edge 0 asks anything before the edge starts, and whether it asks for the stamp of `a`
+/// after the start.
+///
+/// # Errors
+/// Those of `apply`.
 fn questions(image: &Verified, state: &mut State) -> Result<(bool, bool), Refused>
     requires { IsStateOf image.now state.old }
 {
@@ -248,7 +295,10 @@ fn questions(image: &Verified, state: &mut State) -> Result<(bool, bool), Refuse
     }
 }
 
-/// The same, in a run of one job.
+/// Opens a run of one job and calls `questions`.
+///
+/// # Errors
+/// Those of `State::open` and `questions`.
 fn opened_questions(alloc: Global, image: &Verified) -> Result<(bool, bool), Refused> {
     let Some(options) = Options::new(1, 0) else {
         return Err(Refused::Memory);
@@ -265,7 +315,11 @@ fn questions_ahead(rt: HostRuntime) {
     assert_eq!(rt; opened_questions(rt.alloc(), &image), Ok((false, true)));
 }
 
-/// What a rush, two replies and a rush lead to, of an edge that asks for two stamps.
+/// Starts edge 0, which asks for two stamps. Returns the steps of four rushes, and whether each one asked: the first
+/// rush, the rush after each of two replies, and one more.
+///
+/// # Errors
+/// Those of `apply` and `follow`.
 fn rushes(image: &Verified, state: &mut State) -> Result<[(u32, bool); 4], Refused>
     requires { IsStateOf image.now state.old }
 {
@@ -282,7 +336,10 @@ fn rushes(image: &Verified, state: &mut State) -> Result<[(u32, bool); 4], Refus
     ])
 }
 
-/// The same, in a run of one job.
+/// Opens a run of one job and calls `rushes`.
+///
+/// # Errors
+/// Those of `State::open` and `rushes`.
 fn opened_rushes(alloc: Global, image: &Verified) -> Result<[(u32, bool); 4], Refused> {
     let Some(options) = Options::new(1, 0) else {
         return Err(Refused::Memory);
@@ -291,7 +348,7 @@ fn opened_rushes(alloc: Global, image: &Verified) -> Result<[(u32, bool); 4], Re
     rushes(image, &mut state)
 }
 
-/// An edge asks from its first place on, asks again, then calculates up to its end, which it doesn't reach by itself.
+/// A rush stops after a step that asks, or before the end of the code. Its count includes the step that asks.
 #[test]
 fn edge_rushes(rt: HostRuntime) {
     let code = [
@@ -321,7 +378,7 @@ fn numbers_of_refusals(rt: HostRuntime) {
     assert_eq!(rt; Refused::BadTarget.number(), 112);
 }
 
-/// Values, replies, events and marks are small.
+/// An event has 24 bytes, and values, replies and marks have 16 bytes each.
 #[test]
 fn sizes(rt: HostRuntime) {
     assert_eq!(rt; std::mem::size_of::<plan_verify::Value>(), 16);
@@ -330,7 +387,7 @@ fn sizes(rt: HostRuntime) {
     assert_eq!(rt; std::mem::size_of::<Mark>(), 16);
 }
 
-/// The jobs and the failures that options keep.
+/// Returns the jobs and the limit of failures that options keep, or `None` if the options are refused.
 fn kept(jobs: u8, keep: u32) -> Option<(u8, u32)> {
     match Options::new(jobs, keep) {
         Some(options) => Some((options.jobs(), options.keep())),
@@ -346,7 +403,10 @@ fn options_have_some_jobs(rt: HostRuntime) {
     assert_eq!(rt; kept(65, 1), None);
 }
 
-/// What opening answers: the outcomes of the first four edges, and whether all ended.
+/// Opens a run for these targets. Returns the outcomes of edges 0 to 3, and whether the run has ended.
+///
+/// # Errors
+/// Those of `State::open`.
 fn opened(
     alloc: Global,
     image: &Verified,
@@ -365,7 +425,8 @@ fn opened(
     Ok((outcomes, state.ended()))
 }
 
-/// Three edges, the second of which waits for the first and is built by default.
+/// The wanted edges are those that the targets need or, without targets, those that the defaults need. A target that
+/// isn't an edge is refused.
 #[test]
 fn edges_that_the_targets_need(rt: HostRuntime) {
     let waiting = SampleEdge {
@@ -394,7 +455,8 @@ fn edges_that_the_targets_need(rt: HostRuntime) {
     );
 }
 
-/// Nothing is built by default, and target 1 is no edge.
+/// If nothing is built by default, a run without targets has ended when it opens. A target that isn't an edge is
+/// refused.
 #[test]
 fn nothing_wanted(rt: HostRuntime) {
     let Some(image) = image_of(rt.alloc(), &[RUNNING], &[]) else {
@@ -408,25 +470,45 @@ fn nothing_wanted(rt: HostRuntime) {
     assert_eq!(rt; opened(rt.alloc(), &image, &[1]), Err(Refused::BadTarget));
 }
 
-/// Whether stamps are heard in a sweep, of an edge that reads a depfile of the paths `b` and `c`: another path, the first,
-/// behind which the last is asked for, the first again, and the last.
-fn sweeps(alloc: Global, image: &Verified, state: &mut State) -> Result<([bool; 5], Rush), Refused>
+/// Starts edge 0, which sweeps a depfile of the paths `b`, `c` and `d`, and offers it three rows of stamps: from the
+/// second path on, from the first, and from the last. Returns three results:
+///
+/// - the number of paths with a stamp, before the first row and after the second row
+/// - the number of stamps that are taken from each row
+/// - the rush up to the request for the depfile
+///
+/// # Errors
+/// Those of `apply` and `follow`, `Memory`, and `NotEnabled` if the edge doesn't sweep after the depfile.
+fn sweeps(
+    alloc: Global,
+    image: &Verified,
+    state: &mut State,
+) -> Result<([u32; 2], [usize; 3], Rush), Refused>
     requires { IsStateOf image.now state.old }
 {
     let _ = state.apply(image, Event::Start(0))?;
     let read = state.rush(image, 0);
-    let _ = state.follow(image, 0, depfile(alloc, b"a: b c\n")?)?;
-    let another = state.sweep_on(image, 0, b"c", 5);
-    let first = state.sweep_on(image, 0, b"b", 5);
-    let next = first && state.swept(image, 0) == b"c".as_slice();
-    let again = state.sweep_on(image, 0, b"b", 5);
-    let last = state.sweep_on(image, 0, b"c", 7);
+    let _ = state.follow(image, 0, depfile(alloc, b"a: b c d\n")?)?;
+    let (paths, begun) = match state.sweeping(image, 0) {
+        Some((paths, place)) => (paths.copy()?, place),
+        None => return Err(Refused::NotEnabled),
+    };
+    let second = state.sweep_row(image, 0, &paths, 1, &[5]);
+    let first = state.sweep_row(image, 0, &paths, 0, &[5, 0, 7]);
+    let swept = match state.sweeping(image, 0) {
+        Some((_paths, place)) => place,
+        None => 0,
+    };
+    let last = state.sweep_row(image, 0, &paths, 2, &[7]);
     let (_answered, _ends) = state.follow(image, 0, Reply::Stamp(7))?;
-    Ok(([another, first, next, again, last], read))
+    Ok(([begun, swept], [second, first, last], read))
 }
 
-/// The same, in a run of one job.
-fn opened_sweeps(alloc: Global, image: &Verified) -> Result<([bool; 5], Rush), Refused> {
+/// Opens a run of one job and calls `sweeps`.
+///
+/// # Errors
+/// Those of `State::open` and `sweeps`.
+fn opened_sweeps(alloc: Global, image: &Verified) -> Result<([u32; 2], [usize; 3], Rush), Refused> {
     let Some(options) = Options::new(1, 0) else {
         return Err(Refused::Memory);
     };
@@ -434,9 +516,10 @@ fn opened_sweeps(alloc: Global, image: &Verified) -> Result<([bool; 5], Rush), R
     sweeps(alloc, image, &mut state)
 }
 
-/// A stamp goes on where it is of the path that was asked for, and another is left.
+/// A row of stamps is taken only if it begins with the path that the edge asked for. The stamp of the last path is
+/// never taken from a row.
 #[test]
-fn edge_sweeps_on(rt: HostRuntime) {
+fn rows_of_a_sweep(rt: HostRuntime) {
     let code = [
         Instr::Zero,
         Instr::Flag(false),
@@ -455,6 +538,6 @@ fn edge_sweeps_on(rt: HostRuntime) {
         steps: 3,
         asked: true,
     };
-    let told = ([false, true, true, false, false], read);
+    let told = ([0, 2], [0, 2, 0], read);
     assert_eq!(rt; opened_sweeps(rt.alloc(), &image), Ok(told));
 }

@@ -1,9 +1,9 @@
-//! Each public function once, on command lines that ninja 1.11 was given.
+//! Tests each public function on command lines that were also given to ninja 1.11.
 
 use plan_options::*;
 use std::test::Fail;
 
-/// Whether these texts are those.
+/// Checks whether two lists have the same texts in the same order.
 fn are_texts(found: &[&[u8]], wanted: &[&[u8]]) -> bool {
     if found.len() != wanted.len() {
         return false;

@@ -1,4 +1,4 @@
-//! Places and failures, event by event, on images made by hand.
+//! Tests places of pools and failures, event by event, on images made by hand.
 
 ghost use Rattle.plan_machine.specs.Kept.{IsStateOf};
 
@@ -10,7 +10,8 @@ use plan_samples::{
 use plan_verify::Verified;
 use std::alloc::Global;
 
-/// Applies what is picked until a mark tells of a place: that mark, none where nothing is picked before.
+/// Applies picked events until an edge takes or releases a place, and returns that mark. Returns `None` if no event is
+/// picked before, or if 20 events give no such mark.
 fn next_place(state: &mut State, image: &Verified) -> Result<Option<Mark>, Refused>
     requires { IsStateOf image.now state.old }
     ensures { IsStateOf image.now state.new }
@@ -29,7 +30,7 @@ fn next_place(state: &mut State, image: &Verified) -> Result<Option<Mark>, Refus
     Ok(None)
 }
 
-/// Whether an edge takes the place of the pool, no other one does before it gives it back, and another one then.
+/// Checks whether an edge takes the place of the pool, and another edge takes it only after the first has released it.
 fn are_in_turn(state: &mut State, image: &Verified) -> Result<bool, Refused>
     requires { IsStateOf image.now state.old }
 {
@@ -48,7 +49,7 @@ fn are_in_turn(state: &mut State, image: &Verified) -> Result<bool, Refused>
     }
 }
 
-/// The same, of an image with four jobs.
+/// Like `are_in_turn`, but of a run of `image` with four jobs.
 fn opened_in_turn(alloc: Global, image: &Verified) -> Result<bool, Refused> {
     let Some(options) = Options::new(4, 0) else {
         return Err(Refused::Memory);
@@ -57,7 +58,7 @@ fn opened_in_turn(alloc: Global, image: &Verified) -> Result<bool, Refused> {
     are_in_turn(&mut state, image)
 }
 
-/// No step of an edge that the pool blocks is picked until the place is back.
+/// While an edge holds the only place of the pool, no other edge takes one. After its release another edge takes it.
 #[test]
 fn place_comes_back(rt: HostRuntime) {
     let Some(image) = three(rt.alloc()) else {
@@ -66,7 +67,7 @@ fn place_comes_back(rt: HostRuntime) {
     assert_eq!(rt; opened_in_turn(rt.alloc(), &image), Ok(true));
 }
 
-/// Events, a depfile without a colon for edge 0, and some more events.
+/// Returns the events `before`, a reply to edge 0 with a depfile that has no colon, and the events `after`.
 fn around_depfile(alloc: Global, before: &[Plain], after: &[Plain]) -> Result<Vec<Event>, Refused> {
     let mut events = events_of(alloc, before)?;
     events.push(Event::Reply(0, depfile(alloc, b"out a.h")?))?;
@@ -76,7 +77,7 @@ fn around_depfile(alloc: Global, before: &[Plain], after: &[Plain]) -> Result<Ve
     Ok(events)
 }
 
-/// What an edge leaves whose depfile has no colon, and then these events, with one job.
+/// Runs edge 0 with one job until its depfile, which has no colon, is refused. Then applies the events `after`.
 fn malformed(alloc: Global, image: &Verified, after: &[Plain]) -> Left {
     let before = [
         Plain::Start(0),
@@ -94,7 +95,7 @@ fn malformed(alloc: Global, image: &Verified, after: &[Plain]) -> Left {
     }
 }
 
-/// An edge whose depfile is refused holds no place.
+/// After its depfile is refused, an edge holds no place.
 #[test]
 fn malformed_depfile_holds_no_place(rt: HostRuntime) {
     let reading = SampleEdge {
@@ -115,7 +116,7 @@ fn malformed_depfile_holds_no_place(rt: HostRuntime) {
     );
 }
 
-/// What three edges leave of which the first fails, and a fourth that waits for it.
+/// Runs edges 0, 1 and 2 with one job and then skips edge 3. The command of edge 0 fails.
 fn failing(alloc: Global, image: &Verified, keep: u32) -> Left {
     let Ok(events) = run_of(alloc, &[(0, 2), (1, 0), (2, 0)], Some(Plain::Skip(3, 0))) else {
         return Err((0, Refused::Memory));
@@ -123,7 +124,7 @@ fn failing(alloc: Global, image: &Verified, keep: u32) -> Left {
     ran(alloc, image, 1, keep, &events)
 }
 
-/// With any failures borne the others run; with one they are stopped.
+/// After a failure, the other edges run if `keep` is 0 (any number may fail), and are stopped if it is 1.
 #[test]
 fn failure_beside_others(rt: HostRuntime) {
     let waiting = SampleEdge {

@@ -1,4 +1,4 @@
-//! How often the inner world is asked.
+//! Tests of how often a cache asks its inner world.
 
 use crate::worlds::{CountingWorld, STAMP};
 use plan_lanes::World;
@@ -10,11 +10,11 @@ use std::rt::Clock;
 use std::sync::Wait;
 use std::test::*;
 
-/// How many stamps of a moment are not kept after the first command.
+/// The number of stamps after each command that aren't kept.
 const SHORT: u64 = 1_024;
 
-/// Returns a cache over a world that counts, in which this many questions are enough.
-fn cache_of(
+/// Returns a cache over a counting world in which `enough` questions are enough.
+pub(crate) fn cache_of(
     rt: &HostRuntime,
     room: usize,
     enough: u64,
@@ -23,7 +23,7 @@ fn cache_of(
     StampCache::new(rt, rt.alloc(), world, room)
 }
 
-/// Returns the stamp of a path. None if a fault is replied.
+/// Asks for the stamp of a path. None if the reply isn't a stamp.
 fn stamp_in<W: World>(world: &W, path: &[u8]) -> Result<Option<u64>, AllocError> {
     match world.stat(0, path)? {
         Reply::Stamp(stamp) => Ok(Some(stamp)),
@@ -31,8 +31,8 @@ fn stamp_in<W: World>(world: &W, path: &[u8]) -> Result<Option<u64>, AllocError>
     }
 }
 
-/// Asks for the stamp of a path this often, and returns how many of these questions the inner world got.
-fn asked_for<R: Wait, C: Clock>(
+/// Asks for the stamp of a path `times` times, and returns how many of these questions reach the inner world.
+pub(crate) fn asked_for<R: Wait, C: Clock + AllocGlobal>(
     cache: &StampCache<'_, R, CountingWorld<C>>,
     path: &[u8],
     times: u64,
@@ -45,14 +45,14 @@ fn asked_for<R: Wait, C: Clock>(
 }
 
 /// Keeps an entry, which counts like a command, and returns whether it is kept.
-fn keep_entry<W: World>(alloc: Global, world: &W) -> Result<bool, AllocError> {
+pub(crate) fn keep_entry<W: World>(alloc: Global, world: &W) -> Result<bool, AllocError> {
     match world.keep(0, b"out", b"true", 1, &PathList::empty(alloc)?)? {
         Reply::Kept => Ok(true),
         _ => Ok(false),
     }
 }
 
-/// While no command runs, each path is asked for once. The replies are those of the inner world.
+/// Until a command begins, the inner world is asked once for each path. The replies are those of the inner world.
 #[test]
 fn one_question_for_each_path(rt: HostRuntime) -> Result<(), Fail> {
     let cache = cache_of(&rt, 64, 0)?;
@@ -65,7 +65,7 @@ fn one_question_for_each_path(rt: HostRuntime) -> Result<(), Fail> {
     Ok(())
 }
 
-/// Each command, and each entry that is kept, makes all paths be asked for again.
+/// After an entry is kept, which counts like a command, paths are asked for again.
 #[test]
 fn asked_again_after_each_command(rt: HostRuntime) -> Result<(), Fail> {
     let cache = cache_of(&rt, 64, 0)?;
@@ -77,7 +77,7 @@ fn asked_again_after_each_command(rt: HostRuntime) -> Result<(), Fail> {
     Ok(())
 }
 
-/// After the first command, a stamp is kept once many were offered since the last one.
+/// After the first command, a stamp is kept only if many stamps were offered since the last command.
 #[test]
 fn many_questions_between_two_commands(rt: HostRuntime) -> Result<(), Fail> {
     let cache = cache_of(&rt, 64, 0)?;
@@ -90,7 +90,7 @@ fn many_questions_between_two_commands(rt: HostRuntime) -> Result<(), Fail> {
     Ok(())
 }
 
-/// A fault isn't kept.
+/// A fault isn't kept: its path is asked for each time.
 #[test]
 fn faults_are_asked_for_again(rt: HostRuntime) -> Result<(), Fail> {
     let cache = cache_of(&rt, 64, 0)?;
@@ -101,7 +101,7 @@ fn faults_are_asked_for_again(rt: HostRuntime) -> Result<(), Fail> {
     Ok(())
 }
 
-/// A table without room keeps few stamps, and all replies stay right.
+/// A table that was created with room 0 keeps few stamps, and all replies are still right.
 #[test]
 fn full_table(rt: HostRuntime) -> Result<(), Fail> {
     let cache = cache_of(&rt, 0, 0)?;
@@ -111,5 +111,24 @@ fn full_table(rt: HostRuntime) -> Result<(), Fail> {
         }
     }
     assert_eq!(rt; cache.inner().asked(), 2 * 99 - 8);
+    Ok(())
+}
+
+/// A stamp that is asked for ahead is kept, and a kept stamp is returned ahead. After a command, paths are asked for
+/// again. A path without a stamp is asked for each time.
+#[test]
+fn stamps_ahead(rt: HostRuntime) -> Result<(), Fail> {
+    let cache = cache_of(&rt, 64, 0)?;
+    assert_eq!(rt; stamp_in(&cache, b"a")?, Some(STAMP));
+    for path in [b"a".as_slice(), b"b", b"ab", b"b"] {
+        assert_eq!(rt; cache.stat_ahead(path), Some(STAMP));
+        assert_eq!(rt; stamp_in(&cache, path)?, Some(STAMP));
+    }
+    assert_eq!(rt; cache.inner().asked(), 3);
+    assert_eq!(rt; keep_entry(rt.alloc(), &cache)?, true);
+    assert_eq!(rt; cache.stat_ahead(b"a"), Some(STAMP));
+    assert_eq!(rt; cache.stat_ahead(b""), None);
+    assert_eq!(rt; cache.stat_ahead(b""), None);
+    assert_eq!(rt; cache.inner().asked(), 6);
     Ok(())
 }

@@ -1,10 +1,10 @@
-//! A world that counts the questions that it is asked.
+//! A world that counts the questions for stamps.
 
 use plan_lanes::{Permit, World};
-use plan_machine::Reply;
+use plan_machine::{Recorded, Reply};
 use plan_text::RowList;
-use plan_verify::PathList;
-use std::alloc::AllocError;
+use plan_verify::{PathList, Words};
+use std::alloc::{AllocError, Global};
 use std::rt::Clock;
 use std::sync::atomic::{AtomicU64, Ordering};
 use std::thread;
@@ -13,8 +13,8 @@ use std::time::Duration;
 /// The stamp of each file whose path isn't empty.
 pub const STAMP: u64 = 7;
 
-/// A world that counts questions for stamps. An empty path is a fault. Each command ends with status 0, and one that waits
-/// too long with status 99:
+/// A world that counts questions for stamps. An empty path is a fault. The record has an entry of the output
+/// `recorded`, with the paths `first` and `second`. Each command exits with 0, or with 99 after it waited about 5 s:
 ///
 /// - A command with two outputs waits until enough questions were asked.
 /// - A command with three outputs waits until one with two outputs has begun.
@@ -23,12 +23,22 @@ pub struct CountingWorld<C> {
     clock: C,
     enough: u64,
     asked: AtomicU64,
-    /// How many commands with two outputs have begun.
+    /// The number of commands with two outputs that have begun.
     begun: AtomicU64,
 }
 
+/// Returns the only entry of the record.
+fn entry_in(alloc: Global) -> Result<Recorded, AllocError> {
+    let mut paths = RowList::new(alloc);
+    for path in [b"first".as_slice(), b"second"] {
+        paths.push(path)?;
+    }
+    let command = Words::of(alloc, b"true")?;
+    Recorded::new(alloc, command, 1, PathList::new(alloc, paths)?)
+}
+
 impl<C> CountingWorld<C> {
-    /// Creates a world in which this many questions are enough.
+    /// Creates a world in which a command with two outputs waits for `enough` questions.
     pub fn new(clock: C, enough: u64) -> CountingWorld<C> {
         CountingWorld {
             clock,
@@ -38,7 +48,7 @@ impl<C> CountingWorld<C> {
         }
     }
 
-    /// Returns how many questions for stamps were asked.
+    /// Returns the number of questions for stamps that were asked.
     pub fn asked(&self) -> u64 {
         self.asked.load(Ordering::SeqCst)
     }
@@ -53,10 +63,14 @@ impl<C> CountingWorld<C> {
     }
 }
 
-impl<C: Clock> World for CountingWorld<C> {
+impl<C: Clock + AllocGlobal> World for CountingWorld<C> {
     ghost use Rattle.std.specs.Prelude.{⊤};
 
     ghost allows = { λ number request reply. ⊤ };
+
+    fn keeps_journal() -> bool {
+        false
+    }
 
     fn stat(&self, _number: u64, path: &[u8]) -> Result<Reply, AllocError> {
         self.asked.fetch_add(1, Ordering::SeqCst);
@@ -67,7 +81,15 @@ impl<C: Clock> World for CountingWorld<C> {
         }
     }
 
-    fn recall(&self, _number: u64, _output: &[u8]) -> Result<Reply, AllocError> {
+    fn stat_ahead(&self, path: &[u8]) -> Option<u64> {
+        self.asked.fetch_add(1, Ordering::SeqCst);
+        if path.is_empty() { None } else { Some(STAMP) }
+    }
+
+    fn recall(&self, _number: u64, output: &[u8]) -> Result<Reply, AllocError> {
+        if output == b"recorded".as_slice() {
+            return Ok(Reply::Entry(entry_in(self.clock.alloc())?));
+        }
         Ok(Reply::Nothing)
     }
 

@@ -1,5 +1,5 @@
-//! The tests of plan_status and plan_trace. They stand apart from the code, since a
-//! crate with tests is proved twice.
+//! The tests of plan_status and plan_trace. They are in a crate of their own, because the code of a crate with tests is
+//! proved twice.
 #![tactic(auto)]
 
 #[cfg(test)]

@@ -1,4 +1,4 @@
-//! Each public function once, on an image made by hand.
+//! Tests the status lines and outcomes of an image made by hand.
 
 ghost use Rattle.plan_status.specs.Live.{AreEnds, IsUnused};
 
@@ -11,7 +11,7 @@ use std::alloc::{AllocError, Global};
 use std::io::{self, Write};
 use std::test::Fail;
 
-/// An edge of this sort, rank and label, which makes the file of its number and ends at once; the first is a console edge.
+/// Returns an edge that ends at once. `number` is its rank and its only output. Edge 0 is a console edge.
 fn edge(
     alloc: Global,
     sort: Sort,
@@ -30,7 +30,7 @@ fn edge(
     })
 }
 
-/// The edges a, b, c, and d, which waits for a; and a phony edge e.
+/// Returns the command edges a, b, c and d, and the phony edge e. Edge d waits for a.
 fn five_edges(alloc: Global) -> Result<Edges, AllocError> {
     let mut edges = Edges::new(alloc);
     for (number, sort, label) in [
@@ -46,7 +46,7 @@ fn five_edges(alloc: Global) -> Result<Edges, AllocError> {
     Ok(edges)
 }
 
-/// The pool of console edges alone.
+/// Returns a list whose only pool is `console`.
 fn console(alloc: Global) -> Result<Items<Pool>, AllocError> {
     let name = Items::new(Vec::from_slice(alloc, b"console".as_slice())?);
     let mut pools = Vec::new(alloc);
@@ -86,7 +86,7 @@ fn image_of(alloc: Global) -> Option<Verified> {
     }
 }
 
-/// Whether the lines of these marks are this text, and are printed so.
+/// Checks whether `status_lines` returns `text` for these marks, and `print` writes it.
 fn tell(alloc: Global, marks: &[Mark], text: &[u8]) -> bool {
     let Some(image) = image_of(alloc) else {
         return false;
@@ -99,8 +99,8 @@ fn tell(alloc: Global, marks: &[Mark], text: &[u8]) -> bool {
     }
 }
 
-/// Shows the lines of these marks through a ring for so many of them, prints some meanwhile and then the others; and
-/// whether all were written.
+/// Shows the marks, prints the lines that are in the ring, shows the marks again and settles. Returns whether all lines
+/// were written.
 fn settled<W: Sink>(image: &Verified, marks: &[Mark], ends: (Feed, Tap), out: &mut W) -> bool
     requires ends { AreEnds ends.0 ends.1 }
     requires unused { IsUnused ends.0 }
@@ -114,7 +114,7 @@ fn settled<W: Sink>(image: &Verified, marks: &[Mark], ends: (Feed, Tap), out: &m
     tap.settle(feed, image, 4, marks, out).is_ok()
 }
 
-/// A ring for one line, and one for all of them.
+/// Rings for 0, 1, 2 and 256 lines give the same text.
 #[test]
 fn lines_through_a_ring(rt: HostRuntime) {
     let alloc = rt.alloc();
@@ -141,7 +141,8 @@ fn lines_through_a_ring(rt: HostRuntime) {
     }
 }
 
-/// What a tap prints of these marks with no settlement behind it, and whether all of them were shown.
+/// Checks whether the feed shows all marks and the tap prints `text`, without settling. Returns `None` if memory
+/// runs out.
 fn printed_meanwhile(alloc: Global, image: &Verified, marks: &[Mark], text: &[u8]) -> Option<bool> {
     marks_may_come();
     let Ok((mut feed, mut tap)) = live(alloc, 256) else {
@@ -153,7 +154,7 @@ fn printed_meanwhile(alloc: Global, image: &Verified, marks: &[Mark], text: &[u8
     Some(feed.shown() == marks.len() && out.into_writer().as_slice() == text)
 }
 
-/// Lines are in the ring as soon as their marks are shown, and are written by a print.
+/// Lines are in the ring as soon as their marks are shown, and `print` writes them.
 #[test]
 fn lines_come_while_it_runs(rt: HostRuntime) {
     let alloc = rt.alloc();
@@ -172,7 +173,7 @@ fn lines_come_while_it_runs(rt: HostRuntime) {
     );
 }
 
-/// A write that failed in a print is told of by the settlement, though nothing is left to write.
+/// If a write in `print` failed, `settle` returns the error, although no line is left to write.
 #[test]
 fn failed_print_is_settled(rt: HostRuntime) {
     let alloc = rt.alloc();
@@ -184,7 +185,7 @@ fn failed_print_is_settled(rt: HostRuntime) {
     assert!(rt; !settled(&image, &marks, ends, &mut out));
 }
 
-/// How many of these marks may be told of.
+/// Returns the number of marks, from the first on, whose lines may be printed while the run goes on.
 fn free_of(alloc: Global, marks: &[Mark]) -> Option<usize> {
     let image = image_of(alloc)?;
     match free_marks(alloc, &image, marks) {
@@ -278,7 +279,7 @@ fn causes(rt: HostRuntime) {
     assert!(rt; tell(rt.alloc(), &marks, text.as_slice()));
 }
 
-/// A writer whose writes fail once so many have passed.
+/// A writer whose writes fail after `left` of them have succeeded.
 #[derive(Drop)]
 struct Failing {
     left: usize,
@@ -298,7 +299,7 @@ impl Write for Failing {
     }
 }
 
-/// Whether a print of three lines fails as a write does, where so many writes pass.
+/// Checks whether printing three lines fails with `Write` if `left` writes succeed.
 fn stops(alloc: Global, left: usize) -> bool {
     let Some(image) = image_of(alloc) else {
         return false;
@@ -319,7 +320,7 @@ fn failed_writes(rt: HostRuntime) {
     assert!(rt; !stops(rt.alloc(), 3));
 }
 
-/// Whether the outcomes of a state are this text, and whether all is done.
+/// Returns whether all wanted edges are done, or `None` if the printed outcomes of the state aren't `text`.
 fn shown(alloc: Global, image: &Verified, state: &State, text: &[u8]) -> Option<bool> {
     let mut out = Counted::new(Vec::new(alloc));
     if print_outcomes(alloc, image, state, &mut out).is_err() {
@@ -331,7 +332,7 @@ fn shown(alloc: Global, image: &Verified, state: &State, text: &[u8]) -> Option<
     Some(all_done(image, state))
 }
 
-/// Whether the outcomes behind these events are this text, and whether all is done.
+/// Like `shown`, but of the state after these events.
 fn replayed(alloc: Global, image: &Verified, events: &[Event], text: &[u8]) -> Option<bool> {
     let options = Options::new(1, 0)?;
     match replay(alloc, image, options, &[], events) {
@@ -340,7 +341,7 @@ fn replayed(alloc: Global, image: &Verified, events: &[Event], text: &[u8]) -> O
     }
 }
 
-/// Whether the outcomes of the image behind these events are this text, and whether all is done.
+/// Like `replayed`, but of the image that `image_of` returns.
 fn come_out(alloc: Global, events: &[Event], text: &[u8]) -> Option<bool> {
     let image = image_of(alloc)?;
     replayed(alloc, &image, events, text)

@@ -1,4 +1,4 @@
-//! Each public function once, on texts from outside.
+//! Tests `read_trace` and `write_trace` on texts made by hand.
 
 use plan_machine::{Event, Options, Reply};
 use plan_text::{Counted, Items};
@@ -27,7 +27,7 @@ reply 0 bytes -\n\
 reply 0 kept\n\
 reply 0 fault\n";
 
-/// Whether a text is a trace of so many targets and events, and is written as it was read.
+/// Checks whether `text` is a trace with the given numbers of targets and events, and is written as it was read.
 fn comes_back(alloc: Global, text: &[u8], targets: usize, events: usize) -> bool {
     let Ok(trace) = read_trace(alloc, text) else {
         return false;
@@ -47,7 +47,7 @@ fn traces_come_back(rt: HostRuntime) {
     assert!(rt; comes_back(rt.alloc(), ALL, 2, 15));
 }
 
-/// The first bad line of a text.
+/// Returns the number of the first bad line of `text`, or `None` if no line is refused.
 fn bad_line(alloc: Global, text: &[u8]) -> Option<u64> {
     match read_trace(alloc, text) {
         Err(TraceFault::BadTrace(line)) => Some(line),
@@ -91,7 +91,7 @@ fn what_lines_say(rt: HostRuntime) -> Result<(), Fail> {
     Ok(())
 }
 
-/// A writer that takes so many bytes, and whose writes fail behind them.
+/// A writer that takes at most `left` bytes. A write of more bytes than are left fails.
 #[derive(Drop)]
 struct Failing {
     left: usize,
@@ -111,7 +111,7 @@ impl Write for Failing {
     }
 }
 
-/// Whether writing a trace of one target and one event fails if the writer takes so many bytes.
+/// Checks whether writing a trace of one target and one event fails if the writer takes at most `left` bytes.
 fn stops(alloc: Global, left: usize) -> bool {
     let Some(options) = Options::new(1, 0) else {
         return false;

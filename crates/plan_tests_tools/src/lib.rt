@@ -1,4 +1,4 @@
-//! The tests of plan_tools. They stand apart from the code, since a crate with tests is proved twice.
+//! The tests of plan_tools. They are in a crate of their own because a crate with tests is proved twice.
 #![tactic(auto)]
 
 #[cfg(test)]

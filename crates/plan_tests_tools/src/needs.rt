@@ -1,11 +1,11 @@
-//! What targets need, what is built by default, and what no edge makes.
+//! Tests of the paths that targets need, the paths that are built by default, and outputs that the manifest lacks.
 
 use crate::project::{are_rows, graph_of, manifest_of, tree_of};
 use plan_text::RowList;
 use plan_tools::*;
 use std::alloc::Global;
 
-/// Whether a target needs these paths.
+/// Checks whether a target needs these paths. `expected` has one flag for each path of the graph.
 fn needed_are(alloc: Global, target: u32, expected: &[bool]) -> Option<bool> {
     let tree = tree_of(alloc)?;
     let manifest = manifest_of(alloc, &tree)?;
@@ -14,6 +14,8 @@ fn needed_are(alloc: Global, target: u32, expected: &[bool]) -> Option<bool> {
     Some(needed.as_slice() == expected)
 }
 
+/// Checks that a target needs itself and the inputs of its edge, including indirect ones, and that a source needs only
+/// itself.
 #[test]
 fn needed(rt: HostRuntime) {
     let of_app = [true, false, true, true, true, false, false, false];
@@ -22,7 +24,7 @@ fn needed(rt: HostRuntime) {
     assert!(rt; needed_are(rt.alloc(), 2, &of_source) == Some(true));
 }
 
-/// Whether these files are cleaned of a target.
+/// Checks whether `clean` of a target removes these files.
 fn cleaned_of_target_are(alloc: Global, target: u32, expected: &[&[u8]]) -> Option<bool> {
     let tree = tree_of(alloc)?;
     let manifest = manifest_of(alloc, &tree)?;
@@ -33,13 +35,14 @@ fn cleaned_of_target_are(alloc: Global, target: u32, expected: &[&[u8]]) -> Opti
     Some(are_rows(&files, expected))
 }
 
+/// Checks that `clean` of a target removes the outputs that the target needs and the depfiles of their edges.
 #[test]
 fn cleaned_files_of_a_target(rt: HostRuntime) {
     let of_all: [&[u8]; 4] = [b"a.o", b"a.o.d", b"app", b"app.d"];
     assert!(rt; cleaned_of_target_are(rt.alloc(), 5, &of_all) == Some(true));
 }
 
-/// Whether these are the roots, and what is built by default.
+/// Checks whether these paths are the roots and also the default targets.
 fn roots_are(alloc: Global, expected: &[u32]) -> Option<bool> {
     let tree = tree_of(alloc)?;
     let manifest = manifest_of(alloc, &tree)?;
@@ -49,12 +52,14 @@ fn roots_are(alloc: Global, expected: &[u32]) -> Option<bool> {
     Some(roots.as_slice() == expected && defaults.as_slice() == expected)
 }
 
+/// Checks that the outputs that no edge uses are the roots, and that they are the default targets of a manifest without
+/// `default`.
 #[test]
 fn roots(rt: HostRuntime) {
     assert!(rt; roots_are(rt.alloc(), &[1, 5, 6]) == Some(true));
 }
 
-/// Whether these of three paths are dead.
+/// Checks whether these are the dead outputs among `a.c`, `old.o` and `a.o`.
 fn dead_are(alloc: Global, expected: &[&[u8]]) -> Option<bool> {
     let tree = tree_of(alloc)?;
     let manifest = manifest_of(alloc, &tree)?;
@@ -67,6 +72,7 @@ fn dead_are(alloc: Global, expected: &[&[u8]]) -> Option<bool> {
     Some(are_rows(&dead, expected))
 }
 
+/// Checks that an output is dead if the manifest doesn't name it.
 #[test]
 fn dead(rt: HostRuntime) {
     let only: [&[u8]; 1] = [b"old.o"];

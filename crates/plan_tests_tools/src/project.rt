@@ -1,11 +1,11 @@
-//! A manifest that the tests share.
+//! The manifest that the tests share.
 
 use plan_graph::{Graph, graph};
 use plan_scope::{Manifest, Source, SourceFault, Tree, evaluate, load};
 use plan_text::RowList;
 use std::alloc::Global;
 
-/// A source that gives one text under each path.
+/// A source that returns the same text for each path.
 #[derive(Drop)]
 struct Text {
     bytes: &'static [u8],
@@ -26,13 +26,13 @@ impl Source for Text {
     }
 }
 
-/// A program of one source, a name for it, and the manifest itself. The paths of its graph are a.o, a.lst, a.c, a.h,
-/// app, all, build.ninja and conf.
+/// A manifest that builds a program of one source, an alias for it, and the manifest itself. The paths of its graph are
+/// a.o, a.lst, a.c, a.h, app, all, build.ninja and conf.
 const PROJECT: &[u8] =
     b"rule cc\n  command = cc $in -o $out\n  depfile = $out.d\nrule gen\n  command = gen \"x\"\n  generator = 1\n\
 build a.o | a.lst: cc a.c | a.h\nbuild app: cc a.o\nbuild all: phony app\nbuild build.ninja: gen conf\n";
 
-/// The statements of the project.
+/// Returns the statements of the project.
 pub fn tree_of(alloc: Global) -> Option<Tree> {
     match load(alloc, &mut Text { bytes: PROJECT }, b"build.ninja") {
         Ok(tree) => Some(tree),
@@ -40,7 +40,7 @@ pub fn tree_of(alloc: Global) -> Option<Tree> {
     }
 }
 
-/// What they mean.
+/// Evaluates the statements of the project.
 pub fn manifest_of(alloc: Global, tree: &Tree) -> Option<Manifest> {
     match evaluate(alloc, tree) {
         Ok(manifest) => Some(manifest),
@@ -48,7 +48,7 @@ pub fn manifest_of(alloc: Global, tree: &Tree) -> Option<Manifest> {
     }
 }
 
-/// Its graph.
+/// Returns the graph of the project's manifest.
 pub fn graph_of<'a>(alloc: Global, manifest: &'a Manifest) -> Option<Graph<'a>> {
     match graph(alloc, manifest) {
         Ok(graph) => Some(graph),
@@ -56,7 +56,7 @@ pub fn graph_of<'a>(alloc: Global, manifest: &'a Manifest) -> Option<Graph<'a>> 
     }
 }
 
-/// Whether the rows are these.
+/// Checks whether the rows are these.
 pub fn are_rows(rows: &RowList<u8>, expected: &[&[u8]]) -> bool {
     if rows.len() != expected.len() {
         return false;

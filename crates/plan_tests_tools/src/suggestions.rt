@@ -1,10 +1,10 @@
-//! The words that are meant.
+//! Tests of the suggestions for words that are misspelled.
 
 use crate::project::{graph_of, manifest_of, tree_of};
 use plan_tools::*;
 use std::alloc::Global;
 
-/// Whether this tool is meant; none if the text is empty.
+/// Checks whether this tool is suggested for a word. An empty `expected` means that none is suggested.
 fn tool_is(alloc: Global, word: &[u8], expected: &[u8]) -> Option<bool> {
     let tools = [
         b"clean".as_slice(),
@@ -15,6 +15,7 @@ fn tool_is(alloc: Global, word: &[u8], expected: &[u8]) -> Option<bool> {
     Some(tool.unwrap_or(b"") == expected)
 }
 
+/// Checks that the closest tool is suggested, or none if no tool is close.
 #[test]
 fn tools(rt: HostRuntime) {
     assert!(rt; tool_is(rt.alloc(), b"clena", b"clean") == Some(true));
@@ -22,7 +23,7 @@ fn tools(rt: HostRuntime) {
     assert!(rt; tool_is(rt.alloc(), b"targets", b"") == Some(true));
 }
 
-/// Whether this path is meant; none if the text is empty.
+/// Checks whether this path is suggested for a word. An empty `expected` means that none is suggested.
 fn path_is(alloc: Global, word: &[u8], expected: &[u8]) -> Option<bool> {
     let tree = tree_of(alloc)?;
     let manifest = manifest_of(alloc, &tree)?;
@@ -31,6 +32,7 @@ fn path_is(alloc: Global, word: &[u8], expected: &[u8]) -> Option<bool> {
     Some(path.unwrap_or(b"") == expected)
 }
 
+/// Checks that the closest path is suggested, or none if no path is close.
 #[test]
 fn paths(rt: HostRuntime) {
     assert!(rt; path_is(rt.alloc(), b"a.hh", b"a.h") == Some(true));

@@ -1,11 +1,11 @@
-//! Each public function once, on a manifest from outside.
+//! Calls of the public functions on the manifest that the tests share.
 
 use crate::project::{are_rows, graph_of, manifest_of, tree_of};
 use plan_text::Counted;
 use plan_tools::*;
 use std::alloc::Global;
 
-/// Whether the listing of all targets is this text.
+/// Checks whether the listing of all targets is this text.
 fn all_targets_are(alloc: Global, text: &[u8]) -> Option<bool> {
     let tree = tree_of(alloc)?;
     let manifest = manifest_of(alloc, &tree)?;
@@ -16,13 +16,14 @@ fn all_targets_are(alloc: Global, text: &[u8]) -> Option<bool> {
     Some(out.into_writer().as_slice() == text)
 }
 
+/// Checks that each output is listed with the rule of its edge.
 #[test]
 fn all_targets(rt: HostRuntime) {
     let text = b"a.o: cc\na.lst: cc\napp: cc\nall: phony\nbuild.ninja: gen\n".as_slice();
     assert!(rt; all_targets_are(rt.alloc(), text) == Some(true));
 }
 
-/// Whether the listing of sources is this text.
+/// Checks whether the listing of sources is this text.
 fn sources_are(alloc: Global, text: &[u8]) -> Option<bool> {
     let tree = tree_of(alloc)?;
     let manifest = manifest_of(alloc, &tree)?;
@@ -32,12 +33,13 @@ fn sources_are(alloc: Global, text: &[u8]) -> Option<bool> {
     Some(out.into_writer().as_slice() == text)
 }
 
+/// Checks that each input that no edge builds is listed.
 #[test]
 fn sources(rt: HostRuntime) {
     assert!(rt; sources_are(rt.alloc(), b"a.c\na.h\nconf\n".as_slice()) == Some(true));
 }
 
-/// Whether the compilation database of a rule is this text.
+/// Checks whether the compilation database of a rule is this text.
 fn database_is(alloc: Global, rule: &[u8], text: &[u8]) -> Option<bool> {
     let tree = tree_of(alloc)?;
     let manifest = manifest_of(alloc, &tree)?;
@@ -49,7 +51,7 @@ fn database_is(alloc: Global, rule: &[u8], text: &[u8]) -> Option<bool> {
     Some(out.into_writer().as_slice() == text)
 }
 
-/// What is listed of the commands that compile.
+/// The compilation database of the rule `cc`.
 const COMPILED: &[u8] = b"[
   {
     \"directory\": \"/w\",
@@ -66,7 +68,7 @@ const COMPILED: &[u8] = b"[
 ]
 ";
 
-/// What is listed of a command with quotes.
+/// The compilation database of the rule `gen`, whose command has quotes.
 const QUOTED: &[u8] = b"[
   {
     \"directory\": \"/w\",
@@ -77,6 +79,7 @@ const QUOTED: &[u8] = b"[
 ]
 ";
 
+/// Checks that the commands of a rule are listed as JSON, and that a rule that doesn't exist has none.
 #[test]
 fn compilation_database(rt: HostRuntime) {
     assert!(rt; database_is(rt.alloc(), b"cc", COMPILED) == Some(true));
@@ -84,7 +87,7 @@ fn compilation_database(rt: HostRuntime) {
     assert!(rt; database_is(rt.alloc(), b"none", b"[\n]\n") == Some(true));
 }
 
-/// Whether the commands that an edge needs are this text.
+/// Checks whether the commands that an edge needs are this text.
 fn commands_are(alloc: Global, edge: u32, text: &[u8]) -> Option<bool> {
     let tree = tree_of(alloc)?;
     let manifest = manifest_of(alloc, &tree)?;
@@ -95,6 +98,7 @@ fn commands_are(alloc: Global, edge: u32, text: &[u8]) -> Option<bool> {
     Some(out.into_writer().as_slice() == text)
 }
 
+/// Checks that the commands that an edge needs come in build order, and that an edge that the graph lacks is refused.
 #[test]
 fn commands_in_order(rt: HostRuntime) {
     let both = b"cc a.c -o a.o\ncc a.o -o app\n".as_slice();
@@ -103,7 +107,7 @@ fn commands_in_order(rt: HostRuntime) {
     assert!(rt; commands_are(rt.alloc(), 9, b"").is_none());
 }
 
-/// Whether the files of all commands are these.
+/// Checks whether the files of all commands are these. The files of generators count only if `generators` is set.
 fn cleaned_are(alloc: Global, generators: bool, expected: &[&[u8]]) -> Option<bool> {
     let tree = tree_of(alloc)?;
     let manifest = manifest_of(alloc, &tree)?;
@@ -113,7 +117,7 @@ fn cleaned_are(alloc: Global, generators: bool, expected: &[&[u8]]) -> Option<bo
     Some(are_rows(&files, expected))
 }
 
-/// Whether the files of a rule are these, of which the second path of the graph doesn't count.
+/// Checks whether the files of a rule are these if the second path of the graph, `a.lst`, is left out.
 fn cleaned_of_rule_are(alloc: Global, rule: &[u8], expected: &[&[u8]]) -> Option<bool> {
     let tree = tree_of(alloc)?;
     let manifest = manifest_of(alloc, &tree)?;
@@ -125,6 +129,8 @@ fn cleaned_of_rule_are(alloc: Global, rule: &[u8], expected: &[&[u8]]) -> Option
     Some(are_rows(&files, expected))
 }
 
+/// Checks that the files of a command are its outputs and its depfile, and that the files of generators are left out
+/// unless they are requested.
 #[test]
 fn cleaned_files(rt: HostRuntime) {
     let without: [&[u8]; 5] = [b"a.o", b"a.lst", b"a.o.d", b"app", b"app.d"];
@@ -133,6 +139,7 @@ fn cleaned_files(rt: HostRuntime) {
     assert!(rt; cleaned_are(rt.alloc(), true, &with) == Some(true));
 }
 
+/// Checks that the files of a rule are those of its commands, and that phony edges have none.
 #[test]
 fn cleaned_files_of_a_rule(rt: HostRuntime) {
     let counted: [&[u8]; 4] = [b"a.o", b"a.o.d", b"app", b"app.d"];

@@ -1,11 +1,12 @@
-//! The trees of targets, and the targets of a rule.
+//! Tests of the trees of targets and of the targets of a rule.
 
 use crate::project::{graph_of, manifest_of, tree_of};
 use plan_text::Counted;
 use plan_tools::*;
 use std::alloc::Global;
 
-/// Whether the trees of the roots are this text.
+/// Checks whether the trees of the roots are this text. They have at most `depth` levels, or all levels if `depth` is
+/// 0.
 fn trees_are(alloc: Global, depth: u32, text: &[u8]) -> Option<bool> {
     let tree = tree_of(alloc)?;
     let manifest = manifest_of(alloc, &tree)?;
@@ -17,7 +18,7 @@ fn trees_are(alloc: Global, depth: u32, text: &[u8]) -> Option<bool> {
     Some(out.into_writer().as_slice() == text)
 }
 
-/// The trees to the last level, as ninja 1.11.1 prints them.
+/// The trees with all levels, as ninja 1.11.1 prints them.
 const WHOLE: &[u8] = b"a.lst: cc
   a.c
   a.h
@@ -30,6 +31,7 @@ build.ninja: gen
   conf
 ";
 
+/// Checks that a tree has the requested number of levels, and that depth 0 means no limit.
 #[test]
 fn trees(rt: HostRuntime) {
     let roots = b"a.lst: cc\nall: phony\nbuild.ninja: gen\n".as_slice();
@@ -40,7 +42,7 @@ fn trees(rt: HostRuntime) {
     assert!(rt; trees_are(rt.alloc(), 0, WHOLE) == Some(true));
 }
 
-/// Whether the targets of a rule are this text.
+/// Checks whether the targets of a rule are this text.
 fn targets_are(alloc: Global, rule: &[u8], text: &[u8]) -> Option<bool> {
     let tree = tree_of(alloc)?;
     let manifest = manifest_of(alloc, &tree)?;
@@ -51,6 +53,8 @@ fn targets_are(alloc: Global, rule: &[u8], text: &[u8]) -> Option<bool> {
     Some(out.into_writer().as_slice() == text)
 }
 
+/// Checks that the targets of a rule are listed in the order of their names, and that a rule that doesn't exist has
+/// none.
 #[test]
 fn targets_of_a_rule(rt: HostRuntime) {
     assert!(rt; targets_are(rt.alloc(), b"cc", b"a.lst\na.o\napp\n") == Some(true));

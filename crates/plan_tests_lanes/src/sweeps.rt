@@ -1,0 +1,331 @@
+//! Runs of edges that sweep the paths of a depfile, in worlds that reply ahead for all paths, for most or for none.
+
+use plan_depfile::Parsed;
+use plan_image::{Edge, EdgeCode, Edges, Image, Instr, Parts, Sort};
+use plan_lanes::*;
+use plan_machine::{Depfile, Event, Options, Outcome, Refused, Reply};
+use plan_text::{Items, RowList};
+use plan_verify::{Cause, PathList, Verified, verify};
+use std::alloc::{AllocError, Global};
+use std::sync::Wait;
+use std::sync::atomic::{AtomicU64, Ordering};
+use std::test::*;
+use std::thread::Threads;
+
+/// Code that reads a depfile, asks for the stamp of each of its paths, and ends.
+const SWEEPS: [Instr; 9] = [
+    Instr::Zero,
+    Instr::Flag(false),
+    Instr::Text(0),
+    Instr::Deps,
+    Instr::Sweep,
+    Instr::Drop,
+    Instr::Drop,
+    Instr::Drop,
+    Instr::End,
+];
+
+/// Returns an edge with rank n and output file n, which sweeps the paths of a depfile.
+fn edge(alloc: Global, n: u32) -> Result<Edge, AllocError> {
+    Ok(Edge {
+        sort: Sort::Command,
+        pool: None,
+        rank: n,
+        label: 0,
+        outputs: Items::new(Vec::from_slice(alloc, [n].as_slice())?),
+        waits: Items::empty(alloc),
+        code: EdgeCode::Own(Items::new(Vec::from_slice(alloc, SWEEPS.as_slice())?)),
+    })
+}
+
+/// Returns the verified image of `count` edges that sweep.
+fn image_of(alloc: Global, count: u32) -> Result<Verified, Refused> {
+    let mut texts = RowList::new(alloc);
+    texts.push(b"x")?;
+    let mut files = RowList::new(alloc);
+    let mut edges = Edges::new(alloc);
+    let mut defaults = Vec::new(alloc);
+    for n in 0..count {
+        files.push([u8::try_from(n).unwrap_or(0).saturating_add(1)].as_slice())?;
+        edges.push(alloc, &edge(alloc, n)?)?;
+        defaults.push(n)?;
+    }
+    let parts = Parts {
+        texts,
+        files,
+        pools: Items::empty(alloc),
+        slots: Items::empty(alloc),
+        bodies: None,
+        edges,
+        defaults: Items::new(defaults),
+    };
+    let Ok(image) = Image::new(parts) else {
+        return Err(Refused::BadTarget);
+    };
+    verify(alloc, image).map_err(|_| Refused::BadTarget)
+}
+
+/// The paths that are answered ahead.
+#[derive(Clone, Copy, Debug, PartialEq)]
+enum Ahead {
+    None,
+    All,
+    /// All except every fifth path.
+    Most,
+}
+
+/// A world with one depfile. The stamp of path k is k + 1, but path `fault` has none. The world counts how often each
+/// path is asked for.
+#[derive(Drop)]
+struct Files {
+    alloc: Global,
+    paths: usize,
+    ahead: Ahead,
+    fault: usize,
+    asked: Vec<AtomicU64>,
+}
+
+/// Returns the number of a path of two letters, and 0 for any other path.
+fn number_of(path: &[u8]) -> usize {
+    match path {
+        [high, low] => usize::from(high.wrapping_sub(b'a')) * 26
+            + usize::from(low.wrapping_sub(b'a')),
+        _ => 0,
+    }
+}
+
+impl Files {
+    /// Creates a world with a depfile of this many paths.
+    fn new(alloc: Global, paths: usize, ahead: Ahead, fault: usize) -> Result<Files, AllocError> {
+        let mut asked = Vec::new(alloc);
+        for _ in 0..paths {
+            asked.push(AtomicU64::new(0))?;
+        }
+        Ok(Files {
+            alloc,
+            paths,
+            ahead,
+            fault,
+            asked,
+        })
+    }
+
+    /// Counts a question for a path.
+    fn count(&self, number: usize) {
+        if let Some(count) = self.asked.get(number) {
+            count.fetch_add(1, Ordering::SeqCst);
+        }
+    }
+
+    /// Checks whether the first `first` paths were asked for `times` times each, and the others never.
+    fn is_asked(&self, first: usize, times: u64) -> bool {
+        for number in 0..self.asked.len() {
+            let expected = if number < first { times } else { 0 };
+            if self.asked[number].load(Ordering::SeqCst) != expected {
+                return false;
+            }
+        }
+        true
+    }
+}
+
+/// Returns the reply with a depfile of this many paths, each of two letters.
+fn depfile(alloc: Global, paths: usize) -> Result<Reply, AllocError> {
+    let mut bytes = Vec::from_slice(alloc, b"o:")?;
+    for number in 0..paths {
+        let (high, low) = ((number / 26 % 26) as u8, (number % 26) as u8);
+        bytes.extend_from_slice([
+            b' ',
+            high.wrapping_add(b'a'),
+            low.wrapping_add(b'a'),
+        ].as_slice())?;
+    }
+    bytes.push(b'\n')?;
+    match Parsed::of(alloc, bytes) {
+        Ok(parsed) => Ok(Reply::Bytes(Depfile::new(alloc, parsed)?)),
+        Err(_) => Err(AllocError),
+    }
+}
+
+impl World for Files {
+    ghost use Rattle.std.specs.Prelude.{⊤};
+
+    ghost allows = { λ number request reply. ⊤ };
+
+    fn keeps_journal() -> bool {
+        false
+    }
+
+    fn stat(&self, _number: u64, path: &[u8]) -> Result<Reply, AllocError> {
+        let number = number_of(path);
+        self.count(number);
+        if number == self.fault {
+            return Ok(Reply::Fault);
+        }
+        Ok(Reply::Stamp((number as u64).saturating_add(1)))
+    }
+
+    fn stat_ahead(&self, path: &[u8]) -> Option<u64> {
+        let number = number_of(path);
+        let silent = match self.ahead {
+            Ahead::None => true,
+            Ahead::All => false,
+            Ahead::Most => number % 5 == 4,
+        };
+        if silent || number == self.fault {
+            return None;
+        }
+        self.count(number);
+        Some((number as u64).saturating_add(1))
+    }
+
+    fn recall(&self, _number: u64, _output: &[u8]) -> Result<Reply, AllocError> {
+        Ok(Reply::Nothing)
+    }
+
+    fn run(
+        &self,
+        _number: u64,
+        _command: &[u8],
+        _outputs: &RowList<u8>,
+        permit: Permit,
+    ) -> Result<Reply, AllocError> {
+        permit.spend();
+        Ok(Reply::Exit(0))
+    }
+
+    fn read_depfile(&self, _number: u64, _path: &[u8]) -> Result<Reply, AllocError> {
+        depfile(self.alloc, self.paths)
+    }
+
+    fn keep(
+        &self,
+        _number: u64,
+        _output: &[u8],
+        _command: &[u8],
+        _basis: u64,
+        _paths: &PathList,
+    ) -> Result<Reply, AllocError> {
+        Ok(Reply::Kept)
+    }
+}
+
+/// Runs `edges` edges that sweep, with at most `jobs` lanes.
+fn ran<R: Threads + Wait + Sync, W: World + Send + Sync>(
+    rt: &R,
+    alloc: Global,
+    edges: u32,
+    jobs: u8,
+    world: &W,
+) -> Result<Report, Refused> {
+    let image = image_of(alloc, edges)?;
+    let Some(options) = Options::new(jobs, 0) else {
+        return Err(Refused::BadTarget);
+    };
+    run_lanes(rt, alloc, &image, options, &[], world).map_err(|_| Refused::NotEnabled)
+}
+
+/// Checks whether all edges of a run have this outcome.
+fn came_out(report: &Report, edges: u32, outcome: Outcome) -> bool {
+    for edge in 0..edges {
+        if report.state.outcome(edge) != Some(outcome) {
+            return false;
+        }
+    }
+    true
+}
+
+/// The numbers of paths that a depfile has in these tests. A row has 64 paths.
+const COUNTS: [usize; 9] = [1, 2, 3, 63, 64, 65, 66, 128, 200];
+
+/// Each path of each edge is asked for once, whatever is answered ahead, by one lane and by four.
+#[test]
+fn each_path_of_each_edge(rt: HostRuntime) -> Result<(), Fail> {
+    for ahead in [Ahead::None, Ahead::All, Ahead::Most] {
+        for paths in COUNTS {
+            for jobs in [1u8, 4] {
+                let world = Files::new(rt.alloc(), paths, ahead, usize::MAX)?;
+                let Ok(report) = ran(&rt, rt.alloc(), 30, jobs, &world) else {
+                    panic!(&rt; "no report");
+                };
+                assert!(rt; report.kept.is_none());
+                assert!(rt; came_out(&report, 30, Outcome::Clean));
+                assert!(rt; world.is_asked(paths, 30));
+                assert_eq!(rt; report.journal.len(), (2 * paths + 11) * 30);
+            }
+        }
+    }
+    Ok(())
+}
+
+/// Returns an event as a number: the stamp if the event has one, and otherwise a number for its kind.
+fn plain(event: &Event) -> u64 {
+    match event {
+        Event::Start(_) => 1_000,
+        Event::Skip(..) => 1_001,
+        Event::Stop(_) => 1_002,
+        Event::Step(_) => 1_003,
+        Event::Reply(_, Reply::Stamp(stamp)) => *stamp,
+        Event::Reply(..) => 1_004,
+    }
+}
+
+/// Runs one edge, and returns its journal with each event as a number. The journal is kept.
+fn told<R: Threads + Wait + Sync>(
+    rt: &R,
+    alloc: Global,
+    world: &Files,
+) -> Result<Vec<u64>, Refused> {
+    let report = ran(rt, alloc, 1, 1, &Journaled::new(world))?;
+    let Some(journal) = &report.kept else {
+        return Err(Refused::NotEnabled);
+    };
+    let mut numbers = Vec::new(alloc);
+    let mut rest = journal.events();
+    for _ in 0..journal.len() {
+        match rest.split_first() {
+            Some((event, behind)) => {
+                numbers.push(plain(event.event()))?;
+                rest = behind;
+            }
+            None => return Ok(numbers),
+        }
+    }
+    Ok(numbers)
+}
+
+/// The journal of an edge is the same whether its paths are answered ahead or one by one.
+#[test]
+fn rows_and_single_questions(rt: HostRuntime) -> Result<(), Fail> {
+    let alloc = rt.alloc();
+    for paths in COUNTS {
+        for fault in [usize::MAX, 0, 1, 63, 64, 65] {
+            let Ok(single) = told(&rt, alloc, &Files::new(alloc, paths, Ahead::None, fault)?) else {
+                panic!(&rt; "no report");
+            };
+            for ahead in [Ahead::All, Ahead::Most] {
+                let Ok(numbers) = told(&rt, alloc, &Files::new(alloc, paths, ahead, fault)?) else {
+                    panic!(&rt; "no report");
+                };
+                assert_eq!(rt; numbers.as_slice(), single.as_slice());
+            }
+        }
+    }
+    Ok(())
+}
+
+/// A path without a stamp fails its edge, and no later path is asked for.
+#[test]
+fn path_without_a_stamp(rt: HostRuntime) -> Result<(), Fail> {
+    for ahead in [Ahead::None, Ahead::Most] {
+        for fault in [0usize, 1, 63, 64, 65] {
+            let world = Files::new(rt.alloc(), 70, ahead, fault)?;
+            let Ok(report) = ran(&rt, rt.alloc(), 8, 2, &world) else {
+                panic!(&rt; "no report");
+            };
+            assert!(rt; came_out(&report, 8, Outcome::Failed(Cause::StatFault)));
+            assert!(rt; world.is_asked(fault.saturating_add(1), 8));
+        }
+    }
+    Ok(())
+}
