@@ -34,4 +34,12 @@ def inputs_again() -> dict[str, str]:
     return {"build.ninja": "rule r\n  command = " + "$in" * 400_000 + "\nbuild a: r" + " b" * 50_000 + "\n"}
 
 
-SHAPES: list[Callable[[], dict[str, str]]] = [fan_out, again, small, empty_variables, inputs_again]
+def shared_variable() -> dict[str, str]:
+    """A variable of a million bytes in the commands of 120 edges."""
+    value = "".join(f" -I{number}" for number in range(123_000))
+    edges = "".join(f"build o{number}: r i{number}\n" for number in range(120))
+    return {"build.ninja": f"v ={value}\nrule r\n  command = cc -o $out $v $in\n{edges}"}
+
+
+SHAPES: list[Callable[[], dict[str, str]]] = [fan_out, again, small, empty_variables, inputs_again,
+                                             shared_variable]

@@ -2,11 +2,12 @@
 
 The calls are those for a file's times, for a command's start, for a write to the record, for a thread, and for memory
 (lib/failing.c, which is preloaded). A run in which one of the first three fails must end with status 1, and say which
-edge failed and why. A thread that can't be started is done without; if none can, that is 121. A run that is short of
-memory succeeds, or says of an edge that it failed, or is refused by a fault of memory after some of its lines. Each run
-that began must leave its whole trace, even if it is refused later: `replay` prints exactly the lines that were printed.
-Only if memory is refused to the lines themselves, they may be a prefix of these. The next run must always make both
-files right, and the run after it has nothing to do. Some runs begin with a record that has grown: if it can't be
+edge failed and why; only a path of a depfile may be asked about again, and then nothing has failed. A thread that can't
+be started is done without; if none can, that is 121. A run that is short of memory succeeds, or says of an edge that it
+failed, or is refused by a fault of memory after some of its lines. Each run that began must leave its whole trace, even
+if it is refused later: `replay` prints exactly the lines that were printed. Only if memory is refused to the lines
+themselves, they may be a prefix of these. The next run must always make both files right, and the run after it has
+nothing to do. Some runs begin with a record that has grown: if it can't be
 compacted, the run goes on with it as it is.
 """
 from __future__ import annotations
@@ -95,6 +96,14 @@ def is_told(sort: str, grown: bool, failing: int, done: Ended) -> bool:
     return done.status == 1 and is_explained and said is not None and said[1] in CAUSES[sort]
 
 
+def is_asked_again(program: str, library: pathlib.Path, jobs: str, done: Ended, folder: pathlib.Path) -> bool:
+    """Checks whether a run whose call for a file's times failed succeeded after one more such call than it needs."""
+    other = folder / "other"
+    other.mkdir()
+    begin(program, other, False)
+    return done[:3] == (0, WHOLE, "") and done.calls == run(program, other, library, "stat", jobs, 0).calls + 1
+
+
 def trace_fault(program: str, folder: pathlib.Path, done: Ended) -> str:
     """Returns what is wrong with the trace of a run, or an empty text."""
     if not (folder / "plan.trace").exists():
@@ -116,7 +125,8 @@ def fault(program: str, library: pathlib.Path, sort: str, jobs: str, grown: bool
     begin(program, folder, grown)
     done = run(program, folder, library, sort, jobs, failing)
     if not is_told(sort, grown, failing, done):
-        return f"it ended so: {done}"
+        if sort != "stat" or not is_asked_again(program, library, jobs, done, folder):
+            return f"it ended so: {done}"
     if said := trace_fault(program, folder, done):
         return said
     again = programs.run([program, "run", "plan.img"], folder)

@@ -299,17 +299,21 @@ def missing_manifest(place: Place) -> None:
 
 
 def refused_manifest(place: Place) -> None:
-    """A refusal has the line, its text and a caret, and plan_ninja's own line."""
+    """A refusal has its number and name, and the line with a caret; and advice if there is some."""
+    rule = "rule r\n  command = true\n"
     texts = {
-        "rule r\n  command = true\n  depfile\n": "ninja: error: build.ninja:3: expected '='\n  depfile\n"
-                                                 "         ^ near here\nplan: 11 ExpectedEquals build.ninja:33\n",
-        "build a: nosuch b\n": "ninja: error: build.ninja:1: unknown build rule\nbuild a: nosuch b\n^ near here\n"
-                               "plan: 31 UnknownRule build.ninja:0\n",
-        "include nosuch\n": "ninja: error: loading 'nosuch': No such file or directory\n"
-                            "plan: 20 SourceMissing nosuch:0\n",
-        "build a: phony b\nbuild b: phony a\n": "ninja: error: dependency cycle: a -> b\nplan: 51 Cycle a -> b\n",
-        "rule r\n  command = true\nbuild a: r\nbuild a: r\n": "ninja: error: multiple rules generate a\n"
-                                                             "plan: 50 TwoProducers a\n",
+        f"{rule}  depfile\n": "ninja: error: build.ninja:3: expected '=' [11 ExpectedEquals]\n"
+                              "  depfile\n         ^ near here\n",
+        "build a: nosuch b\n": "ninja: error: build.ninja:1: unknown build rule [31 UnknownRule]\n"
+                               "build a: nosuch b\n^ near here\n",
+        "include nosuch\n": "ninja: error: loading 'nosuch': No such file or directory [20 SourceMissing]\n",
+        "build a: phony b\nbuild b: phony a\n": "ninja: error: dependency cycle: a -> b [51 Cycle]\n",
+        f"{rule}build a: r\nbuild a: r\n": "ninja: error: multiple rules generate a [50 TwoProducers]\n",
+        f"{rule}build a: r\ndefault b\n": "ninja: error: unknown target 'b' [52 UnknownDefault]\n",
+        f"{rule}  rspfile = x\nbuild a: r\n":
+            "ninja: error: build.ninja:4: response files (rspfile) are not supported [37 Rspfile]\n"
+            "build a: r\n^ near here\nhelp: leave CMAKE_NINJA_FORCE_RESPONSE_FILE unset, or link static libraries in "
+            "between; otherwise use ninja\n",
     }
     for text, wanted in texts.items():
         programs.write({"build.ninja": text}, place.folder)
@@ -502,7 +506,7 @@ def manifest_as_target(place: Place) -> None:
 
 def closed_streams(place: Place) -> None:
     """Nothing is printed into files that were opened meanwhile, and lost output is a failure."""
-    lost = b"ninja: error: standard output can't be written\nplan: 133 FileFault -\n"
+    lost = b"ninja: error: standard output can't be written [133 FileFault]\n"
     for closed, wanted in ((">&-", (lost, 1)), ("<&- >&- 2>&-", (b"", 1)), ("<&-", (b"", 0)), ("2>&-", (b"", 0))):
         shutil.rmtree(place.folder)
         place.folder.mkdir()
@@ -528,7 +532,7 @@ def reader_goes_away(place: Place) -> None:
     error = child.stderr.read()
     child.stderr.close()
     expect("status", 1, child.wait(PATIENCE))
-    expect("said", b"ninja: error: standard output can't be written\nplan: 133 FileFault -\n", error)
+    expect("said", b"ninja: error: standard output can't be written [133 FileFault]\n", error)
 
 
 def as_stranger() -> None:

@@ -13,7 +13,7 @@ import pathlib
 from collections.abc import Iterator
 from typing import NamedTuple
 
-from lib import damaged_images, image_cases, programs, refusing
+from lib import damaged_images, hostile_codes, image_cases, programs, refusing
 from lib.image import spelled
 from lib.refusing import Ended
 from lib.suite import Case, LeftOut, Setting, check
@@ -85,6 +85,7 @@ TREES = [
 REFUSALS = {f"plan: {number} Memory\n".encode() for number in (22, 41, 54, 66, 86, 101, 111, 131)}
 
 # with slots of each kind, texts, a pool, jumps and waits; and one that is refused
+TREE_SLOTS = 70  # more than stand in one list
 IMAGES = ("verifier/pool_and_a_phony", "verifier/slots_set_in_another_order", "verifier/loads_of_own_and_waited_for",
           "verifier/values_of_each_kind", "verifier/second_wait_of_equal_rank")
 
@@ -172,7 +173,9 @@ def trials_of_manifests() -> Iterator[Trial]:
 
 
 def trials_of_images() -> Iterator[Trial]:
-    """Yields the images in both versions, for two commands that read images."""
+    """Yields the images in both versions, for two commands that read images, and one whose sets of slots are trees."""
+    grown = spelled(hostile_codes.growing_sets(TREE_SLOTS))
+    yield Trial(["verify", "plan.img"], {"plan.img": grown}, b"", CALLS["verify"])
     for case in damaged_images.named(IMAGES):
         said = b"" if case.answer.startswith("ok ") else f"plan: {case.answer}\n".encode()
         yield Trial(["verify", "plan.img"], {"plan.img": case.data}, said, CALLS["verify"])

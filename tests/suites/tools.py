@@ -453,14 +453,13 @@ def reader_goes_away(place: Place) -> None:
     error = child.stderr.read()
     child.stderr.close()
     expect("status", 1, child.wait(PATIENCE))
-    expect("said", b"ninja: error: standard output can't be written\nplan: 133 FileFault -\n", error)
+    expect("said", b"ninja: error: standard output can't be written [133 FileFault]\n", error)
 
 
 def refused_manifest(place: Place) -> None:
     """A refusal has the line and a caret, and nothing is removed."""
     programs.write({"build.ninja": "rule r\n  command = true\nbuild a: r\nbuild b: nosuch\n", "a": ""}, place.folder)
-    wanted = ("", "ninja: error: build.ninja:4: unknown build rule\nbuild b: nosuch\n^ near here\n"
-                  "plan: 31 UnknownRule build.ninja:35\n", 1)
+    wanted = ("", "ninja: error: build.ninja:4: unknown build rule [31 UnknownRule]\nbuild b: nosuch\n^ near here\n", 1)
     for words in ("clean", "commands", "compdb", "targets", "recompact", "cleandead"):
         expect(f"said by {words}", wanted, says(place, "-t", words))
     expect("files", ["a", "build.ninja"], sorted(os.listdir(place.folder)))
