@@ -1,9 +1,13 @@
 #!/usr/bin/env python3
 """Times builds with nothing to do: plan_build, ninja, and `plan_ninja run` with an image, in the same rounds.
 
-Trees are those of builds.py, and one of a single edge. Then `--version`, and CMake's configuration of a project with 47
-checks of the compiler, each of which is a build. Printed are medians of wall time, and of the processor's time where
-`time` is there; the processor's time of a short run is a mean of many. It is no test and asserts nothing.
+    bench/idle.py PROGRAM [OBJECTS[xHEADERS][:JOBS] ..]
+
+Trees are those of builds.py, and one of a single edge; without words 1, 1000, 10000 and 1000x200 at -j 4, and 10000 at
+-j 1 and -j 2. If there is a C compiler, floor.c is timed too: threads that only ask for as many stamps as `plan_ninja
+run`. Then `--version`, and CMake's configuration of a project with 47 checks of the compiler, each of which is a build.
+Printed are medians of wall time, and in brackets the least; ratios to ninja of both; and the peak of memory where
+`time` is there. It is no test and asserts nothing.
 """
 from __future__ import annotations
 
@@ -15,10 +19,11 @@ import sys
 import tempfile
 import time
 
-from builds import OF_EACH, written
+from builds import LIBRARY, OF_EACH, headers_of, written
 from timing import measured, programs
 
 ROUNDS, SHORT_ROUNDS, CONFIGURED = 15, 101, 5
+TREES = ["1", "1000", "10000", "1000x200", "10000:1", "10000:2"]
 CHECKS = 47
 CMAKE = """cmake_minimum_required(VERSION 3.13)
 project(checks C)
@@ -38,11 +43,13 @@ def seconds(words: list[str], folder: pathlib.Path) -> float:
 
 
 def show(what: str, runs: dict[str, list[float]]) -> None:
-    """Prints the medians, and the ratios to the first."""
-    medians = {name: statistics.median(found) * 1000 for name, found in runs.items()}
-    first = next(iter(medians.values()))
-    told = "   ".join(f"{name} {found:8.2f} ms ({first / found:.2f})" for name, found in medians.items())
-    print(f"{what:28} {told}", flush=True)
+    """Prints the medians and the least times, and their ratios to ninja's."""
+    ninja = runs["ninja"]
+    print(what, flush=True)
+    for name, found in runs.items():
+        middle, least = statistics.median(found) * 1000, min(found) * 1000
+        ratios = middle / statistics.median(ninja) / 1000, least / min(ninja) / 1000
+        print(f"  {name:12} {middle:8.2f} ({least:8.2f}) ms   {ratios[0]:5.2f} ({ratios[1]:5.2f})", flush=True)
 
 
 def rounds(builders: dict[str, list[str]], folders: dict[str, pathlib.Path], count: int) -> dict[str, list[float]]:
@@ -54,23 +61,55 @@ def rounds(builders: dict[str, list[str]], folders: dict[str, pathlib.Path], cou
     return runs
 
 
-def bench(program: str, front: str, ninja: str, count: int) -> None:
+def floor_in(home: pathlib.Path) -> str | None:
+    """Compiles floor.c, if there is a C compiler."""
+    compiler = shutil.which("cc")
+    if compiler is None:
+        return None
+    source, program = pathlib.Path(__file__).resolve().parent / "floor.c", home / "floor"
+    done = subprocess.run([compiler, "-O2", "-pthread", "-o", str(program), str(source)])
+    return str(program) if done.returncode == 0 else None
+
+
+def questions(count: int, each: int) -> list[str]:
+    """The paths whose stamps a run of the tree asks for: each output is asked for at the begin and at the end."""
+    paths = []
+    for number in range(count):
+        name = f"p{number // LIBRARY}/f{number}"
+        paths += [f"out/{name}.o", f"src/{name}.c", *headers_of(number, each), f"out/{name}.o"]
+    return paths + [f"out/lib{part}.a" for part in range(0, count, LIBRARY)]
+
+
+def bench(program: str, front: str, ninja: str, count: int, each: int, jobs: str) -> None:
     """Times builds of a tree of so many objects, or of one edge."""
-    with tempfile.TemporaryDirectory() as home:
-        builders = {"plan_build": [front], "ninja": [ninja], "plan_ninja": [program, "run", "plan.img"]}
-        builders = {name: [*words, "-j4"] for name, words in builders.items()}
-        folders = {name: pathlib.Path(home, name) for name in builders}
+    with tempfile.TemporaryDirectory() as name:
+        home = pathlib.Path(name)
+        builders = {"ninja": [ninja], "plan_build": [front], "plan_ninja": [program, "run", "plan.img"]}
+        builders = {name: [*words, "-j", jobs] for name, words in builders.items()}
+        folders = {name: home / name for name in builders}
         for folder in folders.values():
             folder.mkdir()
             if count == 1:
                 (folder / "build.ninja").write_text("rule t\n  command = : > $out\nbuild a: t in\n")
                 (folder / "in").touch()
             else:
-                written(count, folder, OF_EACH)
+                written(count, folder, each)
         measured([program, "compile", "build.ninja", "-o", "plan.img"], folders["plan_ninja"])
-        for name, words in builders.items():
-            measured(words, folders[name])
-        show(f"{count} objects, nothing to do", rounds(builders, folders, SHORT_ROUNDS if count < 100 else ROUNDS))
+        first = {name: measured(words, folders[name]).mebibytes for name, words in builders.items()}
+        floor = floor_in(home) if count > 1 else None
+        if floor:
+            (home / "questions").write_text("".join(f"{path}\n" for path in questions(count, each)))
+            builders["floor"], folders["floor"] = [floor, jobs, str(home / "questions")], folders["plan_ninja"]
+        idle = {name: measured(words, folders[name]).mebibytes for name, words in builders.items()}
+        runs = rounds(builders, folders, SHORT_ROUNDS if count == 1 else ROUNDS)
+        show(f"{count} objects of {each} headers, -j {jobs}, nothing to do", runs)
+        if floor:
+            least = min(runs["plan_ninja"]) / min(runs["floor"])
+            print(f"  plan_ninja takes {least:.2f} times the floor, by the least")
+        for what, found in (("first build", first), ("nothing to do", idle)):
+            ratios = {name: found[name] / max(found["ninja"], 0.1) for name in first}
+            told = ", ".join(f"{name} {found[name]:.1f} ({ratio:.2f})" for name, ratio in ratios.items())
+            print(f"  memory in MiB, {what}: {told}", flush=True)
 
 
 def configured(builder: str, source: pathlib.Path, home: pathlib.Path) -> float:
@@ -98,17 +137,22 @@ def bench_cmake(front: str, ninja: str) -> None:
 
 def main() -> None:
     parser = programs.arguments(__doc__)
+    parser.add_argument("trees", metavar="OBJECTS[xHEADERS][:JOBS]", nargs="*")
     asked = parser.parse_args()
     ninja, front = shutil.which("ninja"), programs.front(asked.program)
     if ninja is None:
         sys.exit("no ninja")
+    for tree in asked.trees or TREES:
+        objects, _, jobs = tree.partition(":")
+        count, _, each = objects.partition("x")
+        bench(asked.program, front, ninja, int(count), int(each or OF_EACH), jobs or "4")
+    if asked.trees:
+        return
     here = pathlib.Path.cwd()
     versions = {"plan_build": [front, "--version"], "ninja": [ninja, "--version"]}
     show("--version", rounds(versions, dict.fromkeys(versions, here), SHORT_ROUNDS))
     processor = [measured([front, "--version"], here).processor for _ in range(SHORT_ROUNDS)]
     print(f"--version takes {statistics.mean(processor) * 1000:.1f} ms of a processor")
-    for count in (1, 1_000, 10_000):
-        bench(asked.program, front, ninja, count)
     if shutil.which("cmake"):
         bench_cmake(front, ninja)
 

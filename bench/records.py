@@ -49,7 +49,7 @@ def main() -> None:
     with tempfile.TemporaryDirectory() as name:
         folder = pathlib.Path(name)
         (folder / "program").mkdir()
-        program = built(folder / "program", HERE / "read_record.rt.txt", ["plan_text", "plan_record"])
+        program = built(folder / "program", HERE / "read_record.rt.txt", ["plan_text", "plan_chunks", "plan_record"])
         record = b"".join(spelled())
         (folder / "record").write_bytes(record)
         said = [subprocess.check_output([program], cwd=folder, text=True) for _ in range(RUNS)]
