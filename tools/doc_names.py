@@ -38,7 +38,7 @@ FOREIGN: dict[str, set[str]] = {
     "using/refusals.md": {"ninja_required_version"},
     "developing/decisions.md": {"ninja_required_version"},
     "developing/proofs/patterns.md": {"into_iter_items", "with_x"},  # the kit's, and a form's placeholder
-    "developing/proofs/refused-forms.md": {"at_exit", "on_err"},
+    "developing/proofs/refused-forms.md": {"at_exit"},
 }
 
 
