@@ -144,6 +144,7 @@ bench: built
 	python3 bench/hostile.py $(PROGRAM)
 	python3 bench/upstream_trees.py $(PROGRAM)
 	python3 bench/images.py $(PROGRAM)
+	python3 bench/codes.py $(PROGRAM)
 	python3 bench/builds.py $(PROGRAM)
 	python3 bench/idle.py $(PROGRAM)
 	python3 bench/events.py $(PROGRAM)
