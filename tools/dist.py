@@ -48,7 +48,7 @@ Description: formally verified builder for Ninja manifests
 
 def version() -> str:
     """Returns the version that the program prints."""
-    text = (ROOT / "crates" / "plan_words" / "src" / "commands.rt").read_text()
+    text = (ROOT / "crates" / "plan_cli" / "src" / "commands.rt").read_text()
     return re.findall(r'const VERSION: &str = "([^"]+)"', text)[0]
 
 

@@ -56,7 +56,7 @@ def words(crate: str, listed: dict[str, list[str]]) -> list[str]:
 def main() -> None:
     parser = argparse.ArgumentParser(description=__doc__, formatter_class=argparse.RawDescriptionHelpFormatter)
     parser.add_argument("crate")
-    parser.add_argument("only", nargs="*", help="modules or functions, as board::rushing or stack::Stack::has_next")
+    parser.add_argument("only", nargs="*", help="modules or functions, as board::local_runs or edge::stack::Stack::pop")
     parser.add_argument("--holes", action="store_true")
     parser.add_argument("--fix-imports", action="store_true")
     parser.add_argument("--test", action="store_true", help="with the crate's tests")

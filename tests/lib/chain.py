@@ -8,7 +8,7 @@ from __future__ import annotations
 from collections.abc import Iterator
 
 from lib.image import Image
-from lib.plain_machine import Activity, Ended, Reply, Request, Value
+from lib.plain_machine import ActiveEdge, Ended, Reply, Request, Value
 
 MANIFEST = """rule gen
   command = sh gen.sh
@@ -47,11 +47,11 @@ class World:
         return "exit", 0
 
 
-def turn(activity: Activity, world: World) -> bool:
+def turn(active_edge: ActiveEdge, world: World) -> bool:
     """Does a step of an edge, with its reply if it asks; returns whether the edge goes on."""
     try:
-        if activity.step() == "asked" and activity.asked:
-            activity.hear(world.reply(activity.asked))
+        if active_edge.step() == "asked" and active_edge.asked:
+            active_edge.hear(world.reply(active_edge.asked))
     except Ended:
         return False
     return True
@@ -60,12 +60,12 @@ def turn(activity: Activity, world: World) -> bool:
 def ran(image: Image, world: World) -> list[bool]:
     """Runs all edges, and which of them ran their commands."""
     slots: list[Value | None] = [None] * len(image.slots)
-    activities = [Activity(image, number, slots) for number in range(len(image.edges))]
-    left = list(range(len(activities)))
+    active_edges = [ActiveEdge(image, number, slots) for number in range(len(image.edges))]
+    left = list(range(len(active_edges)))
     while left:
-        if not turn(activities[left[0]], world):
+        if not turn(active_edges[left[0]], world):
             left.pop(0)
-    return [activity.ran for activity in activities]
+    return [active_edge.ran for active_edge in active_edges]
 
 
 def faults(image: Image) -> Iterator[str]:

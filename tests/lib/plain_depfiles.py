@@ -11,8 +11,8 @@ from typing import List, Tuple, Union
 MOST = 16_777_216
 LONGEST_PATH = 4_096
 BLANK, COLON, HASH, DOLLAR, NEWLINE = "blank", "colon", "hash", "dollar", "newline"
-Sign = Union[int, str]  # a byte of a word, or one of these five
-Mark = Tuple[Sign, int, int]  # a sign, and the offsets of its first and its last byte
+Token = Union[int, str]  # a byte of a word, or one of these five
+Mark = Tuple[Token, int, int]  # a token, and the offsets of its first and its last byte
 
 
 class Fault(Exception):
@@ -23,22 +23,22 @@ class Fault(Exception):
         self.number, self.offset, self.met = number, offset, met
 
 
-def signs(text: bytes) -> Iterator[Mark]:
-    """Yields the signs of a text, bytes of words or one of the five, with the offsets of first and last byte."""
+def tokens(text: bytes) -> Iterator[Mark]:
+    """Yields the tokens of a text, bytes of words or one of the five, with the offsets of first and last byte."""
     at = 0
     while at < len(text):
-        sign, size = sign_at(text[at:at + 3])
-        yield sign, at, at + size - 1
+        token, size = token_at(text[at:at + 3])
+        yield token, at, at + size - 1
         at += size
 
 
-def sign_at(text: bytes) -> Tuple[Sign, int]:
-    """Returns the sign that a text begins with, and its length."""
-    for front, sign in [(b"\\\n", BLANK), (b"\\\r\n", BLANK), (b"\\ ", 32), (b"\\#", 35), (b"\\:", 58), (b"$$", 36),
-                        (b"$", DOLLAR), (b":", COLON), (b"#", HASH), (b" ", BLANK), (b"\t", BLANK), (b"\n", NEWLINE),
-                        (b"\r\n", NEWLINE)]:
+def token_at(text: bytes) -> Tuple[Token, int]:
+    """Returns the token that a text begins with, and its length."""
+    for front, token in [(b"\\\n", BLANK), (b"\\\r\n", BLANK), (b"\\ ", 32), (b"\\#", 35), (b"\\:", 58), (b"$$", 36),
+                         (b"$", DOLLAR), (b":", COLON), (b"#", HASH), (b" ", BLANK), (b"\t", BLANK), (b"\n", NEWLINE),
+                         (b"\r\n", NEWLINE)]:
         if text.startswith(front):
-            return sign, len(front)
+            return token, len(front)
     return text[0], 1
 
 
@@ -48,8 +48,8 @@ def canonical(path: bytes) -> bytes:
     return found[1:] if found.startswith(b"//") else found
 
 
-def split(marks: Sequence[Mark], end: Sign, stop: int) -> List[Tuple[List[Mark], int]]:
-    """Returns the parts between signs of a sort, each with the last byte of what ends it."""
+def split(marks: Sequence[Mark], end: Token, stop: int) -> List[Tuple[List[Mark], int]]:
+    """Returns the parts between tokens of a sort, each with the last byte of what ends it."""
     parts: List[Tuple[List[Mark], int]] = []
     part: List[Mark] = []
     for mark in marks:
@@ -63,15 +63,15 @@ def split(marks: Sequence[Mark], end: Sign, stop: int) -> List[Tuple[List[Mark],
 
 def check_dollars(marks: Sequence[Mark]) -> None:
     """Raises a fault if a dollar stands by itself."""
-    for sign, start, last in marks:
-        if sign == DOLLAR:
+    for token, start, last in marks:
+        if token == DOLLAR:
             raise Fault(92, start, last)
 
 
 def path_of(word: Sequence[Mark], met: int) -> bytes:
     """Returns the path of a word."""
     check_dollars(word)
-    path = bytes({COLON: 58, HASH: 35}.get(sign, sign) for sign, _, _ in word)
+    path = bytes({COLON: 58, HASH: 35}.get(token, token) for token, _, _ in word)
     if len(path) > LONGEST_PATH:
         raise Fault(94, word[0][1], met)
     return canonical(path)
@@ -96,7 +96,7 @@ def paths_of_line(marks: Sequence[Mark], stop: int) -> List[bytes]:
 def paths_of(text: bytes) -> List[bytes]:
     """Returns the paths of a depfile, each once."""
     paths: List[bytes] = []
-    for line, stop in split(list(signs(text)), NEWLINE, len(text)):
+    for line, stop in split(list(tokens(text)), NEWLINE, len(text)):
         paths += paths_of_line(line, stop)
     return list(dict.fromkeys(paths))
 

@@ -50,7 +50,7 @@ CALCULATIONS = {
     "Equal": ("TT", "F", lambda a, b: a == b)}
 
 
-class Activity:
+class ActiveEdge:
     """An edge that has begun and not ended."""
 
     def __init__(self, image: Image, number: int, slots: list[Value | None]) -> None:
@@ -215,10 +215,10 @@ class Outcome(NamedTuple):
     word: str
     of: Any = None
 
-    def is_well(self) -> bool:
+    def has_succeeded(self) -> bool:
         return self.word in ("Clean", "Ran")
 
-    def is_ill(self) -> bool:
+    def is_unsuccessful(self) -> bool:
         return self.word in ("Failed", "Skipped", "Stopped")
 
 
@@ -227,7 +227,7 @@ Mark = Tuple[Any, ...]
 
 
 class Machine:
-    """An image that is run: of each edge its outcome, its activity, or nothing where it hasn't begun."""
+    """An image that is run: of each edge its outcome, its active edge, or nothing if it has not begun."""
 
     def __init__(self, image: Image, jobs: int, keep: int, targets: list[int]) -> None:
         self.image, self.jobs, self.keep = image, jobs, keep
@@ -239,7 +239,7 @@ class Machine:
             if number not in wanted:
                 wanted.add(number)
                 ahead += image.edges[number].waits
-        self.edges: list[Outcome | Activity | None] = [
+        self.edges: list[Outcome | ActiveEdge | None] = [
             None if number in wanted else Outcome("NotWanted") for number in range(len(image.edges))]
 
     def has_ended(self) -> bool:
@@ -252,7 +252,7 @@ class Machine:
     def is_free(self, number: int) -> bool:
         """Checks whether an edge may take a place."""
         holders = [self.image.edges[other].pool for other, edge in enumerate(self.edges)
-                   if isinstance(edge, Activity) and edge.holding]
+                   if isinstance(edge, ActiveEdge) and edge.holding]
         pool = self.image.edges[number].pool
         depth = 0 if pool is None else self.image.pools[pool].depth
         return len(holders) < self.jobs and not self.is_spent() and (depth == 0 or holders.count(pool) < depth)
@@ -262,13 +262,13 @@ class Machine:
         for number, edge in enumerate(self.edges):
             if edge is None:
                 waits = [(wait, self.edges[wait]) for wait in self.image.edges[number].waits]
-                if all(isinstance(other, Outcome) and other.is_well() for _, other in waits):
+                if all(isinstance(other, Outcome) and other.has_succeeded() for _, other in waits):
                     yield "start", number
                 yield from (("skip", number, wait) for wait, other in waits
-                            if isinstance(other, Outcome) and other.is_ill())
+                            if isinstance(other, Outcome) and other.is_unsuccessful())
                 if self.is_spent():
                     yield "stop", number
-            elif isinstance(edge, Activity) and edge.asked is None:
+            elif isinstance(edge, ActiveEdge) and edge.asked is None:
                 if edge.is_at_take() and self.is_spent():
                     yield "stop", number
                 if not edge.is_at_take() or self.is_free(number):
@@ -276,7 +276,7 @@ class Machine:
 
     def awaiting(self) -> list[int]:
         """Returns the edges that await a reply."""
-        return [number for number, edge in enumerate(self.edges) if isinstance(edge, Activity) and edge.asked]
+        return [number for number, edge in enumerate(self.edges) if isinstance(edge, ActiveEdge) and edge.asked]
 
     def apply(self, event: Event) -> Mark | None:
         """Does an event and gives its mark; nothing where it isn't enabled."""
@@ -285,7 +285,7 @@ class Machine:
         if word != "reply" and event not in self.events():
             return None
         if word == "start":
-            self.edges[number] = Activity(self.image, number, self.slots)
+            self.edges[number] = ActiveEdge(self.image, number, self.slots)
             return "Started", number
         if word == "skip":
             self.edges[number] = Outcome("Skipped", rest[0])
@@ -293,11 +293,11 @@ class Machine:
         if word == "stop":
             self.edges[number] = Outcome("Stopped")
             return "Stopped", number
-        if not isinstance(edge, Activity) or (word == "reply" and edge.asked is None):
+        if not isinstance(edge, ActiveEdge) or (word == "reply" and edge.asked is None):
             return None
         return self.turn(number, edge, rest[0] if word == "reply" else None)
 
-    def turn(self, number: int, edge: Activity, reply: Reply | None) -> Mark | None:
+    def turn(self, number: int, edge: ActiveEdge, reply: Reply | None) -> Mark | None:
         """Does a step of an edge that runs, or gives it a reply."""
         try:
             if reply is None:

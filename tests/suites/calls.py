@@ -39,11 +39,12 @@ UNPROVED = TESTS.parent / "tools" / "unproved.py"
 # the calls of each part that take memory
 PARTS = {
     "depfiles": ("Reader::feed", "Reader::finish", "Paths::copy", "Gather::feed", "Gather::finish", "Parsed::of",
-                 "Parsed::copy", "Entry::new", "append", "load", "Record::entry", "Record::add", "Record::compacted"),
+                 "Parsed::copy", "Entry::new", "append", "load", "Record::entry", "Record::add",
+                 "Record::compacted_bytes"),
     "images": ("compile", "edge_code", "read_image", "split", "Body::new", "Edges::reserve", "Edges::push",
                "Edges::push_ref", "verify", "verify_by", "Words::of", "PathList::new", "PathList::empty"),
-    "machine": ("State::open", "State::apply", "State::follow", "Recorded::new", "Depfile::new", "Reply::journaled",
-                "replay", "same_end"),
+    "machine": ("State::open", "State::apply", "State::follow", "Recorded::new", "Depfile::new",
+                "Reply::copy_for_journal", "replay", "same_end"),
     "stamps": ("StampCache::new",),
     "tools": ("rules_of", "chosen_edges", "command_edges", "edges_of_rules", "build_order", "needed_paths",
               "edges_of_paths", "files_of_edges", "dead_outputs", "default_paths", "root_paths", "write_target_tree",
@@ -52,7 +53,7 @@ PARTS = {
 # the parts that run lanes, and what they may print: the number of a fault, or 0
 LANES = ("lanes", "shown")
 NUMBERS = (b"0\n", b"111\n", b"120\n", b"121\n")
-CRATES = ["plan_text", "plan_chunks", "plan_depfile", "plan_record", "plan_image", "plan_verify", "plan_books",
+CRATES = ["plan_text", "plan_chunks", "plan_depfile", "plan_record", "plan_image", "plan_verify", "plan_schedule",
           "plan_machine", "plan_history", "plan_journal", "plan_status", "plan_lanes", "plan_stamps", "plan_parse",
           "plan_scope", "plan_graph", "plan_compile", "plan_tools"]
 OWN = 3  # the status if the program has no memory for what it passes

@@ -14,7 +14,7 @@ from typing import Callable, Tuple
 
 from lib import chain, damaged_images, plain_reader, programs, traces
 from lib.image import Image
-from lib.plain_machine import Activity, Event, Machine, Reply
+from lib.plain_machine import ActiveEdge, Event, Machine, Reply
 from lib.suite import Case, Setting
 
 # What fails instead of each reply, and the cause that is then printed of its edge.
@@ -34,7 +34,7 @@ def events_of(image: Image, world: chain.World, failing: int) -> list[Event]:
         if event is None:
             number = machine.awaiting()[0]
             edge = machine.edges[number]
-            assert isinstance(edge, Activity) and edge.asked
+            assert isinstance(edge, ActiveEdge) and edge.asked
             reply = world.reply(edge.asked)
             event = "reply", number, FAILURES[edge.asked[0]][0] if len(world.asked) == failing else reply
         assert machine.apply(event) is not None, event

@@ -18,7 +18,7 @@ from typing import Tuple
 
 from lib import chain, plain_reader, plain_rule, programs
 from lib.image import SORTS, Edge, Image, code_of
-from lib.plain_machine import Activity, Ended, Failed, Value
+from lib.plain_machine import ActiveEdge, Ended, Failed, Value
 from lib.plain_rule import Facts, Made, Reply, Request, Source
 from lib.random_builds import POOLS, Build, Writer
 from lib.random_replies import Replies
@@ -128,7 +128,7 @@ class Run:
                 yield self.fault(number, build)
 
     def fault(self, number: int, build: Build) -> str | None:
-        asking, code = plain_rule.edge(self.facts(build)), Activity(self.image, number, self.slots)
+        asking, code = plain_rule.edge(self.facts(build)), ActiveEdge(self.image, number, self.slots)
         reply: Reply | None = None
         while True:
             wanted, found = self.by_rule(asking, reply, build), by_code(code, reply)
@@ -149,7 +149,7 @@ class Run:
             return "ended", stop.value.ran
 
 
-def by_code(code: Activity, reply: Reply | None) -> Request | Ending:
+def by_code(code: ActiveEdge, reply: Reply | None) -> Request | Ending:
     """Returns what the code asks next, or how it ends."""
     try:
         if reply is not None and not code.hear(reply):

@@ -17,7 +17,7 @@ from collections.abc import Iterator
 
 from lib import damaged_images, plain_reader, plain_verifier, programs, random_builds, random_images, traces
 from lib.image import Image
-from lib.plain_machine import Activity, Cause, Event, Machine, Mark, Outcome
+from lib.plain_machine import ActiveEdge, Cause, Event, Machine, Mark, Outcome
 from lib.random_replies import Replies
 from lib.suite import Case, Setting
 
@@ -43,7 +43,7 @@ class Walk:
 
     def reply(self, number: int) -> Event:
         edge = self.machine.edges[number]
-        assert isinstance(edge, Activity) and edge.asked
+        assert isinstance(edge, ActiveEdge) and edge.asked
         if edge.asked[0] == "deps" and self.replies.one_in(20):
             return "reply", number, ("bytes", b"no colon here\n")
         texts = [self.image.texts[value] for name, value in edge.code if name == "Text" and value is not None]
@@ -141,7 +141,7 @@ class Teller:
         return b"".join(one + b"\n" for one in itertools.chain(self.lines(), self.outcomes()))
 
     def status(self) -> int:
-        return 1 if any(isinstance(edge, Outcome) and edge.is_ill() for edge in self.machine.edges) else 0
+        return 1 if any(isinstance(edge, Outcome) and edge.is_unsuccessful() for edge in self.machine.edges) else 0
 
 
 def refused_at(walk: Walk, events: list[Event]) -> int | None:

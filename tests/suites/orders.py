@@ -17,7 +17,7 @@ from typing import Tuple
 
 from lib import damaged_images, plain_reader, programs, traces
 from lib.image import Image
-from lib.plain_machine import Activity, Event, Machine, Outcome, Reply
+from lib.plain_machine import ActiveEdge, Event, Machine, Outcome, Reply
 from lib.random_replies import Replies
 from lib.suite import Case, Setting
 from suites import machine
@@ -40,7 +40,7 @@ class Order:
 
     def reply(self, number: int) -> Reply:
         edge = self.machine.edges[number]
-        assert isinstance(edge, Activity) and edge.asked
+        assert isinstance(edge, ActiveEdge) and edge.asked
         turned = 1 if number == self.other else 0
         replies = Replies(hash((self.seed, number, self.heard[number], turned)), 12)
         self.heard[number] += 1
@@ -60,7 +60,7 @@ def opened(image: Image, jobs: int) -> Machine:
     return Machine(image, jobs, 0, [])
 
 
-def alike(one: Outcome | Activity | None, other: Outcome | Activity | None) -> bool:
+def alike(one: Outcome | ActiveEdge | None, other: Outcome | ActiveEdge | None) -> bool:
     """Checks whether two edges have the same outcome; a skipped edge may name any edge."""
     if not isinstance(one, Outcome) or not isinstance(other, Outcome):
         return False

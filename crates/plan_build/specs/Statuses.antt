@@ -58,7 +58,7 @@ pub record EndedWell (rule : Rule) (a : Asked) : Type 0 where
   pub ended : Ended rule a done
   pub well : exit_status done ≡ 0
 
--- What a status of 0 says of a command line without `-n`: its build ended well. Or one of its targets is unknown to the
+-- What a status of 0 says of a command line without `-n`: its build succeeded. Or one of its targets is unknown to the
 -- manifest, and the words name other paths.
 abbrev pub SaysBuilt : Rule → List Argument → (default : ℕ) → (status : ℕ) → Type 0
 SaysBuilt rule line default status =

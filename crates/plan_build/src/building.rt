@@ -33,7 +33,7 @@ pub struct Builder<'a, R, E, W> {
     /// The lock of standard output.
     pub screen: &'a Mutex<()>,
     /// Unparked before a command starts, so that the lines so far are printed first.
-    pub bell: &'a Parker,
+    pub parker: &'a Parker,
 }
 
 impl<
@@ -68,7 +68,7 @@ impl<
                 &mut manifests,
                 &order,
                 self.world,
-                self.bell,
+                self.parker,
                 out,
             )
         } else {
@@ -78,7 +78,7 @@ impl<
                 &mut manifests,
                 &order,
                 self.world,
-                self.bell,
+                self.parker,
                 out,
             )
         };

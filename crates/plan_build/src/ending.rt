@@ -11,7 +11,7 @@ use std::alloc::Global;
 const TRIES: &[u8] = b"100 tries, perhaps system time is not set";
 
 /// Returns ninja's reason for a failed build. `failures` is the value of `-k`: 0 allows any number of failures.
-fn failed(failures: u32) -> &'static [u8] {
+fn failure_text(failures: u32) -> &'static [u8] {
     match failures {
         0 => b"cannot make progress due to previous errors",
         1 => b"subcommand failed",
@@ -39,7 +39,7 @@ fn refuse_manifest<E: Print>(
             TRIES,
         );
     } else {
-        let reason = failed(failures);
+        let reason = failure_text(failures);
         complain_of(
             alloc,
             errors,
@@ -68,7 +68,7 @@ pub fn end_build<R: Print + AllocGlobal, E: Print>(
     ensures { result ≡ 0 → exit_status done ≡ 0 }
 {
     let status = done.status();
-    let reason = failed(failures);
+    let reason = failure_text(failures);
     match done {
         Done::Built => status,
         Done::UpToDate => status_after(say(rt, errors, &[b"ninja: no work to do.\n"]), status),

@@ -143,7 +143,7 @@ fn shown(
 ///
 /// # Errors
 /// If memory runs out, or the file can't be read.
-pub fn pointed<R: Files + Eprint + AllocGlobal>(
+pub fn error_text<R: Files + Eprint + AllocGlobal>(
     rt: &R,
     place: Place<'_>,
     sentence: &[u8],

@@ -2,8 +2,8 @@
 
 ghost use Rattle.std.specs.Prelude.{◌≡◌};
 
-use crate::pointing::{Message, Place, place_in, pointed};
-use crate::said::{LOST_OUTPUT, NO_ROOM, REFUSED, complain, complain_of, joined, reason_of};
+use crate::pointing::{Message, Place, error_text, place_in};
+use crate::said::{LOST_OUTPUT, NO_ROOM, REFUSED, complain, complain_of, concatenate, reason_of};
 use crate::sentences::{advice_for, sentence_of};
 use crate::words::RECORD;
 use plan_commands::{PlanFault, file_fault, no_memory};
@@ -37,7 +37,7 @@ fn code_of(alloc: Global, number: u8) -> Result<Vec<u8>, AllocError> {
     let line = fault.line(alloc)?;
     let end = line.len().saturating_sub(1);
     let code = line.get(PLAN.len()..end).unwrap_or(&[]);
-    joined(alloc, &[b" [", code, b"]\n"])
+    concatenate(alloc, &[b" [", code, b"]\n"])
 }
 
 /// Returns the message for a fault: the first line `head` with the fault's number and name, `lines`, and advice if there
@@ -61,7 +61,7 @@ fn complain_at<E: Print>(alloc: Global, errors: &E, head: &[u8], lines: &[u8], n
 
 /// Writes the message for a fault to standard error in one piece. These texts are its first line.
 fn complain_with<E: Print>(alloc: Global, errors: &E, head: &[&[u8]], number: u8) {
-    match joined(alloc, head) {
+    match concatenate(alloc, head) {
         Ok(head) => complain_at(alloc, errors, &head, &[], number),
         Err(_) => {
             let _ = errors.write_all(NO_ROOM);
@@ -182,7 +182,7 @@ fn point_at<R: Files + Eprint + AllocGlobal, E: Print>(
     number: u8,
     rest: &[u8],
 ) {
-    match pointed(rt, place, sentence_of(number)) {
+    match error_text(rt, place, sentence_of(number)) {
         Ok(Message { head, lines }) => complain_at(rt.alloc(), errors, &head, &lines, number),
         Err(_) => refuse_simply(rt.alloc(), errors, sentence_of(number), rest, number),
     }

@@ -19,7 +19,7 @@ pub const NO_ROOM: &[u8] = b"ninja: fatal: out of memory [131 Memory]\n";
 ///
 /// # Errors
 /// If memory runs out.
-pub fn joined(alloc: Global, parts: &[&[u8]]) -> Result<Vec<u8>, AllocError> {
+pub fn concatenate(alloc: Global, parts: &[&[u8]]) -> Result<Vec<u8>, AllocError> {
     let mut text = Vec::new(alloc);
     for part in parts {
         text.extend_from_slice(*part)?;
@@ -29,7 +29,7 @@ pub fn joined(alloc: Global, parts: &[&[u8]]) -> Result<Vec<u8>, AllocError> {
 
 /// Writes texts to standard error in one piece. If memory runs out, reports that instead.
 pub fn complain<E: Print>(alloc: Global, errors: &E, parts: &[&[u8]]) {
-    let _ = match joined(alloc, parts) {
+    let _ = match concatenate(alloc, parts) {
         Ok(text) => errors.write_all(&text),
         Err(_) => errors.write_all(NO_ROOM),
     };
@@ -55,7 +55,7 @@ pub fn say<R: Print + AllocGlobal, E: Print>(rt: &R, errors: &E, parts: &[&[u8]]
     ensures { IfErr result (λ status. status ≡ 1) }
 {
     let alloc = rt.alloc();
-    let written = match joined(alloc, parts) {
+    let written = match concatenate(alloc, parts) {
         Ok(text) => io::writer(rt).write_all(&text).is_ok(),
         Err(_) => false,
     };

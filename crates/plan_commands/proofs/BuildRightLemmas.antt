@@ -11,7 +11,7 @@ use Rattle.plan_verify.specs.Turn.{Meaning}
 use Rattle.plan_compile.specs.declared.baseline.OutOfDateRule.TheVariants.{Stricter}
 use Rattle.plan_compile.specs.Images.{compiled}
 use Rattle.plan_compile.specs.Rule.{Command}
-use Rattle.plan_compile.specs.Talk.{Left}
+use Rattle.plan_compile.specs.InteractionTree.{Left}
 use Rattle.plan_machine.specs.Limits.{Limits}
 use Rattle.plan_machine.specs.State.{Over, outcome_at}
 use Rattle.plan_machine.specs.Step.{ended}
@@ -27,7 +27,7 @@ use Rattle.plan_commands.specs.Building.{EndsAs, HasRunNothing, exit_status, ope
 use Rattle.plan_commands.specs.BuildIsRight.{BuildIsRight, IdleBuildsRunNothing}
 
 -- Status 0 is given only if all wanted edges succeeded.
-all_succeeded : (p : Parts) (r : Report) (d : Done) → exit_status d ≡ 0 → EndsAs p r d → all_done p r.state.going.now ≡ true
+all_succeeded : (p : Parts) (r : Report) (d : Done) → exit_status d ≡ 0 → EndsAs p r d → all_done p r.state.run_state.now ≡ true
 all_succeeded p r done.Built zero ends = ends.0
 all_succeeded p r done.UpToDate zero ends = ends.0
 all_succeeded p r done.Failed zero ends = absurd cc
@@ -36,9 +36,9 @@ all_succeeded p r done.NeverSettles zero ends = absurd ends
 
 -- The tables of a run, if they are the image of a manifest.
 run_is_right : (rule : Rule) → FinishedRunsAreRight rule → (m : Manifest) (g : Graph) → IsSound m → IsGraph m g → (limits : Limits) (edges : List ℕ) (r : Report) (p : Parts) → p ≡ compiled Stricter m g
-    → (run : IsRunOf rule (opened p limits edges) r) → all_done p r.state.going.now ≡ true → AllIsBuilt rule Stricter m g edges r run.left
+    → (run : IsRunOf rule (opened p limits edges) r) → all_done p r.state.run_state.now ≡ true → AllIsBuilt rule Stricter m g edges r run.left
 run_is_right rule right m g sound graph limits edges r p same =
-    subst (λ (q : Parts). (run : IsRunOf rule (opened q limits edges) r) → all_done q r.state.going.now ≡ true → AllIsBuilt rule Stricter m g edges r run.left) (sym same) (right Stricter m g sound graph limits edges r)
+    subst (λ (q : Parts). (run : IsRunOf rule (opened q limits edges) r) → all_done q r.state.run_state.now ≡ true → AllIsBuilt rule Stricter m g edges r run.left) (sym same) (right Stricter m g sound graph limits edges r)
 
 pub build_is_right : (gives : FileContents) (rule : Rule) → FinishedRunsAreRight rule → BuildIsRight gives rule
 build_is_right gives rule right a old new d zero b =
@@ -47,7 +47,7 @@ build_is_right gives rule right a old new d zero b =
 
 -- An edge that succeeded in a run in which no command ran asked for no command.
 asked_for_none : (r : Report) (e : ℕ) → HasRunNothing r → CommandsRunOnce → (phony : Bool) (meaning : Meaning) (c : Command) (conversation : List Exchange) (ran : Bool) (left : Left)
-    → slice_get r.state.going.now.edges e ≡ Some (Over (ended ran)) → Succeeds phony meaning c ran conversation left → commands_in conversation ≡ []
+    → slice_get r.state.run_state.now.edges e ≡ Some (Over (ended ran)) → Succeeds phony meaning c ran conversation left → commands_in conversation ≡ []
 asked_for_none r e nothing once phony meaning c conversation true left is succeeds = absurd (nothing e (ap outcome_at is))
 asked_for_none r e nothing once phony meaning c conversation false left is succeeds = once phony meaning c conversation false left succeeds
 

@@ -12,8 +12,8 @@ use Rattle.plan_image.specs.declared.image.Parts.{Parts}
 use Rattle.plan_compile.specs.declared.baseline.OutOfDateRule.TheVariants.{Stricter}
 use Rattle.plan_machine.specs.State.{Status, has_ended, outcome_at}
 use Rattle.plan_machine.specs.Wanted.{any_outside}
-use Rattle.plan_machine.specs.declared.mark.Outcome.TheVariants.{Ran}
-use Rattle.plan_machine.specs.declared.refused.Refused.TheVariants as refused
+use Rattle.plan_machine.specs.declared.event.mark.Outcome.TheVariants.{Ran}
+use Rattle.plan_machine.specs.declared.run.refused.Refused.TheVariants as refused
 use Rattle.plan_lanes.specs.Faults.{FaultReports}
 use Rattle.plan_lanes.specs.Journals.{Rule}
 use Rattle.plan_lanes.specs.Progress.{Opened}
@@ -91,7 +91,7 @@ read_of g f b c path manifest (Err fault) m image = tt
 -- ---- a run
 
 stopped_run : (rule : Rule) (o : Opened) (ran : Result Report LaneFault) (stop : Option PrintFault) (old new : SinkState) (fault : PlanFault) → any_outside o.parts o.targets ≡ false
-    → IfOk ran (λ r. IsRunOf rule o r) → IfOk ran (λ r. has_ended r.state.going.now ≡ true) → IfErr ran (λ f. FaultReports rule o f)
+    → IfOk ran (λ r. IsRunOf rule o r) → IfOk ran (λ r. has_ended r.state.run_state.now ≡ true) → IfErr ran (λ f. FaultReports rule o f)
     → IfSome (report_in ran) (λ r. Prints (lines_in o.parts r) stop old new) → IfNone (report_in ran) (new ≡ old)
     → IsLost ran stop fault → IsNotRun rule o old new fault
 stopped_run rule o (Ok r) (Some stop) old new fault inside run ended reports printed none lost =
@@ -111,7 +111,7 @@ stopped_run rule o (Err (lanes.OtherBoard r)) stop old new fault inside run ende
 
 -- The reason why a run has no report, from its clauses.
 pub not_run : (rule : Rule) (o : Opened) (ran : Result Report LaneFault) (stop : Option PrintFault) (old new : SinkState) (result : Result Report PlanFault) → any_outside o.parts o.targets ≡ false
-    → IfOk ran (λ r. IsRunOf rule o r) → IfOk ran (λ r. has_ended r.state.going.now ≡ true) → IfErr ran (λ f. FaultReports rule o f)
+    → IfOk ran (λ r. IsRunOf rule o r) → IfOk ran (λ r. has_ended r.state.run_state.now ≡ true) → IfErr ran (λ f. FaultReports rule o f)
     → IfSome (report_in ran) (λ r. Prints (lines_in o.parts r) stop old new) → IfNone (report_in ran) (new ≡ old)
     → IfErr result (λ fault. IsLost ran stop fault) → IfErr result (λ fault. IsNotRun rule o old new fault)
 not_run rule o ran stop old new (Ok r) inside run ended reports printed none lost = tt
@@ -199,10 +199,10 @@ one_more_idle r n before here e below is = by (cases_order e n)
     by (inr (inl less)) = before e less is
     by (inr (inr more)) = absurd (omega (arith, below, more))
 
-pub none_at_all : (r : Report) (n : ℕ) → length r.state.going.now.edges ≡ n → HasRunNoneBelow r n → HasRunNothing r
-none_at_all r n long before e is = by (slice_get_cases r.state.going.now.edges e).1
+pub none_at_all : (r : Report) (n : ℕ) → length r.state.run_state.now.edges ≡ n → HasRunNoneBelow r n → HasRunNothing r
+none_at_all r n long before e is = by (slice_get_cases r.state.run_state.now.edges e).1
   where
-    by : ((x : Status) × (e < length r.state.going.now.edges) × (slice_get r.state.going.now.edges e ≡ Some x) × (get_or r.state.going.now.edges e x ≡ x)) ⊎ ((length r.state.going.now.edges ≤ e) × (slice_get r.state.going.now.edges e ≡ None)) → ⊥
+    by : ((x : Status) × (e < length r.state.run_state.now.edges) × (slice_get r.state.run_state.now.edges e ≡ Some x) × (get_or r.state.run_state.now.edges e x ≡ x)) ⊎ ((length r.state.run_state.now.edges ≤ e) × (slice_get r.state.run_state.now.edges e ≡ None)) → ⊥
     by (inl (x, below, at, there)) = before e (subst (λ (k : ℕ). e < k) long below) is
     by (inr (beyond, none)) = absurd (let clash = sym (ap outcome_at none) ∙ is in cc)
 

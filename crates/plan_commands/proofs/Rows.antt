@@ -10,7 +10,7 @@ use Rattle.plan_image.specs.declared.image.Edge.{Edge as ImageEdge}
 use Rattle.plan_image.specs.declared.image.EdgeCode.TheVariants.{Own}
 use Rattle.plan_image.specs.declared.image.Parts.{Parts}
 use Rattle.plan_image.specs.declared.image.Sort.TheVariants as sort
-use Rattle.plan_machine.specs.declared.reply.Reply.TheVariants as reply
+use Rattle.plan_machine.specs.declared.event.reply.Reply.TheVariants as reply
 use Rattle.plan_verify.specs.Turn.{Keep, Run, Stat}
 use Rattle.plan_lanes.specs.Journals.{Rule}
 use Rattle.plan_commands.specs.declared.building.Done.TheVariants as done

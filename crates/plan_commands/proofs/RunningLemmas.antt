@@ -6,7 +6,7 @@ use Rattle.plan_machine.specs.Limits.{Limits}
 use Rattle.plan_machine.specs.State.{has_ended}
 use Rattle.plan_scope.specs.Scopes.{Text}
 use Rattle.plan_scope.specs.Loading.{FileContents, PathSet}
-use Rattle.plan_machine.specs.declared.refused.Refused.TheVariants as refused
+use Rattle.plan_machine.specs.declared.run.refused.Refused.TheVariants as refused
 use Rattle.plan_lanes.specs.Faults.{FaultReports, report_of}
 use Rattle.plan_lanes.specs.Journals.{Rule}
 use Rattle.plan_lanes.specs.Progress.{Opened}
@@ -25,16 +25,16 @@ use Rattle.plan_commands.proofs.TargetLemmas.{all_inside}
 
 -- A run that has ended, was printed, and has its trace.
 whole_run : (gives : FileContents) (rule : Rule) (w : Wanted) (o : Opened) (r : Report) (old new : Written) (told : Result ℕ PlanFault) (written : Result Unit PlanFault)
-    → IsOpened gives w o → IsRunOf rule o r → has_ended r.state.going.now ≡ true → Tells o.parts r old.0 new.0 told → WritesTrace w.trace o.limits o.targets r old.1 new.1 written
+    → IsOpened gives w o → IsRunOf rule o r → has_ended r.state.run_state.now ≡ true → Tells o.parts r old.0 new.0 told → WritesTrace w.trace o.limits o.targets r old.1 new.1 written
     → IfOk (both told written) (λ status. Runs gives rule w old new status)
 whole_run gives rule w o r old new (Ok status) (Ok done) is run ended told written =
-    record { opened = o; is = is; report = r; ends = record { run = run; ended = ended; printed = told.0 }; traced = written; answers = told.1 }
+    record { opened = o; is = is; report = r; ends = record { run = run; ended = ended; printed = told.0 }; write_trace_of = written; answers = told.1 }
 whole_run gives rule w o r old new (Ok status) (Err fault) is run ended told written = tt
 whole_run gives rule w o r old new (Err fault) (Ok done) is run ended told written = tt
 whole_run gives rule w o r old new (Err fault) (Err other) is run ended told written = tt
 
 pub run_done : (gives : FileContents) (rule : Rule) (w : Wanted) (o : Opened) (ran : Result Report LaneFault) (old new : Written) (result : Result ℕ PlanFault)
-    → IsOpened gives w o → IfOk ran (λ r. IsRunOf rule o r) → IfOk ran (λ r. has_ended r.state.going.now ≡ true)
+    → IsOpened gives w o → IfOk ran (λ r. IsRunOf rule o r) → IfOk ran (λ r. has_ended r.state.run_state.now ≡ true)
     → IfOk ran (λ r. TellsAll w.trace o.parts o.limits o.targets r old new result)
     → IfErr ran (λ f. result ≡ Err (printed_lane_fault f)) → IfOk result (λ status. Runs gives rule w old new status)
 run_done gives rule w o (Ok r) old new result is run ended tells err =
@@ -47,22 +47,22 @@ abbrev pub IsRefusedRun : (same : Type 0) → FileContents → PathSet → Rule 
 IsRefusedRun same gives missing rule w old new fault = (same × IsNotBegun gives missing w fault) ⊎ FailsToRun gives rule w old new fault
 
 untold : (same : Type 0) (gives : FileContents) (missing : PathSet) (rule : Rule) (w : Wanted) (o : Opened) (r : Report) (old new : Written) (told : Result ℕ PlanFault) (written : Result Unit PlanFault)
-    → IsOpened gives w o → IsRunOf rule o r → has_ended r.state.going.now ≡ true → Tells o.parts r old.0 new.0 told → WritesTrace w.trace o.limits o.targets r old.1 new.1 written
+    → IsOpened gives w o → IsRunOf rule o r → has_ended r.state.run_state.now ≡ true → Tells o.parts r old.0 new.0 told → WritesTrace w.trace o.limits o.targets r old.1 new.1 written
     → IfErr (both told written) (λ fault. IsRefusedRun same gives missing rule w old new fault)
 untold same gives missing rule w o r old new (Ok status) (Ok done) is run ended told written = tt
 untold same gives missing rule w o r old new (Ok status) (Err fault) is run ended told written =
-    inr (inr (inr (record { opened = o; is = is; report = r; ends = record { run = run; ended = ended; printed = told.0 }; traced = written.0; says = written.1 })))
+    inr (inr (inr (record { opened = o; is = is; report = r; ends = record { run = run; ended = ended; printed = told.0 }; write_trace_of = written.0; says = written.1 })))
 untold same gives missing rule w o r old new (Err fault) (Ok done) is run ended told written =
-    inr (inr (inl (record { opened = o; is = is; report = r; fails = record { run = run; ended = ended; stop = told.0; printed = told.1; says = told.2 }; whole = true; traced = written })))
+    inr (inr (inl (record { opened = o; is = is; report = r; fails = record { run = run; ended = ended; stop = told.0; printed = told.1; says = told.2 }; whole = true; write_trace_of = written })))
 untold same gives missing rule w o r old new (Err fault) (Err other) is run ended told written =
-    inr (inr (inl (record { opened = o; is = is; report = r; fails = record { run = run; ended = ended; stop = told.0; printed = told.1; says = told.2 }; whole = false; traced = written.0 })))
+    inr (inr (inl (record { opened = o; is = is; report = r; fails = record { run = run; ended = ended; stop = told.0; printed = told.1; says = told.2 }; whole = false; write_trace_of = written.0 })))
 
 -- Lanes stopped with a report.
 stopped_with : (same : Type 0) (gives : FileContents) (missing : PathSet) (rule : Rule) (w : Wanted) (o : Opened) (r : Report) (f : LaneFault) (old new : Written)
     → IsOpened gives w o → IsRunOf rule o r → report_of f ≡ Some r → TellsSome w.trace o.parts o.limits o.targets r old new
     → IsRefusedRun same gives missing rule w old new (printed_lane_fault f)
 stopped_with same gives missing rule w o r f old new is run reports some =
-    inr (inl (record { opened = o; is = is; report = r; stops = record { run = run; stop = some.0; printed = some.2; stopped = f; reports = reports; says = refl }; whole = some.1; traced = some.3 }))
+    inr (inl (record { opened = o; is = is; report = r; stops = record { run = run; stop = some.0; printed = some.2; stopped = f; reports = reports; says = refl }; whole = some.1; write_trace_of = some.3 }))
 
 stopped_run : (same : Type 0) (gives : FileContents) (missing : PathSet) (rule : Rule) (w : Wanted) (o : Opened) (f : LaneFault) (old new : Written)
     → IsOpened gives w o → FaultReports rule o f → IfNone (report_of f) same → IfSome (report_of f) (λ r. TellsSome w.trace o.parts o.limits o.targets r old new)
@@ -83,7 +83,7 @@ not_opened gives path names p q fault same image (inl is) = inr (inl is)
 not_opened gives path names p q fault same image (inr is) = inl (p, image.0, image.1, ap (λ (x : Parts). targets x names) (sym same) ∙ is)
 
 pub run_refused : (same : Type 0) (gives : FileContents) (missing : PathSet) (rule : Rule) (w : Wanted) (o : Opened) (ran : Result Report LaneFault) (old new : Written)
-    (result : Result ℕ PlanFault) → IsOpened gives w o → IfOk ran (λ r. IsRunOf rule o r) → IfOk ran (λ r. has_ended r.state.going.now ≡ true) → IfErr ran (λ f. FaultReports rule o f)
+    (result : Result ℕ PlanFault) → IsOpened gives w o → IfOk ran (λ r. IsRunOf rule o r) → IfOk ran (λ r. has_ended r.state.run_state.now ≡ true) → IfErr ran (λ f. FaultReports rule o f)
     → IfOk ran (λ r. TellsAll w.trace o.parts o.limits o.targets r old new result) → IfErr ran (λ f. result ≡ Err (printed_lane_fault f))
     → IfErr ran (λ f. IfSome (report_of f) (λ r. TellsSome w.trace o.parts o.limits o.targets r old new))
     → IfErr ran (λ f. IfNone (report_of f) same) → IfErr result (λ fault. IsRefusedRun same gives missing rule w old new fault)
@@ -106,15 +106,15 @@ told_all trace p limits edges (Err f) stop old new result printed tells = tt
 some_of : (trace : Option Text) (p : Parts) (limits : Limits) (edges : List ℕ) (o : Option Report) (stop : Option PrintFault) (old new : Written)
     → IfSome o (λ r. Prints (lines_in p r) stop old.0 new.0) → IfSome o (λ r. (whole : Bool) × Traces trace limits edges r whole old.1 new.1)
     → IfSome o (λ r. TellsSome trace p limits edges r old new)
-some_of trace p limits edges None stop old new printed traced = tt
-some_of trace p limits edges (Some r) stop old new printed traced = (stop, traced.0, printed, traced.1)
+some_of trace p limits edges None stop old new printed write_trace_of = tt
+some_of trace p limits edges (Some r) stop old new printed write_trace_of = (stop, write_trace_of.0, printed, write_trace_of.1)
 
 pub told_some : (trace : Option Text) (p : Parts) (limits : Limits) (edges : List ℕ) (ran : Result Report LaneFault) (stop : Option PrintFault) (old new : Written)
     → IfSome (report_in ran) (λ r. Prints (lines_in p r) stop old.0 new.0)
     → IfErr ran (λ f. IfSome (report_of f) (λ r. (whole : Bool) × Traces trace limits edges r whole old.1 new.1))
     → IfErr ran (λ f. IfSome (report_of f) (λ r. TellsSome trace p limits edges r old new))
-told_some trace p limits edges (Ok r) stop old new printed traced = tt
-told_some trace p limits edges (Err f) stop old new printed traced = some_of trace p limits edges (report_of f) stop old new printed traced
+told_some trace p limits edges (Ok r) stop old new printed write_trace_of = tt
+told_some trace p limits edges (Err f) stop old new printed write_trace_of = some_of trace p limits edges (report_of f) stop old new printed write_trace_of
 
 none_of : (one other : Type 0) (o : Option Report) → IfNone o one → IfNone o other → IfNone o (one × other)
 none_of one other None x y = (x, y)

@@ -9,8 +9,8 @@ use Rattle.plan_scope.specs.declared.manifest.Manifest.{Manifest}
 use Rattle.plan_image.specs.declared.image.Parts.{Parts}
 use Rattle.plan_compile.specs.declared.baseline.OutOfDateRule.TheVariants.{Stricter}
 use Rattle.plan_machine.specs.Limits.{Limits}
-use Rattle.plan_machine.specs.declared.mark.Outcome.{Outcome}
-use Rattle.plan_machine.specs.declared.mark.Outcome.TheVariants.{Ran}
+use Rattle.plan_machine.specs.declared.event.mark.Outcome.{Outcome}
+use Rattle.plan_machine.specs.declared.event.mark.Outcome.TheVariants.{Ran}
 use Rattle.plan_machine.specs.State.{outcome_at}
 use Rattle.plan_status.specs.Outcomes.{all_done}
 use Rattle.plan_status.specs.declared.fault.PrintFault.{PrintFault}
@@ -69,7 +69,7 @@ maker_of p path = ok_of (target p path)
 
 -- The outcome of an edge, if it has ended.
 abbrev pub outcome_in : Report → ℕ → Option Outcome
-outcome_in r e = outcome_at (slice_get r.state.going.now.edges e)
+outcome_in r e = outcome_at (slice_get r.state.run_state.now.edges e)
 
 -- A round: the manifest was read, and its maker was run as the only target. All edges that the maker needs succeeded,
 -- and the maker's command ran.
@@ -80,7 +80,7 @@ pub record Remakes (gives : FileContents) (rule : Rule) (a : Asked) (old new : S
   pub makes : maker_of parts a.path ≡ Some maker
   pub report : Report
   pub run : EndsPrinted rule (opened parts a.limits (maker ∷ [])) report old new
-  pub well : all_done parts report.state.going.now ≡ true
+  pub well : all_done parts report.state.run_state.now ≡ true
   pub ran : outcome_in report maker ≡ Some Ran
 
 -- The given number of rounds, one after another.
@@ -99,7 +99,7 @@ pub record MakerIsClean (rule : Rule) (a : Asked) (p : Parts) (old new : SinkSta
   pub makes : maker_of p a.path ≡ Some maker
   pub report : Report
   pub run : EndsPrinted rule (opened p a.limits (maker ∷ [])) report old new
-  pub well : all_done p report.state.going.now ≡ true
+  pub well : all_done p report.state.run_state.now ≡ true
   pub clean : (outcome_in report maker ≡ Some Ran) → ⊥
 
 -- The manifest that was read is up to date.
@@ -114,7 +114,7 @@ pub record MakerFails (gives : FileContents) (rule : Rule) (a : Asked) (old new 
   pub makes : maker_of parts a.path ≡ Some maker
   pub report : Report
   pub run : EndsPrinted rule (opened parts a.limits (maker ∷ [])) report old new
-  pub ill : all_done parts report.state.going.now ≡ false
+  pub ill : all_done parts report.state.run_state.now ≡ false
 
 -- ---- the build
 
@@ -132,9 +132,9 @@ HasRunNothing r = (e : ℕ) → outcome_in r e ≡ Some Ran → ⊥
 -- How a build ends, from the report of its last run. `Failed`: a wanted edge did not succeed. `Built`: all succeeded,
 -- and a command ran. `UpToDate`: all succeeded, and no command ran.
 abbrev pub EndsAs : Parts → Report → Done → Type 0
-EndsAs p r done.Failed = all_done p r.state.going.now ≡ false
-EndsAs p r done.Built = (all_done p r.state.going.now ≡ true) × HasRun r
-EndsAs p r done.UpToDate = (all_done p r.state.going.now ≡ true) × HasRunNothing r
+EndsAs p r done.Failed = all_done p r.state.run_state.now ≡ false
+EndsAs p r done.Built = (all_done p r.state.run_state.now ≡ true) × HasRun r
+EndsAs p r done.UpToDate = (all_done p r.state.run_state.now ≡ true) × HasRunNothing r
 EndsAs p r done.ManifestFails = ⊥
 EndsAs p r done.NeverSettles = ⊥
 
@@ -245,9 +245,9 @@ IsLost (Err stopped) stop fault = fault ≡ printed_lane_fault stopped
 
 -- How a round ends, from the report of the maker's run.
 abbrev pub IsRoundOf : Parts → ℕ → Report → Round → Type 0
-IsRoundOf p maker r (round.UpToDate q) = (q ≡ p) × (all_done p r.state.going.now ≡ true) × ((outcome_in r maker ≡ Some Ran) → ⊥)
-IsRoundOf p maker r round.Remade = (all_done p r.state.going.now ≡ true) × (outcome_in r maker ≡ Some Ran)
-IsRoundOf p maker r round.Failed = all_done p r.state.going.now ≡ false
+IsRoundOf p maker r (round.UpToDate q) = (q ≡ p) × (all_done p r.state.run_state.now ≡ true) × ((outcome_in r maker ≡ Some Ran) → ⊥)
+IsRoundOf p maker r round.Remade = (all_done p r.state.run_state.now ≡ true) × (outcome_in r maker ≡ Some Ran)
+IsRoundOf p maker r round.Failed = all_done p r.state.run_state.now ≡ false
 
 -- How a round goes that ends in this way.
 abbrev pub EndsRound : FileContents → Rule → Asked → (old new : SinkState) → Round → Type 0

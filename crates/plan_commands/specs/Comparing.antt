@@ -7,7 +7,7 @@ use Rattle.plan_scope.specs.Loading.{FileContents, PathSet}
 use Rattle.plan_image.specs.declared.image.Parts.{Parts}
 use Rattle.plan_verify.specs.WellShaped.{IsWellShaped}
 use Rattle.plan_machine.specs.Limits.{Limits}
-use Rattle.plan_machine.specs.declared.refused.Refused.{Refused}
+use Rattle.plan_machine.specs.declared.run.refused.Refused.{Refused}
 use Rattle.plan_machine.specs.Ends.{IsEndFault, NeverTellsApart, TellsEnds}
 use Rattle.plan_trace.specs.declared.trace.Trace.{Trace}
 use Rattle.plan_commands.specs.declared.fault.PlanFault.{PlanFault}

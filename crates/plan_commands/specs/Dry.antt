@@ -2,7 +2,7 @@
 use Rattle.std.specs.Prelude.{◌≡◌, ◌⊎◌}
 use Rattle.plan_scope.specs.Loading.{FileContents, PathSet}
 use Rattle.plan_image.specs.declared.image.Parts.{Parts}
-use Rattle.plan_machine.specs.declared.reply.Reply.TheVariants as reply
+use Rattle.plan_machine.specs.declared.event.reply.Reply.TheVariants as reply
 use Rattle.plan_verify.specs.Turn.{Stat, Recall, Run, Deps, Keep}
 use Rattle.plan_lanes.specs.Journals.{Rule}
 use Rattle.plan_commands.specs.declared.fault.PlanFault.{PlanFault}

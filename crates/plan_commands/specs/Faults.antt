@@ -19,8 +19,8 @@ use Rattle.plan_verify.specs.Faults as verdicts
 use Rattle.plan_verify.specs.declared.fault.VerifyFault.{VerifyFault}
 use Rattle.plan_compile.specs.Faults as compiles
 use Rattle.plan_machine.specs.Faults as machines
-use Rattle.plan_machine.specs.declared.refused.Refused.{Refused as Refusal}
-use Rattle.plan_machine.specs.declared.refused.Refused.TheVariants as machine
+use Rattle.plan_machine.specs.declared.run.refused.Refused.{Refused as Refusal}
+use Rattle.plan_machine.specs.declared.run.refused.Refused.TheVariants as machine
 use Rattle.plan_compile.specs.declared.fault.CompileFault.{CompileFault}
 use Rattle.plan_commands.specs.declared.fault.PlanFault.{PlanFault}
 

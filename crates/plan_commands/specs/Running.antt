@@ -52,7 +52,7 @@ status_of false = 1
 
 -- The status lines of a report.
 abbrev pub lines_in : Parts → Report → List ℕ
-lines_in p r = lines_of p (total_of p r.state.going.now) r.marks.items
+lines_in p r = lines_of p (total_of p r.state.run_state.now) r.marks.items
 
 -- If the run is to have a trace, its trace (options, targets and events) was written, `whole` or until a write of its
 -- file failed.
@@ -73,7 +73,7 @@ Written = SinkState × SinkState
 -- printed.
 pub record EndsPrinted (rule : Rule) (o : Opened) (r : Report) (old new : SinkState) : Type 0 where
   pub run : IsRunOf rule o r
-  pub ended : has_ended r.state.going.now ≡ true
+  pub ended : has_ended r.state.run_state.now ≡ true
   pub printed : Prints (lines_in o.parts r) None old new
 
 -- A run of an image that the source may give has ended, its status lines were printed, and its trace was written.
@@ -82,8 +82,8 @@ pub record Runs (gives : FileContents) (rule : Rule) (w : Wanted) (old new : Wri
   pub is : IsOpened gives w opened
   pub report : Report
   pub ends : EndsPrinted rule opened report old.0 new.0
-  pub traced : Traces w.trace opened.limits opened.targets report true old.1 new.1
-  pub answers : status ≡ status_of (all_done opened.parts report.state.going.now)
+  pub write_trace_of : Traces w.trace opened.limits opened.targets report true old.1 new.1
+  pub answers : status ≡ status_of (all_done opened.parts report.state.run_state.now)
 
 -- The reason why a text isn't printed, as the program prints it.
 abbrev pub printed_print_fault : PrintFault → PlanFault
@@ -123,7 +123,7 @@ pub record LanesStop (rule : Rule) (o : Opened) (r : Report) (old new : SinkStat
 -- A run has ended, and its lines weren't printed to the end.
 pub record FailsToPrint (rule : Rule) (o : Opened) (r : Report) (old new : SinkState) (fault : PlanFault) : Type 0 where
   pub run : IsRunOf rule o r
-  pub ended : has_ended r.state.going.now ≡ true
+  pub ended : has_ended r.state.run_state.now ≡ true
   pub stop : PrintFault
   pub printed : Prints (lines_in o.parts r) (Some stop) old new
   pub says : (fault ≡ printed_print_fault stop) ⊎ (fault ≡ no_memory)
@@ -135,7 +135,7 @@ pub record StopsEarly (gives : FileContents) (rule : Rule) (w : Wanted) (old new
   pub report : Report
   pub stops : LanesStop rule opened report old.0 new.0 fault
   pub whole : Bool
-  pub traced : Traces w.trace opened.limits opened.targets report whole old.1 new.1
+  pub write_trace_of : Traces w.trace opened.limits opened.targets report whole old.1 new.1
 
 -- The lines of a run weren't printed to the end. Its trace was written whole, or a write of its file failed.
 pub record FailsToTell (gives : FileContents) (rule : Rule) (w : Wanted) (old new : Written) (fault : PlanFault) : Type 0 where
@@ -144,7 +144,7 @@ pub record FailsToTell (gives : FileContents) (rule : Rule) (w : Wanted) (old ne
   pub report : Report
   pub fails : FailsToPrint rule opened report old.0 new.0 fault
   pub whole : Bool
-  pub traced : Traces w.trace opened.limits opened.targets report whole old.1 new.1
+  pub write_trace_of : Traces w.trace opened.limits opened.targets report whole old.1 new.1
 
 -- A run has ended, its lines were printed, and a write of its trace's file failed.
 pub record FailsToTrace (gives : FileContents) (rule : Rule) (w : Wanted) (old new : Written) (fault : PlanFault) : Type 0 where
@@ -152,7 +152,7 @@ pub record FailsToTrace (gives : FileContents) (rule : Rule) (w : Wanted) (old n
   pub is : IsOpened gives w opened
   pub report : Report
   pub ends : EndsPrinted rule opened report old.0 new.0
-  pub traced : Traces w.trace opened.limits opened.targets report false old.1 new.1
+  pub write_trace_of : Traces w.trace opened.limits opened.targets report false old.1 new.1
   pub says : (fault ≡ printed_trace_fault w.trace) ⊎ (fault ≡ no_memory)
 
 -- The reasons why a run that began gives no status.
@@ -170,7 +170,7 @@ IsKeptFor (Some path) r = r.kept ≡ Some r.journal
 -- The status lines of a run that has ended were printed, and the result is its status. Or they weren't printed, and the
 -- result is the fault.
 abbrev pub Tells : Parts → Report → (old new : SinkState) → Result ℕ PlanFault → Type 0
-Tells p r old new (Ok status) = Prints (lines_in p r) None old new × (status ≡ status_of (all_done p r.state.going.now))
+Tells p r old new (Ok status) = Prints (lines_in p r) None old new × (status ≡ status_of (all_done p r.state.run_state.now))
 Tells p r old new (Err fault) = (stop : PrintFault) × Prints (lines_in p r) (Some stop) old new × ((fault ≡ printed_print_fault stop) ⊎ (fault ≡ no_memory))
 
 -- The trace of a run was written whole, or a write of its file failed.

@@ -18,7 +18,7 @@ ghost use Rattle.plan_commands.specs.Running.{EndsPrinted};
 use crate::commands::manifest_at;
 use crate::compiling::image_of;
 use crate::fault::{PlanFault, no_memory};
-use crate::playing::{Played, play};
+use crate::printed_runs::{RunResult, run_with_lines};
 use crate::running::{printed_lane_fault, printed_print_fault};
 use crate::targets::targets_of;
 use plan_compile::OutOfDateRule;
@@ -122,11 +122,11 @@ fn maker_of(alloc: Global, image: &Image, path: &[u8]) -> Result<Option<u32>, Pl
 }
 
 /// Returns the report of a run that has ended, if all its lines were printed.
-fn printed_run(alloc: Global, played: Played) -> Result<Report, PlanFault>
-    ensures done { IfOk result (λ r. (played.ran ≡ Ok r) × (result_err played.printed ≡ None)) }
-    ensures fault { IfErr result (λ fault. IsLost played.ran (result_err played.printed) fault) }
+fn printed_run(alloc: Global, run_result: RunResult) -> Result<Report, PlanFault>
+    ensures done { IfOk result (λ r. (run_result.ran ≡ Ok r) × (result_err run_result.printed ≡ None)) }
+    ensures fault { IfErr result (λ fault. IsLost run_result.ran (result_err run_result.printed) fault) }
 {
-    match (played.ran, played.printed) {
+    match (run_result.ran, run_result.printed) {
         (Ok(report), Ok(())) => Ok(report),
         (Ok(report), Err(fault)) => {
             forget(report);
@@ -148,15 +148,15 @@ fn run_edges<W: World + Send + Sync, O: Sink + Send + Drop, R: Threads + Wait + 
     options: Options,
     edges: &[u32],
     world: &W,
-    bell: &Parker,
+    parker: &Parker,
     out: O,
 ) -> (Result<Report, PlanFault>, O)
     requires { any_outside image.now edges.now ≡ false }
     ensures ran { IfOk result.0 (λ r. EndsPrinted W.allows (defined.opened image.now options edges.now) r (O.failures out, O.taken out) (O.failures result.1, O.taken result.1)) }
     ensures refused { IfErr result.0 (λ fault. IsNotRun W.allows (defined.opened image.now options edges.now) (O.failures out, O.taken out) (O.failures result.1, O.taken result.1) fault) }
 {
-    let (played, out) = play(rt, alloc, image, options, edges, world, bell, out);
-    (printed_run(alloc, played), out)
+    let (run_result, out) = run_with_lines(rt, alloc, image, options, edges, world, parker, out);
+    (printed_run(alloc, run_result), out)
 }
 
 /// How a round ended.
@@ -200,7 +200,7 @@ pub(crate) fn update_manifest<
     source: &mut S,
     order: &Order<'_>,
     world: &W,
-    bell: &Parker,
+    parker: &Parker,
     out: O,
 ) -> (Result<Round, PlanFault>, O)
     ensures round { let a = defined.asked order.now.manifest.now order.now.options (map (λ n. n.now) order.now.targets.now) in
@@ -223,7 +223,16 @@ pub(crate) fn update_manifest<
             return (Err(fault), out);
         }
     };
-    let (ran, out) = run_edges(rt, alloc, &image, order.options, &[maker], world, bell, out);
+    let (ran, out) = run_edges(
+        rt,
+        alloc,
+        &image,
+        order.options,
+        &[maker],
+        world,
+        parker,
+        out,
+    );
     match ran {
         Ok(report) => (Ok(round_of(image, maker, report)), out),
         Err(fault) => {
@@ -272,7 +281,7 @@ pub(crate) fn build_targets<
     image: Verified,
     order: &Order<'_>,
     world: &W,
-    bell: &Parker,
+    parker: &Parker,
     out: O,
 ) -> (Result<Done, PlanFault>, O)
     ensures done { let a = defined.asked order.now.manifest.now order.now.options (map (λ n. n.now) order.now.targets.now) in
@@ -287,7 +296,7 @@ pub(crate) fn build_targets<
             return (Err(fault), out);
         }
     };
-    let (ran, out) = run_edges(rt, alloc, &image, order.options, &edges, world, bell, out);
+    let (ran, out) = run_edges(rt, alloc, &image, order.options, &edges, world, parker, out);
     match ran {
         Ok(report) => {
             let done = end_of(&image, &report);
@@ -304,7 +313,7 @@ pub(crate) fn build_targets<
 }
 
 /// Builds the targets of a manifest, and prints the status lines while commands run. Returns how the build ended, and
-/// the sink. Unpark `bell` to print the lines that are ready.
+/// the sink. Unpark `parker` to print the lines that are ready.
 ///
 /// The manifest is read and compiled. If an edge makes the manifest, that edge runs first, with all edges that it
 /// needs. Each time that its command ran, the manifest is read again, at most 100 times (the Ninja manual, "The build
@@ -324,7 +333,7 @@ pub fn do_build<S: Source, W: World + Send + Sync, O: Sink + Send + Drop, R: Thr
     source: &mut S,
     order: &Order<'_>,
     world: &W,
-    bell: &Parker,
+    parker: &Parker,
     out: O,
 ) -> (Result<Done, PlanFault>, O)
     ensures done { let a = defined.asked order.now.manifest.now order.now.options (map (λ n. n.now) order.now.targets.now) in
@@ -336,13 +345,13 @@ pub fn do_build<S: Source, W: World + Send + Sync, O: Sink + Send + Drop, R: Thr
 {
     let mut out = out;
     for _ in 0..MOST_ROUNDS {
-        let (round, left) = update_manifest(rt, alloc, source, order, world, bell, out);
+        let (round, left) = update_manifest(rt, alloc, source, order, world, parker, out);
         out = left;
         match round {
             Ok(Round::Remade) => {}
             Ok(Round::Failed) => return (Ok(Done::ManifestFails), out),
             Ok(Round::UpToDate(image)) => {
-                return build_targets(rt, alloc, image, order, world, bell, out);
+                return build_targets(rt, alloc, image, order, world, parker, out);
             }
             Err(fault) => return (Err(fault), out),
         }

@@ -90,7 +90,7 @@ pub fn do_dry_build<
     source: &mut S,
     order: &Order<'_>,
     world: &W,
-    bell: &Parker,
+    parker: &Parker,
     out: O,
 ) -> (Result<Done, PlanFault>, O)
     ensures done { let a = defined.asked order.now.manifest.now order.now.options (map (λ n. n.now) order.now.targets.now) in
@@ -101,11 +101,11 @@ pub fn do_dry_build<
         IfErr result.0 (λ fault. DryStops (S.gives source.old) missing (dry_rule W.allows) a (O.failures out, O.taken out) (O.failures result.1, O.taken result.1) fault) }
 {
     let dry = DryWorld { world };
-    let (round, out) = update_manifest(rt, alloc, source, order, &dry, bell, out);
+    let (round, out) = update_manifest(rt, alloc, source, order, &dry, parker, out);
     match round {
         Ok(Round::Remade) => (Ok(Done::Built), out),
         Ok(Round::Failed) => (Ok(Done::ManifestFails), out),
-        Ok(Round::UpToDate(image)) => build_targets(rt, alloc, image, order, &dry, bell, out),
+        Ok(Round::UpToDate(image)) => build_targets(rt, alloc, image, order, &dry, parker, out),
         Err(fault) => (Err(fault), out),
     }
 }

@@ -130,7 +130,7 @@ pub fn no_memory(alloc: Global) -> PlanFault
 }
 
 /// Returns ` PATH`.
-fn spaced(alloc: Global, path: &[u8]) -> Result<Vec<u8>, AllocError>
+fn space_before(alloc: Global, path: &[u8]) -> Result<Vec<u8>, AllocError>
     ensures { IfOk result (λ text. text.items ≡ space ∷ path.now) }
 {
     let mut text = Vec::new(alloc);
@@ -178,7 +178,7 @@ pub fn write_fault(alloc: Global, path: &[u8]) -> Result<PlanFault, AllocError>
 {
     Ok(PlanFault {
         number: 133,
-        rest: Items::new(spaced(alloc, path)?),
+        rest: Items::new(space_before(alloc, path)?),
     })
 }
 
@@ -187,7 +187,7 @@ pub fn write_fault(alloc: Global, path: &[u8]) -> Result<PlanFault, AllocError>
 pub fn file_fault(alloc: Global, path: &[u8]) -> PlanFault
     ensures { (result ≡ defined.file_fault path.now) ⊎ (result ≡ defined.no_memory) }
 {
-    match spaced(alloc, path) {
+    match space_before(alloc, path) {
         Ok(rest) => PlanFault {
             number: 133,
             rest: Items::new(rest),
@@ -200,7 +200,7 @@ pub fn file_fault(alloc: Global, path: &[u8]) -> PlanFault
 pub fn unknown_target(alloc: Global, name: &[u8]) -> PlanFault
     ensures { (result ≡ defined.unknown_target name.now) ⊎ (result ≡ defined.no_memory) }
 {
-    match spaced(alloc, name) {
+    match space_before(alloc, name) {
         Ok(rest) => PlanFault {
             number: 132,
             rest: Items::new(rest),

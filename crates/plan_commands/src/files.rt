@@ -5,7 +5,7 @@ ghost use Rattle.std.specs.Io.{WritesAtMost};
 
 use plan_image::MAX_IMAGE;
 use plan_scope::{Source, SourceFault};
-use plan_text::{MAX_SOURCE, Tally};
+use plan_text::{GhostCounter, MAX_SOURCE};
 use std::alloc::Global;
 use std::fs::OpenFile;
 use std::io::{ErrorKind, Read, Write};
@@ -28,7 +28,7 @@ pub struct FileSource<'a, R> {
     rt: &'a R,
     /// The most bytes that are read of a file.
     most: u64,
-    failures: Tally,
+    failures: GhostCounter,
 }
 
 impl<'a, R: Files> FileSource<'a, R> {
@@ -39,7 +39,7 @@ impl<'a, R: Files> FileSource<'a, R> {
         FileSource {
             rt,
             most,
-            failures: Tally::new(),
+            failures: GhostCounter::new(),
         }
     }
 }

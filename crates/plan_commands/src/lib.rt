@@ -28,7 +28,7 @@ mod image_fault;
 mod images;
 mod laws;
 mod makers;
-mod playing;
+mod printed_runs;
 mod replay_fault;
 mod replaying;
 mod running;

@@ -10,7 +10,7 @@ use plan_text::Items;
 use std::alloc::{AllocError, Global};
 
 /// Returns the words, followed by the number.
-fn counted(alloc: Global, words: &[u8], number: u64) -> Result<Vec<u8>, AllocError>
+fn with_number(alloc: Global, words: &[u8], number: u64) -> Result<Vec<u8>, AllocError>
     ensures { IfOk result (λ text. text.items ≡ words.now ++ decimal number) }
 {
     let digits = number.to_string(alloc)?;
@@ -24,7 +24,7 @@ fn counted(alloc: Global, words: &[u8], number: u64) -> Result<Vec<u8>, AllocErr
 pub fn trace_fault(alloc: Global, line: u64) -> PlanFault
     ensures { (result ≡ defined.trace_fault line) ⊎ (result ≡ defined.no_memory) }
 {
-    match counted(alloc, b" at line ", line) {
+    match with_number(alloc, b" at line ", line) {
         Ok(rest) => PlanFault {
             number: 130,
             rest: Items::new(rest),
@@ -38,7 +38,7 @@ pub fn trace_fault(alloc: Global, line: u64) -> PlanFault
 fn event_fault(alloc: Global, event: u64) -> PlanFault
     ensures { (result ≡ defined.event_fault event) ⊎ (result ≡ defined.no_memory) }
 {
-    match counted(alloc, b" at event ", event) {
+    match with_number(alloc, b" at event ", event) {
         Ok(rest) => PlanFault {
             number: 110,
             rest: Items::new(rest),

@@ -46,7 +46,7 @@ pub(crate) fn trace_at<S: Source>(
 
 /// Replays a trace of an image, and returns the state at its end and its marks.
 fn run_of(alloc: Global, image: &Verified, trace: &Trace) -> Result<(State, Vec<Mark>), PlanFault>
-    ensures run { IfOk result (λ x. IsRun image.now trace.now x.1.items x.0.going.now) }
+    ensures run { IfOk result (λ x. IsRun image.now trace.now x.1.items x.0.run_state.now) }
     ensures state { IfOk result (λ x. IsStateOf image.now x.0) }
     ensures refused { IfErr result (λ fault. TellsNoEvents image.now trace.now fault ⊎ (fault ≡ defined.no_memory)) }
 {
@@ -72,7 +72,7 @@ fn print_run<W: Sink>(
     out: &mut W,
 ) -> Result<(), PrintFault>
     requires { IsStateOf image.now state.now }
-    ensures { Prints (run_text image.now marks.now state.now.going.now) (result_err result) (W.failures out.old, W.taken out.old) (W.failures out.new, W.taken out.new) }
+    ensures { Prints (run_text image.now marks.now state.now.run_state.now) (result_err result) (W.failures out.old, W.taken out.old) (W.failures out.new, W.taken out.new) }
 {
     prints_join();
     match print(alloc, image, state.total(), marks, out) {
@@ -83,7 +83,7 @@ fn print_run<W: Sink>(
 
 /// Returns the status: 0 if all wanted edges succeeded, otherwise 1.
 fn status_of(image: &Verified, state: &State) -> u8
-    ensures { result ≡ run_status image.now state.now.going.now }
+    ensures { result ≡ run_status image.now state.now.run_state.now }
 {
     if all_done(image, state) { 0 } else { 1 }
 }
@@ -97,9 +97,9 @@ fn tell_run<W: Sink>(
     out: &mut W,
 ) -> Result<u8, PlanFault>
     requires { IsStateOf image.now state.now }
-    ensures done { IfOk result (λ status. (status ≡ run_status image.now state.now.going.now)
-        × Prints (run_text image.now marks.now state.now.going.now) None (W.failures out.old, W.taken out.old) (W.failures out.new, W.taken out.new)) }
-    ensures stopped { IfErr result (λ fault. StopsTelling (run_text image.now marks.now state.now.going.now) (W.failures out.old, W.taken out.old) (W.failures out.new, W.taken out.new) fault) }
+    ensures done { IfOk result (λ status. (status ≡ run_status image.now state.now.run_state.now)
+        × Prints (run_text image.now marks.now state.now.run_state.now) None (W.failures out.old, W.taken out.old) (W.failures out.new, W.taken out.new)) }
+    ensures stopped { IfErr result (λ fault. StopsTelling (run_text image.now marks.now state.now.run_state.now) (W.failures out.old, W.taken out.old) (W.failures out.new, W.taken out.new) fault) }
 {
     let Ok(failed) = output_fault(alloc) else {
         return Err(no_memory(alloc));

@@ -14,7 +14,7 @@ ghost use Rattle.plan_commands.specs.Running as defined;
 ghost use Rattle.plan_commands.specs.Running.{FailsToRun, IsKeptFor, IsNotBegun, IsOpened, Runs, Tells, TellsAll, Traces, WritesTrace, lines_in};
 
 use crate::fault::{PlanFault, file_fault, lost_output, no_memory};
-use crate::playing::{Played, play, report_of};
+use crate::printed_runs::{RunResult, report_of, run_with_lines};
 use crate::targets::targets_of;
 use crate::verdicts::verified_by;
 use plan_lanes::{Journaled, LaneFault, Report, World};
@@ -91,7 +91,7 @@ fn traced_at<T: Sink>(
 }
 
 /// Writes the trace of a run of these targets, if the run is to have one.
-fn traced<T: Sink>(
+fn write_trace_of<T: Sink>(
     alloc: Global,
     build: &Build<'_>,
     targets: &[u32],
@@ -123,7 +123,7 @@ fn tell_all<T: Sink>(
         (old, (T.failures trace.old, T.taken trace.old)) (new, (T.failures trace.new, T.taken trace.new)) result }
 {
     let told = tell(alloc, image, report, printed);
-    match (told, traced(alloc, build, targets, report, trace)) {
+    match (told, write_trace_of(alloc, build, targets, report, trace)) {
         (Ok(_), Err(fault)) => Err(fault),
         (told, _) => told,
     }
@@ -169,28 +169,36 @@ fn opened_at<S: Source, R: Threads + Sync>(
 
 /// Writes the trace of a run that has ended or has stopped. Returns its status, or the fault that stopped it.
 #[tactic(auto, using(crate::proofs::RunningLemmas::kept_of))]
-fn told<T: Sink>(
+fn finish_run<T: Sink>(
     alloc: Global,
     build: &Build<'_>,
     image: &Verified,
     targets: &[u32],
-    played: &Played,
+    run_result: &RunResult,
     trace: &mut T,
 ) -> Result<u8, PlanFault>
-    requires ok { IfOk played.now.ran (λ r. IsStateOf image.now r.state) }
-    requires kept { IfSome (defined.report_in played.now.ran) (λ r. IsKeptFor (option_map (λ t. t.now) build.now.trace) r) }
-    ensures ended { IfOk played.now.ran (λ r. (old new : SinkState) → Prints (lines_in image.now r) (result_err played.now.printed) old new → TellsAll (option_map (λ t. t.now) build.now.trace) image.now build.now.options targets.now r
+    requires ok { IfOk run_result.now.ran (λ r. IsStateOf image.now r.state) }
+    requires kept { IfSome (defined.report_in run_result.now.ran) (λ r. IsKeptFor (option_map (λ t. t.now) build.now.trace) r) }
+    ensures ended { IfOk run_result.now.ran (λ r. (old new : SinkState) → Prints (lines_in image.now r) (result_err run_result.now.printed) old new → TellsAll (option_map (λ t. t.now) build.now.trace) image.now build.now.options targets.now r
         (old, (T.failures trace.old, T.taken trace.old)) (new, (T.failures trace.new, T.taken trace.new)) result) }
-    ensures err { IfErr played.now.ran (λ f. result ≡ Err (defined.printed_lane_fault f)) }
-    ensures some { IfErr played.now.ran (λ f. IfSome (faults.report_of f) (λ r. (whole : Bool) × Traces (option_map (λ t. t.now) build.now.trace) build.now.options targets.now r whole
+    ensures err { IfErr run_result.now.ran (λ f. result ≡ Err (defined.printed_lane_fault f)) }
+    ensures some { IfErr run_result.now.ran (λ f. IfSome (faults.report_of f) (λ r. (whole : Bool) × Traces (option_map (λ t. t.now) build.now.trace) build.now.options targets.now r whole
         (T.failures trace.old, T.taken trace.old) (T.failures trace.new, T.taken trace.new))) }
-    ensures none { IfErr played.now.ran (λ f. IfNone (faults.report_of f) (trace.new ≡ trace.old)) }
+    ensures none { IfErr run_result.now.ran (λ f. IfNone (faults.report_of f) (trace.new ≡ trace.old)) }
 {
-    match &played.ran {
-        Ok(report) => tell_all(alloc, build, image, targets, report, played.printed, trace),
+    match &run_result.ran {
+        Ok(report) => tell_all(
+            alloc,
+            build,
+            image,
+            targets,
+            report,
+            run_result.printed,
+            trace,
+        ),
         Err(fault) => {
             if let Some(report) = report_of(fault) {
-                let _traced = traced(alloc, build, targets, report, trace);
+                let _traced = write_trace_of(alloc, build, targets, report, trace);
             }
             Err(printed_lane_fault(alloc, fault))
         }
@@ -199,18 +207,18 @@ fn told<T: Sink>(
 
 /// Runs an image, and prints its lines while lanes work. Keeps the journal if the run is to have a trace.
 #[tactic(auto, using(crate::proofs::RunningLemmas::nothing_kept))]
-fn play_for<W: World + Send + Sync, O: Sink + Send + Drop, R: Threads + Wait + Sync>(
+fn run_for_build<W: World + Send + Sync, O: Sink + Send + Drop, R: Threads + Wait + Sync>(
     rt: &R,
     alloc: Global,
     build: &Build<'_>,
     image: &Verified,
     targets: &[u32],
     world: &W,
-    bell: &Parker,
+    parker: &Parker,
     out: O,
-) -> (Played, O)
+) -> (RunResult, O)
     ensures run { IfOk result.0.ran (λ r. IsRunOf W.allows (record { parts = image.now; limits = build.now.options; targets = targets.now }) r) }
-    ensures ended { IfOk result.0.ran (λ r. has_ended r.state.going.now ≡ true) }
+    ensures ended { IfOk result.0.ran (λ r. has_ended r.state.run_state.now ≡ true) }
     ensures fault { IfErr result.0.ran (λ f. faults.FaultReports W.allows (record { parts = image.now; limits = build.now.options; targets = targets.now }) f) }
     ensures printed { IfSome (defined.report_in result.0.ran) (λ r. Prints (lines_in image.now r) (result_err result.0.printed) (O.failures out, O.taken out) (O.failures result.1, O.taken result.1)) }
     ensures silent { IfNone (defined.report_in result.0.ran) (result.1 ≡ out) }
@@ -220,15 +228,15 @@ fn play_for<W: World + Send + Sync, O: Sink + Send + Drop, R: Threads + Wait + S
     match build.trace {
         Some(_) => {
             let journaled = Journaled::new(world);
-            play(rt, alloc, image, options, targets, &journaled, bell, out)
+            run_with_lines(rt, alloc, image, options, targets, &journaled, parker, out)
         }
-        None => play(rt, alloc, image, options, targets, world, bell, out),
+        None => run_with_lines(rt, alloc, image, options, targets, world, parker, out),
     }
 }
 
 /// Runs the image at a path with as many threads as commands may run at once, and prints the status lines while they
 /// work. Writes the trace if the run is to have one. Returns the status, and the sink. The status is 0 if all wanted
-/// edges succeeded, otherwise 1. Unpark `bell` to print the lines that are ready.
+/// edges succeeded, otherwise 1. Unpark `parker` to print the lines that are ready.
 ///
 /// If a run began, its whole trace is written, or a write of its file failed.
 ///
@@ -249,7 +257,7 @@ pub fn do_run<
     source: &mut S,
     build: &Build<'_>,
     world: &W,
-    bell: &Parker,
+    parker: &Parker,
     out: O,
     trace: &mut T,
 ) -> (Result<u8, PlanFault>, O)
@@ -268,10 +276,10 @@ pub fn do_run<
         Err(fault) => return (Err(fault), out),
     };
     let edges = targets.as_slice();
-    let (played, out) = play_for(rt, alloc, build, &image, edges, world, bell, out);
-    let status = told(alloc, build, &image, edges, &played, trace);
+    let (run_result, out) = run_for_build(rt, alloc, build, &image, edges, world, parker, out);
+    let status = finish_run(alloc, build, &image, edges, &run_result, trace);
     // The memory isn't freed, since the program ends soon.
-    forget(played);
+    forget(run_result);
     forget(image);
     forget(targets);
     (status, out)

@@ -2,7 +2,7 @@
 
 ghost use Rattle.std.specs.Prelude.{◌≡◌};
 
-use plan_text::{Sink, SinkFault, Tally};
+use plan_text::{GhostCounter, Sink, SinkFault};
 use std::io;
 use std::io::Write;
 use std::sync::{Mutex, Wait};
@@ -13,7 +13,7 @@ use std::sync::{Mutex, Wait};
 pub struct Screen<'a, R> {
     rt: &'a R,
     lock: &'a Mutex<()>,
-    failures: Tally,
+    failures: GhostCounter,
 }
 
 impl<'a, R: Print + Wait> Screen<'a, R> {
@@ -24,7 +24,7 @@ impl<'a, R: Print + Wait> Screen<'a, R> {
         Screen {
             rt,
             lock,
-            failures: Tally::new(),
+            failures: GhostCounter::new(),
         }
     }
 }
@@ -54,7 +54,7 @@ impl<R: Print + Wait> Sink for Screen<'_, R> {
 #[derive(Drop)]
 pub struct Standard<'a, R> {
     rt: &'a R,
-    failures: Tally,
+    failures: GhostCounter,
 }
 
 impl<'a, R: Print> Standard<'a, R> {
@@ -64,7 +64,7 @@ impl<'a, R: Print> Standard<'a, R> {
     {
         Standard {
             rt,
-            failures: Tally::new(),
+            failures: GhostCounter::new(),
         }
     }
 }

@@ -5,13 +5,13 @@ use Rattle.std.specs.List.Sorted.{IsStrictlyIncreasing}
 use Rattle.std.proofs.lemmas.Bool.{eq-eqb, ne_eqb, ltb-true, ltb-false}
 use Rattle.plan_image.specs.Spelling.{AscendsFrom}
 use Rattle.plan_verify.specs.Members.{is_member, with_member}
-use Rattle.plan_compile.specs.declared.wiring.Input.{Input}
-use Rattle.plan_compile.specs.declared.wiring.Input.TheVariants.{File, Made}
+use Rattle.plan_compile.specs.declared.layout.Input.{Input}
+use Rattle.plan_compile.specs.declared.layout.Input.TheVariants.{File, Made}
 use Rattle.plan_compile.specs.Means.{flags_of}
 use Rattle.plan_compile.specs.Slots.{members_from, flags_from}
 use Rattle.plan_compile.proofs.ListLemmas.{bool_cases}
 use Rattle.plan_compile.proofs.MemberLemmas.{In, in_list, contained, member_in, in_member}
-use Rattle.plan_compile.proofs.WiringLemmas.{with_member_has}
+use Rattle.plan_compile.proofs.LayoutLemmas.{with_member_has}
 
 -- numbers that ascend from a bound ascend from a lower one
 pub rises_lower : (m n : ℕ) (xs : List ℕ) → m ≤ n → AscendsFrom n xs → AscendsFrom m xs

@@ -13,17 +13,17 @@ use Rattle.plan_image.specs.Bodies.{body_of, operands_of}
 use Rattle.plan_image.specs.declared.image.EdgeCode.{EdgeCode}
 use Rattle.plan_image.specs.declared.image.EdgeCode.TheVariants.{Shared}
 use Rattle.plan_verify.specs.Members.{is_member}
-use Rattle.plan_compile.specs.declared.wiring.Output.{Output}
-use Rattle.plan_compile.specs.declared.wiring.Wiring.TheVariants as wiring
-use Rattle.plan_compile.specs.declared.form.Form.{Form}
-use Rattle.plan_compile.specs.declared.form.Form.TheVariants.{OneFlag, OwnFlags, Gathers, Alone}
-use Rattle.plan_compile.specs.Assembling.{command_in, first_changed, wire_in, codes_in, edge_in, edges_in}
+use Rattle.plan_compile.specs.declared.layout.Output.{Output}
+use Rattle.plan_compile.specs.declared.layout.EdgeLayout.TheVariants as layout
+use Rattle.plan_compile.specs.declared.slot_pattern.SlotPattern.{SlotPattern}
+use Rattle.plan_compile.specs.declared.slot_pattern.SlotPattern.TheVariants.{OneFlag, OwnFlags, Gathers, Alone}
+use Rattle.plan_compile.specs.Assembling.{command_in, first_changed, layout_in, codes_in, edge_in, edges_in}
 use Rattle.plan_compile.specs.BodyKeys.{Body, same_body}
 use Rattle.plan_compile.specs.Builds.{Build, Builds}
 use Rattle.plan_compile.specs.EdgeNumbers.{command_numbers, numbers_by, numbers_in}
 use Rattle.plan_compile.specs.Emit.{code_of, emitted}
 use Rattle.plan_compile.specs.Faithful.{IsEdge, IsSound}
-use Rattle.plan_compile.specs.Images.{command_wiring, wire_by, wire, codes_from, codes, used_bodies, shared, edge_by, edge_of, edges_of, image_of}
+use Rattle.plan_compile.specs.Images.{command_layout, layout_by, layout_of, codes_from, codes, used_bodies, shared, edge_by, edge_of, edges_of, image_of}
 use Rattle.plan_compile.specs.Refusals.{RefusesCodes, is_too_long}
 use Rattle.plan_compile.specs.declared.fault.CompileFault.{CompileFault}
 use Rattle.plan_compile.specs.declared.fault.CompileFault.TheVariants.{Limit, Memory}
@@ -46,7 +46,7 @@ use Rattle.plan_compile.proofs.OutputLemmas.{files_made}
 module _ (table : Table) where
   left_here : (ks : List Numbers) (ns : List ℕ) (xs : List Build) (n slot : ℕ) (k : Numbers) (x : Build) → slice_get ks n ≡ Some k → slice_get ns n ≡ Some slot → slice_get xs n ≡ Some x
       → codes_in table (drop n ks) (drop n ns) (drop n xs)
-      ≡ code_of (wire_in (form_of x) k table slot x) ∷ codes_in table (drop (n + 1) ks) (drop (n + 1) ns) (drop (n + 1) xs)
+      ≡ code_of (layout_in (form_of x) k table slot x) ∷ codes_in table (drop (n + 1) ks) (drop (n + 1) ns) (drop (n + 1) xs)
   left_here ks ns xs n slot k x named at here =
       ap (λ (js : List Numbers). codes_in table js (drop n ns) (drop n xs)) (drop_here ks n k named)
       ∙ ap (λ (ms : List ℕ). codes_in table (k ∷ drop (n + 1) ks) ms (drop n xs)) (drop_here ns n slot at)
@@ -54,7 +54,7 @@ module _ (table : Table) where
 
   pub bodies_step : (ks : List Numbers) (ns : List ℕ) (xs : List Build) (n slot : ℕ) (k : Numbers) (x : Build) (code : List Instr) (old new final : List Body)
       → slice_get ks n ≡ Some k → slice_get ns n ≡ Some slot → slice_get xs n ≡ Some x
-      → code ≡ code_of (wire_in (form_of x) k table slot x) → new ≡ with_item same_body old (body_of code)
+      → code ≡ code_of (layout_in (form_of x) k table slot x) → new ≡ with_item same_body old (body_of code)
       → with_items same_body old (map body_of (codes_in table (drop n ks) (drop n ns) (drop n xs))) ≡ final
       → with_items same_body new (map body_of (codes_in table (drop (n + 1) ks) (drop (n + 1) ns) (drop (n + 1) xs))) ≡ final
   bodies_step ks ns xs n slot k x code old new final named at here is put h =
@@ -66,7 +66,7 @@ module _ (table : Table) where
 
   pub edges_step : (ks : List Numbers) (ns : List ℕ) (xs : List Build) (n slot : ℕ) (k : Numbers) (x : Build) (code : List Instr) (old new final : List Body) (some more whole : List Edge)
       → slice_get ks n ≡ Some k → slice_get ns n ≡ Some slot → slice_get xs n ≡ Some x
-      → code ≡ code_of (wire_in (form_of x) k table slot x) → new ≡ with_item same_body old (body_of code) → more ≡ some ++ edge_in k (shared new code) x ∷ []
+      → code ≡ code_of (layout_in (form_of x) k table slot x) → new ≡ with_item same_body old (body_of code) → more ≡ some ++ edge_in k (shared new code) x ∷ []
       → with_items same_body new (map body_of (codes_in table (drop (n + 1) ks) (drop (n + 1) ns) (drop (n + 1) xs))) ≡ final
       → some ++ edges_in final (drop n ks) (codes_in table (drop n ks) (drop n ns) (drop n xs)) (drop n xs) ≡ whole
       → more ++ edges_in final (drop (n + 1) ks) (codes_in table (drop (n + 1) ks) (drop (n + 1) ns) (drop (n + 1) xs)) (drop (n + 1) xs) ≡ whole
@@ -80,14 +80,14 @@ module _ (table : Table) where
       ∙ append_assoc some (edge_in k (shared new code) x ∷ []) others
       ∙ ap (λ (m : ℕ). some ++ edge_in k (Shared m (operands_of code)) x ∷ others) stays
       ∙ ap (λ (c : List Instr). some ++ edge_in k (shared final c) x ∷ others) is
-      ∙ ap (λ (ys : List Build). some ++ edges_in final (k ∷ drop (n + 1) ks) (code_of (wire_in (form_of x) k table slot x) ∷ rest) ys) (sym (drop_here xs n x here))
-      ∙ ap (λ (js : List Numbers). some ++ edges_in final js (code_of (wire_in (form_of x) k table slot x) ∷ rest) (drop n xs)) (sym (drop_here ks n k named))
+      ∙ ap (λ (ys : List Build). some ++ edges_in final (k ∷ drop (n + 1) ks) (code_of (layout_in (form_of x) k table slot x) ∷ rest) ys) (sym (drop_here xs n x here))
+      ∙ ap (λ (js : List Numbers). some ++ edges_in final js (code_of (layout_in (form_of x) k table slot x) ∷ rest) (drop n xs)) (sym (drop_here ks n k named))
       ∙ ap (λ (cs : List (List Instr)). some ++ edges_in final (drop n ks) cs (drop n xs)) (sym (left_here ks ns xs n slot k x named at here))
       ∙ h
 
   -- a code that is too long is one of all codes
   pub long_there : (ks : List Numbers) (ns : List ℕ) (xs : List Build) (n slot : ℕ) (k : Numbers) (x : Build) → slice_get ks n ≡ Some k → slice_get ns n ≡ Some slot → slice_get xs n ≡ Some x
-      → is_too_long (code_of (wire_in (form_of x) k table slot x)) ≡ true → list_any is_too_long (codes_in table ks ns xs) ≡ true
+      → is_too_long (code_of (layout_in (form_of x) k table slot x)) ≡ true → list_any is_too_long (codes_in table ks ns xs) ≡ true
   long_there [] ns xs n slot k x named at here long = absurd cc
   long_there (j ∷ ks) [] xs n slot k x named at here long = absurd cc
   long_there (j ∷ ks) (m ∷ ns) [] n slot k x named at here long = absurd cc
@@ -95,11 +95,11 @@ module _ (table : Table) where
       let first : j ≡ k = some_is j k named in
       let second : m ≡ slot = some_is m slot at in
       let third : y ≡ x = some_is y x here in
-      or_left (is_too_long (code_of (wire_in (form_of y) j table m y))) _
-      (ap (λ (z : Build). is_too_long (code_of (wire_in (form_of z) j table m z))) third ∙ ap (λ (i : Numbers). is_too_long (code_of (wire_in (form_of x) i table m x))) first
-      ∙ ap (λ (i : ℕ). is_too_long (code_of (wire_in (form_of x) k table i x))) second ∙ long)
+      or_left (is_too_long (code_of (layout_in (form_of y) j table m y))) _
+      (ap (λ (z : Build). is_too_long (code_of (layout_in (form_of z) j table m z))) third ∙ ap (λ (i : Numbers). is_too_long (code_of (layout_in (form_of x) i table m x))) first
+      ∙ ap (λ (i : ℕ). is_too_long (code_of (layout_in (form_of x) k table i x))) second ∙ long)
   long_there (j ∷ ks) (m ∷ ns) (y ∷ xs) (suc n) slot k x named at here long =
-      or_right (is_too_long (code_of (wire_in (form_of y) j table m y))) _ (long_there ks ns xs n slot k x named at here long)
+      or_right (is_too_long (code_of (layout_in (form_of y) j table m y))) _ (long_there ks ns xs n slot k x named at here long)
 
 -- ---- refused codes
 
@@ -120,14 +120,14 @@ emitted_is is js = by_test (nat_lt 65536 (length is))
     by_test false h = cc
 
 pub code_refused : (fault : CompileFault) (table : Table) (ks : List Numbers) (ns : List ℕ) (xs : List Build) (n slot : ℕ) (k : Numbers) (x : Build) → slice_get ks n ≡ Some k → slice_get ns n ≡ Some slot → slice_get xs n ≡ Some x
-    → ((fault ≡ Memory → ⊥) → emitted (code_of (wire_in (form_of x) k table slot x)) ≡ Err fault) → RefusesCodes fault (codes_in table ks ns xs)
+    → ((fault ≡ Memory → ⊥) → emitted (code_of (layout_in (form_of x) k table slot x)) ≡ Err fault) → RefusesCodes fault (codes_in table ks ns xs)
 code_refused Memory table ks ns xs n slot k x named at here h = tt
 code_refused Limit table ks ns xs n slot k x named at here h =
-    long_there table ks ns xs n slot k x named at here (emitted_long (code_of (wire_in (form_of x) k table slot x)) (h (λ e. absurd cc)))
+    long_there table ks ns xs n slot k x named at here (emitted_long (code_of (layout_in (form_of x) k table slot x)) (h (λ e. absurd cc)))
 
--- ---- the wiring of each edge
+-- ---- the layout of each edge
 
--- an edge of these forms is no phony
+-- an edge with one of these slot patterns is no phony
 one_flag : (phony restat none : Bool) → form_by phony restat none ≡ OneFlag → phony ≡ false
 one_flag true restat true h = absurd cc
 one_flag true restat false h = absurd cc
@@ -185,48 +185,48 @@ module _ (t : Builds) (sound : IsSound t) where
     abbrev numbers : Numbers
     numbers = numbers_in (all_texts t.edges) (used_pools t.edges) x
 
-    command_is : (form : Form) (newest : ℕ) → form_of x ≡ form → x.edge.phony ≡ false → newest ≡ newest_by form b
-        → command_in numbers table newest x ≡ command_wiring (all_texts t.edges) outs form b x
+    command_is : (form : SlotPattern) (newest : ℕ) → form_of x ≡ form → x.edge.phony ≡ false → newest ≡ newest_by form b
+        → command_in numbers table newest x ≡ command_layout (all_texts t.edges) outs form b x
     command_is form newest is plain slot =
         let same : numbers ≡ command_numbers (all_texts t.edges) (used_pools t.edges) x.edge = ap (λ (p : Bool). numbers_by p (all_texts t.edges) (used_pools t.edges) x) plain in
         let command : numbers.command ≡ text_number (all_texts t.edges) x.edge.command = ap (λ (k : Numbers). k.command) same in
         let depfile : numbers.depfile ≡ depfile_number (all_texts t.edges) x.edge.depfile = ap (λ (k : Numbers). k.depfile) same in
         let named = named_is in
         let others = sources_are in
-        let outputs : outputs_in table x.outputs ≡ outputs_by form b x.outputs = outputs_are ∙ ap (λ (f : Form). outputs_by f b x.outputs) is in
+        let outputs : outputs_in table x.outputs ≡ outputs_by form b x.outputs = outputs_are ∙ ap (λ (f : SlotPattern). outputs_by f b x.outputs) is in
         cc
 
-    wire_is : (form : Form) (newest : ℕ) → form_of x ≡ form → newest ≡ newest_by form b
-        → wire_in form numbers table newest x ≡ wire_by form (all_texts t.edges) outs b x
-    wire_is OneFlag newest is slot = ap (λ w. wiring.Command w) (command_is OneFlag newest is (one_flag x.edge.phony x.edge.restat (has_none x.named && has_none x.order_only) is) slot)
-    wire_is OwnFlags newest is slot = ap (λ w. wiring.Command w) (command_is OwnFlags newest is (own_flags x.edge.phony x.edge.restat (has_none x.named && has_none x.order_only) is) slot)
-    wire_is Gathers newest is slot =
+    layout_is : (form : SlotPattern) (newest : ℕ) → form_of x ≡ form → newest ≡ newest_by form b
+        → layout_in form numbers table newest x ≡ layout_by form (all_texts t.edges) outs b x
+    layout_is OneFlag newest is slot = ap (λ w. layout.Command w) (command_is OneFlag newest is (one_flag x.edge.phony x.edge.restat (has_none x.named && has_none x.order_only) is) slot)
+    layout_is OwnFlags newest is slot = ap (λ w. layout.Command w) (command_is OwnFlags newest is (own_flags x.edge.phony x.edge.restat (has_none x.named && has_none x.order_only) is) slot)
+    layout_is Gathers newest is slot =
         let named = named_is in
         let others = sources_are in
-        let outputs : outputs_in table x.outputs ≡ outputs_sharing b (suc b) x.outputs = outputs_are ∙ ap (λ (f : Form). outputs_by f b x.outputs) is in
+        let outputs : outputs_in table x.outputs ≡ outputs_sharing b (suc b) x.outputs = outputs_are ∙ ap (λ (f : SlotPattern). outputs_by f b x.outputs) is in
         let changed : first_changed (outputs_in table x.outputs) ≡ suc b = ap first_changed outputs ∙ changed_is x.outputs (sound.makes e x at) in
         cc
-    wire_is Alone newest is slot =
-        ap (λ os. wiring.Alone os) (outputs_are ∙ ap (λ (f : Form). outputs_by f b x.outputs) is)
+    layout_is Alone newest is slot =
+        ap (λ os. layout.Alone os) (outputs_are ∙ ap (λ (f : SlotPattern). outputs_by f b x.outputs) is)
 
-    pub code_is : (newest : ℕ) → newest ≡ newest_by (form_of x) b → code_of (wire_in (form_of x) numbers table newest x) ≡ code_of (wire (all_texts t.edges) outs b x)
-    code_is newest slot = ap code_of (wire_is (form_of x) newest refl slot)
+    pub code_is : (newest : ℕ) → newest ≡ newest_by (form_of x) b → code_of (layout_in (form_of x) numbers table newest x) ≡ code_of (layout_of (all_texts t.edges) outs b x)
+    code_is newest slot = ap code_of (layout_is (form_of x) newest refl slot)
 
 -- ---- all codes
 
 codes_by : (texts pools : List Text) (table : Table) (outputs : List Output) (b : ℕ) (xs : List Build)
     → ((j : ℕ) (x : Build) → slice_get xs j ≡ Some x
-    → code_of (wire_in (form_of x) (numbers_in texts pools x) table (newest_by (form_of x) (b + base xs j)) x) ≡ code_of (wire texts outputs (b + base xs j) x))
+    → code_of (layout_in (form_of x) (numbers_in texts pools x) table (newest_by (form_of x) (b + base xs j)) x) ≡ code_of (layout_of texts outputs (b + base xs j) x))
     → codes_in table (map (numbers_in texts pools) xs) (newest_from b xs) xs ≡ codes_from texts outputs b xs
 codes_by texts pools table outputs b [] h = refl
 codes_by texts pools table outputs b (x ∷ xs) h =
     let same : b + zero ≡ b = omega arith in
     ap (λ (is : List Instr). is ∷ codes_in table (map (numbers_in texts pools) xs) (newest_from (b + own_len x) xs) xs)
-    (ap (λ (k : ℕ). code_of (wire_in (form_of x) (numbers_in texts pools x) table (newest_by (form_of x) k) x)) (sym same) ∙ h zero x refl ∙ ap (λ (k : ℕ). code_of (wire texts outputs k x)) same)
-    ∙ ap (λ (cs : List (List Instr)). code_of (wire texts outputs b x) ∷ cs)
+    (ap (λ (k : ℕ). code_of (layout_in (form_of x) (numbers_in texts pools x) table (newest_by (form_of x) k) x)) (sym same) ∙ h zero x refl ∙ ap (λ (k : ℕ). code_of (layout_of texts outputs k x)) same)
+    ∙ ap (λ (cs : List (List Instr)). code_of (layout_of texts outputs b x) ∷ cs)
     (codes_by texts pools table outputs (b + own_len x) xs λ j y at.
     let place : b + own_len x + base xs j ≡ b + (own_len x + base xs j) = omega arith in
-    ap (λ (k : ℕ). code_of (wire_in (form_of y) (numbers_in texts pools y) table (newest_by (form_of y) k) y)) place ∙ h (suc j) y at ∙ ap (λ (k : ℕ). code_of (wire texts outputs k y)) (sym place))
+    ap (λ (k : ℕ). code_of (layout_in (form_of y) (numbers_in texts pools y) table (newest_by (form_of y) k) y)) place ∙ h (suc j) y at ∙ ap (λ (k : ℕ). code_of (layout_of texts outputs k y)) (sym place))
 
 abbrev pub numbers_of : Builds → List Numbers
 numbers_of t = map (numbers_in (all_texts t.edges) (used_pools t.edges)) t.edges
@@ -235,7 +235,7 @@ pub codes_are : (t : Builds) → IsSound t → codes_in (table_of (length t.file
 codes_are t sound =
     codes_by (all_texts t.edges) (used_pools t.edges) (table_of (length t.files) (all_made zero t.edges)) (all_made zero t.edges) zero t.edges λ e x at.
     let same : zero + base t.edges e ≡ base t.edges e = omega arith in
-    code_is t sound e x at (newest_by (form_of x) (zero + base t.edges e)) (ap (λ (k : ℕ). newest_by (form_of x) k) same) ∙ ap (λ (k : ℕ). code_of (wire (all_texts t.edges) (all_made zero t.edges) k x)) (sym same)
+    code_is t sound e x at (newest_by (form_of x) (zero + base t.edges e)) (ap (λ (k : ℕ). newest_by (form_of x) k) same) ∙ ap (λ (k : ℕ). code_of (layout_of (all_texts t.edges) (all_made zero t.edges) k x)) (sym same)
 
 -- ---- all edges
 

@@ -10,13 +10,13 @@ use Rattle.plan_image.specs.declared.image.Pool.{Pool}
 use Rattle.plan_image.specs.declared.image.Parts.{Parts}
 use Rattle.plan_image.specs.Bodies.{body_of, operands_of, with_operands, IsSplit}
 use Rattle.plan_image.specs.Code.{code}
-use Rattle.plan_compile.specs.declared.wiring.Output.{Output}
+use Rattle.plan_compile.specs.declared.layout.Output.{Output}
 use Rattle.plan_compile.specs.Builds.{Build, Builds}
 use Rattle.plan_compile.specs.BodyKeys.{Body, same_body}
 use Rattle.plan_compile.specs.Emit.{code_of}
 use Rattle.plan_compile.specs.Slots.{base, own_len, all_made}
 use Rattle.plan_compile.specs.Names.{Text, text_number, unless_empty, label_of, texts_in, all_texts, pool_by, pool_in, used_pools, pool_number, declared}
-use Rattle.plan_compile.specs.Images.{wire, codes_from, codes, used_bodies, edge_of, edges_of, image_of}
+use Rattle.plan_compile.specs.Images.{layout_of, codes_from, codes, used_bodies, edge_of, edges_of, image_of}
 use Rattle.plan_compile.specs.Numbering.{number, once}
 use Rattle.plan_compile.specs.Faithful.{IsEdge, HasPool, IsFaithful, body_numbers}
 use Rattle.plan_compile.proofs.ListLemmas.{some_is, get_front, get_past}
@@ -45,18 +45,18 @@ pool_found xs e x h k name g = let at = flat_at pool_in xs e x h k name g in fou
 -- ---- codes
 
 pub code_at : (texts : List Text) (outputs : List Output) (b : ℕ) (xs : List Build) (e : ℕ) (x : Build) (c : ℕ) → c ≡ b + base xs e → slice_get xs e ≡ Some x
-    → slice_get (codes_from texts outputs b xs) e ≡ Some (code_of (wire texts outputs c x))
+    → slice_get (codes_from texts outputs b xs) e ≡ Some (code_of (layout_of texts outputs c x))
 code_at texts outputs b [] e x c is h = absurd cc
 code_at texts outputs b (y ∷ xs) zero x c is h =
     let eq : b ≡ c = omega (arith, is) in
-    ap (λ (n : ℕ). Some (code_of (wire texts outputs n y))) eq ∙ ap (λ (z : Build). Some (code_of (wire texts outputs c z))) (some_is y x h)
+    ap (λ (n : ℕ). Some (code_of (layout_of texts outputs n y))) eq ∙ ap (λ (z : Build). Some (code_of (layout_of texts outputs c z))) (some_is y x h)
 code_at texts outputs b (y ∷ xs) (suc e) x c is h =
     let deep : c ≡ b + own_len y + base xs e = omega (arith, is) in
     code_at texts outputs (b + own_len y) xs e x c deep h
 
 -- the code of the edge with this number
 abbrev pub code_in : Builds → ℕ → Build → List Instr
-code_in t e x = code_of (wire (all_texts t.edges) (all_made zero t.edges) (base t.edges e) x)
+code_in t e x = code_of (layout_of (all_texts t.edges) (all_made zero t.edges) (base t.edges e) x)
 
 pub code_stands : (t : Builds) (e : ℕ) (x : Build) → IsEdge t e x → slice_get (codes t.edges) e ≡ Some (code_in t e x)
 code_stands t e x at = code_at (all_texts t.edges) (all_made zero t.edges) zero t.edges e x (base t.edges e) (let eq : base t.edges e ≡ zero + base t.edges e = omega arith in eq) at

@@ -17,17 +17,17 @@ use Rattle.plan_verify.specs.WellShaped.{at_start, begins, IsShapedEdge}
 use Rattle.plan_compile.specs.Laws.{CommandShaped, PhonyShaped}
 use Rattle.plan_compile.specs.declared.baseline.Baseline.{Baseline}
 use Rattle.plan_compile.specs.declared.baseline.Baseline.TheVariants.{Outputs, Basis, OutputsAndBasis}
-use Rattle.plan_compile.specs.declared.wiring.Input.{Input}
-use Rattle.plan_compile.specs.declared.wiring.Input.TheVariants.{File, Made}
-use Rattle.plan_compile.specs.declared.wiring.Output.{Output}
-use Rattle.plan_compile.specs.declared.wiring.CommandWiring.{CommandWiring}
-use Rattle.plan_compile.specs.declared.wiring.GatherWiring.{GatherWiring}
-use Rattle.plan_compile.specs.Emit.{compares_basis, has_source_file, order_code, newer_code, newest_code, or_code, any_code, stat_code, older_code, oldest_code, alarm_code, weighed_code, front, flag_code, holders, restat_code, after_code, same_code, under_code, ready_code, ready_len, skip_code, clean_code, clean_len, deps_code, run_code, dirty_code, judge_code, judged_code, dirty_place, other_code, same_place, compare_code, known_place, pass_code, recalled_code, alone_code, gather_code}
+use Rattle.plan_compile.specs.declared.layout.Input.{Input}
+use Rattle.plan_compile.specs.declared.layout.Input.TheVariants.{File, Made}
+use Rattle.plan_compile.specs.declared.layout.Output.{Output}
+use Rattle.plan_compile.specs.declared.layout.CommandLayout.{CommandLayout}
+use Rattle.plan_compile.specs.declared.layout.GatherLayout.{GatherLayout}
+use Rattle.plan_compile.specs.Emit.{compares_basis, has_source_file, order_code, newer_code, newest_code, or_code, any_code, stat_code, older_code, oldest_code, rerun_flag_code, before_sweep_code, front, flag_code, holders, restat_code, after_code, same_code, under_code, ready_code, ready_len, skip_code, clean_code, clean_len, deps_code, run_code, dirty_code, age_test_code, same_command_code, dirty_place, other_code, same_place, compare_code, known_place, pass_code, from_entry_code, alone_code, gather_code}
 use Rattle.plan_compile.specs.Means.{IsText, IsOwnOf, IsLentOf, AreInputs, AreSourceFiles, AreOutputs, ShareFlag, HaveFlagSlots, slots_of, IsCommand, IsGather, IsAlone}
-use Rattle.plan_compile.proofs.Wired.{or_cases, or_right, flags_lent}
+use Rattle.plan_compile.proofs.LaidOut.{or_cases, or_right, flags_lent}
 use Rattle.plan_compile.proofs.Machine.{drop_length}
 use Rattle.plan_compile.proofs.SlotFacts.{and_both}
-use Rattle.plan_compile.proofs.Placing.{recalled_stands, judge_stands, same_stands, known_stands, baseline_stands, passed_stands, dirty_stands, run_stands}
+use Rattle.plan_compile.proofs.Placing.{from_entry_stands, age_test_stands, same_stands, known_stands, baseline_stands, passed_stands, dirty_stands, run_stands}
 use Rattle.plan_compile.proofs.Whole.{less, app_long, under_long, ready_long}
 use Rattle.plan_compile.proofs.Edge.{skip_long, ready_some}
 use Rattle.plan_compile.proofs.Scanning.{Good, good_long, are_shapes}
@@ -283,17 +283,17 @@ module _ (p : Parts) (e : ℕ) where
       load_lent s Flag (first_lent s ss lent) (less (omega arith) low) (ahead (or_code ss ++ rest) (app_long (or_code ss) rest)) (some_app (or_code ss) rest some)
       (or_fit ss rest set below due low (others_lent s ss lent) ahead some f)
 
-  pub alarm_fit : (looks : Bool) (os : List Output) (flags : List ℕ) (rest : List Instr) (set : List ℕ) (below : List Kind) (due : List (ℕ × Shape)) → HasRoom below → AreOutputs p e os → HasStamps set os → AreLent flags → IsAhead due rest → 0 < length rest
-      → Fit p e rest (sh (Flag ∷ below) false set) due → Fit p e (alarm_code looks os flags ++ rest) (sh below false set) due
+  pub rerun_flag_fit : (looks : Bool) (os : List Output) (flags : List ℕ) (rest : List Instr) (set : List ℕ) (below : List Kind) (due : List (ℕ × Shape)) → HasRoom below → AreOutputs p e os → HasStamps set os → AreLent flags → IsAhead due rest → 0 < length rest
+      → Fit p e rest (sh (Flag ∷ below) false set) due → Fit p e (rerun_flag_code looks os flags ++ rest) (sh below false set) due
   unfolding left
-  alarm_fit true os flags rest set below due low ok has lent ahead some f =
+  rerun_flag_fit true os flags rest set below due low ok has lent ahead some f =
       let l : length rest ≤ length (or_code flags ++ rest) = app_long (or_code flags) rest in
       subst (λ (c : List Instr). Fit p e c (sh below false set) due) (sym (append_assoc (oldest_code os) (op.IsMissing ∷ or_code flags) rest))
       (oldest_fit os (op.IsMissing ∷ (or_code flags ++ rest)) set below due low ok has (λ xs le. ahead xs (omega (arith, l, le))) (omega arith)
       (go_on op.IsMissing (sh (Stamp ∷ below) false set) (sh (Flag ∷ below) false set) (λ at. refl) (λ at. refl) (λ at. refl) refl
       (refl, refl, refl, refl, refl, enough_one (length below), refl, refl, refl, less (omega arith) low) (ahead (or_code flags ++ rest) l) (some_app (or_code flags) rest some)
       (or_fit flags rest set below due low lent ahead some f)))
-  alarm_fit false os flags rest set below due low ok has lent ahead some f = any_fit flags rest set below due low lent ahead some f
+  rerun_flag_fit false os flags rest set below due low ok has lent ahead some f = any_fit flags rest set below due low lent ahead some f
 
   -- flags of a clean edge, with jumps still to land
   pub flag_fit : (b : Bool) (os : List Output) (rest : List Instr) (set : List ℕ) (due : List (ℕ × Shape)) → AreOutputs p e os → ((xs : List Instr) → AreAhead p e due (xs ++ rest)) → 0 < length rest
@@ -356,7 +356,7 @@ module _ (p : Parts) (e : ℕ) where
   under_roomy true = refl
   under_roomy false = refl
 
-  module _ (w : CommandWiring) (right : IsCommand p e w) where
+  module _ (w : CommandLayout) (right : IsCommand p e w) where
     -- the slots that are set after the outputs were asked for
     abbrev pub IsReady : List ℕ → Type 0
     IsReady set = (is_member w.newest set ≡ true) × HasStamps set w.outputs
@@ -424,12 +424,12 @@ module _ (p : Parts) (e : ℕ) where
     ahead_more (x ∷ xs) d s rest ahead lt = (ahead.0, ahead_more xs d s rest ahead.1 lt)
 
     -- from the sweep on, with the jumps still to land, given that the code after the end fits
-    pub judge_fit : (at d r : ℕ) (set : List ℕ) (due : List (ℕ × Shape)) → IsReady set → d ≡ at + 6 + clean_len w → r ≡ at + 8 + clean_len w
+    pub age_test_fit : (at d r : ℕ) (set : List ℕ) (due : List (ℕ × Shape)) → IsReady set → d ≡ at + 6 + clean_len w → r ≡ at + 8 + clean_len w
         → drop d (code p e) ≡ dirty_code w → drop r (code p e) ≡ run_code w → IsAhead due (op.End ∷ dirty_code w)
         → Fit p e (op.End ∷ dirty_code w) (sh [] false (flags_set set (holders w.restat w.outputs))) ((due ++ ((d, sh (Stamp ∷ Stamp ∷ []) false set) ∷ [])) ++ ((r, sh [] false set) ∷ []))
-        → Fit p e (judge_code w at) (sh (Paths ∷ Flag ∷ Stamp ∷ Stamp ∷ []) false set) due
+        → Fit p e (age_test_code w at) (sh (Paths ∷ Flag ∷ Stamp ∷ Stamp ∷ []) false set) due
     unfolding left
-    judge_fit at d r set due ready d_is r_is d_stands r_stands ahead f =
+    age_test_fit at d r set due ready d_is r_is d_stands r_stands ahead f =
         let sd : Shape = sh (Stamp ∷ Stamp ∷ []) false set in
         let tail : List Instr = clean_code w ++ (op.End ∷ dirty_code w) in
         let late : List Instr = op.Before ∷ op.JumpIf (at + 8 + clean_len w) ∷ tail in
@@ -458,12 +458,12 @@ module _ (p : Parts) (e : ℕ) where
         → Fit p e rest (sh (Paths ∷ Flag ∷ Stamp ∷ Stamp ∷ []) false set) due → Fit p e (under_code looks w rest) (sh (Stamp ∷ Paths ∷ []) false set) due
     unfolding left
     under_fit looks rest set due ready ahead some f =
-        let alarm : List Instr = alarm_code looks w.outputs w.flags ++ (op.Swap ∷ rest) in
-        let l : length (op.Swap ∷ rest) ≤ length alarm = app_long (alarm_code looks w.outputs w.flags) (op.Swap ∷ rest) in
-        go_on op.Swap (sh (Stamp ∷ Paths ∷ []) false set) (sh (Paths ∷ Stamp ∷ []) false set) (λ at. refl) (λ at. refl) (λ at. refl) refl (refl, refl, refl, refl, refl, refl, refl, refl, refl, refl) (ahead (op.Load w.newest ∷ op.Swap ∷ alarm) (omega (arith, l))) (omega arith)
-        (load_own w.newest Stamp right.newest.0 ready.0 refl (ahead (op.Swap ∷ alarm) (omega (arith, l))) (omega arith)
-        (go_on op.Swap (sh (Stamp ∷ Paths ∷ Stamp ∷ []) false set) (sh (Paths ∷ Stamp ∷ Stamp ∷ []) false set) (λ at. refl) (λ at. refl) (λ at. refl) refl (refl, refl, refl, refl, refl, refl, refl, refl, refl, refl) (ahead alarm (omega (arith, l))) (omega (arith, l))
-        (alarm_fit looks w.outputs w.flags (op.Swap ∷ rest) set (Paths ∷ Stamp ∷ Stamp ∷ []) due refl right.outputs ready.1 lent (λ xs le. ahead xs (omega (arith, le))) (omega arith)
+        let rerun_flag : List Instr = rerun_flag_code looks w.outputs w.flags ++ (op.Swap ∷ rest) in
+        let l : length (op.Swap ∷ rest) ≤ length rerun_flag = app_long (rerun_flag_code looks w.outputs w.flags) (op.Swap ∷ rest) in
+        go_on op.Swap (sh (Stamp ∷ Paths ∷ []) false set) (sh (Paths ∷ Stamp ∷ []) false set) (λ at. refl) (λ at. refl) (λ at. refl) refl (refl, refl, refl, refl, refl, refl, refl, refl, refl, refl) (ahead (op.Load w.newest ∷ op.Swap ∷ rerun_flag) (omega (arith, l))) (omega arith)
+        (load_own w.newest Stamp right.newest.0 ready.0 refl (ahead (op.Swap ∷ rerun_flag) (omega (arith, l))) (omega arith)
+        (go_on op.Swap (sh (Stamp ∷ Paths ∷ Stamp ∷ []) false set) (sh (Paths ∷ Stamp ∷ Stamp ∷ []) false set) (λ at. refl) (λ at. refl) (λ at. refl) refl (refl, refl, refl, refl, refl, refl, refl, refl, refl, refl) (ahead rerun_flag (omega (arith, l))) (omega (arith, l))
+        (rerun_flag_fit looks w.outputs w.flags (op.Swap ∷ rest) set (Paths ∷ Stamp ∷ Stamp ∷ []) due refl right.outputs ready.1 lent (λ xs le. ahead xs (omega (arith, le))) (omega arith)
         (go_on op.Swap (sh (Flag ∷ Paths ∷ Stamp ∷ Stamp ∷ []) false set) (sh (Paths ∷ Flag ∷ Stamp ∷ Stamp ∷ []) false set) (λ at. refl) (λ at. refl) (λ at. refl) refl (refl, refl, refl, refl, refl, refl, refl, refl, refl, refl) (ahead rest (omega arith)) some f))))
 
     pub ready_fit : (b : Baseline) (rest : List Instr) (set : List ℕ) (due : List (ℕ × Shape)) → IsReady set → IsAhead due rest → 0 < length rest
@@ -512,37 +512,37 @@ module _ (p : Parts) (e : ℕ) where
         (go_on op.Equal (sh (Text ∷ Text ∷ Stamp ∷ Paths ∷ deep) false set) (sh (Flag ∷ Stamp ∷ Paths ∷ deep) false set) (λ at. refl) (λ at. refl) (λ at. refl) refl (refl, refl, refl, refl, refl, enough_two two, refl, refl, refl, less (omega arith) low) tt some f))
 
     -- the code that decides whether the edge is dirty, if no jump is still to land
-    pub judged_fit : (r : Bool) → compares_basis w.baseline ≡ r → (at : ℕ) (set : List ℕ) → IsReady set → drop at (code p e) ≡ judged_code w at → Fit p e (judged_code w at) (sh (Stamp ∷ Paths ∷ under r) false set) []
-    judged_fit r is at set ready stands =
+    pub same_command_fit : (r : Bool) → compares_basis w.baseline ≡ r → (at : ℕ) (set : List ℕ) → IsReady set → drop at (code p e) ≡ same_command_code w at → Fit p e (same_command_code w at) (sh (Stamp ∷ Paths ∷ under r) false set) []
+    same_command_fit r is at set ready stands =
         let place : ℕ = at + ready_len w in
-        let judge : drop place (code p e) ≡ judge_code w place = judge_stands (code p e) w at stands in
+        let age_test : drop place (code p e) ≡ age_test_code w place = age_test_stands (code p e) w at stands in
         let d : ℕ = place + 6 + clean_len w in
         let rr : ℕ = place + 8 + clean_len w in
-        let d_stands : drop d (code p e) ≡ dirty_code w = dirty_stands (code p e) w place judge in
-        let r_stands : drop rr (code p e) ≡ run_code w = run_stands (code p e) w place judge in
+        let d_stands : drop d (code p e) ≡ dirty_code w = dirty_stands (code p e) w place age_test in
+        let r_stands : drop rr (code p e) ≡ run_code w = run_stands (code p e) w place age_test in
         let r_long : length (run_code w) ≡ length (code p e) - rr = sym (ap length r_stands) ∙ drop_length (code p e) rr in
-        subst (λ (x : Bool). Fit p e (judged_code w at) (sh (Stamp ∷ Paths ∷ under x) false set) []) is
-        (ready_fit w.baseline (judge_code w place) set [] ready (λ xs le. tt) (omega arith)
-        (judge_fit place d rr set [] ready refl refl d_stands r_stands (λ xs le. tt)
+        subst (λ (x : Bool). Fit p e (same_command_code w at) (sh (Stamp ∷ Paths ∷ under x) false set) []) is
+        (ready_fit w.baseline (age_test_code w place) set [] ready (λ xs le. tt) (omega arith)
+        (age_test_fit place d rr set [] ready refl refl d_stands r_stands (λ xs le. tt)
         (end_land p e d rr (dirty_code w) (sh [] false (flags_set set (holders w.restat w.outputs))) (sh (Stamp ∷ Stamp ∷ []) false set) (sh [] false set)
         d_stands (omega arith) (omega (arith, r_long)) (clean_fine set ready) (dirty_fit set rr ready r_stands))))
 
     -- the same with a jump to the dirty code
-    pub judged_twice_fit : (at : ℕ) (set : List ℕ) → IsReady set → drop at (code p e) ≡ judged_code w at → Fit p e (judged_code w at) (sh (Stamp ∷ Paths ∷ under (compares_basis w.baseline)) false set) ((dirty_place w at, sh (Stamp ∷ Stamp ∷ []) false set) ∷ [])
-    judged_twice_fit at set ready stands =
+    pub same_command_twice_fit : (at : ℕ) (set : List ℕ) → IsReady set → drop at (code p e) ≡ same_command_code w at → Fit p e (same_command_code w at) (sh (Stamp ∷ Paths ∷ under (compares_basis w.baseline)) false set) ((dirty_place w at, sh (Stamp ∷ Stamp ∷ []) false set) ∷ [])
+    same_command_twice_fit at set ready stands =
         let place : ℕ = at + ready_len w in
-        let judge : drop place (code p e) ≡ judge_code w place = judge_stands (code p e) w at stands in
+        let age_test : drop place (code p e) ≡ age_test_code w place = age_test_stands (code p e) w at stands in
         let d : ℕ = place + 6 + clean_len w in
         let rr : ℕ = place + 8 + clean_len w in
         let sd : Shape = sh (Stamp ∷ Stamp ∷ []) false set in
-        let d_stands : drop d (code p e) ≡ dirty_code w = dirty_stands (code p e) w place judge in
-        let r_stands : drop rr (code p e) ≡ run_code w = run_stands (code p e) w place judge in
+        let d_stands : drop d (code p e) ≡ dirty_code w = dirty_stands (code p e) w place age_test in
+        let r_stands : drop rr (code p e) ≡ run_code w = run_stands (code p e) w place age_test in
         let d_long : length (dirty_code w) ≡ length (code p e) - d = sym (ap length d_stands) ∙ drop_length (code p e) d in
         let r_long : length (run_code w) ≡ length (code p e) - rr = sym (ap length r_stands) ∙ drop_length (code p e) rr in
         let tail : List Instr = clean_code w ++ (op.End ∷ dirty_code w) in
         let long : length (op.End ∷ dirty_code w) ≤ length tail = app_long (clean_code w) (op.End ∷ dirty_code w) in
-        ready_fit w.baseline (judge_code w place) set ((d, sd) ∷ []) ready (λ xs le. (omega (arith, d_long, long, le), tt)) (omega arith)
-        (judge_fit place d rr set ((d, sd) ∷ []) ready refl refl d_stands r_stands (λ xs le. (omega (arith, d_long, le), tt))
+        ready_fit w.baseline (age_test_code w place) set ((d, sd) ∷ []) ready (λ xs le. (omega (arith, d_long, long, le), tt)) (omega arith)
+        (age_test_fit place d rr set ((d, sd) ∷ []) ready refl refl d_stands r_stands (λ xs le. (omega (arith, d_long, le), tt))
         (end_land_twice p e d rr (dirty_code w) (sh [] false (flags_set set (holders w.restat w.outputs))) sd (sh [] false set)
         d_stands (omega arith) (omega (arith, r_long)) (clean_fine set ready) (dirty_fit set rr ready r_stands)))
 
@@ -551,17 +551,17 @@ module _ (p : Parts) (e : ℕ) where
     compare_fit at set ready stands =
         let place : ℕ = same_place w at in
         let d : ℕ = dirty_place w place in
-        let judged : List Instr = judged_code w place in
+        let judged : List Instr = same_command_code w place in
         let sj : Shape = sh (Stamp ∷ Paths ∷ under (compares_basis w.baseline)) false set in
         let sd : Shape = sh (Stamp ∷ Stamp ∷ []) false set in
-        let judged_at : drop place (code p e) ≡ judged = same_stands (code p e) w at stands in
-        let judge : drop (place + ready_len w) (code p e) ≡ judge_code w (place + ready_len w) = judge_stands (code p e) w place judged_at in
-        let d_stands : drop d (code p e) ≡ dirty_code w = dirty_stands (code p e) w (place + ready_len w) judge in
-        let j_long : length judged ≡ length (code p e) - place = sym (ap length judged_at) ∙ drop_length (code p e) place in
+        let same_command_at : drop place (code p e) ≡ judged = same_stands (code p e) w at stands in
+        let age_test : drop (place + ready_len w) (code p e) ≡ age_test_code w (place + ready_len w) = age_test_stands (code p e) w place same_command_at in
+        let d_stands : drop d (code p e) ≡ dirty_code w = dirty_stands (code p e) w (place + ready_len w) age_test in
+        let j_long : length judged ≡ length (code p e) - place = sym (ap length same_command_at) ∙ drop_length (code p e) place in
         let d_long : length (dirty_code w) ≡ length (code p e) - d = sym (ap length d_stands) ∙ drop_length (code p e) d in
         let tail : List Instr = clean_code w ++ (op.End ∷ dirty_code w) in
         let long : length (op.End ∷ dirty_code w) ≤ length tail = app_long (clean_code w) (op.End ∷ dirty_code w) in
-        let longer : length (judge_code w (place + ready_len w)) ≤ length judged = ready_long w.baseline w (judge_code w (place + ready_len w)) in
+        let longer : length (age_test_code w (place + ready_len w)) ≤ length judged = ready_long w.baseline w (age_test_code w (place + ready_len w)) in
         let other : List Instr = other_code w d judged in
         let skip : suc (suc (suc (suc (length judged)))) < length other = skip_long (compares_basis w.baseline) (op.Sweep ∷ op.Drop ∷ op.Drop ∷ op.Jump d ∷ judged) in
         same_fit w.blank (under (compares_basis w.baseline)) (op.JumpIf place ∷ other) set (under_roomy (compares_basis w.baseline)) (omega arith)
@@ -572,24 +572,24 @@ module _ (p : Parts) (e : ℕ) where
         (go_on op.Sweep (sh (Paths ∷ Flag ∷ Stamp ∷ Stamp ∷ []) false set) (sh (Swept ∷ Flag ∷ Stamp ∷ Stamp ∷ []) false set) (λ at. refl) (λ at. refl) (λ at. refl) refl (refl, refl, refl, refl, refl, refl, refl, refl, refl, refl) (omega (arith, j_long), tt) (omega arith)
         (go_on op.Drop (sh (Swept ∷ Flag ∷ Stamp ∷ Stamp ∷ []) false set) (sh (Flag ∷ Stamp ∷ Stamp ∷ []) false set) (λ at. refl) (λ at. refl) (λ at. refl) refl (refl, refl, refl, refl, refl, refl, refl, refl, refl, refl) (omega (arith, j_long), tt) (omega arith)
         (go_on op.Drop (sh (Flag ∷ Stamp ∷ Stamp ∷ []) false set) (sh (Stamp ∷ Stamp ∷ []) false set) (λ at. refl) (λ at. refl) (λ at. refl) refl (refl, refl, refl, refl, refl, refl, refl, refl, refl, refl) (omega (arith, j_long), tt) (omega arith)
-        (jump_land p e d place judged sd sj refl judged_at (omega (arith, d_long, long, longer)) (omega (arith, d_long))
+        (jump_land p e d place judged sd sj refl same_command_at (omega (arith, d_long, long, longer)) (omega (arith, d_long))
         (λ here a b. none_refused p e here (op.Jump d) sd (refl, refl, refl, refl, refl, refl, refl, refl, refl, refl) (ap (λ (x : Bool). x || nat_le (length (code p e)) d) a ∙ b) refl)
-        (judged_twice_fit place set ready judged_at)))))))
+        (same_command_twice_fit place set ready same_command_at)))))))
 
     pub pass_fit : (r : Bool) → compares_basis w.baseline ≡ r → (at : ℕ) (set : List ℕ) → IsReady set → drop at (code p e) ≡ pass_code r w at → Fit p e (pass_code r w at) (sh (Flag ∷ Text ∷ Stamp ∷ Paths ∷ under r) false set) []
     unfolding left
     pass_fit false is at set ready stands =
         go_on op.Drop (sh (Flag ∷ Text ∷ Stamp ∷ Paths ∷ Flag ∷ Stamp ∷ Stamp ∷ []) false set) (sh (Text ∷ Stamp ∷ Paths ∷ Flag ∷ Stamp ∷ Stamp ∷ []) false set) (λ at. refl) (λ at. refl) (λ at. refl) refl (refl, refl, refl, refl, refl, refl, refl, refl, refl, refl) tt (omega arith)
         (go_on op.Drop (sh (Text ∷ Stamp ∷ Paths ∷ Flag ∷ Stamp ∷ Stamp ∷ []) false set) (sh (Stamp ∷ Paths ∷ Flag ∷ Stamp ∷ Stamp ∷ []) false set) (λ at. refl) (λ at. refl) (λ at. refl) refl (refl, refl, refl, refl, refl, refl, refl, refl, refl, refl) tt
-        (ready_some w.baseline w (judge_code w (at + 2 + ready_len w))) (judged_fit false is (at + 2) set ready (passed_stands (code p e) w at stands)))
+        (ready_some w.baseline w (age_test_code w (at + 2 + ready_len w))) (same_command_fit false is (at + 2) set ready (passed_stands (code p e) w at stands)))
     pass_fit true is at set ready stands =
         let place : ℕ = known_place w at in
-        let judged : List Instr = judged_code w (place + 1) in
+        let judged : List Instr = same_command_code w (place + 1) in
         let known : drop place (code p e) ≡ op.Drop ∷ judged = known_stands (code p e) w at stands in
         let based : drop (place + 1) (code p e) ≡ judged = baseline_stands (code p e) w at stands in
         let k_long : length (op.Drop ∷ judged) ≡ length (code p e) - place = sym (ap length known) ∙ drop_length (code p e) place in
         let m_long : length judged ≡ length (code p e) - (place + 1) = sym (ap length based) ∙ drop_length (code p e) (place + 1) in
-        let some : 0 < length judged = ready_some w.baseline w (judge_code w (place + 1 + ready_len w)) in
+        let some : 0 < length judged = ready_some w.baseline w (age_test_code w (place + 1 + ready_len w)) in
         let sk : Shape = sh (Text ∷ Stamp ∷ Paths ∷ []) false set in
         let sj : Shape = sh (Stamp ∷ Paths ∷ []) false set in
         let back : List Instr = op.Jump (place + 1) ∷ op.Drop ∷ judged in
@@ -604,24 +604,24 @@ module _ (p : Parts) (e : ℕ) where
         (λ here a b. none_refused p e here (op.Jump (place + 1)) sj (refl, refl, refl, refl, refl, refl, refl, refl, refl, refl) (ap (λ (x : Bool). x || nat_le (length (code p e)) (place + 1)) a ∙ b) refl)
         (join p e op.Drop (place + 1) judged sk sj refl (λ at. refl) based some
         (λ here off. none_refused p e here op.Drop sk (refl, refl, refl, refl, refl, refl, refl, refl, refl, refl) refl off)
-        (judged_fit true is (place + 1) set ready based))))))
+        (same_command_fit true is (place + 1) set ready based))))))
 
     -- the code after the entry
-    pub recalled_fit : (g : Bool) (at : ℕ) (set : List ℕ) → IsReady set → drop at (code p e) ≡ recalled_code g w at → Fit p e (recalled_code g w at) (sh (Flag ∷ Text ∷ Stamp ∷ Paths ∷ under (compares_basis w.baseline)) false set) []
-    recalled_fit true at set ready stands = pass_fit (compares_basis w.baseline) refl at set ready stands
-    recalled_fit false at set ready stands = compare_fit at set ready stands
+    pub from_entry_fit : (g : Bool) (at : ℕ) (set : List ℕ) → IsReady set → drop at (code p e) ≡ from_entry_code g w at → Fit p e (from_entry_code g w at) (sh (Flag ∷ Text ∷ Stamp ∷ Paths ∷ under (compares_basis w.baseline)) false set) []
+    from_entry_fit true at set ready stands = pass_fit (compares_basis w.baseline) refl at set ready stands
+    from_entry_fit false at set ready stands = compare_fit at set ready stands
 
-    pub weighed_some : (r : Bool) (rest : List Instr) → 0 < length rest → 0 < length (weighed_code r w rest)
-    weighed_some true rest some = some
-    weighed_some false rest some = some_app (oldest_code w.outputs) (op.Load w.newest ∷ (alarm_code (not (has_source_file w.named)) w.outputs w.flags ++ rest)) (omega arith)
+    pub before_sweep_some : (r : Bool) (rest : List Instr) → 0 < length rest → 0 < length (before_sweep_code r w rest)
+    before_sweep_some true rest some = some
+    before_sweep_some false rest some = some_app (oldest_code w.outputs) (op.Load w.newest ∷ (rerun_flag_code (not (has_source_file w.named)) w.outputs w.flags ++ rest)) (omega arith)
 
-    pub weighed_fit : (r : Bool) (rest : List Instr) (set : List ℕ) → IsReady set → 0 < length rest → Fit p e rest (sh (under r) false set) [] → Fit p e (weighed_code r w rest) (sh [] false set) []
-    weighed_fit true rest set ready some f = f
-    weighed_fit false rest set ready some f =
-        let alarm : List Instr = alarm_code (not (has_source_file w.named)) w.outputs w.flags in
-        oldest_fit w.outputs (op.Load w.newest ∷ (alarm ++ rest)) set [] [] refl right.outputs ready.1 (λ xs le. tt) (omega arith)
-        (load_own w.newest Stamp right.newest.0 ready.0 refl tt (some_app alarm rest some)
-        (alarm_fit (not (has_source_file w.named)) w.outputs w.flags rest set (Stamp ∷ Stamp ∷ []) [] refl right.outputs ready.1 lent (λ xs le. tt) some f))
+    pub before_sweep_fit : (r : Bool) (rest : List Instr) (set : List ℕ) → IsReady set → 0 < length rest → Fit p e rest (sh (under r) false set) [] → Fit p e (before_sweep_code r w rest) (sh [] false set) []
+    before_sweep_fit true rest set ready some f = f
+    before_sweep_fit false rest set ready some f =
+        let rerun_flag : List Instr = rerun_flag_code (not (has_source_file w.named)) w.outputs w.flags in
+        oldest_fit w.outputs (op.Load w.newest ∷ (rerun_flag ++ rest)) set [] [] refl right.outputs ready.1 (λ xs le. tt) (omega arith)
+        (load_own w.newest Stamp right.newest.0 ready.0 refl tt (some_app rerun_flag rest some)
+        (rerun_flag_fit (not (has_source_file w.named)) w.outputs w.flags rest set (Stamp ∷ Stamp ∷ []) [] refl right.outputs ready.1 lent (λ xs le. tt) some f))
 
     pub front_fit : (rest : List Instr) → 0 < length rest → ((set : List ℕ) → IsReady set → Fit p e rest (sh (Flag ∷ Text ∷ Stamp ∷ Paths ∷ under (compares_basis w.baseline)) false set) []) → Fit p e (front w rest) at_start []
     unfolding left
@@ -629,14 +629,14 @@ module _ (p : Parts) (e : ℕ) where
         let set : List ℕ = stamps_set (with_member w.newest []) w.outputs in
         let has : HasStamps set w.outputs = stamps_have (with_member w.newest []) w.outputs in
         let newest : is_member w.newest set ≡ true = stamps_stay w.newest (with_member w.newest []) w.outputs (mem_here w.newest []) in
-        let weighed : List Instr = weighed_code (compares_basis w.baseline) w (op.Recall ∷ rest) in
-        let s1 : 0 < length weighed = weighed_some (compares_basis w.baseline) (op.Recall ∷ rest) (omega arith) in
-        let stats : List Instr = stat_code w.outputs ++ weighed in
+        let before_sweep : List Instr = before_sweep_code (compares_basis w.baseline) w (op.Recall ∷ rest) in
+        let s1 : 0 < length before_sweep = before_sweep_some (compares_basis w.baseline) (op.Recall ∷ rest) (omega arith) in
+        let stats : List Instr = stat_code w.outputs ++ before_sweep in
         order_fit w.order_only (newest_code w.named ++ (op.Store w.newest ∷ stats)) [] right.order_only (some_app (newest_code w.named) (op.Store w.newest ∷ stats) (omega arith))
         (newest_fit w.named (op.Store w.newest ∷ stats) [] right.named (omega arith)
-        (store_own w.newest Stamp right.newest.0 refl tt (some_app (stat_code w.outputs) weighed s1)
-        (stat_fit w.outputs weighed (with_member w.newest []) right.outputs s1
-        (weighed_fit (compares_basis w.baseline) (op.Recall ∷ rest) set (newest, has) (omega arith)
+        (store_own w.newest Stamp right.newest.0 refl tt (some_app (stat_code w.outputs) before_sweep s1)
+        (stat_fit w.outputs before_sweep (with_member w.newest []) right.outputs s1
+        (before_sweep_fit (compares_basis w.baseline) (op.Recall ∷ rest) set (newest, has) (omega arith)
         (go_on op.Recall (sh (under (compares_basis w.baseline)) false set) (sh (Flag ∷ Text ∷ Stamp ∷ Paths ∷ under (compares_basis w.baseline)) false set) (λ at. refl) (λ at. refl) (λ at. refl) refl
         (refl, refl, refl, refl, refl, enough (length (under (compares_basis w.baseline))), refl, refl, refl, less (omega arith) (under_roomy (compares_basis w.baseline))) tt some (f set (newest, has)))))))
 
@@ -675,7 +675,7 @@ module _ (p : Parts) (e : ℕ) where
       (go_on op.IsMissing (sh (Stamp ∷ []) false set1) (sh (Flag ∷ []) false set1) (λ at. refl) (λ at. refl) (λ at. refl) refl (refl, refl, refl, refl, refl, refl, refl, refl, refl, refl) tt (omega arith)
       (store_own o.changed Flag ok.0.2 refl tt (alone_some os) (alone_fit os (with_member o.changed set1) ok.1 all)))))
 
-  pub gather_fit : (g : GatherWiring) → IsGather p e g → AreIn (with_member g.changed (with_member g.stamp [])) → Fit p e (gather_code g) (sh [] false []) []
+  pub gather_fit : (g : GatherLayout) → IsGather p e g → AreIn (with_member g.changed (with_member g.stamp [])) → Fit p e (gather_code g) (sh [] false []) []
   gather_fit g right all =
       let back : List Instr = op.Store g.changed ∷ op.End ∷ [] in
       let flags : List Instr = any_code g.flags ++ back in
@@ -687,28 +687,28 @@ module _ (p : Parts) (e : ℕ) where
 
 -- ---- edges
 
-pub recalled_some : (r : Bool) (w : CommandWiring) (at : ℕ) → 0 < length (pass_code r w at)
-recalled_some true w at = omega arith
-recalled_some false w at = omega arith
+pub from_entry_some : (r : Bool) (w : CommandLayout) (at : ℕ) → 0 < length (pass_code r w at)
+from_entry_some true w at = omega arith
+from_entry_some false w at = omega arith
 
 pub command_shaped : CommandShaped
 command_shaped p e w is right tables =
     let at : ℕ = length (front w []) in
-    let rest : List Instr = recalled_code w.generator w at in
+    let rest : List Instr = from_entry_code w.generator w at in
     let some : 0 < length rest = by_generator w.generator at in
     shaped_by p e (front w rest) is (front_some rest)
-    (front_fit p e w right rest some (λ set ready. recalled_fit p e w right w.generator at set ready (recalled_stands (code p e) w is))) tables
+    (front_fit p e w right rest some (λ set ready. from_entry_fit p e w right w.generator at set ready (from_entry_stands (code p e) w is))) tables
   where
-    by_generator : (g : Bool) (at : ℕ) → 0 < length (recalled_code g w at)
-    by_generator true at = recalled_some (compares_basis w.baseline) w at
-    by_generator false at = some_app (same_code w.blank w.command) (op.JumpIf (same_place w at) ∷ other_code w (dirty_place w (same_place w at)) (judged_code w (same_place w at))) (omega arith)
+    by_generator : (g : Bool) (at : ℕ) → 0 < length (from_entry_code g w at)
+    by_generator true at = from_entry_some (compares_basis w.baseline) w at
+    by_generator false at = some_app (same_code w.blank w.command) (op.JumpIf (same_place w at) ∷ other_code w (dirty_place w (same_place w at)) (same_command_code w (same_place w at))) (omega arith)
 
     front_some : (rest : List Instr) → 0 < length (front w rest)
     front_some rest =
-        let stats : List Instr = stat_code w.outputs ++ weighed_code (compares_basis w.baseline) w (op.Recall ∷ rest) in
+        let stats : List Instr = stat_code w.outputs ++ before_sweep_code (compares_basis w.baseline) w (op.Recall ∷ rest) in
         some_app (order_code w.order_only) (newest_code w.named ++ (op.Store w.newest ∷ stats)) (some_app (newest_code w.named) (op.Store w.newest ∷ stats) (omega arith))
 
-pub gather_shaped : (p : Parts) (e : ℕ) (g : GatherWiring) → code p e ≡ gather_code g → IsGather p e g → table_refusal p e ≡ None → IsShapedEdge p e
+pub gather_shaped : (p : Parts) (e : ℕ) (g : GatherLayout) → code p e ≡ gather_code g → IsGather p e g → table_refusal p e ≡ None → IsShapedEdge p e
 gather_shaped p e g is right tables =
     let set : List ℕ = with_member g.changed (with_member g.stamp []) in
     let all : AreIn p e set = all_among (λ s. is_member s (g.stamp ∷ g.changed ∷ [])) (λ s. is_member s set) (own_slots p e) (λ s h. elim (or_cases (g.stamp == s) ((g.changed == s) || false) h) [

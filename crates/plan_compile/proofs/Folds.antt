@@ -11,14 +11,14 @@ use Rattle.plan_verify.specs.declared.value.Value.{Value}
 use Rattle.plan_verify.specs.declared.value.Value.TheVariants.{Stamp, Flag}
 use Rattle.plan_verify.specs.Tables.{owned_by}
 use Rattle.plan_verify.specs.Turn.{Slots, Meaning, earlier, later}
-use Rattle.plan_compile.specs.declared.wiring.Input.{Input}
-use Rattle.plan_compile.specs.declared.wiring.Input.TheVariants.{File, Made}
-use Rattle.plan_compile.specs.declared.wiring.Output.{Output}
-use Rattle.plan_compile.specs.Talk.{Left, Talk}
+use Rattle.plan_compile.specs.declared.layout.Input.{Input}
+use Rattle.plan_compile.specs.declared.layout.Input.TheVariants.{File, Made}
+use Rattle.plan_compile.specs.declared.layout.Output.{Output}
+use Rattle.plan_compile.specs.InteractionTree.{Left, InteractionTree}
 use Rattle.plan_compile.specs.Rule.{inputs, stamps, greatest_from, greatest, least_from, least}
-use Rattle.plan_compile.specs.Emit.{has_source_file, order_code, newer_code, newest_code, or_code, any_code, stat_code, older_code, oldest_code, alarm_code, flag_code}
+use Rattle.plan_compile.specs.Emit.{has_source_file, order_code, newer_code, newest_code, or_code, any_code, stat_code, older_code, oldest_code, rerun_flag_code, flag_code}
 use Rattle.plan_compile.specs.Means.{path_at, stamp_at, flag_at, given, source_file, output_path}
-use Rattle.plan_compile.proofs.Wired.{AreReadable, AreFlags, AreFiles, AreWritable, some_flag}
+use Rattle.plan_compile.proofs.LaidOut.{AreReadable, AreFlags, AreFiles, AreWritable, some_flag}
 use Rattle.plan_compile.proofs.Machine.{From, need, stat, load, store, plain}
 
 -- a stack with room for a few more values
@@ -87,14 +87,14 @@ or_false_right true = refl
 or_false_right false = refl
 
 module _ (meaning : Meaning) (p : Parts) (e : ℕ) (L : Slots → Left → Type 0) where
-  pub order_all : {rest : List Instr} {slots : Slots} {holding ran : Bool} (fs : List ℕ) (k : List ℕ → Talk) → AreFiles p fs
+  pub order_all : {rest : List Instr} {slots : Slots} {holding ran : Bool} (fs : List ℕ) (k : List ℕ → InteractionTree) → AreFiles p fs
       → ((ts : List ℕ) → From meaning p e L rest [] slots holding ran (k ts)) → From meaning p e L (order_code fs ++ rest) [] slots holding ran (inputs (map (source_file p) fs) k)
   order_all [] k files h = h []
   order_all (f ∷ fs) k files h =
       need meaning p e L f (path_at p f) (λ t. inputs (map (source_file p) fs) (λ ts. k (t ∷ ts))) files.0 (λ n. refl) λ n.
       plain meaning p e L op.Drop (Stamp (suc n) ∷ []) [] (λ l. refl) refl refl (order_all fs (λ ts. k (suc n ∷ ts)) files.1 (λ ts. h (suc n ∷ ts)))
 
-  pub newer_all : {rest : List Instr} {slots : Slots} {holding ran : Bool} (is : List Input) (a : ℕ) (k : List ℕ → Talk) → AreReadable p e slots is
+  pub newer_all : {rest : List Instr} {slots : Slots} {holding ran : Bool} (is : List Input) (a : ℕ) (k : List ℕ → InteractionTree) → AreReadable p e slots is
       → ((ts : List ℕ) → ((0 < a) ⊎ (has_source_file is ≡ true) → 0 < greatest_from a ts) → From meaning p e L rest (Stamp (greatest_from a ts) ∷ []) slots holding ran (k ts))
       → From meaning p e L (newer_code is ++ rest) (Stamp a ∷ []) slots holding ran (inputs (map (given p slots) is) k)
   newer_all [] a k readable h = h [] (λ c. elim c [ inl lt ↦ lt | inr none ↦ absurd cc ])
@@ -110,12 +110,12 @@ module _ (meaning : Meaning) (p : Parts) (e : ℕ) (L : Slots → Left → Type 
         | inr has ↦ inr has
       ])))))
 
-  pub from_zero : {rest : List Instr} {slots : Slots} {holding ran : Bool} {talk : Talk} (n : ℕ) (ts : List ℕ)
-      → From meaning p e L rest (Stamp (greatest (n ∷ ts)) ∷ []) slots holding ran talk → From meaning p e L rest (Stamp (greatest_from n ts) ∷ []) slots holding ran talk
-  from_zero {rest = rest} {slots = slots} {holding = holding} {ran = ran} {talk = talk} n ts h =
-      subst (λ (a : ℕ). From meaning p e L rest (Stamp (greatest_from a ts) ∷ []) slots holding ran talk) (later_zero n) h
+  pub from_zero : {rest : List Instr} {slots : Slots} {holding ran : Bool} {interaction : InteractionTree} (n : ℕ) (ts : List ℕ)
+      → From meaning p e L rest (Stamp (greatest (n ∷ ts)) ∷ []) slots holding ran interaction → From meaning p e L rest (Stamp (greatest_from n ts) ∷ []) slots holding ran interaction
+  from_zero {rest = rest} {slots = slots} {holding = holding} {ran = ran} {interaction = interaction} n ts h =
+      subst (λ (a : ℕ). From meaning p e L rest (Stamp (greatest_from a ts) ∷ []) slots holding ran interaction) (later_zero n) h
 
-  pub newest_all : {rest : List Instr} {slots : Slots} {holding ran : Bool} (is : List Input) (k : List ℕ → Talk) → AreReadable p e slots is
+  pub newest_all : {rest : List Instr} {slots : Slots} {holding ran : Bool} (is : List Input) (k : List ℕ → InteractionTree) → AreReadable p e slots is
       → ((ts : List ℕ) → IsPositive is (greatest ts) → From meaning p e L rest (Stamp (greatest ts) ∷ []) slots holding ran (k ts))
       → From meaning p e L (newest_code is ++ rest) [] slots holding ran (inputs (map (given p slots) is) k)
   newest_all [] k readable h = plain meaning p e L op.Zero [] (Stamp 0 ∷ []) (λ l. refl) refl refl (h [] (λ none. absurd cc))
@@ -128,7 +128,7 @@ module _ (meaning : Meaning) (p : Parts) (e : ℕ) (L : Slots → Left → Type 
       (newer_all is (stamp_at slots st) (λ ts. k (stamp_at slots st ∷ ts)) readable.1
       (λ ts fact. from_zero (stamp_at slots st) ts (h (stamp_at slots st ∷ ts) (λ has. subst (λ (a : ℕ). 0 < greatest_from a ts) (sym (later_zero (stamp_at slots st))) (fact (inr has))))))
 
-  pub stat_all : {rest : List Instr} {holding ran : Bool} (os : List Output) (slots : Slots) (k : List ℕ → Talk) → AreWritable p e os
+  pub stat_all : {rest : List Instr} {holding ran : Bool} (os : List Output) (slots : Slots) (k : List ℕ → InteractionTree) → AreWritable p e os
       → ((ts : List ℕ) → AreMatched os ts → From meaning p e L rest [] (stored slots os ts) holding ran (k ts))
       → From meaning p e L (stat_code os ++ rest) [] slots holding ran (stamps (map (output_path p) os) k)
   stat_all [] slots k writable h = h [] tt
@@ -137,8 +137,8 @@ module _ (meaning : Meaning) (p : Parts) (e : ℕ) (L : Slots → Left → Type 
       stat meaning p e L o.file (output_path p o) writable.0.0 (λ n. refl) λ n.
       store meaning p e L o.stamp (Stamp n) own.0 own.1 own.2 (stat_all os (slice_set slots o.stamp (Some (Stamp n))) (λ ts. k (n ∷ ts)) writable.1 (λ ts m. h (n ∷ ts) m))
 
-  pub flag_all : {rest : List Instr} {holding ran : Bool} {talk : Talk} (b : Bool) (os : List Output) (slots : Slots) → AreWritable p e os
-      → From meaning p e L rest [] (flagged slots b os) holding ran talk → From meaning p e L (flag_code b os ++ rest) [] slots holding ran talk
+  pub flag_all : {rest : List Instr} {holding ran : Bool} {interaction : InteractionTree} (b : Bool) (os : List Output) (slots : Slots) → AreWritable p e os
+      → From meaning p e L rest [] (flagged slots b os) holding ran interaction → From meaning p e L (flag_code b os ++ rest) [] slots holding ran interaction
   flag_all b [] slots writable h = h
   flag_all b (o ∷ os) slots writable h =
       let own = own_slot e (slice_get p.slots o.changed) writable.0.2 in
@@ -147,8 +147,8 @@ module _ (meaning : Meaning) (p : Parts) (e : ℕ) (L : Slots → Left → Type 
 
   -- ---- from the stored stamps, over any stack that isn't too deep
 
-  pub older_all : {rest : List Instr} {slots : Slots} {holding ran : Bool} {talk : Talk} (os : List Output) (ts : List ℕ) (a : ℕ) (below : List Value) → IsLow below → Hold slots os ts
-      → From meaning p e L rest (Stamp (least_from a ts) ∷ below) slots holding ran talk → From meaning p e L (older_code os ++ rest) (Stamp a ∷ below) slots holding ran talk
+  pub older_all : {rest : List Instr} {slots : Slots} {holding ran : Bool} {interaction : InteractionTree} (os : List Output) (ts : List ℕ) (a : ℕ) (below : List Value) → IsLow below → Hold slots os ts
+      → From meaning p e L rest (Stamp (least_from a ts) ∷ below) slots holding ran interaction → From meaning p e L (older_code os ++ rest) (Stamp a ∷ below) slots holding ran interaction
   older_all [] [] a below low hold h = h
   older_all [] (t ∷ ts) a below low hold h = absurd hold
   older_all (o ∷ os) [] a below low hold h = absurd hold
@@ -156,43 +156,43 @@ module _ (meaning : Meaning) (p : Parts) (e : ℕ) (L : Slots → Left → Type 
       load meaning p e L o.stamp (Stamp t) hold.0 (shallow_two below low)
       (plain meaning p e L op.Older (Stamp t ∷ Stamp a ∷ below) (Stamp (earlier a t) ∷ below) (λ l. refl) refl (shallow_one below low) (older_all os ts (earlier a t) below low hold.1 h))
 
-  pub oldest_all : {rest : List Instr} {slots : Slots} {holding ran : Bool} {talk : Talk} (os : List Output) (ts : List ℕ) (below : List Value) → IsLow below → Hold slots os ts
-      → From meaning p e L rest (Stamp (least ts) ∷ below) slots holding ran talk → From meaning p e L (oldest_code os ++ rest) below slots holding ran talk
+  pub oldest_all : {rest : List Instr} {slots : Slots} {holding ran : Bool} {interaction : InteractionTree} (os : List Output) (ts : List ℕ) (below : List Value) → IsLow below → Hold slots os ts
+      → From meaning p e L rest (Stamp (least ts) ∷ below) slots holding ran interaction → From meaning p e L (oldest_code os ++ rest) below slots holding ran interaction
   oldest_all [] [] below low hold h = plain meaning p e L op.Zero below (Stamp 0 ∷ below) (λ l. refl) refl (shallow_one below low) h
   oldest_all [] (t ∷ ts) below low hold h = absurd hold
   oldest_all (o ∷ os) [] below low hold h = absurd hold
   oldest_all (o ∷ os) (t ∷ ts) below low hold h = load meaning p e L o.stamp (Stamp t) hold.0 (shallow_one below low) (older_all os ts t below low hold.1 h)
 
   -- the flags of the inputs that other edges produce; the slots of other edges are as at the start
-  pub or_all : {rest : List Instr} {slots : Slots} {holding ran : Bool} {talk : Talk} (flags : List ℕ) (start : Slots) (a : Bool) (below : List Value) → IsLow below → AreFlags p e start flags
+  pub or_all : {rest : List Instr} {slots : Slots} {holding ran : Bool} {interaction : InteractionTree} (flags : List ℕ) (start : Slots) (a : Bool) (below : List Value) → IsLow below → AreFlags p e start flags
       → ((s : ℕ) → owned_by e (slice_get p.slots s) ≡ false → slice_get slots s ≡ slice_get start s)
-      → From meaning p e L rest (Flag (a || some_flag start flags) ∷ below) slots holding ran talk → From meaning p e L (or_code flags ++ rest) (Flag a ∷ below) slots holding ran talk
-  or_all {rest = rest} {slots = slots} {holding = holding} {ran = ran} {talk = talk} [] start a below low readable same h =
-      subst (λ (b : Bool). From meaning p e L rest (Flag b ∷ below) slots holding ran talk) (or_false_right a) h
-  or_all {rest = rest} {slots = slots} {holding = holding} {ran = ran} {talk = talk} (s ∷ ss) start a below low readable same h =
+      → From meaning p e L rest (Flag (a || some_flag start flags) ∷ below) slots holding ran interaction → From meaning p e L (or_code flags ++ rest) (Flag a ∷ below) slots holding ran interaction
+  or_all {rest = rest} {slots = slots} {holding = holding} {ran = ran} {interaction = interaction} [] start a below low readable same h =
+      subst (λ (b : Bool). From meaning p e L rest (Flag b ∷ below) slots holding ran interaction) (or_false_right a) h
+  or_all {rest = rest} {slots = slots} {holding = holding} {ran = ran} {interaction = interaction} (s ∷ ss) start a below low readable same h =
       load meaning p e L s (Flag (flag_at start s)) (same s readable.0.1 ∙ readable.0.0) (shallow_two below low)
       (plain meaning p e L op.Or (Flag (flag_at start s) ∷ Flag a ∷ below) (Flag (a || flag_at start s) ∷ below) (λ l. refl) refl (shallow_one below low)
       (or_all ss start (a || flag_at start s) below low readable.1 same
-      (subst (λ (b : Bool). From meaning p e L rest (Flag b ∷ below) slots holding ran talk) (sym (or_assoc a (flag_at start s) (some_flag start ss))) h)))
+      (subst (λ (b : Bool). From meaning p e L rest (Flag b ∷ below) slots holding ran interaction) (sym (or_assoc a (flag_at start s) (some_flag start ss))) h)))
 
-  pub any_all : {rest : List Instr} {slots : Slots} {holding ran : Bool} {talk : Talk} (flags : List ℕ) (start : Slots) (below : List Value) → IsLow below → AreFlags p e start flags
+  pub any_all : {rest : List Instr} {slots : Slots} {holding ran : Bool} {interaction : InteractionTree} (flags : List ℕ) (start : Slots) (below : List Value) → IsLow below → AreFlags p e start flags
       → ((s : ℕ) → owned_by e (slice_get p.slots s) ≡ false → slice_get slots s ≡ slice_get start s)
-      → From meaning p e L rest (Flag (some_flag start flags) ∷ below) slots holding ran talk → From meaning p e L (any_code flags ++ rest) below slots holding ran talk
+      → From meaning p e L rest (Flag (some_flag start flags) ∷ below) slots holding ran interaction → From meaning p e L (any_code flags ++ rest) below slots holding ran interaction
   any_all [] start below low readable same h = plain meaning p e L (op.Flag false) below (Flag false ∷ below) (λ l. refl) refl (shallow_one below low) h
   any_all (s ∷ ss) start below low readable same h =
       load meaning p e L s (Flag (flag_at start s)) (same s readable.0.1 ∙ readable.0.0) (shallow_one below low) (or_all ss start (flag_at start s) below low readable.1 same h)
 
-  -- the value of the alarm
-  abbrev pub alarm_of : (looks : Bool) → List ℕ → Bool → Bool
-  alarm_of true ts changed = (least ts == 0) || changed
-  alarm_of false ts changed = changed
+  -- the value of the rerun flag
+  abbrev pub rerun_flag_of : (looks : Bool) → List ℕ → Bool → Bool
+  rerun_flag_of true ts changed = (least ts == 0) || changed
+  rerun_flag_of false ts changed = changed
 
-  pub alarm_all : {rest : List Instr} {slots : Slots} {holding ran : Bool} {talk : Talk} (looks : Bool) (os : List Output) (ts : List ℕ) (flags : List ℕ) (start : Slots) (below : List Value) → IsLow below → Hold slots os ts
+  pub rerun_flag_all : {rest : List Instr} {slots : Slots} {holding ran : Bool} {interaction : InteractionTree} (looks : Bool) (os : List Output) (ts : List ℕ) (flags : List ℕ) (start : Slots) (below : List Value) → IsLow below → Hold slots os ts
       → AreFlags p e start flags → ((s : ℕ) → owned_by e (slice_get p.slots s) ≡ false → slice_get slots s ≡ slice_get start s)
-      → From meaning p e L rest (Flag (alarm_of looks ts (some_flag start flags)) ∷ below) slots holding ran talk → From meaning p e L (alarm_code looks os flags ++ rest) below slots holding ran talk
-  alarm_all {rest = rest} {slots = slots} {holding = holding} {ran = ran} {talk = talk} true os ts flags start below low hold readable same h =
-      subst (λ (c : List Instr). From meaning p e L c below slots holding ran talk) (sym (append_assoc (oldest_code os) (op.IsMissing ∷ or_code flags) rest))
+      → From meaning p e L rest (Flag (rerun_flag_of looks ts (some_flag start flags)) ∷ below) slots holding ran interaction → From meaning p e L (rerun_flag_code looks os flags ++ rest) below slots holding ran interaction
+  rerun_flag_all {rest = rest} {slots = slots} {holding = holding} {ran = ran} {interaction = interaction} true os ts flags start below low hold readable same h =
+      subst (λ (c : List Instr). From meaning p e L c below slots holding ran interaction) (sym (append_assoc (oldest_code os) (op.IsMissing ∷ or_code flags) rest))
       (oldest_all os ts below low hold
       (plain meaning p e L op.IsMissing (Stamp (least ts) ∷ below) (Flag (least ts == 0) ∷ below) (λ l. refl) refl (shallow_one below low)
       (or_all flags start (least ts == 0) below low readable same h)))
-  alarm_all false os ts flags start below low hold readable same h = any_all flags start below low readable same h
+  rerun_flag_all false os ts flags start below low hold readable same h = any_all flags start below low readable same h

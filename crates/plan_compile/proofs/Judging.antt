@@ -3,10 +3,10 @@ use Rattle.std.proofs.Common.{◌≡◌, ℕ, ◌<◌, ◌≤◌, Bool, true, fa
 use Rattle.std.specs.Prelude.{◌||◌, ◌&&◌, not, nat_lt, nat_le, if◌then◌else◌, ◌==◌}
 use Rattle.std.proofs.lemmas.Bool.{eqb-true, eq-eqb, ne_eqb, lt-ltb, leb-true, leb-false}
 use Rattle.plan_verify.specs.Turn.{Meaning, earlier, later, Deps}
-use Rattle.plan_compile.specs.Talk.{Talk, Ask, Left}
+use Rattle.plan_compile.specs.InteractionTree.{InteractionTree, Ask, Left}
 use Rattle.plan_compile.specs.declared.baseline.Baseline.{Baseline}
 use Rattle.plan_compile.specs.declared.baseline.Baseline.TheVariants.{Outputs, Basis, OutputsAndBasis}
-use Rattle.plan_compile.specs.declared.wiring.Output.{Output}
+use Rattle.plan_compile.specs.declared.layout.Output.{Output}
 use Rattle.plan_compile.specs.Rule.{Path, Command, Recorded, greatest_from, greatest, least_from, least, some_missing, some_changed, is_new, baseline, is_dirty, changed, depfile, read}
 use Rattle.plan_compile.proofs.Machine.{missing_from}
 use Rattle.plan_compile.proofs.Folds.{AreMatched, later_left, or_assoc, or_false_right}
@@ -59,7 +59,7 @@ changed_plain false (x ∷ os) [] new h a b = absurd a
 changed_plain false (x ∷ os) (o ∷ old) [] h a b = absurd b
 changed_plain false (x ∷ os) (o ∷ old) (n ∷ new) h a b = ap (λ (xs : Left). (n, true) ∷ xs) (changed_plain false os old new refl a b)
 
-pub depfile_asks : (meaning : Meaning) (d : List ℕ) (go : List Path → Talk) → (d ≡ [] → ⊥) → depfile meaning d go ≡ Ask (Deps d) (read meaning go)
+pub depfile_asks : (meaning : Meaning) (d : List ℕ) (go : List Path → InteractionTree) → (d ≡ [] → ⊥) → depfile meaning d go ≡ Ask (Deps d) (read meaning go)
 depfile_asks meaning [] go some = absurd (some refl)
 depfile_asks meaning (x ∷ xs) go some = refl
 
@@ -101,7 +101,7 @@ module _ (c : Command) (named old : List ℕ) (entry : Option Recorded) where
   missing_is b [] = sym (or_false_right b)
   missing_is b (t ∷ ts) = missing_is (b || (t == 0)) ts ∙ or_assoc b (t == 0) (some_missing ts)
 
-  -- If its command doesn't differ, the edge is dirty by the alarm with which the sweep continues, or by its
+  -- If its command doesn't differ, the edge is dirty by the rerun flag with which the sweep continues, or by its
   -- baseline.
   pub dirty_is : (swept : List ℕ) → (not c.generator && is_new c.command entry) ≡ false
       → is_dirty c named old entry swept ≡ (missing_from (some_missing old || some_changed c.named) swept || nat_lt (baseline c.baseline old entry) (greatest_from (greatest named) swept))

@@ -1,5 +1,5 @@
 mod Rows
-mod Wired
+mod LaidOut
 mod Machine
 mod Running
 mod Folds
@@ -19,7 +19,7 @@ mod NumberingLemmas
 mod BodyKeyLemmas
 mod EdgeLemmas
 mod OutputLemmas
-mod WiringLemmas
+mod LayoutLemmas
 mod TableLemmas
 mod ToldLemmas
 mod LawLemmas

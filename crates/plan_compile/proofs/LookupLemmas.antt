@@ -5,8 +5,8 @@ use Rattle.std.specs.List.{list_any}
 use Rattle.std.proofs.lemmas.Bool.{eqb-true, eq-eqb, leb-false}
 use Rattle.std.proofs.lemmas.Option.{slice_get_within}
 use Rattle.plan_verify.specs.Members.{is_member}
-use Rattle.plan_compile.specs.declared.wiring.Input.{Input}
-use Rattle.plan_compile.specs.declared.wiring.Output.{Output}
+use Rattle.plan_compile.specs.declared.layout.Input.{Input}
+use Rattle.plan_compile.specs.declared.layout.Output.{Output}
 use Rattle.plan_compile.specs.OutputTable.{Table, put, put_in, filled, found, inputs_in, is_unmade, is_other_source, sources_in, with_found, outputs_in}
 use Rattle.plan_compile.specs.Means.{files_of}
 use Rattle.plan_compile.specs.Slots.{find, input_by, inputs_by, sources}

@@ -1,15 +1,15 @@
--- An output's producer and its users access the same slots.
+-- The producer of an output sets the slots that the edges with this input read.
 use Rattle.std.proofs.Common.{◌≡◌, ℕ, zero, suc, ◌+◌, Bool, true, false, List, [], ◌∷◌, ◌++◌, Some, refl, sym, ap, subst, ◌∙◌, arith, inl, inr}
 use Rattle.std.specs.Prelude.{◌==◌, slice_get, option_map, if◌then◌else◌}
 use Rattle.std.proofs.lemmas.Bool.{eqb-true, eq-eqb}
 use Rattle.std.proofs.lemmas.Option.{slice_get-map}
-use Rattle.plan_compile.specs.declared.wiring.Output.{Output}
+use Rattle.plan_compile.specs.declared.layout.Output.{Output}
 use Rattle.plan_compile.specs.Builds.{Build}
 use Rattle.plan_compile.specs.Slots.{form_of, find, base, own_len, made, all_made}
 use Rattle.plan_compile.specs.Faithful.{OneAssignment}
 use Rattle.plan_compile.proofs.ListLemmas.{some_is, bool_cases}
 use Rattle.plan_compile.proofs.OutputLemmas.{files_made}
-use Rattle.plan_compile.proofs.WiringLemmas.{IsMadeBy, maker}
+use Rattle.plan_compile.proofs.LayoutLemmas.{IsMadeBy, maker}
 
 -- no file is repeated
 abbrev pub AreOnce : List Output → Type 0

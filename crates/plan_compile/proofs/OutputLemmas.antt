@@ -8,9 +8,9 @@ use Rattle.plan_image.specs.declared.instr.Kind.TheVariants.{Stamp, Flag}
 use Rattle.plan_image.specs.declared.image.Parts.{Parts}
 use Rattle.plan_verify.specs.Members.{is_member}
 use Rattle.plan_verify.specs.Tables.{owned_by, kind_in}
-use Rattle.plan_compile.specs.declared.wiring.Output.{Output}
-use Rattle.plan_compile.specs.declared.form.Form.{Form}
-use Rattle.plan_compile.specs.declared.form.Form.TheVariants.{OneFlag, OwnFlags, Gathers, Alone}
+use Rattle.plan_compile.specs.declared.layout.Output.{Output}
+use Rattle.plan_compile.specs.declared.slot_pattern.SlotPattern.{SlotPattern}
+use Rattle.plan_compile.specs.declared.slot_pattern.SlotPattern.TheVariants.{OneFlag, OwnFlags, Gathers, Alone}
 use Rattle.plan_compile.specs.Means.{IsNoStamp, IsNoFlag, AreApart, HaveOwnFlags, ShareFlag, Share, slots_of, files_of, IsOwnOf, AreOutputs}
 use Rattle.plan_compile.specs.Slots.{stamps, pairs, kinds_by, outputs_flagged, outputs_apart, outputs_sharing, outputs_by, find}
 use Rattle.plan_compile.proofs.ListLemmas.{some_is, bool_cases, or_false, or_left, or_right}
@@ -103,7 +103,7 @@ pub files_sharing : (stamp changed : ℕ) (fs : List ℕ) → files_of (outputs_
 files_sharing stamp changed [] = refl
 files_sharing stamp changed (f ∷ fs) = ap (λ (gs : List ℕ). f ∷ gs) (files_sharing stamp changed fs)
 
-pub files_made : (form : Form) (b : ℕ) (fs : List ℕ) → files_of (outputs_by form b fs) ≡ fs
+pub files_made : (form : SlotPattern) (b : ℕ) (fs : List ℕ) → files_of (outputs_by form b fs) ≡ fs
 files_made OneFlag b fs = files_flagged (suc (suc b)) b fs
 files_made OwnFlags b fs = files_apart (suc b) fs
 files_made Gathers b fs = files_sharing b (suc b) fs
@@ -193,7 +193,7 @@ module _ (p : Parts) (w f : ℕ) (o : Output) where
   found_sharing (g ∷ fs) stamp changed s c h =
       found_first p w f fs (record { file = g; stamp = stamp; changed = changed }) o (outputs_sharing stamp changed fs) s c (λ k. found_sharing fs stamp changed s c k) h
 
-  pub found_by : (form : Form) (b : ℕ) (fs : List ℕ) → Runs p w b (kinds_by form fs) → find f (outputs_by form b fs) ≡ Some o → IsOutput p w f fs o
+  pub found_by : (form : SlotPattern) (b : ℕ) (fs : List ℕ) → Runs p w b (kinds_by form fs) → find f (outputs_by form b fs) ≡ Some o → IsOutput p w f fs o
   found_by OneFlag b fs run h =
       found_flagged fs (suc (suc b)) b (rest_run p w (suc b) Stamp (stamps fs) (rest_run p w b Flag (Stamp ∷ stamps fs) run)) (first_run p w b Flag (Stamp ∷ stamps fs) run) h
   found_by OwnFlags b fs run h = found_apart fs (suc b) (rest_run p w b Stamp (pairs fs) run) h

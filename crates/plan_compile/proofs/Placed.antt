@@ -11,13 +11,13 @@ use Rattle.plan_verify.specs.Members.{is_member}
 use Rattle.plan_verify.specs.Tables.{owned_by, own_slots}
 use Rattle.plan_verify.specs.Turn.{Slots, Meaning}
 use Rattle.plan_verify.specs.Alone.{at_begin}
-use Rattle.plan_compile.specs.declared.wiring.Output.{Output}
-use Rattle.plan_compile.specs.Talk.{Left, Talk, Over, Obeys}
+use Rattle.plan_compile.specs.declared.layout.Output.{Output}
+use Rattle.plan_compile.specs.InteractionTree.{Left, InteractionTree, Over, Obeys}
 use Rattle.plan_compile.specs.Rule.{inputs, stamps, greatest, some_changed, changed, alone}
-use Rattle.plan_compile.specs.declared.wiring.GatherWiring.{GatherWiring}
+use Rattle.plan_compile.specs.declared.layout.GatherLayout.{GatherLayout}
 use Rattle.plan_compile.specs.Emit.{restat_code, alone_code, gather_code}
 use Rattle.plan_compile.specs.Means.{given, source_file, output_path, Leaves, IsNoStamp, IsNoFlag, AreApart, HaveOwnFlags, Share, slots_of}
-use Rattle.plan_compile.proofs.Wired.{IsOwn, AreReadable, AreFlags, AreFiles, AreWritable, AreOfTwoKinds, some_flag, or_cases}
+use Rattle.plan_compile.proofs.LaidOut.{IsOwn, AreReadable, AreFlags, AreFiles, AreWritable, AreOfTwoKinds, some_flag, or_cases}
 use Rattle.plan_compile.proofs.Machine.{From, plain, load, stat, store, finish}
 use Rattle.plan_compile.proofs.Folds.{Hold, own_slot, order_all, newest_all, any_all}
 use Rattle.plan_compile.proofs.SlotFacts.{get_same, get_other, set_length, own_within, hold_set, left_set, all_set, filled}
@@ -57,7 +57,7 @@ module _ (p : Parts) (e : ℕ) where
 
 module _ (meaning : Meaning) (p : Parts) (e : ℕ) (L : Slots → Left → Type 0) where
   -- a restat edge's outputs after its command
-  pub restat_all : {rest : List Instr} {ran : Bool} (os : List Output) (slots : Slots) (old : List ℕ) (k : List ℕ → Talk) → length slots ≡ length p.slots → AreWritable p e os → AreApart os → AreOfTwoKinds os → Hold slots os old
+  pub restat_all : {rest : List Instr} {ran : Bool} (os : List Output) (slots : Slots) (old : List ℕ) (k : List ℕ → InteractionTree) → length slots ≡ length p.slots → AreWritable p e os → AreApart os → AreOfTwoKinds os → Hold slots os old
       → ((new : List ℕ) → AreAsMany os (changed true old new) → From meaning p e L rest [] (placed slots os (changed true old new)) false ran (k new))
       → From meaning p e L (restat_code os ++ rest) [] slots false ran (stamps (map (output_path p) os) k)
   restat_all [] slots [] k table writable apart kinds hold h = h [] tt
@@ -109,7 +109,7 @@ module _ (meaning : Meaning) (p : Parts) (e : ℕ) (all : List Output) (own : li
   alone_means slots is table writable apart kinds flags =
       (alone_all all slots as_files table writable (λ ts m. placed_leaves p e slots all (as_files ts) table writable apart kinds flags m)).go 0 is
 
-module _ (meaning : Meaning) (p : Parts) (e : ℕ) (g : GatherWiring) where
+module _ (meaning : Meaning) (p : Parts) (e : ℕ) (g : GatherLayout) where
   pub shared_left : (os : List Output) (slots : Slots) (stamp flag n : ℕ) (b : Bool) → Share stamp flag os → slice_get slots stamp ≡ Some (Some (Stamp n)) → slice_get slots flag ≡ Some (Some (Flag b))
       → Leaves os slots (map (λ path. (n, b)) (map (output_path p) os))
   shared_left [] slots stamp flag n b share s f = tt

@@ -5,8 +5,8 @@ use Rattle.plan_image.specs.declared.instr.Instr.{Instr}
 use Rattle.plan_image.specs.declared.instr.Instr.TheVariants as op
 use Rattle.plan_compile.specs.declared.baseline.Baseline.{Baseline}
 use Rattle.plan_compile.specs.declared.baseline.Baseline.TheVariants.{Outputs, Basis, OutputsAndBasis}
-use Rattle.plan_compile.specs.declared.wiring.CommandWiring.{CommandWiring}
-use Rattle.plan_compile.specs.Emit.{compares_basis, has_source_file, order_code, newest_code, stat_code, oldest_code, alarm_code, weighed_code, front, same_code, under_code, ready_code, ready_len, skip_code, clean_code, clean_len, run_code, dirty_code, judge_code, judged_code, dirty_place, other_code, same_place, compare_code, known_place, pass_code, recalled_code, command_code}
+use Rattle.plan_compile.specs.declared.layout.CommandLayout.{CommandLayout}
+use Rattle.plan_compile.specs.Emit.{compares_basis, has_source_file, order_code, newest_code, stat_code, oldest_code, rerun_flag_code, before_sweep_code, front, same_code, under_code, ready_code, ready_len, skip_code, clean_code, clean_len, run_code, dirty_code, age_test_code, same_command_code, dirty_place, other_code, same_place, compare_code, known_place, pass_code, from_entry_code, command_code}
 
 pub drop_twice : {I : Type 0} (code : List I) (a b : ℕ) → drop a (drop b code) ≡ drop (b + a) code
 drop_twice code a zero = let e : 0 + a ≡ a = omega arith in ap (λ n. drop n code) (sym e)
@@ -24,17 +24,17 @@ behind code at xs ys h = sym (drop_twice code (length xs) at) ∙ (ap (λ (zs : 
 
 -- ---- fragments that take what follows as an argument
 
-pub weighed_app : (basis : Bool) (w : CommandWiring) (xs rest : List Instr) → weighed_code basis w (xs ++ rest) ≡ weighed_code basis w xs ++ rest
-weighed_app true w xs rest = refl
-weighed_app false w xs rest =
-    let alarm : List Instr = alarm_code (not (has_source_file w.named)) w.outputs w.flags in
-    ap (λ (ys : List Instr). oldest_code w.outputs ++ (op.Load w.newest ∷ ys)) (sym (append_assoc alarm xs rest))
-    ∙ sym (append_assoc (oldest_code w.outputs) (op.Load w.newest ∷ (alarm ++ xs)) rest)
+pub before_sweep_app : (basis : Bool) (w : CommandLayout) (xs rest : List Instr) → before_sweep_code basis w (xs ++ rest) ≡ before_sweep_code basis w xs ++ rest
+before_sweep_app true w xs rest = refl
+before_sweep_app false w xs rest =
+    let rerun_flag : List Instr = rerun_flag_code (not (has_source_file w.named)) w.outputs w.flags in
+    ap (λ (ys : List Instr). oldest_code w.outputs ++ (op.Load w.newest ∷ ys)) (sym (append_assoc rerun_flag xs rest))
+    ∙ sym (append_assoc (oldest_code w.outputs) (op.Load w.newest ∷ (rerun_flag ++ xs)) rest)
 
-pub front_app : (w : CommandWiring) (rest : List Instr) → front w rest ≡ front w [] ++ rest
+pub front_app : (w : CommandLayout) (rest : List Instr) → front w rest ≡ front w [] ++ rest
 front_app w rest =
-    let inner : List Instr → List Instr = λ xs. weighed_code (compares_basis w.baseline) w (op.Recall ∷ xs) in
-    let e1 : inner rest ≡ inner [] ++ rest = weighed_app (compares_basis w.baseline) w (op.Recall ∷ []) rest in
+    let inner : List Instr → List Instr = λ xs. before_sweep_code (compares_basis w.baseline) w (op.Recall ∷ xs) in
+    let e1 : inner rest ≡ inner [] ++ rest = before_sweep_app (compares_basis w.baseline) w (op.Recall ∷ []) rest in
     let e2 : stat_code w.outputs ++ inner rest ≡ (stat_code w.outputs ++ inner []) ++ rest =
     ap (λ (xs : List Instr). stat_code w.outputs ++ xs) e1 ∙ sym (append_assoc (stat_code w.outputs) (inner []) rest) in
     let e3 : newest_code w.named ++ (op.Store w.newest ∷ (stat_code w.outputs ++ inner rest)) ≡ (newest_code w.named ++ (op.Store w.newest ∷ (stat_code w.outputs ++ inner []))) ++ rest =
@@ -43,11 +43,11 @@ front_app w rest =
     ap (λ (xs : List Instr). order_code w.order_only ++ xs) e3
     ∙ sym (append_assoc (order_code w.order_only) (newest_code w.named ++ (op.Store w.newest ∷ (stat_code w.outputs ++ inner []))) rest)
 
-pub under_app : (looks : Bool) (w : CommandWiring) (rest : List Instr) → under_code looks w rest ≡ under_code looks w [] ++ rest
+pub under_app : (looks : Bool) (w : CommandLayout) (rest : List Instr) → under_code looks w rest ≡ under_code looks w [] ++ rest
 under_app looks w rest =
-    ap (λ (xs : List Instr). op.Swap ∷ op.Load w.newest ∷ op.Swap ∷ xs) (sym (append_assoc (alarm_code looks w.outputs w.flags) (op.Swap ∷ []) rest))
+    ap (λ (xs : List Instr). op.Swap ∷ op.Load w.newest ∷ op.Swap ∷ xs) (sym (append_assoc (rerun_flag_code looks w.outputs w.flags) (op.Swap ∷ []) rest))
 
-pub ready_app : (b : Baseline) (w : CommandWiring) (rest : List Instr) → ready_code b w rest ≡ ready_code b w [] ++ rest
+pub ready_app : (b : Baseline) (w : CommandLayout) (rest : List Instr) → ready_code b w rest ≡ ready_code b w [] ++ rest
 ready_app Outputs w rest = refl
 ready_app Basis w rest = under_app true w rest
 ready_app OutputsAndBasis w rest =
@@ -66,59 +66,59 @@ skip_length false a b = refl
 
 -- ---- places
 
-module _ (code : List Instr) (w : CommandWiring) where
+module _ (code : List Instr) (w : CommandLayout) where
   -- after the flags of a clean edge
-  pub past_clean : (at : ℕ) → drop at code ≡ judge_code w at → drop (at + 5 + clean_len w) code ≡ op.End ∷ dirty_code w
+  pub past_clean : (at : ℕ) → drop at code ≡ age_test_code w at → drop (at + 5 + clean_len w) code ≡ op.End ∷ dirty_code w
   past_clean at h =
       behind code (at + 5) (clean_code w) (op.End ∷ dirty_code w)
       (behind code at (op.Sweep ∷ op.Drop ∷ op.JumpIf (at + 6 + clean_len w) ∷ op.Before ∷ op.JumpIf (at + 8 + clean_len w) ∷ []) (clean_code w ++ (op.End ∷ dirty_code w)) h)
 
-  pub dirty_stands : (at : ℕ) → drop at code ≡ judge_code w at → drop (at + 6 + clean_len w) code ≡ dirty_code w
+  pub dirty_stands : (at : ℕ) → drop at code ≡ age_test_code w at → drop (at + 6 + clean_len w) code ≡ dirty_code w
   dirty_stands at h =
       let e : at + 6 + clean_len w ≡ (at + 5 + clean_len w) + 1 = omega arith in
       ap (λ (n : ℕ). drop n code) e ∙ behind code (at + 5 + clean_len w) (op.End ∷ []) (dirty_code w) (past_clean at h)
 
-  pub run_stands : (at : ℕ) → drop at code ≡ judge_code w at → drop (at + 8 + clean_len w) code ≡ run_code w
+  pub run_stands : (at : ℕ) → drop at code ≡ age_test_code w at → drop (at + 8 + clean_len w) code ≡ run_code w
   run_stands at h =
       let e : at + 8 + clean_len w ≡ (at + 5 + clean_len w) + 3 = omega arith in
       ap (λ (n : ℕ). drop n code) e ∙ behind code (at + 5 + clean_len w) (op.End ∷ op.Drop ∷ op.Drop ∷ []) (run_code w) (past_clean at h)
 
-  pub judge_stands : (at : ℕ) → drop at code ≡ judged_code w at → drop (at + ready_len w) code ≡ judge_code w (at + ready_len w)
-  judge_stands at h = behind code at (ready_code w.baseline w []) (judge_code w (at + ready_len w)) (h ∙ ready_app w.baseline w (judge_code w (at + ready_len w)))
+  pub age_test_stands : (at : ℕ) → drop at code ≡ same_command_code w at → drop (at + ready_len w) code ≡ age_test_code w (at + ready_len w)
+  age_test_stands at h = behind code at (ready_code w.baseline w []) (age_test_code w (at + ready_len w)) (h ∙ ready_app w.baseline w (age_test_code w (at + ready_len w)))
 
   -- after the comparison
-  pub same_stands : (at : ℕ) → drop at code ≡ compare_code w at → drop (same_place w at) code ≡ judged_code w (same_place w at)
+  pub same_stands : (at : ℕ) → drop at code ≡ compare_code w at → drop (same_place w at) code ≡ same_command_code w (same_place w at)
   same_stands at h =
       let place : ℕ = same_place w at in
       let dirty : ℕ = dirty_place w place in
       let same : List Instr = same_code w.blank w.command in
-      let jump : drop (at + length same) code ≡ op.JumpIf place ∷ other_code w dirty (judged_code w place) =
-      behind code at same (op.JumpIf place ∷ other_code w dirty (judged_code w place)) h in
-      let other : drop (at + length same + 1) code ≡ other_code w dirty (judged_code w place) =
-      behind code (at + length same) (op.JumpIf place ∷ []) (other_code w dirty (judged_code w place)) jump in
+      let jump : drop (at + length same) code ≡ op.JumpIf place ∷ other_code w dirty (same_command_code w place) =
+      behind code at same (op.JumpIf place ∷ other_code w dirty (same_command_code w place)) h in
+      let other : drop (at + length same + 1) code ≡ other_code w dirty (same_command_code w place) =
+      behind code (at + length same) (op.JumpIf place ∷ []) (other_code w dirty (same_command_code w place)) jump in
       ap (λ (n : ℕ). drop (at + length same + 1 + n) code) (skip_length (compares_basis w.baseline) 0 dirty)
-      ∙ behind code (at + length same + 1) (other_code w dirty []) (judged_code w place)
-      (other ∙ skip_app (compares_basis w.baseline) (op.Sweep ∷ op.Drop ∷ op.Drop ∷ op.Jump dirty ∷ []) (judged_code w place))
+      ∙ behind code (at + length same + 1) (other_code w dirty []) (same_command_code w place)
+      (other ∙ skip_app (compares_basis w.baseline) (op.Sweep ∷ op.Drop ∷ op.Drop ∷ op.Jump dirty ∷ []) (same_command_code w place))
 
   -- the place at which the baseline of a generator that compares the basis is known
-  pub known_stands : (at : ℕ) → drop at code ≡ pass_code true w at → drop (known_place w at) code ≡ op.Drop ∷ judged_code w (known_place w at + 1)
+  pub known_stands : (at : ℕ) → drop at code ≡ pass_code true w at → drop (known_place w at) code ≡ op.Drop ∷ same_command_code w (known_place w at + 1)
   known_stands at h =
       let oldest : List Instr = oldest_code w.outputs in
-      let tail : List Instr = op.Drop ∷ judged_code w (known_place w at + 1) in
+      let tail : List Instr = op.Drop ∷ same_command_code w (known_place w at + 1) in
       let jump : drop (at + 3 + length oldest) code ≡ op.Jump (known_place w at + 1) ∷ tail =
       behind code (at + 3) oldest (op.Jump (known_place w at + 1) ∷ tail)
       (behind code at (op.JumpIf (known_place w at) ∷ op.Drop ∷ op.Drop ∷ []) (oldest ++ (op.Jump (known_place w at + 1) ∷ tail)) h) in
       let e : known_place w at ≡ at + 3 + length oldest + 1 = omega arith in
       ap (λ (n : ℕ). drop n code) e ∙ behind code (at + 3 + length oldest) (op.Jump (known_place w at + 1) ∷ []) tail jump
 
-  pub baseline_stands : (at : ℕ) → drop at code ≡ pass_code true w at → drop (known_place w at + 1) code ≡ judged_code w (known_place w at + 1)
-  baseline_stands at h = behind code (known_place w at) (op.Drop ∷ []) (judged_code w (known_place w at + 1)) (known_stands at h)
+  pub baseline_stands : (at : ℕ) → drop at code ≡ pass_code true w at → drop (known_place w at + 1) code ≡ same_command_code w (known_place w at + 1)
+  baseline_stands at h = behind code (known_place w at) (op.Drop ∷ []) (same_command_code w (known_place w at + 1)) (known_stands at h)
 
-  pub passed_stands : (at : ℕ) → drop at code ≡ pass_code false w at → drop (at + 2) code ≡ judged_code w (at + 2)
-  passed_stands at h = behind code at (op.Drop ∷ op.Drop ∷ []) (judged_code w (at + 2)) h
+  pub passed_stands : (at : ℕ) → drop at code ≡ pass_code false w at → drop (at + 2) code ≡ same_command_code w (at + 2)
+  passed_stands at h = behind code at (op.Drop ∷ op.Drop ∷ []) (same_command_code w (at + 2)) h
 
   -- the code after the front
-  pub recalled_stands : code ≡ command_code w → drop (length (front w [])) code ≡ recalled_code w.generator w (length (front w []))
-  recalled_stands is =
-      ap (λ (xs : List Instr). drop (length (front w [])) xs) (is ∙ front_app w (recalled_code w.generator w (length (front w []))))
-      ∙ drop_all (front w []) (recalled_code w.generator w (length (front w [])))
+  pub from_entry_stands : code ≡ command_code w → drop (length (front w [])) code ≡ from_entry_code w.generator w (length (front w []))
+  from_entry_stands is =
+      ap (λ (xs : List Instr). drop (length (front w [])) xs) (is ∙ front_app w (from_entry_code w.generator w (length (front w []))))
+      ∙ drop_all (front w []) (from_entry_code w.generator w (length (front w [])))

@@ -4,7 +4,7 @@ use Rattle.std.specs.Prelude.{slice_get}
 use Rattle.std.proofs.lemmas.List.{append_assoc}
 use Rattle.plan_image.specs.declared.image.Slot.{Slot}
 use Rattle.plan_image.specs.declared.instr.Kind.{Kind}
-use Rattle.plan_compile.specs.declared.wiring.Output.{Output}
+use Rattle.plan_compile.specs.declared.layout.Output.{Output}
 use Rattle.plan_compile.specs.Builds.{Build}
 use Rattle.plan_compile.specs.OutputTable.{Table, put, filled}
 use Rattle.plan_compile.specs.Slots.{own_kinds, own_len, owned, pairs, slot_count, stamps, slots_from, form_of, newest_by, newest_from, made, all_made}

@@ -27,15 +27,15 @@ use Rattle.plan_verify.specs.Turn.{Slots, Stat, Recall, Run, Deps, Keep, StampIs
 use Rattle.plan_compile.specs.declared.baseline.Baseline.TheVariants as baseline
 use Rattle.plan_compile.specs.declared.baseline.OutOfDateRule.{OutOfDateRule}
 use Rattle.plan_compile.specs.declared.baseline.OutOfDateRule.TheVariants.{Specified, Stricter}
-use Rattle.plan_compile.specs.declared.wiring.Input.TheVariants.{File, Made}
-use Rattle.plan_compile.specs.declared.wiring.Output.{Output}
-use Rattle.plan_compile.specs.declared.wiring.CommandWiring.{CommandWiring}
-use Rattle.plan_compile.specs.declared.wiring.GatherWiring.{GatherWiring}
-use Rattle.plan_compile.specs.Talk.{Over, Fail, Follows, Obeys}
+use Rattle.plan_compile.specs.declared.layout.Input.TheVariants.{File, Made}
+use Rattle.plan_compile.specs.declared.layout.Output.{Output}
+use Rattle.plan_compile.specs.declared.layout.CommandLayout.{CommandLayout}
+use Rattle.plan_compile.specs.declared.layout.GatherLayout.{GatherLayout}
+use Rattle.plan_compile.specs.InteractionTree.{Over, Fail, Follows, Obeys}
 use Rattle.plan_compile.specs.Rule.{Path, Command, SourceFile, baseline, baseline_by, runs, does, does_phony}
 use Rattle.plan_compile.specs.Rule.{Made as MadeBy}
 use Rattle.plan_compile.specs.Emit.{command_code, alone_code, gather_code}
-use Rattle.plan_compile.specs.declared.wiring.Wiring.TheVariants as wiring
+use Rattle.plan_compile.specs.declared.layout.EdgeLayout.TheVariants as layout
 use Rattle.plan_compile.specs.Means.{IsText, text_at, IsCommand, IsGather, IsAlone, CodeMeans, Leaves, command_of}
 use Rattle.plan_compile.proofs.Edge.{command_means, phony_means}
 use Rattle.plan_compile.proofs.EdgeShapes.{command_shaped, phony_shaped}
@@ -68,7 +68,7 @@ gen_clean : Follows (does none_read gen) ((Stat src, StampIs 50) ∷ (Stat mid, 
 unfolding gen none_read
 gen_clean = (refl, (refl, (refl, refl)))
 
--- its user is clean if the input is unchanged
+-- the edge that depends on it is clean if the input is unchanged
 chained : Command
 chained = record { named = MadeBy 30 false ∷ []; order_only = []; outputs = codes "out" ∷ []; command = codes "cp"; depfile = []; restat = false; generator = false; baseline = baseline.Outputs }
 
@@ -225,7 +225,7 @@ always_changed = (refl, refl)
 user : Command
 user = record { named = MadeBy 0 true ∷ []; order_only = []; outputs = codes "x" ∷ []; command = codes "true"; depfile = []; restat = false; generator = false; baseline = baseline.Outputs }
 
--- so its user runs each time
+-- so the edge that depends on it runs each time
 user_runs : Follows (does none_read user)
     ((Stat (codes "x"), StampIs 9) ∷ (Recall (codes "x"), Entry (codes "true") 0 []) ∷ (Run (codes "true") (codes "x" ∷ []), Exit 0) ∷ (Keep (codes "x") (codes "true") 0 [], Kept) ∷ (Stat (codes "x"), StampIs 9) ∷ [])
     (Over true ((9, true) ∷ []))
@@ -251,7 +251,7 @@ ordered_gathers = refl
 -- ---- code
 
 -- one source file, one output, a depfile
-compiled : CommandWiring
+compiled : CommandLayout
 compiled = record {
   named = File 1 ∷ [];
   order_only = [];
@@ -277,7 +277,7 @@ unfolding compiled
 compiled_code = refl
 
 -- two inputs of one producer, two outputs, an order-only source file
-linked : CommandWiring
+linked : CommandLayout
 linked = record {
   named = Made 0 1 ∷ Made 2 1 ∷ [];
   order_only = 4 ∷ [];
@@ -304,7 +304,7 @@ unfolding linked
 linked_code = refl
 
 -- a restat edge
-restated : CommandWiring
+restated : CommandLayout
 restated = record {
   named = File 1 ∷ [];
   order_only = [];
@@ -330,7 +330,7 @@ unfolding restated
 restated_code = refl
 
 -- an edge that compares both, with two outputs and no source file
-joined : CommandWiring
+joined : CommandLayout
 joined = record {
   named = Made 0 1 ∷ [];
   order_only = [];
@@ -357,7 +357,7 @@ unfolding joined
 joined_code = refl
 
 -- the same as a generator
-regenerated : CommandWiring
+regenerated : CommandLayout
 regenerated = record {
   named = File 1 ∷ [];
   order_only = [];
@@ -382,18 +382,18 @@ regenerated_code : command_code regenerated ≡
 unfolding regenerated
 regenerated_code = refl
 
--- phonies of each form
+-- phonies of each sort
 alone_row : alone_code (record { file = 7; stamp = 0; changed = 1 } ∷ []) ≡ op.Stat 7 ∷ op.Store 0 ∷ op.Load 0 ∷ op.IsMissing ∷ op.Store 1 ∷ op.End ∷ []
 alone_row = refl
 
-gathering : GatherWiring
+gathering : GatherLayout
 gathering = record { named = File 3 ∷ Made 0 1 ∷ []; order_only = 4 ∷ []; outputs = record { file = 7; stamp = 2; changed = 3 } ∷ []; flags = 1 ∷ []; stamp = 2; changed = 3 }
 
 gather_row : gather_code gathering ≡ op.Need 4 ∷ op.Drop ∷ op.Need 3 ∷ op.Load 0 ∷ op.Newer ∷ op.Store 2 ∷ op.Load 1 ∷ op.Store 3 ∷ op.End ∷ []
 unfolding gathering
 gather_row = refl
 
-ordering : GatherWiring
+ordering : GatherLayout
 ordering = record { named = []; order_only = []; outputs = record { file = 7; stamp = 2; changed = 3 } ∷ []; flags = []; stamp = 2; changed = 3 }
 
 ordering_row : gather_code ordering ≡ op.Zero ∷ op.Store 2 ∷ op.Flag false ∷ op.Store 3 ∷ op.End ∷ []
@@ -405,7 +405,7 @@ ordering_row = refl
 outputs_alone : List Output
 outputs_alone = record { file = 2; stamp = 3; changed = 4 } ∷ []
 
-gathers_all : GatherWiring
+gathers_all : GatherLayout
 gathers_all = record { named = Made 0 1 ∷ File 1 ∷ Made 3 4 ∷ []; order_only = []; outputs = record { file = 3; stamp = 5; changed = 6 } ∷ []; flags = 4 ∷ 1 ∷ []; stamp = 5; changed = 6 }
 
 slot_of : ℕ → Kind → Slot
@@ -424,9 +424,9 @@ image = record {
   defaults = 2 ∷ [];
 }
 
-compiled_wired : IsCommand image 0 compiled
+compiled_laid_out : IsCommand image 0 compiled
 unfolding image compiled slot_of
-compiled_wired = record {
+compiled_laid_out = record {
   named = (refl, tt);
   order_only = tt;
   outputs = ((refl, (refl, refl), (refl, refl)), tt);
@@ -442,13 +442,13 @@ compiled_wired = record {
   pool = refl;
 }
 
-alone_wired : IsAlone image 1 outputs_alone
+alone_laid_out : IsAlone image 1 outputs_alone
 unfolding image outputs_alone slot_of
-alone_wired = record { outputs = ((refl, (refl, refl), (refl, refl)), tt); apart = (tt, tt); flags = (tt, tt); own = refl }
+alone_laid_out = record { outputs = ((refl, (refl, refl), (refl, refl)), tt); apart = (tt, tt); flags = (tt, tt); own = refl }
 
-gather_wired : IsGather image 2 gathers_all
+gather_laid_out : IsGather image 2 gathers_all
 unfolding image gathers_all slot_of
-gather_wired = record {
+gather_laid_out = record {
   named = (((refl, refl, refl), (refl, refl, refl)), (refl, (((refl, refl, refl), (refl, refl, refl)), tt)));
   order_only = tt;
   flags = λ s. turned (4 == s) (1 == s);
@@ -481,17 +481,17 @@ tables_right = (refl, refl, refl)
 -- the verifier accepts it
 all_shaped : IsShapedEdge image 0 × IsShapedEdge image 1 × IsShapedEdge image 2
 all_shaped = (
-  command_shaped image 0 compiled compiled_code_is compiled_wired tables_right.0,
-  phony_shaped.alone image 1 outputs_alone alone_code_is alone_wired tables_right.1,
-  phony_shaped.gather image 2 gathers_all gather_code_is gather_wired tables_right.2,
+  command_shaped image 0 compiled compiled_code_is compiled_laid_out tables_right.0,
+  phony_shaped.alone image 1 outputs_alone alone_code_is alone_laid_out tables_right.1,
+  phony_shaped.gather image 2 gathers_all gather_code_is gather_laid_out tables_right.2,
 )
 
 -- its edges follow the rule
-compiled_means : CodeMeans image 0 (wiring.Command compiled)
-compiled_means = command_means image 0 compiled compiled_code_is compiled_wired
+compiled_means : CodeMeans image 0 (layout.Command compiled)
+compiled_means = command_means image 0 compiled compiled_code_is compiled_laid_out
 
-gathered_means : CodeMeans image 2 (wiring.Gather gathers_all)
-gathered_means = phony_means.gather image 2 gathers_all gather_code_is gather_wired
+gathered_means : CodeMeans image 2 (layout.Gather gathers_all)
+gathered_means = phony_means.gather image 2 gathers_all gather_code_is gather_laid_out
 
 -- with no slot set, as when the first edge begins
 abbrev unset : ℕ → Slots

@@ -10,11 +10,11 @@ use Rattle.plan_verify.specs.declared.value.Value.TheVariants.{Stamp, Flag}
 use Rattle.plan_verify.specs.Members.{is_member}
 use Rattle.plan_verify.specs.Tables.{owned_by}
 use Rattle.plan_verify.specs.Turn.{Slots, is_set, is_filled}
-use Rattle.plan_compile.specs.declared.wiring.Output.{Output}
-use Rattle.plan_compile.specs.Talk.{Left}
+use Rattle.plan_compile.specs.declared.layout.Output.{Output}
+use Rattle.plan_compile.specs.InteractionTree.{Left}
 use Rattle.plan_compile.specs.Emit.{holders}
 use Rattle.plan_compile.specs.Means.{Leaves, IsNoStamp, IsNoFlag, AreApart, ShareFlag, HaveFlagSlots, slots_of}
-use Rattle.plan_compile.proofs.Wired.{IsOwn, AreWritable, AreOfTwoKinds, or_cases}
+use Rattle.plan_compile.proofs.LaidOut.{IsOwn, AreWritable, AreOfTwoKinds, or_cases}
 use Rattle.plan_compile.proofs.Folds.{stored, flagged, AreMatched, Hold, own_slot}
 
 pub get_same : {A : Type 0} (xs : List A) (i : ℕ) (x : A) → i < length xs → slice_get (slice_set xs i x) i ≡ Some x

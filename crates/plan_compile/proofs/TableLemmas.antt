@@ -13,8 +13,8 @@ use Rattle.plan_verify.specs.declared.fault.Refusal.TheVariants as refusal
 use Rattle.plan_verify.specs.Members.{is_member}
 use Rattle.plan_verify.specs.Tables.{kind_in, slot_kind, own_slots}
 use Rattle.plan_verify.specs.Shape.{is_paths, ranks_below, lacks_outputs, first_of, table_refusal_of, table_refusal, image_refusal}
-use Rattle.plan_compile.specs.declared.form.Form.{Form}
-use Rattle.plan_compile.specs.declared.form.Form.TheVariants.{OneFlag, OwnFlags, Gathers, Alone}
+use Rattle.plan_compile.specs.declared.slot_pattern.SlotPattern.{SlotPattern}
+use Rattle.plan_compile.specs.declared.slot_pattern.SlotPattern.TheVariants.{OneFlag, OwnFlags, Gathers, Alone}
 use Rattle.plan_compile.specs.Builds.{Build, Builds}
 use Rattle.plan_compile.specs.Slots.{form_of, stamps, pairs, kinds_by}
 use Rattle.plan_compile.specs.Names.{label_of, all_texts}
@@ -23,7 +23,7 @@ use Rattle.plan_compile.specs.Faithful.{IsEdge, IsSound}
 use Rattle.plan_compile.proofs.ListLemmas.{some_is, or_left, or_right}
 use Rattle.plan_compile.proofs.RunLemmas.{IsSlotOf, slot_of, none_own}
 use Rattle.plan_compile.proofs.EdgeLemmas.{image_edge, image_count, text_found}
-use Rattle.plan_compile.proofs.WiringLemmas.{number_inside, pool_right}
+use Rattle.plan_compile.proofs.LayoutLemmas.{number_inside, pool_right}
 
 pub all_members : (test : ℕ → Bool) (ws : List ℕ) → ((w : ℕ) → is_member w ws ≡ true → test w ≡ true) → list_all test ws ≡ true
 all_members test [] h = refl
@@ -51,7 +51,7 @@ pairs_fit : (fs : List ℕ) → NoPaths (pairs fs)
 pairs_fit [] = no_more
 pairs_fit (f ∷ fs) = first_fits Stamp (Flag ∷ pairs fs) refl (first_fits Flag (pairs fs) refl (pairs_fit fs))
 
-kinds_fit : (form : Form) (fs : List ℕ) → NoPaths (kinds_by form fs)
+kinds_fit : (form : SlotPattern) (fs : List ℕ) → NoPaths (kinds_by form fs)
 kinds_fit OneFlag fs = first_fits Flag (Stamp ∷ stamps fs) refl (first_fits Stamp (stamps fs) refl (stamps_fit fs))
 kinds_fit OwnFlags fs = first_fits Stamp (pairs fs) refl (pairs_fit fs)
 kinds_fit Gathers fs = first_fits Stamp (Flag ∷ []) refl (first_fits Flag [] refl no_more)

@@ -4,7 +4,7 @@ use Rattle.std.specs.Prelude.{◌||◌, if◌then◌else◌}
 use Rattle.std.specs.List.{list_any, position_or_len}
 use Rattle.std.proofs.lemmas.List.Recursion.{is_position_or_len}
 use Rattle.indexmap.specs.IndexSet.{insert_key}
-use Rattle.plan_compile.specs.declared.key.HeldKey.{HeldKey}
+use Rattle.plan_compile.specs.declared.text_key.HeldKey.{HeldKey}
 use Rattle.plan_compile.specs.Names.{Text, text_number}
 use Rattle.plan_compile.specs.Numbering.{has, with_item}
 use Rattle.plan_compile.proofs.NumberingLemmas.{number_put, texts_decide}

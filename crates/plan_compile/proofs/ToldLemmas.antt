@@ -6,21 +6,21 @@ use Rattle.plan_image.specs.declared.image.Parts.{Parts}
 use Rattle.plan_verify.specs.Members.{is_member}
 use Rattle.plan_verify.specs.Turn.{Slots, Meaning}
 use Rattle.plan_compile.specs.declared.baseline.Baseline.TheVariants as baseline
-use Rattle.plan_compile.specs.declared.wiring.Output.{Output}
-use Rattle.plan_compile.specs.declared.form.Form.{Form}
-use Rattle.plan_compile.specs.declared.form.Form.TheVariants.{OneFlag, OwnFlags, Gathers, Alone}
+use Rattle.plan_compile.specs.declared.layout.Output.{Output}
+use Rattle.plan_compile.specs.declared.slot_pattern.SlotPattern.{SlotPattern}
+use Rattle.plan_compile.specs.declared.slot_pattern.SlotPattern.TheVariants.{OneFlag, OwnFlags, Gathers, Alone}
 use Rattle.plan_compile.specs.Rule.{Path, Given, SourceFile, Command, is_among, asked, does, does_phony}
 use Rattle.plan_compile.specs.Rule.{has_none as has_none_given}
 use Rattle.plan_compile.specs.Means.{text_in, text_at, given, source_file, output_path, depfile_text, files_of, command_of, rule_of, AreGiven}
 use Rattle.plan_compile.specs.Builds.{Build, Builds}
 use Rattle.plan_compile.specs.Slots.{has_none, form_of, base, outputs_by, all_made, find, input_by, inputs_by, sources}
 use Rattle.plan_compile.specs.Names.{Text, text_number, unless_empty, all_texts, depfile_number}
-use Rattle.plan_compile.specs.Images.{command_wiring, wire_by, image_of}
+use Rattle.plan_compile.specs.Images.{command_layout, layout_by, image_of}
 use Rattle.plan_compile.specs.Faithful.{IsEdge}
 use Rattle.plan_compile.specs.Told.{path_in, told_by, told, facts, edge_does}
 use Rattle.plan_compile.proofs.ListLemmas.{bool_cases}
 use Rattle.plan_compile.proofs.OutputLemmas.{files_made}
-use Rattle.plan_compile.proofs.WiringLemmas.{command_found, depfile_found, one_flag_is, own_flags_is, gathers_is, alone_is}
+use Rattle.plan_compile.proofs.LayoutLemmas.{command_found, depfile_found, one_flag_is, own_flags_is, gathers_is, alone_is}
 
 module _ (t : Builds) (slots : Slots) where
   -- ---- inputs
@@ -87,7 +87,7 @@ module _ (t : Builds) (slots : Slots) where
   map_files [] = refl
   map_files (o ∷ os) = ap (λ (ps : List Path). path_in t o.file ∷ ps) (map_files os)
 
-  pub outputs_told : (form : Form) (b : ℕ) (fs : List ℕ) → map (output_path (image_of t)) (outputs_by form b fs) ≡ map (path_in t) fs
+  pub outputs_told : (form : SlotPattern) (b : ℕ) (fs : List ℕ) → map (output_path (image_of t)) (outputs_by form b fs) ≡ map (path_in t) fs
   outputs_told form b fs = map_files (outputs_by form b fs) ∙ ap (λ (gs : List ℕ). map (path_in t) gs) (files_made form b fs)
 
   depfile_told : (p : Parts) (d : Text) → ((k : ℕ) (c : Text) → slice_get (unless_empty d) k ≡ Some c → slice_get p.texts (text_number p.texts c) ≡ Some c)
@@ -105,8 +105,8 @@ module _ (t : Builds) (slots : Slots) where
     abbrev phony_like : List Given → List Path → Command
     phony_like named outputs = record { named = named; order_only = order_only; outputs = outputs; command = []; depfile = []; restat = false; generator = false; baseline = baseline.Outputs }
 
-    command_told : (form : Form) → x.edge.phony ≡ false
-        → command_of (image_of t) slots (command_wiring (all_texts t.edges) (all_made zero t.edges) form (base t.edges e) x) order_only ≡ facts t slots x
+    command_told : (form : SlotPattern) → x.edge.phony ≡ false
+        → command_of (image_of t) slots (command_layout (all_texts t.edges) (all_made zero t.edges) form (base t.edges e) x) order_only ≡ facts t slots x
     command_told form command =
         let named = inputs_told x.named in
         let outputs = outputs_told form (base t.edges e) x.outputs in
@@ -114,13 +114,13 @@ module _ (t : Builds) (slots : Slots) where
         let depfile = depfile_told (image_of t) x.edge.depfile (depfile_found t e x at command) in
         cc
 
-    phony_told : (form : Form) → map (output_path (image_of t)) (outputs_by form (base t.edges e) x.outputs) ≡ map (path_in t) x.outputs
+    phony_told : (form : SlotPattern) → map (output_path (image_of t)) (outputs_by form (base t.edges e) x.outputs) ≡ map (path_in t) x.outputs
     phony_told form = outputs_told form (base t.edges e) x.outputs
 
     none_given : (has_none x.named && has_none x.order_only) ≡ false → (has_none_given (map (told t slots) x.named) && has_none_given order_only) ≡ false
     none_given h = ap (λ (b : Bool). b && has_none_given order_only) (none_told x.named) ∙ ap (λ (b : Bool). has_none x.named && b) (none_told x.order_only) ∙ h
 
-    pub given_by : (form : Form) → form_of x ≡ form → AreGiven (image_of t) slots order_only (wire_by form (all_texts t.edges) (all_made zero t.edges) (base t.edges e) x)
+    pub given_by : (form : SlotPattern) → form_of x ≡ form → AreGiven (image_of t) slots order_only (layout_by form (all_texts t.edges) (all_made zero t.edges) (base t.edges e) x)
     given_by OneFlag is = ap (λ (gs : List Given). asked gs order_only) (inputs_told x.named) ∙ asked_are x.named x.order_only
     given_by OwnFlags is = ap (λ (gs : List Given). asked gs order_only) (inputs_told x.named) ∙ asked_are x.named x.order_only
     given_by Gathers is =
@@ -137,8 +137,8 @@ module _ (t : Builds) (slots : Slots) where
         no_second [] (g ∷ gs) h = absurd cc
         no_second (f ∷ fs) gs h = absurd cc
 
-    pub rule_told : (meaning : Meaning) (form : Form) → form_of x ≡ form
-        → rule_of meaning (image_of t) slots order_only (wire_by form (all_texts t.edges) (all_made zero t.edges) (base t.edges e) x) ≡ edge_does x.edge.phony meaning (facts t slots x)
+    pub rule_told : (meaning : Meaning) (form : SlotPattern) → form_of x ≡ form
+        → rule_of meaning (image_of t) slots order_only (layout_by form (all_texts t.edges) (all_made zero t.edges) (base t.edges e) x) ≡ edge_does x.edge.phony meaning (facts t slots x)
     rule_told meaning OneFlag is =
         let forms = one_flag_is x.edge.phony x.edge.restat (has_none x.named && has_none x.order_only) is in
         ap (does meaning) (command_told OneFlag forms.0) ∙ ap (λ (b : Bool). edge_does b meaning (facts t slots x)) (sym forms.0)

@@ -1,12 +1,12 @@
 -- An edge by its numbers, as the code builds it from the table of outputs.
 use Rattle.std.specs.Prelude.{ℕ, zero, List, [], ◌∷◌}
-use Rattle.plan_compile.specs.declared.wiring.Output.{Output}
-use Rattle.plan_compile.specs.declared.wiring.CommandWiring.{CommandWiring}
-use Rattle.plan_compile.specs.declared.wiring.GatherWiring.{GatherWiring}
-use Rattle.plan_compile.specs.declared.wiring.Wiring.{Wiring}
-use Rattle.plan_compile.specs.declared.wiring.Wiring.TheVariants as wiring
-use Rattle.plan_compile.specs.declared.form.Form.{Form}
-use Rattle.plan_compile.specs.declared.form.Form.TheVariants.{Gathers, Alone}
+use Rattle.plan_compile.specs.declared.layout.Output.{Output}
+use Rattle.plan_compile.specs.declared.layout.CommandLayout.{CommandLayout}
+use Rattle.plan_compile.specs.declared.layout.GatherLayout.{GatherLayout}
+use Rattle.plan_compile.specs.declared.layout.EdgeLayout.{EdgeLayout}
+use Rattle.plan_compile.specs.declared.layout.EdgeLayout.TheVariants as layout
+use Rattle.plan_compile.specs.declared.slot_pattern.SlotPattern.{SlotPattern}
+use Rattle.plan_compile.specs.declared.slot_pattern.SlotPattern.TheVariants.{Gathers, Alone}
 use Rattle.plan_image.specs.declared.instr.Instr.{Instr}
 use Rattle.plan_compile.specs.Builds.{Build}
 use Rattle.plan_compile.specs.Emit.{code_of}
@@ -18,7 +18,7 @@ use Rattle.plan_compile.specs.declared.numbers.Numbers.{Numbers}
 use Rattle.plan_compile.specs.OutputTable.{Table, inputs_in, outputs_in, sources_in}
 use Rattle.plan_compile.specs.Slots.{flags_once, form_of}
 
-abbrev pub command_in : Numbers → Table → (newest : ℕ) → Build → CommandWiring
+abbrev pub command_in : Numbers → Table → (newest : ℕ) → Build → CommandLayout
 command_in numbers table newest x = record {
   named = inputs_in table x.named;
   order_only = sources_in table x.named x.order_only;
@@ -37,7 +37,7 @@ abbrev pub first_changed : List Output → ℕ
 first_changed [] = zero
 first_changed (o ∷ os) = o.changed
 
-abbrev pub gather_in : Table → (newest : ℕ) → Build → GatherWiring
+abbrev pub gather_in : Table → (newest : ℕ) → Build → GatherLayout
 gather_in table newest x = record {
   named = inputs_in table x.named;
   order_only = sources_in table x.named x.order_only;
@@ -47,14 +47,14 @@ gather_in table newest x = record {
   changed = first_changed (outputs_in table x.outputs);
 }
 
-abbrev pub wire_in : Form → Numbers → Table → (newest : ℕ) → Build → Wiring
-wire_in Gathers numbers table newest x = wiring.Gather (gather_in table newest x)
-wire_in Alone numbers table newest x = wiring.Alone (outputs_in table x.outputs)
-wire_in form numbers table newest x = wiring.Command (command_in numbers table newest x)
+abbrev pub layout_in : SlotPattern → Numbers → Table → (newest : ℕ) → Build → EdgeLayout
+layout_in Gathers numbers table newest x = layout.Gather (gather_in table newest x)
+layout_in Alone numbers table newest x = layout.Alone (outputs_in table x.outputs)
+layout_in form numbers table newest x = layout.Command (command_in numbers table newest x)
 
 -- the codes of edges, given the numbers and the newest input's slot of each
 abbrev pub codes_in : Table → List Numbers → List ℕ → List Build → List (List Instr)
-codes_in table (k ∷ ks) (n ∷ ns) (x ∷ xs) = code_of (wire_in (form_of x) k table n x) ∷ codes_in table ks ns xs
+codes_in table (k ∷ ks) (n ∷ ns) (x ∷ xs) = code_of (layout_in (form_of x) k table n x) ∷ codes_in table ks ns xs
 codes_in table _ _ _ = []
 
 -- an edge with these numbers and this code

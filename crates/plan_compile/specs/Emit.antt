@@ -7,13 +7,13 @@ use Rattle.plan_compile.specs.declared.fault.CompileFault.{CompileFault}
 use Rattle.plan_compile.specs.declared.fault.CompileFault.TheVariants.{Limit}
 use Rattle.plan_compile.specs.declared.baseline.Baseline.{Baseline}
 use Rattle.plan_compile.specs.declared.baseline.Baseline.TheVariants.{Outputs, Basis, OutputsAndBasis}
-use Rattle.plan_compile.specs.declared.wiring.Input.{Input}
-use Rattle.plan_compile.specs.declared.wiring.Input.TheVariants.{File, Made}
-use Rattle.plan_compile.specs.declared.wiring.Output.{Output}
-use Rattle.plan_compile.specs.declared.wiring.CommandWiring.{CommandWiring}
-use Rattle.plan_compile.specs.declared.wiring.GatherWiring.{GatherWiring}
-use Rattle.plan_compile.specs.declared.wiring.Wiring.{Wiring}
-use Rattle.plan_compile.specs.declared.wiring.Wiring.TheVariants.{Command, Gather, Alone}
+use Rattle.plan_compile.specs.declared.layout.Input.{Input}
+use Rattle.plan_compile.specs.declared.layout.Input.TheVariants.{File, Made}
+use Rattle.plan_compile.specs.declared.layout.Output.{Output}
+use Rattle.plan_compile.specs.declared.layout.CommandLayout.{CommandLayout}
+use Rattle.plan_compile.specs.declared.layout.GatherLayout.{GatherLayout}
+use Rattle.plan_compile.specs.declared.layout.EdgeLayout.{EdgeLayout}
+use Rattle.plan_compile.specs.declared.layout.EdgeLayout.TheVariants.{Command, Gather, Alone}
 
 -- ---- inputs
 
@@ -105,21 +105,21 @@ compares_basis OutputsAndBasis = true
 -- Whether an output is missing or an input changed. An output is missing if the least stamp is 0. This isn't
 -- tested if the baseline is no later than the oldest output and a source file is named: that source file is
 -- newer than a missing output.
-abbrev pub alarm_code : (looks : Bool) → List Output → (flags : List ℕ) → List Instr
-alarm_code true os flags = oldest_code os ++ (op.IsMissing ∷ or_code flags)
-alarm_code false os flags = any_code flags
+abbrev pub rerun_flag_code : (looks : Bool) → List Output → (flags : List ℕ) → List Instr
+rerun_flag_code true os flags = oldest_code os ++ (op.IsMissing ∷ or_code flags)
+rerun_flag_code false os flags = any_code flags
 
 -- The values before the sweep, if no basis is compared: the oldest output's stamp as the baseline, the newest
--- input's stamp, and the alarm.
-abbrev pub weighed_code : (basis : Bool) → CommandWiring → List Instr → List Instr
-weighed_code true w rest = rest
-weighed_code false w rest =
-    oldest_code w.outputs ++ (op.Load w.newest ∷ (alarm_code (not (has_source_file w.named)) w.outputs w.flags ++ rest))
+-- input's stamp, and the rerun flag.
+abbrev pub before_sweep_code : (basis : Bool) → CommandLayout → List Instr → List Instr
+before_sweep_code true w rest = rest
+before_sweep_code false w rest =
+    oldest_code w.outputs ++ (op.Load w.newest ∷ (rerun_flag_code (not (has_source_file w.named)) w.outputs w.flags ++ rest))
 
 -- the questions up to the entry
-abbrev pub front : CommandWiring → List Instr → List Instr
+abbrev pub front : CommandLayout → List Instr → List Instr
 front w rest =
-    order_code w.order_only ++ (newest_code w.named ++ (op.Store w.newest ∷ (stat_code w.outputs ++ weighed_code (compares_basis w.baseline) w (op.Recall ∷ rest))))
+    order_code w.order_only ++ (newest_code w.named ++ (op.Store w.newest ∷ (stat_code w.outputs ++ before_sweep_code (compares_basis w.baseline) w (op.Recall ∷ rest))))
 
 -- ---- a command edge from its recorded entry on
 
@@ -129,18 +129,18 @@ abbrev pub same_code : (blank : Bool) → ℕ → List Instr
 same_code true t = op.Not ∷ op.Swap ∷ op.Text t ∷ op.Equal ∷ op.Not ∷ op.Or ∷ op.Not ∷ []
 same_code false t = op.Drop ∷ op.Text t ∷ op.Equal ∷ []
 
--- from a baseline above the paths to the baseline, the newest input's stamp, the alarm and the paths
-abbrev pub under_code : (looks : Bool) → CommandWiring → List Instr → List Instr
-under_code looks w rest = op.Swap ∷ op.Load w.newest ∷ op.Swap ∷ (alarm_code looks w.outputs w.flags ++ (op.Swap ∷ rest))
+-- from a baseline above the paths to the baseline, the newest input's stamp, the rerun flag and the paths
+abbrev pub under_code : (looks : Bool) → CommandLayout → List Instr → List Instr
+under_code looks w rest = op.Swap ∷ op.Load w.newest ∷ op.Swap ∷ (rerun_flag_code looks w.outputs w.flags ++ (op.Swap ∷ rest))
 
 -- Prepares the sweep. The recorded basis is above the paths. It is dropped if it isn't compared. Otherwise it
 -- is the baseline, or the earlier of it and the oldest output is.
-abbrev pub ready_code : Baseline → CommandWiring → List Instr → List Instr
+abbrev pub ready_code : Baseline → CommandLayout → List Instr → List Instr
 ready_code Outputs w rest = op.Drop ∷ rest
 ready_code Basis w rest = under_code true w rest
 ready_code OutputsAndBasis w rest = oldest_code w.outputs ++ (op.Older ∷ under_code (not (has_source_file w.named)) w rest)
 
-abbrev pub ready_len : CommandWiring → ℕ
+abbrev pub ready_len : CommandLayout → ℕ
 ready_len w = length (ready_code w.baseline w [])
 
 -- the same if the edge is known to be dirty, with any stamp and any flag
@@ -154,66 +154,66 @@ deps_code (Some t) = op.Flag false ∷ op.Text t ∷ op.Deps ∷ op.Sweep ∷ op
 deps_code None = op.NoPaths ∷ []
 
 -- from the request for a job token on
-abbrev pub run_code : CommandWiring → List Instr
+abbrev pub run_code : CommandLayout → List Instr
 run_code w =
     op.Take ∷ op.Text w.command ∷ op.Run ∷ op.Release ∷ op.Text w.command ∷ op.Load w.newest
     ∷ (deps_code w.depfile ++ (op.Keep ∷ after_code w.restat w.outputs (op.End ∷ [])))
 
 -- the same, with two values to drop first
-abbrev pub dirty_code : CommandWiring → List Instr
+abbrev pub dirty_code : CommandLayout → List Instr
 dirty_code w = op.Drop ∷ op.Drop ∷ run_code w
 
 -- the flags of a clean edge
-abbrev pub clean_code : CommandWiring → List Instr
+abbrev pub clean_code : CommandLayout → List Instr
 clean_code w = flag_code false (holders w.restat w.outputs)
 
-abbrev pub clean_len : CommandWiring → ℕ
+abbrev pub clean_len : CommandLayout → ℕ
 clean_len w = length (clean_code w)
 
 -- From place `at` on: sweeps, compares, and ends if the edge is clean.
-abbrev pub judge_code : CommandWiring → (at : ℕ) → List Instr
-judge_code w at =
+abbrev pub age_test_code : CommandLayout → (at : ℕ) → List Instr
+age_test_code w at =
     op.Sweep ∷ op.Drop ∷ op.JumpIf (at + 6 + clean_len w) ∷ op.Before ∷ op.JumpIf (at + 8 + clean_len w)
     ∷ (clean_code w ++ (op.End ∷ dirty_code w))
 
 -- the same, if it is known that the command is the recorded one
-abbrev pub judged_code : CommandWiring → (at : ℕ) → List Instr
-judged_code w at = ready_code w.baseline w (judge_code w (at + ready_len w))
+abbrev pub same_command_code : CommandLayout → (at : ℕ) → List Instr
+same_command_code w at = ready_code w.baseline w (age_test_code w (at + ready_len w))
 
 -- the place of the dirty code after that
-abbrev pub dirty_place : CommandWiring → (at : ℕ) → ℕ
+abbrev pub dirty_place : CommandLayout → (at : ℕ) → ℕ
 dirty_place w at = at + ready_len w + 6 + clean_len w
 
 -- if the recorded command differs, the paths are swept nevertheless
-abbrev pub other_code : CommandWiring → (dirty : ℕ) → List Instr → List Instr
+abbrev pub other_code : CommandLayout → (dirty : ℕ) → List Instr → List Instr
 other_code w dirty rest = skip_code (compares_basis w.baseline) (op.Sweep ∷ op.Drop ∷ op.Drop ∷ op.Jump dirty ∷ rest)
 
 -- the place of the code after the comparison that decides whether the edge is dirty
-abbrev pub same_place : CommandWiring → (at : ℕ) → ℕ
+abbrev pub same_place : CommandLayout → (at : ℕ) → ℕ
 same_place w at = at + length (same_code w.blank w.command) + 1 + length (other_code w 0 [])
 
-abbrev pub compare_code : CommandWiring → (at : ℕ) → List Instr
+abbrev pub compare_code : CommandLayout → (at : ℕ) → List Instr
 compare_code w at =
     same_code w.blank w.command
-    ++ (op.JumpIf (same_place w at) ∷ other_code w (dirty_place w (same_place w at)) (judged_code w (same_place w at)))
+    ++ (op.JumpIf (same_place w at) ∷ other_code w (dirty_place w (same_place w at)) (same_command_code w (same_place w at)))
 
 -- the place at which the baseline of a generator that compares the basis of its entry is known
-abbrev pub known_place : CommandWiring → (at : ℕ) → ℕ
+abbrev pub known_place : CommandLayout → (at : ℕ) → ℕ
 known_place w at = at + 4 + length (oldest_code w.outputs)
 
 -- a generator doesn't compare the command; without an entry the baseline is the oldest output
-abbrev pub pass_code : (basis : Bool) → CommandWiring → (at : ℕ) → List Instr
+abbrev pub pass_code : (basis : Bool) → CommandLayout → (at : ℕ) → List Instr
 pass_code true w at =
     op.JumpIf (known_place w at) ∷ op.Drop ∷ op.Drop
-    ∷ (oldest_code w.outputs ++ (op.Jump (known_place w at + 1) ∷ op.Drop ∷ judged_code w (known_place w at + 1)))
-pass_code false w at = op.Drop ∷ op.Drop ∷ judged_code w (at + 2)
+    ∷ (oldest_code w.outputs ++ (op.Jump (known_place w at + 1) ∷ op.Drop ∷ same_command_code w (known_place w at + 1)))
+pass_code false w at = op.Drop ∷ op.Drop ∷ same_command_code w (at + 2)
 
-abbrev pub recalled_code : (generator : Bool) → CommandWiring → (at : ℕ) → List Instr
-recalled_code true w at = pass_code (compares_basis w.baseline) w at
-recalled_code false w at = compare_code w at
+abbrev pub from_entry_code : (generator : Bool) → CommandLayout → (at : ℕ) → List Instr
+from_entry_code true w at = pass_code (compares_basis w.baseline) w at
+from_entry_code false w at = compare_code w at
 
-abbrev pub command_code : CommandWiring → List Instr
-command_code w = front w (recalled_code w.generator w (length (front w [])))
+abbrev pub command_code : CommandLayout → List Instr
+command_code w = front w (from_entry_code w.generator w (length (front w [])))
 
 -- ---- phonies
 
@@ -223,13 +223,13 @@ alone_code [] = op.End ∷ []
 alone_code (o ∷ os) = op.Stat o.file ∷ op.Store o.stamp ∷ op.Load o.stamp ∷ op.IsMissing ∷ op.Store o.changed ∷ alone_code os
 
 -- with inputs, all outputs have the stamp and the flag of the named ones
-abbrev pub gather_code : GatherWiring → List Instr
+abbrev pub gather_code : GatherLayout → List Instr
 gather_code g =
     order_code g.order_only ++ (newest_code g.named ++ (op.Store g.stamp ∷ (any_code g.flags ++ (op.Store g.changed ∷ op.End ∷ []))))
 
 -- ---- any edge
 
-abbrev pub code_of : Wiring → List Instr
+abbrev pub code_of : EdgeLayout → List Instr
 code_of (Command w) = command_code w
 code_of (Gather g) = gather_code g
 code_of (Alone outputs) = alone_code outputs

@@ -12,7 +12,7 @@ use Rattle.plan_image.specs.declared.image.Pool.{Pool}
 use Rattle.plan_image.specs.declared.image.Parts.{Parts}
 use Rattle.plan_verify.specs.Members.{is_member}
 use Rattle.plan_compile.specs.declared.baseline.OutOfDateRule.{OutOfDateRule}
-use Rattle.plan_compile.specs.declared.wiring.Output.{Output}
+use Rattle.plan_compile.specs.declared.layout.Output.{Output}
 use Rattle.plan_compile.specs.BodyKeys.{Body}
 use Rattle.plan_compile.specs.Builds.{Build, Builds, builds}
 use Rattle.plan_compile.specs.Slots.{base, made, all_made, find}
@@ -87,7 +87,7 @@ pub record IsFaithful (t : Builds) (p : Parts) : Type 0 where
 abbrev pub ImageIsFaithful : Type 0
 ImageIsFaithful = (t : Builds) → IsFaithful t (image_of t)
 
--- the slots that an edge sets for an output are those that every user of the file reads
+-- an edge sets for an output the slots that each edge with this input reads
 abbrev pub OneAssignment : Type 0
 OneAssignment =
     (t : Builds) → IsSound t → (e : ℕ) (x : Build) (i : ℕ) (o : Output) → IsEdge t e x → slice_get (made (base t.edges e) x) i ≡ Some o

@@ -11,13 +11,13 @@ use Rattle.plan_image.specs.declared.image.Edge.{Edge}
 use Rattle.plan_image.specs.declared.image.Parts.{Parts}
 use Rattle.plan_image.specs.Bodies.{body_of, operands_of}
 use Rattle.plan_compile.specs.declared.baseline.OutOfDateRule.{OutOfDateRule}
-use Rattle.plan_compile.specs.declared.wiring.Output.{Output}
-use Rattle.plan_compile.specs.declared.wiring.CommandWiring.{CommandWiring}
-use Rattle.plan_compile.specs.declared.wiring.GatherWiring.{GatherWiring}
-use Rattle.plan_compile.specs.declared.wiring.Wiring.{Wiring}
-use Rattle.plan_compile.specs.declared.wiring.Wiring.TheVariants as wiring
-use Rattle.plan_compile.specs.declared.form.Form.{Form}
-use Rattle.plan_compile.specs.declared.form.Form.TheVariants.{Gathers, Alone}
+use Rattle.plan_compile.specs.declared.layout.Output.{Output}
+use Rattle.plan_compile.specs.declared.layout.CommandLayout.{CommandLayout}
+use Rattle.plan_compile.specs.declared.layout.GatherLayout.{GatherLayout}
+use Rattle.plan_compile.specs.declared.layout.EdgeLayout.{EdgeLayout}
+use Rattle.plan_compile.specs.declared.layout.EdgeLayout.TheVariants as layout
+use Rattle.plan_compile.specs.declared.slot_pattern.SlotPattern.{SlotPattern}
+use Rattle.plan_compile.specs.declared.slot_pattern.SlotPattern.TheVariants.{Gathers, Alone}
 use Rattle.plan_compile.specs.Emit.{code_of}
 use Rattle.plan_compile.specs.Builds.{Build, Builds, builds}
 use Rattle.plan_compile.specs.Slots.{form_of, outputs_by, newest_by, all_made, inputs_by, sources, flags_once, own_len, slots_from}
@@ -31,8 +31,8 @@ abbrev pub is_blank : Text → Bool
 is_blank [] = true
 is_blank (c ∷ cs) = false
 
-abbrev pub command_wiring : List Text → List Output → Form → ℕ → Build → CommandWiring
-command_wiring texts outputs form b x = record {
+abbrev pub command_layout : List Text → List Output → SlotPattern → ℕ → Build → CommandLayout
+command_layout texts outputs form b x = record {
   named = inputs_by outputs x.named;
   order_only = sources outputs x.named x.order_only;
   outputs = outputs_by form b x.outputs;
@@ -46,8 +46,8 @@ command_wiring texts outputs form b x = record {
   baseline = x.baseline;
 }
 
-abbrev pub gather_wiring : List Output → ℕ → Build → GatherWiring
-gather_wiring outputs b x = record {
+abbrev pub gather_layout : List Output → ℕ → Build → GatherLayout
+gather_layout outputs b x = record {
   named = inputs_by outputs x.named;
   order_only = sources outputs x.named x.order_only;
   outputs = outputs_by Gathers b x.outputs;
@@ -56,18 +56,18 @@ gather_wiring outputs b x = record {
   changed = suc b;
 }
 
-abbrev pub wire_by : Form → List Text → List Output → ℕ → Build → Wiring
-wire_by Gathers texts outputs b x = wiring.Gather (gather_wiring outputs b x)
-wire_by Alone texts outputs b x = wiring.Alone (outputs_by Alone b x.outputs)
-wire_by form texts outputs b x = wiring.Command (command_wiring texts outputs form b x)
+abbrev pub layout_by : SlotPattern → List Text → List Output → ℕ → Build → EdgeLayout
+layout_by Gathers texts outputs b x = layout.Gather (gather_layout outputs b x)
+layout_by Alone texts outputs b x = layout.Alone (outputs_by Alone b x.outputs)
+layout_by form texts outputs b x = layout.Command (command_layout texts outputs form b x)
 
-abbrev pub wire : List Text → List Output → ℕ → Build → Wiring
-wire texts outputs b x = wire_by (form_of x) texts outputs b x
+abbrev pub layout_of : List Text → List Output → ℕ → Build → EdgeLayout
+layout_of texts outputs b x = layout_by (form_of x) texts outputs b x
 
 -- the codes of these edges, if the own slots of the first one begin at b
 abbrev pub codes_from : List Text → List Output → ℕ → List Build → List (List Instr)
 codes_from texts outputs b [] = []
-codes_from texts outputs b (x ∷ xs) = code_of (wire texts outputs b x) ∷ codes_from texts outputs (b + own_len x) xs
+codes_from texts outputs b (x ∷ xs) = code_of (layout_of texts outputs b x) ∷ codes_from texts outputs (b + own_len x) xs
 
 abbrev pub codes : List Build → List (List Instr)
 codes xs = codes_from (all_texts xs) (all_made zero xs) zero xs

@@ -12,14 +12,14 @@ use Rattle.plan_verify.specs.Turn.{Slots, Meaning}
 use Rattle.plan_verify.specs.Alone.{at_begin}
 use Rattle.plan_verify.specs.Sound.{AreTyped, AreLentSet}
 use Rattle.plan_compile.specs.declared.baseline.Baseline.TheVariants as baseline
-use Rattle.plan_compile.specs.declared.wiring.Input.{Input}
-use Rattle.plan_compile.specs.declared.wiring.Input.TheVariants.{File, Made}
-use Rattle.plan_compile.specs.declared.wiring.Output.{Output}
-use Rattle.plan_compile.specs.declared.wiring.CommandWiring.{CommandWiring}
-use Rattle.plan_compile.specs.declared.wiring.GatherWiring.{GatherWiring}
-use Rattle.plan_compile.specs.declared.wiring.Wiring.{Wiring}
-use Rattle.plan_compile.specs.declared.wiring.Wiring.TheVariants as wiring
-use Rattle.plan_compile.specs.Talk.{Left, Talk, Obeys}
+use Rattle.plan_compile.specs.declared.layout.Input.{Input}
+use Rattle.plan_compile.specs.declared.layout.Input.TheVariants.{File, Made}
+use Rattle.plan_compile.specs.declared.layout.Output.{Output}
+use Rattle.plan_compile.specs.declared.layout.CommandLayout.{CommandLayout}
+use Rattle.plan_compile.specs.declared.layout.GatherLayout.{GatherLayout}
+use Rattle.plan_compile.specs.declared.layout.EdgeLayout.{EdgeLayout}
+use Rattle.plan_compile.specs.declared.layout.EdgeLayout.TheVariants as layout
+use Rattle.plan_compile.specs.InteractionTree.{Left, InteractionTree, Obeys}
 use Rattle.plan_compile.specs.Rule.{Path, Given, SourceFile, Command, asked, has_none, does, does_phony}
 use Rattle.plan_compile.specs.Rule.{Made as MadeBy}
 
@@ -66,7 +66,7 @@ depfile_text p (Some t) = text_at p t
 depfile_text p None = []
 
 -- a command edge, with its order-only inputs as given
-abbrev pub command_of : Parts → Slots → CommandWiring → List Given → Command
+abbrev pub command_of : Parts → Slots → CommandLayout → List Given → Command
 command_of p slots w order_only = record {
   named = map (given p slots) w.named;
   order_only = order_only;
@@ -92,15 +92,15 @@ phony_of p slots named outputs order_only = record {
 }
 
 -- the rule of an edge
-abbrev pub rule_of : Meaning → Parts → Slots → List Given → Wiring → Talk
-rule_of meaning p slots order_only (wiring.Command w) = does meaning (command_of p slots w order_only)
-rule_of meaning p slots order_only (wiring.Gather g) = does_phony (phony_of p slots g.named g.outputs order_only)
-rule_of meaning p slots order_only (wiring.Alone outputs) = does_phony (phony_of p slots [] outputs order_only)
+abbrev pub rule_of : Meaning → Parts → Slots → List Given → EdgeLayout → InteractionTree
+rule_of meaning p slots order_only (layout.Command w) = does meaning (command_of p slots w order_only)
+rule_of meaning p slots order_only (layout.Gather g) = does_phony (phony_of p slots g.named g.outputs order_only)
+rule_of meaning p slots order_only (layout.Alone outputs) = does_phony (phony_of p slots [] outputs order_only)
 
-abbrev pub outputs_in : Wiring → List Output
-outputs_in (wiring.Command w) = w.outputs
-outputs_in (wiring.Gather g) = g.outputs
-outputs_in (wiring.Alone outputs) = outputs
+abbrev pub outputs_in : EdgeLayout → List Output
+outputs_in (layout.Command w) = w.outputs
+outputs_in (layout.Gather g) = g.outputs
+outputs_in (layout.Alone outputs) = outputs
 
 -- the stamp and the flag of each output are in its slots
 abbrev pub Leaves : List Output → Slots → Left → Type 0
@@ -198,7 +198,7 @@ abbrev pub AreAllOwn : Parts → ℕ → List ℕ → Type 0
 AreAllOwn p e slots = list_all (λ s. is_member s slots) (own_slots p e) ≡ true
 
 -- The numbers of a command edge are right in an image.
-pub record IsCommand (p : Parts) (e : ℕ) (w : CommandWiring) : Type 0 where
+pub record IsCommand (p : Parts) (e : ℕ) (w : CommandLayout) : Type 0 where
   pub named : AreInputs p e w.named
   pub order_only : AreSourceFiles p w.order_only
   pub outputs : AreOutputs p e w.outputs
@@ -214,7 +214,7 @@ pub record IsCommand (p : Parts) (e : ℕ) (w : CommandWiring) : Type 0 where
   pub pool : pool_outside p e ≡ false
 
 -- The numbers of a phony with inputs are right.
-pub record IsGather (p : Parts) (e : ℕ) (g : GatherWiring) : Type 0 where
+pub record IsGather (p : Parts) (e : ℕ) (g : GatherLayout) : Type 0 where
   pub named : AreInputs p e g.named
   pub order_only : AreSourceFiles p g.order_only
   pub flags : HaveFlags g.named g.flags
@@ -231,24 +231,24 @@ pub record IsAlone (p : Parts) (e : ℕ) (os : List Output) : Type 0 where
   pub own : AreAllOwn p e (slots_of os)
 
 -- the numbers of an edge are right in an image
-abbrev pub IsWired : Parts → ℕ → Wiring → Type 0
-IsWired p e (wiring.Command w) = IsCommand p e w
-IsWired p e (wiring.Gather g) = IsGather p e g
-IsWired p e (wiring.Alone outputs) = IsAlone p e outputs
+abbrev pub IsLaidOut : Parts → ℕ → EdgeLayout → Type 0
+IsLaidOut p e (layout.Command w) = IsCommand p e w
+IsLaidOut p e (layout.Gather g) = IsGather p e g
+IsLaidOut p e (layout.Alone outputs) = IsAlone p e outputs
 
 -- The order-only inputs, as given, are those that the code asks for. There are none if the edge is a phony
 -- without inputs.
-abbrev pub AreGiven : Parts → Slots → List Given → Wiring → Type 0
-AreGiven p slots order_only (wiring.Command w) = asked (map (given p slots) w.named) order_only ≡ map (source_file p) w.order_only
-AreGiven p slots order_only (wiring.Gather g) =
+abbrev pub AreGiven : Parts → Slots → List Given → EdgeLayout → Type 0
+AreGiven p slots order_only (layout.Command w) = asked (map (given p slots) w.named) order_only ≡ map (source_file p) w.order_only
+AreGiven p slots order_only (layout.Gather g) =
     (asked (map (given p slots) g.named) order_only ≡ map (source_file p) g.order_only) × ((has_none (map (given p slots) g.named) && has_none order_only) ≡ false)
-AreGiven p slots order_only (wiring.Alone outputs) = order_only ≡ []
+AreGiven p slots order_only (layout.Alone outputs) = order_only ≡ []
 
 -- ---- the meaning of an edge's code
 
 -- Run alone, with any slots that its waits may have left, the edge follows the rule, and its slots then have
 -- the values that the rule says.
-abbrev pub CodeMeans : Parts → ℕ → Wiring → Type 0
+abbrev pub CodeMeans : Parts → ℕ → EdgeLayout → Type 0
 CodeMeans p e w =
     (meaning : Meaning) (slots : Slots) (order_only : List Given) → AreTyped p slots → AreLentSet p e slots → AreGiven p slots order_only w
     → Obeys meaning p e (Leaves (outputs_in w)) (at_begin slots) (rule_of meaning p slots order_only w)

@@ -1,8 +1,8 @@
 -- The outputs of all edges by file, as the code stores them.
 use Rattle.std.specs.Prelude.{ℕ, Bool, false, not, List, [], ◌∷◌, Option, Some, None, if◌then◌else◌, slice_get, slice_set}
 use Rattle.plan_verify.specs.Members.{is_member}
-use Rattle.plan_compile.specs.declared.wiring.Input.{Input}
-use Rattle.plan_compile.specs.declared.wiring.Output.{Output}
+use Rattle.plan_compile.specs.declared.layout.Input.{Input}
+use Rattle.plan_compile.specs.declared.layout.Output.{Output}
 use Rattle.plan_compile.specs.Slots.{input_by}
 
 abbrev pub Table : Type 0

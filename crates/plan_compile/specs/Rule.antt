@@ -8,7 +8,7 @@ use Rattle.plan_compile.specs.declared.baseline.Baseline.{Baseline}
 use Rattle.plan_compile.specs.declared.baseline.Baseline.TheVariants.{Outputs, Basis, OutputsAndBasis}
 use Rattle.plan_compile.specs.declared.baseline.OutOfDateRule.{OutOfDateRule}
 use Rattle.plan_compile.specs.declared.baseline.OutOfDateRule.TheVariants.{Stricter}
-use Rattle.plan_compile.specs.Talk.{Left, Talk, Ask, Over, Fail}
+use Rattle.plan_compile.specs.InteractionTree.{Left, InteractionTree, Ask, Over, Fail}
 
 abbrev pub Path : Type 0
 Path = List ℕ
@@ -38,47 +38,47 @@ pub record Recorded : Type 0 where
 -- ---- questions
 
 -- a file that must exist
-abbrev pub needed : ℕ → (ℕ → Talk) → Reply → Talk
+abbrev pub needed : ℕ → (ℕ → InteractionTree) → Reply → InteractionTree
 needed f go (StampIs zero) = Fail (MissingInput f)
 needed f go (StampIs (suc n)) = go (suc n)
 needed f go _ = Fail StatFault
 
-abbrev pub stamped : (ℕ → Talk) → Reply → Talk
+abbrev pub stamped : (ℕ → InteractionTree) → Reply → InteractionTree
 stamped go (StampIs n) = go n
 stamped go _ = Fail StatFault
 
-abbrev pub recalled : (Option Recorded → Talk) → Reply → Talk
+abbrev pub recalled : (Option Recorded → InteractionTree) → Reply → InteractionTree
 recalled go (Entry command basis paths) = go (Some (record { command = command; basis = basis; paths = paths }))
 recalled go Nothing = go None
 recalled go _ = Fail RecordFault
 
-abbrev pub exited : Talk → Reply → Talk
+abbrev pub exited : InteractionTree → Reply → InteractionTree
 exited go (Exit zero) = go
 exited go (Exit (suc n)) = Fail (cause.Exit (suc n))
 exited go Signal = Fail cause.Signal
 exited go _ = Fail cause.NotStarted
 
-abbrev pub told_paths : (List Path → Talk) → Result (List Path) (ℕ × ℕ) → Talk
+abbrev pub told_paths : (List Path → InteractionTree) → Result (List Path) (ℕ × ℕ) → InteractionTree
 told_paths go (Ok paths) = go paths
 told_paths go (Err fault) = Fail (DepfileMalformed fault.0 fault.1)
 
-abbrev pub read : Meaning → (List Path → Talk) → Reply → Talk
+abbrev pub read : Meaning → (List Path → InteractionTree) → Reply → InteractionTree
 read meaning go (Bytes bytes) = told_paths go (meaning bytes)
 read meaning go Nothing = go []
 read meaning go _ = Fail DepfileFault
 
-abbrev pub kept : Talk → Reply → Talk
+abbrev pub kept : InteractionTree → Reply → InteractionTree
 kept go Kept = go
 kept go _ = Fail RecordFault
 
 -- the stamps of inputs: a source file must exist, and an output of an edge isn't asked for
-abbrev pub inputs : List Given → (List ℕ → Talk) → Talk
+abbrev pub inputs : List Given → (List ℕ → InteractionTree) → InteractionTree
 inputs [] go = go []
 inputs (SourceFile f path ∷ others) go = Ask (Stat path) (needed f (λ t. inputs others (λ ts. go (t ∷ ts))))
 inputs (Made t changed ∷ others) go = inputs others (λ ts. go (t ∷ ts))
 
 -- the stamps of files, 0 for a missing one
-abbrev pub stamps : List Path → (List ℕ → Talk) → Talk
+abbrev pub stamps : List Path → (List ℕ → InteractionTree) → InteractionTree
 stamps [] go = go []
 stamps (path ∷ others) go = Ask (Stat path) (stamped (λ t. stamps others (λ ts. go (t ∷ ts))))
 
@@ -183,13 +183,13 @@ changed restat (a ∷ old) (b ∷ new) = (b, not restat || not (a == b)) ∷ cha
 changed restat _ _ = []
 
 -- the paths of the depfile; none if the edge has no depfile
-abbrev pub depfile : Meaning → List ℕ → (List Path → Talk) → Talk
+abbrev pub depfile : Meaning → List ℕ → (List Path → InteractionTree) → InteractionTree
 depfile meaning [] go = go []
 depfile meaning (c ∷ cs) go = Ask (Deps (c ∷ cs)) (read meaning go)
 
 -- A dirty edge, after it got its job token: it runs its command, asks for the depfile and for its paths,
 -- records an entry whose basis is the newest stamp that it read, and asks for its outputs again.
-abbrev pub runs : Meaning → Command → (named old : List ℕ) → Talk
+abbrev pub runs : Meaning → Command → (named old : List ℕ) → InteractionTree
 runs meaning c named old =
     Ask (Run c.command c.outputs) (exited (
     depfile meaning c.depfile λ paths.
@@ -200,7 +200,7 @@ runs meaning c named old =
 
 -- A command edge asks for its order-only and its named source files, its outputs, its entry, and the recorded
 -- paths. Then it is dirty, or it is clean and ends.
-abbrev pub does : Meaning → Command → Talk
+abbrev pub does : Meaning → Command → InteractionTree
 does meaning c =
     inputs (asked c.named c.order_only) λ _.
     inputs c.named λ named.
@@ -216,13 +216,13 @@ has_none [] = true
 has_none (i ∷ is) = false
 
 -- without inputs, each output has the stamp of its file
-abbrev pub alone : List Path → Talk
+abbrev pub alone : List Path → InteractionTree
 alone outputs = stamps outputs λ ts. Over false (map (λ t. (t, t == 0)) ts)
 
 -- with inputs, all outputs have the stamp and the flag of the named ones
-abbrev pub gathers : Command → Talk
+abbrev pub gathers : Command → InteractionTree
 gathers c = inputs (asked c.named c.order_only) λ _. inputs c.named λ ts. Over false (map (λ path. (greatest ts, some_changed c.named)) c.outputs)
 
 -- whether it has inputs is tested on the inputs as given
-abbrev pub does_phony : Command → Talk
+abbrev pub does_phony : Command → InteractionTree
 does_phony c = if has_none c.named && has_none c.order_only then alone c.outputs else gathers c

@@ -4,27 +4,27 @@ use Rattle.plan_image.specs.declared.instr.Kind.{Kind}
 use Rattle.plan_image.specs.declared.instr.Kind.TheVariants.{Stamp, Flag}
 use Rattle.plan_image.specs.declared.image.Slot.{Slot}
 use Rattle.plan_verify.specs.Members.{is_member, with_member}
-use Rattle.plan_compile.specs.declared.wiring.Input.{Input}
-use Rattle.plan_compile.specs.declared.wiring.Input.TheVariants.{File, Made}
-use Rattle.plan_compile.specs.declared.wiring.Output.{Output}
-use Rattle.plan_compile.specs.declared.form.Form.{Form}
-use Rattle.plan_compile.specs.declared.form.Form.TheVariants.{OneFlag, OwnFlags, Gathers, Alone}
+use Rattle.plan_compile.specs.declared.layout.Input.{Input}
+use Rattle.plan_compile.specs.declared.layout.Input.TheVariants.{File, Made}
+use Rattle.plan_compile.specs.declared.layout.Output.{Output}
+use Rattle.plan_compile.specs.declared.slot_pattern.SlotPattern.{SlotPattern}
+use Rattle.plan_compile.specs.declared.slot_pattern.SlotPattern.TheVariants.{OneFlag, OwnFlags, Gathers, Alone}
 use Rattle.plan_compile.specs.Builds.{Build}
 
--- ---- the form of an edge
+-- ---- the slot pattern of an edge
 
 abbrev pub has_none : List ℕ → Bool
 has_none [] = true
 has_none (f ∷ fs) = false
 
-abbrev pub form_by : (phony restat none : Bool) → Form
+abbrev pub form_by : (phony restat none : Bool) → SlotPattern
 form_by true restat true = Alone
 form_by true restat false = Gathers
 form_by false true none = OwnFlags
 form_by false false none = OneFlag
 
 -- the outputs of an edge without restat change together; the outputs of a phony with inputs change with these
-abbrev pub form_of : Build → Form
+abbrev pub form_of : Build → SlotPattern
 form_of x = form_by x.edge.phony x.edge.restat (has_none x.named && has_none x.order_only)
 
 -- ---- the slots of an edge: one run of numbers
@@ -38,7 +38,7 @@ pairs [] = []
 pairs (f ∷ fs) = Stamp ∷ Flag ∷ pairs fs
 
 -- the slots of the outputs; an edge with a command also has one for the newest input's stamp
-abbrev pub kinds_by : Form → List ℕ → List Kind
+abbrev pub kinds_by : SlotPattern → List ℕ → List Kind
 kinds_by OneFlag outputs = Flag ∷ Stamp ∷ stamps outputs
 kinds_by OwnFlags outputs = Stamp ∷ pairs outputs
 kinds_by Gathers outputs = Stamp ∷ Flag ∷ []
@@ -67,7 +67,7 @@ abbrev pub outputs_sharing : (stamp changed : ℕ) → List ℕ → List Output
 outputs_sharing stamp changed [] = []
 outputs_sharing stamp changed (f ∷ fs) = record { file = f; stamp = stamp; changed = changed } ∷ outputs_sharing stamp changed fs
 
-abbrev pub outputs_by : Form → ℕ → List ℕ → List Output
+abbrev pub outputs_by : SlotPattern → ℕ → List ℕ → List Output
 outputs_by OneFlag b outputs = outputs_flagged (suc (suc b)) b outputs
 outputs_by OwnFlags b outputs = outputs_apart (suc b) outputs
 outputs_by Gathers b outputs = outputs_sharing b (suc b) outputs
@@ -78,7 +78,7 @@ abbrev pub made : ℕ → Build → List Output
 made b x = outputs_by (form_of x) b x.outputs
 
 -- the slot for the newest input's stamp
-abbrev pub newest_by : Form → ℕ → ℕ
+abbrev pub newest_by : SlotPattern → ℕ → ℕ
 newest_by OneFlag b = suc b
 newest_by _ b = b
 

@@ -4,15 +4,15 @@ use Rattle.plan_verify.specs.Turn.{Slots, Meaning, Request, Reply}
 use Rattle.plan_verify.specs.Alone.{Alone, at_begin, RunsAlone}
 use Rattle.plan_verify.specs.Sound.{AreTyped, AreLentSet}
 use Rattle.plan_verify.specs.WellShaped.{IsWellShaped}
-use Rattle.plan_compile.specs.declared.wiring.Output.{Output}
-use Rattle.plan_compile.specs.Talk.{Talk, Obeys, Follows}
+use Rattle.plan_compile.specs.declared.layout.Output.{Output}
+use Rattle.plan_compile.specs.InteractionTree.{InteractionTree, Obeys, Follows}
 use Rattle.plan_compile.specs.Rule.{Path, Given, SourceFile, Command, does, does_phony}
 use Rattle.plan_compile.specs.Rule.{Made as MadeBy}
-use Rattle.plan_compile.specs.Means.{text_in, stamp_at, flag_at, Leaves, IsWired}
+use Rattle.plan_compile.specs.Means.{text_in, stamp_at, flag_at, Leaves, IsLaidOut}
 use Rattle.plan_compile.specs.Builds.{Build, Builds}
 use Rattle.plan_compile.specs.Slots.{base, made, all_made, find}
 use Rattle.plan_compile.specs.Names.{all_texts}
-use Rattle.plan_compile.specs.Images.{wire, image_of}
+use Rattle.plan_compile.specs.Images.{layout_of, image_of}
 use Rattle.plan_compile.specs.Faithful.{IsEdge, IsSound}
 
 -- the path of a file
@@ -40,7 +40,7 @@ facts t slots x = record {
   baseline = x.baseline;
 }
 
-abbrev pub edge_does : (phony : Bool) → Meaning → Command → Talk
+abbrev pub edge_does : (phony : Bool) → Meaning → Command → InteractionTree
 edge_does true meaning c = does_phony c
 edge_does false meaning c = does meaning c
 
@@ -59,12 +59,12 @@ ImageKeepsToRule =
     (t : Builds) → IsSound t → (e : ℕ) (x : Build) → IsEdge t e x
     → (meaning : Meaning) (slots : Slots) → AreTyped (image_of t) slots → AreLentSet (image_of t) e slots
     → (n : ℕ) (told : List (Request × Reply)) (y : Alone) → RunsAlone meaning (image_of t) e n (at_begin slots) told y
-    → (rest : Talk) × Follows (edge_does x.edge.phony meaning (facts t slots x)) told rest × Obeys meaning (image_of t) e (Leaves (made (base t.edges e) x)) y rest
+    → (rest : InteractionTree) × Follows (edge_does x.edge.phony meaning (facts t slots x)) told rest × Obeys meaning (image_of t) e (Leaves (made (base t.edges e) x)) y rest
 
 -- The numbers of each edge are right in the image: the slots of its outputs are its own, and those of a named
 -- input that another edge produces belong to an edge that is waited for.
-abbrev pub ImageIsWired : Type 0
-ImageIsWired = (t : Builds) → IsSound t → (e : ℕ) (x : Build) → IsEdge t e x → IsWired (image_of t) e (wire (all_texts t.edges) (all_made zero t.edges) (base t.edges e) x)
+abbrev pub ImageIsLaidOut : Type 0
+ImageIsLaidOut = (t : Builds) → IsSound t → (e : ℕ) (x : Build) → IsEdge t e x → IsLaidOut (image_of t) e (layout_of (all_texts t.edges) (all_made zero t.edges) (base t.edges e) x)
 
 -- the verifier accepts the image
 abbrev pub ImageIsShaped : Type 0

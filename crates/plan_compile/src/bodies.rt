@@ -57,7 +57,7 @@ impl Bodies {
     }
 
     /// Returns the number of the remembered body if it is the body of a code. Returns None otherwise.
-    fn known(&self, code: &Code) -> Option<u32>
+    fn find_remembered(&self, code: &Code) -> Option<u32>
         ensures there { IfSome result (λ n. slice_get self.now n ≡ Some (body_of code.now)) }
         ensures first { IfSome result (λ n. n ≡ number same_body (body_of code.now) self.now) }
     {
@@ -88,7 +88,7 @@ impl Bodies {
         ensures number { IfOk result (λ n. n ≡ number same_body (body_of code.now) self.new) }
         ensures few { OnOk result (length self.new ≤ length self.old + 1) }
     {
-        match self.known(code) {
+        match self.find_remembered(code) {
             Some(number) => Ok(number),
             None => self.put_other(alloc, code),
         }

@@ -18,7 +18,7 @@ fn is_same(key: &[u64], other: &[u64]) -> bool
 }
 
 /// Returns a copy of a key.
-fn copied(alloc: Global, key: &[u64]) -> Result<Vec<u64>, AllocError>
+fn copy_key(alloc: Global, key: &[u64]) -> Result<Vec<u64>, AllocError>
     ensures { IfOk result (λ copy. copy.items ≡ key.now) }
 {
     let mut copy = Vec::new(alloc);
@@ -78,7 +78,7 @@ impl BodyTable {
         ensures number { IfOk result (λ n. n ≡ number same_body (body_of code.now) self.new) }
         ensures few { OnOk result (length self.new ≤ length self.old + 1) }
     {
-        let key = copied(alloc, code.key())?;
+        let key = copy_key(alloc, code.key())?;
         let body = code.body(alloc)?;
         self.bodies.reserve(1)?;
         let (place, is_new) = self.keys.insert_full(key)?;

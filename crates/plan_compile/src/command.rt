@@ -1,14 +1,14 @@
 //! Generates the code of a command edge.
 
 ghost use Rattle.std.specs.Prelude.{◌≡◌, ◌≤◌, ◌^◌, true, false, ◌++◌, ◌+◌, ◌∷◌, [], length, nat_lt, not, OnOk};
-ghost use Rattle.plan_compile.specs.Emit.{after_code, alarm_code, clean_code, clean_len, command_code, compare_code, compares_basis, deps_code, dirty_code, dirty_place, front, holders, judge_code, judged_code, known_place, oldest_code, other_code, pass_code, ready_code, ready_len, recalled_code, run_code, same_code, same_place, stat_code, under_code, weighed_code};
+ghost use Rattle.plan_compile.specs.Emit.{after_code, rerun_flag_code, clean_code, clean_len, command_code, compare_code, compares_basis, deps_code, dirty_code, dirty_place, front, holders, age_test_code, same_command_code, known_place, oldest_code, other_code, pass_code, ready_code, ready_len, from_entry_code, run_code, same_code, same_place, stat_code, under_code, before_sweep_code};
 ghost use Rattle.plan_image.specs.declared.instr.Instr.TheVariants as op;
 
 use crate::baseline::Baseline;
 use crate::code::Code;
 use crate::inputs::{has_source_file, push_any, push_newest, push_or, push_order};
+use crate::layout::{CommandLayout, Output};
 use crate::outputs::{push_held, push_oldest, push_restat, push_stats};
-use crate::wiring::{CommandWiring, Output};
 use plan_image::Instr;
 use std::alloc::AllocError;
 
@@ -23,25 +23,25 @@ fn compares_basis(baseline: Baseline) -> bool
     }
 }
 
-/// Returns whether the alarm tests the outputs if the baseline is no later than the oldest output. The test
+/// Returns whether the rerun flag tests the outputs if the baseline is no later than the oldest output. The test
 /// isn't needed if a named input is a source file, which is newer than a missing output.
-fn looks_at_outputs(wiring: &CommandWiring) -> bool
-    ensures { result ≡ not (Rattle.plan_compile.specs.Emit.has_source_file wiring.now.named) }
+fn looks_at_outputs(layout: &CommandLayout) -> bool
+    ensures { result ≡ not (Rattle.plan_compile.specs.Emit.has_source_file layout.now.named) }
 {
-    !has_source_file(wiring.named.as_slice())
+    !has_source_file(layout.named.as_slice())
 }
 
 // ---- up to the recorded entry
 
-/// Appends code for the alarm: whether an output is missing or an input changed. The outputs are tested only if
+/// Appends code for the rerun flag: whether an output is missing or an input changed. The outputs are tested only if
 /// `looks` is true.
-fn push_alarm(
+fn push_rerun_flag(
     code: &mut Code,
     looks: bool,
     outputs: &[Output],
     flags: &[u32],
 ) -> Result<(), AllocError>
-    ensures { OnOk result (code.new ≡ code.old ++ alarm_code looks outputs.now flags.now) }
+    ensures { OnOk result (code.new ≡ code.old ++ rerun_flag_code looks outputs.now flags.now) }
 {
     if looks {
         push_oldest(code, outputs)?;
@@ -53,39 +53,39 @@ fn push_alarm(
 }
 
 /// Appends code for the values before the sweep, and the request for the recorded entry.
-fn push_weighed(code: &mut Code, wiring: &CommandWiring) -> Result<(), AllocError>
-    ensures { OnOk result (code.new ≡ code.old ++ weighed_code (compares_basis wiring.now.baseline) wiring.now (op.Recall ∷ [])) }
+fn push_before_sweep(code: &mut Code, layout: &CommandLayout) -> Result<(), AllocError>
+    ensures { OnOk result (code.new ≡ code.old ++ before_sweep_code (compares_basis layout.now.baseline) layout.now (op.Recall ∷ [])) }
 {
-    let outputs = wiring.outputs.as_slice();
-    if compares_basis(wiring.baseline) {
+    let outputs = layout.outputs.as_slice();
+    if compares_basis(layout.baseline) {
         code.push(Instr::Recall)?;
         Ok(())
     } else {
-        let looks = looks_at_outputs(wiring);
+        let looks = looks_at_outputs(layout);
         push_oldest(code, outputs)?;
-        code.push(Instr::Load(wiring.newest))?;
-        push_alarm(code, looks, outputs, wiring.flags.as_slice())?;
+        code.push(Instr::Load(layout.newest))?;
+        push_rerun_flag(code, looks, outputs, layout.flags.as_slice())?;
         code.push(Instr::Recall)?;
         Ok(())
     }
 }
 
 /// Appends code for the outputs' stamps, the values before the sweep, and the request for the recorded entry.
-fn push_asked(code: &mut Code, wiring: &CommandWiring) -> Result<(), AllocError>
-    ensures { OnOk result (code.new ≡ code.old ++ (stat_code wiring.now.outputs ++ weighed_code (compares_basis wiring.now.baseline) wiring.now (op.Recall ∷ []))) }
+fn push_questions(code: &mut Code, layout: &CommandLayout) -> Result<(), AllocError>
+    ensures { OnOk result (code.new ≡ code.old ++ (stat_code layout.now.outputs ++ before_sweep_code (compares_basis layout.now.baseline) layout.now (op.Recall ∷ []))) }
 {
-    push_stats(code, wiring.outputs.as_slice())?;
-    push_weighed(code, wiring)
+    push_stats(code, layout.outputs.as_slice())?;
+    push_before_sweep(code, layout)
 }
 
 /// Appends the code up to the request for the recorded entry.
-pub(crate) fn push_front(code: &mut Code, wiring: &CommandWiring) -> Result<(), AllocError>
-    ensures { OnOk result (code.new ≡ code.old ++ front wiring.now []) }
+pub(crate) fn push_front(code: &mut Code, layout: &CommandLayout) -> Result<(), AllocError>
+    ensures { OnOk result (code.new ≡ code.old ++ front layout.now []) }
 {
-    push_order(code, wiring.order_only.as_slice())?;
-    push_newest(code, wiring.named.as_slice())?;
-    code.push(Instr::Store(wiring.newest))?;
-    push_asked(code, wiring)
+    push_order(code, layout.order_only.as_slice())?;
+    push_newest(code, layout.named.as_slice())?;
+    code.push(Instr::Store(layout.newest))?;
+    push_questions(code, layout)
 }
 
 // ---- from the command on
@@ -128,27 +128,27 @@ fn push_after(code: &mut Code, restat: bool, outputs: &[Output]) -> Result<(), A
 }
 
 /// Appends the code from the request for a job token on.
-fn push_run(code: &mut Code, wiring: &CommandWiring) -> Result<(), AllocError>
-    ensures { OnOk result (code.new ≡ code.old ++ run_code wiring.now) }
+fn push_run(code: &mut Code, layout: &CommandLayout) -> Result<(), AllocError>
+    ensures { OnOk result (code.new ≡ code.old ++ run_code layout.now) }
 {
     code.push(Instr::Take)?;
-    code.push(Instr::Text(wiring.command))?;
+    code.push(Instr::Text(layout.command))?;
     code.push(Instr::Run)?;
     code.push(Instr::Release)?;
-    code.push(Instr::Text(wiring.command))?;
-    code.push(Instr::Load(wiring.newest))?;
-    push_deps(code, wiring.depfile)?;
+    code.push(Instr::Text(layout.command))?;
+    code.push(Instr::Load(layout.newest))?;
+    push_deps(code, layout.depfile)?;
     code.push(Instr::Keep)?;
-    push_after(code, wiring.restat, wiring.outputs.as_slice())
+    push_after(code, layout.restat, layout.outputs.as_slice())
 }
 
 /// Appends the code from the point at which the edge is known to be dirty.
-fn push_dirty(code: &mut Code, wiring: &CommandWiring) -> Result<(), AllocError>
-    ensures { OnOk result (code.new ≡ code.old ++ dirty_code wiring.now) }
+fn push_dirty(code: &mut Code, layout: &CommandLayout) -> Result<(), AllocError>
+    ensures { OnOk result (code.new ≡ code.old ++ dirty_code layout.now) }
 {
     code.push(Instr::Drop)?;
     code.push(Instr::Drop)?;
-    push_run(code, wiring)
+    push_run(code, layout)
 }
 
 // ---- how long parts are
@@ -164,13 +164,13 @@ fn oldest_len(outputs: &[Output]) -> u32
 }
 
 /// Returns the number of instructions that store the flags of a clean edge.
-fn clean_len(wiring: &CommandWiring) -> u32
-    requires few { length wiring.now.outputs ≤ 2 ^ 16 }
-    ensures len { result ≡ Rattle.plan_compile.specs.Emit.clean_len wiring.now }
+fn clean_len(layout: &CommandLayout) -> u32
+    requires few { length layout.now.outputs ≤ 2 ^ 16 }
+    ensures len { result ≡ Rattle.plan_compile.specs.Emit.clean_len layout.now }
     ensures short { result ≤ 2 ^ 18 }
 {
-    let count = wiring.outputs.len() as u32;
-    if wiring.restat {
+    let count = layout.outputs.len() as u32;
+    if layout.restat {
         2 * count
     } else if count == 0 {
         0
@@ -179,16 +179,16 @@ fn clean_len(wiring: &CommandWiring) -> u32
     }
 }
 
-/// Returns the number of instructions for the alarm.
-fn alarm_len(wiring: &CommandWiring, looks: bool) -> u32
-    requires few { length wiring.now.outputs ≤ 2 ^ 16 }
-    requires few_flags { length wiring.now.flags ≤ 2 ^ 16 }
-    ensures len { result ≡ length (alarm_code looks wiring.now.outputs wiring.now.flags) }
+/// Returns the number of instructions for the rerun flag.
+fn rerun_flag_len(layout: &CommandLayout, looks: bool) -> u32
+    requires few { length layout.now.outputs ≤ 2 ^ 16 }
+    requires few_flags { length layout.now.flags ≤ 2 ^ 16 }
+    ensures len { result ≡ length (rerun_flag_code looks layout.now.outputs layout.now.flags) }
     ensures short { result ≤ 2 ^ 19 }
 {
-    let flags = 2 * wiring.flags.len() as u32;
+    let flags = 2 * layout.flags.len() as u32;
     if looks {
-        oldest_len(wiring.outputs.as_slice()) + 1 + flags
+        oldest_len(layout.outputs.as_slice()) + 1 + flags
     } else if flags == 0 {
         1
     } else {
@@ -197,47 +197,47 @@ fn alarm_len(wiring: &CommandWiring, looks: bool) -> u32
 }
 
 /// Returns the number of instructions that prepare the sweep if a baseline is on the stack above the paths.
-fn under_len(wiring: &CommandWiring, looks: bool) -> u32
-    requires few { length wiring.now.outputs ≤ 2 ^ 16 }
-    requires few_flags { length wiring.now.flags ≤ 2 ^ 16 }
-    ensures len { result ≡ length (under_code looks wiring.now []) }
+fn under_len(layout: &CommandLayout, looks: bool) -> u32
+    requires few { length layout.now.outputs ≤ 2 ^ 16 }
+    requires few_flags { length layout.now.flags ≤ 2 ^ 16 }
+    ensures len { result ≡ length (under_code looks layout.now []) }
     ensures short { result ≤ 2 ^ 19 + 4 }
 {
-    alarm_len(wiring, looks) + 4
+    rerun_flag_len(layout, looks) + 4
 }
 
 /// Returns the number of instructions that prepare the sweep.
-fn ready_len(wiring: &CommandWiring) -> u32
-    requires few { length wiring.now.outputs ≤ 2 ^ 16 }
-    requires few_flags { length wiring.now.flags ≤ 2 ^ 16 }
-    ensures len { result ≡ Rattle.plan_compile.specs.Emit.ready_len wiring.now }
+fn ready_len(layout: &CommandLayout) -> u32
+    requires few { length layout.now.outputs ≤ 2 ^ 16 }
+    requires few_flags { length layout.now.flags ≤ 2 ^ 16 }
+    ensures len { result ≡ Rattle.plan_compile.specs.Emit.ready_len layout.now }
     ensures short { result ≤ 2 ^ 20 }
 {
-    let oldest = oldest_len(wiring.outputs.as_slice());
-    match wiring.baseline {
+    let oldest = oldest_len(layout.outputs.as_slice());
+    match layout.baseline {
         Baseline::Outputs => 1,
-        Baseline::Basis => under_len(wiring, true),
+        Baseline::Basis => under_len(layout, true),
         Baseline::OutputsAndBasis => {
-            let looks = looks_at_outputs(wiring);
-            oldest + 1 + under_len(wiring, looks)
+            let looks = looks_at_outputs(layout);
+            oldest + 1 + under_len(layout, looks)
         }
     }
 }
 
 /// Returns the number of instructions that compare the command.
-fn same_len(wiring: &CommandWiring) -> u32
-    ensures len { result ≡ length (same_code wiring.now.blank wiring.now.command) }
+fn same_len(layout: &CommandLayout) -> u32
+    ensures len { result ≡ length (same_code layout.now.blank layout.now.command) }
     ensures short { result ≤ 7 }
 {
-    if wiring.blank { 7 } else { 3 }
+    if layout.blank { 7 } else { 3 }
 }
 
 /// Returns the number of instructions that sweep if the command differs.
-fn other_len(wiring: &CommandWiring) -> u32
-    ensures len { result ≡ length (other_code wiring.now 0 []) }
+fn other_len(layout: &CommandLayout) -> u32
+    ensures len { result ≡ length (other_code layout.now 0 []) }
     ensures short { result ≤ 9 }
 {
-    if compares_basis(wiring.baseline) {
+    if compares_basis(layout.baseline) {
         9
     } else {
         5
@@ -247,117 +247,117 @@ fn other_len(wiring: &CommandWiring) -> u32
 // ---- from the recorded entry on
 
 /// Appends the flags and the end of a clean edge, and the dirty code.
-fn push_settled(code: &mut Code, wiring: &CommandWiring) -> Result<(), AllocError>
-    ensures { OnOk result (code.new ≡ code.old ++ (clean_code wiring.now ++ (op.End ∷ dirty_code wiring.now))) }
+fn push_clean_exit(code: &mut Code, layout: &CommandLayout) -> Result<(), AllocError>
+    ensures { OnOk result (code.new ≡ code.old ++ (clean_code layout.now ++ (op.End ∷ dirty_code layout.now))) }
 {
-    push_held(code, false, wiring.restat, wiring.outputs.as_slice())?;
+    push_held(code, false, layout.restat, layout.outputs.as_slice())?;
     code.push(Instr::End)?;
-    push_dirty(code, wiring)
+    push_dirty(code, layout)
 }
 
 /// Appends code that sweeps, compares, and ends if the edge is clean. The code begins at place `at`.
-fn push_judge(code: &mut Code, wiring: &CommandWiring, at: u32) -> Result<(), AllocError>
+fn push_age_test(code: &mut Code, layout: &CommandLayout, at: u32) -> Result<(), AllocError>
     requires place { at ≤ 2 ^ 25 }
-    requires few { length wiring.now.outputs ≤ 2 ^ 16 }
-    ensures { OnOk result (code.new ≡ code.old ++ judge_code wiring.now at) }
+    requires few { length layout.now.outputs ≤ 2 ^ 16 }
+    ensures { OnOk result (code.new ≡ code.old ++ age_test_code layout.now at) }
 {
-    let clean = clean_len(wiring);
+    let clean = clean_len(layout);
     code.push(Instr::Sweep)?;
     code.push(Instr::Drop)?;
     code.push(Instr::JumpIf(at + 6 + clean))?;
     code.push(Instr::Before)?;
     code.push(Instr::JumpIf(at + 8 + clean))?;
-    push_settled(code, wiring)
+    push_clean_exit(code, layout)
 }
 
 /// Appends code that prepares the sweep if a baseline is on the stack above the paths.
-fn push_under(code: &mut Code, wiring: &CommandWiring, looks: bool) -> Result<(), AllocError>
-    ensures { OnOk result (code.new ≡ code.old ++ under_code looks wiring.now []) }
+fn push_under(code: &mut Code, layout: &CommandLayout, looks: bool) -> Result<(), AllocError>
+    ensures { OnOk result (code.new ≡ code.old ++ under_code looks layout.now []) }
 {
-    let outputs = wiring.outputs.as_slice();
+    let outputs = layout.outputs.as_slice();
     code.push(Instr::Swap)?;
-    code.push(Instr::Load(wiring.newest))?;
+    code.push(Instr::Load(layout.newest))?;
     code.push(Instr::Swap)?;
-    push_alarm(code, looks, outputs, wiring.flags.as_slice())?;
+    push_rerun_flag(code, looks, outputs, layout.flags.as_slice())?;
     code.push(Instr::Swap)?;
     Ok(())
 }
 
 /// Appends code that prepares the sweep if the recorded basis is on the stack above the paths.
-fn push_ready(code: &mut Code, wiring: &CommandWiring) -> Result<(), AllocError>
-    ensures { OnOk result (code.new ≡ code.old ++ ready_code wiring.now.baseline wiring.now []) }
+fn push_ready(code: &mut Code, layout: &CommandLayout) -> Result<(), AllocError>
+    ensures { OnOk result (code.new ≡ code.old ++ ready_code layout.now.baseline layout.now []) }
 {
-    match wiring.baseline {
+    match layout.baseline {
         Baseline::Outputs => {
             code.push(Instr::Drop)?;
             Ok(())
         }
-        Baseline::Basis => push_under(code, wiring, true),
+        Baseline::Basis => push_under(code, layout, true),
         Baseline::OutputsAndBasis => {
-            let looks = looks_at_outputs(wiring);
-            push_oldest(code, wiring.outputs.as_slice())?;
+            let looks = looks_at_outputs(layout);
+            push_oldest(code, layout.outputs.as_slice())?;
             code.push(Instr::Older)?;
-            push_under(code, wiring, looks)
+            push_under(code, layout, looks)
         }
     }
 }
 
 /// Appends code that prepares the sweep, sweeps and compares. The code begins at place `at`.
-fn push_judged(code: &mut Code, wiring: &CommandWiring, at: u32) -> Result<(), AllocError>
+fn push_same_command(code: &mut Code, layout: &CommandLayout, at: u32) -> Result<(), AllocError>
     requires place { at ≤ 2 ^ 24 }
-    requires few { length wiring.now.outputs ≤ 2 ^ 16 }
-    requires few_flags { length wiring.now.flags ≤ 2 ^ 16 }
-    ensures { OnOk result (code.new ≡ code.old ++ judged_code wiring.now at) }
+    requires few { length layout.now.outputs ≤ 2 ^ 16 }
+    requires few_flags { length layout.now.flags ≤ 2 ^ 16 }
+    ensures { OnOk result (code.new ≡ code.old ++ same_command_code layout.now at) }
 {
-    let judge = at + ready_len(wiring);
-    push_ready(code, wiring)?;
-    push_judge(code, wiring, judge)
+    let age_test = at + ready_len(layout);
+    push_ready(code, layout)?;
+    push_age_test(code, layout, age_test)
 }
 
 /// Returns the place of the dirty code, if the code that prepares the sweep is at place `at`.
-fn dirty_place(wiring: &CommandWiring, at: u32) -> u32
+fn dirty_place(layout: &CommandLayout, at: u32) -> u32
     requires place { at ≤ 2 ^ 24 }
-    requires few { length wiring.now.outputs ≤ 2 ^ 16 }
-    requires few_flags { length wiring.now.flags ≤ 2 ^ 16 }
-    ensures { result ≡ Rattle.plan_compile.specs.Emit.dirty_place wiring.now at }
+    requires few { length layout.now.outputs ≤ 2 ^ 16 }
+    requires few_flags { length layout.now.flags ≤ 2 ^ 16 }
+    ensures { result ≡ Rattle.plan_compile.specs.Emit.dirty_place layout.now at }
 {
-    at + ready_len(wiring) + 6 + clean_len(wiring)
+    at + ready_len(layout) + 6 + clean_len(layout)
 }
 
 /// Appends code that sweeps nevertheless and jumps to the dirty code, and then the code that compares, which is
 /// at place `judged`.
-fn push_swept(code: &mut Code, wiring: &CommandWiring, judged: u32) -> Result<(), AllocError>
+fn push_swept(code: &mut Code, layout: &CommandLayout, judged: u32) -> Result<(), AllocError>
     requires place { judged ≤ 2 ^ 24 }
-    requires few { length wiring.now.outputs ≤ 2 ^ 16 }
-    requires few_flags { length wiring.now.flags ≤ 2 ^ 16 }
-    ensures { OnOk result (code.new ≡ code.old ++ (op.Sweep ∷ op.Drop ∷ op.Drop ∷ op.Jump (dirty_place wiring.now judged) ∷ judged_code wiring.now judged)) }
+    requires few { length layout.now.outputs ≤ 2 ^ 16 }
+    requires few_flags { length layout.now.flags ≤ 2 ^ 16 }
+    ensures { OnOk result (code.new ≡ code.old ++ (op.Sweep ∷ op.Drop ∷ op.Drop ∷ op.Jump (dirty_place layout.now judged) ∷ same_command_code layout.now judged)) }
 {
-    let dirty = dirty_place(wiring, judged);
+    let dirty = dirty_place(layout, judged);
     code.push(Instr::Sweep)?;
     code.push(Instr::Drop)?;
     code.push(Instr::Drop)?;
     code.push(Instr::Jump(dirty))?;
-    push_judged(code, wiring, judged)
+    push_same_command(code, layout, judged)
 }
 
 /// Appends the code for a different recorded command, and then the code that compares, which is at place
 /// `judged`.
-fn push_other(code: &mut Code, wiring: &CommandWiring, judged: u32) -> Result<(), AllocError>
+fn push_other(code: &mut Code, layout: &CommandLayout, judged: u32) -> Result<(), AllocError>
     requires place { judged ≤ 2 ^ 24 }
-    requires few { length wiring.now.outputs ≤ 2 ^ 16 }
-    requires few_flags { length wiring.now.flags ≤ 2 ^ 16 }
-    ensures { OnOk result (code.new ≡ code.old ++ other_code wiring.now (dirty_place wiring.now judged) (judged_code wiring.now judged)) }
+    requires few { length layout.now.outputs ≤ 2 ^ 16 }
+    requires few_flags { length layout.now.flags ≤ 2 ^ 16 }
+    ensures { OnOk result (code.new ≡ code.old ++ other_code layout.now (dirty_place layout.now judged) (same_command_code layout.now judged)) }
 {
-    if compares_basis(wiring.baseline) {
+    if compares_basis(layout.baseline) {
         code.push(Instr::Swap)?;
         code.push(Instr::Zero)?;
         code.push(Instr::Swap)?;
         code.push(Instr::Flag(false))?;
         code.push(Instr::Swap)?;
-        push_swept(code, wiring, judged)
+        push_swept(code, layout, judged)
     } else {
         code.push(Instr::Drop)?;
-        push_swept(code, wiring, judged)
+        push_swept(code, layout, judged)
     }
 }
 
@@ -383,27 +383,27 @@ fn push_same(code: &mut Code, blank: bool, command: u32) -> Result<(), AllocErro
 }
 
 /// Appends code that compares the recorded command. The code begins at place `at`.
-fn push_compare(code: &mut Code, wiring: &CommandWiring, at: u32) -> Result<(), AllocError>
+fn push_compare(code: &mut Code, layout: &CommandLayout, at: u32) -> Result<(), AllocError>
     requires place { at ≤ 2 ^ 20 }
-    requires few { length wiring.now.outputs ≤ 2 ^ 16 }
-    requires few_flags { length wiring.now.flags ≤ 2 ^ 16 }
-    ensures { OnOk result (code.new ≡ code.old ++ compare_code wiring.now at) }
+    requires few { length layout.now.outputs ≤ 2 ^ 16 }
+    requires few_flags { length layout.now.flags ≤ 2 ^ 16 }
+    ensures { OnOk result (code.new ≡ code.old ++ compare_code layout.now at) }
 {
-    let judged = at + same_len(wiring) + 1 + other_len(wiring);
-    push_same(code, wiring.blank, wiring.command)?;
+    let judged = at + same_len(layout) + 1 + other_len(layout);
+    push_same(code, layout.blank, layout.command)?;
     code.push(Instr::JumpIf(judged))?;
-    push_other(code, wiring, judged)
+    push_other(code, layout, judged)
 }
 
 /// Appends code for the baseline of a generator that compares the basis of its entry. The code begins at place
 /// `at`.
-fn push_baseline(code: &mut Code, wiring: &CommandWiring, at: u32) -> Result<(), AllocError>
+fn push_baseline(code: &mut Code, layout: &CommandLayout, at: u32) -> Result<(), AllocError>
     requires place { at ≤ 2 ^ 20 }
-    requires few { length wiring.now.outputs ≤ 2 ^ 16 }
-    requires few_flags { length wiring.now.flags ≤ 2 ^ 16 }
-    ensures { OnOk result (code.new ≡ code.old ++ pass_code true wiring.now at) }
+    requires few { length layout.now.outputs ≤ 2 ^ 16 }
+    requires few_flags { length layout.now.flags ≤ 2 ^ 16 }
+    ensures { OnOk result (code.new ≡ code.old ++ pass_code true layout.now at) }
 {
-    let outputs = wiring.outputs.as_slice();
+    let outputs = layout.outputs.as_slice();
     let known = at + 4 + oldest_len(outputs);
     code.push(Instr::JumpIf(known))?;
     code.push(Instr::Drop)?;
@@ -411,39 +411,39 @@ fn push_baseline(code: &mut Code, wiring: &CommandWiring, at: u32) -> Result<(),
     push_oldest(code, outputs)?;
     code.push(Instr::Jump(known + 1))?;
     code.push(Instr::Drop)?;
-    push_judged(code, wiring, known + 1)
+    push_same_command(code, layout, known + 1)
 }
 
 /// Appends code for a generator, which doesn't compare the command. The code begins at place `at`.
-fn push_passed(code: &mut Code, wiring: &CommandWiring, at: u32) -> Result<(), AllocError>
+fn push_generator(code: &mut Code, layout: &CommandLayout, at: u32) -> Result<(), AllocError>
     requires place { at ≤ 2 ^ 20 }
-    requires few { length wiring.now.outputs ≤ 2 ^ 16 }
-    requires few_flags { length wiring.now.flags ≤ 2 ^ 16 }
-    ensures { OnOk result (code.new ≡ code.old ++ pass_code (compares_basis wiring.now.baseline) wiring.now at) }
+    requires few { length layout.now.outputs ≤ 2 ^ 16 }
+    requires few_flags { length layout.now.flags ≤ 2 ^ 16 }
+    ensures { OnOk result (code.new ≡ code.old ++ pass_code (compares_basis layout.now.baseline) layout.now at) }
 {
-    if compares_basis(wiring.baseline) {
-        push_baseline(code, wiring, at)
+    if compares_basis(layout.baseline) {
+        push_baseline(code, layout, at)
     } else {
         code.push(Instr::Drop)?;
         code.push(Instr::Drop)?;
-        push_judged(code, wiring, at + 2)
+        push_same_command(code, layout, at + 2)
     }
 }
 
 /// Appends the code from the recorded entry on. The code begins at place `at`.
-pub(crate) fn push_recalled(
+pub(crate) fn push_from_entry(
     code: &mut Code,
-    wiring: &CommandWiring,
+    layout: &CommandLayout,
     at: u32,
 ) -> Result<(), AllocError>
     requires place { at ≤ 2 ^ 20 }
-    requires few { length wiring.now.outputs ≤ 2 ^ 16 }
-    requires few_flags { length wiring.now.flags ≤ 2 ^ 16 }
-    ensures { OnOk result (code.new ≡ code.old ++ recalled_code wiring.now.generator wiring.now at) }
+    requires few { length layout.now.outputs ≤ 2 ^ 16 }
+    requires few_flags { length layout.now.flags ≤ 2 ^ 16 }
+    ensures { OnOk result (code.new ≡ code.old ++ from_entry_code layout.now.generator layout.now at) }
 {
-    if wiring.generator {
-        push_passed(code, wiring, at)
+    if layout.generator {
+        push_generator(code, layout, at)
     } else {
-        push_compare(code, wiring, at)
+        push_compare(code, layout, at)
     }
 }

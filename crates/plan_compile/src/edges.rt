@@ -13,7 +13,7 @@ ghost use Rattle.plan_compile.specs.Refusals.{RefusesCodes};
 use crate::bodies::Bodies;
 use crate::build::Build;
 use crate::code::Code;
-use crate::edge_wiring::put_code;
+use crate::edge_layout::put_code;
 use crate::fault::CompileFault;
 use crate::lists::Lists;
 use crate::numbers::Numbers;

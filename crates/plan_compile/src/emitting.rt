@@ -6,11 +6,11 @@ ghost use Rattle.plan_compile.specs.declared.fault.CompileFault.TheVariants as C
 ghost use Rattle.plan_compile.specs.Emit.{alone_code, code_of, command_code, emitted, gather_code};
 
 use crate::code::Code;
-use crate::command::{push_front, push_recalled};
+use crate::command::{push_from_entry, push_front};
 use crate::fault::CompileFault;
 use crate::inputs::{push_any, push_newest, push_order};
+use crate::layout::{CommandLayout, EdgeLayout, GatherLayout, Output};
 use crate::outputs::push_alone;
-use crate::wiring::{CommandWiring, GatherWiring, Output, Wiring};
 use plan_image::Instr;
 use std::alloc::{AllocError, Global};
 
@@ -18,7 +18,7 @@ use std::alloc::{AllocError, Global};
 const MOST: usize = 65536;
 
 /// Returns `Limit` if the code has too many places.
-fn limited(code: &Code) -> Result<(), CompileFault>
+fn check_length(code: &Code) -> Result<(), CompileFault>
     ensures { seen_by (λ _. code.now) result ≡ emitted code.now }
 {
     if code.len() <= MOST {
@@ -28,43 +28,43 @@ fn limited(code: &Code) -> Result<(), CompileFault>
     }
 }
 
-fn put_command(code: &mut Code, wiring: &CommandWiring) -> Result<(), CompileFault>
+fn put_command(code: &mut Code, layout: &CommandLayout) -> Result<(), CompileFault>
     requires { code.old ≡ [] }
-    ensures { Meets CompileFault.Memory (λ _. code.new) result (emitted (command_code wiring.now)) }
+    ensures { Meets CompileFault.Memory (λ _. code.new) result (emitted (command_code layout.now)) }
 {
-    push_front(code, wiring)?;
+    push_front(code, layout)?;
     if code.len() > MOST {
         return Err(CompileFault::Limit);
     }
-    if wiring.outputs.len() > MOST {
+    if layout.outputs.len() > MOST {
         return Err(CompileFault::Limit);
     }
-    if wiring.flags.len() > MOST {
+    if layout.flags.len() > MOST {
         return Err(CompileFault::Limit);
     }
     let at = code.len() as u32;
-    push_recalled(code, wiring, at)?;
-    limited(code)
+    push_from_entry(code, layout, at)?;
+    check_length(code)
 }
 
-fn push_gather(code: &mut Code, wiring: &GatherWiring) -> Result<(), AllocError>
-    ensures { OnOk result (code.new ≡ code.old ++ gather_code wiring.now) }
+fn push_gather(code: &mut Code, layout: &GatherLayout) -> Result<(), AllocError>
+    ensures { OnOk result (code.new ≡ code.old ++ gather_code layout.now) }
 {
-    push_order(code, wiring.order_only.as_slice())?;
-    push_newest(code, wiring.named.as_slice())?;
-    code.push(Instr::Store(wiring.stamp))?;
-    push_any(code, wiring.flags.as_slice())?;
-    code.push(Instr::Store(wiring.changed))?;
+    push_order(code, layout.order_only.as_slice())?;
+    push_newest(code, layout.named.as_slice())?;
+    code.push(Instr::Store(layout.stamp))?;
+    push_any(code, layout.flags.as_slice())?;
+    code.push(Instr::Store(layout.changed))?;
     code.push(Instr::End)?;
     Ok(())
 }
 
-fn put_gather(code: &mut Code, wiring: &GatherWiring) -> Result<(), CompileFault>
+fn put_gather(code: &mut Code, layout: &GatherLayout) -> Result<(), CompileFault>
     requires { code.old ≡ [] }
-    ensures { Meets CompileFault.Memory (λ _. code.new) result (emitted (gather_code wiring.now)) }
+    ensures { Meets CompileFault.Memory (λ _. code.new) result (emitted (gather_code layout.now)) }
 {
-    push_gather(code, wiring)?;
-    limited(code)
+    push_gather(code, layout)?;
+    check_length(code)
 }
 
 fn put_alone(code: &mut Code, outputs: &[Output]) -> Result<(), CompileFault>
@@ -72,18 +72,18 @@ fn put_alone(code: &mut Code, outputs: &[Output]) -> Result<(), CompileFault>
     ensures { Meets CompileFault.Memory (λ _. code.new) result (emitted (alone_code outputs.now)) }
 {
     push_alone(code, outputs)?;
-    limited(code)
+    check_length(code)
 }
 
 /// Generates the code of an edge into a buffer.
-pub(crate) fn put_code(code: &mut Code, wiring: &Wiring) -> Result<(), CompileFault>
-    ensures { Meets CompileFault.Memory (λ _. code.new) result (emitted (code_of wiring.now)) }
+pub(crate) fn put_code(code: &mut Code, layout: &EdgeLayout) -> Result<(), CompileFault>
+    ensures { Meets CompileFault.Memory (λ _. code.new) result (emitted (code_of layout.now)) }
 {
     code.clear();
-    match wiring {
-        Wiring::Command(command) => put_command(code, command),
-        Wiring::Gather(gather) => put_gather(code, gather),
-        Wiring::Alone(outputs) => put_alone(code, outputs.as_slice()),
+    match layout {
+        EdgeLayout::Command(command) => put_command(code, command),
+        EdgeLayout::Gather(gather) => put_gather(code, gather),
+        EdgeLayout::Alone(outputs) => put_alone(code, outputs.as_slice()),
     }
 }
 
@@ -95,11 +95,11 @@ pub(crate) fn put_code(code: &mut Code, wiring: &Wiring) -> Result<(), CompileFa
 ///
 /// - `Limit` if the code would have more than 65,536 places.
 /// - `Memory` if memory runs out before that is known.
-pub fn edge_code(alloc: Global, wiring: &Wiring) -> Result<Vec<Instr>, CompileFault>
-    ensures { Meets CompileFault.Memory (λ v. v.items) result (emitted (code_of wiring.now)) }
+pub fn edge_code(alloc: Global, layout: &EdgeLayout) -> Result<Vec<Instr>, CompileFault>
+    ensures { Meets CompileFault.Memory (λ v. v.items) result (emitted (code_of layout.now)) }
 {
     let mut code = Code::new(alloc);
-    put_code(&mut code, wiring)?;
+    put_code(&mut code, layout)?;
     let instrs = code.instrs(alloc)?;
     Ok(instrs)
 }

@@ -1,7 +1,7 @@
 //! Laws about the images of all manifests.
 ghost use Rattle.plan_compile.specs.Faithful.{ImageIsFaithful, ManifestsAreSound, OneAssignment};
 ghost use Rattle.plan_compile.specs.Refusals.{ImageIsSpelled};
-ghost use Rattle.plan_compile.specs.Told.{ImageIsShaped, ImageIsWired, ImageKeepsToRule, ImageMeans};
+ghost use Rattle.plan_compile.specs.Told.{ImageIsShaped, ImageIsLaidOut, ImageKeepsToRule, ImageMeans};
 
 use crate::laws::{command_means, command_shaped, phony_means, phony_shaped};
 use plan_graph::{defaults_ascend, files_complete, producers_waited, ranks_rise, waits_ascend};
@@ -26,7 +26,7 @@ pub fn image_is_faithful()
     ensures { ImageIsFaithful }
 {}
 
-/// States that the slots that an edge sets for an output are those that each user of the file reads.
+/// States that an edge sets for an output the slots that each edge with this input reads.
 pub fn one_assignment()
     ensures { OneAssignment }
 {}
@@ -51,8 +51,8 @@ pub fn image_keeps_to_rule()
 
 /// States that the slots of an edge's outputs are its own, and that the slots of a named input that another
 /// edge produces belong to an edge that is waited for.
-pub fn image_is_wired()
-    ensures { ImageIsWired }
+pub fn image_is_laid_out()
+    ensures { ImageIsLaidOut }
 {}
 
 /// States that the image is well shaped: the verifier accepts it unless memory runs out.

@@ -4,7 +4,7 @@ ghost use Rattle.std.specs.Prelude.{◌≡◌, ◌++◌, OnOk};
 ghost use Rattle.plan_compile.specs.Emit.{any_code, input_code, newer_code, newest_code, or_code, order_code};
 
 use crate::code::Code;
-use crate::wiring::Input;
+use crate::layout::Input;
 use plan_image::Instr;
 use std::alloc::AllocError;
 

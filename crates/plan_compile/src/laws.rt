@@ -9,7 +9,7 @@ pub fn command_means()
     ensures { CommandMeans }
 {}
 
-/// States that the code of each form of phony follows the out-of-date rule.
+/// States that the code of each sort of phony follows the out-of-date rule.
 pub fn phony_means()
     ensures { PhonyMeans }
 {}
@@ -25,7 +25,7 @@ pub fn command_shaped()
     ensures { CommandShaped }
 {}
 
-/// States that the verifier accepts the code of each form of phony if it accepts the edge's tables.
+/// States that the verifier accepts the code of each sort of phony if it accepts the edge's tables.
 pub fn phony_shaped()
     ensures { PhonyShaped }
 {}

@@ -1,10 +1,10 @@
-//! Memory for the lists of wirings.
+//! Memory for the lists of layouts.
 
-use crate::wiring::{CommandWiring, GatherWiring, Input, Output, Wiring};
+use crate::layout::{CommandLayout, EdgeLayout, GatherLayout, Input, Output};
 use plan_text::Items;
 use std::alloc::Global;
 
-/// The lists of a wiring. The lists of the next edge overwrite them, so they are allocated only once. Their
+/// The lists of a layout. The lists of the next edge overwrite them, so they are allocated only once. Their
 /// contents have no meaning.
 #[derive(Drop)]
 pub(crate) struct Lists {
@@ -30,23 +30,23 @@ impl Lists {
         with_outputs(alloc, Items::empty(alloc))
     }
 
-    /// Returns the lists of a wiring that is no longer used.
-    pub(crate) fn of(alloc: Global, wiring: Wiring) -> Lists {
-        match wiring {
-            Wiring::Command(command) => Lists::of_command(command),
-            Wiring::Gather(gather) => Lists::of_gather(gather),
-            Wiring::Alone(outputs) => with_outputs(alloc, outputs),
+    /// Returns the lists of a layout that is no longer used.
+    pub(crate) fn of(alloc: Global, layout: EdgeLayout) -> Lists {
+        match layout {
+            EdgeLayout::Command(command) => Lists::of_command(command),
+            EdgeLayout::Gather(gather) => Lists::of_gather(gather),
+            EdgeLayout::Alone(outputs) => with_outputs(alloc, outputs),
         }
     }
 
-    fn of_command(wiring: CommandWiring) -> Lists {
-        let CommandWiring {
+    fn of_command(layout: CommandLayout) -> Lists {
+        let CommandLayout {
             named,
             order_only,
             outputs,
             flags,
             ..
-        } = wiring;
+        } = layout;
         Lists {
             named: named.into_vec(),
             order_only: order_only.into_vec(),
@@ -55,14 +55,14 @@ impl Lists {
         }
     }
 
-    fn of_gather(wiring: GatherWiring) -> Lists {
-        let GatherWiring {
+    fn of_gather(layout: GatherLayout) -> Lists {
+        let GatherLayout {
             named,
             order_only,
             outputs,
             flags,
             ..
-        } = wiring;
+        } = layout;
         Lists {
             named: named.into_vec(),
             order_only: order_only.into_vec(),

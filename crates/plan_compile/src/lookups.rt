@@ -7,7 +7,7 @@ ghost use Rattle.plan_compile.specs.Means.{flags_of};
 ghost use Rattle.plan_compile.specs.OutputTable.{found, inputs_in, outputs_in, sources_in};
 ghost use Rattle.plan_compile.specs.Slots.{flags_once, input_by, members_from};
 
-use crate::wiring::{Input, Output};
+use crate::layout::{Input, Output};
 use plan_text::Items;
 use std::alloc::{AllocError, Global};
 

@@ -10,11 +10,11 @@ ghost use Rattle.plan_compile.specs.Numbering.{with_item, with_items};
 ghost use Rattle.plan_scope.specs.TextLists.{whole};
 
 use crate::build::{Build, word};
-use crate::key::{HeldKey, Key};
 use crate::numbers::Numbers;
+use crate::text_key::{HeldKey, Key};
 use indexmap::{IndexMap, IndexSet};
 use plan_image::Pool;
-use plan_scope::{EdgeRef, EdgeText, HeldText};
+use plan_scope::{CowText, EdgeRef, EdgeText};
 use plan_text::{Items, RowList};
 use std::alloc::{AllocError, Global};
 use std::marker::Model;
@@ -56,7 +56,7 @@ impl<'a> Texts<'a> {
     }
 
     /// Appends a text unless it is in the list, and returns its number.
-    fn put(&mut self, text: HeldText<'a>) -> Result<u32, AllocError>
+    fn put(&mut self, text: CowText<'a>) -> Result<u32, AllocError>
         requires { IsWord (length self.old) }
         ensures texts { OnOk result (self.new ≡ with_item bytes_eq self.old text.entry) }
         ensures number { IfOk result (λ n. n ≡ text_number self.new text.entry) }
@@ -123,7 +123,7 @@ fn put_unless_empty<'a>(
     if text.is_empty() {
         return Ok(None);
     }
-    let number = texts.put(text.joined(alloc)?)?;
+    let number = texts.put(text.join(alloc)?)?;
     Ok(Some(number))
 }
 
@@ -142,11 +142,11 @@ fn put_shown<'a>(
     ensures few { OnOk result (length texts.new ≤ length texts.old + 2) }
 {
     if description.is_empty() {
-        let number = texts.put(command.joined(alloc)?)?;
+        let number = texts.put(command.join(alloc)?)?;
         return Ok((number, number));
     }
-    let label = texts.put(description.joined(alloc)?)?;
-    let command = texts.put(command.joined(alloc)?)?;
+    let label = texts.put(description.join(alloc)?)?;
+    let command = texts.put(command.join(alloc)?)?;
     Ok((label, command))
 }
 
@@ -193,7 +193,7 @@ fn put_names<'a>(
 {
     let edge = build.edge();
     if edge.is_phony() {
-        let label = texts.put(HeldText::lent(&[]))?;
+        let label = texts.put(CowText::of_slice(&[]))?;
         return Ok(Numbers {
             label,
             command: 0,

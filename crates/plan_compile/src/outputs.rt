@@ -4,7 +4,7 @@ ghost use Rattle.std.specs.Prelude.{◌≡◌, ◌++◌, false, OnOk};
 ghost use Rattle.plan_compile.specs.Emit.{alone_code, flag_code, holders, older_code, oldest_code, restat_code, stat_code};
 
 use crate::code::Code;
-use crate::wiring::Output;
+use crate::layout::Output;
 use plan_image::Instr;
 use std::alloc::AllocError;
 

@@ -2,33 +2,33 @@
 
 ghost use Rattle.std.specs.Prelude.{◌≡◌, ◌≤◌, ◌<◌, ◌+◌, ◌++◌, ◌∷◌, [], length, replicate, None, IfNone, IfOk, IfSome, OnOk, zero};
 ghost use Rattle.plan_image.specs.Spelling.{IsWord, RoomAfter};
-ghost use Rattle.plan_compile.specs.declared.form.Form.TheVariants as form;
+ghost use Rattle.plan_compile.specs.declared.slot_pattern.SlotPattern.TheVariants as form;
 ghost use Rattle.plan_compile.specs.OutputTable.{filled, found, put};
 ghost use Rattle.plan_compile.specs.Slots.{all_made, form_by, input_by, kinds_by, newest_by, newest_from, outputs_apart, outputs_by, outputs_flagged, outputs_sharing, own_kinds, owned, pairs, slot_count, slots_from, stamps};
 
 use crate::build::{Build, word};
-use crate::form::Form;
-use crate::wiring::{Input, Output};
+use crate::layout::{Input, Output};
+use crate::slot_pattern::SlotPattern;
 use plan_image::{Kind, Slot};
 use std::alloc::{AllocError, Global};
 
 /// The most slots of an image.
 const MOST: usize = 16_777_216;
 
-/// Returns the form of an edge that is or isn't a phony, restat, and without inputs.
-fn form_by(phony: bool, restat: bool, none: bool) -> Form
+/// Returns the slot pattern of an edge, from whether it is a phony, is restat, and has no inputs.
+fn form_by(phony: bool, restat: bool, none: bool) -> SlotPattern
     ensures { result ≡ form_by phony restat none }
 {
     match (phony, restat, none) {
-        (true, _, true) => Form::Alone,
-        (true, _, false) => Form::Gathers,
-        (false, true, _) => Form::OwnFlags,
-        (false, false, _) => Form::OneFlag,
+        (true, _, true) => SlotPattern::Alone,
+        (true, _, false) => SlotPattern::Gathers,
+        (false, true, _) => SlotPattern::OwnFlags,
+        (false, false, _) => SlotPattern::OneFlag,
     }
 }
 
-/// Returns the form of an edge.
-pub(crate) fn form_of<'a>(build: &Build<'a>) -> Form
+/// Returns the slot pattern of an edge.
+pub(crate) fn form_of<'a>(build: &Build<'a>) -> SlotPattern
     ensures { result ≡ Rattle.plan_compile.specs.Slots.form_of build.now }
 {
     let edge = build.edge();
@@ -36,15 +36,15 @@ pub(crate) fn form_of<'a>(build: &Build<'a>) -> Form
     form_by(edge.is_phony(), edge.has_restat(), none)
 }
 
-/// Returns the number of slots of an edge with this form and these outputs.
-fn own_len(form: Form, files: &[u32]) -> usize
+/// Returns the number of slots of an edge with this slot pattern and these outputs.
+fn own_len(form: SlotPattern, files: &[u32]) -> usize
     ensures { result ≡ length (kinds_by form files.now) }
 {
     match form {
-        Form::OneFlag => 2 + files.len(),
-        Form::OwnFlags => 1 + 2 * files.len(),
-        Form::Gathers => 2,
-        Form::Alone => 2 * files.len(),
+        SlotPattern::OneFlag => 2 + files.len(),
+        SlotPattern::OwnFlags => 1 + 2 * files.len(),
+        SlotPattern::Gathers => 2,
+        SlotPattern::Alone => 2 * files.len(),
     }
 }
 
@@ -106,7 +106,7 @@ fn slot(slots: &mut Vec<Slot>, owner: u32, kind: Kind) -> Result<u32, AllocError
 }
 
 /// Adds a stamp slot for each of these outputs, which share a flag slot.
-fn lay_flagged(
+fn add_sharing_slots(
     slots: &mut Vec<Slot>,
     table: &mut Vec<Option<Output>>,
     owner: u32,
@@ -132,7 +132,7 @@ fn lay_flagged(
 }
 
 /// Adds a stamp slot and a flag slot for each of these outputs.
-fn lay_apart(
+fn add_own_slots(
     slots: &mut Vec<Slot>,
     table: &mut Vec<Option<Output>>,
     owner: u32,
@@ -174,7 +174,7 @@ fn put_sharing(table: &mut Vec<Option<Output>>, stamp: u32, changed: u32, files:
 }
 
 /// Adds the slots of an edge with a command that isn't restat. Returns the slot of the newest input's stamp.
-fn lay_one_flag(
+fn add_command_slots(
     slots: &mut Vec<Slot>,
     table: &mut Vec<Option<Output>>,
     owner: u32,
@@ -187,12 +187,12 @@ fn lay_one_flag(
 {
     let changed = slot(slots, owner, Kind::Flag)?;
     let newest = slot(slots, owner, Kind::Stamp)?;
-    lay_flagged(slots, table, owner, changed, files)?;
+    add_sharing_slots(slots, table, owner, changed, files)?;
     Ok(newest)
 }
 
 /// Adds the slots of a restat edge. Returns the slot of the newest input's stamp.
-fn lay_own_flags(
+fn add_restat_slots(
     slots: &mut Vec<Slot>,
     table: &mut Vec<Option<Output>>,
     owner: u32,
@@ -204,13 +204,13 @@ fn lay_own_flags(
     ensures table { OnOk result (table.new.items ≡ filled table.old.items (outputs_by form.OwnFlags (length slots.old.items) files.now)) }
 {
     let newest = slot(slots, owner, Kind::Stamp)?;
-    lay_apart(slots, table, owner, files)?;
+    add_own_slots(slots, table, owner, files)?;
     Ok(newest)
 }
 
 /// Adds the slots of a phony with inputs. Returns the slot of the newest input's stamp, which all outputs
 /// share.
-fn lay_gathers(
+fn add_phony_slots(
     slots: &mut Vec<Slot>,
     table: &mut Vec<Option<Output>>,
     owner: u32,
@@ -228,7 +228,7 @@ fn lay_gathers(
 }
 
 /// Adds the slots of a phony without inputs. Returns the number of the first one.
-fn lay_alone(
+fn add_leaf_slots(
     slots: &mut Vec<Slot>,
     table: &mut Vec<Option<Output>>,
     owner: u32,
@@ -240,16 +240,16 @@ fn lay_alone(
     ensures table { OnOk result (table.new.items ≡ filled table.old.items (outputs_by form.Alone (length slots.old.items) files.now)) }
 {
     let first = word(slots.len());
-    lay_apart(slots, table, owner, files)?;
+    add_own_slots(slots, table, owner, files)?;
     Ok(first)
 }
 
 /// Adds the slots of an edge, and enters its outputs by file. Returns the slot of the newest input's stamp.
-fn lay(
+fn add_slots(
     slots: &mut Vec<Slot>,
     table: &mut Vec<Option<Output>>,
     owner: u32,
-    form: Form,
+    form: SlotPattern,
     files: &[u32],
 ) -> Result<u32, AllocError>
     requires { length slots.old.items + length (kinds_by form files.now) ≤ 16777216 }
@@ -258,10 +258,10 @@ fn lay(
     ensures table { OnOk result (table.new.items ≡ filled table.old.items (outputs_by form (length slots.old.items) files.now)) }
 {
     match form {
-        Form::OneFlag => lay_one_flag(slots, table, owner, files),
-        Form::OwnFlags => lay_own_flags(slots, table, owner, files),
-        Form::Gathers => lay_gathers(slots, table, owner, files),
-        Form::Alone => lay_alone(slots, table, owner, files),
+        SlotPattern::OneFlag => add_command_slots(slots, table, owner, files),
+        SlotPattern::OwnFlags => add_restat_slots(slots, table, owner, files),
+        SlotPattern::Gathers => add_phony_slots(slots, table, owner, files),
+        SlotPattern::Alone => add_leaf_slots(slots, table, owner, files),
     }
 }
 
@@ -275,8 +275,8 @@ pub(crate) struct Plan {
     pub(crate) newest: Vec<u32>,
 }
 
-/// Lays out the slots of all edges, given the numbers of files and slots.
-pub(crate) fn planned<'a>(
+/// Assigns slots to all edges, given the numbers of files and slots.
+pub(crate) fn plan_slots<'a>(
     alloc: Global,
     files: usize,
     count: usize,
@@ -293,7 +293,7 @@ pub(crate) fn planned<'a>(
     let mut newest = Vec::with_capacity(alloc, builds.len())?;
     for number in 0..builds.len() {
         let build = &builds[number];
-        let slot = lay(
+        let slot = add_slots(
             &mut slots,
             &mut table,
             word(number),

@@ -28,7 +28,7 @@ met_stays : (old new : List ℕ) (at filled start code : ℕ) → get_or old at 
 met_stays old new at filled start code empty some more f m = record {
   at = m.at;
   behind = m.behind;
-  stands = f.others m.at (λ e. let none : code ≡ 0 = sym m.stands ∙ ap (λ (k : ℕ). get_or old k 0) e ∙ empty in omega (arith, none, more)) ∙ m.stands;
+  lex_states = f.others m.at (λ e. let none : code ≡ 0 = sym m.lex_states ∙ ap (λ (k : ℕ). get_or old k 0) e ∙ empty in omega (arith, none, more)) ∙ m.lex_states;
   filled = filled_before old new at filled start m.at some f m.filled;
 }
 
@@ -37,7 +37,7 @@ met_here : (old new : List ℕ) (at start code : ℕ) → IsVacant old start at 
 met_here old new at start code v f = record {
   at = at;
   behind = v.behind;
-  stands = f.here;
+  lex_states = f.here;
   filled = λ j low high none. v.filled j low high (sym (f.others j (λ e. omega (arith, e, high))) ∙ none);
 }
 
@@ -90,7 +90,7 @@ met_before slots start at code some v m = by (cases_lt m.at at)
     by (inl before) = before
     by (inr after) =
         elim (cases_eq m.at at) [
-          | inl same ↦ absurd (let none : code ≡ 0 = sym m.stands ∙ ap (λ (k : ℕ). get_or slots k 0) same ∙ v.empty in omega (arith, none, some))
+          | inl same ↦ absurd (let none : code ≡ 0 = sym m.lex_states ∙ ap (λ (k : ℕ). get_or slots k 0) same ∙ v.empty in omega (arith, none, some))
           | inr other ↦ absurd (m.filled at v.behind (omega (arith, after, other)) v.empty)
         ]
 
@@ -105,7 +105,7 @@ is_new paths slots path size count at v elsewhere all h = list_any_none (pointwi
         let same : path ≡ get_or paths n [] = (bytes_eq-Decides path (get_or paths n [])).0 e in
         let m : IsMet slots (start_of size (hash_of path)) (code_of n (hash_of path)) =
         subst (λ (p : List ℕ). IsMet slots (start_of size (hash_of p)) (code_of n (hash_of p))) (sym same) (h n (omega (arith, lt, all)) lt) in
-        sym e ∙ elsewhere m.at n m.behind (met_before slots (start_of size (hash_of path)) at (code_of n (hash_of path)) (code_filled n (hash_of path)) v m) lt m.stands
+        sym e ∙ elsewhere m.at n m.behind (met_before slots (start_of size (hash_of path)) at (code_of n (hash_of path)) (code_filled n (hash_of path)) v m) lt m.lex_states
 
     differs : (n : ℕ) → n < length paths → pointwise nat_eq path (get_or paths n []) ≡ false
     differs n lt = by n lt (pointwise nat_eq path (get_or paths n [])) refl

@@ -6,11 +6,11 @@ use Rattle.plan_depfile.specs.declared.fault.DepFault.TheVariants.{NoColon, NoTa
 use Rattle.plan_depfile.specs.declared.state.Held.{Held}
 use Rattle.plan_depfile.specs.declared.state.Held.TheVariants as held
 use Rattle.plan_depfile.specs.declared.reader.Reader.{Reader}
-use Rattle.plan_depfile.specs.Signs.{marks_past}
+use Rattle.plan_depfile.specs.Tokens.{marks_past}
 use Rattle.plan_depfile.specs.Depfile.{Met, met_at, canonical_word, with_paths, most, within}
 use Rattle.plan_text.specs.Outcome.{◌>>=◌}
-use Rattle.plan_depfile.specs.Going.{Stand, Fresh, Comment, Targets, Between, Inside, go, grown}
-use Rattle.plan_depfile.specs.Machine.{bytes_of, found_with, paths_found, stand_at, unless}
+use Rattle.plan_depfile.specs.LexerRun.{LexState, Fresh, Comment, Targets, Between, Inside, go, grown}
+use Rattle.plan_depfile.specs.Lexer.{bytes_of, found_with, paths_found, stand_at, unless}
 use Rattle.plan_depfile.specs.Reader.{IsSure, failed}
 
 abbrev IsTooLong : DepFault → Type 0
@@ -94,7 +94,7 @@ colon_behind held.BackslashReturn = 120 ∷ 58 ∷ []
 colon_behind held.Return = 120 ∷ 58 ∷ []
 
 -- the result outside of paths
-abbrev Finds : (DepFault → Type 0) → Stand → ℕ → ℕ → List ℕ → Type 0
+abbrev Finds : (DepFault → Type 0) → LexState → ℕ → ℕ → List ℕ → Type 0
 Finds P s stop at text = OfMet P (go stop s (marks_past at text 0))
 
 fresh_ends : (stop at : ℕ) (h : Held) → Finds IsShort Fresh stop at (bytes_of h ++ [])
@@ -224,31 +224,31 @@ is_short at held.Dollar w = grind (arith, nat_tests, w)
 is_short at held.Return w = grind (arith, nat_tests, w)
 
 -- the result from this state if these bytes follow
-abbrev found : List (List ℕ) → Stand → ℕ → Held → List ℕ → Result (List (List ℕ)) DepFault
+abbrev found : List (List ℕ) → LexState → ℕ → Held → List ℕ → Result (List (List ℕ)) DepFault
 found paths s at h rest = found_with paths s (at + length (bytes_of h ++ rest)) (marks_past at (bytes_of h ++ rest) 0)
 
 -- a fault that is found whatever follows
-abbrev FoundAlways : List (List ℕ) → Stand → ℕ → Held → DepFault → Type 0
+abbrev FoundAlways : List (List ℕ) → LexState → ℕ → Held → DepFault → Type 0
 FoundAlways paths s at h fault = (rest : List ℕ) → found paths s at h rest ≡ Err fault
 
-by_end : (P : DepFault → Type 0) (paths : List (List ℕ)) (s : Stand) (at : ℕ) (h : Held) (fault : DepFault) → at + length (bytes_of h) ≤ most → FoundAlways paths s at h fault
+by_end : (P : DepFault → Type 0) (paths : List (List ℕ)) (s : LexState) (at : ℕ) (h : Held) (fault : DepFault) → at + length (bytes_of h) ≤ most → FoundAlways paths s at h fault
     → Finds P s (at + length (bytes_of h ++ [])) at (bytes_of h ++ []) → P fault
 by_end P paths s at h fault w always f =
     let r : Result (List (List ℕ)) Met = go (at + length (bytes_of h ++ [])) s (marks_past at (bytes_of h ++ []) 0) in
     subst (OfFault P) (always []) (subst (λ (t : Bool). OfFault P (within t ((r >>= (λ more. Ok (with_paths paths more)))))) (sym (is_short at h w)) (below P paths r f))
 
-by_more : (P : DepFault → Type 0) → P (TooLong most) → (paths : List (List ℕ)) (s : Stand) (at : ℕ) (h : Held) (fault : DepFault) (rest : List ℕ) → FoundAlways paths s at h fault
+by_more : (P : DepFault → Type 0) → P (TooLong most) → (paths : List (List ℕ)) (s : LexState) (at : ℕ) (h : Held) (fault : DepFault) (rest : List ℕ) → FoundAlways paths s at h fault
     → Finds P s (at + length (bytes_of h ++ rest)) at (bytes_of h ++ rest) → P fault
 by_more P long paths s at h fault rest found_always f =
     subst (OfFault P) (found_always rest) (always P long (nat_lt most (at + length (bytes_of h ++ rest))) paths (go (at + length (bytes_of h ++ rest)) s (marks_past at (bytes_of h ++ rest) 0)) f)
 
-outside : (paths : List (List ℕ)) (s : Stand) (at : ℕ) (h : Held) (fault : DepFault) → at + length (bytes_of h) ≤ most → FoundAlways paths s at h fault
+outside : (paths : List (List ℕ)) (s : LexState) (at : ℕ) (h : Held) (fault : DepFault) → at + length (bytes_of h) ≤ most → FoundAlways paths s at h fault
     → Finds IsShort s (at + length (bytes_of h ++ [])) at (bytes_of h ++ [])
     → Finds IsTooLong s (at + length (bytes_of h ++ colon_behind h)) at (bytes_of h ++ colon_behind h) → ⊥
 outside paths s at h fault w always e g =
     long_and_short fault (by_more IsTooLong tt paths s at h fault (colon_behind h) always g) (by_end IsShort paths s at h fault w always e)
 
-none_always : (paths : List (List ℕ)) (s : Stand) (at : ℕ) (h : Held) (fault : DepFault) → at + length (bytes_of h) ≤ most → FoundAlways paths s at h fault → ⊥
+none_always : (paths : List (List ℕ)) (s : LexState) (at : ℕ) (h : Held) (fault : DepFault) → at + length (bytes_of h) ≤ most → FoundAlways paths s at h fault → ⊥
 none_always paths Fresh at h fault w always =
     outside paths Fresh at h fault w always (fresh_ends (at + length (bytes_of h ++ [])) at h) (fresh_goes_on (at + length (bytes_of h ++ colon_behind h)) at h)
 none_always paths Comment at h fault w always =
@@ -264,6 +264,6 @@ none_always paths (Inside start bytes) at h fault w always =
 -- if there is no fault yet, no fault is sure
 pub none_is_sure : (reader : Reader) → failed reader ≡ None → (fault : DepFault) → IsSure reader fault → ⊥
 none_is_sure reader none fault sure =
-    let m = reader.machine in
-    none_always (paths_found m) (stand_at m.stand m.word.items) m.at m.held fault reader.short
-    (λ (rest : List ℕ). sym (ap (λ (o : Option DepFault). unless o (found (paths_found m) (stand_at m.stand m.word.items) m.at m.held rest)) none) ∙ sure rest)
+    let m = reader.lexer in
+    none_always (paths_found m) (stand_at m.lex_state m.word.items) m.at m.held fault reader.short
+    (λ (rest : List ℕ). sym (ap (λ (o : Option DepFault). unless o (found (paths_found m) (stand_at m.lex_state m.word.items) m.at m.held rest)) none) ∙ sure rest)

@@ -38,7 +38,7 @@ most_paths = 16777215
 pub record IsMet (slots : List ℕ) (start code : ℕ) : Type 0 where
   pub at : ℕ
   pub behind : start ≤ at
-  pub stands : get_or slots at 0 ≡ code
+  pub lex_states : get_or slots at 0 ≡ code
   pub filled : (j : ℕ) → start ≤ j → j < at → get_or slots j 0 ≢ 0
 
 -- the first empty slot from one on; it may be the index after the last slot

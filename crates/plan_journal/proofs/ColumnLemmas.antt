@@ -19,7 +19,7 @@ total_append kept (s ∷ ss) us = omega (arith, total_append kept ss us)
 pub one_more : {X : Type 0} (new mid old : List X) (x : X) → new ≡ mid ++ x ∷ [] → mid ≡ old → new ≡ old ++ x ∷ []
 one_more new mid old x e f = e ∙ ap (λ l. l ++ x ∷ []) f
 
--- columns put one behind the other
+-- columns, one after the other
 events_append : (ss us : List Sort) (es fs ts vs : List ℕ) (ws ps : List Event) → Fit ss es ts ws
     → events (ss ++ us) (es ++ fs) (ts ++ vs) (ws ++ ps) ≡ events ss es ts ws ++ events us fs vs ps
 events_append [] us [] fs [] vs [] ps fit = refl

@@ -1,7 +1,7 @@
 -- The definitions, computed on small columns.
 use Rattle.std.proofs.Common.{◌≡◌, [], ◌∷◌, refl}
 use Rattle.plan_machine.specs.declared.event.Event.TheVariants.{Start, Skip, Stop, Step, Reply as Hear}
-use Rattle.plan_machine.specs.declared.reply.Reply.TheVariants as reply
+use Rattle.plan_machine.specs.declared.event.reply.Reply.TheVariants as reply
 use Rattle.plan_journal.specs.declared.sort.Sort.TheVariants as sort
 use Rattle.plan_journal.specs.Columns.{events, stamps_in, total, wholes_in}
 

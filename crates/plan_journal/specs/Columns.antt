@@ -2,7 +2,7 @@
 use Rattle.std.specs.Prelude.{◌≡◌, ℕ, ◌+◌, List, [], ◌∷◌, drop, get_or, length}
 use Rattle.plan_machine.specs.declared.event.Event.{Event}
 use Rattle.plan_machine.specs.declared.event.Event.TheVariants.{Start, Stop, Step, Reply as Hear}
-use Rattle.plan_machine.specs.declared.reply.Reply.TheVariants as reply
+use Rattle.plan_machine.specs.declared.event.reply.Reply.TheVariants as reply
 use Rattle.plan_journal.specs.declared.sort.Sort.{Sort}
 use Rattle.plan_journal.specs.declared.sort.Sort.TheVariants as sort
 
@@ -21,7 +21,7 @@ abbrev pub total : (Sort → ℕ) → List Sort → ℕ
 total kept [] = 0
 total kept (s ∷ ss) = kept s + total kept ss
 
--- the event of this sort, by what stands first in the columns
+-- the event of this sort, by the first items of the columns
 abbrev pub event_of : Sort → ℕ → ℕ → Event → Event
 event_of sort.Start e stamp whole = Start e
 event_of sort.Stop e stamp whole = Stop e

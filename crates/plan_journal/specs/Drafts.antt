@@ -9,10 +9,10 @@ pub record Draft : Type 0 where
   pub edges_left : ℕ
   pub stamps_left : ℕ
 
--- so many more events without a stamp fit in
+-- n more events without a stamp fit in
 abbrev pub HasRoom : ℕ → Draft → Type 0
 HasRoom n d = (n ≤ d.sorts_left) × (n ≤ d.edges_left)
 
--- so many stamps fit in, each with a step behind it
+-- n stamps fit in, each with a step after it
 abbrev pub HasRowRoom : ℕ → Draft → Type 0
 HasRowRoom n d = HasRoom (n + n) d × (n ≤ d.stamps_left)

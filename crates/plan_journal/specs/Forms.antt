@@ -9,8 +9,8 @@ use Rattle.plan_journal.specs.Drafts.{Draft}
 abbrev pub most : ℕ
 most = 18446744073709551615
 
--- How many events fit in: as many as the columns have room for, or as many as can be counted. A stamp that is only counted
--- takes no room of its own.
+-- How many events fit in: as many as the columns have room for, or as many as can be counted. A stamp that is only
+-- counted takes no room of its own.
 abbrev pub draft : Form → List Event → Draft
 draft (Kept columns) events = record { events = events; sorts_left = columns.sorts_left; edges_left = columns.edges_left; stamps_left = columns.stamps_left }
 draft (Counted count) events = record { events = events; sorts_left = most - count; edges_left = most - count; stamps_left = most }

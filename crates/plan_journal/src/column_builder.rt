@@ -3,8 +3,8 @@
 ghost use Rattle.std.specs.Prelude.{◌≡◌, ◌≤◌, ◌++◌, ◌∷◌, ◌+◌, ◌-◌, ℕ, [], OnErr, OnOk, length, take};
 ghost use Rattle.plan_machine.specs.declared.event.Event.TheVariants.{Reply as Hear};
 ghost use Rattle.plan_machine.specs.declared.event.Event.TheVariants as happens;
-ghost use Rattle.plan_machine.specs.declared.reply.Reply.TheVariants.{Stamp};
-ghost use Rattle.plan_machine.specs.Rushes.{steps_of};
+ghost use Rattle.plan_machine.specs.declared.event.reply.Reply.TheVariants.{Stamp};
+ghost use Rattle.plan_machine.specs.LocalRuns.{steps_of};
 ghost use Rattle.plan_machine.specs.Sweeping.{row_events, sweep_events};
 ghost use Rattle.plan_journal.specs.Columns.{event_of, stamps_in, wholes_in};
 ghost use Rattle.plan_journal.specs.Drafts.{HasRoom, HasRowRoom};
@@ -87,7 +87,7 @@ impl ColumnBuilder {
         Ok(())
     }
 
-    /// Makes room for so many stamps, each followed by a step.
+    /// Makes room for `stamps` stamps, each followed by a step.
     ///
     /// # Errors
     /// `AllocError` if memory runs out. Then no event is lost.
@@ -115,7 +115,7 @@ impl ColumnBuilder {
         self.edges.push_reserved(edge);
     }
 
-    /// Appends a stamp that an edge heard. It takes no memory.
+    /// Appends a stamp that an edge received. It takes no memory.
     pub(crate) fn push_stamp_within(&mut self, edge: u32, stamp: u64)
         requires room { HasRoom 1 self.old }
         requires stamp { 1 ≤ self.old.stamps_left }
@@ -175,7 +175,7 @@ impl ColumnBuilder {
         Ok(())
     }
 
-    /// Appends a stamp that an edge heard.
+    /// Appends a stamp that an edge received.
     fn push_stamp(&mut self, edge: u32, stamp: u64) -> Result<(), AllocError>
         ensures ok { OnOk result (self.new.events ≡ self.old.events ++ Hear edge (Stamp stamp) ∷ []) }
         ensures err { OnErr result (self.new.events ≡ self.old.events) }
@@ -205,7 +205,7 @@ impl ColumnBuilder {
         Ok(())
     }
 
-    /// Appends the same reply as this one, which an edge heard.
+    /// Appends the same reply as this one, which an edge received.
     ///
     /// # Errors
     /// `AllocError` if memory runs out. Then nothing changed.
@@ -217,7 +217,7 @@ impl ColumnBuilder {
         match reply {
             Reply::Stamp(stamp) => self.push_stamp(edge, *stamp),
             reply => {
-                let kept = reply.journaled(*self.wholes.allocator())?;
+                let kept = reply.copy_for_journal(*self.wholes.allocator())?;
                 self.push_whole(edge, Event::Reply(edge, kept))
             }
         }

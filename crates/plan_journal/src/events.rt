@@ -89,10 +89,10 @@ fn first_event<'a>(
     ensures { result ≡ columns.event_of sort (get_or edges.now 0 0) (get_or stamps.now 0 0) (get_or wholes.now 0 (Start 0)) }
 {
     match sort {
-        Sort::Start => ReadEvent::made(Event::Start(edges[0])),
-        Sort::Stop => ReadEvent::made(Event::Stop(edges[0])),
-        Sort::Step => ReadEvent::made(Event::Step(edges[0])),
-        Sort::Stamp => ReadEvent::made(Event::Reply(edges[0], Reply::Stamp(stamps[0]))),
-        Sort::Whole => ReadEvent::kept(&wholes[0]),
+        Sort::Start => ReadEvent::of_columns(Event::Start(edges[0])),
+        Sort::Stop => ReadEvent::of_columns(Event::Stop(edges[0])),
+        Sort::Step => ReadEvent::of_columns(Event::Step(edges[0])),
+        Sort::Stamp => ReadEvent::of_columns(Event::Reply(edges[0], Reply::Stamp(stamps[0]))),
+        Sort::Whole => ReadEvent::of_whole(&wholes[0]),
     }
 }

@@ -3,8 +3,8 @@
 ghost use Rattle.std.specs.Prelude.{◌≡◌, ◌≤◌, ◌++◌, ◌∷◌, ◌+◌, ◌-◌, ℕ, [], None, OnErr, OnOk, Some, if◌then◌else◌, length, take};
 ghost use Rattle.plan_machine.specs.declared.event.Event.TheVariants.{Reply as Hear};
 ghost use Rattle.plan_machine.specs.declared.event.Event.TheVariants as happens;
-ghost use Rattle.plan_machine.specs.declared.reply.Reply.TheVariants.{Stamp};
-ghost use Rattle.plan_machine.specs.Rushes.{steps_of};
+ghost use Rattle.plan_machine.specs.declared.event.reply.Reply.TheVariants.{Stamp};
+ghost use Rattle.plan_machine.specs.LocalRuns.{steps_of};
 ghost use Rattle.plan_machine.specs.Sweeping.{row_events, sweep_events};
 ghost use Rattle.plan_journal.specs.Drafts.{HasRoom, HasRowRoom};
 
@@ -26,9 +26,9 @@ enum Form {
     Counted(usize),
 }
 
-/// The events of a run so far, for which room can be made before they come. A contract sees their list, and how many more
-/// fit in that are known by their sort and their edge. They are kept, in columns, if `K` says so, and otherwise only
-/// counted.
+/// The events of a run so far. Room for events can be reserved before they come. A contract sees their list, and how
+/// many more fit in that are known by their sort and their edge. If `K` says so, the events are kept in columns.
+/// Otherwise they are only counted.
 #[derive(Drop)]
 pub struct JournalBuilder<K: Keeping> {
     alloc: Global,
@@ -91,7 +91,8 @@ impl<K: Keeping> JournalBuilder<K> {
         }
     }
 
-    /// Makes room for `count` events, of which one may bring a stamp. The others are known by their sort and their edge.
+    /// Makes room for `count` events, of which one may bring a stamp. The others are known by their sort and their
+    /// edge.
     ///
     /// # Errors
     /// Memory ran out. Then no event is lost.
@@ -109,7 +110,7 @@ impl<K: Keeping> JournalBuilder<K> {
         }
     }
 
-    /// Makes room for so many stamps, each with a step behind it.
+    /// Makes room for `stamps` stamps, each followed by a step.
     ///
     /// # Errors
     /// Memory ran out. Then no event is lost.
@@ -153,8 +154,8 @@ impl<K: Keeping> JournalBuilder<K> {
         }
     }
 
-    /// Appends the stamps that an edge heard for paths that it sweeps one after another, and behind each the step that
-    /// asks for the next. It takes no memory.
+    /// Appends the stamps that an edge received for paths that it sweeps one after another, and after each stamp the
+    /// step that asks for the next path. It takes no memory.
     pub fn push_row(&mut self, edge: u32, stamps: &[u64])
         requires { HasRowRoom (length stamps.now) self.old }
         ensures { self.new.events ≡ self.old.events ++ row_events edge stamps.now }
@@ -164,8 +165,8 @@ impl<K: Keeping> JournalBuilder<K> {
         }
     }
 
-    /// Appends the stamp that an edge heard for a path that it sweeps, and the step that asks for the next one. It takes
-    /// no memory.
+    /// Appends the stamp that an edge received for a path that it sweeps, and the step that asks for the next path.
+    /// It takes no memory.
     fn push_swept(&mut self, edge: u32, stamp: u64)
         requires room { HasRoom 2 self.old }
         requires stamp { 1 ≤ self.old.stamps_left }
@@ -176,7 +177,7 @@ impl<K: Keeping> JournalBuilder<K> {
         self.push_step(edge);
     }
 
-    /// Appends a stamp that an edge heard. It takes no memory.
+    /// Appends a stamp that an edge received. It takes no memory.
     fn push_stamp(&mut self, edge: u32, stamp: u64)
         requires room { HasRoom 1 self.old }
         requires stamp { 1 ≤ self.old.stamps_left }
@@ -211,7 +212,7 @@ impl<K: Keeping> JournalBuilder<K> {
         Ok(())
     }
 
-    /// Appends the same reply as this one, which an edge heard.
+    /// Appends the same reply as this one, which an edge received.
     ///
     /// # Errors
     /// Memory ran out. Then nothing changed.
@@ -220,7 +221,7 @@ impl<K: Keeping> JournalBuilder<K> {
         ensures err { OnErr result (self.new.events ≡ self.old.events) }
         ensures room { (n : ℕ) → HasRoom (n + 1) self.old → OnOk result (HasRoom n self.new) }
     {
-        let heard = reply.journaled(self.alloc)?;
+        let heard = reply.copy_for_journal(self.alloc)?;
         self.push(&Event::Reply(edge, heard))
     }
 

@@ -32,7 +32,7 @@ impl<'a> Model for ReadEvent<'a> {
 
 impl<'a> ReadEvent<'a> {
     /// Returns an event that the journal keeps whole.
-    pub(crate) fn kept(event: &'a Event) -> ReadEvent<'a>
+    pub(crate) fn of_whole(event: &'a Event) -> ReadEvent<'a>
         ensures { result ≡ event.now }
     {
         ReadEvent {
@@ -41,7 +41,7 @@ impl<'a> ReadEvent<'a> {
     }
 
     /// Returns an event that was built from its columns.
-    pub(crate) fn made(event: Event) -> ReadEvent<'a>
+    pub(crate) fn of_columns(event: Event) -> ReadEvent<'a>
         ensures { result ≡ event }
     {
         ReadEvent {

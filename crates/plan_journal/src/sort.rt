@@ -12,7 +12,7 @@ pub(crate) enum Sort {
     Stop,
     /// An edge makes its next step.
     Step,
-    /// An edge hears a stamp.
+    /// An edge receives a stamp.
     Stamp,
     /// Any other event, which is kept whole.
     Whole,

@@ -7,10 +7,10 @@ use Rattle.std.proofs.lemmas.Option.{slice_get_within}
 use Rattle.plan_image.specs.declared.image.Parts.{Parts}
 use Rattle.plan_verify.specs.Turn.{Local}
 use Rattle.plan_machine.specs.declared.event.Event.{Event}
-use Rattle.plan_machine.specs.declared.mark.Mark.{Mark}
+use Rattle.plan_machine.specs.declared.event.mark.Mark.{Mark}
 use Rattle.plan_machine.specs.Depfile.{depfile}
 use Rattle.plan_machine.specs.Edges.{edge_of}
-use Rattle.plan_machine.specs.Going.{Going}
+use Rattle.plan_machine.specs.RunState.{RunState}
 use Rattle.plan_machine.specs.Limits.{Limits}
 use Rattle.plan_machine.specs.Kept.{Running, IsStateOf}
 use Rattle.plan_machine.specs.Runs.{Opens, at_first}
@@ -20,11 +20,11 @@ use Rattle.plan_machine.specs.Wanted.{any_outside}
 use Rattle.plan_lanes.specs.Boards.{AreNumbers, IsJournaled, IsKept, MayJournal}
 use Rattle.plan_lanes.specs.Journals.{Rule, IsLastOf}
 use Rattle.plan_lanes.specs.Progress.{Progress, progress}
-use Rattle.plan_lanes.specs.Telling.{telling}
+use Rattle.plan_lanes.specs.ObservableMarks.{observable}
 use Rattle.plan_lanes.proofs.JournalLemmas.{allowed_more, allowed_none, last_before, last_here}
 use Rattle.plan_lanes.proofs.ListLemmas.{get_other, get_set}
 use Rattle.plan_lanes.proofs.RunLemmas.{MovesAlone, moves_alone, reached_more}
-use Rattle.plan_lanes.proofs.TellingLemmas.{telling_append}
+use Rattle.plan_lanes.proofs.ObservableLemmas.{observable_append}
 
 -- no edge is under way at first
 none_active : (wanted : List Bool) (e : ℕ) (l : Local) → slice_get (map at_first wanted) e ≡ Some (Active l) → ⊥
@@ -35,23 +35,23 @@ none_active (w ∷ wanted) (suc e) l h = none_active wanted e l h
 
 -- a board that was opened
 pub kept_opened : (rule : Rule) (numbers : List ℕ) (p : Parts) (targets : List ℕ) (r : Running) (journal : List Event) (marks : List Mark)
-    → Opens p targets r.going.now → IsStateOf p r → journal ≡ [] → marks ≡ [] → length numbers ≡ length p.edges → any_outside p targets ≡ false
-    → IsKept rule numbers r (progress p targets r.going journal marks)
+    → Opens p targets r.run_state.now → IsStateOf p r → journal ≡ [] → marks ≡ [] → length numbers ≡ length p.edges → any_outside p targets ≡ false
+    → IsKept rule numbers r (progress p targets r.run_state journal marks)
 kept_opened rule numbers p targets r journal marks opens state none bare all inside =
     rw (none, bare) (record {
       inside = inside;
       journaled = record {
         left = [];
-        reached = record { start = r.going.now; opens = opens; run = refl };
+        reached = record { start = r.run_state.now; opens = opens; run = refl };
         kept = refl;
-        allowed = allowed_none rule p r.going.limits targets;
+        allowed = allowed_none rule p r.run_state.limits targets;
       };
       numbered = λ e l active. absurd (none_active opens.wanted e l (subst (λ (s : List Status). slice_get s e ≡ Some (Active l)) opens.edges active));
       all = all;
       state = state;
     })
 
--- what a board keeps but for the books of its state
+-- what a board keeps, except the schedule of its state
 pub record IsRecorded (rule : Rule) (numbers : List ℕ) (b : Progress) : Type 0 where
   pub journaled : IsJournaled rule b
   pub numbered : AreNumbers numbers b
@@ -60,7 +60,7 @@ pub record IsRecorded (rule : Rule) (numbers : List ℕ) (b : Progress) : Type 0
 
 -- a board one event later
 abbrev pub later_by : Progress → Event → Mark → State → Progress
-later_by b event told t = record { opened = b.opened; state = t; journal = b.journal ++ event ∷ []; marks = b.marks ++ telling (told ∷ []) }
+later_by b event told t = record { opened = b.opened; state = t; journal = b.journal ++ event ∷ []; marks = b.marks ++ observable (told ∷ []) }
 
 module _ (rule : Rule) (numbers : List ℕ) (b : Progress) (event : Event) (told : Mark) (t : State) (kept : IsRecorded rule numbers b) (may : MayJournal rule b event)
     (is : step depfile b.opened.parts b.opened.limits b.state event ≡ Next t told) where
@@ -109,7 +109,7 @@ module _ (rule : Rule) (numbers : List ℕ) (b : Progress) (event : Event) (told
         journaled = record {
           left = kept.journaled.left ++ told ∷ [];
           reached = reached_more depfile b.opened.parts b.opened.limits b.opened.targets b.journal kept.journaled.left b.state t event told kept.journaled.reached is;
-          kept = ap (λ (l : List Mark). l ++ telling (told ∷ [])) kept.journaled.kept ∙ sym (telling_append kept.journaled.left (told ∷ []));
+          kept = ap (λ (l : List Mark). l ++ observable (told ∷ [])) kept.journaled.kept ∙ sym (observable_append kept.journaled.left (told ∷ []));
           allowed = allowed_more rule b.opened.parts b.opened.limits b.opened.targets b.journal event b.state kept.journaled.left kept.journaled.reached kept.journaled.allowed may;
         };
         numbered = numbered;
@@ -117,29 +117,29 @@ module _ (rule : Rule) (numbers : List ℕ) (b : Progress) (event : Event) (told
         long = lengths ∙ kept.long;
       }
 
--- a board with its books, as it is recorded
-pub recorded_of : (rule : Rule) (numbers : List ℕ) (r : Running) (b : Progress) → IsKept rule numbers r b → r.going ≡ record { limits = b.opened.limits; now = b.state } → IsRecorded rule numbers b
-recorded_of rule numbers r b kept going =
+-- a board with its schedule, as it is recorded
+pub recorded_of : (rule : Rule) (numbers : List ℕ) (r : Running) (b : Progress) → IsKept rule numbers r b → r.run_state ≡ record { limits = b.opened.limits; now = b.state } → IsRecorded rule numbers b
+recorded_of rule numbers r b kept run_state =
     record {
       journaled = kept.journaled;
       numbered = kept.numbered;
       all = kept.all;
-      long = subst (λ (g : Going). length g.now.edges ≡ length b.opened.parts.edges) going kept.state.kept.long;
+      long = subst (λ (g : RunState). length g.now.edges ≡ length b.opened.parts.edges) run_state kept.state.kept.long;
     }
 
 -- and back
 pub kept_of : (rule : Rule) (numbers : List ℕ) (next : Running) (b : Progress) (journal : List Event) (marks : List Mark) → any_outside b.opened.parts b.opened.targets ≡ false
-    → IsRecorded rule numbers (record { opened = b.opened; state = next.going.now; journal = journal; marks = marks }) → next.going.limits ≡ b.opened.limits → IsStateOf b.opened.parts next
-    → IsKept rule numbers next (progress b.opened.parts b.opened.targets next.going journal marks)
+    → IsRecorded rule numbers (record { opened = b.opened; state = next.run_state.now; journal = journal; marks = marks }) → next.run_state.limits ≡ b.opened.limits → IsStateOf b.opened.parts next
+    → IsKept rule numbers next (progress b.opened.parts b.opened.targets next.run_state journal marks)
 kept_of rule numbers next b journal marks inside recorded limits state =
-    subst (λ (l : Limits). IsKept rule numbers next (record { opened = record { parts = b.opened.parts; limits = l; targets = b.opened.targets }; state = next.going.now; journal = journal; marks = marks })) (sym limits)
+    subst (λ (l : Limits). IsKept rule numbers next (record { opened = record { parts = b.opened.parts; limits = l; targets = b.opened.targets }; state = next.run_state.now; journal = journal; marks = marks })) (sym limits)
     (record { inside = inside; journaled = recorded.journaled; numbered = recorded.numbered; all = recorded.all; state = state })
 
 -- a board that one event more was applied to
 pub kept_more : (rule : Rule) (numbers : List ℕ) (r next : Running) (b : Progress) (event : Event) (told : Mark) → IsKept rule numbers r b → MayJournal rule b event
-    → r.going ≡ record { limits = b.opened.limits; now = b.state } → step depfile b.opened.parts b.opened.limits b.state event ≡ Next next.going.now told → next.going.limits ≡ r.going.limits → IsStateOf b.opened.parts next
-    → IsKept rule (slice_set numbers (edge_of event) (length b.journal)) next (progress b.opened.parts b.opened.targets next.going (b.journal ++ event ∷ []) (b.marks ++ telling (told ∷ [])))
-kept_more rule numbers r next b event told kept may going is limits state =
-    kept_of rule (slice_set numbers (edge_of event) (length b.journal)) next b (b.journal ++ event ∷ []) (b.marks ++ telling (told ∷ [])) kept.inside
-    (recorded_more rule numbers b event told next.going.now (recorded_of rule numbers r b kept going) may is)
-    (limits ∙ ap (λ (g : Going). g.limits) going) state
+    → r.run_state ≡ record { limits = b.opened.limits; now = b.state } → step depfile b.opened.parts b.opened.limits b.state event ≡ Next next.run_state.now told → next.run_state.limits ≡ r.run_state.limits → IsStateOf b.opened.parts next
+    → IsKept rule (slice_set numbers (edge_of event) (length b.journal)) next (progress b.opened.parts b.opened.targets next.run_state (b.journal ++ event ∷ []) (b.marks ++ observable (told ∷ [])))
+kept_more rule numbers r next b event told kept may run_state is limits state =
+    kept_of rule (slice_set numbers (edge_of event) (length b.journal)) next b (b.journal ++ event ∷ []) (b.marks ++ observable (told ∷ [])) kept.inside
+    (recorded_more rule numbers b event told next.run_state.now (recorded_of rule numbers r b kept run_state) may is)
+    (limits ∙ ap (λ (g : RunState). g.limits) run_state) state

@@ -10,8 +10,8 @@ use Rattle.plan_verify.specs.Turn.{Request}
 use Rattle.plan_machine.specs.Limits.{Limits}
 use Rattle.plan_machine.specs.declared.event.Event.{Event}
 use Rattle.plan_machine.specs.declared.event.Event.TheVariants.{Reply as Hear}
-use Rattle.plan_machine.specs.declared.mark.Mark.{Mark}
-use Rattle.plan_machine.specs.declared.reply.Reply.{Reply}
+use Rattle.plan_machine.specs.declared.event.mark.Mark.{Mark}
+use Rattle.plan_machine.specs.declared.event.reply.Reply.{Reply}
 use Rattle.plan_machine.specs.Depfile.{depfile}
 use Rattle.plan_machine.specs.Edges.{edge_of}
 use Rattle.plan_machine.specs.Requests.{asked_at}
@@ -61,7 +61,7 @@ no_event i x h = cc
 pub allowed_none : (rule : Rule) (p : Parts) (limits : Limits) (targets : List ℕ) → IsAllowed rule p limits targets []
 allowed_none rule p limits targets i e r s marks q n at reached asked is = absurd (no_event i (Hear e r) at)
 
--- one event more is allowed, where a reply is one that the rule allows
+-- one event more is allowed, if it is no reply or a reply that the rule allows
 pub allowed_more : (rule : Rule) (p : Parts) (limits : Limits) (targets : List ℕ) (xs : List Event) (x : Event) (t : State) (ms : List Mark)
     → Reached depfile p limits targets xs ms t → IsAllowed rule p limits targets xs
     → ((e : ℕ) (r : Reply) (q : Request) (n : ℕ) → x ≡ Hear e r → asked_at p t e ≡ Some q → IsLastOf e n xs → rule n q r)

@@ -1,4 +1,4 @@
--- What a board did that went on by several events. Serves src/board.rt and src/board/rushing.rt.
+-- What a board did that went on by several events. Serves src/board.rt and src/board/local_runs.rt.
 use Rattle.std.proofs.Common.{◌≡◌, ◌+◌, ℕ, zero, suc, Bool, true, false, List, [], ◌∷◌, ◌++◌, Option, Some, None, length, length-append, refl, sym, ap, ◌∙◌, subst, arith}
 use Rattle.std.specs.Prelude.{◌||◌, ◌&&◌, not, if◌then◌else◌, slice_get}
 use Rattle.std.proofs.lemmas.List.{append_assoc}
@@ -8,10 +8,10 @@ use Rattle.plan_verify.specs.Sound.{asking as awaiting}
 use Rattle.plan_verify.specs.Turn.{Local, Request, Moved, Took, Released, Turn, Goes, Sets, Asks, Ends, Fails, Wrong, turn}
 use Rattle.plan_machine.specs.declared.event.Event.{Event}
 use Rattle.plan_machine.specs.declared.event.Event.TheVariants.{Step, Reply as Hear}
-use Rattle.plan_machine.specs.declared.mark.Mark.{Mark}
-use Rattle.plan_machine.specs.declared.mark.Mark.TheVariants as mark
-use Rattle.plan_machine.specs.declared.reply.Reply.{Reply}
-use Rattle.plan_machine.specs.declared.rush.Rush.{Rush}
+use Rattle.plan_machine.specs.declared.event.mark.Mark.{Mark}
+use Rattle.plan_machine.specs.declared.event.mark.Mark.TheVariants as mark
+use Rattle.plan_machine.specs.declared.event.reply.Reply.{Reply}
+use Rattle.plan_machine.specs.declared.run.local_run.LocalRun.{LocalRun}
 use Rattle.plan_machine.specs.Depfile.{depfile}
 use Rattle.plan_machine.specs.Edges.{edge_of}
 use Rattle.plan_machine.specs.Limits.{Limits}
@@ -19,18 +19,18 @@ use Rattle.plan_machine.specs.Places.{at_take, is_free}
 use Rattle.plan_machine.specs.Requests.{AsksNothing, asked_at}
 use Rattle.plan_machine.specs.Requests.{Asks as AsksFor}
 use Rattle.plan_machine.specs.Runs.{Runs}
-use Rattle.plan_machine.specs.Rushes.{events_by, is_still, marks_by, moves_of, rush_events, rush_marks, steps_of}
+use Rattle.plan_machine.specs.LocalRuns.{events_by, is_still, marks_by, moves_of, local_run_events, local_run_marks, steps_of}
 use Rattle.plan_machine.specs.State.{Status, Unbegun, Active, Over, State}
 use Rattle.plan_machine.specs.Step.{Next, NotEnabled, settles, step, stepped, steps}
 use Rattle.plan_lanes.specs.Boards.{Applies, IsOpen}
 use Rattle.plan_lanes.specs.Journals.{IsLastOf}
 use Rattle.plan_lanes.specs.Proceeds.{AsksLast, AwaitsReply, MovesOn, asking, asking_by}
-use Rattle.plan_lanes.specs.Progress.{Progress, going_of}
-use Rattle.plan_lanes.specs.Rushes.{AppliesAll, Follows, Rushes}
+use Rattle.plan_lanes.specs.Progress.{Progress, run_state_of}
+use Rattle.plan_lanes.specs.LocalRuns.{AppliesAll, Follows, Rushes}
 use Rattle.plan_lanes.proofs.JournalLemmas.{last_here, last_same}
 use Rattle.plan_lanes.proofs.ListLemmas.{get_set}
 use Rattle.plan_lanes.proofs.RestLemmas.{last_step, next_is}
-use Rattle.plan_lanes.proofs.RushLemmas.{rush_cons}
+use Rattle.plan_lanes.proofs.LocalRunLemmas.{local_run_cons}
 
 -- ---- which edges asked
 
@@ -42,34 +42,34 @@ moves_silent : (e n : ℕ) → asking (moves_of e n) ≡ []
 moves_silent e zero = refl
 moves_silent e (suc n) = asking_append (moves_of e n) (mark.Moved e ∷ []) ∙ ap (λ (l : List ℕ). l ++ []) (moves_silent e n)
 
-rush_silent : (e : ℕ) (r : Rush) → r.asked ≡ false → asking (rush_marks e r) ≡ []
-rush_silent e r quiet = by r.asked quiet
+local_run_silent : (e : ℕ) (r : LocalRun) → r.asked ≡ false → asking (local_run_marks e r) ≡ []
+local_run_silent e r quiet = by r.asked quiet
   where
     by : (a : Bool) → a ≡ false → asking (marks_by e r.steps a) ≡ []
     by true h = absurd cc
     by false h = moves_silent e r.steps
 
-rush_asks : (e : ℕ) (r : Rush) → r.asked ≡ true → asking (rush_marks e r) ≡ e ∷ []
-rush_asks e r asked = by r.asked asked
+local_run_asks : (e : ℕ) (r : LocalRun) → r.asked ≡ true → asking (local_run_marks e r) ≡ e ∷ []
+local_run_asks e r asked = by r.asked asked
   where
     by : (a : Bool) → a ≡ true → asking (marks_by e r.steps a) ≡ e ∷ []
     by true h = asking_append (moves_of e r.steps) (mark.Asked e ∷ []) ∙ ap (λ (l : List ℕ). l ++ e ∷ []) (moves_silent e r.steps)
     by false h = absurd cc
 
--- ---- a rush that asked nothing
+-- ---- a local run that asked nothing
 
-pub rushed_moves : (old new : Progress) (e : ℕ) (r : Rush) → Rushes old new e r → r.asked ≡ false → is_still r ≡ false → MovesOn old new
-rushed_moves old new e r h quiet moved =
-    let first = rush_cons e r moved in
+pub ran_locally_moves : (old new : Progress) (e : ℕ) (r : LocalRun) → Rushes old new e r → r.asked ≡ false → is_still r ≡ false → MovesOn old new
+ran_locally_moves old new e r h quiet moved =
+    let first = local_run_cons e r moved in
     record {
       first = Step e;
       rest = steps_of e first.0;
-      told = rush_marks e r;
-      applies = subst (λ (l : List Event). AppliesAll old new l (rush_marks e r)) first.1 h;
-      silent = rush_silent e r quiet;
+      told = local_run_marks e r;
+      applies = subst (λ (l : List Event). AppliesAll old new l (local_run_marks e r)) first.1 h;
+      silent = local_run_silent e r quiet;
     }
 
--- ---- one that asked
+-- ---- a local run that asked
 
 -- an edge that asked awaits a reply
 module _ (p : Parts) (limits : Limits) (s mid : State) (e : ℕ) where
@@ -103,21 +103,21 @@ module _ (p : Parts) (limits : Limits) (s mid : State) (e : ℕ) where
   unfolding step
   step_asked is = steps_asked (slice_get s.edges e) refl is
 
--- the last event of a rush that asked
+-- the last event of a local run that asked
 run_asked : (p : Parts) (limits : Limits) (s t : State) (e n : ℕ) (before : List Event) (told : List Mark) → Runs depfile p limits s (before ++ Step e ∷ []) (told ++ mark.Asked e ∷ []) t
     → (l : Local) × (slice_get t.edges e ≡ Some (Active l)) × (l.asked ≡ true)
 run_asked p limits s t e n before told run =
     let last = last_step p limits s t before told (Step e) (mark.Asked e) run in
     step_asked p limits last.0 t e last.1
 
-pub rushed_awaits : (old new : Progress) (e : ℕ) (r : Rush) → Rushes old new e r → r.asked ≡ true → AwaitsReply new e
-rushed_awaits old new e r h asked = by r.steps r.asked asked h.run
+pub ran_locally_awaits : (old new : Progress) (e : ℕ) (r : LocalRun) → Rushes old new e r → r.asked ≡ true → AwaitsReply new e
+ran_locally_awaits old new e r h asked = by r.steps r.asked asked h.run
   where
     by : (n : ℕ) (a : Bool) → a ≡ true → Runs depfile old.opened.parts old.opened.limits old.state (events_by e n a) (marks_by e n a) new.state → AwaitsReply new e
     by n true k run = run_asked old.opened.parts old.opened.limits old.state new.state e n (steps_of e n) (moves_of e n) run
     by n false k run = absurd cc
 
-pub followed_awaits : (old new : Progress) (e : ℕ) (reply : Reply) (r : Rush) → Follows old new e reply r → r.asked ≡ true → AwaitsReply new e
+pub followed_awaits : (old new : Progress) (e : ℕ) (reply : Reply) (r : LocalRun) → Follows old new e reply r → r.asked ≡ true → AwaitsReply new e
 followed_awaits old new e reply r h asked = by r.steps r.asked asked h.1.run
   where
     by : (n : ℕ) (a : Bool) → a ≡ true → Runs depfile old.opened.parts old.opened.limits old.state (Hear e reply ∷ events_by e n a) (h.0 ∷ marks_by e n a) new.state → AwaitsReply new e
@@ -131,13 +131,13 @@ last_number journal xs e number is last =
     let long : length journal ≡ length (xs ++ Step e ∷ []) = ap (λ (l : List Event). length l) is in
     omega (arith, same, long, length-append xs (Step e ∷ []))
 
-pub rushed_asks : (old new : Progress) (e number : ℕ) (q : Request) (r : Rush) → Rushes old new e r → r.asked ≡ true → IsOpen new e number q → AsksLast old new e number q
-rushed_asks old new e number q r h asked awaited =
+pub ran_locally_asks : (old new : Progress) (e number : ℕ) (q : Request) (r : LocalRun) → Rushes old new e r → r.asked ≡ true → IsOpen new e number q → AsksLast old new e number q
+ran_locally_asks old new e number q r h asked awaited =
     record {
-      events = rush_events e r;
-      told = rush_marks e r;
+      events = local_run_events e r;
+      told = local_run_marks e r;
       applies = h;
-      alone = rush_asks e r asked;
+      alone = local_run_asks e r asked;
       question = awaited;
       last = by r.steps r.asked asked h.journal;
     }
@@ -164,7 +164,7 @@ one_applied : (old new : Progress) (event : Event) (told : Mark) → Applies old
 one_applied old new event told h = record { opened = h.opened; run = (new.state, h.next, refl); journal = h.journal; marks = h.marks }
 
 -- one that asks nothing
-pub applied_moves : (old new : Progress) (event : Event) (told : Mark) → Applies old new event told → AsksNothing old.opened.parts (going_of old) event → MovesOn old new
+pub applied_moves : (old new : Progress) (event : Event) (told : Mark) → Applies old new event told → AsksNothing old.opened.parts (run_state_of old) event → MovesOn old new
 applied_moves old new event told h quiet =
     record {
       first = event;
@@ -175,7 +175,7 @@ applied_moves old new event told h quiet =
     }
 
 -- one that asks
-pub applied_asks : (old new : Progress) (event : Event) (told : Mark) (e number : ℕ) (q : Request) → Applies old new event told → AsksFor old.opened.parts (going_of old) event q → e ≡ edge_of event
+pub applied_asks : (old new : Progress) (event : Event) (told : Mark) (e number : ℕ) (q : Request) → Applies old new event told → AsksFor old.opened.parts (run_state_of old) event q → e ≡ edge_of event
     → told ≡ mark.Asked e → number ≡ length old.journal → asked_at new.opened.parts new.state e ≡ Some q → AsksLast old new e number q
 applied_asks old new event told e number q h asks here is at asked =
     let long : length new.journal ≡ length (old.journal ++ event ∷ []) = ap (λ (l : List Event). length l) h.journal in

@@ -21,12 +21,12 @@ pub record MachineLaws : Type 0 where
   pub frugal : IsFrugal depfile
 
 -- the report of a board
-pub run_so : (rule : Rule) (numbers : List ℕ) (p : Parts) (targets : List ℕ) (r : Report) (b : Progress) → IsKept rule numbers r.state (progress p targets r.state.going r.journal r.marks.items)
-    → progress p targets r.state.going r.journal r.marks.items ≡ b → IsWellShaped p → MachineLaws → IsRunOf rule b.opened r
+pub run_so : (rule : Rule) (numbers : List ℕ) (p : Parts) (targets : List ℕ) (r : Report) (b : Progress) → IsKept rule numbers r.state (progress p targets r.state.run_state r.journal r.marks.items)
+    → progress p targets r.state.run_state r.journal r.marks.items ≡ b → IsWellShaped p → MachineLaws → IsRunOf rule b.opened r
 run_so rule numbers p targets r b kept same shaped laws =
     let left = kept.journaled.left in
     let reached = kept.journaled.reached in
-    let l = r.state.going.limits in
+    let l = r.state.run_state.limits in
     subst (λ (w : Progress). IsRunOf rule w.opened r) same
     (record {
       inside = kept.inside;
@@ -36,7 +36,7 @@ run_so rule numbers p targets r b kept same shaped laws =
       allowed = kept.journaled.allowed;
       state = kept.state;
       limits = refl;
-      safe = laws.wrong depfile p shaped l targets r.journal left r.state.going.now reached;
-      orderly = laws.orderly depfile p shaped l targets r.journal left r.state.going.now reached;
-      bounded = laws.budget depfile laws.frugal p shaped l targets r.journal left r.state.going.now reached;
+      safe = laws.wrong depfile p shaped l targets r.journal left r.state.run_state.now reached;
+      orderly = laws.orderly depfile p shaped l targets r.journal left r.state.run_state.now reached;
+      bounded = laws.budget depfile laws.frugal p shaped l targets r.journal left r.state.run_state.now reached;
     })

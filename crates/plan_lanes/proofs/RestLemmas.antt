@@ -16,25 +16,25 @@ use Rattle.plan_verify.specs.Turn.{Slots, Local, Request, Did, Turn, Goes, Sets,
 use Rattle.plan_machine.specs.Depfile.{depfile}
 use Rattle.plan_machine.specs.Limits.{Limits}
 use Rattle.plan_machine.specs.Places.{at_take, is_free}
-use Rattle.plan_machine.specs.declared.mark.Outcome.TheVariants.{Failed}
+use Rattle.plan_machine.specs.declared.event.mark.Outcome.TheVariants.{Failed}
 use Rattle.plan_machine.specs.declared.event.Event.{Event}
 use Rattle.plan_machine.specs.declared.event.Event.TheVariants.{Step, Reply as Hear}
-use Rattle.plan_machine.specs.declared.mark.Mark.{Mark}
-use Rattle.plan_machine.specs.declared.mark.Mark.TheVariants as mark
-use Rattle.plan_machine.specs.declared.reply.Reply.{Reply}
-use Rattle.plan_machine.specs.declared.rush.Rush.{Rush}
+use Rattle.plan_machine.specs.declared.event.mark.Mark.{Mark}
+use Rattle.plan_machine.specs.declared.event.mark.Mark.TheVariants as mark
+use Rattle.plan_machine.specs.declared.event.reply.Reply.{Reply}
+use Rattle.plan_machine.specs.declared.run.local_run.LocalRun.{LocalRun}
 use Rattle.plan_machine.specs.Requests.{asked_at, asked_by}
 use Rattle.plan_machine.specs.Runs.{Runs}
-use Rattle.plan_machine.specs.Rushes.{events_by, marks_by, moves_of, rush_events, rush_marks, steps_of}
+use Rattle.plan_machine.specs.LocalRuns.{events_by, marks_by, moves_of, local_run_events, local_run_marks, steps_of}
 use Rattle.plan_machine.specs.State.{Status, Unbegun, Active, Over, State}
 use Rattle.plan_machine.specs.Step.{Next, NotEnabled, answer_of, answered, ended, hears, hears_by, settles, step, stepped, steps}
 use Rattle.plan_lanes.specs.Progress.{Opened, Progress}
-use Rattle.plan_lanes.specs.Rushes.{Follows}
+use Rattle.plan_lanes.specs.LocalRuns.{Follows}
 use Rattle.plan_lanes.proofs.ListLemmas.{get_set, when_either}
 
 -- ---- turns
 
--- a turn behind which an edge awaits no reply; of one that asks, what is said
+-- A turn after which an edge awaits no reply. If the turn asks, A holds.
 abbrev Quiet : Type 0 → Turn → Type 0
 Quiet A (Goes did m) = m.asked ≡ false
 Quiet A (Sets k v m) = m.asked ≡ false
@@ -175,7 +175,7 @@ module _ (p : Parts) (s : State) (e : ℕ) (l : Local) (active : slice_get s.edg
   rests_at slots status mid same none =
       subst (λ (x : State). asked_at p x e ≡ None) same (ap (asked_by p e slots) (get_set s.edges status e (slice_get_within s.edges e (Active l) active)) ∙ none)
 
-  -- where it goes on, and didn't ask
+  -- if it goes on, and didn't ask
   settled : (A : Type 0) (told : Did → Mark) (t : Turn) (mid : State) (m : Mark) → Quiet A t → (A → m ≢ mark.Asked e) → settles s e l told t ≡ Next mid m → asked_at p mid e ≡ None
   settled A told (Goes did k) mid m quiet none is = rests_at s.slots (Active k) mid (next_is _ _ _ _ is).0 (quiet_asks s.slots k quiet)
   settled A told (Sets j v k) mid m quiet none is = rests_at (slice_set s.slots j (Some v)) (Active k) mid (next_is _ _ _ _ is).0 (quiet_asks (slice_set s.slots j (Some v)) k quiet)
@@ -224,9 +224,9 @@ last_step p limits s t [] (n ∷ k ∷ ms) x m run = absurd run.2
 last_step p limits s t (y ∷ []) [] x m run = absurd run.2
 last_step p limits s t (y ∷ z ∷ ys) [] x m run = absurd run.2
 
--- an edge that heard a reply and rushed without a question
-rush_rests : (p : Parts) (limits : Limits) (s t : State) (e : ℕ) (reply : Reply) (told : Mark) (r : Rush) → r.asked ≡ false → Runs depfile p limits s (Hear e reply ∷ rush_events e r) (told ∷ rush_marks e r) t → asked_at p t e ≡ None
-rush_rests p limits s t e reply told r quiet run = by r.steps r.asked quiet run
+-- a reply was applied to an edge, which then made a local run without a question
+local_run_rests : (p : Parts) (limits : Limits) (s t : State) (e : ℕ) (reply : Reply) (told : Mark) (r : LocalRun) → r.asked ≡ false → Runs depfile p limits s (Hear e reply ∷ local_run_events e r) (told ∷ local_run_marks e r) t → asked_at p t e ≡ None
+local_run_rests p limits s t e reply told r quiet run = by r.steps r.asked quiet run
   where
     by : (n : ℕ) (a : Bool) → a ≡ false → Runs depfile p limits s (Hear e reply ∷ events_by e n a) (told ∷ marks_by e n a) t → asked_at p t e ≡ None
     by n true h one = absurd cc
@@ -235,7 +235,7 @@ rush_rests p limits s t e reply told r quiet run = by r.steps r.asked quiet run
         let last = last_step p limits s t (Hear e reply ∷ steps_of e n) (told ∷ moves_of e n) (Step e) (mark.Moved e) one in
         step_rests p limits last.0 t e (mark.Moved e) last.1 (λ is. cc)
 
-pub follows_rests : (old new : Progress) (e : ℕ) (reply : Reply) (r : Rush) → Follows old new e reply r → r.asked ≡ false → asked_at new.opened.parts new.state e ≡ None
+pub follows_rests : (old new : Progress) (e : ℕ) (reply : Reply) (r : LocalRun) → Follows old new e reply r → r.asked ≡ false → asked_at new.opened.parts new.state e ≡ None
 follows_rests old new e reply r follows quiet =
     let applies = follows.1 in
-    subst (λ (o : Opened). asked_at o.parts new.state e ≡ None) (sym applies.opened) (rush_rests old.opened.parts old.opened.limits old.state new.state e reply follows.0 r quiet applies.run)
+    subst (λ (o : Opened). asked_at o.parts new.state e ≡ None) (sym applies.opened) (local_run_rests old.opened.parts old.opened.limits old.state new.state e reply follows.0 r quiet applies.run)

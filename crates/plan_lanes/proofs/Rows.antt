@@ -6,14 +6,14 @@ use Rattle.plan_image.specs.declared.image.Sort.TheVariants as sort
 use Rattle.plan_image.specs.declared.image.EdgeCode.TheVariants.{Own}
 use Rattle.plan_image.specs.declared.image.Parts.{Parts}
 use Rattle.plan_verify.specs.Turn.{Run, Stat, turn}
-use Rattle.plan_machine.specs.declared.reply.Reply.TheVariants as reply
+use Rattle.plan_machine.specs.declared.event.reply.Reply.TheVariants as reply
 use Rattle.plan_machine.specs.declared.event.Event.{Event}
 use Rattle.plan_machine.specs.declared.event.Event.TheVariants.{Start, Step, Reply as Hear}
-use Rattle.plan_machine.specs.declared.mark.Mark.TheVariants as mark
+use Rattle.plan_machine.specs.declared.event.mark.Mark.TheVariants as mark
 use Rattle.plan_machine.specs.Runs.{Opens}
 use Rattle.plan_machine.specs.State.{Unbegun, Active, State}
 use Rattle.plan_machine.specs.Step.{step}
-use Rattle.plan_lanes.specs.declared.asked.Asked.TheVariants as asked
+use Rattle.plan_lanes.specs.declared.owned_request.OwnedRequest.TheVariants as asked
 use Rattle.plan_lanes.specs.declared.board.Report.{Report}
 use Rattle.plan_lanes.specs.declared.fault.LaneFault.TheVariants.{NoLane}
 use Rattle.plan_lanes.specs.Faults.{number_of}
@@ -22,7 +22,7 @@ use Rattle.plan_lanes.specs.Proceeds as proceeds
 use Rattle.plan_lanes.specs.Progress.{Progress}
 use Rattle.plan_lanes.specs.Questions.{is_run, shown}
 use Rattle.plan_lanes.specs.Running.{awaits_run}
-use Rattle.plan_lanes.specs.Rushes.{AppliesAll}
+use Rattle.plan_lanes.specs.LocalRuns.{AppliesAll}
 use Rattle.plan_lanes.specs.StampRows.{HaveStamps}
 
 stat_is_no_run : is_run (shown (asked.Stat (97 ∷ []))) ≡ false
@@ -119,7 +119,7 @@ fresh = record { opened = record { parts = one; limits = record { jobs = 1; keep
 later : Progress
 later = record { opened = record { parts = one; limits = record { jobs = 1; keep = 0 }; targets = 0 ∷ [] }; state = asking; journal = Start 0 ∷ Step 0 ∷ []; marks = [] }
 
--- the edge starts and asks, of which nothing is told
+-- the edge starts and asks, and neither mark is observable
 both_applied : AppliesAll fresh later (Start 0 ∷ Step 0 ∷ []) (mark.Started 0 ∷ mark.Asked 0 ∷ [])
 unfolding one first begun asking fresh later step turn
 both_applied = record { opened = refl; run = (begun, refl, (asking, refl, refl)); journal = refl; marks = refl }

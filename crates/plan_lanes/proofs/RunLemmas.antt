@@ -11,21 +11,21 @@ use Rattle.plan_verify.specs.Turn.{Slots, Local, begun, Did, Moved, Took, Releas
 use Rattle.plan_machine.specs.Limits.{Limits}
 use Rattle.plan_machine.specs.declared.event.Event.{Event}
 use Rattle.plan_machine.specs.declared.event.Event.TheVariants.{Start, Skip, Stop, Step, Reply as Hear}
-use Rattle.plan_machine.specs.declared.mark.Mark.{Mark}
-use Rattle.plan_machine.specs.declared.mark.Mark.TheVariants as mark
-use Rattle.plan_machine.specs.declared.mark.Outcome.TheVariants.{Failed, Skipped, Stopped}
+use Rattle.plan_machine.specs.declared.event.mark.Mark.{Mark}
+use Rattle.plan_machine.specs.declared.event.mark.Mark.TheVariants as mark
+use Rattle.plan_machine.specs.declared.event.mark.Outcome.TheVariants.{Failed, Skipped, Stopped}
 use Rattle.plan_machine.specs.Edges.{edge_of}
 use Rattle.plan_machine.specs.Places.{at_take, is_free, is_spent}
 use Rattle.plan_machine.specs.Runs.{Opens, Reached, Runs, at_first}
-use Rattle.plan_machine.specs.State.{Status, Unbegun, Active, Over, State, is_well, is_ill, passes, stands}
+use Rattle.plan_machine.specs.State.{Status, Unbegun, Active, Over, State, has_succeeded, is_unsuccessful, passes, stands}
 use Rattle.plan_machine.specs.Step.{Stepped, Next, Wrong, NotEnabled, answer_of, answered, ended, hears, hears_by, settles, skips, starts, step, stepped, steps, stops}
 use Rattle.plan_machine.specs.Total.{commands_among, has_command, is_wanted, total_of}
 use Rattle.plan_machine.specs.Wanted.{AreWanted}
 use Rattle.plan_lanes.proofs.ListLemmas.{get_other, get_set, same_flags, when_either}
 
--- ---- an event changes its edge alone
+-- ---- an event changes only its edge
 
--- one edge that is wanted stands otherwise, and stays wanted; the mark tells of a question of no other edge
+-- the state of one wanted edge changes, and the edge stays wanted; the mark reports a question of no other edge
 pub record MovesAlone (s mid : State) (e : ℕ) (old : Option Status) (told : Mark) : Type 0 where
   pub status : Status
   pub was : passes is_wanted old ≡ true
@@ -52,13 +52,13 @@ module _ (meaning : Meaning) (p : Parts) (limits : Limits) (s : State) where
   settles_alone e l told (Errs flaw) quiet = tt
 
   starts_alone : (e : ℕ) (o : Option Status) → Alone s e o (starts p s e o)
-  starts_alone e (Some Unbegun) = when_either (Alone s e (Some Unbegun)) (list_all (stands is_well s) (waits_of p e)) _ _ (record { status = Active begun; was = refl; is = refl; left = refl; asks = λ f is. absurd cc }) tt
+  starts_alone e (Some Unbegun) = when_either (Alone s e (Some Unbegun)) (list_all (stands has_succeeded s) (waits_of p e)) _ _ (record { status = Active begun; was = refl; is = refl; left = refl; asks = λ f is. absurd cc }) tt
   starts_alone e None = tt
   starts_alone e (Some (Active l)) = tt
   starts_alone e (Some (Over outcome)) = tt
 
   skips_alone : (e w : ℕ) (o : Option Status) → Alone s e o (skips p s e w o)
-  skips_alone e w (Some Unbegun) = when_either (Alone s e (Some Unbegun)) (is_member w (waits_of p e) && stands is_ill s w) _ _ (record { status = Over (Skipped w); was = refl; is = refl; left = refl; asks = λ f is. absurd cc }) tt
+  skips_alone e w (Some Unbegun) = when_either (Alone s e (Some Unbegun)) (is_member w (waits_of p e) && stands is_unsuccessful s w) _ _ (record { status = Over (Skipped w); was = refl; is = refl; left = refl; asks = λ f is. absurd cc }) tt
   skips_alone e w None = tt
   skips_alone e w (Some (Active l)) = tt
   skips_alone e w (Some (Over outcome)) = tt

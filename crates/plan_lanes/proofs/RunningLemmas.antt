@@ -21,15 +21,15 @@ use Rattle.plan_verify.specs.WellShaped.{IsWellShaped}
 use Rattle.plan_machine.specs.Limits.{Limits}
 use Rattle.plan_machine.specs.declared.event.Event.{Event}
 use Rattle.plan_machine.specs.declared.event.Event.TheVariants.{Start, Skip, Stop, Step, Reply as Hear}
-use Rattle.plan_machine.specs.declared.mark.Mark.{Mark}
-use Rattle.plan_machine.specs.declared.mark.Mark.TheVariants as mark
-use Rattle.plan_machine.specs.declared.mark.Outcome.TheVariants.{Failed, Skipped, Stopped}
+use Rattle.plan_machine.specs.declared.event.mark.Mark.{Mark}
+use Rattle.plan_machine.specs.declared.event.mark.Mark.TheVariants as mark
+use Rattle.plan_machine.specs.declared.event.mark.Outcome.TheVariants.{Failed, Skipped, Stopped}
 use Rattle.plan_machine.specs.Edges.{edge_of}
 use Rattle.plan_machine.specs.Orderly.{IsOrderly, MarksAreOrderly, holding, holding_of, holds_after, holds_by, holds_then}
 use Rattle.plan_machine.specs.Places.{at_take, is_free, is_pool, is_spent}
 use Rattle.plan_machine.specs.Requests.{asked_at, asked_by}
 use Rattle.plan_machine.specs.Runs.{Opens, Reached, Runs, at_first}
-use Rattle.plan_machine.specs.State.{Status, Unbegun, Active, Over, State, is_holder, is_ill, is_well, passes, stands}
+use Rattle.plan_machine.specs.State.{Status, Unbegun, Active, Over, State, is_holder, is_unsuccessful, has_succeeded, passes, stands}
 use Rattle.plan_machine.specs.Step.{Stepped, Next, NotEnabled, answer_of, answered, ended, hears, hears_by, settles, skips, starts, step, stepped, steps, stops}
 use Rattle.plan_machine.specs.Step.{Wrong as GoesWrong}
 use Rattle.plan_lanes.specs.Running.{CommandsKeepToPlaces, KeepsToPlaces, awaits_run, running, running_of}
@@ -221,8 +221,8 @@ asked_held p e slots (Some (Active l)) command outputs is = by l.asked is
 
 -- ---- what an event says of places
 
--- One edge stands otherwise. If it holds a place then, the mark says so, or it held one before; the mark says nothing of
--- other edges.
+-- The state of one edge changes. If it then holds a place, the mark says so, or it held one before. The mark says
+-- nothing of other edges.
 record Carries (s mid : State) (e : ℕ) (told : Mark) : Type 0 where
   pub status : Status
   pub left : mid.edges ≡ slice_set s.edges e status
@@ -245,7 +245,7 @@ same_place : (e : ℕ) (y : Bool) → (if e == e then true else y) ≡ true
 same_place e y = ap (λ (b : Bool). if b then true else y) (eq-eqb e e refl)
 
 module _ (meaning : Meaning) (p : Parts) (limits : Limits) (s : State) (e : ℕ) where
-  -- where the edge was and is under way, and holds a place as before
+  -- if the edge was and is under way, and holds a place if and only if it did before
   stays : (l m : Local) (mid : State) (told : Mark) → slice_get s.edges e ≡ Some (Active l) → mid.edges ≡ slice_set s.edges e (Active m) → m.holding ≡ l.holding → ((f : ℕ) (held : Bool) → holds_then f held told ≡ held) → Carries s mid e told
   stays l m mid told at left same still =
       record {
@@ -255,18 +255,18 @@ module _ (meaning : Meaning) (p : Parts) (limits : Limits) (s : State) (e : ℕ)
         here = λ held so h. still e held ∙ so (ap (passes is_holder) at ∙ (sym same ∙ h));
       }
 
-  -- where it holds none
+  -- if it holds none
   leaves : (status : Status) (mid : State) (told : Mark) → mid.edges ≡ slice_set s.edges e status → is_holder status ≡ false → ((f : ℕ) → f ≢ e → (held : Bool) → holds_then f held told ≡ held) → Carries s mid e told
   leaves status mid told left free others = record { status = status; left = left; others = others; here = λ held so h. absurd (let clash : false ≡ true = sym free ∙ h in cc) }
 
   starts_carry : (o : Option Status) → Carrying s e (starts p s e o)
-  starts_carry (Some Unbegun) = when_either (Carrying s e) (list_all (stands is_well s) (waits_of p e)) _ _ (leaves (Active turns.begun) _ (mark.Started e) refl refl (λ f apart held. refl)) tt
+  starts_carry (Some Unbegun) = when_either (Carrying s e) (list_all (stands has_succeeded s) (waits_of p e)) _ _ (leaves (Active turns.begun) _ (mark.Started e) refl refl (λ f apart held. refl)) tt
   starts_carry None = tt
   starts_carry (Some (Active l)) = tt
   starts_carry (Some (Over outcome)) = tt
 
   skips_carry : (w : ℕ) (o : Option Status) → Carrying s e (skips p s e w o)
-  skips_carry w (Some Unbegun) = when_either (Carrying s e) (is_member w (waits_of p e) && stands is_ill s w) _ _ (leaves (Over (Skipped w)) _ (mark.Skipped e w) refl refl (λ f apart held. refl)) tt
+  skips_carry w (Some Unbegun) = when_either (Carrying s e) (is_member w (waits_of p e) && stands is_unsuccessful s w) _ _ (leaves (Over (Skipped w)) _ (mark.Skipped e w) refl refl (λ f apart held. refl)) tt
   skips_carry w None = tt
   skips_carry w (Some (Active l)) = tt
   skips_carry w (Some (Over outcome)) = tt

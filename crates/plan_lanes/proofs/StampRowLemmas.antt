@@ -1,8 +1,8 @@
--- Stamps of a row. Serves src/stamp_row.rt and src/board/rushing.rt.
+-- Stamps of a row. Serves src/stamp_row.rt and src/board/local_runs.rt.
 use Rattle.std.proofs.Common.{◌≡◌, ◌<◌, ℕ, zero, suc, List, [], ◌∷◌, ◌++◌, Some, length, take, subst, arith}
 use Rattle.std.specs.Prelude.{get_or, slice_get}
 use Rattle.plan_verify.specs.Turn.{Stat}
-use Rattle.plan_machine.specs.declared.reply.Reply.TheVariants.{Stamp}
+use Rattle.plan_machine.specs.declared.event.reply.Reply.TheVariants.{Stamp}
 use Rattle.plan_lanes.specs.Journals.{Rule}
 use Rattle.plan_lanes.specs.StampRows.{HaveStamps}
 

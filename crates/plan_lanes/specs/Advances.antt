@@ -1,20 +1,20 @@
 -- What an advance does.
 use Rattle.std.specs.Prelude.{◌≡◌, true, Option, Some, None, IfSome, is_some, length}
 use Rattle.plan_machine.specs.declared.event.Event.{Event}
-use Rattle.plan_machine.specs.declared.mark.Mark.{Mark}
+use Rattle.plan_machine.specs.declared.event.mark.Mark.{Mark}
 use Rattle.plan_machine.specs.Edges.{edge_of}
-use Rattle.plan_machine.specs.Going.{Going}
+use Rattle.plan_machine.specs.RunState.{RunState}
 use Rattle.plan_machine.specs.NeverStuck.{Awaits, is_own}
 use Rattle.plan_machine.specs.Picking.{IsEnabled}
 use Rattle.plan_image.specs.declared.image.Parts.{Parts}
 use Rattle.plan_machine.specs.Requests.{Asks, AsksNothing, asked_at}
 use Rattle.plan_machine.specs.State.{has_ended}
 use Rattle.plan_status.specs.Consoles.{is_console}
-use Rattle.plan_lanes.specs.declared.asked.Asked.{Asked}
+use Rattle.plan_lanes.specs.declared.owned_request.OwnedRequest.{OwnedRequest}
 use Rattle.plan_lanes.specs.declared.board.Advance.{Advance}
 use Rattle.plan_lanes.specs.declared.board.Advance.TheVariants.{Moved, Job, Wait, Ended}
 use Rattle.plan_lanes.specs.Boards.{Applies}
-use Rattle.plan_lanes.specs.Progress.{Progress, going_of}
+use Rattle.plan_lanes.specs.Progress.{Progress, run_state_of}
 use Rattle.plan_lanes.specs.Questions.{is_run, shown}
 
 -- one start, skip, stop or step was applied and journaled
@@ -27,17 +27,17 @@ pub record Goes (old new : Progress) (event : Event) : Type 0 where
 -- with a Run alone, and says whether the edge is a console edge. `Wait`: nothing, since no start, skip, stop or step is
 -- enabled, and an edge awaits a reply. `Ended`: nothing, since the run has ended.
 abbrev pub Advances : Progress → Progress → Advance → Type 0
-Advances old new Moved = (event : Event) × Goes old new event × AsksNothing old.opened.parts (going_of old) event
+Advances old new Moved = (event : Event) × Goes old new event × AsksNothing old.opened.parts (run_state_of old) event
 Advances old new (Job e question permit) =
     (event : Event) × Goes old new event × (edge_of event ≡ e)
     × (asked_at new.opened.parts new.state e ≡ Some (shown question.request))
     × (question.number ≡ length old.journal)
     × (is_some permit ≡ is_run (shown question.request))
     × IfSome permit (λ x. x.console ≡ is_console old.opened.parts e)
-Advances old new Wait = (new ≡ old) × ((event : Event) → is_own event ≡ true → IsEnabled old.opened.parts (going_of old) event → ⊥) × Awaits old.state
+Advances old new Wait = (new ≡ old) × ((event : Event) → is_own event ≡ true → IsEnabled old.opened.parts (run_state_of old) event → ⊥) × Awaits old.state
 Advances old new Ended = (new ≡ old) × (has_ended old.state ≡ true)
 
--- what an event would ask, as a lane carries it; none where it isn't enabled or doesn't ask
-abbrev pub WouldAsk : Parts → Going → Event → Option Asked → Type 0
+-- what an event would ask, as a lane carries it; none if the event isn't enabled or doesn't ask
+abbrev pub WouldAsk : Parts → RunState → Event → Option OwnedRequest → Type 0
 WouldAsk p g event (Some asked) = Asks p g event (shown asked)
 WouldAsk p g event None = AsksNothing p g event

@@ -3,8 +3,8 @@ use Rattle.std.specs.Prelude.{◌≡◌, ℕ, List, [], ◌∷◌, ◌++◌, Som
 use Rattle.plan_verify.specs.Turn.{Local, Request}
 use Rattle.plan_machine.specs.declared.event.Event.{Event}
 use Rattle.plan_machine.specs.declared.event.Event.TheVariants.{Reply as Hear}
-use Rattle.plan_machine.specs.declared.mark.Mark.{Mark}
-use Rattle.plan_machine.specs.declared.reply.Reply.{Reply}
+use Rattle.plan_machine.specs.declared.event.mark.Mark.{Mark}
+use Rattle.plan_machine.specs.declared.event.reply.Reply.{Reply}
 use Rattle.plan_machine.specs.Depfile.{depfile}
 use Rattle.plan_machine.specs.Kept.{Running, IsStateOf}
 use Rattle.plan_machine.specs.Requests.{asked_at}
@@ -14,7 +14,7 @@ use Rattle.plan_machine.specs.Step.{Next, step}
 use Rattle.plan_machine.specs.Wanted.{any_outside}
 use Rattle.plan_lanes.specs.Journals.{Rule, IsLastOf, IsAllowed}
 use Rattle.plan_lanes.specs.Progress.{Opened, Progress}
-use Rattle.plan_lanes.specs.Telling.{telling}
+use Rattle.plan_lanes.specs.ObservableMarks.{observable}
 
 -- nothing has happened yet
 pub record IsFresh (o : Opened) (b : Progress) : Type 0 where
@@ -24,12 +24,12 @@ pub record IsFresh (o : Opened) (b : Progress) : Type 0 where
   pub journal : b.journal ≡ []
   pub marks : b.marks ≡ []
 
--- one event more was applied, and is journaled, with its mark where that tells of something
+-- one event more was applied, and is journaled, with its mark if the mark is observable
 pub record Applies (old new : Progress) (event : Event) (mark : Mark) : Type 0 where
   pub opened : new.opened ≡ old.opened
   pub next : step depfile old.opened.parts old.opened.limits old.state event ≡ Next new.state mark
   pub journal : new.journal ≡ old.journal ++ event ∷ []
-  pub marks : new.marks ≡ old.marks ++ telling (mark ∷ [])
+  pub marks : new.marks ≡ old.marks ++ observable (mark ∷ [])
 
 -- an edge awaits the reply to just this request, which the event at this position asked
 pub record IsOpen (b : Progress) (e number : ℕ) (q : Request) : Type 0 where
@@ -46,12 +46,11 @@ IsNumbered b e number = (l : Local) → slice_get b.state.edges e ≡ Some (Acti
 abbrev pub AreNumbers : List ℕ → Progress → Type 0
 AreNumbers numbers b = (e : ℕ) (l : Local) → slice_get b.state.edges e ≡ Some (Active l) → (n : ℕ) × (slice_get numbers e ≡ Some n) × IsLastOf e n b.journal
 
--- The journal leads from an opening to the state, and is allowed. Of the marks that it left those are kept that tell of
--- something.
+-- The journal leads from an opening to the state, and is allowed. The board keeps the observable marks of its events.
 pub record IsJournaled (rule : Rule) (b : Progress) : Type 0 where
   pub left : List Mark
   pub reached : Reached depfile b.opened.parts b.opened.limits b.opened.targets b.journal left b.state
-  pub kept : b.marks ≡ telling left
+  pub kept : b.marks ≡ observable left
   pub allowed : IsAllowed rule b.opened.parts b.opened.limits b.opened.targets b.journal
 
 pub record IsKept (rule : Rule) (numbers : List ℕ) (r : Running) (b : Progress) : Type 0 where

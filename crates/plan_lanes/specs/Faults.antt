@@ -1,13 +1,13 @@
 -- Why no whole run is reported.
 use Rattle.std.specs.Prelude.{◌≡◌, ℕ, true, false, Option, Some, None}
-use Rattle.plan_machine.specs.declared.refused.Refused.TheVariants as refused
+use Rattle.plan_machine.specs.declared.run.refused.Refused.TheVariants as refused
 use Rattle.plan_machine.specs.Faults.{number_of as refusal_number}
 use Rattle.plan_machine.specs.Wanted.{any_outside}
 use Rattle.plan_lanes.specs.declared.board.Report.{Report}
 use Rattle.plan_lanes.specs.declared.fault.LaneFault.{LaneFault}
 use Rattle.plan_lanes.specs.declared.fault.LaneFault.TheVariants.{Opening, NotEnabled, NoMemory, NoLane, OtherBoard}
-use Rattle.plan_lanes.specs.declared.desk.Stopped.{Stopped}
-use Rattle.plan_lanes.specs.declared.desk.Stopped.TheVariants as stopped
+use Rattle.plan_lanes.specs.declared.shared_run.Stopped.{Stopped}
+use Rattle.plan_lanes.specs.declared.shared_run.Stopped.TheVariants as stopped
 use Rattle.plan_lanes.specs.Journals.{Rule}
 use Rattle.plan_lanes.specs.Progress.{Opened}
 use Rattle.plan_lanes.specs.Reports.{IsRunOf}

@@ -3,13 +3,13 @@ pub mod Alike
 pub mod Journals
 pub mod StampRows
 pub mod Progress
-pub mod Telling
+pub mod ObservableMarks
 pub mod Boards
 pub mod Advances
 pub mod Reports
 pub mod Faults
-pub mod Desks
-pub mod Rushes
+pub mod SharedRuns
+pub mod LocalRuns
 pub mod Proceeds
-pub mod Hands
+pub mod Batches
 pub mod Running

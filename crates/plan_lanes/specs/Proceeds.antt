@@ -4,11 +4,11 @@ use Rattle.plan_image.specs.declared.image.Parts.{Parts}
 use Rattle.plan_verify.specs.Turn.{Local, Request}
 use Rattle.plan_machine.specs.declared.event.Event.{Event}
 use Rattle.plan_machine.specs.declared.event.Event.TheVariants.{Reply as Hear}
-use Rattle.plan_machine.specs.declared.mark.Mark.{Mark}
-use Rattle.plan_machine.specs.declared.mark.Mark.TheVariants as mark
-use Rattle.plan_machine.specs.declared.reply.Reply.{Reply}
-use Rattle.plan_machine.specs.declared.reply.Reply.TheVariants.{Stamp}
-use Rattle.plan_machine.specs.declared.rush.Rush.{Rush}
+use Rattle.plan_machine.specs.declared.event.mark.Mark.{Mark}
+use Rattle.plan_machine.specs.declared.event.mark.Mark.TheVariants as mark
+use Rattle.plan_machine.specs.declared.event.reply.Reply.{Reply}
+use Rattle.plan_machine.specs.declared.event.reply.Reply.TheVariants.{Stamp}
+use Rattle.plan_machine.specs.declared.run.local_run.LocalRun.{LocalRun}
 use Rattle.plan_machine.specs.NeverStuck.{Awaits, is_own}
 use Rattle.plan_machine.specs.Picking.{IsEnabled}
 use Rattle.plan_machine.specs.State.{Active, has_ended}
@@ -17,9 +17,9 @@ use Rattle.plan_lanes.specs.declared.board.Advance.{Advance}
 use Rattle.plan_lanes.specs.declared.board.Advance.TheVariants.{Moved, Job, Wait, Ended}
 use Rattle.plan_lanes.specs.declared.board.Permit.{Permit}
 use Rattle.plan_lanes.specs.Boards.{Applies, IsOpen}
-use Rattle.plan_lanes.specs.Progress.{Progress, going_of}
+use Rattle.plan_lanes.specs.Progress.{Progress, run_state_of}
 use Rattle.plan_lanes.specs.Questions.{is_run, shown}
-use Rattle.plan_lanes.specs.Rushes.{AppliesAll, Follows, SweepsRow}
+use Rattle.plan_lanes.specs.LocalRuns.{AppliesAll, Follows, SweepsRow}
 
 -- the edges that asked, by some marks
 abbrev pub asking_by : Mark → List ℕ
@@ -54,7 +54,7 @@ Permits p e q permit = (is_some permit ≡ is_run q) × IfSome permit (λ x. x.c
 
 -- no start, skip, stop or step is enabled, and an edge awaits a reply
 abbrev pub CanOnlyWait : Progress → Type 0
-CanOnlyWait b = ((event : Event) → is_own event ≡ true → IsEnabled b.opened.parts (going_of b) event → ⊥) × Awaits b.state
+CanOnlyWait b = ((event : Event) → is_own event ≡ true → IsEnabled b.opened.parts (run_state_of b) event → ⊥) × Awaits b.state
 
 -- What a board did that went on without a reply: as one advance, but for how many events that took.
 abbrev pub Proceeds : Progress → Progress → Advance → Type 0
@@ -67,23 +67,24 @@ Proceeds old new Ended = (new ≡ old) × (has_ended old.state ≡ true)
 abbrev pub AwaitsReply : Progress → ℕ → Type 0
 AwaitsReply b e = (l : Local) × (slice_get b.state.edges e ≡ Some (Active l)) × (l.asked ≡ true)
 
--- an edge heard a reply and went on by itself, up to a question or not
+-- a reply was applied to an edge, which then made a local run, up to a question or not
 abbrev pub HearsAndGoesOn : Progress → Progress → ℕ → Reply → Bool → Type 0
-HearsAndGoesOn old new e reply asked = (rush : Rush) × Follows old new e reply rush × (rush.asked ≡ asked)
+HearsAndGoesOn old new e reply asked = (local_run : LocalRun) × Follows old new e reply local_run × (local_run.asked ≡ asked)
 
--- an edge heard the first stamps of a row, and asked for the next path behind each; of the stamps this is the next
+-- The first stamps of a row were applied, and after each the edge asked for the next path. The stamp is the next one.
 pub record HearsFront (old new : Progress) (e : ℕ) (stamps : List ℕ) (stamp : ℕ) : Type 0 where
   pub count : ℕ
   pub front : SweepsRow old new e (take count stamps)
   pub next : slice_get stamps count ≡ Some stamp
 
--- It heard all stamps of a row so; or only the first, and then the next one, after which it went on by itself.
+-- All stamps of a row were applied so; or only the first ones, and then the next one, after which the edge made a local
+-- run.
 abbrev pub HearsRow : Progress → Progress → ℕ → List ℕ → Bool → Type 0
 HearsRow old new e stamps asked =
     (SweepsRow old new e stamps × (asked ≡ true))
     ⊎ ((mid : Progress) × (stamp : ℕ) × HearsFront old mid e stamps stamp × HearsAndGoesOn mid new e (Stamp stamp) asked)
 
--- the same, but the next one is all that it heard then
+-- the same, but the edge made no step after the next stamp was applied
 abbrev pub AnswersRow : Progress → Progress → ℕ → List ℕ → Bool → Type 0
 AnswersRow old new e stamps asked =
     (SweepsRow old new e stamps × (asked ≡ true))

@@ -3,8 +3,8 @@ use Rattle.std.specs.Prelude.{ℕ, List}
 use Rattle.plan_image.specs.declared.image.Parts.{Parts}
 use Rattle.plan_machine.specs.Limits.{Limits}
 use Rattle.plan_machine.specs.declared.event.Event.{Event}
-use Rattle.plan_machine.specs.declared.mark.Mark.{Mark}
-use Rattle.plan_machine.specs.Going.{Going}
+use Rattle.plan_machine.specs.declared.event.mark.Mark.{Mark}
+use Rattle.plan_machine.specs.RunState.{RunState}
 use Rattle.plan_machine.specs.State.{State}
 
 -- what a run was opened with: an image, options, targets
@@ -13,7 +13,7 @@ pub record Opened : Type 0 where
   pub limits : Limits
   pub targets : List ℕ
 
--- and how far it is: its state, its events, and those of their marks that tell of something
+-- and how far it is: its state, its events, and their observable marks
 pub record Progress : Type 0 where
   pub opened : Opened
   pub state : State
@@ -21,8 +21,8 @@ pub record Progress : Type 0 where
   pub marks : List Mark
 
 -- the options and the state, as the machine speaks of them
-abbrev pub going_of : Progress → Going
-going_of b = record { limits = b.opened.limits; now = b.state }
+abbrev pub run_state_of : Progress → RunState
+run_state_of b = record { limits = b.opened.limits; now = b.state }
 
-abbrev pub progress : Parts → List ℕ → Going → List Event → List Mark → Progress
+abbrev pub progress : Parts → List ℕ → RunState → List Event → List Mark → Progress
 progress p targets g journal marks = record { opened = record { parts = p; limits = g.limits; targets = targets }; state = g.now; journal = journal; marks = marks }

@@ -1,11 +1,11 @@
 -- What lanes carry of a question.
 use Rattle.std.specs.Prelude.{Bool, true, false, [], get_or}
 use Rattle.plan_verify.specs.Turn.{Request, Stat, Recall, Run, Deps, Keep}
-use Rattle.plan_lanes.specs.declared.asked.Asked.{Asked}
-use Rattle.plan_lanes.specs.declared.asked.Asked.TheVariants as asked
+use Rattle.plan_lanes.specs.declared.owned_request.OwnedRequest.{OwnedRequest}
+use Rattle.plan_lanes.specs.declared.owned_request.OwnedRequest.TheVariants as asked
 
 -- as one edge's step speaks of it
-abbrev pub shown : Asked → Request
+abbrev pub shown : OwnedRequest → Request
 shown (asked.Stat path) = Stat path
 shown (asked.Sweep paths place) = Stat (get_or paths place [])
 shown (asked.Recall output) = Recall output

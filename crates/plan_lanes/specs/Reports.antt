@@ -3,7 +3,7 @@ use Rattle.std.specs.Prelude.{◌≡◌, ◌≢◌, ◌≤◌, ◌+◌, Bool, Li
 use Rattle.plan_verify.specs.Budget.{image_budget}
 use Rattle.plan_verify.specs.Turn.{Flaw}
 use Rattle.plan_machine.specs.declared.event.Event.{Event}
-use Rattle.plan_machine.specs.declared.mark.Mark.{Mark}
+use Rattle.plan_machine.specs.declared.event.mark.Mark.{Mark}
 use Rattle.plan_machine.specs.Depfile.{depfile}
 use Rattle.plan_machine.specs.InBudget.{all_bytes}
 use Rattle.plan_machine.specs.Kept.{IsStateOf}
@@ -14,23 +14,23 @@ use Rattle.plan_machine.specs.Wanted.{any_outside}
 use Rattle.plan_lanes.specs.declared.board.Report.{Report}
 use Rattle.plan_lanes.specs.Journals.{Rule, IsAllowed}
 use Rattle.plan_lanes.specs.Progress.{Opened}
-use Rattle.plan_lanes.specs.Telling.{telling}
+use Rattle.plan_lanes.specs.ObservableMarks.{observable}
 
 pub record IsRunOf (rule : Rule) (o : Opened) (r : Report) : Type 0 where
   -- the targets are edges of the image
   pub inside : any_outside o.parts o.targets ≡ false
   -- the journal runs from the opening state of this image, these options and targets to the reported state, and leaves these marks
   pub left : List Mark
-  pub reached : Reached depfile o.parts o.limits o.targets r.journal left r.state.going.now
-  -- of which those are reported that tell of something
-  pub marks : r.marks.items ≡ telling left
+  pub reached : Reached depfile o.parts o.limits o.targets r.journal left r.state.run_state.now
+  -- the report has the observable ones of these marks
+  pub marks : r.marks.items ≡ observable left
   -- each reply in it is one that the rule allows for its question
   pub allowed : IsAllowed rule o.parts o.limits o.targets r.journal
   -- the state is one of this image, with these options
   pub state : IsStateOf o.parts r.state
-  pub limits : r.state.going.limits ≡ o.limits
+  pub limits : r.state.run_state.limits ≡ o.limits
   -- what the machine's laws say of such a run: no event of the state can go wrong, the marks are orderly, and there are no more events than the image's budget and the bytes of dependencies
-  pub safe : (event : Event) (flaw : Flaw) → step depfile o.parts o.limits r.state.going.now event ≢ Wrong flaw
+  pub safe : (event : Event) (flaw : Flaw) → step depfile o.parts o.limits r.state.run_state.now event ≢ Wrong flaw
   pub orderly : IsOrderly o.parts o.limits left
   pub bounded : length r.journal ≤ image_budget o.parts + all_bytes r.journal
 

@@ -1,7 +1,7 @@
 -- Stamps of paths that a lane asked for in a row.
 use Rattle.std.specs.Prelude.{◌<◌, ◌≤◌, ◌+◌, ℕ, List, [], ◌∷◌, drop, length}
 use Rattle.plan_verify.specs.Turn.{Stat}
-use Rattle.plan_machine.specs.declared.reply.Reply.TheVariants.{Stamp}
+use Rattle.plan_machine.specs.declared.event.reply.Reply.TheVariants.{Stamp}
 use Rattle.plan_lanes.specs.Journals.{Rule}
 
 -- the first paths have these stamps, and the rule allows each for its path, under every number

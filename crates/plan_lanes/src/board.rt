@@ -16,16 +16,16 @@ ghost use Rattle.plan_lanes.specs.Advances.{Advances, WouldAsk};
 ghost use Rattle.plan_lanes.specs.Boards.{Applies, IsFresh, IsOpen, MayJournal};
 ghost use Rattle.plan_lanes.specs.Journals.{IsLastOf};
 ghost use Rattle.plan_lanes.specs.Proceeds.{Proceeds};
-ghost use Rattle.plan_lanes.specs.Progress.{Opened, going_of};
+ghost use Rattle.plan_lanes.specs.Progress.{Opened, run_state_of};
 ghost use Rattle.plan_lanes.specs.Questions.{is_run, shown};
 ghost use Rattle.plan_lanes.specs.Reports.{IsKeptBy, IsRunOf};
-ghost use Rattle.plan_lanes.specs.Rushes.{GoesOn};
+ghost use Rattle.plan_lanes.specs.LocalRuns.{GoesOn};
 
-pub(crate) mod rushing;
+pub(crate) mod local_runs;
 
-use crate::asked::{Asked, Question};
 use crate::keeping_of::KeepingOf;
-use crate::telling::keep;
+use crate::observable::keep;
+use crate::owned_request::{OwnedRequest, Question};
 use crate::world::World;
 use plan_journal::{Journal, JournalBuilder, KeptJournal};
 use plan_machine::{
@@ -99,7 +99,7 @@ pub struct Board<'v, W: World> {
     image: &'v Verified,
     targets: Vec<u32>,
     state: State,
-    diary: JournalBuilder<KeepingOf<W>>,
+    journal_builder: JournalBuilder<KeepingOf<W>>,
     marks: Vec<Mark>,
     /// The position of the last event of each edge.
     numbers: Vec<u64>,
@@ -112,9 +112,9 @@ impl<'v, W: World> Model for Board<'v, W> {
 
     ghost Value = { Progress };
 
-    ghost view = { λ b. progress b.image.now b.targets.items b.state.going b.diary.events b.marks.items };
+    ghost view = { λ b. progress b.image.now b.targets.items b.state.run_state b.journal_builder.events b.marks.items };
 
-    ghost invariant = { λ b. IsKept W.allows b.numbers.items b.state (progress b.image.now b.targets.items b.state.going b.diary.events b.marks.items) };
+    ghost invariant = { λ b. IsKept W.allows b.numbers.items b.state (progress b.image.now b.targets.items b.state.run_state b.journal_builder.events b.marks.items) };
 }
 
 /// Returns the edge that an event changes.
@@ -140,12 +140,12 @@ fn put(numbers: &mut Vec<u64>, at: usize, number: u64)
 }
 
 /// Returns the permit for an edge's command if that is what the edge asks for.
-fn permit_for(image: &Verified, edge: u32, request: &Asked) -> Option<Permit>
+fn permit_for(image: &Verified, edge: u32, request: &OwnedRequest) -> Option<Permit>
     ensures run { is_some result ≡ is_run (shown request.now) }
     ensures console { IfSome result (λ p. p.console ≡ is_console image.now edge) }
 {
     match request {
-        Asked::Run(..) => Some(Permit::new(edge, is_console(image, edge))),
+        OwnedRequest::Run(..) => Some(Permit::new(edge, is_console(image, edge))),
         _ => None,
     }
 }
@@ -174,7 +174,7 @@ impl<'v, W: World> Board<'v, W> {
             image,
             targets,
             state,
-            diary: JournalBuilder::new(alloc),
+            journal_builder: JournalBuilder::new(alloc),
             marks: Vec::new(alloc),
             numbers,
             world: PhantomData,
@@ -212,9 +212,9 @@ impl<'v, W: World> Board<'v, W> {
         ensures inside { IfErr result (λ r. r ≢ Refused.BadTarget) }
     {
         let edge = edge_of(&event);
-        let number = self.diary.len() as u64;
+        let number = self.journal_builder.len() as u64;
         self.marks.reserve(1)?;
-        self.diary.push(&event)?;
+        self.journal_builder.push(&event)?;
         match self.state.apply(self.image, event) {
             Ok(mark) => {
                 put(&mut self.numbers, edge as usize, number);
@@ -222,18 +222,18 @@ impl<'v, W: World> Board<'v, W> {
                 Ok(mark)
             }
             Err(refused) => {
-                self.diary.remove_last();
+                self.journal_builder.remove_last();
                 Err(refused)
             }
         }
     }
 
     /// Returns what an event would ask, if it is enabled and asks.
-    fn question(&self, event: &Event) -> Result<Option<Asked>, AllocError>
-        ensures { IfOk result (λ asked. WouldAsk self.now.opened.parts (going_of self.now) event.now asked) }
+    fn question(&self, event: &Event) -> Result<Option<OwnedRequest>, AllocError>
+        ensures { IfOk result (λ asked. WouldAsk self.now.opened.parts (run_state_of self.now) event.now asked) }
     {
         match self.state.asks(self.image, event) {
-            Some(request) => Ok(Some(Asked::of(self.alloc, &request)?)),
+            Some(request) => Ok(Some(OwnedRequest::of(self.alloc, &request)?)),
             None => Ok(None),
         }
     }
@@ -241,7 +241,7 @@ impl<'v, W: World> Board<'v, W> {
     /// Applies an event that needs no reply, and returns what it asked.
     fn go_on(&mut self, event: Event) -> Result<Advance, Refused>
         requires own { is_own event ≡ true }
-        requires enabled { IsEnabled self.old.opened.parts (going_of self.old) event }
+        requires enabled { IsEnabled self.old.opened.parts (run_state_of self.old) event }
         ensures goes { GoesOn self.old self.new }
         ensures ok { IfOk result (λ a. Advances self.old self.new a) }
         ensures proceeds { IfOk result (λ a. Proceeds self.old self.new a) }
@@ -251,7 +251,7 @@ impl<'v, W: World> Board<'v, W> {
         let asked = self.question(&event)?;
         let image = self.image;
         let edge = edge_of(&event);
-        let number = self.diary.len() as u64;
+        let number = self.journal_builder.len() as u64;
         self.record(event)?;
         match asked {
             None => Ok(Advance::Moved),
@@ -293,7 +293,7 @@ impl<'v, W: World> Board<'v, W> {
     }
 
     /// Checks whether an advance would apply an event. The time doesn't depend on the image.
-    pub fn enabled(&self) -> bool
+    pub fn can_advance(&self) -> bool
         ensures can { result ≡ true → CanGo depfile self.now.opened.parts self.now.opened.limits self.now.state }
         ensures cannot { result ≡ false → CanGo depfile self.now.opened.parts self.now.opened.limits self.now.state → ⊥ }
     {
@@ -358,7 +358,7 @@ impl<'v, W: World> Board<'v, W> {
 
     /// Returns the run so far. This takes no memory.
     pub fn into_report(self) -> Report
-        ensures same { (result.state.going.now ≡ self.entry.state) × (result.journal ≡ self.entry.journal) × (result.marks.items ≡ self.entry.marks) }
+        ensures same { (result.state.run_state.now ≡ self.entry.state) × (result.journal ≡ self.entry.journal) × (result.marks.items ≡ self.entry.marks) }
         ensures run { IsRunOf W.allows self.entry.opened result }
         ensures kept { IsKeptBy W.keeps result }
     {
@@ -369,11 +369,11 @@ impl<'v, W: World> Board<'v, W> {
         let _tables = self.image.image();
         let Board {
             state,
-            diary,
+            journal_builder,
             marks,
             ..
         } = self;
-        let (journal, kept) = diary.finish();
+        let (journal, kept) = journal_builder.finish();
         Report {
             state,
             journal,

@@ -11,7 +11,7 @@ use plan_machine::Refused;
 pub enum LaneFault {
     /// The run wasn't opened: a target is no edge, or memory ran out.
     Opening(Refused),
-    /// A reply of the world wasn't enabled: it doesn't suit its question.
+    /// The machine refused a reply of the world, because the reply doesn't suit its question.
     NotEnabled(Report),
     /// Memory ran out, in a lane or in the world.
     NoMemory(Report),

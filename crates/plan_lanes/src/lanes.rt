@@ -4,20 +4,20 @@ ghost use Rattle.std.specs.Prelude.{◌≡◌, IfErr, IfOk, IfSome, OnOk, Some, 
 ghost use Rattle.plan_image.specs.declared.image.Parts.{Parts as Image};
 ghost use Rattle.plan_machine.specs.Kept.{IsStateOf};
 ghost use Rattle.plan_machine.specs.State.{has_ended};
-ghost use Rattle.plan_lanes.specs.Desks.{IsDesk, IsLeft};
+ghost use Rattle.plan_lanes.specs.SharedRuns.{IsSharedRun, IsLeft};
 ghost use Rattle.plan_lanes.specs.Faults.{FaultReports, fault_of, report_of};
-ghost use Rattle.plan_lanes.specs.Hands.{Takes};
+ghost use Rattle.plan_lanes.specs.Batches.{Takes};
 ghost use Rattle.plan_lanes.specs.Progress.{Opened};
 ghost use Rattle.plan_lanes.specs.Reports.{IsKeptBy, IsRunOf};
 
-use crate::asked::{Asked, Question};
+use crate::batch::{Batch, BatchItem};
 use crate::board::{Advance, Board, Permit, Report};
-use crate::desk::{Desk, Naming, Stopped};
 use crate::fault::LaneFault;
-use crate::hand::{Hand, Member};
+use crate::owned_request::{OwnedRequest, Question};
+use crate::shared_run::{RunBrand, SharedRun, Stopped};
 use crate::world::World;
 use plan_machine::{Options, Refused};
-use plan_status::Showing;
+use plan_status::LineProgress;
 use plan_verify::Verified;
 use std::alloc::Global;
 use std::marker::Brand;
@@ -25,9 +25,9 @@ use std::sync::{Condvar, Mutex, MutexGuard, Wait};
 use std::thread;
 use std::thread::Threads;
 
-/// What is left to do after a visit to the desk.
-enum Left {
-    /// To ask the questions in the hand.
+/// The task of a lane after it released the lock.
+enum NextTask {
+    /// To ask the questions in the batch.
     Asks,
     /// To ask them, and then to run a command.
     Runs(u32, Question, Permit),
@@ -35,8 +35,8 @@ enum Left {
     Nothing,
 }
 
-/// The reason why a hand was filled no further.
-enum Taken {
+/// The reason why no more questions were added to a batch.
+enum BatchEnd {
     Full,
     Run(u32, Question, Permit),
     Wait,
@@ -61,7 +61,7 @@ pub fn run_lanes<W: World + Send + Sync, R: Threads + Wait + Sync>(
     world: &W,
 ) -> Result<Report, LaneFault>
     ensures run { IfOk result (λ r. IsRunOf W.allows (record { parts = image.now; limits = options; targets = targets.now }) r) }
-    ensures ended { IfOk result (λ r. has_ended r.state.going.now ≡ true) }
+    ensures ended { IfOk result (λ r. has_ended r.state.run_state.now ≡ true) }
     ensures fault { IfErr result (λ f. FaultReports W.allows (record { parts = image.now; limits = options; targets = targets.now }) f) }
     ensures kept { IfOk result (λ r. IsKeptBy W.keeps r) }
     ensures kept_so_far { IfErr result (λ f. IfSome (report_of f) (λ r. IsKeptBy W.keeps r)) }
@@ -78,13 +78,13 @@ pub fn run_lanes<W: World + Send + Sync, R: Threads + Wait + Sync>(
         None,
         world,
     );
-    judged(report, stopped)
+    to_result(report, stopped)
 }
 
 /// Returns a report if its run has ended, and otherwise the fault for which its lanes stopped.
-pub(crate) fn judged(report: Report, stopped: Stopped) -> Result<Report, LaneFault>
+pub(crate) fn to_result(report: Report, stopped: Stopped) -> Result<Report, LaneFault>
     ensures ok { IfOk result (λ r. r ≡ report) }
-    ensures ended { (p : Image) → IsStateOf p report.state → IfOk result (λ r. has_ended r.state.going.now ≡ true) }
+    ensures ended { (p : Image) → IsStateOf p report.state → IfOk result (λ r. has_ended r.state.run_state.now ≡ true) }
     ensures well { OnOk result (stopped ≡ Stopped.No) }
     ensures fault { IfErr result (λ f. report_of f ≡ Some report) }
     ensures cause { IfErr result (λ f. f ≡ fault_of stopped report) }
@@ -101,36 +101,40 @@ pub(crate) fn judged(report: Report, stopped: Stopped) -> Result<Report, LaneFau
     Ok(report)
 }
 
-/// Runs what a board begins, by `count` lanes, and shows its lines if `showing` is there. Returns the report of the
+/// Runs what a board begins, by `count` lanes, and shows its lines if `line_progress` is there. Returns the report of the
 /// run, why its lanes stopped, and what showed the lines.
-pub(crate) fn run_named<J: Naming + Send + Sync, W: World + Send + Sync, R: Threads + Wait + Sync>(
+pub(crate) fn run_named<
+    J: RunBrand + Send + Sync,
+    W: World + Send + Sync,
+    R: Threads + Wait + Sync,
+>(
     rt: &R,
     alloc: Global,
     count: u8,
     board: Board<'_, W>,
-    showing: Option<Showing>,
+    line_progress: Option<LineProgress>,
     world: &W,
-) -> (Report, Stopped, Option<Showing>)
-    requires { IsDesk J.run J.feed board showing }
+) -> (Report, Stopped, Option<LineProgress>)
+    requires { IsSharedRun J.run J.feed board line_progress }
     ensures run { IsRunOf W.allows J.run result.0 }
     ensures kept { IsKeptBy W.keeps result.0 }
     ensures there { is_some result.2 ≡ is_some J.feed }
     ensures left { IfSome result.2 (λ s. IsLeft J.run J.feed result.0 s) }
 {
-    let desk: Mutex<Desk<'_, W, J>> = Mutex::new(Desk::new(board, showing));
+    let shared: Mutex<SharedRun<'_, W, J>> = Mutex::new(SharedRun::new(board, line_progress));
     let moved = Condvar::new();
-    let started = start_lanes(rt, alloc, count, &desk, &moved, world);
-    let (board, showing, stopped) = desk.into_inner().into_parts();
+    let started = start_lanes(rt, alloc, count, &shared, &moved, world);
+    let (board, line_progress, stopped) = shared.into_inner().into_parts();
     let stopped = if started { stopped } else { Stopped::NoLane };
-    (board.into_report(), stopped, showing)
+    (board.into_report(), stopped, line_progress)
 }
 
 /// Starts lanes, and waits for them. Returns whether at least one started.
-fn start_lanes<J: Naming + Send + Sync, W: World + Send + Sync, R: Threads + Wait + Sync>(
+fn start_lanes<J: RunBrand + Send + Sync, W: World + Send + Sync, R: Threads + Wait + Sync>(
     rt: &R,
     alloc: Global,
     count: u8,
-    desk: &Mutex<Desk<'_, W, J>>,
+    shared: &Mutex<SharedRun<'_, W, J>>,
     moved: &Condvar,
     world: &W,
 ) -> bool {
@@ -138,7 +142,7 @@ fn start_lanes<J: Naming + Send + Sync, W: World + Send + Sync, R: Threads + Wai
         let mut started = false;
         for _ in 0..count {
             if scope
-                .spawn(move || lane(rt, alloc, desk, moved, world))
+                .spawn(move || lane(rt, alloc, shared, moved, world))
                 .is_ok()
             {
                 started = true;
@@ -149,29 +153,29 @@ fn start_lanes<J: Naming + Send + Sync, W: World + Send + Sync, R: Threads + Wai
 }
 
 /// Works until the run has ended, or lanes stop.
-fn lane<J: Naming, W: World, R: Wait>(
+fn lane<J: RunBrand, W: World, R: Wait>(
     rt: &R,
     alloc: Global,
-    desk: &Mutex<Desk<'_, W, J>>,
+    shared: &Mutex<SharedRun<'_, W, J>>,
     moved: &Condvar,
     world: &W,
 ) {
-    let Ok(mut hand) = Hand::new(alloc) else {
-        stop(rt, desk, moved);
+    let Ok(mut batch) = Batch::new(alloc) else {
+        stop(rt, shared, moved);
         return;
     };
     for _ in rt.forever() {
-        match visit(rt, desk, moved, &mut hand, world) {
-            Left::Nothing => return,
-            Left::Asks => {}
-            Left::Runs(edge, question, permit) => {
-                if !ask_out(rt, desk, moved, &mut hand, world) {
+        match visit(rt, shared, moved, &mut batch, world) {
+            NextTask::Nothing => return,
+            NextTask::Asks => {}
+            NextTask::Runs(edge, question, permit) => {
+                if !ask_out(rt, shared, moved, &mut batch, world) {
                     permit.spend();
                     return;
                 }
-                let member = run(world, edge, question, permit);
-                if !hand.push(member) {
-                    stop(rt, desk, moved);
+                let pending = run(world, edge, question, permit);
+                if !batch.push(pending) {
+                    stop(rt, shared, moved);
                     return;
                 }
             }
@@ -179,150 +183,152 @@ fn lane<J: Naming, W: World, R: Wait>(
     }
 }
 
-/// Asks the world the questions in the hand, and takes the lock. While other lanes have the lock, goes on asking as
-/// long as questions are left.
-fn ask_and_lock<'a, 'v, J: Naming, W: World, R: Wait>(
+/// Asks the world questions of the batch, and takes the lock. If another lane has the lock, asks more questions before
+/// it tries again. Waits for the lock only when every question has been asked.
+fn ask_and_lock<'a, 'v, J: RunBrand, W: World, R: Wait>(
     rt: &R,
-    desk: &'a Mutex<Desk<'v, W, J>>,
-    hand: &mut Hand<W>,
+    shared: &'a Mutex<SharedRun<'v, W, J>>,
+    batch: &mut Batch<W>,
     world: &W,
-) -> MutexGuard<'a, Desk<'v, W, J>> {
+) -> MutexGuard<'a, SharedRun<'v, W, J>> {
     for _ in rt.forever() {
-        if !hand.ask_some(world) {
-            return desk.lock(rt);
+        if !batch.ask_some(world) {
+            return shared.lock(rt);
         }
-        if let Some(guard) = desk.try_lock() {
+        if let Some(guard) = shared.try_lock() {
             return guard;
         }
     }
-    desk.lock(rt)
+    shared.lock(rt)
 }
 
-/// Asks the world the questions in the hand, applies what was heard, keeps the questions that edges ask next, fills the
-/// hand again, and shows the lines that result. Sleeps while nothing can be asked and the hand is empty.
-fn visit<J: Naming, W: World, R: Wait>(
+/// Asks the world the questions in the batch, applies the replies, adds the next questions until the batch is full, and
+/// shows the new status lines. Sleeps while the batch is empty and there is no question to add.
+fn visit<J: RunBrand, W: World, R: Wait>(
     rt: &R,
-    desk: &Mutex<Desk<'_, W, J>>,
+    shared: &Mutex<SharedRun<'_, W, J>>,
     moved: &Condvar,
-    hand: &mut Hand<W>,
+    batch: &mut Batch<W>,
     world: &W,
-) -> Left {
-    let mut guard = ask_and_lock(rt, desk, hand, world);
-    hand.follow(&mut guard);
+) -> NextTask {
+    let mut guard = ask_and_lock(rt, shared, batch, world);
+    batch.follow(&mut guard);
     for _ in rt.forever() {
         if guard.stopped() != Stopped::No {
             moved.notify_all();
-            return Left::Nothing;
+            return NextTask::Nothing;
         }
-        let taken = take(rt, &mut guard, hand);
+        let taken = take(rt, &mut guard, batch);
         guard.show();
         let left = match taken {
-            Taken::Full => Left::Asks,
-            Taken::Run(edge, question, permit) => Left::Runs(edge, question, permit),
-            Taken::Wait if hand.is_empty() => {
-                guard.sleeps();
+            BatchEnd::Full => NextTask::Asks,
+            BatchEnd::Run(edge, question, permit) => NextTask::Runs(edge, question, permit),
+            BatchEnd::Wait if batch.is_empty() => {
+                guard.add_sleeper();
                 guard = moved.wait(rt, guard);
-                guard.wakes_up();
+                guard.remove_sleeper();
                 continue;
             }
-            Taken::Wait => Left::Asks,
-            Taken::Ended => {
+            BatchEnd::Wait => NextTask::Asks,
+            BatchEnd::Ended => {
                 moved.notify_all();
-                return Left::Nothing;
+                return NextTask::Nothing;
             }
-            Taken::NoMemory => {
+            BatchEnd::NoMemory => {
                 guard.stop(Stopped::Memory);
                 continue;
             }
         };
-        let wakes = guard.wakes();
+        let has_sleepers = guard.has_sleepers();
         drop(guard);
-        if wakes {
+        if has_sleepers {
             moved.notify_one();
         }
-        hand.leave();
+        batch.drop_applied();
         return left;
     }
-    Left::Nothing
+    NextTask::Nothing
 }
 
-/// Asks the world until the hand is empty. Returns false if lanes stop.
-fn ask_out<J: Naming, W: World, R: Wait>(
+/// Asks the world and applies the replies until the batch is empty. Returns false if lanes stop.
+fn ask_out<J: RunBrand, W: World, R: Wait>(
     rt: &R,
-    desk: &Mutex<Desk<'_, W, J>>,
+    shared: &Mutex<SharedRun<'_, W, J>>,
     moved: &Condvar,
-    hand: &mut Hand<W>,
+    batch: &mut Batch<W>,
     world: &W,
 ) -> bool {
     for _ in rt.forever() {
-        if hand.is_empty() {
+        if batch.is_empty() {
             return true;
         }
-        hand.ask(world);
-        if !hand_in(rt, desk, moved, hand) {
+        batch.ask(world);
+        if !apply_replies(rt, shared, moved, batch) {
             return false;
         }
     }
     false
 }
 
-/// Applies what was heard, and shows the lines that result. Takes no question. Returns false if lanes stop.
-fn hand_in<J: Naming, W: World, R: Wait>(
+/// Applies the replies in the batch, and shows the new status lines. Adds no question except the next one of a sweep.
+/// Returns false if lanes stop.
+fn apply_replies<J: RunBrand, W: World, R: Wait>(
     rt: &R,
-    desk: &Mutex<Desk<'_, W, J>>,
+    shared: &Mutex<SharedRun<'_, W, J>>,
     moved: &Condvar,
-    hand: &mut Hand<W>,
+    batch: &mut Batch<W>,
 ) -> bool {
-    let mut guard = desk.lock(rt);
-    hand.hand_in(&mut guard);
+    let mut guard = shared.lock(rt);
+    batch.apply_replies(&mut guard);
     guard.show();
     if guard.stopped() != Stopped::No {
         moved.notify_all();
         return false;
     }
-    let wakes = guard.wakes();
+    let has_sleepers = guard.has_sleepers();
     drop(guard);
-    if wakes {
+    if has_sleepers {
         moved.notify_one();
     }
-    hand.leave();
+    batch.drop_applied();
     true
 }
 
-/// Advances until the hand is full, a command is to be run, or nothing more can be asked.
-fn take<J: Naming, W: World, R: Wait>(
+/// Advances the run and adds its questions to the batch, until the batch is full, an edge asks to run its command, or
+/// no edge can go on without a reply.
+fn take<J: RunBrand, W: World, R: Wait>(
     rt: &R,
-    desk: &mut Desk<'_, W, J>,
-    hand: &mut Hand<W>,
-) -> Taken
-    ensures { Takes desk.old.run desk.new.run hand.old hand.new result }
+    shared: &mut SharedRun<'_, W, J>,
+    batch: &mut Batch<W>,
+) -> BatchEnd
+    ensures { Takes shared.old.run shared.new.run batch.old batch.new result }
 {
     for _ in rt.forever() {
-        if hand.is_full() {
-            return Taken::Full;
+        if batch.is_full() {
+            return BatchEnd::Full;
         }
-        match hand.advance(desk) {
+        match batch.advance(shared) {
             Ok(Advance::Moved) => {}
             Ok(Advance::Job(edge, question, permit)) => match permit {
-                Some(permit) => return Taken::Run(edge, question, permit),
+                Some(permit) => return BatchEnd::Run(edge, question, permit),
                 None => {
-                    if !hand.push(Member::open(edge, question)) {
-                        return Taken::NoMemory;
+                    if !batch.push(BatchItem::open(edge, question)) {
+                        return BatchEnd::NoMemory;
                     }
                 }
             },
-            Ok(Advance::Wait) => return Taken::Wait,
-            Ok(Advance::Ended) => return Taken::Ended,
-            Err(_refused) => return Taken::NoMemory,
+            Ok(Advance::Wait) => return BatchEnd::Wait,
+            Ok(Advance::Ended) => return BatchEnd::Ended,
+            Err(_refused) => return BatchEnd::NoMemory,
         }
     }
-    Taken::NoMemory
+    BatchEnd::NoMemory
 }
 
 /// Runs a command. Returns its question with the reply, or without a reply if memory ran out.
-fn run<W: World>(world: &W, edge: u32, question: Question, permit: Permit) -> Member<W> {
+fn run<W: World>(world: &W, edge: u32, question: Question, permit: Permit) -> BatchItem<W> {
     let reply = match &question.request {
-        Asked::Run(command, outputs) => {
+        OwnedRequest::Run(command, outputs) => {
             world
                 .run(question.number, command.as_slice(), outputs, permit)
                 .ok()
@@ -332,11 +338,15 @@ fn run<W: World>(world: &W, edge: u32, question: Question, permit: Permit) -> Me
             None
         }
     };
-    Member::replied(edge, question, reply)
+    BatchItem::with_reply(edge, question, reply)
 }
 
 /// Stops all lanes, because memory ran out.
-fn stop<J: Naming, W: World, R: Wait>(rt: &R, desk: &Mutex<Desk<'_, W, J>>, moved: &Condvar) {
-    desk.lock(rt).stop(Stopped::Memory);
+fn stop<J: RunBrand, W: World, R: Wait>(
+    rt: &R,
+    shared: &Mutex<SharedRun<'_, W, J>>,
+    moved: &Condvar,
+) {
+    shared.lock(rt).stop(Stopped::Memory);
     moved.notify_all();
 }

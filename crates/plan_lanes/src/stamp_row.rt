@@ -1,12 +1,12 @@
 //! Stamps of the paths of a sweep, which a lane asks for one after another.
 
 ghost use Rattle.std.specs.Prelude.{◌≡◌, ◌+◌, ◌≤◌, ◌<◌, ◌⊎◌, ℕ, [], IfSome, None, Some, drop, get_or, length, slice_get};
-ghost use Rattle.plan_machine.specs.declared.reply.Reply.TheVariants.{Stamp};
+ghost use Rattle.plan_machine.specs.declared.event.reply.Reply.TheVariants.{Stamp};
 ghost use Rattle.plan_verify.specs.Turn.{Stat};
 ghost use Rattle.plan_lanes.specs.Questions.{shown};
 ghost use Rattle.plan_lanes.specs.StampRows.{HaveStamps};
 
-use crate::asked::{Asked, Question};
+use crate::owned_request::{OwnedRequest, Question};
 use crate::world::World;
 use plan_machine::Reply;
 use plan_verify::PathList;
@@ -14,8 +14,8 @@ use std::alloc::Global;
 use std::marker::{Model, PhantomData};
 
 /// Stamps of paths that an edge goes through, from the path of its question on. The world allows each of them for its
-/// path, under any number. Only `ask` creates a row, nothing copies it, and a board takes it by value: so the edge that
-/// a stamp was asked for hears it once.
+/// path, under any number. Only `ask` creates a row, nothing copies it, and a board takes it by value. So each stamp is
+/// applied at most once, to the edge for which it was asked.
 #[derive(Drop)]
 pub struct StampRow<W: World> {
     edge: u32,
@@ -81,7 +81,7 @@ impl<W: World> StampRow<W> {
         ensures edge { IfSome result (λ r. r.edge ≡ edge) }
         ensures question { IfSome result (λ r. (r.number ≡ question.now.number) × (Stat (get_or r.paths r.from []) ≡ shown question.now.request)) }
     {
-        let Asked::Sweep(paths, from) = &question.request else {
+        let OwnedRequest::Sweep(paths, from) = &question.request else {
             return None;
         };
         let stamps = stamps_from(alloc, world, paths, *from);
@@ -156,7 +156,7 @@ impl<W: World> StampRow<W> {
             Some(stamp) => *stamp,
             None => return None,
         };
-        let request = Asked::Sweep(paths, from + place as u32);
+        let request = OwnedRequest::Sweep(paths, from + place as u32);
         Some((Question { number, request }, Reply::Stamp(stamp)))
     }
 }

@@ -1,8 +1,8 @@
 //! The world outside: files, commands, the record.
 
 ghost use Rattle.std.specs.Prelude.{ℕ, ◌≡◌, IfOk, IfSome};
-ghost use Rattle.plan_machine.specs.declared.reply.Reply.{Reply as Answer};
-ghost use Rattle.plan_machine.specs.declared.reply.Reply.TheVariants.{Stamp};
+ghost use Rattle.plan_machine.specs.declared.event.reply.Reply.{Reply as Answer};
+ghost use Rattle.plan_machine.specs.declared.event.reply.Reply.TheVariants.{Stamp};
 ghost use Rattle.plan_verify.specs.Turn.{Deps, Keep, Recall, Request, Run, Stat};
 
 use crate::board::Permit;
@@ -16,7 +16,7 @@ use std::alloc::AllocError;
 /// if memory runs out: a file or a command that fails is a reply.
 pub trait World {
     ghost use Rattle.std.specs.Prelude.{ℕ, Bool, false};
-    ghost use Rattle.plan_machine.specs.declared.reply.Reply.{Reply as Answer};
+    ghost use Rattle.plan_machine.specs.declared.event.reply.Reply.{Reply as Answer};
     ghost use Rattle.plan_verify.specs.Turn.{Request};
 
     /// The rule of the world: this reply may be given to the question of this number.

@@ -19,8 +19,8 @@ use Rattle.plan_compile.specs.Images.{image_of}
 use Rattle.plan_compile.specs.Means.{Leaves}
 use Rattle.plan_compile.specs.Names.{all_texts}
 use Rattle.plan_compile.specs.Slots.{form_of, base, made}
-use Rattle.plan_compile.specs.Talk.{Left, Talk, Ask, Over as Done, Fail, Obeys, is_over, has_failed, moves, asks, Follows}
-use Rattle.plan_compile.specs.Told.{edge_does, facts, ImageKeepsToRule, ImageIsWired}
+use Rattle.plan_compile.specs.InteractionTree.{Left, InteractionTree, Ask, Over as Done, Fail, Obeys, is_over, has_failed, moves, asks, Follows}
+use Rattle.plan_compile.specs.Told.{edge_does, facts, ImageKeepsToRule, ImageIsLaidOut}
 use Rattle.plan_machine.specs.Agreement.{replies_to}
 use Rattle.plan_machine.specs.Depfile.{depfile}
 use Rattle.plan_machine.specs.Edges.{edge_of}
@@ -29,14 +29,14 @@ use Rattle.plan_machine.specs.Limits.{Limits}
 use Rattle.plan_machine.specs.Places.{is_spent, is_free, at_take}
 use Rattle.plan_machine.specs.Requests.{asked_by, asked_at}
 use Rattle.plan_machine.specs.Runs.{at_first, Runs, Reached}
-use Rattle.plan_machine.specs.State.{State, Status, Unbegun, Active, Over, is_well, is_ill, stands, with_status}
+use Rattle.plan_machine.specs.State.{State, Status, Unbegun, Active, Over, has_succeeded, is_unsuccessful, stands, with_status}
 use Rattle.plan_machine.specs.Step.{Stepped, Next, Wrong, NotEnabled, stepped, answered, ended, settles, hears_by, starts, skips, stops, steps, hears, answer_of, step}
 use Rattle.plan_machine.specs.declared.event.Event.{Event}
 use Rattle.plan_machine.specs.declared.event.Event.TheVariants.{Start, Skip, Stop, Step, Reply as Hear}
-use Rattle.plan_machine.specs.declared.mark.Mark.{Mark}
-use Rattle.plan_machine.specs.declared.mark.Mark.TheVariants as mark
-use Rattle.plan_machine.specs.declared.mark.Outcome.TheVariants.{Failed, Skipped, Stopped}
-use Rattle.plan_machine.specs.declared.reply.Reply.{Reply}
+use Rattle.plan_machine.specs.declared.event.mark.Mark.{Mark}
+use Rattle.plan_machine.specs.declared.event.mark.Mark.TheVariants as mark
+use Rattle.plan_machine.specs.declared.event.mark.Outcome.TheVariants.{Failed, Skipped, Stopped}
+use Rattle.plan_machine.specs.declared.event.reply.Reply.{Reply}
 use Rattle.plan_lanes.specs.Journals.{Rule, IsLastOf, IsAllowed}
 use Rattle.plan_laws.specs.Ends.{Exchange}
 use Rattle.plan_laws.specs.Right.{AreReplies}
@@ -92,13 +92,13 @@ module _ (meaning : Meaning) (p : Parts) (limits : Limits) (s : State) where
   settles_sets e l say (Errs flaw) = tt
 
   starts_sets : (e : ℕ) (o : Option Status) → SetsAt e (starts p s e o)
-  starts_sets e (Some Unbegun) = choose e (list_all (stands is_well s) (waits_of p e)) (Next (with_status s e (Active begun)) (mark.Started e)) NotEnabled (Active begun, refl) tt
+  starts_sets e (Some Unbegun) = choose e (list_all (stands has_succeeded s) (waits_of p e)) (Next (with_status s e (Active begun)) (mark.Started e)) NotEnabled (Active begun, refl) tt
   starts_sets e None = tt
   starts_sets e (Some (Active l)) = tt
   starts_sets e (Some (Over outcome)) = tt
 
   skips_sets : (e w : ℕ) (o : Option Status) → SetsAt e (skips p s e w o)
-  skips_sets e w (Some Unbegun) = choose e (is_member w (waits_of p e) && stands is_ill s w) (Next (with_status s e (Over (Skipped w))) (mark.Skipped e w)) NotEnabled (Over (Skipped w), refl) tt
+  skips_sets e w (Some Unbegun) = choose e (is_member w (waits_of p e) && stands is_unsuccessful s w) (Next (with_status s e (Over (Skipped w))) (mark.Skipped e w)) NotEnabled (Over (Skipped w), refl) tt
   skips_sets e w None = tt
   skips_sets e w (Some (Active l)) = tt
   skips_sets e w (Some (Over outcome)) = tt
@@ -140,7 +140,7 @@ module _ (e : ℕ) where
   abbrev HasEvent : List Event → Type 0
   HasEvent events = (k : ℕ) × (event : Event) × (slice_get events k ≡ Some event) × (edge_of event ≡ e)
 
-  -- an edge that has no event yet stands as at first
+  -- an edge without an event has the status that it had at first
   abbrev Stood : State → List Event → State → Type 0
   Stood first past s = (st : Status) → slice_get s.edges e ≡ Some st → (slice_get first.edges e ≡ Some st) ⊎ HasEvent past
 
@@ -251,10 +251,10 @@ told_more (y ∷ told) x = ap (λ (l : List Answer). y.1 ∷ l) (told_more told 
 -- ---- the question that was answered
 
 -- two conversations along one rule with the same replies ask the same next
-next_asked : (talk : Talk) (a b : List Exchange) (rest final : Talk) (x : Exchange) (more : List Exchange) → map answer_in a ≡ map answer_in b → Follows talk a rest → Follows talk (b ++ x ∷ more) final → Follows rest (x ∷ more) final
-next_asked talk [] [] rest final x more same f g = subst (λ (k : Talk). Follows k (x ∷ more) final) f g
-next_asked talk [] (z ∷ b) rest final x more same f g = absurd cc
-next_asked talk (y ∷ a) [] rest final x more same f g = absurd cc
+next_asked : (interaction : InteractionTree) (a b : List Exchange) (rest final : InteractionTree) (x : Exchange) (more : List Exchange) → map answer_in a ≡ map answer_in b → Follows interaction a rest → Follows interaction (b ++ x ∷ more) final → Follows rest (x ∷ more) final
+next_asked interaction [] [] rest final x more same f g = subst (λ (k : InteractionTree). Follows k (x ∷ more) final) f g
+next_asked interaction [] (z ∷ b) rest final x more same f g = absurd cc
+next_asked interaction (y ∷ a) [] rest final x more same f g = absurd cc
 next_asked (Ask q k) (y ∷ a) (z ∷ b) rest final x more same f g =
     let one : y.1 ≡ z.1 = cc in
     let others : map answer_in a ≡ map answer_in b = cc in
@@ -265,15 +265,15 @@ next_asked (Fail cause) (y ∷ a) (z ∷ b) rest final x more same f g = absurd 
 same_local : (l m : Local) → ◌≡◌ {A = Stage} (Going l) (Going m) → l ≡ m
 same_local l m e = cc
 
--- an edge that keeps to a talk and awaits a reply: the talk asks what the edge asked
-asks_of : (meaning : Meaning) (p : Parts) (e : ℕ) (Leaving : Slots → Left → Type 0) (x : Alone) (talk : Talk) → Obeys meaning p e Leaving x talk
-    → (l : Local) (slots : Slots) → x.stage ≡ Going l → x.slots ≡ slots → l.asked ≡ true → (q : Request) × (k : Answer → Talk) × (talk ≡ Ask q k) × (question p e slots l ≡ Some q)
-asks_of meaning p e Leaving x talk (is_over h) l slots s z loud = absurd cc
-asks_of meaning p e Leaving x talk has_failed l slots s z loud = absurd cc
-asks_of meaning p e Leaving x talk (moves {l = m} quiet o) l slots s z loud =
+-- If an edge follows an interaction tree and awaits a reply, the root of the tree asks the question of the edge.
+asks_of : (meaning : Meaning) (p : Parts) (e : ℕ) (Leaving : Slots → Left → Type 0) (x : Alone) (interaction : InteractionTree) → Obeys meaning p e Leaving x interaction
+    → (l : Local) (slots : Slots) → x.stage ≡ Going l → x.slots ≡ slots → l.asked ≡ true → (q : Request) × (k : Answer → InteractionTree) × (interaction ≡ Ask q k) × (question p e slots l ≡ Some q)
+asks_of meaning p e Leaving x interaction (is_over h) l slots s z loud = absurd cc
+asks_of meaning p e Leaving x interaction has_failed l slots s z loud = absurd cc
+asks_of meaning p e Leaving x interaction (moves {l = m} quiet o) l slots s z loud =
     let same : m ≡ l = same_local m l s in
     absurd (let clash : true ≡ false = sym loud ∙ ap (λ (i : Local). i.asked) (sym same) ∙ quiet in cc)
-asks_of meaning p e Leaving x talk (asks {l = m} {slots = old} {q = q} {k = k} loud que h) l slots s z on =
+asks_of meaning p e Leaving x interaction (asks {l = m} {slots = old} {q = q} {k = k} loud que h) l slots s z on =
     let same : m ≡ l = same_local m l s in
     (q, k, refl, subst (λ (i : Local). question p e slots i ≡ Some q) same (subst (λ (w : Slots). question p e w m ≡ Some q) z que))
 
@@ -285,7 +285,7 @@ loud_of meaning p e l r t is = by l.asked is
     by true h = refl
     by false h = absurd cc
 
--- an edge that hears is under way and awaits a reply
+-- an edge to which a reply is applied is under way and awaits a reply
 awaits : (meaning : Meaning) (p : Parts) (s : State) (e : ℕ) (r : Answer) (mid : State) (told : Mark) (o : Option Status) → hears meaning p s e r o ≡ Next mid told → (l : Local) × (o ≡ Some (Active l)) × (l.asked ≡ true)
 awaits meaning p s e r mid told (Some (Active l)) is = by (heard meaning p e l r) refl is
   where
@@ -315,12 +315,12 @@ runs_more meaning p limits s (x ∷ events) (y ∷ marks) mid event told end run
 runs_more meaning p limits s [] (y ∷ marks) mid event told end run is = absurd run
 runs_more meaning p limits s (x ∷ events) [] mid event told end run is = absurd run
 
-module _ (own : EachRanByItself) (keeps : ImageKeepsToRule) (wires : ImageIsWired) (stay : SlotsStay) (allows : Rule) (t : Builds) (whole : IsSound t) (shaped : IsWellShaped (image_of t))
-    (limits : Limits) (targets : List ℕ) (journal : List Event) (s : State) (allowed : IsAllowed allows (image_of t) limits targets journal) (e : ℕ) (x : Build) (there : IsEdge t e x) (final : Talk) where
+module _ (own : EachRanByItself) (keeps : ImageKeepsToRule) (layouts : ImageIsLaidOut) (stay : SlotsStay) (allows : Rule) (t : Builds) (whole : IsSound t) (shaped : IsWellShaped (image_of t))
+    (limits : Limits) (targets : List ℕ) (journal : List Event) (s : State) (allowed : IsAllowed allows (image_of t) limits targets journal) (e : ℕ) (x : Build) (there : IsEdge t e x) (final : InteractionTree) where
   abbrev p : Parts
   p = image_of t
 
-  abbrev rule : Talk
+  abbrev rule : InteractionTree
   rule = edge_does x.edge.phony depfile (facts t s.slots x)
 
   -- a reply is one that is allowed for the question to which the rule has come
@@ -335,11 +335,11 @@ module _ (own : EachRanByItself) (keeps : ImageKeepsToRule) (wires : ImageIsWire
       let lent : (i : ℕ) → is_lent p e i ≡ true → slice_get o.start i ≡ slice_get s.slots i =
       λ i on. let w = lender p e i on in
       o.lent i on ∙ sym (stay depfile p shaped limits targets before marks now reached (Hear e r ∷ after) (told ∷ later) s (mid, one, run) w.0 i (o.waited w.0 w.1) w.2) in
-      let alike : edge_does x.edge.phony depfile (facts t o.start x) ≡ rule = rule_same t p e o.start s.slots lent x depfile (form_of x) (all_texts t.edges) (base t.edges e) refl (wires t whole e x there) in
-      let came : Follows rule o.told k.0 = subst (λ (talk : Talk). Follows talk o.told k.0) alike k.1 in
+      let alike : edge_does x.edge.phony depfile (facts t o.start x) ≡ rule = rule_same t p e o.start s.slots lent x depfile (form_of x) (all_texts t.edges) (base t.edges e) refl (layouts t whole e x there) in
+      let came : Follows rule o.told k.0 = subst (λ (interaction : InteractionTree). Follows interaction o.told k.0) alike k.1 in
       let next : Follows k.0 (y ∷ more) final = next_asked rule o.told past k.0 final y more (o.heard ∙ sym same) came follows in
       let q = asks_of depfile p e (Leaves (made (base t.edges e) x)) (record { stage = Going l; slots = o.end }) k.0 k.2 l o.end refl refl h.2 in
-      let ask : Follows (Ask q.0 q.1) (y ∷ more) final = subst (λ (talk : Talk). Follows talk (y ∷ more) final) q.2 next in
+      let ask : Follows (Ask q.0 q.1) (y ∷ more) final = subst (λ (interaction : InteractionTree). Follows interaction (y ∷ more) final) q.2 next in
       let asked : asked_at p now e ≡ Some q.0 =
       ap (asked_by p e now.slots) h.1 ∙ ap (λ (b : Bool). if b then question p e now.slots l else None) h.2 ∙ sym (o.asks l refl) ∙ q.3 in
       let front : take (length before) journal ≡ before = ap (take (length before)) is ∙ take_front before (Hear e r ∷ after) in

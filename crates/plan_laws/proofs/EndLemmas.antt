@@ -4,7 +4,7 @@ use Rattle.std.specs.Prelude.{◌==◌, ◌&&◌, if◌then◌else◌}
 use Rattle.std.proofs.lemmas.List.{append_assoc}
 use Rattle.plan_verify.specs.declared.value.Cause.{Cause}
 use Rattle.plan_verify.specs.Turn.{Meaning, Request, Stat, Recall, Run, Deps, Keep, Reply as Answer, StampIs, Entry, Nothing, Exit, Signal, NotStarted, Bytes, Kept, Fault}
-use Rattle.plan_compile.specs.Talk.{Left, Talk, Ask, Over, Fail, Follows}
+use Rattle.plan_compile.specs.InteractionTree.{Left, InteractionTree, Ask, Over, Fail, Follows}
 use Rattle.plan_compile.specs.Rule.{Path, Given, SourceFile, Made, Command, Recorded, needed, stamped, recalled, exited, told_paths, read, kept, inputs, stamps, asked, greatest, is_dirty, paths_in, name, unchanged, changed, depfile, runs, does, has_none, alone, gathers, some_changed}
 use Rattle.plan_laws.specs.Ends.{Exchange, file_exchanges, input_exchanges, AreStamps, Observations, entry_reply, Observes, is_dirty_by, GivesPaths, ReadsDepfile, RunsNothing, Succeeds, EndsArePlain}
 
@@ -16,7 +16,7 @@ no_fail cause [] ran left f = cc
 no_fail cause (x ∷ told) ran left f = f
 
 -- nor does a question without a reply
-no_ask : (q : Request) (k : Answer → Talk) (ran : Bool) (left : Left) → Follows (Ask q k) [] (Over ran left) → ⊥
+no_ask : (q : Request) (k : Answer → InteractionTree) (ran : Bool) (left : Left) → Follows (Ask q k) [] (Over ran left) → ⊥
 no_ask q k ran left f = cc
 
 -- at an end there is nothing more
@@ -30,7 +30,7 @@ exchange x q r a b = ap (λ (p : Request). (p, x.1)) a ∙ ap (λ (s : Answer). 
 module _ (ran : Bool) (left : Left) where
   -- ---- one reply
 
-  needed_end : (f : ℕ) (go : ℕ → Talk) (r : Answer) (told : List Exchange) → Follows (needed f go r) told (Over ran left) → (n : ℕ) × (r ≡ StampIs n) × (0 < n) × Follows (go n) told (Over ran left)
+  needed_end : (f : ℕ) (go : ℕ → InteractionTree) (r : Answer) (told : List Exchange) → Follows (needed f go r) told (Over ran left) → (n : ℕ) × (r ≡ StampIs n) × (0 < n) × Follows (go n) told (Over ran left)
   needed_end f go (StampIs zero) told h = absurd (no_fail _ told ran left h)
   needed_end f go (StampIs (suc n)) told h = (suc n, refl, omega arith, h)
   needed_end f go (Entry command basis paths) told h = absurd (no_fail _ told ran left h)
@@ -42,7 +42,7 @@ module _ (ran : Bool) (left : Left) where
   needed_end f go Kept told h = absurd (no_fail _ told ran left h)
   needed_end f go Fault told h = absurd (no_fail _ told ran left h)
 
-  stamped_end : (go : ℕ → Talk) (r : Answer) (told : List Exchange) → Follows (stamped go r) told (Over ran left) → (n : ℕ) × (r ≡ StampIs n) × Follows (go n) told (Over ran left)
+  stamped_end : (go : ℕ → InteractionTree) (r : Answer) (told : List Exchange) → Follows (stamped go r) told (Over ran left) → (n : ℕ) × (r ≡ StampIs n) × Follows (go n) told (Over ran left)
   stamped_end go (StampIs n) told h = (n, refl, h)
   stamped_end go (Entry command basis paths) told h = absurd (no_fail _ told ran left h)
   stamped_end go Nothing told h = absurd (no_fail _ told ran left h)
@@ -53,7 +53,7 @@ module _ (ran : Bool) (left : Left) where
   stamped_end go Kept told h = absurd (no_fail _ told ran left h)
   stamped_end go Fault told h = absurd (no_fail _ told ran left h)
 
-  recalled_end : (go : Option Recorded → Talk) (r : Answer) (told : List Exchange) → Follows (recalled go r) told (Over ran left) → (entry : Option Recorded) × (r ≡ entry_reply entry) × Follows (go entry) told (Over ran left)
+  recalled_end : (go : Option Recorded → InteractionTree) (r : Answer) (told : List Exchange) → Follows (recalled go r) told (Over ran left) → (entry : Option Recorded) × (r ≡ entry_reply entry) × Follows (go entry) told (Over ran left)
   recalled_end go (Entry command basis paths) told h = (Some (record { command = command; basis = basis; paths = paths }), refl, h)
   recalled_end go Nothing told h = (None, refl, h)
   recalled_end go (StampIs n) told h = absurd (no_fail _ told ran left h)
@@ -64,7 +64,7 @@ module _ (ran : Bool) (left : Left) where
   recalled_end go Kept told h = absurd (no_fail _ told ran left h)
   recalled_end go Fault told h = absurd (no_fail _ told ran left h)
 
-  exited_end : (go : Talk) (r : Answer) (told : List Exchange) → Follows (exited go r) told (Over ran left) → (r ≡ Exit 0) × Follows go told (Over ran left)
+  exited_end : (go : InteractionTree) (r : Answer) (told : List Exchange) → Follows (exited go r) told (Over ran left) → (r ≡ Exit 0) × Follows go told (Over ran left)
   exited_end go (Exit zero) told h = (refl, h)
   exited_end go (Exit (suc n)) told h = absurd (no_fail _ told ran left h)
   exited_end go (StampIs n) told h = absurd (no_fail _ told ran left h)
@@ -76,7 +76,7 @@ module _ (ran : Bool) (left : Left) where
   exited_end go Kept told h = absurd (no_fail _ told ran left h)
   exited_end go Fault told h = absurd (no_fail _ told ran left h)
 
-  kept_end : (go : Talk) (r : Answer) (told : List Exchange) → Follows (kept go r) told (Over ran left) → (r ≡ Kept) × Follows go told (Over ran left)
+  kept_end : (go : InteractionTree) (r : Answer) (told : List Exchange) → Follows (kept go r) told (Over ran left) → (r ≡ Kept) × Follows go told (Over ran left)
   kept_end go Kept told h = (refl, h)
   kept_end go (StampIs n) told h = absurd (no_fail _ told ran left h)
   kept_end go (Entry command basis paths) told h = absurd (no_fail _ told ran left h)
@@ -87,11 +87,11 @@ module _ (ran : Bool) (left : Left) where
   kept_end go (Bytes bytes) told h = absurd (no_fail _ told ran left h)
   kept_end go Fault told h = absurd (no_fail _ told ran left h)
 
-  told_end : (go : List Path → Talk) (o : Result (List Path) (ℕ × ℕ)) (told : List Exchange) → Follows (told_paths go o) told (Over ran left) → (paths : List Path) × (o ≡ Ok paths) × Follows (go paths) told (Over ran left)
+  told_end : (go : List Path → InteractionTree) (o : Result (List Path) (ℕ × ℕ)) (told : List Exchange) → Follows (told_paths go o) told (Over ran left) → (paths : List Path) × (o ≡ Ok paths) × Follows (go paths) told (Over ran left)
   told_end go (Ok paths) told h = (paths, refl, h)
   told_end go (Err fault) told h = absurd (no_fail _ told ran left h)
 
-  read_end : (meaning : Meaning) (go : List Path → Talk) (r : Answer) (told : List Exchange) → Follows (read meaning go r) told (Over ran left) → (paths : List Path) × GivesPaths meaning paths r × Follows (go paths) told (Over ran left)
+  read_end : (meaning : Meaning) (go : List Path → InteractionTree) (r : Answer) (told : List Exchange) → Follows (read meaning go r) told (Over ran left) → (paths : List Path) × GivesPaths meaning paths r × Follows (go paths) told (Over ran left)
   read_end meaning go (Bytes bytes) told h = told_end go (meaning bytes) told h
   read_end meaning go Nothing told h = ([], refl, h)
   read_end meaning go (StampIs n) told h = absurd (no_fail _ told ran left h)
@@ -104,17 +104,17 @@ module _ (ran : Bool) (left : Left) where
 
   -- ---- one question
 
-  ask_end : (q : Request) (k : Answer → Talk) (told : List Exchange) → Follows (Ask q k) told (Over ran left) → (r : Answer) × (more : List Exchange) × (told ≡ (q, r) ∷ more) × Follows (k r) more (Over ran left)
+  ask_end : (q : Request) (k : Answer → InteractionTree) (told : List Exchange) → Follows (Ask q k) told (Over ran left) → (r : Answer) × (more : List Exchange) × (told ≡ (q, r) ∷ more) × Follows (k r) more (Over ran left)
   ask_end q k [] f = absurd (no_ask q k ran left f)
   ask_end q k (x ∷ told) f = (x.1, told, ap (λ (y : Exchange). y ∷ told) (exchange x q x.1 f.0 refl), f.1)
 
   -- ---- lists of questions
 
-  inputs_end : (is : List Given) (go : List ℕ → Talk) (told : List Exchange) → Follows (inputs is go) told (Over ran left)
+  inputs_end : (is : List Given) (go : List ℕ → InteractionTree) (told : List Exchange) → Follows (inputs is go) told (Over ran left)
       → (ts : List ℕ) × (more : List Exchange) × AreStamps is ts × (told ≡ input_exchanges is ts ++ more) × Follows (go ts) more (Over ran left)
   inputs_end [] go told f = ([], told, tt, refl, f)
   inputs_end (SourceFile n path ∷ others) go told f =
-      let next : ℕ → Talk = λ t. inputs others (λ ts. go (t ∷ ts)) in
+      let next : ℕ → InteractionTree = λ t. inputs others (λ ts. go (t ∷ ts)) in
       let a = ask_end (Stat path) (needed n next) told f in
       let b = needed_end n next a.0 a.1 a.3 in
       let c = inputs_end others (λ ts. go (b.0 ∷ ts)) a.1 b.3 in
@@ -123,17 +123,17 @@ module _ (ran : Bool) (left : Left) where
       let c = inputs_end others (λ ts. go (t ∷ ts)) told f in
       (t ∷ c.0, c.1, (refl, c.2), c.3, c.4)
 
-  stamps_end : (ps : List Path) (go : List ℕ → Talk) (told : List Exchange) → Follows (stamps ps go) told (Over ran left)
+  stamps_end : (ps : List Path) (go : List ℕ → InteractionTree) (told : List Exchange) → Follows (stamps ps go) told (Over ran left)
       → (ts : List ℕ) × (more : List Exchange) × (length ts ≡ length ps) × (told ≡ file_exchanges ps ts ++ more) × Follows (go ts) more (Over ran left)
   stamps_end [] go told f = ([], told, refl, refl, f)
   stamps_end (path ∷ others) go told f =
-      let next : ℕ → Talk = λ t. stamps others (λ ts. go (t ∷ ts)) in
+      let next : ℕ → InteractionTree = λ t. stamps others (λ ts. go (t ∷ ts)) in
       let a = ask_end (Stat path) (stamped next) told f in
       let b = stamped_end next a.0 a.1 a.3 in
       let c = stamps_end others (λ ts. go (b.0 ∷ ts)) a.1 b.2 in
       (b.0 ∷ c.0, c.1, ap suc c.2, a.2 ∙ ap (λ (r : Answer). (Stat path, r) ∷ a.1) b.1 ∙ ap (λ (l : List Exchange). (Stat path, StampIs b.0) ∷ l) c.3, c.4)
 
-  depfile_end : (meaning : Meaning) (path : List ℕ) (go : List Path → Talk) (told : List Exchange) → Follows (depfile meaning path go) told (Over ran left)
+  depfile_end : (meaning : Meaning) (path : List ℕ) (go : List Path → InteractionTree) (told : List Exchange) → Follows (depfile meaning path go) told (Over ran left)
       → (paths : List Path) × (listing : List Exchange) × (more : List Exchange) × ReadsDepfile meaning path paths listing × (told ≡ listing ++ more) × Follows (go paths) more (Over ran left)
   depfile_end meaning [] go told f = ([], [], told, (refl, refl), refl, f)
   depfile_end meaning (c ∷ cs) go told f =
@@ -158,28 +158,28 @@ module _ (meaning : Meaning) (c : Command) where
 
   -- ---- what is left of the rule, stage by stage
 
-  abbrev pub changing : (old new : List ℕ) → Talk
+  abbrev pub changing : (old new : List ℕ) → InteractionTree
   changing old new = Over true (changed c.restat old new)
 
   abbrev pub keep_of : (named : List ℕ) (paths : List Path) (swept : List ℕ) → Request
   keep_of named paths swept = Keep (name c) c.command (greatest (named ++ swept)) paths
 
-  abbrev pub keeping : (named old : List ℕ) (paths : List Path) (swept : List ℕ) → Talk
+  abbrev pub keeping : (named old : List ℕ) (paths : List Path) (swept : List ℕ) → InteractionTree
   keeping named old paths swept = Ask (keep_of named paths swept) (kept (stamps c.outputs (changing old)))
 
-  abbrev pub sweeping : (named old : List ℕ) (paths : List Path) → Talk
+  abbrev pub sweeping : (named old : List ℕ) (paths : List Path) → InteractionTree
   sweeping named old paths = stamps paths (keeping named old paths)
 
-  abbrev pub deciding : (named old : List ℕ) (entry : Option Recorded) (swept : List ℕ) → Talk
+  abbrev pub deciding : (named old : List ℕ) (entry : Option Recorded) (swept : List ℕ) → InteractionTree
   deciding named old entry swept = if is_dirty c named old entry swept then runs meaning c named old else Over false (unchanged old)
 
-  abbrev pub recording : (named old : List ℕ) (entry : Option Recorded) → Talk
+  abbrev pub recording : (named old : List ℕ) (entry : Option Recorded) → InteractionTree
   recording named old entry = stamps (paths_in entry) (deciding named old entry)
 
-  abbrev pub recalling : (named old : List ℕ) → Talk
+  abbrev pub recalling : (named old : List ℕ) → InteractionTree
   recalling named old = Ask (Recall (name c)) (recalled (recording named old))
 
-  abbrev pub stamping : (named : List ℕ) → Talk
+  abbrev pub stamping : (named : List ℕ) → InteractionTree
   stamping named = stamps c.outputs (recalling named)
 
   append_none : (xs : List Exchange) → xs ++ [] ≡ xs
@@ -284,14 +284,14 @@ nothing_more told is = subst RunsNothing (sym is) tt
 module _ (c : Command) where
   alone_end : (told : List Exchange) (ran : Bool) (left : Left) → Follows (alone c.outputs) told (Over ran left) → (ran ≡ false) × RunsNothing told
   alone_end told ran left f =
-      let go : List ℕ → Talk = λ ts. Over false (map (λ (t : ℕ). (t, t == 0)) ts) in
+      let go : List ℕ → InteractionTree = λ ts. Over false (map (λ (t : ℕ). (t, t == 0)) ts) in
       let a = stamps_end ran left c.outputs go told f in
       let e = at_end false ran (map (λ (t : ℕ). (t, t == 0)) a.0) left a.1 a.4 in
       (sym e.1, subst RunsNothing (sym a.3) (files_run_nothing c.outputs a.0 a.1 (nothing_more a.1 e.0)))
 
   gathers_end : (told : List Exchange) (ran : Bool) (left : Left) → Follows (gathers c) told (Over ran left) → (ran ≡ false) × RunsNothing told
   gathers_end told ran left f =
-      let go : List ℕ → Talk = λ ts. Over false (map (λ (path : Path). (greatest ts, some_changed c.named)) c.outputs) in
+      let go : List ℕ → InteractionTree = λ ts. Over false (map (λ (path : Path). (greatest ts, some_changed c.named)) c.outputs) in
       let a = inputs_end ran left (asked c.named c.order_only) (λ ts. inputs c.named go) told f in
       let b = inputs_end ran left c.named go a.1 a.4 in
       let e = at_end false ran (map (λ (path : Path). (greatest b.0, some_changed c.named)) c.outputs) left b.1 b.4 in

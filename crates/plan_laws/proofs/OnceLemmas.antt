@@ -1,7 +1,7 @@
 -- How often the conversation of an edge that succeeded asks for a command.
 use Rattle.std.proofs.Common.{◌≡◌, ℕ, Bool, true, false, List, [], ◌∷◌, ◌++◌, refl, ap, ◌∙◌}
 use Rattle.plan_verify.specs.Turn.{Meaning, Stat, Recall, Run, Deps, Keep, Kept, Exit}
-use Rattle.plan_compile.specs.Talk.{Left}
+use Rattle.plan_compile.specs.InteractionTree.{Left}
 use Rattle.plan_compile.specs.Rule.{Path, Given, SourceFile, Made, Command, asked, greatest, paths_in, name}
 use Rattle.plan_laws.specs.Ends.{Exchange, file_exchanges, input_exchanges, Observations, entry_reply, Observes, CommandSucceeded, ReadsDepfile, RunsNothing, commands_in, runs_of, CommandsRunOnce}
 

@@ -3,25 +3,25 @@ use Rattle.std.proofs.Common.{ℕ, zero, suc, Bool, true, false, Result, Ok, Err
 use Rattle.std.specs.Prelude.{◌&&◌, if◌then◌else◌}
 use Rattle.plan_verify.specs.declared.value.Cause.{Cause}
 use Rattle.plan_verify.specs.Turn.{Meaning, Request, Reply, StampIs, Entry, Nothing, Exit, Signal, NotStarted, Bytes, Kept, Fault}
-use Rattle.plan_compile.specs.Talk.{Left, Talk, Ask, Over, Fail, Follows}
+use Rattle.plan_compile.specs.InteractionTree.{Left, InteractionTree, Ask, Over, Fail, Follows}
 use Rattle.plan_compile.specs.Rule.{Path, Given, SourceFile, Made, Command, Recorded, needed, stamped, recalled, exited, told_paths, read, kept, inputs, stamps, asked, is_dirty, paths_in, unchanged, changed, depfile, runs, does, has_none, does_phony}
 use Rattle.plan_compile.specs.Told.{edge_does}
 use Rattle.plan_laws.specs.Manifests.{IsOwnRun, AreOwnRuns}
 
--- a talk in which nothing else is run
-data OnlyOwn (c : Command) : Talk → Type 0 where
-  asks : {q : Request} {k : Reply → Talk} → IsOwnRun c q → ((r : Reply) → OnlyOwn c (k r)) → OnlyOwn c (Ask q k)
+-- an interaction tree that runs nothing but the command of the edge
+data OnlyOwn (c : Command) : InteractionTree → Type 0 where
+  asks : {q : Request} {k : Reply → InteractionTree} → IsOwnRun c q → ((r : Reply) → OnlyOwn c (k r)) → OnlyOwn c (Ask q k)
   is_over : {ran : Bool} {left : Left} → OnlyOwn c (Over ran left)
   has_failed : {cause : Cause} → OnlyOwn c (Fail cause)
 
-own_runs : (c : Command) (talk : Talk) (told : List (Request × Reply)) (rest : Talk) → OnlyOwn c talk → Follows talk told rest → AreOwnRuns c told
-own_runs c talk [] rest own f = tt
+own_runs : (c : Command) (interaction : InteractionTree) (told : List (Request × Reply)) (rest : InteractionTree) → OnlyOwn c interaction → Follows interaction told rest → AreOwnRuns c told
+own_runs c interaction [] rest own f = tt
 own_runs c (Ask q k) (x ∷ told) rest (asks here more) f = (subst (IsOwnRun c) (sym f.0) here, own_runs c (k x.1) told rest (more x.1) f.1)
 own_runs c (Over ran left) (x ∷ told) rest own f = absurd f
 own_runs c (Fail cause) (x ∷ told) rest own f = absurd f
 
 module _ (c : Command) where
-  needed_own : (f : ℕ) (go : ℕ → Talk) → ((t : ℕ) → OnlyOwn c (go t)) → (r : Reply) → OnlyOwn c (needed f go r)
+  needed_own : (f : ℕ) (go : ℕ → InteractionTree) → ((t : ℕ) → OnlyOwn c (go t)) → (r : Reply) → OnlyOwn c (needed f go r)
   needed_own f go own (StampIs zero) = has_failed
   needed_own f go own (StampIs (suc n)) = own (suc n)
   needed_own f go own (Entry command basis paths) = has_failed
@@ -33,7 +33,7 @@ module _ (c : Command) where
   needed_own f go own Kept = has_failed
   needed_own f go own Fault = has_failed
 
-  stamped_own : (go : ℕ → Talk) → ((t : ℕ) → OnlyOwn c (go t)) → (r : Reply) → OnlyOwn c (stamped go r)
+  stamped_own : (go : ℕ → InteractionTree) → ((t : ℕ) → OnlyOwn c (go t)) → (r : Reply) → OnlyOwn c (stamped go r)
   stamped_own go own (StampIs n) = own n
   stamped_own go own (Entry command basis paths) = has_failed
   stamped_own go own Nothing = has_failed
@@ -44,7 +44,7 @@ module _ (c : Command) where
   stamped_own go own Kept = has_failed
   stamped_own go own Fault = has_failed
 
-  recalled_own : (go : Option Recorded → Talk) → ((o : Option Recorded) → OnlyOwn c (go o)) → (r : Reply) → OnlyOwn c (recalled go r)
+  recalled_own : (go : Option Recorded → InteractionTree) → ((o : Option Recorded) → OnlyOwn c (go o)) → (r : Reply) → OnlyOwn c (recalled go r)
   recalled_own go own (Entry command basis paths) = own (Some (record { command = command; basis = basis; paths = paths }))
   recalled_own go own Nothing = own None
   recalled_own go own (StampIs n) = has_failed
@@ -55,7 +55,7 @@ module _ (c : Command) where
   recalled_own go own Kept = has_failed
   recalled_own go own Fault = has_failed
 
-  exited_own : (go : Talk) → OnlyOwn c go → (r : Reply) → OnlyOwn c (exited go r)
+  exited_own : (go : InteractionTree) → OnlyOwn c go → (r : Reply) → OnlyOwn c (exited go r)
   exited_own go own (Exit zero) = own
   exited_own go own (Exit (suc n)) = has_failed
   exited_own go own Signal = has_failed
@@ -67,11 +67,11 @@ module _ (c : Command) where
   exited_own go own Kept = has_failed
   exited_own go own Fault = has_failed
 
-  told_own : (go : List Path → Talk) → ((ps : List Path) → OnlyOwn c (go ps)) → (r : Result (List Path) (ℕ × ℕ)) → OnlyOwn c (told_paths go r)
+  told_own : (go : List Path → InteractionTree) → ((ps : List Path) → OnlyOwn c (go ps)) → (r : Result (List Path) (ℕ × ℕ)) → OnlyOwn c (told_paths go r)
   told_own go own (Ok ps) = own ps
   told_own go own (Err fault) = has_failed
 
-  read_own : (meaning : Meaning) (go : List Path → Talk) → ((ps : List Path) → OnlyOwn c (go ps)) → (r : Reply) → OnlyOwn c (read meaning go r)
+  read_own : (meaning : Meaning) (go : List Path → InteractionTree) → ((ps : List Path) → OnlyOwn c (go ps)) → (r : Reply) → OnlyOwn c (read meaning go r)
   read_own meaning go own (Bytes bytes) = told_own go own (meaning bytes)
   read_own meaning go own Nothing = own []
   read_own meaning go own (StampIs n) = has_failed
@@ -82,7 +82,7 @@ module _ (c : Command) where
   read_own meaning go own Kept = has_failed
   read_own meaning go own Fault = has_failed
 
-  kept_own : (go : Talk) → OnlyOwn c go → (r : Reply) → OnlyOwn c (kept go r)
+  kept_own : (go : InteractionTree) → OnlyOwn c go → (r : Reply) → OnlyOwn c (kept go r)
   kept_own go own Kept = own
   kept_own go own (StampIs n) = has_failed
   kept_own go own (Entry command basis paths) = has_failed
@@ -93,16 +93,16 @@ module _ (c : Command) where
   kept_own go own (Bytes bytes) = has_failed
   kept_own go own Fault = has_failed
 
-  inputs_own : (is : List Given) (go : List ℕ → Talk) → ((ts : List ℕ) → OnlyOwn c (go ts)) → OnlyOwn c (inputs is go)
+  inputs_own : (is : List Given) (go : List ℕ → InteractionTree) → ((ts : List ℕ) → OnlyOwn c (go ts)) → OnlyOwn c (inputs is go)
   inputs_own [] go own = own []
   inputs_own (SourceFile f path ∷ others) go own = asks tt (needed_own f _ (λ t. inputs_own others _ (λ ts. own (t ∷ ts))))
   inputs_own (Made t changed ∷ others) go own = inputs_own others _ (λ ts. own (t ∷ ts))
 
-  stamps_own : (ps : List Path) (go : List ℕ → Talk) → ((ts : List ℕ) → OnlyOwn c (go ts)) → OnlyOwn c (stamps ps go)
+  stamps_own : (ps : List Path) (go : List ℕ → InteractionTree) → ((ts : List ℕ) → OnlyOwn c (go ts)) → OnlyOwn c (stamps ps go)
   stamps_own [] go own = own []
   stamps_own (path ∷ others) go own = asks tt (stamped_own _ (λ t. stamps_own others _ (λ ts. own (t ∷ ts))))
 
-  depfile_own : (meaning : Meaning) (path : List ℕ) (go : List Path → Talk) → ((ps : List Path) → OnlyOwn c (go ps)) → OnlyOwn c (depfile meaning path go)
+  depfile_own : (meaning : Meaning) (path : List ℕ) (go : List Path → InteractionTree) → ((ps : List Path) → OnlyOwn c (go ps)) → OnlyOwn c (depfile meaning path go)
   depfile_own meaning [] go own = own []
   depfile_own meaning (x ∷ xs) go own = asks tt (read_own meaning go own)
 
@@ -110,7 +110,7 @@ module _ (c : Command) where
   runs_own meaning named old =
       asks (refl, refl) (exited_own _ (depfile_own meaning c.depfile _ (λ paths. stamps_own paths _ (λ swept. asks tt (kept_own _ (stamps_own c.outputs _ (λ new. is_over)))))))
 
-  either : (b : Bool) (x y : Talk) → OnlyOwn c x → OnlyOwn c y → OnlyOwn c (if b then x else y)
+  either : (b : Bool) (x y : InteractionTree) → OnlyOwn c x → OnlyOwn c y → OnlyOwn c (if b then x else y)
   either true x y own other = own
   either false x y own other = other
 
@@ -128,5 +128,5 @@ module _ (c : Command) where
   edge_own true meaning = phony_own
   edge_own false meaning = does_own meaning
 
-pub nothing_else : (phony : Bool) (meaning : Meaning) (c : Command) (told : List (Request × Reply)) (rest : Talk) → Follows (edge_does phony meaning c) told rest → AreOwnRuns c told
+pub nothing_else : (phony : Bool) (meaning : Meaning) (c : Command) (told : List (Request × Reply)) (rest : InteractionTree) → Follows (edge_does phony meaning c) told rest → AreOwnRuns c told
 nothing_else phony meaning c told rest f = own_runs c (edge_does phony meaning c) told rest (edge_own c phony meaning) f

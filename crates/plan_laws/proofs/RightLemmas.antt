@@ -12,14 +12,14 @@ use Rattle.plan_compile.specs.Images.{compiled}
 use Rattle.plan_compile.specs.Means.{Leaves}
 use Rattle.plan_compile.specs.Names.{all_texts}
 use Rattle.plan_compile.specs.Slots.{form_of, base, made, all_made}
-use Rattle.plan_compile.specs.Talk.{Left, Talk, Over as Done, Obeys, is_over, has_failed, moves, asks, Follows}
-use Rattle.plan_compile.specs.Told.{edge_does, facts, ImageIsShaped, ImageIsWired, ImageKeepsToRule}
+use Rattle.plan_compile.specs.InteractionTree.{Left, InteractionTree, Over as Done, Obeys, is_over, has_failed, moves, asks, Follows}
+use Rattle.plan_compile.specs.Told.{edge_does, facts, ImageIsShaped, ImageIsLaidOut, ImageKeepsToRule}
 use Rattle.plan_machine.specs.Depfile.{depfile}
 use Rattle.plan_machine.specs.Histories.{stage_of, EachRanByItself, SlotsStay}
 use Rattle.plan_machine.specs.State.{State, Status, Unbegun, Active, Over, outcome_at}
 use Rattle.plan_machine.specs.Step.{ended}
-use Rattle.plan_machine.specs.declared.mark.Mark.{Mark}
-use Rattle.plan_machine.specs.declared.mark.Outcome.TheVariants.{Clean, Ran, Failed, Skipped, Stopped, NotWanted}
+use Rattle.plan_machine.specs.declared.event.mark.Mark.{Mark}
+use Rattle.plan_machine.specs.declared.event.mark.Outcome.TheVariants.{Clean, Ran, Failed, Skipped, Stopped, NotWanted}
 use Rattle.plan_status.specs.Outcomes.{is_done, are_done}
 use Rattle.plan_lanes.specs.Journals.{Rule}
 use Rattle.plan_laws.specs.Ends.{EndsArePlain}
@@ -34,38 +34,38 @@ use Rattle.plan_laws.proofs.BegunLemmas.{WasStarted, Fits, FitsIn, runs_fit, ope
 same_ran : (a b : Bool) → ◌≡◌ {A = Stage} (Ended a) (Ended b) → a ≡ b
 same_ran a b e = cc
 
--- an edge that keeps to a talk and has ended: the talk is at its end
-over_at_end : (meaning : Meaning) (p : Parts) (e : ℕ) (Leaving : Slots → Left → Type 0) (x : Alone) (talk : Talk) → Obeys meaning p e Leaving x talk
-    → (ran : Bool) (slots : Slots) → x.stage ≡ Ended ran → x.slots ≡ slots → (left : Left) × (talk ≡ Done ran left) × Leaving slots left
-over_at_end meaning p e Leaving x talk (is_over {ran = b} {slots = old} {left = left} h) ran slots s z =
+-- If an edge follows an interaction tree and has ended, the root of the tree is an end.
+over_at_end : (meaning : Meaning) (p : Parts) (e : ℕ) (Leaving : Slots → Left → Type 0) (x : Alone) (interaction : InteractionTree) → Obeys meaning p e Leaving x interaction
+    → (ran : Bool) (slots : Slots) → x.stage ≡ Ended ran → x.slots ≡ slots → (left : Left) × (interaction ≡ Done ran left) × Leaving slots left
+over_at_end meaning p e Leaving x interaction (is_over {ran = b} {slots = old} {left = left} h) ran slots s z =
     (left, ap (λ (c : Bool). Done c left) (same_ran b ran s), subst (λ (w : Slots). Leaving w left) z h)
-over_at_end meaning p e Leaving x talk has_failed ran slots s z = absurd cc
-over_at_end meaning p e Leaving x talk (moves quiet o) ran slots s z = absurd cc
-over_at_end meaning p e Leaving x talk (asks loud q h) ran slots s z = absurd cc
+over_at_end meaning p e Leaving x interaction has_failed ran slots s z = absurd cc
+over_at_end meaning p e Leaving x interaction (moves quiet o) ran slots s z = absurd cc
+over_at_end meaning p e Leaving x interaction (asks loud q h) ran slots s z = absurd cc
 
 ended_stage : (ran : Bool) → stage_of (Over (ended ran)) ≡ Some (Ended ran)
 ended_stage true = refl
 ended_stage false = refl
 
-pub finished_edges_are_right : (allows : Rule) → RunsKeepToManifest allows → EndsArePlain → EachRanByItself → SlotsStay → ImageKeepsToRule → ImageIsShaped → ManifestsAreSound → ImageIsWired → FinishedEdgesAreRight allows
-finished_edges_are_right allows keeps plain own stay by_rule shaped whole wires rule m g sound graph limits targets r run e x ran there at =
+pub finished_edges_are_right : (allows : Rule) → RunsKeepToManifest allows → EndsArePlain → EachRanByItself → SlotsStay → ImageKeepsToRule → ImageIsShaped → ManifestsAreSound → ImageIsLaidOut → FinishedEdgesAreRight allows
+finished_edges_are_right allows keeps plain own stay by_rule shaped whole layouts rule m g sound graph limits targets r run e x ran there at =
     let t = builds rule m g in
-    let s = r.state.going.now in
+    let s = r.state.run_state.now in
     let n = base t.edges e in
     let k = keeps rule m g sound graph limits targets r run e x (Over (ended ran)) (Ended ran) there at (ended_stage ran) in
     let o = over_at_end depfile (compiled rule m g) e (Leaves (made n x)) (record { stage = Ended ran; slots = k.end }) k.rest k.keeps ran k.end refl refl in
-    let wired = wires t (whole rule m g sound graph) e x there in
-    let same = rule_same t (compiled rule m g) e k.slots s.slots k.lent x depfile (form_of x) (all_texts t.edges) n refl wired in
+    let laid_out = layouts t (whole rule m g sound graph) e x there in
+    let same = rule_same t (compiled rule m g) e k.slots s.slots k.lent x depfile (form_of x) (all_texts t.edges) n refl laid_out in
     let came : Follows (edge_does x.edge.phony depfile (facts t k.slots x)) k.conversation (Done ran o.0) =
-    subst (λ (talk : Talk). Follows (edge_does x.edge.phony depfile (facts t k.slots x)) k.conversation talk) o.1 k.follows in
-    let follows : Follows (edge_does x.edge.phony depfile (facts t s.slots x)) k.conversation (Done ran o.0) = subst (λ (talk : Talk). Follows talk k.conversation (Done ran o.0)) same came in
+    subst (λ (interaction : InteractionTree). Follows (edge_does x.edge.phony depfile (facts t k.slots x)) k.conversation interaction) o.1 k.follows in
+    let follows : Follows (edge_does x.edge.phony depfile (facts t s.slots x)) k.conversation (Done ran o.0) = subst (λ (interaction : InteractionTree). Follows interaction k.conversation (Done ran o.0)) same came in
     record {
       conversation = k.conversation;
-      answered = replies_allowed own by_rule wires stay allows t (whole rule m g sound graph) (shaped t (whole rule m g sound graph)) limits targets r.journal s run.allowed e x there (Done ran o.0) run.left run.reached k.conversation k.answered follows;
+      answered = replies_allowed own by_rule layouts stay allows t (whole rule m g sound graph) (shaped t (whole rule m g sound graph)) limits targets r.journal s run.allowed e x there (Done ran o.0) run.left run.reached k.conversation k.answered follows;
       left = o.0;
       follows = follows;
       succeeds = plain x.edge.phony depfile (facts t s.slots x) k.conversation ran o.0 follows;
-      leaves = leaves_by (compiled rule m g) e k.end s.slots k.own (form_of x) (all_texts t.edges) (all_made zero t.edges) n x o.0 wired o.2;
+      leaves = leaves_by (compiled rule m g) e k.end s.slots k.own (form_of x) (all_texts t.edges) (all_made zero t.edges) n x o.0 laid_out o.2;
     }
 
 -- ---- all edges
@@ -107,7 +107,7 @@ succeeded_edge e marks None done fits = absurd cc
 pub finished_runs_are_right : (allows : Rule) → FinishedEdgesAreRight allows → ImageIsFaithful → FinishedRunsAreRight allows
 finished_runs_are_right allows right faithful rule m g sound graph limits targets r run all e wanted =
     let p = compiled rule m g in
-    let s = r.state.going.now in
+    let s = r.state.run_state.now in
     let opens = run.reached.opens in
     let chosen : slice_get opens.wanted e ≡ Some true = (opens.are.each e).1 wanted in
     let inside : e < length p.edges = omega (arith, slice_get_within opens.wanted e true chosen, opens.are.long) in

@@ -6,18 +6,18 @@ use Rattle.plan_image.specs.declared.image.Parts.{Parts}
 use Rattle.plan_image.specs.declared.instr.Kind.TheVariants as kind
 use Rattle.plan_verify.specs.Tables.{owns, is_lent}
 use Rattle.plan_verify.specs.Turn.{Slots, Meaning}
-use Rattle.plan_compile.specs.declared.wiring.Input.{Input}
-use Rattle.plan_compile.specs.declared.wiring.Output.{Output}
-use Rattle.plan_compile.specs.declared.form.Form.{Form}
-use Rattle.plan_compile.specs.declared.form.Form.TheVariants.{OneFlag, OwnFlags, Gathers, Alone}
-use Rattle.plan_compile.specs.Talk.{Left, Talk, Over}
+use Rattle.plan_compile.specs.declared.layout.Input.{Input}
+use Rattle.plan_compile.specs.declared.layout.Output.{Output}
+use Rattle.plan_compile.specs.declared.slot_pattern.SlotPattern.{SlotPattern}
+use Rattle.plan_compile.specs.declared.slot_pattern.SlotPattern.TheVariants.{OneFlag, OwnFlags, Gathers, Alone}
+use Rattle.plan_compile.specs.InteractionTree.{Left, InteractionTree, Over}
 use Rattle.plan_compile.specs.Rule.{Path, Given, SourceFile, Made, Command, is_among, inputs, asked, alone, greatest, some_changed}
 use Rattle.plan_compile.specs.Rule.{has_none as has_none_given}
-use Rattle.plan_compile.specs.Means.{stamp_in, flag_in, Leaves, IsOwnOf, AreInputs, AreOutputs, Share, IsWired}
+use Rattle.plan_compile.specs.Means.{stamp_in, flag_in, Leaves, IsOwnOf, AreInputs, AreOutputs, Share, IsLaidOut}
 use Rattle.plan_compile.specs.Builds.{Build, Builds}
 use Rattle.plan_compile.specs.Slots.{has_none, form_by, form_of, outputs_by, all_made, find, input_by, inputs_by}
 use Rattle.plan_compile.specs.Names.{Text}
-use Rattle.plan_compile.specs.Images.{wire_by}
+use Rattle.plan_compile.specs.Images.{layout_by}
 use Rattle.plan_compile.specs.Told.{path_in, told_by, told, facts, edge_does}
 use Rattle.plan_laws.proofs.EndLemmas.{stamping}
 
@@ -40,13 +40,13 @@ module _ (p : Parts) (e : ℕ) (a b : Slots) (own : (k : ℕ) → owns p e k ≡
     leaves_shared stamp changed os left s c share.2 h.2,
   )
 
-  pub leaves_by : (form : Form) (texts : List Text) (all : List Output) (n : ℕ) (x : Build) (left : Left) → IsWired p e (wire_by form texts all n x) → Leaves (outputs_by form n x.outputs) a left → Leaves (outputs_by form n x.outputs) b left
+  pub leaves_by : (form : SlotPattern) (texts : List Text) (all : List Output) (n : ℕ) (x : Build) (left : Left) → IsLaidOut p e (layout_by form texts all n x) → Leaves (outputs_by form n x.outputs) a left → Leaves (outputs_by form n x.outputs) b left
   leaves_by OneFlag texts all n x left w h = leaves_own (outputs_by OneFlag n x.outputs) left w.outputs h
   leaves_by OwnFlags texts all n x left w h = leaves_own (outputs_by OwnFlags n x.outputs) left w.outputs h
   leaves_by Gathers texts all n x left w h = leaves_shared n (suc n) (outputs_by Gathers n x.outputs) left w.stamp w.changed w.share h
   leaves_by Alone texts all n x left w h = leaves_own (outputs_by Alone n x.outputs) left w.outputs h
 
--- ---- what an edge is told
+-- ---- the facts that the rule is applied to
 
 module _ (t : Builds) (p : Parts) (e : ℕ) (a b : Slots) (lent : (k : ℕ) → is_lent p e k ≡ true → slice_get a k ≡ slice_get b k) where
   abbrev all : List Output
@@ -71,7 +71,7 @@ module _ (t : Builds) (p : Parts) (e : ℕ) (a b : Slots) (lent : (k : ℕ) → 
   no_named false true (f ∷ fs) gs is = absurd cc
   no_named false false (f ∷ fs) gs is = absurd cc
 
-  named_by : (form : Form) (texts : List Text) (n : ℕ) (x : Build) → form_of x ≡ form → IsWired p e (wire_by form texts all n x) → map (told t a) x.named ≡ map (told t b) x.named
+  named_by : (form : SlotPattern) (texts : List Text) (n : ℕ) (x : Build) → form_of x ≡ form → IsLaidOut p e (layout_by form texts all n x) → map (told t a) x.named ≡ map (told t b) x.named
   named_by OneFlag texts n x is w = named_same x.named w.named
   named_by OwnFlags texts n x is w = named_same x.named w.named
   named_by Gathers texts n x is w = named_same x.named w.named
@@ -112,7 +112,7 @@ module _ (t : Builds) (p : Parts) (e : ℕ) (a b : Slots) (lent : (k : ℕ) → 
     abbrev after : List Given
     after = map (told t b) x.order_only
 
-    abbrev gathered : List ℕ → Talk
+    abbrev gathered : List ℕ → InteractionTree
     gathered ts = Over false (map (λ (path : Path). (greatest ts, some_changed named)) (map (path_in t) x.outputs))
 
     by_phony : (phony : Bool) → edge_does phony meaning (like named before) ≡ edge_does phony meaning (like named after)
@@ -121,6 +121,6 @@ module _ (t : Builds) (p : Parts) (e : ℕ) (a b : Slots) (lent : (k : ℕ) → 
         ap (λ (none : Bool). if has_none_given named && none then alone (map (path_in t) x.outputs) else inputs (asked named before) (λ ts. inputs named gathered)) (none_same x.order_only)
         ∙ ap (λ (gs : List Given). if has_none_given named && has_none_given after then alone (map (path_in t) x.outputs) else inputs gs (λ ts. inputs named gathered)) (asked_same named x.order_only)
 
-    pub rule_same : (form : Form) (texts : List Text) (n : ℕ) → form_of x ≡ form → IsWired p e (wire_by form texts all n x) → edge_does x.edge.phony meaning (facts t a x) ≡ edge_does x.edge.phony meaning (facts t b x)
+    pub rule_same : (form : SlotPattern) (texts : List Text) (n : ℕ) → form_of x ≡ form → IsLaidOut p e (layout_by form texts all n x) → edge_does x.edge.phony meaning (facts t a x) ≡ edge_does x.edge.phony meaning (facts t b x)
     rule_same form texts n is w =
         ap (λ (gs : List Given). edge_does x.edge.phony meaning (like gs before)) (named_by form texts n x is w) ∙ by_phony x.edge.phony

@@ -1,7 +1,7 @@
 -- The conversation of an edge that succeeded: all its questions, each with its reply.
 use Rattle.std.specs.Prelude.{◌≡◌, ◌<◌, ℕ, Bool, true, false, Ok, List, [], ◌∷◌, ◌++◌, length, Option, Some, None}
 use Rattle.plan_verify.specs.Turn.{Meaning, Request, Stat, Recall, Run, Deps, Keep, Reply as Answer, StampIs, Entry, Nothing, Exit, Bytes, Kept}
-use Rattle.plan_compile.specs.Talk.{Left, Over, Follows}
+use Rattle.plan_compile.specs.InteractionTree.{Left, Over, Follows}
 use Rattle.plan_compile.specs.Rule.{Path, Given, SourceFile, Made, Command, Recorded, asked, greatest, is_dirty, paths_in, name, unchanged, changed}
 use Rattle.plan_compile.specs.Told.{edge_does}
 

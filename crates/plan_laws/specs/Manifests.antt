@@ -14,7 +14,7 @@ use Rattle.plan_compile.specs.Images.{compiled}
 use Rattle.plan_compile.specs.Means.{Leaves}
 use Rattle.plan_compile.specs.Rule.{Command}
 use Rattle.plan_compile.specs.Slots.{base, made}
-use Rattle.plan_compile.specs.Talk.{Talk, Obeys, Follows}
+use Rattle.plan_compile.specs.InteractionTree.{InteractionTree, Obeys, Follows}
 use Rattle.plan_compile.specs.Told.{edge_does, facts}
 use Rattle.plan_machine.specs.Agreement.{replies_to}
 use Rattle.plan_machine.specs.Depfile.{depfile}
@@ -22,7 +22,7 @@ use Rattle.plan_machine.specs.Histories.{stage_of}
 use Rattle.plan_machine.specs.Limits.{Limits}
 use Rattle.plan_machine.specs.State.{State, Status}
 use Rattle.plan_machine.specs.Step.{answer_of}
-use Rattle.plan_machine.specs.declared.reply.Reply.{Reply}
+use Rattle.plan_machine.specs.declared.event.reply.Reply.{Reply}
 use Rattle.plan_lanes.specs.Journals.{Rule}
 use Rattle.plan_lanes.specs.Reports.{IsRunOf}
 use Rattle.plan_lanes.specs.declared.board.Report.{Report}
@@ -34,7 +34,7 @@ pub record KeepsToRule (rule : OutOfDateRule) (m : Manifest) (g : Graph) (s : St
   pub lent : (k : ℕ) → is_lent (compiled rule m g) e k ≡ true → slice_get slots k ≡ slice_get s.slots k
   pub conversation : List (Request × Answer)
   pub answered : map {B = Answer} (λ x. x.1) conversation ≡ map answer_of replies
-  pub rest : Talk
+  pub rest : InteractionTree
   pub follows : Follows (edge_does x.edge.phony depfile (facts (builds rule m g) slots x)) conversation rest
   pub end : Slots
   pub own : (k : ℕ) → owns (compiled rule m g) e k ≡ true → slice_get end k ≡ slice_get s.slots k
@@ -46,8 +46,8 @@ abbrev pub RunsKeepToManifest : Rule → Type 0
 RunsKeepToManifest allows =
     (rule : OutOfDateRule) (m : Manifest) (g : Graph) → IsSound m → IsGraph m g → (limits : Limits) (targets : List ℕ) (r : Report)
     → IsRunOf allows (record { parts = compiled rule m g; limits = limits; targets = targets }) r
-    → (e : ℕ) (x : Build) (status : Status) (stage : Stage) → IsEdge (builds rule m g) e x → slice_get r.state.going.now.edges e ≡ Some status → stage_of status ≡ Some stage
-    → KeepsToRule rule m g r.state.going.now e x (replies_to e r.journal) stage
+    → (e : ℕ) (x : Build) (status : Status) (stage : Stage) → IsEdge (builds rule m g) e x → slice_get r.state.run_state.now.edges e ≡ Some status → stage_of status ≡ Some stage
+    → KeepsToRule rule m g r.state.run_state.now e x (replies_to e r.journal) stage
 
 -- ---- which commands run
 
@@ -63,5 +63,5 @@ AreOwnRuns c (x ∷ xs) = IsOwnRun c x.0 × AreOwnRuns c xs
 -- Whatever is replied, a conversation that follows the rule of an edge runs nothing else.
 abbrev pub NothingElseRuns : Type 0
 NothingElseRuns =
-    (phony : Bool) (meaning : Meaning) (c : Command) (conversation : List (Request × Answer)) (rest : Talk)
+    (phony : Bool) (meaning : Meaning) (c : Command) (conversation : List (Request × Answer)) (rest : InteractionTree)
     → Follows (edge_does phony meaning c) conversation rest → AreOwnRuns c conversation

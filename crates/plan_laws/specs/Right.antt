@@ -13,7 +13,7 @@ use Rattle.plan_compile.specs.Faithful.{IsEdge}
 use Rattle.plan_compile.specs.Images.{compiled}
 use Rattle.plan_compile.specs.Means.{Leaves}
 use Rattle.plan_compile.specs.Slots.{base, made}
-use Rattle.plan_compile.specs.Talk.{Left, Over as Done, Follows}
+use Rattle.plan_compile.specs.InteractionTree.{Left, Over as Done, Follows}
 use Rattle.plan_compile.specs.Told.{edge_does, facts}
 use Rattle.plan_machine.specs.Agreement.{replies_to}
 use Rattle.plan_machine.specs.Depfile.{depfile}
@@ -21,9 +21,9 @@ use Rattle.plan_machine.specs.Limits.{Limits}
 use Rattle.plan_machine.specs.State.{State, Over}
 use Rattle.plan_machine.specs.Step.{answer_of, ended}
 use Rattle.plan_machine.specs.Wanted.{IsWanted}
-use Rattle.plan_machine.specs.declared.mark.Mark.{Mark}
-use Rattle.plan_machine.specs.declared.mark.Mark.TheVariants.{Started, Ended}
-use Rattle.plan_machine.specs.declared.reply.Reply.{Reply}
+use Rattle.plan_machine.specs.declared.event.mark.Mark.{Mark}
+use Rattle.plan_machine.specs.declared.event.mark.Mark.TheVariants.{Started, Ended}
+use Rattle.plan_machine.specs.declared.event.reply.Reply.{Reply}
 use Rattle.plan_status.specs.Outcomes.{all_done}
 use Rattle.plan_lanes.specs.Journals.{Rule}
 use Rattle.plan_lanes.specs.Reports.{IsRunOf}
@@ -54,8 +54,8 @@ abbrev pub FinishedEdgesAreRight : Rule → Type 0
 FinishedEdgesAreRight allows =
     (rule : OutOfDateRule) (m : Manifest) (g : Graph) → IsSound m → IsGraph m g → (limits : Limits) (targets : List ℕ) (r : Report)
     → IsRunOf allows (record { parts = compiled rule m g; limits = limits; targets = targets }) r
-    → (e : ℕ) (x : Build) (ran : Bool) → IsEdge (builds rule m g) e x → slice_get r.state.going.now.edges e ≡ Some (Over (ended ran))
-    → IsRight allows rule m g r.state.going.now e x (replies_to e r.journal) ran
+    → (e : ℕ) (x : Build) (ran : Bool) → IsEdge (builds rule m g) e x → slice_get r.state.run_state.now.edges e ≡ Some (Over (ended ran))
+    → IsRight allows rule m g r.state.run_state.now e x (replies_to e r.journal) ran
 
 -- ---- a run
 
@@ -70,9 +70,9 @@ pub record IsBuilt (allows : Rule) (rule : OutOfDateRule) (m : Manifest) (g : Gr
   pub edge : Build
   pub there : IsEdge (builds rule m g) e edge
   pub ran : Bool
-  pub succeeded : slice_get r.state.going.now.edges e ≡ Some (Over (ended ran))
+  pub succeeded : slice_get r.state.run_state.now.edges e ≡ Some (Over (ended ran))
   pub order : BeganInOrder (compiled rule m g) marks e
-  pub right : IsRight allows rule m g r.state.going.now e edge (replies_to e r.journal) ran
+  pub right : IsRight allows rule m g r.state.run_state.now e edge (replies_to e r.journal) ran
 
 -- Each wanted edge is built: the targets, or the defaults if there are no targets, and everything that these wait for.
 abbrev pub AllIsBuilt : Rule → OutOfDateRule → Manifest → Graph → List ℕ → Report → List Mark → Type 0
@@ -83,5 +83,5 @@ abbrev pub FinishedRunsAreRight : Rule → Type 0
 FinishedRunsAreRight allows =
     (rule : OutOfDateRule) (m : Manifest) (g : Graph) → IsSound m → IsGraph m g → (limits : Limits) (targets : List ℕ) (r : Report)
     → (run : IsRunOf allows (record { parts = compiled rule m g; limits = limits; targets = targets }) r)
-    → all_done (compiled rule m g) r.state.going.now ≡ true
+    → all_done (compiled rule m g) r.state.run_state.now ≡ true
     → AllIsBuilt allows rule m g targets r run.left

@@ -6,7 +6,7 @@ ghost use Rattle.plan_laws.specs.Reasons.{ReasonsAreCauses};
 ghost use Rattle.plan_laws.specs.Right.{FinishedEdgesAreRight, FinishedRunsAreRight};
 
 use plan_compile::{
-    image_is_faithful, image_is_shaped, image_is_wired, image_keeps_to_rule, manifests_are_sound,
+    image_is_faithful, image_is_laid_out, image_is_shaped, image_keeps_to_rule, manifests_are_sound,
 };
 use plan_lanes::World;
 use plan_machine::{each_ran_by_itself, slots_stay};
@@ -55,7 +55,7 @@ pub fn finished_edges_are_right<W: World>()
     image_keeps_to_rule();
     image_is_shaped();
     manifests_are_sound();
-    image_is_wired();
+    image_is_laid_out();
 }
 
 /// If all that was wanted succeeded in a run of a manifest's image, then each wanted edge of the manifest began after

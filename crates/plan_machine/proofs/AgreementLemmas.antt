@@ -12,10 +12,10 @@ use Rattle.plan_verify.specs.Turn.{Slots, begun, Meaning}
 use Rattle.plan_verify.specs.WellShaped.{IsWellShaped}
 use Rattle.plan_verify.specs.Alone.{Stage, Runs, Ended, Failed as Broke, WentWrong}
 use Rattle.plan_machine.proofs.ListLemmas.{and_both}
-use Rattle.plan_machine.specs.declared.reply.Reply.{Reply}
-use Rattle.plan_machine.specs.declared.mark.Outcome.{Outcome}
-use Rattle.plan_machine.specs.declared.mark.Outcome.TheVariants.{Clean, Ran, Failed, Skipped, Stopped, NotWanted}
-use Rattle.plan_machine.specs.State.{Status, Unbegun, Active, Over, State, is_well, is_ill, is_over, passes, stands, has_ended, outcome_at}
+use Rattle.plan_machine.specs.declared.event.reply.Reply.{Reply}
+use Rattle.plan_machine.specs.declared.event.mark.Outcome.{Outcome}
+use Rattle.plan_machine.specs.declared.event.mark.Outcome.TheVariants.{Clean, Ran, Failed, Skipped, Stopped, NotWanted}
+use Rattle.plan_machine.specs.State.{Status, Unbegun, Active, Over, State, has_succeeded, is_unsuccessful, is_over, passes, stands, has_ended, outcome_at}
 use Rattle.plan_machine.specs.Step.{ended}
 use Rattle.plan_machine.specs.Wanted.{AreWanted}
 use Rattle.plan_machine.specs.Agreement.{AreAlike, BothAlike, EndAlike, InterleavingsAgree}
@@ -90,13 +90,13 @@ module _ (laws : VerifyLaws) (meaning : Meaning) (p : Parts) (shaped : IsWellSha
   same_stands test skips e h = ap (passes test) h.here ∙ alike_test test skips h.first h.second h.alike ∙ sym (ap (passes test) h.there)
 
   -- no wait succeeded in one run and failed in the other
-  clash_well : (e w : ℕ) → SameWaits e → is_member w (waits_of p e) ≡ true → stands is_well s w ≡ true → stands is_ill t w ≡ true → ⊥
-  clash_well e w waits wait well ill = by x.second (ap (passes is_well) (sym x.there) ∙ sym (same_stands is_well (λ v w. refl) w x) ∙ well) (ap (passes is_ill) (sym x.there) ∙ ill)
+  clash_well : (e w : ℕ) → SameWaits e → is_member w (waits_of p e) ≡ true → stands has_succeeded s w ≡ true → stands is_unsuccessful t w ≡ true → ⊥
+  clash_well e w waits wait well ill = by x.second (ap (passes has_succeeded) (sym x.there) ∙ sym (same_stands has_succeeded (λ v w. refl) w x) ∙ well) (ap (passes is_unsuccessful) (sym x.there) ∙ ill)
     where
       x : Same w
       x = waits w wait
 
-      by : (y : Outcome) → is_well (Over y) ≡ true → is_ill (Over y) ≡ true → ⊥
+      by : (y : Outcome) → has_succeeded (Over y) ≡ true → is_unsuccessful (Over y) ≡ true → ⊥
       by Clean h k = absurd cc
       by Ran h k = absurd cc
       by (Failed cause) h k = absurd cc
@@ -104,9 +104,9 @@ module _ (laws : VerifyLaws) (meaning : Meaning) (p : Parts) (shaped : IsWellSha
       by Stopped h k = absurd cc
       by NotWanted h k = absurd cc
 
-  clash_ill : (e w : ℕ) → SameWaits e → is_member w (waits_of p e) ≡ true → stands is_ill s w ≡ true → stands is_well t w ≡ true → ⊥
+  clash_ill : (e w : ℕ) → SameWaits e → is_member w (waits_of p e) ≡ true → stands is_unsuccessful s w ≡ true → stands has_succeeded t w ≡ true → ⊥
   clash_ill e w waits wait ill well =
-      clash_well e w waits wait (same_stands is_well (λ v w. refl) w (waits w wait) ∙ well) (sym (same_stands is_ill (λ v w. refl) w (waits w wait)) ∙ ill)
+      clash_well e w waits wait (same_stands has_succeeded (λ v w. refl) w (waits w wait) ∙ well) (sym (same_stands is_unsuccessful (λ v w. refl) w (waits w wait)) ∙ ill)
 
   same_at : (w k : ℕ) → owns p w k ≡ true → Same w → slice_get s.slots k ≡ slice_get t.slots k
   same_at w k own h = sym (only_on (owns p w) s.slots k own) ∙ ap (λ (x : Slots). slice_get x k) h.own ∙ only_on (owns p w) t.slots k own

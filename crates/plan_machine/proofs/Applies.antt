@@ -11,16 +11,16 @@ use Rattle.plan_verify.specs.Tables.{waits_of}
 use Rattle.plan_verify.specs.Turn.{Slots, Local, begun, Turn, act, act_at, turn}
 use Rattle.plan_machine.proofs.ListLemmas.{get_same, when_true, when_false, and_both}
 use Rattle.plan_machine.specs.declared.event.Event.TheVariants.{Start, Skip, Stop, Step}
-use Rattle.plan_machine.specs.declared.mark.Mark.{Mark}
-use Rattle.plan_machine.specs.declared.mark.Mark.TheVariants as mark
-use Rattle.plan_machine.specs.declared.mark.Outcome.TheVariants.{Failed, Skipped, Stopped}
-use Rattle.plan_machine.specs.State.{Status, Unbegun, Active, Over, is_well, is_ill, passes, stands, with_status}
+use Rattle.plan_machine.specs.declared.event.mark.Mark.{Mark}
+use Rattle.plan_machine.specs.declared.event.mark.Mark.TheVariants as mark
+use Rattle.plan_machine.specs.declared.event.mark.Outcome.TheVariants.{Failed, Skipped, Stopped}
+use Rattle.plan_machine.specs.State.{Status, Unbegun, Active, Over, has_succeeded, is_unsuccessful, passes, stands, with_status}
 use Rattle.plan_machine.specs.Places.{is_spent, is_free, at_take}
-use Rattle.plan_machine.specs.declared.refused.Refused.TheVariants as refused
-use Rattle.plan_machine.specs.declared.turned.Turned.{Turned}
-use Rattle.plan_machine.specs.declared.turned.Turned.TheVariants as turned
+use Rattle.plan_machine.specs.declared.run.refused.Refused.TheVariants as refused
+use Rattle.plan_machine.specs.declared.edge.turned.Turned.{Turned}
+use Rattle.plan_machine.specs.declared.edge.turned.Turned.TheVariants as turned
 use Rattle.plan_machine.specs.Step.{Stepped, Next, NotEnabled, ended, stepped, starts, skips, stops, steps, settles, step}
-use Rattle.plan_machine.specs.Going.{Going}
+use Rattle.plan_machine.specs.RunState.{RunState}
 use Rattle.plan_machine.specs.Working.{Works}
 use Rattle.plan_machine.specs.Turned.{IsTurned}
 use Rattle.plan_machine.specs.Applying.{Applied, is_unbegun, may_stop_by, may_step_by, HasTurned, Settles}
@@ -32,51 +32,51 @@ passes_within test l e h = by (slice_get l e) refl h
     by None at h = absurd cc
     by (Some st) at h = slice_get_within l e st at
 
-module _ (p : Parts) (g : Going) (e : ℕ) where
-  abbrev Left : Status → Going
+module _ (p : Parts) (g : RunState) (e : ℕ) where
+  abbrev Left : Status → RunState
   Left status = record { limits = g.limits; now = with_status g.now e status }
 
   abbrev can_start : Bool
-  can_start = passes is_unbegun (slice_get g.now.edges e) && list_all (stands is_well g.now) (waits_of p e)
+  can_start = passes is_unbegun (slice_get g.now.edges e) && list_all (stands has_succeeded g.now) (waits_of p e)
 
-  starts_by : (o : Option Status) → (passes is_unbegun o && list_all (stands is_well g.now) (waits_of p e)) ≡ true → starts p g.now e o ≡ Next (with_status g.now e (Active begun)) (mark.Started e)
-  starts_by (Some Unbegun) h = when_true (λ (x : Stepped). x ≡ Next (with_status g.now e (Active begun)) (mark.Started e)) (list_all (stands is_well g.now) (waits_of p e)) _ _ h refl
+  starts_by : (o : Option Status) → (passes is_unbegun o && list_all (stands has_succeeded g.now) (waits_of p e)) ≡ true → starts p g.now e o ≡ Next (with_status g.now e (Active begun)) (mark.Started e)
+  starts_by (Some Unbegun) h = when_true (λ (x : Stepped). x ≡ Next (with_status g.now e (Active begun)) (mark.Started e)) (list_all (stands has_succeeded g.now) (waits_of p e)) _ _ h refl
   starts_by None h = absurd cc
   starts_by (Some (Active l)) h = absurd cc
   starts_by (Some (Over outcome)) h = absurd cc
 
-  starts_not_by : (o : Option Status) → (passes is_unbegun o && list_all (stands is_well g.now) (waits_of p e)) ≡ false → starts p g.now e o ≡ NotEnabled
-  starts_not_by (Some Unbegun) h = when_false (λ (x : Stepped). x ≡ NotEnabled) (list_all (stands is_well g.now) (waits_of p e)) _ _ h refl
+  starts_not_by : (o : Option Status) → (passes is_unbegun o && list_all (stands has_succeeded g.now) (waits_of p e)) ≡ false → starts p g.now e o ≡ NotEnabled
+  starts_not_by (Some Unbegun) h = when_false (λ (x : Stepped). x ≡ NotEnabled) (list_all (stands has_succeeded g.now) (waits_of p e)) _ _ h refl
   starts_not_by None h = refl
   starts_not_by (Some (Active l)) h = refl
   starts_not_by (Some (Over outcome)) h = refl
 
-  pub start_is : (b : Bool) (new : Going) → b ≡ can_start → b ≡ true → new ≡ Left (Active begun) → Applied p g (Start e) (Ok (mark.Started e)) new
+  pub start_is : (b : Bool) (new : RunState) → b ≡ can_start → b ≡ true → new ≡ Left (Active begun) → Applied p g (Start e) (Ok (mark.Started e)) new
   unfolding step
-  start_is b new is on left = (starts_by (slice_get g.now.edges e) (sym is ∙ on) ∙ ap (λ (x : Going). Next x.now (mark.Started e)) (sym left), ap (λ (x : Going). x.limits) left)
+  start_is b new is on left = (starts_by (slice_get g.now.edges e) (sym is ∙ on) ∙ ap (λ (x : RunState). Next x.now (mark.Started e)) (sym left), ap (λ (x : RunState). x.limits) left)
 
   pub start_not : (b : Bool) → b ≡ can_start → b ≡ false → Applied p g (Start e) (Err refused.NotEnabled) g
   unfolding step
   start_not b is off = (starts_not_by (slice_get g.now.edges e) (sym is ∙ off), refl)
 
   abbrev can_skip : ℕ → Bool
-  can_skip w = passes is_unbegun (slice_get g.now.edges e) && (is_member w (waits_of p e) && stands is_ill g.now w)
+  can_skip w = passes is_unbegun (slice_get g.now.edges e) && (is_member w (waits_of p e) && stands is_unsuccessful g.now w)
 
-  skips_by : (w : ℕ) (o : Option Status) → (passes is_unbegun o && (is_member w (waits_of p e) && stands is_ill g.now w)) ≡ true → skips p g.now e w o ≡ Next (with_status g.now e (Over (Skipped w))) (mark.Skipped e w)
-  skips_by w (Some Unbegun) h = when_true (λ (x : Stepped). x ≡ Next (with_status g.now e (Over (Skipped w))) (mark.Skipped e w)) (is_member w (waits_of p e) && stands is_ill g.now w) _ _ h refl
+  skips_by : (w : ℕ) (o : Option Status) → (passes is_unbegun o && (is_member w (waits_of p e) && stands is_unsuccessful g.now w)) ≡ true → skips p g.now e w o ≡ Next (with_status g.now e (Over (Skipped w))) (mark.Skipped e w)
+  skips_by w (Some Unbegun) h = when_true (λ (x : Stepped). x ≡ Next (with_status g.now e (Over (Skipped w))) (mark.Skipped e w)) (is_member w (waits_of p e) && stands is_unsuccessful g.now w) _ _ h refl
   skips_by w None h = absurd cc
   skips_by w (Some (Active l)) h = absurd cc
   skips_by w (Some (Over outcome)) h = absurd cc
 
-  skips_not_by : (w : ℕ) (o : Option Status) → (passes is_unbegun o && (is_member w (waits_of p e) && stands is_ill g.now w)) ≡ false → skips p g.now e w o ≡ NotEnabled
-  skips_not_by w (Some Unbegun) h = when_false (λ (x : Stepped). x ≡ NotEnabled) (is_member w (waits_of p e) && stands is_ill g.now w) _ _ h refl
+  skips_not_by : (w : ℕ) (o : Option Status) → (passes is_unbegun o && (is_member w (waits_of p e) && stands is_unsuccessful g.now w)) ≡ false → skips p g.now e w o ≡ NotEnabled
+  skips_not_by w (Some Unbegun) h = when_false (λ (x : Stepped). x ≡ NotEnabled) (is_member w (waits_of p e) && stands is_unsuccessful g.now w) _ _ h refl
   skips_not_by w None h = refl
   skips_not_by w (Some (Active l)) h = refl
   skips_not_by w (Some (Over outcome)) h = refl
 
-  pub skip_is : (w : ℕ) (b : Bool) (new : Going) → b ≡ can_skip w → b ≡ true → new ≡ Left (Over (Skipped w)) → Applied p g (Skip e w) (Ok (mark.Skipped e w)) new
+  pub skip_is : (w : ℕ) (b : Bool) (new : RunState) → b ≡ can_skip w → b ≡ true → new ≡ Left (Over (Skipped w)) → Applied p g (Skip e w) (Ok (mark.Skipped e w)) new
   unfolding step
-  skip_is w b new is on left = (skips_by w (slice_get g.now.edges e) (sym is ∙ on) ∙ ap (λ (x : Going). Next x.now (mark.Skipped e w)) (sym left), ap (λ (x : Going). x.limits) left)
+  skip_is w b new is on left = (skips_by w (slice_get g.now.edges e) (sym is ∙ on) ∙ ap (λ (x : RunState). Next x.now (mark.Skipped e w)) (sym left), ap (λ (x : RunState). x.limits) left)
 
   pub skip_not : (w : ℕ) (b : Bool) → b ≡ can_skip w → b ≡ false → Applied p g (Skip e w) (Err refused.NotEnabled) g
   unfolding step
@@ -101,19 +101,19 @@ module _ (p : Parts) (g : Going) (e : ℕ) where
   stops_not_by None h = refl
   stops_not_by (Some (Over outcome)) h = refl
 
-  pub stop_is : (b : Bool) (new : Going) → b ≡ can_stop → b ≡ true → new ≡ Left (Over Stopped) → Applied p g (Stop e) (Ok (mark.Stopped e)) new
+  pub stop_is : (b : Bool) (new : RunState) → b ≡ can_stop → b ≡ true → new ≡ Left (Over Stopped) → Applied p g (Stop e) (Ok (mark.Stopped e)) new
   unfolding step
-  stop_is b new is on left = (stops_by (slice_get g.now.edges e) (sym is ∙ on) ∙ ap (λ (x : Going). Next x.now (mark.Stopped e)) (sym left), ap (λ (x : Going). x.limits) left)
+  stop_is b new is on left = (stops_by (slice_get g.now.edges e) (sym is ∙ on) ∙ ap (λ (x : RunState). Next x.now (mark.Stopped e)) (sym left), ap (λ (x : RunState). x.limits) left)
 
   pub stop_not : (b : Bool) → b ≡ can_stop → b ≡ false → Applied p g (Stop e) (Err refused.NotEnabled) g
   unfolding step
   stop_not b is off = (stops_not_by (slice_get g.now.edges e) (sym is ∙ off), refl)
 
   pub start_within : (b : Bool) → b ≡ can_start → b ≡ true → e < length g.now.edges
-  start_within b is on = passes_within is_unbegun g.now.edges e (and_both (passes is_unbegun (slice_get g.now.edges e)) (list_all (stands is_well g.now) (waits_of p e)) (sym is ∙ on)).0
+  start_within b is on = passes_within is_unbegun g.now.edges e (and_both (passes is_unbegun (slice_get g.now.edges e)) (list_all (stands has_succeeded g.now) (waits_of p e)) (sym is ∙ on)).0
 
   pub skip_within : (w : ℕ) (b : Bool) → b ≡ can_skip w → b ≡ true → e < length g.now.edges
-  skip_within w b is on = passes_within is_unbegun g.now.edges e (and_both (passes is_unbegun (slice_get g.now.edges e)) (is_member w (waits_of p e) && stands is_ill g.now w) (sym is ∙ on)).0
+  skip_within w b is on = passes_within is_unbegun g.now.edges e (and_both (passes is_unbegun (slice_get g.now.edges e)) (is_member w (waits_of p e) && stands is_unsuccessful g.now w) (sym is ∙ on)).0
 
   -- an edge that may be stopped is in the image
   pub stop_within : (b : Bool) → b ≡ can_stop → b ≡ true → e < length g.now.edges
@@ -139,14 +139,14 @@ set_again [] i x y = refl
 set_again {A} (z ∷ xs) zero x y = refl
 set_again {A} (z ∷ xs) (suc i) x y = ap (λ (l : List A). z ∷ l) (set_again xs i x y)
 
-module _ (p : Parts) (e : ℕ) (old mid new : Going) (r : Turned) (told : Mark) (h : HasTurned p old e r mid) where
+module _ (p : Parts) (e : ℕ) (old mid new : RunState) (r : Turned) (told : Mark) (h : HasTurned p old e r mid) where
   -- the state in between
   here : slice_get mid.now.edges e ≡ Some (Active h.after)
-  here = ap (λ (g : Going). slice_get g.now.edges e) h.left ∙ get_same old.now.edges e (Active h.after) (slice_get_within old.now.edges e (Active h.before) h.now)
+  here = ap (λ (g : RunState). slice_get g.now.edges e) h.left ∙ get_same old.now.edges e (Active h.after) (slice_get_within old.now.edges e (Active h.before) h.now)
 
   over : (status : Status) → new ≡ record { limits = mid.limits; now = with_status mid.now e status } → h.slots ≡ old.now.slots → new ≡ record { limits = old.limits; now = with_status old.now e status }
   over status is same =
-      is ∙ ap (λ (g : Going). record { limits = g.limits; now = with_status g.now e status }) h.left
+      is ∙ ap (λ (g : RunState). record { limits = g.limits; now = with_status g.now e status }) h.left
       ∙ ap (λ (l : List Status). record { limits = old.limits; now = record { edges = l; slots = h.slots } }) (set_again old.now.edges e (Active h.after) status)
       ∙ ap (λ (k : Slots). record { limits = old.limits; now = record { edges = slice_set old.now.edges e status; slots = k } }) same
 
@@ -157,7 +157,7 @@ module _ (p : Parts) (e : ℕ) (old mid new : Going) (r : Turned) (told : Mark) 
   unfolding Fits-in
   on_by m t k mark_is same slots is =
       let left = same ∙ h.left ∙ ap (λ (x : Slots). record { limits = old.limits; now = record { edges = slice_set old.now.edges e (Active h.after); slots = x } }) slots in
-      (is ∙ ap (λ (x : Mark). Next (record { edges = slice_set old.now.edges e (Active h.after); slots = k }) x) (sym mark_is) ∙ ap (λ (g : Going). Next g.now told) (sym left), ap (λ (g : Going). g.limits) left)
+      (is ∙ ap (λ (x : Mark). Next (record { edges = slice_set old.now.edges e (Active h.after); slots = k }) x) (sym mark_is) ∙ ap (λ (g : RunState). Next g.now told) (sym left), ap (λ (g : RunState). g.limits) left)
 
   settled : IsTurned r h.before h.after old.now.slots h.slots (turn p e old.now.slots h.before) → Settles mid e r told new → Fits-in (settles old.now e h.before (stepped e) (turn p e old.now.slots h.before))
   unfolding Fits-in
@@ -174,12 +174,12 @@ module _ (p : Parts) (e : ℕ) (old mid new : Going) (r : Turned) (told : Mark) 
           let both = s h.after here in
           let left = over (Over (ended h.after.ran)) both.1 m.1 in (
             ap (settles old.now e h.before (stepped e)) m.0.0 ∙ ap (λ (l : Local). Next (with_status old.now e (Over (ended l.ran))) (mark.Ended e l.ran)) (sym m.0.1)
-                ∙ ap (λ (x : Mark). Next (with_status old.now e (Over (ended h.after.ran))) x) (sym both.0) ∙ ap (λ (g : Going). Next g.now told) (sym left),
-            ap (λ (g : Going). g.limits) left,
+                ∙ ap (λ (x : Mark). Next (with_status old.now e (Over (ended h.after.ran))) x) (sym both.0) ∙ ap (λ (g : RunState). Next g.now told) (sym left),
+            ap (λ (g : RunState). g.limits) left,
           )
       by (turned.Failed cause) t m s =
           let left = over (Over (Failed cause)) s.1 m.1 in
-          (ap (settles old.now e h.before (stepped e)) m.0 ∙ ap (λ (x : Mark). Next (with_status old.now e (Over (Failed cause))) x) (sym s.0) ∙ ap (λ (g : Going). Next g.now told) (sym left), ap (λ (g : Going). g.limits) left)
+          (ap (settles old.now e h.before (stepped e)) m.0 ∙ ap (λ (x : Mark). Next (with_status old.now e (Over (Failed cause))) x) (sym s.0) ∙ ap (λ (g : RunState). Next g.now told) (sym left), ap (λ (g : RunState). g.limits) left)
 
   not_on : (a : Bool) → not a ≡ true → a ≡ false
   not_on true h = absurd cc
@@ -195,7 +195,7 @@ module _ (p : Parts) (e : ℕ) (old mid new : Going) (r : Turned) (told : Mark) 
   pub settle_within : e < length mid.now.edges
   settle_within = slice_get_within mid.now.edges e (Active h.after) here
 
-pub step_not : (p : Parts) (g : Going) (e : ℕ) (b : Bool) → b ≡ may_step_by p g.limits g.now e (slice_get g.now.edges e) → b ≡ false → Applied p g (Step e) (Err refused.NotEnabled) g
+pub step_not : (p : Parts) (g : RunState) (e : ℕ) (b : Bool) → b ≡ may_step_by p g.limits g.now e (slice_get g.now.edges e) → b ≡ false → Applied p g (Step e) (Err refused.NotEnabled) g
 unfolding step
 step_not p g e b is off = (by (slice_get g.now.edges e) (sym is ∙ off), refl)
   where
@@ -209,7 +209,7 @@ step_not p g e b is off = (by (slice_get g.now.edges e) (sym is ∙ off), refl)
     by (Some (Over outcome)) h = refl
     by (Some (Active l)) h = when_true (λ (x : Stepped). x ≡ NotEnabled) (l.asked || (at_take p e l && not (is_free p g.limits g.now e))) _ _ (off_not _ h) refl
 
-pub step_active : (p : Parts) (g : Going) (e : ℕ) (b : Bool) → b ≡ may_step_by p g.limits g.now e (slice_get g.now.edges e) → b ≡ true → (l : Local) × (slice_get g.now.edges e ≡ Some (Active l))
+pub step_active : (p : Parts) (g : RunState) (e : ℕ) (b : Bool) → b ≡ may_step_by p g.limits g.now e (slice_get g.now.edges e) → b ≡ true → (l : Local) × (slice_get g.now.edges e ≡ Some (Active l))
 step_active p g e b is on = by (slice_get g.now.edges e) refl (sym is ∙ on)
   where
     by : (o : Option Status) → slice_get g.now.edges e ≡ o → may_step_by p g.limits g.now e o ≡ true → (l : Local) × (slice_get g.now.edges e ≡ Some (Active l))

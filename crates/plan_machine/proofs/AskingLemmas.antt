@@ -13,10 +13,10 @@ use Rattle.plan_verify.specs.Sound.{asking}
 use Rattle.plan_verify.specs.declared.value.Cause.TheVariants.{TextTooLong}
 use Rattle.std.proofs.lemmas.Bool.{le-ltb}
 use Rattle.plan_machine.specs.Turned.{IsMade}
-use Rattle.plan_machine.specs.declared.turned.Turned.TheVariants as turned
+use Rattle.plan_machine.specs.declared.edge.turned.Turned.TheVariants as turned
 use Rattle.plan_machine.proofs.ListLemmas.{get_inside, when_true, when_false, when_either}
-use Rattle.plan_machine.specs.declared.turned.Heard.{Heard}
-use Rattle.plan_machine.specs.declared.turned.Heard.TheVariants as hearing
+use Rattle.plan_machine.specs.declared.edge.turned.Heard.{Heard}
+use Rattle.plan_machine.specs.declared.edge.turned.Heard.TheVariants as hearing
 use Rattle.plan_machine.specs.Depfile.{depfile}
 use Rattle.plan_machine.specs.Working.{Works, HasText, HasPaths, IsSweeping, Sweeps}
 use Rattle.plan_machine.specs.Hearing.{IsHeard}

@@ -16,11 +16,11 @@ use Rattle.plan_verify.specs.Turn.{Slots, Local, Request as Question, Did, Moved
 use Rattle.plan_verify.specs.Sound.{asking}
 use Rattle.plan_machine.specs.declared.event.Event.{Event}
 use Rattle.plan_machine.specs.declared.event.Event.TheVariants.{Start, Skip, Stop, Step, Reply as Hear}
-use Rattle.plan_machine.specs.declared.mark.Mark.TheVariants as mark
-use Rattle.plan_machine.specs.declared.request.Request.{Request}
-use Rattle.plan_machine.specs.State.{Status, Unbegun, Active, Over, State, is_ill, is_well, stands, with_status}
+use Rattle.plan_machine.specs.declared.event.mark.Mark.TheVariants as mark
+use Rattle.plan_machine.specs.declared.event.request.Request.{Request}
+use Rattle.plan_machine.specs.State.{Status, Unbegun, Active, Over, State, is_unsuccessful, has_succeeded, stands, with_status}
 use Rattle.plan_machine.specs.Places.{at_take, is_free, is_spent}
-use Rattle.plan_machine.specs.Going.{Going}
+use Rattle.plan_machine.specs.RunState.{RunState}
 use Rattle.plan_machine.specs.Step.{Stepped, Next, answer_of, answered, hears, hears_by, settles, skips, starts, step, stepped, steps, stops}
 use Rattle.plan_machine.specs.Depfile.{depfile}
 use Rattle.plan_machine.specs.Applying.{may_step_by}
@@ -72,7 +72,7 @@ asks_turn (Errs flaw) q is = absurd cc
 
 -- ---- a step that asks
 
-module _ (p : Parts) (g : Going) where
+module _ (p : Parts) (g : RunState) where
   step_by : (e : ℕ) (o : Option Status) (q : Question) → slice_get g.now.edges e ≡ o → (if may_step_by p g.limits g.now e o then step_asks p e g.now.slots o else None) ≡ Some q → Asks p g (Step e) q
   unfolding step
   step_by e None q at is = absurd cc
@@ -185,15 +185,15 @@ module _ (meaning : Meaning) (l : Local) where
       by None = tt
       by (Some i) = replied_on i r
 
-module _ (p : Parts) (g : Going) where
+module _ (p : Parts) (g : RunState) where
   start_mute : (e : ℕ) (o : Option Status) → Mute (starts p g.now e o)
-  start_mute e (Some Unbegun) = when_either Mute (list_all (stands is_well g.now) (waits_of p e)) _ _ (λ h. tt) (λ h. tt)
+  start_mute e (Some Unbegun) = when_either Mute (list_all (stands has_succeeded g.now) (waits_of p e)) _ _ (λ h. tt) (λ h. tt)
   start_mute e None = tt
   start_mute e (Some (Active l)) = tt
   start_mute e (Some (Over outcome)) = tt
 
   skip_mute : (e w : ℕ) (o : Option Status) → Mute (skips p g.now e w o)
-  skip_mute e w (Some Unbegun) = when_either Mute (is_member w (waits_of p e) && stands is_ill g.now w) _ _ (λ h. tt) (λ h. tt)
+  skip_mute e w (Some Unbegun) = when_either Mute (is_member w (waits_of p e) && stands is_unsuccessful g.now w) _ _ (λ h. tt) (λ h. tt)
   skip_mute e w None = tt
   skip_mute e w (Some (Active l)) = tt
   skip_mute e w (Some (Over outcome)) = tt

@@ -9,9 +9,9 @@ use Rattle.plan_verify.specs.Members.{is_member}
 use Rattle.plan_verify.specs.Turn.{Slots, begun, Meaning}
 use Rattle.plan_verify.specs.Alone.{Stage, Runs, Ended, Failed as Broke}
 use Rattle.plan_machine.proofs.ListLemmas.{get_cases, get_other}
-use Rattle.plan_machine.specs.declared.reply.Reply.{Reply}
-use Rattle.plan_machine.specs.declared.mark.Outcome.TheVariants.{Clean, Ran, Failed, Skipped, Stopped, NotWanted}
-use Rattle.plan_machine.specs.State.{Status, Unbegun, Active, Over, State, is_well, is_ill, is_over, passes, stands}
+use Rattle.plan_machine.specs.declared.event.reply.Reply.{Reply}
+use Rattle.plan_machine.specs.declared.event.mark.Outcome.TheVariants.{Clean, Ran, Failed, Skipped, Stopped, NotWanted}
+use Rattle.plan_machine.specs.State.{Status, Unbegun, Active, Over, State, has_succeeded, is_unsuccessful, is_over, passes, stands}
 use Rattle.plan_machine.specs.Standing.{Stands}
 use Rattle.plan_machine.specs.Total.{is_wanted}
 use Rattle.plan_machine.proofs.OnlySlotsLemmas.{only, unset}
@@ -21,7 +21,7 @@ use Rattle.plan_machine.proofs.SoloLemmas.{sees, seen, lent, solo, solo_after}
 pub record RanAlone (meaning : Meaning) (p : Parts) (s : State) (slots : Slots) (told : List Reply) (e : ℕ) (stage : Stage) : Type 0 where
   pub turns : ℕ
   pub is : (rest : List Reply) → solo_after meaning p e turns (solo (Runs begun) (lent p e slots) (told ++ rest)) ≡ solo stage (seen p e slots) rest
-  pub waited : (w : ℕ) → is_member w (waits_of p e) ≡ true → stands is_well s w ≡ true
+  pub waited : (w : ℕ) → is_member w (waits_of p e) ≡ true → stands has_succeeded s w ≡ true
 
 -- none of its own slots is set
 abbrev pub Bare : Parts → ℕ → Slots → Type 0
@@ -34,7 +34,7 @@ History gone meaning p s slots told e (Active l) = RanAlone meaning p s slots to
 History gone meaning p s slots told e (Over Clean) = RanAlone meaning p s slots told e (Ended false)
 History gone meaning p s slots told e (Over Ran) = RanAlone meaning p s slots told e (Ended true)
 History gone meaning p s slots told e (Over (Failed cause)) = RanAlone meaning p s slots told e (Broke cause)
-History gone meaning p s slots told e (Over (Skipped w)) = Bare p e slots × (is_member w (waits_of p e) ≡ true) × (stands is_ill s w ≡ true)
+History gone meaning p s slots told e (Over (Skipped w)) = Bare p e slots × (is_member w (waits_of p e) ≡ true) × (stands is_unsuccessful s w ≡ true)
 History gone meaning p s slots told e (Over Stopped) = gone
 History gone meaning p s slots told e (Over NotWanted) = Bare p e slots
 
@@ -49,12 +49,12 @@ Apart p e old new = (f : ℕ → Bool) → ((k : ℕ) → owns p e k ≡ true �
 
 -- ---- small facts
 
-over_well : (status : Status) → is_over status ≡ false → is_well status ≡ false
+over_well : (status : Status) → is_over status ≡ false → has_succeeded status ≡ false
 over_well Unbegun h = refl
 over_well (Active l) h = refl
 over_well (Over outcome) h = absurd cc
 
-over_ill : (status : Status) → is_over status ≡ false → is_ill status ≡ false
+over_ill : (status : Status) → is_over status ≡ false → is_unsuccessful status ≡ false
 over_ill Unbegun h = refl
 over_ill (Active l) h = refl
 over_ill (Over outcome) h = absurd cc
@@ -89,7 +89,7 @@ both_false true b h k = absurd cc
 
 -- ---- the status of one edge changes
 
-module _ (gone : Type 0) (meaning : Meaning) (p : Parts) (s : State) (e : ℕ) (old new : Status) (slots : Slots) (now : slice_get s.edges e ≡ Some old) (going : is_over old ≡ false) (apart : Apart p e s.slots slots) where
+module _ (gone : Type 0) (meaning : Meaning) (p : Parts) (s : State) (e : ℕ) (old new : Status) (slots : Slots) (now : slice_get s.edges e ≡ Some old) (run_state : is_over old ≡ false) (apart : Apart p e s.slots slots) where
   mid : State
   mid = record { edges = slice_set s.edges e new; slots = slots }
 
@@ -101,7 +101,7 @@ module _ (gone : Type 0) (meaning : Meaning) (p : Parts) (s : State) (e : ℕ) (
   ]
 
   went_on : (f : ℕ) (told : List Reply) (x : Slots) (stage : Stage) → RanAlone meaning p s x told f stage → RanAlone meaning p mid x told f stage
-  went_on f told x stage h = record { turns = h.turns; is = h.is; waited = λ w wait. still is_well w (over_well old going) (h.waited w wait) }
+  went_on f told x stage h = record { turns = h.turns; is = h.is; waited = λ w wait. still has_succeeded w (over_well old run_state) (h.waited w wait) }
 
   kept_state : (f : ℕ) (told : List Reply) (x : Slots) (status : Status) → History gone meaning p s x told f status → History gone meaning p mid x told f status
   kept_state f told x Unbegun h = h
@@ -109,13 +109,13 @@ module _ (gone : Type 0) (meaning : Meaning) (p : Parts) (s : State) (e : ℕ) (
   kept_state f told x (Over Clean) h = went_on f told x (Ended false) h
   kept_state f told x (Over Ran) h = went_on f told x (Ended true) h
   kept_state f told x (Over (Failed cause)) h = went_on f told x (Broke cause) h
-  kept_state f told x (Over (Skipped w)) h = (h.0, h.1, still is_ill w (over_ill old going) h.2)
+  kept_state f told x (Over (Skipped w)) h = (h.0, h.1, still is_unsuccessful w (over_ill old run_state) h.2)
   kept_state f told x (Over Stopped) h = h
   kept_state f told x (Over NotWanted) h = h
 
   -- a running edge isn't among the waits of one that began
-  pub unlent : (f : ℕ) → ((w : ℕ) → is_member w (waits_of p f) ≡ true → stands is_well s w ≡ true) → (k : ℕ) → owns p e k ≡ true → is_lent p f k ≡ false
-  unlent f waited k own = not_lent p e f k (λ wait. absurd (let clash : true ≡ false = sym (waited e wait) ∙ ap (passes is_well) now ∙ over_well old going in cc)) own
+  pub unlent : (f : ℕ) → ((w : ℕ) → is_member w (waits_of p f) ≡ true → stands has_succeeded s w ≡ true) → (k : ℕ) → owns p e k ≡ true → is_lent p f k ≡ false
+  unlent f waited k own = not_lent p e f k (λ wait. absurd (let clash : true ≡ false = sym (waited e wait) ∙ ap (passes has_succeeded) now ∙ over_well old run_state in cc)) own
 
   went_beside : (f : ℕ) (told : List Reply) (stage : Stage) → (e ≡ f → ⊥) → RanAlone meaning p s s.slots told f stage → RanAlone meaning p s slots told f stage
   went_beside f told stage ne h =
@@ -148,7 +148,7 @@ module _ (gone : Type 0) (meaning : Meaning) (p : Parts) (s : State) (e : ℕ) (
         sound = sound;
         wants = λ f status is. elim (get_cases s.edges e f new status is) [
           | inl q ↦
-              let here : slice_get wanted e ≡ Some (is_wanted status) = r.wants e old now ∙ ap (λ (b : Bool). Some b) (over_wanted old going ∙ sym want ∙ ap is_wanted q.1) in
+              let here : slice_get wanted e ≡ Some (is_wanted status) = r.wants e old now ∙ ap (λ (b : Bool). Some b) (over_wanted old run_state ∙ sym want ∙ ap is_wanted q.1) in
               ap (slice_get wanted) (sym q.0) ∙ here
           | inr q ↦ r.wants f status q.1
         ];

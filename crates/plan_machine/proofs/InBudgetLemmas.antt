@@ -20,10 +20,10 @@ use Rattle.plan_machine.specs.Limits.{Limits}
 use Rattle.plan_machine.proofs.VerifyLaws.{VerifyLaws}
 use Rattle.plan_machine.specs.declared.event.Event.{Event}
 use Rattle.plan_machine.specs.declared.event.Event.TheVariants.{Start, Skip, Stop, Step, Reply as Hear}
-use Rattle.plan_machine.specs.declared.mark.Mark.{Mark}
-use Rattle.plan_machine.specs.declared.mark.Mark.TheVariants as mark
-use Rattle.plan_machine.specs.declared.mark.Outcome.TheVariants.{Failed, Skipped, Stopped}
-use Rattle.plan_machine.specs.State.{Status, Unbegun, Active, Over, State, is_well, is_ill, stands, with_status}
+use Rattle.plan_machine.specs.declared.event.mark.Mark.{Mark}
+use Rattle.plan_machine.specs.declared.event.mark.Mark.TheVariants as mark
+use Rattle.plan_machine.specs.declared.event.mark.Outcome.TheVariants.{Failed, Skipped, Stopped}
+use Rattle.plan_machine.specs.State.{Status, Unbegun, Active, Over, State, has_succeeded, is_unsuccessful, stands, with_status}
 use Rattle.plan_machine.specs.Step.{Stepped, Next, Wrong, NotEnabled, stepped, answered, ended, settles, hears_by, starts, skips, stops, steps, hears, answer_of, step}
 use Rattle.plan_machine.specs.Places.{is_spent, is_free, at_take}
 use Rattle.plan_machine.specs.Runs.{at_first, Runs}
@@ -94,7 +94,7 @@ module _ (laws : VerifyLaws) (meaning : Meaning) (frugal : IsFrugal meaning) (p 
 
     starts_lighter : (e : ℕ) (o : Option Status) → slice_get s.edges e ≡ o → Lighter W (starts p s e o)
     starts_lighter e (Some Unbegun) now =
-        when_either (Lighter W) (list_all (stands is_well s) (waits_of p e)) _ _
+        when_either (Lighter W) (list_all (stands has_succeeded s) (waits_of p e)) _ _
         (λ all. lighter e W Unbegun (Active begun) (with_status s e (Active begun)) (mark.Started e) now refl (omega arith)) (λ h. tt)
     starts_lighter e None now = tt
     starts_lighter e (Some (Active l)) now = tt
@@ -102,7 +102,7 @@ module _ (laws : VerifyLaws) (meaning : Meaning) (frugal : IsFrugal meaning) (p 
 
     skips_lighter : (e w : ℕ) (o : Option Status) → slice_get s.edges e ≡ o → Lighter W (skips p s e w o)
     skips_lighter e w (Some Unbegun) now =
-        when_either (Lighter W) (is_member w (waits_of p e) && stands is_ill s w) _ _
+        when_either (Lighter W) (is_member w (waits_of p e) && stands is_unsuccessful s w) _ _
         (λ h. lighter e W Unbegun (Over (Skipped w)) (with_status s e (Over (Skipped w))) (mark.Skipped e w) now refl (omega arith)) (λ h. tt)
     skips_lighter e w None now = tt
     skips_lighter e w (Some (Active l)) now = tt

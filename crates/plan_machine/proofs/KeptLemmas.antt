@@ -8,18 +8,18 @@ use Rattle.std.proofs.lemmas.List.Sums.{sum_by-cons}
 use Rattle.plan_image.specs.declared.image.Parts.{Parts}
 use Rattle.plan_image.specs.Spelling.{pool_number}
 use Rattle.plan_verify.specs.Tables.{pool_of, waits_of}
-use Rattle.plan_books.specs.declared.phase.Phase.{Phase}
-use Rattle.plan_books.specs.declared.phase.Phase.TheVariants as phase
-use Rattle.plan_books.specs.declared.plan.Plan.{Plan}
-use Rattle.plan_books.specs.declared.keeping.Books.{Books}
-use Rattle.plan_books.specs.Phases.{holds, has_failed as phase_failed, is_open, is_well as phase_well, is_ill as phase_ill, phase_at}
-use Rattle.plan_books.specs.Counts.{one, holders_of}
-use Rattle.plan_books.specs.Booking.{AreBooks, edges_of, unwell}
-use Rattle.plan_machine.specs.declared.mark.Outcome.{Outcome}
-use Rattle.plan_machine.specs.declared.mark.Outcome.TheVariants.{Clean, Ran, Failed, Skipped, Stopped, NotWanted}
-use Rattle.plan_machine.specs.State.{Status, Unbegun, Active, Over, State, is_well, is_ill, is_over, has_failed, is_holder, passes, stands, has_ended}
+use Rattle.plan_schedule.specs.declared.phase.Phase.{Phase}
+use Rattle.plan_schedule.specs.declared.phase.Phase.TheVariants as phase
+use Rattle.plan_schedule.specs.declared.plan.Plan.{Plan}
+use Rattle.plan_schedule.specs.declared.schedule.Schedule.{Schedule}
+use Rattle.plan_schedule.specs.Phases.{holds, has_failed as phase_failed, is_open, has_succeeded as phase_well, is_unsuccessful as phase_ill, phase_at}
+use Rattle.plan_schedule.specs.Counts.{one, holders_of}
+use Rattle.plan_schedule.specs.Scheduling.{IsSchedule, edges_of, count_unsucceeded}
+use Rattle.plan_machine.specs.declared.event.mark.Outcome.{Outcome}
+use Rattle.plan_machine.specs.declared.event.mark.Outcome.TheVariants.{Clean, Ran, Failed, Skipped, Stopped, NotWanted}
+use Rattle.plan_machine.specs.State.{Status, Unbegun, Active, Over, State, has_succeeded, is_unsuccessful, is_over, has_failed, is_holder, passes, stands, has_ended}
 use Rattle.plan_machine.specs.Places.{is_pool, holders_from, at_take}
-use Rattle.plan_books.specs.Opening.{opening_phase}
+use Rattle.plan_schedule.specs.Opening.{opening_phase}
 use Rattle.plan_machine.specs.Runs.{at_first}
 use Rattle.plan_machine.specs.Kept.{Running, phase_over, phase_active, phase_of, phase_in, phases_from, IsPlanOf, AreKept, IsBehind}
 use Rattle.plan_machine.proofs.ListLemmas.{get_same, map_length, set_length}
@@ -45,7 +45,7 @@ holds_is p e (Active l) = holds_active l.asked (at_take p e l) l.holding
 holds_is p e (Over outcome) = holds_over outcome
 
 -- a test that is false for each phase of a running edge
-never_active : (f : Phase → Bool) → ((h : Bool) → f (phase.Asked h) ≡ false) → ((h : Bool) → f (phase.AtTake h) ≡ false) → ((h : Bool) → f (phase.Going h) ≡ false)
+never_active : (f : Phase → Bool) → ((h : Bool) → f (phase.Waiting h) ≡ false) → ((h : Bool) → f (phase.AtTake h) ≡ false) → ((h : Bool) → f (phase.Runnable h) ≡ false)
     → (asked taking holding : Bool) → f (phase_active asked taking holding) ≡ false
 never_active f a t g true taking holding = a holding
 never_active f a t g false true holding = t holding
@@ -64,7 +64,7 @@ failed_is p e Unbegun = refl
 failed_is p e (Active l) = never_active phase_failed (λ h. refl) (λ h. refl) (λ h. refl) l.asked (at_take p e l) l.holding
 failed_is p e (Over outcome) = failed_over outcome
 
-well_over : (outcome : Outcome) → phase_well (phase_over outcome) ≡ is_well (Over outcome)
+well_over : (outcome : Outcome) → phase_well (phase_over outcome) ≡ has_succeeded (Over outcome)
 well_over Clean = refl
 well_over Ran = refl
 well_over (Failed cause) = refl
@@ -72,12 +72,12 @@ well_over (Skipped w) = refl
 well_over Stopped = refl
 well_over NotWanted = refl
 
-pub well_is : (p : Parts) (e : ℕ) (status : Status) → phase_well (phase_of p e status) ≡ is_well status
+pub well_is : (p : Parts) (e : ℕ) (status : Status) → phase_well (phase_of p e status) ≡ has_succeeded status
 well_is p e Unbegun = refl
 well_is p e (Active l) = never_active phase_well (λ h. refl) (λ h. refl) (λ h. refl) l.asked (at_take p e l) l.holding
 well_is p e (Over outcome) = well_over outcome
 
-ill_over : (outcome : Outcome) → phase_ill (phase_over outcome) ≡ is_ill (Over outcome)
+ill_over : (outcome : Outcome) → phase_ill (phase_over outcome) ≡ is_unsuccessful (Over outcome)
 ill_over Clean = refl
 ill_over Ran = refl
 ill_over (Failed cause) = refl
@@ -85,7 +85,7 @@ ill_over (Skipped w) = refl
 ill_over Stopped = refl
 ill_over NotWanted = refl
 
-pub ill_is : (p : Parts) (e : ℕ) (status : Status) → phase_ill (phase_of p e status) ≡ is_ill status
+pub ill_is : (p : Parts) (e : ℕ) (status : Status) → phase_ill (phase_of p e status) ≡ is_unsuccessful status
 ill_is p e Unbegun = refl
 ill_is p e (Active l) = never_active phase_ill (λ h. refl) (λ h. refl) (λ h. refl) l.asked (at_take p e l) l.holding
 ill_is p e (Over outcome) = ill_over outcome
@@ -162,12 +162,12 @@ phase_none : (p : Parts) (e : ℕ) (status : Option Status) → option_map (phas
 phase_none p e (Some status) h = absurd cc
 phase_none p e None h = refl
 
-pub phase_known : (p : Parts) (s : State) (plan : Plan) (books : Books) → AreKept p s plan books → (e : ℕ) (x : Phase) → slice_get books.phases.items e ≡ Some x → x ≡ phase_in p e (slice_get s.edges e)
-phase_known p s plan books kept e x h =
+pub phase_known : (p : Parts) (s : State) (plan : Plan) (schedule : Schedule) → AreKept p s plan schedule → (e : ℕ) (x : Phase) → slice_get schedule.phases.items e ≡ Some x → x ≡ phase_in p e (slice_get s.edges e)
+phase_known p s plan schedule kept e x h =
     phase_some p e (slice_get s.edges e) x (sym (phase_found p e s.edges) ∙ sym (ap (λ (ps : List Phase). slice_get ps e) kept.phases) ∙ h)
 
-pub phase_unknown : (p : Parts) (s : State) (plan : Plan) (books : Books) → AreKept p s plan books → (e : ℕ) → slice_get books.phases.items e ≡ None → phase.NotWanted ≡ phase_in p e (slice_get s.edges e)
-phase_unknown p s plan books kept e h =
+pub phase_unknown : (p : Parts) (s : State) (plan : Plan) (schedule : Schedule) → AreKept p s plan schedule → (e : ℕ) → slice_get schedule.phases.items e ≡ None → phase.NotWanted ≡ phase_in p e (slice_get s.edges e)
+phase_unknown p s plan schedule kept e h =
     phase_none p e (slice_get s.edges e) (sym (phase_found p e s.edges) ∙ sym (ap (λ (ps : List Phase). slice_get ps e) kept.phases) ∙ h)
 
 count_same : (f : Phase → Bool) (g : Status → Bool) (p : Parts) → ((e : ℕ) (st : Status) → f (phase_of p e st) ≡ g st) → (e : ℕ) (l : List Status) → count_by f (phases_from p e l) ≡ count_by g l
@@ -179,7 +179,7 @@ count_same f g p same e (st ∷ l) =
     let rest : count_by f (phases_from p (e + 1) l) ≡ count_by g l = count_same f g p same (e + 1) l in
     omega (arith, a, b, c, rest)
 
--- ---- edges of a pool that hold a place
+-- ---- edges of a pool that hold a job token
 
 pool_is : (o : Option ℕ) (q : ℕ) → (pool_number o == q + 1) ≡ is_pool q o
 pool_is None q = ne_eqb 0 (q + 1) (λ h. omega (arith, h))
@@ -206,7 +206,7 @@ holders_same p q e (n ∷ pools) (st ∷ l) long each =
     holders_same p q (e + 1) pools l (omega (arith, long)) (λ k h. each (suc k) (omega (arith, h)) ∙ ap (λ (m : ℕ). pool_number (pool_of p m)) (one_more e k)) in
     omega (arith, here, rest)
 
--- ---- edges that all ended well
+-- ---- edges that all succeeded
 
 sums_to : (f : ℕ → Bool) (w : ℕ) (ws : List ℕ) → count_by f (w ∷ ws) ≡ one (f w) + count_by f ws
 sums_to f w ws = sum_by-cons (λ x. cond (f x) 1 0) w ws
@@ -225,40 +225,40 @@ none_counted f g same (w ∷ ws) = elim (cases_Bool (g w)) [
 
 -- ---- the facts that the schedule has about a state
 
-module _ (p : Parts) (s : State) (plan : Plan) (books : Books) (kept : AreKept p s plan books) where
-  pub count_is : (f : Phase → Bool) (g : Status → Bool) → ((e : ℕ) (st : Status) → f (phase_of p e st) ≡ g st) → count_by f books.phases.items ≡ count_by g s.edges
+module _ (p : Parts) (s : State) (plan : Plan) (schedule : Schedule) (kept : AreKept p s plan schedule) where
+  pub count_is : (f : Phase → Bool) (g : Status → Bool) → ((e : ℕ) (st : Status) → f (phase_of p e st) ≡ g st) → count_by f schedule.phases.items ≡ count_by g s.edges
   count_is f g same = ap (count_by f) kept.phases ∙ count_same f g p same 0 s.edges
 
-  pub failures_are : books.counts.failures ≡ count_by has_failed s.edges
+  pub failures_are : schedule.counts.failures ≡ count_by has_failed s.edges
   failures_are = kept.fit.kept.counts.failures_are ∙ count_is phase_failed has_failed (failed_is p)
 
-  pub holders_are : books.counts.holders ≡ count_by is_holder s.edges
+  pub holders_are : schedule.counts.holders ≡ count_by is_holder s.edges
   holders_are = kept.fit.kept.counts.holders_are ∙ count_is holds is_holder (holds_is p)
 
-  pub open_are : books.counts.open_edges ≡ count_by (λ st. not (is_over st)) s.edges
+  pub open_are : schedule.counts.open_edges ≡ count_by (λ st. not (is_over st)) s.edges
   open_are = kept.fit.kept.counts.open_are ∙ count_is is_open (λ st. not (is_over st)) (open_is p)
 
   pools_long : length plan.pools.items ≡ length s.edges
   pools_long = kept.plan_is.good.pools_sized ∙ kept.plan_is.edges ∙ sym kept.long
 
-  pub holders_of_are : (q : ℕ) → holders_of (q + 1) plan.pools.items books.phases.items ≡ holders_from p q 0 s.edges
+  pub holders_of_are : (q : ℕ) → holders_of (q + 1) plan.pools.items schedule.phases.items ≡ holders_from p q 0 s.edges
   holders_of_are q =
       ap (holders_of (q + 1) plan.pools.items) kept.phases
       ∙ holders_same p q 0 plan.pools.items s.edges pools_long (λ k h. let same : 0 + k ≡ k = omega arith in kept.plan_is.pools k (omega (arith, h, pools_long, kept.long)) ∙ ap (λ (n : ℕ). pool_number (pool_of p n)) (sym same))
 
-  pub pool_holders_are : (q : ℕ) → q + 1 < length books.counts.pool_holders.items → slice_index books.counts.pool_holders.items (q + 1) ≡ holders_from p q 0 s.edges
+  pub pool_holders_are : (q : ℕ) → q + 1 < length schedule.counts.pool_holders.items → slice_index schedule.counts.pool_holders.items (q + 1) ≡ holders_from p q 0 s.edges
   pool_holders_are q h = kept.fit.kept.counts.pool_holders_are (q + 1) h ∙ holders_of_are q
 
-  pub well_at : (w : ℕ) → phase_well (phase_at books.phases.items w) ≡ stands is_well s w
-  well_at w = ap (λ (ps : List Phase). phase_well (phase_at ps w)) kept.phases ∙ phases_at_by phase_well is_well p (well_is p) refl 0 w s.edges
+  pub well_at : (w : ℕ) → phase_well (phase_at schedule.phases.items w) ≡ stands has_succeeded s w
+  well_at w = ap (λ (ps : List Phase). phase_well (phase_at ps w)) kept.phases ∙ phases_at_by phase_well has_succeeded p (well_is p) refl 0 w s.edges
 
-  pub ill_at : (w : ℕ) → phase_ill (phase_at books.phases.items w) ≡ stands is_ill s w
-  ill_at w = ap (λ (ps : List Phase). phase_ill (phase_at ps w)) kept.phases ∙ phases_at_by phase_ill is_ill p (ill_is p) refl 0 w s.edges
+  pub ill_at : (w : ℕ) → phase_ill (phase_at schedule.phases.items w) ≡ stands is_unsuccessful s w
+  ill_at w = ap (λ (ps : List Phase). phase_ill (phase_at ps w)) kept.phases ∙ phases_at_by phase_ill is_unsuccessful p (ill_is p) refl 0 w s.edges
 
-  pub waits_are_well : (e : ℕ) → e < length s.edges → (slice_index books.waiting.items e == 0) ≡ list_all (stands is_well s) (waits_of p e)
+  pub waits_are_well : (e : ℕ) → e < length s.edges → (slice_index schedule.waiting.items e == 0) ≡ list_all (stands has_succeeded s) (waits_of p e)
   waits_are_well e h =
-      ap (λ (n : ℕ). n == 0) (kept.fit.waiting e (omega (arith, h, kept.long, kept.plan_is.edges)) ∙ ap (unwell books.phases.items) (kept.plan_is.waits e))
-      ∙ none_counted (λ w. not (phase_well (phase_at books.phases.items w))) (stands is_well s) (λ w. ap not (well_at w)) (waits_of p e)
+      ap (λ (n : ℕ). n == 0) (kept.fit.waiting e (omega (arith, h, kept.long, kept.plan_is.edges)) ∙ ap (count_unsucceeded schedule.phases.items) (kept.plan_is.waits e))
+      ∙ none_counted (λ w. not (phase_well (phase_at schedule.phases.items w))) (stands has_succeeded s) (λ w. ap not (well_at w)) (waits_of p e)
 
 all_over : (l : List Status) → (count_by (λ st. not (is_over st)) l == 0) ≡ list_all is_over l
 all_over [] = refl
@@ -274,17 +274,17 @@ all_over (st ∷ l) =
           ne_eqb (count_by (λ x. not (is_over x)) (st ∷ l)) 0 (λ z. omega (arith, e, on, z)) ∙ ap (λ (b : Bool). b && list_all is_over l) (sym off)
     ]
 
-pub ended_is : (p : Parts) (s : State) (plan : Plan) (books : Books) → AreKept p s plan books → (books.counts.open_edges == 0) ≡ has_ended s
-ended_is p s plan books kept = ap (λ (n : ℕ). n == 0) (open_are p s plan books kept) ∙ all_over s.edges
+pub ended_is : (p : Parts) (s : State) (plan : Plan) (schedule : Schedule) → AreKept p s plan schedule → (schedule.counts.open_edges == 0) ≡ has_ended s
+ended_is p s plan schedule kept = ap (λ (n : ℕ). n == 0) (open_are p s plan schedule kept) ∙ all_over s.edges
 
 -- ---- updating the schedule to the status of an edge
 
-over_well : (st : Status) → is_over st ≡ false → is_well st ≡ false
+over_well : (st : Status) → is_over st ≡ false → has_succeeded st ≡ false
 over_well Unbegun h = refl
 over_well (Active l) h = refl
 over_well (Over outcome) h = absurd cc
 
-over_ill : (st : Status) → is_over st ≡ false → is_ill st ≡ false
+over_ill : (st : Status) → is_over st ≡ false → is_unsuccessful st ≡ false
 over_ill Unbegun h = refl
 over_ill (Active l) h = refl
 over_ill (Over outcome) h = absurd cc
@@ -296,20 +296,20 @@ module _ (p : Parts) (r : Running) (e : ℕ) (behind : IsBehind p r e) where
   pub here_is : e < edges_of r.plan
   here_is = omega (arith, inside, behind.kept.long, behind.kept.plan_is.edges)
 
-  pub was_unwell : phase_well (phase_at r.books.phases.items e) ≡ false
-  was_unwell = well_at p behind.old r.plan r.books behind.kept e ∙ ap (passes is_well) behind.changed.now ∙ over_well behind.changed.before behind.changed.was_open
+  pub was_unwell : phase_well (phase_at r.schedule.phases.items e) ≡ false
+  was_unwell = well_at p behind.old r.plan r.schedule behind.kept e ∙ ap (passes has_succeeded) behind.changed.now ∙ over_well behind.changed.before behind.changed.was_open
 
-  pub was_not_ill : phase_ill (phase_at r.books.phases.items e) ≡ false
-  was_not_ill = ill_at p behind.old r.plan r.books behind.kept e ∙ ap (passes is_ill) behind.changed.now ∙ over_ill behind.changed.before behind.changed.was_open
+  pub was_not_ill : phase_ill (phase_at r.schedule.phases.items e) ≡ false
+  was_not_ill = ill_at p behind.old r.plan r.schedule behind.kept e ∙ ap (passes is_unsuccessful) behind.changed.now ∙ over_ill behind.changed.before behind.changed.was_open
 
-  pub caught_up : (books : Books) (x : Phase) → AreBooks r.plan books → books.phases.items ≡ slice_set r.books.phases.items e x → x ≡ phase_in p e (slice_get r.going.now.edges e) → AreKept p r.going.now r.plan books
-  caught_up books x fit set is =
-      let at : slice_get r.going.now.edges e ≡ Some behind.changed.after = ap (λ (l : List Status). slice_get l e) behind.changed.left ∙ get_same behind.old.edges e behind.changed.after inside in
+  pub caught_up : (schedule : Schedule) (x : Phase) → IsSchedule r.plan schedule → schedule.phases.items ≡ slice_set r.schedule.phases.items e x → x ≡ phase_in p e (slice_get r.run_state.now.edges e) → AreKept p r.run_state.now r.plan schedule
+  caught_up schedule x fit set is =
+      let at : slice_get r.run_state.now.edges e ≡ Some behind.changed.after = ap (λ (l : List Status). slice_get l e) behind.changed.left ∙ get_same behind.old.edges e behind.changed.after inside in
       record {
         plan_is = behind.kept.plan_is;
         long = ap (λ (l : List Status). length l) behind.changed.left ∙ set_length behind.old.edges e behind.changed.after ∙ behind.kept.long;
         phases =
-            set ∙ ap (slice_set r.books.phases.items e) (is ∙ ap (phase_in p e) at) ∙ ap (λ (ps : List Phase). slice_set ps e (phase_of p e behind.changed.after)) behind.kept.phases
+            set ∙ ap (slice_set r.schedule.phases.items e) (is ∙ ap (phase_in p e) at) ∙ ap (λ (ps : List Phase). slice_set ps e (phase_of p e behind.changed.after)) behind.kept.phases
             ∙ sym (phases_set p e behind.old.edges behind.changed.after) ∙ ap (phases_from p 0) (sym behind.changed.left);
         fit = fit;
       }
@@ -321,9 +321,9 @@ opens_with p e [] = refl
 opens_with p e (true ∷ wanted) = ap (λ (ps : List Phase). phase.Unbegun ∷ ps) (opens_with p (e + 1) wanted)
 opens_with p e (false ∷ wanted) = ap (λ (ps : List Phase). phase.NotWanted ∷ ps) (opens_with p (e + 1) wanted)
 
-pub opens_kept : (p : Parts) (s : State) (plan : Plan) (books : Books) (wanted : List Bool) → IsPlanOf p plan → s.edges ≡ map at_first wanted → length wanted ≡ length p.edges
-    → AreBooks plan books → books.phases.items ≡ map opening_phase wanted → AreKept p s plan books
-opens_kept p s plan books wanted plan_is edges long fit phases =
+pub opens_kept : (p : Parts) (s : State) (plan : Plan) (schedule : Schedule) (wanted : List Bool) → IsPlanOf p plan → s.edges ≡ map at_first wanted → length wanted ≡ length p.edges
+    → IsSchedule plan schedule → schedule.phases.items ≡ map opening_phase wanted → AreKept p s plan schedule
+opens_kept p s plan schedule wanted plan_is edges long fit phases =
     record {
       plan_is = plan_is;
       long = ap (λ (l : List Status). length l) edges ∙ map_length at_first wanted ∙ long;

@@ -29,7 +29,7 @@ pub mod AgreementLemmas
 pub mod PointwiseLemmas
 pub mod SamenessLemmas
 pub mod EndsLemmas
-pub mod RushLemmas
+pub mod LocalRunLemmas
 pub mod SweepLemmas
 pub mod ByItselfLemmas
 pub mod StayLemmas

@@ -87,7 +87,7 @@ get_cases (z ∷ xs) (suc i) zero x y h = inr ((λ e. omega (arith, e)), h)
 get_cases (z ∷ xs) (suc i) (suc j) x y h =
     elim (get_cases xs i j x y h) [ inl p ↦ inl (ap suc p.0, p.1) | inr p ↦ inr ((λ e. p.0 (omega (arith, e))), p.1) ]
 
--- if all pass, each member does
+-- if all items pass, each item does
 pub all_member : (f : ℕ → Bool) (ns : List ℕ) (n : ℕ) → list_all f ns ≡ true → is_member n ns ≡ true → f n ≡ true
 all_member f [] n h k = absurd cc
 all_member f (m ∷ ns) n h k =

@@ -21,10 +21,10 @@ use Rattle.plan_machine.specs.Limits.{Limits}
 use Rattle.plan_machine.proofs.VerifyLaws.{VerifyLaws, rank_of, wait_below}
 use Rattle.plan_machine.specs.declared.event.Event.{Event}
 use Rattle.plan_machine.specs.declared.event.Event.TheVariants.{Start, Skip, Stop, Step}
-use Rattle.plan_machine.specs.declared.mark.Mark.{Mark}
-use Rattle.plan_machine.specs.declared.mark.Mark.TheVariants as mark
-use Rattle.plan_machine.specs.declared.mark.Outcome.TheVariants.{Clean, Ran, Failed, Skipped, Stopped, NotWanted}
-use Rattle.plan_machine.specs.State.{Status, Unbegun, Active, Over, State, is_well, is_ill, is_over, is_holder, passes, stands, with_status, has_ended}
+use Rattle.plan_machine.specs.declared.event.mark.Mark.{Mark}
+use Rattle.plan_machine.specs.declared.event.mark.Mark.TheVariants as mark
+use Rattle.plan_machine.specs.declared.event.mark.Outcome.TheVariants.{Clean, Ran, Failed, Skipped, Stopped, NotWanted}
+use Rattle.plan_machine.specs.State.{Status, Unbegun, Active, Over, State, has_succeeded, is_unsuccessful, is_over, is_holder, passes, stands, with_status, has_ended}
 use Rattle.plan_machine.specs.Step.{Stepped, Next, stepped, settles, starts, skips, stops, steps, step}
 use Rattle.plan_machine.specs.Places.{is_pool, holders_from, allows, has_room, is_spent, is_free, is_take, at_take}
 use Rattle.plan_machine.specs.NeverStuck.{is_own, CanGo, Awaits, NeverStuck}
@@ -77,8 +77,8 @@ take_idle laws p s e l u take =
 -- one of the waits failed, was skipped or was stopped, one has no outcome, or all succeeded
 Wait : State → List ℕ → Type 0
 Wait s waits =
-    (list_all (stands is_well s) waits ≡ true)
-    ⊎ (((w : ℕ) × (is_member w waits ≡ true) × (stands is_ill s w ≡ true))
+    (list_all (stands has_succeeded s) waits ≡ true)
+    ⊎ (((w : ℕ) × (is_member w waits ≡ true) × (stands is_unsuccessful s w ≡ true))
     ⊎ ((w : ℕ) × (status : Status) × (is_member w waits ≡ true) × (slice_get s.edges w ≡ Some status) × (is_over status ≡ false)))
 
 look : (s : State) (waits : List ℕ) → ((w : ℕ) → is_member w waits ≡ true → (status : Status) × (slice_get s.edges w ≡ Some status) × (status ≢ Over NotWanted)) → Wait s waits
@@ -89,13 +89,13 @@ look s (w ∷ waits) inside = let first = inside w (first_in w waits) in here fi
     first_in : (w : ℕ) (waits : List ℕ) → is_member w (w ∷ waits) ≡ true
     first_in w waits = ap (λ (b : Bool). b || is_member w waits) (eq-eqb w w refl)
 
-    well_here : (status : Status) → slice_get s.edges w ≡ Some status → is_well status ≡ true → Wait s waits → Wait s (w ∷ waits)
-    well_here status is well (inl all) = inl (and_from _ _ (ap (passes is_well) is ∙ well) all)
+    well_here : (status : Status) → slice_get s.edges w ≡ Some status → has_succeeded status ≡ true → Wait s waits → Wait s (w ∷ waits)
+    well_here status is well (inl all) = inl (and_from _ _ (ap (passes has_succeeded) is ∙ well) all)
     well_here status is well (inr (inl q)) = inr (inl (q.0, or_right (w == q.0) (is_member q.0 waits) q.1, q.2))
     well_here status is well (inr (inr q)) = inr (inr (q.0, q.1, or_right (w == q.0) (is_member q.0 waits) q.2, q.3, q.4))
 
-    ill_here : (status : Status) → slice_get s.edges w ≡ Some status → is_ill status ≡ true → Wait s (w ∷ waits)
-    ill_here status is ill = inr (inl (w, first_in w waits, ap (passes is_ill) is ∙ ill))
+    ill_here : (status : Status) → slice_get s.edges w ≡ Some status → is_unsuccessful status ≡ true → Wait s (w ∷ waits)
+    ill_here status is ill = inr (inl (w, first_in w waits, ap (passes is_unsuccessful) is ∙ ill))
 
     open_here : (status : Status) → slice_get s.edges w ≡ Some status → is_over status ≡ false → Wait s (w ∷ waits)
     open_here status is off = inr (inr (w, status, first_in w waits, is, off))
@@ -220,10 +220,10 @@ module _ (laws : VerifyLaws) (meaning : Meaning) (p : Parts) (shaped : IsWellSha
       by_wait : ((w : ℕ) (status : Status) → rank_of p w < n → slice_get s.edges w ≡ Some status → is_over status ≡ false → GoesOn) → Wait s (waits_of p e) → GoesOn
       by_wait again (inl all) =
           goes_by (Start e) _ _ refl (ap (λ (o : Option Status). starts p s e o) now
-          ∙ when_true (λ (o : Stepped). o ≡ Next (with_status s e (Active begun)) (mark.Started e)) (list_all (stands is_well s) (waits_of p e)) _ _ all refl)
+          ∙ when_true (λ (o : Stepped). o ≡ Next (with_status s e (Active begun)) (mark.Started e)) (list_all (stands has_succeeded s) (waits_of p e)) _ _ all refl)
       by_wait again (inr (inl q)) =
           goes_by (Skip e q.0) _ _ refl (ap (λ (o : Option Status). skips p s e q.0 o) now
-          ∙ when_true (λ (o : Stepped). o ≡ Next (with_status s e (Over (Skipped q.0))) (mark.Skipped e q.0)) (is_member q.0 (waits_of p e) && stands is_ill s q.0) _ _ (and_from _ _ q.1 q.2) refl)
+          ∙ when_true (λ (o : Stepped). o ≡ Next (with_status s e (Over (Skipped q.0))) (mark.Skipped e q.0)) (is_member q.0 (waits_of p e) && stands is_unsuccessful s q.0) _ _ (and_from _ _ q.1 q.2) refl)
       by_wait again (inr (inr q)) = again q.0 q.1 (omega (arith, lt, (wait_below laws.in_range p shaped e q.0 short q.2).1)) q.3 q.4
 
   pub goes : (has_ended s ≡ true) ⊎ GoesOn

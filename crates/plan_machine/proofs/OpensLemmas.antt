@@ -10,9 +10,9 @@ use Rattle.plan_machine.proofs.ListLemmas.{some_is, map_length}
 use Rattle.plan_machine.specs.Limits.{Limits}
 use Rattle.plan_machine.proofs.VerifyLaws.{VerifyLaws}
 use Rattle.plan_machine.specs.declared.event.Event.{Event}
-use Rattle.plan_machine.specs.declared.mark.Mark.{Mark}
-use Rattle.plan_machine.specs.declared.mark.Outcome.TheVariants.{NotWanted}
-use Rattle.plan_machine.specs.State.{Status, Unbegun, Active, Over, State, is_well}
+use Rattle.plan_machine.specs.declared.event.mark.Mark.{Mark}
+use Rattle.plan_machine.specs.declared.event.mark.Outcome.TheVariants.{NotWanted}
+use Rattle.plan_machine.specs.State.{Status, Unbegun, Active, Over, State, has_succeeded}
 use Rattle.plan_machine.specs.Wanted.{is_waited}
 use Rattle.plan_machine.specs.Runs.{at_first, Opens, Reached}
 use Rattle.plan_machine.specs.Standing.{Stands}
@@ -25,10 +25,10 @@ none_active (true ∷ wanted) zero l h = absurd cc
 none_active (false ∷ wanted) zero l h = absurd cc
 none_active (b ∷ wanted) (suc e) l h = none_active wanted e l h
 
-pub none_well : (wanted : List Bool) (e : ℕ) (status : Status) → slice_get (map at_first wanted) e ≡ Some status → is_well status ≡ true → ⊥
+pub none_well : (wanted : List Bool) (e : ℕ) (status : Status) → slice_get (map at_first wanted) e ≡ Some status → has_succeeded status ≡ true → ⊥
 none_well [] e status h well = absurd cc
-none_well (true ∷ wanted) zero status h well = absurd (let clash : false ≡ true = ap is_well (some_is Unbegun status h) ∙ well in cc)
-none_well (false ∷ wanted) zero status h well = absurd (let clash : false ≡ true = ap is_well (some_is (Over NotWanted) status h) ∙ well in cc)
+none_well (true ∷ wanted) zero status h well = absurd (let clash : false ≡ true = ap has_succeeded (some_is Unbegun status h) ∙ well in cc)
+none_well (false ∷ wanted) zero status h well = absurd (let clash : false ≡ true = ap has_succeeded (some_is (Over NotWanted) status h) ∙ well in cc)
 none_well (b ∷ wanted) (suc e) status h well = none_well wanted e status h well
 
 none_set : (n k : ℕ) (v : Value) → slice_get (replicate {A = Option Value} n None) k ≡ Some (Some v) → ⊥
@@ -57,7 +57,7 @@ opens_stand p targets s opens =
         kinds = λ k v h. absurd (none_set (length p.slots) k v (ap (λ (l : List (Option Value)). slice_get l k) (sym opens.slots) ∙ h));
       };
       active = λ e l h. absurd (none_active opens.wanted e l (read e ∙ h));
-      set = λ e well. let h = stands_at is_well s e well in absurd (none_well opens.wanted e h.0 (read e ∙ h.1) h.2);
+      set = λ e well. let h = stands_at has_succeeded s e well in absurd (none_well opens.wanted e h.0 (read e ∙ h.1) h.2);
       needed = λ e w h wait gone.
           let one : slice_get opens.wanted e ≡ Some true = first_unbegun opens.wanted e (read e ∙ h) in
           let two : slice_get opens.wanted w ≡ Some true = (opens.are.each w).1 (is_waited ((opens.are.each e).0 one) wait) in

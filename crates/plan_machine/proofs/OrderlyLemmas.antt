@@ -18,11 +18,11 @@ use Rattle.plan_machine.specs.Limits.{Limits}
 use Rattle.plan_machine.proofs.VerifyLaws.{VerifyLaws}
 use Rattle.plan_machine.specs.declared.event.Event.{Event}
 use Rattle.plan_machine.specs.declared.event.Event.TheVariants.{Start, Skip, Stop, Step, Reply as Hear}
-use Rattle.plan_machine.specs.declared.mark.Mark.{Mark}
-use Rattle.plan_machine.specs.declared.mark.Mark.TheVariants as mark
-use Rattle.plan_machine.specs.declared.mark.Outcome.{Outcome}
-use Rattle.plan_machine.specs.declared.mark.Outcome.TheVariants.{Failed, Skipped, Stopped}
-use Rattle.plan_machine.specs.State.{Status, Unbegun, Active, Over, State, is_well, is_ill, is_holder, passes, stands, with_status}
+use Rattle.plan_machine.specs.declared.event.mark.Mark.{Mark}
+use Rattle.plan_machine.specs.declared.event.mark.Mark.TheVariants as mark
+use Rattle.plan_machine.specs.declared.event.mark.Outcome.{Outcome}
+use Rattle.plan_machine.specs.declared.event.mark.Outcome.TheVariants.{Failed, Skipped, Stopped}
+use Rattle.plan_machine.specs.State.{Status, Unbegun, Active, Over, State, has_succeeded, is_unsuccessful, is_holder, passes, stands, with_status}
 use Rattle.plan_machine.specs.Step.{Stepped, Next, Wrong, NotEnabled, stepped, answered, ended, settles, hears_by, starts, skips, stops, steps, hears, answer_of, step}
 use Rattle.plan_machine.specs.Places.{is_pool, holders_from, allows, has_room, is_spent, is_free, at_take}
 use Rattle.plan_machine.specs.Runs.{at_first, Opens, Runs}
@@ -50,10 +50,10 @@ pub record Alters (p : Parts) (limits : Limits) (s mid : State) (told : Mark) : 
   pub becomes : mid.edges ≡ slice_set s.edges e new
   pub held : is_holder new ≡ holds_then e (is_holder old) told
   pub others : (f : ℕ) → (f ≡ e → ⊥) → (x : Bool) → holds_then f x told ≡ x
-  pub started : (f : ℕ) → told ≡ mark.Started f → (f ≡ e) × (old ≡ Unbegun) × ((w : ℕ) → is_member w (waits_of p e) ≡ true → stands is_well s w ≡ true)
+  pub started : (f : ℕ) → told ≡ mark.Started f → (f ≡ e) × (old ≡ Unbegun) × ((w : ℕ) → is_member w (waits_of p e) ≡ true → stands has_succeeded s w ≡ true)
   pub not_unbegun : new ≡ Unbegun → ⊥
-  pub unwell : is_well old ≡ false
-  pub ended_by : is_well new ≡ true → (ran : Bool) × (told ≡ mark.Ended e ran)
+  pub unwell : has_succeeded old ≡ false
+  pub ended_by : has_succeeded new ≡ true → (ran : Bool) × (told ≡ mark.Ended e ran)
   pub room : is_holder old ≡ false → is_holder new ≡ true → is_free p limits s e ≡ true
 
 module _ (laws : VerifyLaws) (meaning : Meaning) (p : Parts) (shaped : IsWellShaped p) (limits : Limits) (s : State) (sound : Stands p s) where
@@ -64,7 +64,7 @@ module _ (laws : VerifyLaws) (meaning : Meaning) (p : Parts) (shaped : IsWellSha
 
   -- it doesn't change whether a job token is held
   calm : (e : ℕ) (old new : Status) (mid : State) (told : Mark) → slice_get s.edges e ≡ Some old → mid.edges ≡ slice_set s.edges e new → is_holder new ≡ is_holder old → ((f : ℕ) (x : Bool) → holds_then f x told ≡ x)
-      → ((f : ℕ) → told ≢ mark.Started f) → new ≢ Unbegun → is_well old ≡ false → (is_well new ≡ true → (ran : Bool) × (told ≡ mark.Ended e ran)) → Alters p limits s mid told
+      → ((f : ℕ) → told ≢ mark.Started f) → new ≢ Unbegun → has_succeeded old ≡ false → (has_succeeded new ≡ true → (ran : Bool) × (told ≡ mark.Ended e ran)) → Alters p limits s mid told
   calm e old new mid told now becomes same still none not_unbegun unwell ended_by = record {
     e = e;
     old = old;
@@ -80,10 +80,10 @@ module _ (laws : VerifyLaws) (meaning : Meaning) (p : Parts) (shaped : IsWellSha
     room = λ h k. absurd (let clash : true ≡ false = sym k ∙ same ∙ h in cc);
   }
 
-  over_alters : (e : ℕ) (old : Status) (outcome : Outcome) (told : Mark) → slice_get s.edges e ≡ Some old → is_holder old ≡ false → is_well old ≡ false → is_well (Over outcome) ≡ false
+  over_alters : (e : ℕ) (old : Status) (outcome : Outcome) (told : Mark) → slice_get s.edges e ≡ Some old → is_holder old ≡ false → has_succeeded old ≡ false → has_succeeded (Over outcome) ≡ false
       → ((f : ℕ) (x : Bool) → holds_then f x told ≡ x) → ((f : ℕ) → told ≢ mark.Started f) → Altering (Next (with_status s e (Over outcome)) told)
   over_alters e old outcome told now idle unwell ill still none =
-      calm e old (Over outcome) (with_status s e (Over outcome)) told now refl (sym idle) still none (λ h. absurd cc) unwell (λ h. no_clash (is_well (Over outcome)) ill h)
+      calm e old (Over outcome) (with_status s e (Over outcome)) told now refl (sym idle) still none (λ h. absurd cc) unwell (λ h. no_clash (has_succeeded (Over outcome)) ill h)
 
   failed_alters : (e : ℕ) (l : Local) (cause : _) → slice_get s.edges e ≡ Some (Active l) → Altering (Next (with_status s e (Over (Failed cause))) (mark.Failed e cause))
   failed_alters e l cause now = record {
@@ -151,7 +151,7 @@ module _ (laws : VerifyLaws) (meaning : Meaning) (p : Parts) (shaped : IsWellSha
 
   starts_alters : (e : ℕ) (o : Option Status) → slice_get s.edges e ≡ o → Altering (starts p s e o)
   starts_alters e (Some Unbegun) now =
-      when_either Altering (list_all (stands is_well s) (waits_of p e)) _ _
+      when_either Altering (list_all (stands has_succeeded s) (waits_of p e)) _ _
       (λ all. record {
         e = e;
         old = Unbegun;
@@ -160,7 +160,7 @@ module _ (laws : VerifyLaws) (meaning : Meaning) (p : Parts) (shaped : IsWellSha
         becomes = refl;
         held = refl;
         others = λ f ne x. refl;
-        started = λ f h. (let same : e ≡ f = cc in (sym same, refl, λ w wait. all_member (stands is_well s) (waits_of p e) w all wait));
+        started = λ f h. (let same : e ≡ f = cc in (sym same, refl, λ w wait. all_member (stands has_succeeded s) (waits_of p e) w all wait));
         not_unbegun = λ h. absurd cc;
         unwell = refl;
         ended_by = λ h. absurd cc;
@@ -173,7 +173,7 @@ module _ (laws : VerifyLaws) (meaning : Meaning) (p : Parts) (shaped : IsWellSha
 
   skips_alters : (e w : ℕ) (o : Option Status) → slice_get s.edges e ≡ o → Altering (skips p s e w o)
   skips_alters e w (Some Unbegun) now =
-      when_either Altering (is_member w (waits_of p e) && stands is_ill s w) _ _
+      when_either Altering (is_member w (waits_of p e) && stands is_unsuccessful s w) _ _
       (λ h. over_alters e Unbegun (Skipped w) (mark.Skipped e w) now refl refl refl (λ f x. refl) (λ f k. absurd cc)) (λ h. tt)
   skips_alters e w None now = tt
   skips_alters e w (Some (Active l)) now = tt
@@ -324,7 +324,7 @@ depth_room (suc d) n some h = elim (or_cases _ _ h) [ inl z ↦ absurd (let bad 
 pub record Linked (p : Parts) (limits : Limits) (marks : List Mark) (s : State) : Type 0 where
   pub held : (e : ℕ) → holds_by marks e ≡ stands is_holder s e
   pub unbegun : (e n : ℕ) → slice_get s.edges e ≡ Some Unbegun → slice_get marks n ≡ Some (mark.Started e) → ⊥
-  pub well : (w : ℕ) → stands is_well s w ≡ true → (k : ℕ) × (ran : Bool) × (slice_get marks k ≡ Some (mark.Ended w ran))
+  pub well : (w : ℕ) → stands has_succeeded s w ≡ true → (k : ℕ) × (ran : Bool) × (slice_get marks k ≡ Some (mark.Ended w ran))
   pub orderly : IsOrderly p limits marks
 
 module _ (p : Parts) (limits : Limits) (s mid : State) (marks : List Mark) (told : Mark) (sound : Stands p s) (linked : Linked p limits marks s) (x : Alters p limits s mid told) where
@@ -359,15 +359,15 @@ module _ (p : Parts) (limits : Limits) (s mid : State) (marks : List Mark) (told
     ]
   ]
 
-  well_mid : (w : ℕ) → stands is_well mid w ≡ true → (k : ℕ) × (ran : Bool) × (slice_get all k ≡ Some (mark.Ended w ran))
+  well_mid : (w : ℕ) → stands has_succeeded mid w ≡ true → (k : ℕ) × (ran : Bool) × (slice_get all k ≡ Some (mark.Ended w ran))
   well_mid w well =
-      let h = stands_at is_well mid w well in
+      let h = stands_at has_succeeded mid w well in
       elim (status_at w h.0 h.1) [
         | inl q ↦
-            let r = x.ended_by (ap is_well q.1 ∙ h.2) in
+            let r = x.ended_by (ap has_succeeded q.1 ∙ h.2) in
             (length marks, r.0, get_end marks told ∙ ap Some (r.1 ∙ ap (λ (g : ℕ). mark.Ended g r.0) q.0))
         | inr q ↦
-            let r = linked.well w (stands_now is_well s w h.0 q.1 h.2) in
+            let r = linked.well w (stands_now has_succeeded s w h.0 q.1 h.2) in
             (r.0, r.1, get_front marks (told ∷ []) r.0 (mark.Ended w r.1) r.2)
       ]
 
@@ -491,7 +491,7 @@ pub first_linked : (p : Parts) (limits : Limits) (targets : List ℕ) (s : State
 first_linked p limits targets s opens = record {
   held = λ e. sym (ap (λ (l : List Status). passes is_holder (slice_get l e)) opens.edges ∙ no_holders opens.wanted e);
   unbegun = λ e n h at. absurd cc;
-  well = λ w well. let h = stands_at is_well s w well in absurd (none_well opens.wanted w h.0 (ap (λ (l : List Status). slice_get l w) (sym opens.edges) ∙ h.1) h.2);
+  well = λ w well. let h = stands_at has_succeeded s w well in absurd (none_well opens.wanted w h.0 (ap (λ (l : List Status). slice_get l w) (sym opens.edges) ∙ h.1) h.2);
   orderly = record {
     once = λ e n k h j. absurd cc;
     after_waits = λ n e w h wait. absurd cc;

@@ -14,24 +14,24 @@ use Rattle.plan_verify.specs.Members.{is_member}
 use Rattle.plan_verify.specs.Tables.{pool_of, waits_of, pool_outside}
 use Rattle.plan_verify.specs.Turn.{Local, begun, Request, Took, PlaceHeld, PoolOutside, Ends, Wrong as Errs, act_at, holds as holding_turn, turn, request_of}
 use Rattle.plan_verify.specs.WellShaped.{IsWellShaped}
-use Rattle.plan_books.specs.declared.phase.Phase.{Phase}
-use Rattle.plan_books.specs.declared.phase.Phase.TheVariants as phase
-use Rattle.plan_books.specs.declared.plan.Plan.{Plan}
-use Rattle.plan_books.specs.declared.keeping.Books.{Books}
-use Rattle.plan_books.specs.declared.picking.Pick.{Pick}
-use Rattle.plan_books.specs.declared.picking.Pick.TheVariants as pick
-use Rattle.plan_books.specs.Phases.{holds, has_failed as phase_failed, is_well as phase_well, phase_at}
-use Rattle.plan_books.specs.Counts.{holders_of}
-use Rattle.plan_books.specs.Booking.{edges_of, waits_of as waits_by}
-use Rattle.plan_books.specs.Picking.{IsEnabled as CanPick, StepsFirst as FirstSteps, has_room as pool_room, is_spent as spent_by, is_step as picks_step}
+use Rattle.plan_schedule.specs.declared.phase.Phase.{Phase}
+use Rattle.plan_schedule.specs.declared.phase.Phase.TheVariants as phase
+use Rattle.plan_schedule.specs.declared.plan.Plan.{Plan}
+use Rattle.plan_schedule.specs.declared.schedule.Schedule.{Schedule}
+use Rattle.plan_schedule.specs.declared.schedule.picking.Pick.{Pick}
+use Rattle.plan_schedule.specs.declared.schedule.picking.Pick.TheVariants as pick
+use Rattle.plan_schedule.specs.Phases.{holds, has_failed as phase_failed, has_succeeded as phase_well, phase_at}
+use Rattle.plan_schedule.specs.Counts.{holders_of}
+use Rattle.plan_schedule.specs.Scheduling.{edges_of, waits_of as waits_by}
+use Rattle.plan_schedule.specs.Picking.{IsEnabled as CanPick, StepsFirst as FirstSteps, has_room as pool_room, is_spent as spent_by, is_step as picks_step}
 use Rattle.plan_machine.specs.declared.event.Event.{Event}
 use Rattle.plan_machine.specs.declared.event.Event.TheVariants.{Start, Skip, Stop, Step, Reply as Hear}
-use Rattle.plan_machine.specs.declared.mark.Mark.TheVariants as mark
-use Rattle.plan_machine.specs.declared.mark.Outcome.{Outcome}
-use Rattle.plan_machine.specs.declared.mark.Outcome.TheVariants.{Clean, Ran, Failed, Skipped, Stopped, NotWanted}
-use Rattle.plan_machine.specs.State.{Status, Unbegun, Active, Over, State, is_well, is_ill, is_holder, has_failed, stands, with_status, has_ended}
+use Rattle.plan_machine.specs.declared.event.mark.Mark.TheVariants as mark
+use Rattle.plan_machine.specs.declared.event.mark.Outcome.{Outcome}
+use Rattle.plan_machine.specs.declared.event.mark.Outcome.TheVariants.{Clean, Ran, Failed, Skipped, Stopped, NotWanted}
+use Rattle.plan_machine.specs.State.{Status, Unbegun, Active, Over, State, has_succeeded, is_unsuccessful, is_holder, has_failed, stands, with_status, has_ended}
 use Rattle.plan_machine.specs.Places.{allows, at_take, has_room, holders_from, is_free, is_spent}
-use Rattle.plan_machine.specs.Going.{Going}
+use Rattle.plan_machine.specs.RunState.{RunState}
 use Rattle.plan_machine.specs.Step.{Stepped, Next, Wrong, NotEnabled, stepped, settles, starts, skips, stops, steps, step}
 use Rattle.plan_machine.specs.Depfile.{depfile}
 use Rattle.plan_machine.specs.Standing.{IsUnderWay, Stands}
@@ -80,7 +80,7 @@ unbegun_is p e Unbegun h = refl
 unbegun_is p e (Active l) h = absurd (active_not_unbegun l.asked (at_take p e l) l.holding h)
 unbegun_is p e (Over outcome) h = absurd (over_not_unbegun outcome h)
 
-over_not_going : (outcome : Outcome) (h : Bool) → phase_over outcome ≡ phase.Going h → ⊥
+over_not_going : (outcome : Outcome) (h : Bool) → phase_over outcome ≡ phase.Runnable h → ⊥
 over_not_going Clean h is = absurd cc
 over_not_going Ran h is = absurd cc
 over_not_going (Failed cause) h is = absurd cc
@@ -88,12 +88,12 @@ over_not_going (Skipped w) h is = absurd cc
 over_not_going Stopped h is = absurd cc
 over_not_going NotWanted h is = absurd cc
 
-active_going : (asked taking holding h : Bool) → phase_active asked taking holding ≡ phase.Going h → (asked ≡ false) × (taking ≡ false)
+active_going : (asked taking holding h : Bool) → phase_active asked taking holding ≡ phase.Runnable h → (asked ≡ false) × (taking ≡ false)
 active_going true taking holding h is = absurd cc
 active_going false true holding h is = absurd cc
 active_going false false holding h is = (refl, refl)
 
-going_is : (p : Parts) (e : ℕ) (st : Status) (h : Bool) → phase_of p e st ≡ phase.Going h → (l : Local) × (st ≡ Active l) × (l.asked ≡ false) × (at_take p e l ≡ false)
+going_is : (p : Parts) (e : ℕ) (st : Status) (h : Bool) → phase_of p e st ≡ phase.Runnable h → (l : Local) × (st ≡ Active l) × (l.asked ≡ false) × (at_take p e l ≡ false)
 going_is p e Unbegun h is = absurd cc
 going_is p e (Active l) h is = let both = active_going l.asked (at_take p e l) l.holding h is in (l, refl, both.0, both.1)
 going_is p e (Over outcome) h is = absurd (over_not_going outcome h is)
@@ -119,7 +119,7 @@ taking_is p e (Over outcome) h is = absurd (over_not_taking outcome h is)
 phase_taking : (asked taking holding : Bool) → asked ≡ false → taking ≡ true → phase_active asked taking holding ≡ phase.AtTake holding
 phase_taking asked taking holding quiet take = ap (λ (a : Bool). phase_active a taking holding) quiet ∙ ap (λ (t : Bool). phase_going t holding) take
 
-phase_is_going : (asked taking holding : Bool) → asked ≡ false → taking ≡ false → phase_active asked taking holding ≡ phase.Going holding
+phase_is_going : (asked taking holding : Bool) → asked ≡ false → taking ≡ false → phase_active asked taking holding ≡ phase.Runnable holding
 phase_is_going asked taking holding quiet off = ap (λ (a : Bool). phase_active a taking holding) quiet ∙ ap (λ (t : Bool). phase_going t holding) off
 
 -- ---- an edge that awaits a reply is not at Take
@@ -153,42 +153,42 @@ step_of (pick.Start e) h = absurd cc
 step_of (pick.Skip e w) h = absurd cc
 step_of (pick.Stop e) h = absurd cc
 
-module _ (p : Parts) (g : Going) (plan : Plan) (books : Books) (kept : AreKept p g.now plan books) where
+module _ (p : Parts) (g : RunState) (plan : Plan) (schedule : Schedule) (kept : AreKept p g.now plan schedule) where
   jobs : ℕ
   jobs = g.limits.jobs
 
   keep : ℕ
   keep = g.limits.keep
 
-  spent_is : spent_by g.limits.keep books.phases.items ≡ is_spent g.limits g.now
-  spent_is = ap (λ (n : ℕ). nat_lt 0 g.limits.keep && nat_le g.limits.keep n) (count_is p g.now plan books kept phase_failed has_failed (failed_is p))
+  spent_is : spent_by g.limits.keep schedule.phases.items ≡ is_spent g.limits g.now
+  spent_is = ap (λ (n : ℕ). nat_lt 0 g.limits.keep && nat_le g.limits.keep n) (count_is p g.now plan schedule kept phase_failed has_failed (failed_is p))
 
-  holds_are : count_by holds books.phases.items ≡ count_by is_holder g.now.edges
-  holds_are = count_is p g.now plan books kept holds is_holder (holds_is p)
+  holds_are : count_by holds schedule.phases.items ≡ count_by is_holder g.now.edges
+  holds_are = count_is p g.now plan schedule kept holds is_holder (holds_is p)
 
-  room_by : (o : Option ℕ) → pool_room plan books.phases.items (pool_number o) ≡ has_room p g.now o
+  room_by : (o : Option ℕ) → pool_room plan schedule.phases.items (pool_number o) ≡ has_room p g.now o
   room_by None =
-      ap (λ (l : List ℕ). (slice_index l 0 == 0) || nat_lt (holders_of 0 plan.pools.items books.phases.items) (slice_index l 0)) kept.plan_is.depths
+      ap (λ (l : List ℕ). (slice_index l 0 == 0) || nat_lt (holders_of 0 plan.pools.items schedule.phases.items) (slice_index l 0)) kept.plan_is.depths
   room_by (Some q) =
       let next : slice_index plan.depths.items (q + 1) ≡ slice_index (map (λ (pool : Pool). pool.depth) p.pools) q =
       ap (λ (l : List ℕ). slice_index l (q + 1)) kept.plan_is.depths ∙ behind_first (map (λ (pool : Pool). pool.depth) p.pools) q in
-      ap (λ (d : ℕ). (d == 0) || nat_lt (holders_of (q + 1) plan.pools.items books.phases.items) d) next
-      ∙ ap (λ (h : ℕ). (slice_index (map (λ (pool : Pool). pool.depth) p.pools) q == 0) || nat_lt h (slice_index (map (λ (pool : Pool). pool.depth) p.pools) q)) (holders_of_are p g.now plan books kept q)
+      ap (λ (d : ℕ). (d == 0) || nat_lt (holders_of (q + 1) plan.pools.items schedule.phases.items) d) next
+      ∙ ap (λ (h : ℕ). (slice_index (map (λ (pool : Pool). pool.depth) p.pools) q == 0) || nat_lt h (slice_index (map (λ (pool : Pool). pool.depth) p.pools) q)) (holders_of_are p g.now plan schedule kept q)
       ∙ depth_at p.pools q (holders_from p q 0 g.now.edges)
     where
       behind_first : (l : List ℕ) (q : ℕ) → slice_index (0 ∷ l) (q + 1) ≡ slice_index l q
       behind_first l q = let one : q + 1 ≡ suc q = omega arith in ap (slice_index (0 ∷ l)) one
 
-  room_is : (e : ℕ) → e < length p.edges → pool_room plan books.phases.items (slice_index plan.pools.items e) ≡ has_room p g.now (pool_of p e)
-  room_is e lt = ap (pool_room plan books.phases.items) (kept.plan_is.pools e lt) ∙ room_by (pool_of p e)
+  room_is : (e : ℕ) → e < length p.edges → pool_room plan schedule.phases.items (slice_index plan.pools.items e) ≡ has_room p g.now (pool_of p e)
+  room_is e lt = ap (pool_room plan schedule.phases.items) (kept.plan_is.pools e lt) ∙ room_by (pool_of p e)
 
   -- the status of an edge of the plan
-  status_at : (e : ℕ) → e < edges_of plan → (st : Status) × (slice_get g.now.edges e ≡ Some st) × (phase_at books.phases.items e ≡ phase_of p e st)
+  status_at : (e : ℕ) → e < edges_of plan → (st : Status) × (slice_get g.now.edges e ≡ Some st) × (phase_at schedule.phases.items e ≡ phase_of p e st)
   status_at e lt =
       let st = get_inside g.now.edges e (omega (arith, lt, kept.plan_is.edges, kept.long)) in
       (st.0, st.1, ap (λ (l : List Phase). phase_at l e) kept.phases ∙ phase_there p e g.now.edges st.0 st.1)
 
-  phase_is : (e : ℕ) (st : Status) → slice_get g.now.edges e ≡ Some st → phase_at books.phases.items e ≡ phase_of p e st
+  phase_is : (e : ℕ) (st : Status) → slice_get g.now.edges e ≡ Some st → phase_at schedule.phases.items e ≡ phase_of p e st
   phase_is e st at = ap (λ (l : List Phase). phase_at l e) kept.phases ∙ phase_there p e g.now.edges st at
 
   in_plan : (e : ℕ) (st : Status) → slice_get g.now.edges e ≡ Some st → e < edges_of plan
@@ -206,17 +206,17 @@ module _ (p : Parts) (g : Going) (plan : Plan) (books : Books) (kept : AreKept p
         when_false (λ (o : Stepped). o ≡ Next n.0 n.1) (l.asked || (at_take p e l && not (is_free p g.limits g.now e))) _ _ (ap (λ (b : Bool). b || (at_take p e l && not (is_free p g.limits g.now e))) quiet ∙ free) n.2 in
         record { after = n.0; mark = n.1; next = ap (λ (o : Option Status). steps p g.limits g.now e o) now ∙ is }
 
-    pub picked : (x : Pick) → CanPick plan books.phases.items g.limits.jobs g.limits.keep x → IsEnabled p g (event_of x)
+    pub picked : (x : Pick) → CanPick plan schedule.phases.items g.limits.jobs g.limits.keep x → IsEnabled p g (event_of x)
     unfolding step
     picked (pick.Start e) (here, is, all) =
         let st = status_at e here in
         let at : slice_get g.now.edges e ≡ Some Unbegun = st.1 ∙ ap Some (unbegun_is p e st.0 (sym st.2 ∙ is)) in
-        let well = all_listed (stands is_well g.now) (λ w. phase_well (phase_at books.phases.items w) ≡ true) (λ w h. sym (well_at p g.now plan books kept w) ∙ h) (waits_by plan e) all in
+        let well = all_listed (stands has_succeeded g.now) (λ w. phase_well (phase_at schedule.phases.items w) ≡ true) (λ w h. sym (well_at p g.now plan schedule kept w) ∙ h) (waits_by plan e) all in
         record {
           after = with_status g.now e (Active begun);
           mark = mark.Started e;
           next = ap (λ (o : Option Status). starts p g.now e o) at
-              ∙ when_true (λ (o : Stepped). o ≡ Next (with_status g.now e (Active begun)) (mark.Started e)) (list_all (stands is_well g.now) (waits_of p e)) _ _ (ap (list_all (stands is_well g.now)) (sym (kept.plan_is.waits e)) ∙ well) refl;
+              ∙ when_true (λ (o : Stepped). o ≡ Next (with_status g.now e (Active begun)) (mark.Started e)) (list_all (stands has_succeeded g.now) (waits_of p e)) _ _ (ap (list_all (stands has_succeeded g.now)) (sym (kept.plan_is.waits e)) ∙ well) refl;
         }
     picked (pick.Skip e w) (here, is, wait, ill) =
         let st = status_at e here in
@@ -226,8 +226,8 @@ module _ (p : Parts) (g : Going) (plan : Plan) (books : Books) (kept : AreKept p
           after = with_status g.now e (Over (Skipped w));
           mark = mark.Skipped e w;
           next = ap (λ (o : Option Status). skips p g.now e w o) at
-              ∙ when_true (λ (o : Stepped). o ≡ Next (with_status g.now e (Over (Skipped w))) (mark.Skipped e w)) (is_member w (waits_of p e) && stands is_ill g.now w) _ _
-              (and_from _ _ member (sym (ill_at p g.now plan books kept w) ∙ ill)) refl;
+              ∙ when_true (λ (o : Stepped). o ≡ Next (with_status g.now e (Over (Skipped w))) (mark.Skipped e w)) (is_member w (waits_of p e) && stands is_unsuccessful g.now w) _ _
+              (and_from _ _ member (sym (ill_at p g.now plan schedule kept w) ∙ ill)) refl;
         }
     picked (pick.Stop e) (here, spent, inl is) =
         let st = status_at e here in
@@ -264,10 +264,10 @@ module _ (p : Parts) (g : Going) (plan : Plan) (books : Books) (kept : AreKept p
     -- ---- an enabled event can be picked
 
     abbrev Picks : Event → Stepped → Type 0
-    Picks (Start e) (Next s m) = CanPick plan books.phases.items g.limits.jobs g.limits.keep (pick.Start e)
-    Picks (Skip e w) (Next s m) = CanPick plan books.phases.items g.limits.jobs g.limits.keep (pick.Skip e w)
-    Picks (Stop e) (Next s m) = CanPick plan books.phases.items g.limits.jobs g.limits.keep (pick.Stop e)
-    Picks (Step e) (Next s m) = CanPick plan books.phases.items g.limits.jobs g.limits.keep (pick.Step e)
+    Picks (Start e) (Next s m) = CanPick plan schedule.phases.items g.limits.jobs g.limits.keep (pick.Start e)
+    Picks (Skip e w) (Next s m) = CanPick plan schedule.phases.items g.limits.jobs g.limits.keep (pick.Skip e w)
+    Picks (Stop e) (Next s m) = CanPick plan schedule.phases.items g.limits.jobs g.limits.keep (pick.Stop e)
+    Picks (Step e) (Next s m) = CanPick plan schedule.phases.items g.limits.jobs g.limits.keep (pick.Step e)
     Picks event x = Unit {0}
 
     either_way : {A : Type 0} (P : A → Type 0) (b : Bool) (x y : A) → (b ≡ true → P x) → P y → P (if b then x else y)
@@ -276,12 +276,12 @@ module _ (p : Parts) (g : Going) (plan : Plan) (books : Books) (kept : AreKept p
 
     start_picks : (e : ℕ) (o : Option Status) → slice_get g.now.edges e ≡ o → Picks (Start e) (starts p g.now e o)
     start_picks e (Some Unbegun) at =
-        either_way (Picks (Start e)) (list_all (stands is_well g.now) (waits_of p e)) _ _
+        either_way (Picks (Start e)) (list_all (stands has_succeeded g.now) (waits_of p e)) _ _
         (λ all. (
           in_plan e Unbegun at,
           phase_is e Unbegun at,
-          subst (All (λ w. phase_well (phase_at books.phases.items w) ≡ true)) (sym (kept.plan_is.waits e))
-              (listed_all (stands is_well g.now) (λ w. phase_well (phase_at books.phases.items w) ≡ true) (λ w h. well_at p g.now plan books kept w ∙ h) (waits_of p e) all),
+          subst (All (λ w. phase_well (phase_at schedule.phases.items w) ≡ true)) (sym (kept.plan_is.waits e))
+              (listed_all (stands has_succeeded g.now) (λ w. phase_well (phase_at schedule.phases.items w) ≡ true) (λ w h. well_at p g.now plan schedule kept w ∙ h) (waits_of p e) all),
         )) tt
     start_picks e None at = tt
     start_picks e (Some (Active l)) at = tt
@@ -289,9 +289,9 @@ module _ (p : Parts) (g : Going) (plan : Plan) (books : Books) (kept : AreKept p
 
     skip_picks : (e w : ℕ) (o : Option Status) → slice_get g.now.edges e ≡ o → Picks (Skip e w) (skips p g.now e w o)
     skip_picks e w (Some Unbegun) at =
-        either_way (Picks (Skip e w)) (is_member w (waits_of p e) && stands is_ill g.now w) _ _
-        (λ h. let b = and_both (is_member w (waits_of p e)) (stands is_ill g.now w) h in
-        (in_plan e Unbegun at, phase_is e Unbegun at, member_contained w (waits_by plan e) (ap (is_member w) (kept.plan_is.waits e) ∙ b.0), ill_at p g.now plan books kept w ∙ b.1)) tt
+        either_way (Picks (Skip e w)) (is_member w (waits_of p e) && stands is_unsuccessful g.now w) _ _
+        (λ h. let b = and_both (is_member w (waits_of p e)) (stands is_unsuccessful g.now w) h in
+        (in_plan e Unbegun at, phase_is e Unbegun at, member_contained w (waits_by plan e) (ap (is_member w) (kept.plan_is.waits e) ∙ b.0), ill_at p g.now plan schedule kept w ∙ b.1)) tt
     skip_picks e w None at = tt
     skip_picks e w (Some (Active l)) at = tt
     skip_picks e w (Some (Over outcome)) at = tt
@@ -321,12 +321,12 @@ module _ (p : Parts) (g : Going) (plan : Plan) (books : Books) (kept : AreKept p
           | inr on ↦ when_false (Picks (Step e)) (l.asked || (at_take p e l && not (is_free p g.limits g.now e))) _ _ on (any (settles g.now e l (stepped e) (turn p e g.now.slots l)) (can on))
         ]
       where
-        any : (x : Stepped) → CanPick plan books.phases.items g.limits.jobs g.limits.keep (pick.Step e) → Picks (Step e) x
+        any : (x : Stepped) → CanPick plan schedule.phases.items g.limits.jobs g.limits.keep (pick.Step e) → Picks (Step e) x
         any (Next s m) h = h
         any (Wrong flaw) h = tt
         any NotEnabled h = tt
 
-        taking : l.asked ≡ false → at_take p e l ≡ true → is_free p g.limits g.now e ≡ true → CanPick plan books.phases.items g.limits.jobs g.limits.keep (pick.Step e)
+        taking : l.asked ≡ false → at_take p e l ≡ true → is_free p g.limits g.now e ≡ true → CanPick plan schedule.phases.items g.limits.jobs g.limits.keep (pick.Step e)
         taking quiet take free =
             let outer = and_both (has_room p g.now (pool_of p e) && nat_lt (count_by is_holder g.now.edges) g.limits.jobs) (not (is_spent g.limits g.now)) free in
             let inner = and_both (has_room p g.now (pool_of p e)) (nat_lt (count_by is_holder g.now.edges) g.limits.jobs) outer.0 in
@@ -342,7 +342,7 @@ module _ (p : Parts) (g : Going) (plan : Plan) (books : Books) (kept : AreKept p
             unspent true h = absurd cc
             unspent false h = refl
 
-        can : (l.asked || (at_take p e l && not (is_free p g.limits g.now e))) ≡ false → CanPick plan books.phases.items g.limits.jobs g.limits.keep (pick.Step e)
+        can : (l.asked || (at_take p e l && not (is_free p g.limits g.now e))) ≡ false → CanPick plan schedule.phases.items g.limits.jobs g.limits.keep (pick.Step e)
         can on = elim (cases_Bool (at_take p e l)) [
           | inr off ↦ (in_plan e (Active l) at, inl (l.holding, phase_is e (Active l) at ∙ phase_is_going l.asked (at_take p e l) l.holding (quiet l.asked (at_take p e l && not (is_free p g.limits g.now e)) on).0 off))
           | inl take ↦
@@ -371,10 +371,10 @@ module _ (p : Parts) (g : Going) (plan : Plan) (books : Books) (kept : AreKept p
         hear_picks event (Wrong flaw) = tt
         hear_picks event NotEnabled = tt
 
-    pub step_first : (x : Pick) → FirstSteps plan books.phases.items g.limits.jobs g.limits.keep x → StepsFirst p g (event_of x)
+    pub step_first : (x : Pick) → FirstSteps plan schedule.phases.items g.limits.jobs g.limits.keep x → StepsFirst p g (event_of x)
     step_first x first e on = step_of x (first e (let it : Picks (Step e) (Next on.after on.mark) = subst (Picks (Step e)) on.next (own_picks (Step e)) in it))
 
-    pub none_picked : ((x : Pick) → CanPick plan books.phases.items g.limits.jobs g.limits.keep x → ⊥) → (event : Event) → is_own event ≡ true → IsEnabled p g event → ⊥
+    pub none_picked : ((x : Pick) → CanPick plan schedule.phases.items g.limits.jobs g.limits.keep x → ⊥) → (event : Event) → is_own event ≡ true → IsEnabled p g event → ⊥
     none_picked none (Start e) own on = none (pick.Start e) (let it : Picks (Start e) (Next on.after on.mark) = subst (Picks (Start e)) on.next (own_picks (Start e)) in it)
     none_picked none (Skip e w) own on = none (pick.Skip e w) (let it : Picks (Skip e w) (Next on.after on.mark) = subst (Picks (Skip e w)) on.next (own_picks (Skip e w)) in it)
     none_picked none (Stop e) own on = none (pick.Stop e) (let it : Picks (Stop e) (Next on.after on.mark) = subst (Picks (Stop e)) on.next (own_picks (Stop e)) in it)
@@ -382,7 +382,7 @@ module _ (p : Parts) (g : Going) (plan : Plan) (books : Books) (kept : AreKept p
     none_picked none (Hear e r) own on = absurd cc
 
 -- if no event without a reply is enabled, the run has ended or an edge awaits a reply
-pub none_stuck : (p : Parts) (g : Going) → ((event : Event) → is_own event ≡ true → IsEnabled p g event → ⊥) → (has_ended g.now ≡ true) ⊎ (CanGo depfile p g.limits g.now ⊎ Awaits g.now)
+pub none_stuck : (p : Parts) (g : RunState) → ((event : Event) → is_own event ≡ true → IsEnabled p g event → ⊥) → (has_ended g.now ≡ true) ⊎ (CanGo depfile p g.limits g.now ⊎ Awaits g.now)
     → (has_ended g.now ≡ true) ⊎ Awaits g.now
 none_stuck p g none (inl all) = inl all
 none_stuck p g none (inr (inl can)) = absurd (none can.event can.own (record { after = can.after; mark = can.mark; next = can.enabled }))

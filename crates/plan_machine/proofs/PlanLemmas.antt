@@ -11,8 +11,8 @@ use Rattle.plan_image.specs.Spelling.{EdgeFits, HasSpelling, pool_number}
 use Rattle.plan_verify.specs.Tables.{pool_in, pool_of, waits_in, waits_of}
 use Rattle.plan_verify.specs.WellShaped.{IsWellShaped}
 use Rattle.plan_verify.specs.Facts.{TablesAreInRange}
-use Rattle.plan_books.specs.declared.plan.Plan.{Plan}
-use Rattle.plan_books.specs.Booking.{IsPlan}
+use Rattle.plan_schedule.specs.declared.plan.Plan.{Plan}
+use Rattle.plan_schedule.specs.Scheduling.{IsPlan}
 use Rattle.plan_machine.specs.Firsts.{first_of}
 use Rattle.plan_machine.specs.Kept.{IsPlanOf}
 use Rattle.plan_machine.proofs.ListLemmas.{index_member, map_length}

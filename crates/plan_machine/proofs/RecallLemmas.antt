@@ -15,12 +15,12 @@ use Rattle.plan_verify.specs.Alone.{Runs, Ended, Alone, after}
 use Rattle.plan_machine.proofs.ListLemmas.{some_is, when_either, and_both, or_false, all_member}
 use Rattle.plan_image.specs.Code.{code}
 use Rattle.plan_machine.specs.Limits.{Limits}
-use Rattle.plan_machine.specs.declared.reply.Reply.{Reply}
+use Rattle.plan_machine.specs.declared.event.reply.Reply.{Reply}
 use Rattle.plan_machine.specs.declared.event.Event.{Event}
 use Rattle.plan_machine.specs.declared.event.Event.TheVariants.{Start, Skip, Stop, Step, Reply as Hear}
-use Rattle.plan_machine.specs.declared.mark.Mark.{Mark}
-use Rattle.plan_machine.specs.declared.mark.Outcome.TheVariants.{Failed, Skipped, Stopped, NotWanted}
-use Rattle.plan_machine.specs.State.{Status, Unbegun, Active, Over, State, is_well, is_ill, stands, has_failed}
+use Rattle.plan_machine.specs.declared.event.mark.Mark.{Mark}
+use Rattle.plan_machine.specs.declared.event.mark.Outcome.TheVariants.{Failed, Skipped, Stopped, NotWanted}
+use Rattle.plan_machine.specs.State.{Status, Unbegun, Active, Over, State, has_succeeded, is_unsuccessful, stands, has_failed}
 use Rattle.plan_machine.specs.Step.{Stepped, Next, Wrong, NotEnabled, stepped, answered, ended, settles, hears_by, starts, skips, stops, steps, hears, answer_of, step}
 use Rattle.plan_machine.specs.Places.{is_spent, is_free, at_take}
 use Rattle.plan_machine.specs.Runs.{at_first, Opens, Runs as Passes, Reached}
@@ -74,12 +74,12 @@ module _ (laws : VerifyLaws) (meaning : Meaning) (p : Parts) (shaped : IsWellSha
           let h = r.each e Unbegun now in
           let none : after_told e ≡ [] = same e ∙ h.1 in
           let both : seen p e s.slots ≡ lent p e s.slots = only_or (owns p e) (is_lent p e) s.slots (length p.slots) h.0 in
-          when_either Fine (list_all (stands is_well s) (waits_of p e)) _ _
+          when_either Fine (list_all (stands has_succeeded s) (waits_of p e)) _ _
           (λ all sound. changed gone meaning p s e Unbegun (Active begun) s.slots now refl (alike e) wanted told after_told r refl (λ f ne. same f)
           (record {
             turns = 0;
             is = λ rest. ap (λ (x : List Reply). solo (Runs begun) (lent p e s.slots) (x ++ rest)) none ∙ ap (λ (x : Slots). solo (Runs begun) x rest) (sym both);
-            waited = λ w wait. all_member (stands is_well s) (waits_of p e) w all wait;
+            waited = λ w wait. all_member (stands has_succeeded s) (waits_of p e) w all wait;
           }) sound)
           (λ off. tt)
       starts_fine e None now = tt
@@ -88,9 +88,9 @@ module _ (laws : VerifyLaws) (meaning : Meaning) (p : Parts) (shaped : IsWellSha
 
       skips_fine : (e w : ℕ) (o : Option Status) → slice_get s.edges e ≡ o → Fine (skips p s e w o)
       skips_fine e w (Some Unbegun) now =
-          when_either Fine (is_member w (waits_of p e) && stands is_ill s w) _ _
+          when_either Fine (is_member w (waits_of p e) && stands is_unsuccessful s w) _ _
           (λ on sound.
-          let b = and_both (is_member w (waits_of p e)) (stands is_ill s w) on in
+          let b = and_both (is_member w (waits_of p e)) (stands is_unsuccessful s w) on in
           changed gone meaning p s e Unbegun (Over (Skipped w)) s.slots now refl (alike e) wanted told after_told r refl (λ f ne. same f) ((r.each e Unbegun now).0, b.0, b.1) sound)
           (λ off. tt)
       skips_fine e w None now = tt
@@ -108,7 +108,7 @@ module _ (laws : VerifyLaws) (meaning : Meaning) (p : Parts) (shaped : IsWellSha
       stops_fine e (Some (Over outcome)) now = tt
 
     module _ (e : ℕ) (l : Local) (now : slice_get s.edges e ≡ Some (Active l)) (others : (f : ℕ) → (e ≡ f → ⊥) → after_told f ≡ told f) where
-      waits_well : (w : ℕ) → is_member w (waits_of p e) ≡ true → stands is_well s w ≡ true
+      waits_well : (w : ℕ) → is_member w (waits_of p e) ≡ true → stands has_succeeded s w ≡ true
       waits_well = (r.sound.active e l now).waited
 
       over_history : (ran : Bool) → RanAlone meaning p s s.slots (after_told e) e (Ended ran) → History gone meaning p s s.slots (after_told e) e (Over (ended ran))

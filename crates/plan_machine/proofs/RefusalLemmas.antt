@@ -5,19 +5,19 @@ use Rattle.std.specs.List.{list_all}
 use Rattle.plan_image.specs.declared.image.Parts.{Parts}
 use Rattle.plan_verify.specs.Tables.{waits_of}
 use Rattle.plan_verify.specs.Turn.{Local, begun, Did, Turn, Goes, Sets, Asks, Ends, Fails, Wrong as Errs, heard, turn}
-use Rattle.plan_machine.specs.declared.reply.Reply.{Reply}
+use Rattle.plan_machine.specs.declared.event.reply.Reply.{Reply}
 use Rattle.plan_machine.specs.declared.event.Event.{Event}
 use Rattle.plan_machine.specs.declared.event.Event.TheVariants.{Start, Step, Reply as Hear}
-use Rattle.plan_machine.specs.declared.mark.Mark.{Mark}
-use Rattle.plan_machine.specs.declared.mark.Mark.TheVariants as mark
-use Rattle.plan_machine.specs.declared.refused.Refused.{Refused}
-use Rattle.plan_machine.specs.declared.refused.Refused.TheVariants as refused
-use Rattle.plan_machine.specs.declared.turned.Heard.{Heard}
-use Rattle.plan_machine.specs.declared.turned.Heard.TheVariants as hearing
-use Rattle.plan_machine.specs.State.{Status, Unbegun, Active, Over, State, is_well, passes, stands, with_status}
+use Rattle.plan_machine.specs.declared.event.mark.Mark.{Mark}
+use Rattle.plan_machine.specs.declared.event.mark.Mark.TheVariants as mark
+use Rattle.plan_machine.specs.declared.run.refused.Refused.{Refused}
+use Rattle.plan_machine.specs.declared.run.refused.Refused.TheVariants as refused
+use Rattle.plan_machine.specs.declared.edge.turned.Heard.{Heard}
+use Rattle.plan_machine.specs.declared.edge.turned.Heard.TheVariants as hearing
+use Rattle.plan_machine.specs.State.{Status, Unbegun, Active, Over, State, has_succeeded, passes, stands, with_status}
 use Rattle.plan_machine.specs.Places.{is_free, at_take}
 use Rattle.plan_machine.specs.Step.{Stepped, Next, NotEnabled, answer_of, answered, hears, hears_by, settles, stepped, steps, step}
-use Rattle.plan_machine.specs.Going.{Going}
+use Rattle.plan_machine.specs.RunState.{RunState}
 use Rattle.plan_machine.specs.Depfile.{depfile}
 use Rattle.plan_machine.specs.Applying.{Applied, is_unbegun, may_step_by}
 use Rattle.plan_machine.specs.Hearing.{SettlesReply}
@@ -25,7 +25,7 @@ use Rattle.plan_machine.proofs.Applies.{start_is}
 use Rattle.plan_machine.proofs.ListLemmas.{is_some_of, when_false}
 
 -- an event that isn't enabled is refused as such, if only events that the table enables run out of memory
-pub refused_so : (p : Parts) (g new : Going) (event : Event) (told : Result Mark Refused) → Applied p g event told new → (told ≡ Err refused.Memory → step depfile p g.limits g.now event ≢ NotEnabled)
+pub refused_so : (p : Parts) (g new : RunState) (event : Event) (told : Result Mark Refused) → Applied p g event told new → (told ≡ Err refused.Memory → step depfile p g.limits g.now event ≢ NotEnabled)
     → step depfile p g.limits g.now event ≡ NotEnabled → told ≡ Err refused.NotEnabled
 refused_so p g new event (Ok m) applied spares off = absurd (let clash : Next new.now m ≡ NotEnabled = sym applied.0 ∙ off in cc)
 refused_so p g new event (Err refused.NotEnabled) applied spares off = refl
@@ -33,7 +33,7 @@ refused_so p g new event (Err refused.Memory) applied spares off = absurd (spare
 refused_so p g new event (Err refused.BadTarget) applied spares off = absurd applied
 
 -- the table enables a start that may be made
-pub start_can : (p : Parts) (g : Going) (e : ℕ) (b : Bool) → b ≡ (passes is_unbegun (slice_get g.now.edges e) && list_all (stands is_well g.now) (waits_of p e)) → b ≡ true
+pub start_can : (p : Parts) (g : RunState) (e : ℕ) (b : Bool) → b ≡ (passes is_unbegun (slice_get g.now.edges e) && list_all (stands has_succeeded g.now) (waits_of p e)) → b ≡ true
     → step depfile p g.limits g.now (Start e) ≢ NotEnabled
 start_can p g e b is on off =
     let applied = start_is p g e b (record { limits = g.limits; now = with_status g.now e (Active begun) }) is on refl in
@@ -48,7 +48,7 @@ settles_not s e l told (Fails cause) off = absurd cc
 settles_not s e l told (Errs flaw) off = absurd cc
 
 -- the table enables a step that may be made
-pub step_can : (p : Parts) (g : Going) (e : ℕ) (b : Bool) → b ≡ may_step_by p g.limits g.now e (slice_get g.now.edges e) → b ≡ true → step depfile p g.limits g.now (Step e) ≢ NotEnabled
+pub step_can : (p : Parts) (g : RunState) (e : ℕ) (b : Bool) → b ≡ may_step_by p g.limits g.now e (slice_get g.now.edges e) → b ≡ true → step depfile p g.limits g.now (Step e) ≢ NotEnabled
 unfolding step
 step_can p g e b is on = by (slice_get g.now.edges e) (sym is ∙ on)
   where
@@ -64,7 +64,7 @@ step_can p g e b is on = by (slice_get g.now.edges e) (sym is ∙ on)
         when_false (λ (x : Stepped). x ≢ NotEnabled) (l.asked || (at_take p e l && not (is_free p g.limits g.now e))) _ _ (on_not _ h) (settles_not g.now e l (stepped e) (turn p e g.now.slots l))
 
 -- the table enables a reply that matches
-pub hear_can : (p : Parts) (g : Going) (e : ℕ) (r : Reply) (l : Local) → slice_get g.now.edges e ≡ Some (Active l) → IsSome (heard depfile p e l (answer_of r)) → step depfile p g.limits g.now (Hear e r) ≢ NotEnabled
+pub hear_can : (p : Parts) (g : RunState) (e : ℕ) (r : Reply) (l : Local) → slice_get g.now.edges e ≡ Some (Active l) → IsSome (heard depfile p e l (answer_of r)) → step depfile p g.limits g.now (Hear e r) ≢ NotEnabled
 unfolding step
 hear_can p g e r l at fits off =
     let t = is_some_of (heard depfile p e l (answer_of r)) fits in
@@ -73,7 +73,7 @@ hear_can p g e r l at fits off =
     settles_not g.now e l (answered e) t.0 (sym is ∙ off)
 
 -- updating the status of an edge after a reply takes no memory
-pub reply_frugal : (old new : Going) (e : ℕ) (q : Heard) (told : Result Mark Refused) → SettlesReply old e q told new → told ≢ Err refused.Memory
+pub reply_frugal : (old new : RunState) (e : ℕ) (q : Heard) (told : Result Mark Refused) → SettlesReply old e q told new → told ≢ Err refused.Memory
 reply_frugal old new e hearing.On told s is = let clash : Ok (mark.Answered e) ≡ Err refused.Memory = sym s.0 ∙ is in cc
 reply_frugal old new e (hearing.Failed cause) told s is = let clash : Ok (mark.Failed e cause) ≡ Err refused.Memory = sym s.0 ∙ is in cc
 reply_frugal old new e hearing.Unfit told s is = let clash : Err refused.NotEnabled ≡ Err refused.Memory = sym s.0 ∙ is in cc

@@ -5,10 +5,10 @@ use Rattle.plan_image.specs.declared.image.Parts.{Parts}
 use Rattle.plan_verify.specs.WellShaped.{IsWellShaped}
 use Rattle.plan_machine.specs.Limits.{Limits}
 use Rattle.plan_machine.specs.declared.event.Event.{Event}
-use Rattle.plan_machine.specs.declared.mark.Mark.{Mark}
-use Rattle.plan_machine.specs.declared.refused.Refused.{Refused}
-use Rattle.plan_machine.specs.declared.refused.Refused.TheVariants as refused
-use Rattle.plan_machine.specs.Going.{Going}
+use Rattle.plan_machine.specs.declared.event.mark.Mark.{Mark}
+use Rattle.plan_machine.specs.declared.run.refused.Refused.{Refused}
+use Rattle.plan_machine.specs.declared.run.refused.Refused.TheVariants as refused
+use Rattle.plan_machine.specs.RunState.{RunState}
 use Rattle.plan_machine.specs.Step.{Next, NotEnabled, step}
 use Rattle.plan_machine.specs.Depfile.{depfile}
 use Rattle.plan_machine.specs.Runs.{Opens, Runs, Reached}
@@ -17,20 +17,20 @@ use Rattle.plan_machine.specs.Replaying.{IsReplayFault, IsStop, RunsBefore, Runs
 use Rattle.plan_machine.specs.Wanted.{any_outside}
 use Rattle.plan_machine.proofs.StateLemmas.{runs_more}
 
-pub went : (p : Parts) (old new : Going) (event : Event) (told : Mark) (marks after : List Mark) → Applied p old event (Ok told) new → after ≡ marks ++ told ∷ [] → Went p old event marks new after
+pub went : (p : Parts) (old new : RunState) (event : Event) (told : Mark) (marks after : List Mark) → Applied p old event (Ok told) new → after ≡ marks ++ told ∷ [] → Went p old event marks new after
 went p old new event told marks after applied kept = record { told = told; did = applied.0; limits = applied.1; kept = kept }
 
-pub not_enabled : (p : Parts) (old new : Going) (event : Event) (r : Refused) → Applied p old event (Err r) new → r ≡ refused.NotEnabled → step depfile p old.limits old.now event ≡ NotEnabled
+pub not_enabled : (p : Parts) (old new : RunState) (event : Event) (r : Refused) → Applied p old event (Err r) new → r ≡ refused.NotEnabled → step depfile p old.limits old.now event ≡ NotEnabled
 not_enabled p old new event refused.NotEnabled applied is = applied.0
 not_enabled p old new event refused.Memory applied is = absurd cc
 not_enabled p old new event refused.BadTarget applied is = absurd applied
 
-pub not_outside : (p : Parts) (old new : Going) (event : Event) (r : Refused) → Applied p old event (Err r) new → r ≢ refused.BadTarget
+pub not_outside : (p : Parts) (old new : RunState) (event : Event) (r : Refused) → Applied p old event (Err r) new → r ≢ refused.BadTarget
 not_outside p old new event refused.NotEnabled applied is = absurd cc
 not_outside p old new event refused.Memory applied is = absurd cc
 not_outside p old new event refused.BadTarget applied is = applied
 
-pub runs_none : (p : Parts) (g : Going) (marks : List Mark) → marks ≡ [] → RunsTo p g [] marks g
+pub runs_none : (p : Parts) (g : RunState) (marks : List Mark) → marks ≡ [] → RunsTo p g [] marks g
 runs_none p g marks none = subst (λ (m : List Mark). RunsTo p g [] m g) (sym none) (record { run = refl; limits = refl })
 
 take_more : (l : List Event) (i : ℕ) (x : Event) → slice_get l i ≡ Some x → take (i + 1) l ≡ take i l ++ x ∷ []
@@ -41,7 +41,7 @@ take_more l i x at = let one : i + 1 ≡ suc i = omega arith in rw one (by l i a
     by (y ∷ l) zero at = let same : y ≡ x = cc in ap (λ (z : Event). z ∷ []) same
     by (y ∷ l) (suc i) at = ap (λ (z : List Event). y ∷ z) (by l i at)
 
-pub runs_next : (p : Parts) (old mid new : Going) (events : List Event) (i : ℕ) (event : Event) (marks after : List Mark) → slice_get events i ≡ Some event → RunsTo p old (take i events) marks mid → Went p mid event marks new after
+pub runs_next : (p : Parts) (old mid new : RunState) (events : List Event) (i : ℕ) (event : Event) (marks after : List Mark) → slice_get events i ≡ Some event → RunsTo p old (take i events) marks mid → Went p mid event marks new after
     → RunsTo p old (take (i + 1) events) after new
 runs_next p old mid new events i event marks after at r w =
     subst (λ (l : List Event). RunsTo p old l after new) (sym (take_more events i event at))
@@ -51,7 +51,7 @@ runs_next p old mid new events i event marks after at r w =
       limits = w.limits ∙ r.limits;
     }))
 
-pub stops : (p : Parts) (old mid : Going) (events : List Event) (i : ℕ) (event : Event) (marks : List Mark) (r : Refused) → slice_get events i ≡ Some event → RunsTo p old (take i events) marks mid → i < length events
+pub stops : (p : Parts) (old mid : RunState) (events : List Event) (i : ℕ) (event : Event) (marks : List Mark) (r : Refused) → slice_get events i ≡ Some event → RunsTo p old (take i events) marks mid → i < length events
     → (r ≡ refused.NotEnabled → step depfile p mid.limits mid.now event ≡ NotEnabled) → r ≢ refused.BadTarget → IsStop p old.limits old.now events i r
 stops p old mid events i event marks refused.NotEnabled at run lt why inside =
     record { marks = marks; before = mid.now; run = run.run; event = event; there = at; refused = subst (λ (l : Limits). step depfile p l mid.now event ≡ NotEnabled) run.limits (why refl) }
@@ -64,8 +64,8 @@ on_ok_more P Q (Err e) more h = tt
 
 -- ---- from the opening
 
-module _ (p : Parts) (shaped : IsWellShaped p) (limits : Limits) (targets : List ℕ) (events : List Event) (start : Going) (opens : Opens p targets start.now) (same : start.limits ≡ limits) where
-  pub whole : (marks : List Mark) (end : Going) → RunsTo p start events marks end → Reached depfile p limits targets events marks end.now
+module _ (p : Parts) (shaped : IsWellShaped p) (limits : Limits) (targets : List ℕ) (events : List Event) (start : RunState) (opens : Opens p targets start.now) (same : start.limits ≡ limits) where
+  pub whole : (marks : List Mark) (end : RunState) → RunsTo p start events marks end → Reached depfile p limits targets events marks end.now
   whole marks end r = record { start = start.now; opens = opens; run = subst (λ (l : Limits). Runs depfile p l start.now events marks end.now) same r.run }
 
   pub fault : any_outside p targets ≡ false → (n : ℕ) (r : Refused) → IsStop p start.limits start.now events n r → IsReplayFault p limits targets events n r

@@ -13,7 +13,7 @@ use Rattle.plan_verify.specs.declared.value.Value.TheVariants.{Stamp, Flag, Text
 use Rattle.plan_verify.specs.Tables.{outputs_of, own_slots, path_of, paths_of, pool_outside, with_path}
 use Rattle.plan_verify.specs.Turn.{Slots, is_set, Local, Request as Question, Stat, Run, Deps, Keep, Turn, Wrong, PlaceNotHeld, Calculated, On, TooLong, Off, act, branches, calculate, calculated, ends, jumps, keeps, loads, goes, reads, request_of, runs, stores, sweep, sweeps, writes}
 use Rattle.plan_machine.specs.Lent.{paths_by}
-use Rattle.plan_machine.specs.declared.request.Request.{Request}
+use Rattle.plan_machine.specs.declared.event.request.Request.{Request}
 use Rattle.plan_machine.specs.Requests.{HasPathsAt, HasStampAt, HasSweptAt, HasTextAt, asked_at, asked_by, is_asking, shown}
 use Rattle.plan_machine.specs.Standing.{Stands}
 use Rattle.plan_machine.specs.State.{Status, Active, State}

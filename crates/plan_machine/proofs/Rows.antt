@@ -9,22 +9,22 @@ use Rattle.plan_image.specs.declared.image.Edge.{Edge}
 use Rattle.plan_image.specs.declared.image.Parts.{Parts}
 use Rattle.plan_verify.specs.declared.value.Value.TheVariants.{Stamp, Flag, Text, Paths}
 use Rattle.plan_verify.specs.Turn.{Run, Entry, turn, heard}
-use Rattle.plan_books.specs.declared.phase.Phase.TheVariants as phase
+use Rattle.plan_schedule.specs.declared.phase.Phase.TheVariants as phase
 use Rattle.plan_verify.specs.declared.value.Cause.TheVariants.{DepfileMalformed, Exit}
 use Rattle.plan_machine.specs.Limits.{Limits}
-use Rattle.plan_machine.specs.declared.reply.Reply.TheVariants as reply
+use Rattle.plan_machine.specs.declared.event.reply.Reply.TheVariants as reply
 use Rattle.plan_machine.specs.declared.event.Event.{Event}
 use Rattle.plan_machine.specs.declared.event.Event.TheVariants.{Start, Skip, Stop, Step, Reply as Hear}
-use Rattle.plan_machine.specs.declared.mark.Mark.{Mark}
-use Rattle.plan_machine.specs.declared.mark.Mark.TheVariants as mark
-use Rattle.plan_machine.specs.declared.mark.Outcome.TheVariants.{Failed}
-use Rattle.plan_machine.specs.declared.refused.Refused.TheVariants.{BadTarget}
+use Rattle.plan_machine.specs.declared.event.mark.Mark.{Mark}
+use Rattle.plan_machine.specs.declared.event.mark.Mark.TheVariants as mark
+use Rattle.plan_machine.specs.declared.event.mark.Outcome.TheVariants.{Failed}
+use Rattle.plan_machine.specs.declared.run.refused.Refused.TheVariants.{BadTarget}
 use Rattle.plan_machine.specs.Faults.{number_of}
 use Rattle.plan_machine.specs.State.{Unbegun, Active, Over, State}
 use Rattle.plan_machine.specs.Step.{Stepped, Next, Wrong, NotEnabled, answer_of, step}
 use Rattle.plan_machine.specs.Kept.{phases_from}
 use Rattle.plan_machine.specs.Requests.{asked_at, asks_by}
-use Rattle.plan_machine.specs.Rushes.{is_stride, rush_events, rush_marks}
+use Rattle.plan_machine.specs.LocalRuns.{is_local_step, local_run_events, local_run_marks}
 use Rattle.plan_machine.specs.Sweeping.{HasNext, IsMergedRow, row_events, row_marks, sweep_events}
 use Rattle.plan_machine.specs.Replaying.{IsReplayFault}
 use Rattle.plan_machine.specs.Total.{total_of}
@@ -102,7 +102,7 @@ commands : total_of three running ≡ 3
 unfolding three edge running
 commands = refl
 
-phases : phases_from three 0 running.edges ≡ phase.Going true ∷ phase.Unbegun ∷ phase.Unbegun ∷ []
+phases : phases_from three 0 running.edges ≡ phase.Runnable true ∷ phase.Unbegun ∷ phase.Unbegun ∷ []
 unfolding three edge running
 phases = refl
 
@@ -231,31 +231,31 @@ one_failure_borne :
 unfolding marks_of then_marks four waiting none_begun failing step turn heard
 one_failure_borne = refl
 
--- ---- an edge that goes on by itself
+-- ---- local runs
 
-rush_of_three : rush_events 3 (record { steps = 2; asked = true }) ≡ Step 3 ∷ Step 3 ∷ Step 3 ∷ []
-rush_of_three = refl
+local_run_of_three : local_run_events 3 (record { steps = 2; asked = true }) ≡ Step 3 ∷ Step 3 ∷ Step 3 ∷ []
+local_run_of_three = refl
 
-marks_of_three : rush_marks 3 (record { steps = 2; asked = true }) ≡ mark.Moved 3 ∷ mark.Moved 3 ∷ mark.Asked 3 ∷ []
+marks_of_three : local_run_marks 3 (record { steps = 2; asked = true }) ≡ mark.Moved 3 ∷ mark.Moved 3 ∷ mark.Asked 3 ∷ []
 marks_of_three = refl
 
-still : rush_events 3 (record { steps = 0; asked = false }) ≡ []
+still : local_run_events 3 (record { steps = 0; asked = false }) ≡ []
 still = refl
 
-take_is_no_stride : is_stride op.Take ≡ false
-take_is_no_stride = refl
+take_is_no_local_step : is_local_step op.Take ≡ false
+take_is_no_local_step = refl
 
-sweep_is_a_stride : is_stride op.Sweep ≡ true
-sweep_is_a_stride = refl
+sweep_is_a_local_step : is_local_step op.Sweep ≡ true
+sweep_is_a_local_step = refl
 
-load_is_a_stride : is_stride (op.Load 7) ≡ true
-load_is_a_stride = refl
+load_is_a_local_step : is_local_step (op.Load 7) ≡ true
+load_is_a_local_step = refl
 
 -- two texts together may be too long
-join_is_no_stride : is_stride op.Join ≡ false
-join_is_no_stride = refl
+join_is_no_local_step : is_local_step op.Join ≡ false
+join_is_no_local_step = refl
 
--- ---- an edge that sweeps on
+-- ---- rows of a sweep
 
 sweep_of_two : sweep_events 3 7 ≡ Hear 3 (reply.Stamp 7) ∷ Step 3 ∷ []
 sweep_of_two = refl

@@ -16,7 +16,7 @@ use Rattle.plan_verify.specs.WellShaped.{AreAllShapes}
 use Rattle.plan_verify.specs.Sound.{IsTyped}
 use Rattle.plan_verify.specs.Alone.{Stage, Runs, Ended, Failed, WentWrong, Alone, after}
 use Rattle.plan_machine.proofs.ListLemmas.{not_false, is_some_of}
-use Rattle.plan_machine.specs.declared.reply.Reply.{Reply}
+use Rattle.plan_machine.specs.declared.event.reply.Reply.{Reply}
 use Rattle.plan_machine.specs.Step.{answer_of}
 use Rattle.plan_machine.proofs.OnlySlotsLemmas.{only, only_on}
 

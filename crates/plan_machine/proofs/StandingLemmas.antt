@@ -18,11 +18,11 @@ use Rattle.plan_machine.proofs.VerifyLaws.{VerifyLaws}
 use Rattle.plan_machine.proofs.TypedLemmas.{owned_is, set_stays, still_typed, begun_typed}
 use Rattle.plan_machine.specs.declared.event.Event.{Event}
 use Rattle.plan_machine.specs.declared.event.Event.TheVariants.{Start, Skip, Stop, Step, Reply as Hear}
-use Rattle.plan_machine.specs.declared.mark.Mark.{Mark}
-use Rattle.plan_machine.specs.declared.mark.Mark.TheVariants as mark
-use Rattle.plan_machine.specs.declared.mark.Outcome.{Outcome}
-use Rattle.plan_machine.specs.declared.mark.Outcome.TheVariants.{Failed, Skipped, Stopped, NotWanted}
-use Rattle.plan_machine.specs.State.{Status, Unbegun, Active, Over, State, is_well, is_ill, passes, stands, with_status}
+use Rattle.plan_machine.specs.declared.event.mark.Mark.{Mark}
+use Rattle.plan_machine.specs.declared.event.mark.Mark.TheVariants as mark
+use Rattle.plan_machine.specs.declared.event.mark.Outcome.{Outcome}
+use Rattle.plan_machine.specs.declared.event.mark.Outcome.TheVariants.{Failed, Skipped, Stopped, NotWanted}
+use Rattle.plan_machine.specs.State.{Status, Unbegun, Active, Over, State, has_succeeded, is_unsuccessful, passes, stands, with_status}
 use Rattle.plan_machine.specs.Step.{Stepped, Next, Wrong, NotEnabled, stepped, answered, ended, settles, hears_by, starts, skips, stops, steps, hears, answer_of, step}
 use Rattle.plan_machine.specs.Places.{is_spent, is_free, at_take}
 use Rattle.plan_machine.specs.Runs.{Runs}
@@ -32,7 +32,7 @@ use Rattle.plan_machine.proofs.ListLemmas.{get_cases, all_member, all_more, own_
 -- ---- small facts
 
 -- an edge that is waited for and succeeded has set its slots
-pub lent_set : (p : Parts) (s : State) (e : ℕ) → Stands p s → ((w : ℕ) → is_member w (waits_of p e) ≡ true → stands is_well s w ≡ true) → AreLentSet p e s.slots
+pub lent_set : (p : Parts) (s : State) (e : ℕ) → Stands p s → ((w : ℕ) → is_member w (waits_of p e) ≡ true → stands has_succeeded s w ≡ true) → AreLentSet p e s.slots
 lent_set p s e sound waited k lent = by (slice_get p.slots k) refl lent
   where
     by : (o : Option Slot) → slice_get p.slots k ≡ o → lent_by (waits_of p e) o ≡ true → is_set s.slots k ≡ true
@@ -54,21 +54,21 @@ stands_at test s e h = by (slice_get s.edges e) refl h
 -- the obligations for the new status of an edge
 abbrev pub Owed : Parts → State → ℕ → Slots → Status → Type 0
 Owed p s e slots Unbegun = ⊥
-Owed p s e slots (Active l) = (shapes : List Shape) × AreAllShapes p e shapes × IsTyped p e shapes slots l × ((w : ℕ) → is_member w (waits_of p e) ≡ true → stands is_well s w ≡ true)
-Owed p s e slots (Over outcome) = (is_well (Over outcome) ≡ true → AreOwnSet p e slots) × (outcome ≢ NotWanted)
+Owed p s e slots (Active l) = (shapes : List Shape) × AreAllShapes p e shapes × IsTyped p e shapes slots l × ((w : ℕ) → is_member w (waits_of p e) ≡ true → stands has_succeeded s w ≡ true)
+Owed p s e slots (Over outcome) = (has_succeeded (Over outcome) ≡ true → AreOwnSet p e slots) × (outcome ≢ NotWanted)
 
 abbrev pub Grow : Slots → Slots → Type 0
 Grow old new = (k : ℕ) → is_set old k ≡ true → is_set new k ≡ true
 
-module _ (laws : VerifyLaws) (p : Parts) (s : State) (e : ℕ) (old new : Status) (slots : Slots) (sound : Stands p s) (now : slice_get s.edges e ≡ Some old) (unwell : is_well old ≡ false) (typed : AreTyped p slots) (grow : Grow s.slots slots) (owed : Owed p s e slots new) where
+module _ (laws : VerifyLaws) (p : Parts) (s : State) (e : ℕ) (old new : Status) (slots : Slots) (sound : Stands p s) (now : slice_get s.edges e ≡ Some old) (unwell : has_succeeded old ≡ false) (typed : AreTyped p slots) (grow : Grow s.slots slots) (owed : Owed p s e slots new) where
   mid : State
   mid = record { edges = slice_set s.edges e new; slots = slots }
 
-  still_well : (w : ℕ) → stands is_well s w ≡ true → stands is_well mid w ≡ true
+  still_well : (w : ℕ) → stands has_succeeded s w ≡ true → stands has_succeeded mid w ≡ true
   unfolding mid
   still_well w well = elim (cases_eq e w) [
-    | inl same ↦ absurd (let clash : true ≡ false = sym well ∙ (ap (stands is_well s) (sym same) ∙ ap (passes is_well) now) ∙ unwell in cc)
-    | inr ne ↦ ap (passes is_well) (get_other s.edges e w new ne) ∙ well
+    | inl same ↦ absurd (let clash : true ≡ false = sym well ∙ (ap (stands has_succeeded s) (sym same) ∙ ap (passes has_succeeded) now) ∙ unwell in cc)
+    | inr ne ↦ ap (passes has_succeeded) (get_other s.edges e w new ne) ∙ well
   ]
 
   active_here : (l : Local) → new ≡ Active l → IsUnderWay p mid e l
@@ -83,7 +83,7 @@ module _ (laws : VerifyLaws) (p : Parts) (s : State) (e : ℕ) (old new : Status
       let u = sound.active f l is in
       record { shapes = u.shapes; all = u.all; typed = laws.stay_typed p f u.shapes s.slots slots l grow u.typed; waited = λ w h. still_well w (u.waited w h) }
 
-  set_here : (st : Status) → Owed p s e slots st → is_well st ≡ true → AreOwnSet p e slots
+  set_here : (st : Status) → Owed p s e slots st → has_succeeded st ≡ true → AreOwnSet p e slots
   set_here Unbegun o well = absurd o
   set_here (Active l) o well = absurd cc
   set_here (Over outcome) o well = o.0 well
@@ -109,10 +109,10 @@ module _ (laws : VerifyLaws) (p : Parts) (s : State) (e : ℕ) (old new : Status
           | inr q ↦ active_there f l q.1
         ];
         set = λ f well.
-            let h = stands_at is_well mid f well in
+            let h = stands_at has_succeeded mid f well in
             elim (get_cases s.edges e f new h.0 h.1) [
-              | inl q ↦ subst (λ (g : ℕ). AreOwnSet p g slots) q.0 (set_here new owed (ap is_well q.1 ∙ h.2))
-              | inr q ↦ all_more (is_set s.slots) (is_set slots) (own_slots p f) grow (sound.set f (stands_now is_well s f h.0 q.1 h.2))
+              | inl q ↦ subst (λ (g : ℕ). AreOwnSet p g slots) q.0 (set_here new owed (ap has_succeeded q.1 ∙ h.2))
+              | inr q ↦ all_more (is_set s.slots) (is_set slots) (own_slots p f) grow (sound.set f (stands_now has_succeeded s f h.0 q.1 h.2))
             ];
         needed = λ f w is wait gone. elim (get_cases s.edges e f new Unbegun is) [
           | inl q ↦ absurd (begun_here new owed q.1)
@@ -136,7 +136,7 @@ module _ (laws : VerifyLaws) (meaning : Meaning) (p : Parts) (shaped : IsWellSha
   same_slots s k h = h
 
   module _ (s : State) (sound : Stands p s) where
-    over_safe : (e : ℕ) (old : Status) (outcome : Outcome) (told : Mark) → slice_get s.edges e ≡ Some old → is_well old ≡ false → is_well (Over outcome) ≡ false → outcome ≢ NotWanted → Safe (Next (with_status s e (Over outcome)) told)
+    over_safe : (e : ℕ) (old : Status) (outcome : Outcome) (told : Mark) → slice_get s.edges e ≡ Some old → has_succeeded old ≡ false → has_succeeded (Over outcome) ≡ false → outcome ≢ NotWanted → Safe (Next (with_status s e (Over outcome)) told)
     over_safe e old outcome told now unwell ill wanted =
         changed laws p s e old (Over outcome) s.slots sound now unwell sound.typed (same_slots s) ((λ well. absurd (let clash : true ≡ false = sym well ∙ ill in cc)), wanted)
 
@@ -162,9 +162,9 @@ module _ (laws : VerifyLaws) (meaning : Meaning) (p : Parts) (shaped : IsWellSha
     starts_safe : (e : ℕ) (o : Option Status) → slice_get s.edges e ≡ o → Safe (starts p s e o)
     starts_safe e (Some Unbegun) now =
         let edge = shaped.edges e (omega (arith, slice_get_within s.edges e Unbegun now, sound.long)) in
-        when_either Safe (list_all (stands is_well s) (waits_of p e)) _ _
+        when_either Safe (list_all (stands has_succeeded s) (waits_of p e)) _ _
         (λ all. changed laws p s e Unbegun (Active begun) s.slots sound now refl sound.typed (same_slots s)
-        (edge.0, edge.1, begun_typed p e edge.0 s.slots edge.1, λ w h. all_member (stands is_well s) (waits_of p e) w all h))
+        (edge.0, edge.1, begun_typed p e edge.0 s.slots edge.1, λ w h. all_member (stands has_succeeded s) (waits_of p e) w all h))
         (λ h. tt)
     starts_safe e None now = tt
     starts_safe e (Some (Active l)) now = tt
@@ -172,7 +172,7 @@ module _ (laws : VerifyLaws) (meaning : Meaning) (p : Parts) (shaped : IsWellSha
 
     skips_safe : (e w : ℕ) (o : Option Status) → slice_get s.edges e ≡ o → Safe (skips p s e w o)
     skips_safe e w (Some Unbegun) now =
-        when_either Safe (is_member w (waits_of p e) && stands is_ill s w) _ _
+        when_either Safe (is_member w (waits_of p e) && stands is_unsuccessful s w) _ _
         (λ h. over_safe e Unbegun (Skipped w) (mark.Skipped e w) now refl refl (λ k. absurd cc)) (λ h. tt)
     skips_safe e w None now = tt
     skips_safe e w (Some (Active l)) now = tt

@@ -13,17 +13,17 @@ use Rattle.plan_verify.specs.Turn.{Slots, Request, Local, begun, Did, Turn, Goes
 use Rattle.plan_verify.specs.WellShaped.{IsWellShaped}
 use Rattle.plan_verify.specs.Sound.{IsSafe, asking}
 use Rattle.plan_verify.specs.Seam.{QuestionsIgnoreSlots}
-use Rattle.plan_books.specs.declared.plan.Plan.{Plan}
-use Rattle.plan_books.specs.declared.keeping.Books.{Books}
+use Rattle.plan_schedule.specs.declared.plan.Plan.{Plan}
+use Rattle.plan_schedule.specs.declared.schedule.Schedule.{Schedule}
 use Rattle.plan_machine.specs.Limits.{Limits}
 use Rattle.plan_machine.specs.declared.event.Event.{Event}
 use Rattle.plan_machine.specs.declared.event.Event.TheVariants.{Start, Skip, Stop, Step, Reply as Hear}
-use Rattle.plan_machine.specs.declared.mark.Mark.{Mark}
-use Rattle.plan_machine.specs.declared.mark.Outcome.TheVariants.{Failed, Skipped, Stopped}
-use Rattle.plan_machine.specs.State.{Status, Unbegun, Active, Over, State, is_well, is_ill, is_over, passes, stands}
+use Rattle.plan_machine.specs.declared.event.mark.Mark.{Mark}
+use Rattle.plan_machine.specs.declared.event.mark.Outcome.TheVariants.{Failed, Skipped, Stopped}
+use Rattle.plan_machine.specs.State.{Status, Unbegun, Active, Over, State, has_succeeded, is_unsuccessful, is_over, passes, stands}
 use Rattle.plan_machine.specs.Places.{is_spent, is_free, at_take}
 use Rattle.plan_machine.specs.Step.{Stepped, Next, Wrong, NotEnabled, stepped, answered, ended, settles, hears_by, starts, skips, stops, steps, hears, answer_of, step}
-use Rattle.plan_machine.specs.Going.{Going}
+use Rattle.plan_machine.specs.RunState.{RunState}
 use Rattle.plan_machine.specs.Runs.{Runs, Reached, Opens}
 use Rattle.plan_machine.specs.Standing.{IsUnderWay, Stands}
 use Rattle.plan_machine.specs.Depfile.{depfile}
@@ -38,8 +38,8 @@ use Rattle.plan_machine.proofs.VerifyLaws.{VerifyLaws}
 use Rattle.plan_machine.proofs.StandingLemmas.{turn_safe}
 use Rattle.plan_machine.proofs.OpensLemmas.{reached_stands}
 
-pub state_stands : VerifyLaws → (p : Parts) → IsWellShaped p → (r : Running) → IsStateOf p r → Stands p r.going.now
-state_stands laws p shaped r is = reached_stands laws depfile p shaped r.going.limits is.targets is.events is.marks r.going.now is.reached
+pub state_stands : VerifyLaws → (p : Parts) → IsWellShaped p → (r : Running) → IsStateOf p r → Stands p r.run_state.now
+state_stands laws p shaped r is = reached_stands laws depfile p shaped r.run_state.limits is.targets is.events is.marks r.run_state.now is.reached
 
 safe_works : (p : Parts) (e : ℕ) (shapes : List Shape) (slots : Slots) (l : Local) (t : Turn) → IsSafe p e shapes slots l t → Works t
 safe_works p e shapes slots l (Goes did m) safe = tt
@@ -107,14 +107,14 @@ module _ (meaning : Meaning) (p : Parts) (limits : Limits) (s : State) where
 
   starts_changes : (e : ℕ) (o : Option Status) → slice_get s.edges e ≡ o → Changes e (starts p s e o)
   starts_changes e (Some Unbegun) now =
-      when_either (Changes e) (list_all (stands is_well s) (waits_of p e)) _ _ (λ h. record { before = Unbegun; after = Active begun; now = now; was_open = refl; still_wanted = refl; left = refl }) (λ h. tt)
+      when_either (Changes e) (list_all (stands has_succeeded s) (waits_of p e)) _ _ (λ h. record { before = Unbegun; after = Active begun; now = now; was_open = refl; still_wanted = refl; left = refl }) (λ h. tt)
   starts_changes e None now = tt
   starts_changes e (Some (Active l)) now = tt
   starts_changes e (Some (Over outcome)) now = tt
 
   skips_changes : (e w : ℕ) (o : Option Status) → slice_get s.edges e ≡ o → Changes e (skips p s e w o)
   skips_changes e w (Some Unbegun) now =
-      when_either (Changes e) (is_member w (waits_of p e) && stands is_ill s w) _ _ (λ h. record { before = Unbegun; after = Over (Skipped w); now = now; was_open = refl; still_wanted = refl; left = refl }) (λ h. tt)
+      when_either (Changes e) (is_member w (waits_of p e) && stands is_unsuccessful s w) _ _ (λ h. record { before = Unbegun; after = Over (Skipped w); now = now; was_open = refl; still_wanted = refl; left = refl }) (λ h. tt)
   skips_changes e w None now = tt
   skips_changes e w (Some (Active l)) now = tt
   skips_changes e w (Some (Over outcome)) now = tt
@@ -181,7 +181,7 @@ same_total p s new e c = same_commands p s new each (length p.edges)
     ]
 
 -- an applied event leads to a reached state
-pub still_reached : (p : Parts) (old new : Going) (targets : List ℕ) (events : List Event) (marks : List Mark) (event : Event) (told : Mark)
+pub still_reached : (p : Parts) (old new : RunState) (targets : List ℕ) (events : List Event) (marks : List Mark) (event : Event) (told : Mark)
     → Reached depfile p old.limits targets events marks old.now → Applied p old event (Ok told) new
     → Reached depfile p new.limits targets (events ++ event ∷ []) (marks ++ told ∷ []) new.now
 still_reached p old new targets events marks event told reached applied =
@@ -189,29 +189,29 @@ still_reached p old new targets events marks event told reached applied =
     (record { start = reached.start; opens = reached.opens; run = runs_more p old.limits reached.start old.now new.now events marks event told reached.run applied.0 })
 
 -- the schedule agrees with the state before an applied event
-pub left_behind : (p : Parts) (old new : Running) (event : Event) (told : Mark) (e : ℕ) → AreKept p old.going.now old.plan old.books → Applied p old.going event (Ok told) new.going
-    → new.plan ≡ old.plan → new.books ≡ old.books → e ≡ edge_of event → IsBehind p new e
-left_behind p old new event told e kept applied plan books is =
+pub left_behind : (p : Parts) (old new : Running) (event : Event) (told : Mark) (e : ℕ) → AreKept p old.run_state.now old.plan old.schedule → Applied p old.run_state event (Ok told) new.run_state
+    → new.plan ≡ old.plan → new.schedule ≡ old.schedule → e ≡ edge_of event → IsBehind p new e
+left_behind p old new event told e kept applied plan schedule is =
     record {
-      old = old.going.now;
-      kept = subst (λ (x : Plan). AreKept p old.going.now x new.books) (sym plan) (subst (λ (x : Books). AreKept p old.going.now old.plan x) (sym books) kept);
-      changed = subst (Changed old.going.now new.going.now) (sym is) (changed depfile p old.going.limits old.going.now new.going.now event told applied.0);
+      old = old.run_state.now;
+      kept = subst (λ (x : Plan). AreKept p old.run_state.now x new.schedule) (sym plan) (subst (λ (x : Schedule). AreKept p old.run_state.now old.plan x) (sym schedule) kept);
+      changed = subst (Changed old.run_state.now new.run_state.now) (sym is) (changed depfile p old.run_state.limits old.run_state.now new.run_state.now event told applied.0);
     }
 
 -- an applied event leads to a state of the image, after the schedule is updated
-pub next_state : (p : Parts) (old mid new : Running) (event : Event) (told : Mark) → IsStateOf p old → Applied p old.going event (Ok told) mid.going → new.going ≡ mid.going → new.total ≡ old.total
-    → AreKept p new.going.now new.plan new.books → IsStateOf p new
+pub next_state : (p : Parts) (old mid new : Running) (event : Event) (told : Mark) → IsStateOf p old → Applied p old.run_state event (Ok told) mid.run_state → new.run_state ≡ mid.run_state → new.total ≡ old.total
+    → AreKept p new.run_state.now new.plan new.schedule → IsStateOf p new
 next_state p old mid new event told is applied same total kept =
     record {
       targets = is.targets;
       events = is.events ++ event ∷ [];
       marks = is.marks ++ told ∷ [];
-      reached = subst (λ (g : Going). Reached depfile p g.limits is.targets (is.events ++ event ∷ []) (is.marks ++ told ∷ []) g.now) (sym same)
-          (still_reached p old.going mid.going is.targets is.events is.marks event told is.reached applied);
+      reached = subst (λ (g : RunState). Reached depfile p g.limits is.targets (is.events ++ event ∷ []) (is.marks ++ told ∷ []) g.now) (sym same)
+          (still_reached p old.run_state mid.run_state is.targets is.events is.marks event told is.reached applied);
       kept = kept;
       counted = total ∙ is.counted
-          ∙ sym (ap (λ (g : Going). total_of p g.now) same ∙ same_total p old.going.now mid.going.now (edge_of event) (changed depfile p old.going.limits old.going.now mid.going.now event told applied.0));
+          ∙ sym (ap (λ (g : RunState). total_of p g.now) same ∙ same_total p old.run_state.now mid.run_state.now (edge_of event) (changed depfile p old.run_state.limits old.run_state.now mid.run_state.now event told applied.0));
     }
 
-pub first_state : (p : Parts) (targets : List ℕ) (r : Running) → Opens p targets r.going.now → AreKept p r.going.now r.plan r.books → r.total ≡ total_of p r.going.now → IsStateOf p r
-first_state p targets r opens kept counted = record { targets = targets; events = []; marks = []; reached = record { start = r.going.now; opens = opens; run = refl }; kept = kept; counted = counted }
+pub first_state : (p : Parts) (targets : List ℕ) (r : Running) → Opens p targets r.run_state.now → AreKept p r.run_state.now r.plan r.schedule → r.total ≡ total_of p r.run_state.now → IsStateOf p r
+first_state p targets r opens kept counted = record { targets = targets; events = []; marks = []; reached = record { start = r.run_state.now; opens = opens; run = refl }; kept = kept; counted = counted }

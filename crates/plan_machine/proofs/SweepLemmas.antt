@@ -11,26 +11,26 @@ use Rattle.plan_verify.specs.declared.value.Value.TheVariants.{Stamp, Flag, Path
 use Rattle.plan_verify.specs.Turn.{Slots, Request, Stat, Local, Moved, Turn, Goes, Asks, Wrong, TooDeep, StampIs, goes, merged, later, sweeps, sweep, act_at, turn, request_of, question, heard}
 use Rattle.plan_verify.specs.Sound.{asking}
 use Rattle.plan_machine.specs.declared.event.Event.TheVariants.{Step, Reply as Hear}
-use Rattle.plan_machine.specs.declared.reply.Reply.TheVariants as reply
-use Rattle.plan_machine.specs.declared.mark.Mark.TheVariants as mark
-use Rattle.plan_machine.specs.declared.turned.Turned.TheVariants as turned
-use Rattle.plan_machine.specs.declared.turned.Heard.TheVariants as hearing
+use Rattle.plan_machine.specs.declared.event.reply.Reply.TheVariants as reply
+use Rattle.plan_machine.specs.declared.event.mark.Mark.TheVariants as mark
+use Rattle.plan_machine.specs.declared.edge.turned.Turned.TheVariants as turned
+use Rattle.plan_machine.specs.declared.edge.turned.Heard.TheVariants as hearing
 use Rattle.plan_machine.specs.State.{Status, Active, State, with_status}
-use Rattle.plan_machine.specs.Going.{Going}
+use Rattle.plan_machine.specs.RunState.{RunState}
 use Rattle.plan_machine.specs.Depfile.{depfile}
 use Rattle.plan_machine.specs.Turned.{IsMade}
 use Rattle.plan_machine.specs.Hearing.{HasHeard}
 use Rattle.plan_machine.specs.Applying.{Applied}
 use Rattle.plan_machine.specs.Replaying.{RunsTo}
 use Rattle.plan_machine.specs.Requests.{asked_by, asked_at, HasPathsAt}
-use Rattle.plan_machine.specs.Rushes.{HasStrode, HasRushed}
+use Rattle.plan_machine.specs.LocalRuns.{HasMadeLocalStep, HasRunLocally}
 use Rattle.plan_machine.specs.Sweeping.{sweep_events, sweep_marks, AwaitsSwept, HasNext, HasSwept, IsNext, IsSweptAt, Sweeps, SweepsOn}
 use Rattle.plan_machine.specs.Working.{IsSweeping}
 use Rattle.plan_machine.proofs.ListLemmas.{get_inside, get_same, when_true}
 use Rattle.plan_machine.proofs.Applies.{set_again}
 use Rattle.plan_machine.proofs.AskingLemmas.{heard_is}
 use Rattle.plan_machine.proofs.HearingLemmas.{hear_is}
-use Rattle.plan_machine.proofs.RushLemmas.{elsewhere_so, follow_run, stride_applied}
+use Rattle.plan_machine.proofs.LocalRunLemmas.{elsewhere_so, follow_run, local_step_applied}
 
 -- ---- one edge
 
@@ -93,8 +93,8 @@ module _ (p : Parts) (e : ℕ) (path : List ℕ) (l : Local) (s : Sweeps p e pat
           sweeps = s;
           between = mid;
           hears = hears_so;
-          strode = λ slots. subst (λ (n : Local). HasStrode p e turned.Asked mid n slots slots) (sym same)
-              (record { strides = tt; silent = ap (λ (m : Local). m.asked) mid_is; elsewhere = elsewhere_so p e mid op.Sweep at_mid refl; made = (made_so slots, refl) });
+          stepped_locally = λ slots. subst (λ (n : Local). HasMadeLocalStep p e turned.Asked mid n slots slots) (sym same)
+              (record { local_step = tt; silent = ap (λ (m : Local). m.asked) mid_is; elsewhere = elsewhere_so p e mid op.Sweep at_mid refl; made = (made_so slots, refl) });
           later = subst (λ (n : Local). AwaitsSwept p e n) (sym same) later_so;
         }
 
@@ -111,7 +111,7 @@ swept_asked p s e path is next =
     ap (asked_by p e s.slots) is.1
     ∙ when_true (λ (q : Option Request). q ≡ Some (Stat path)) is.0.asked _ _ is.2.asked (question_is p e path is.0 is.2.at (next is.0 is.1) s.slots)
 
-module _ (p : Parts) (old new : Going) (e : ℕ) (path : List ℕ) (stamp : ℕ) (h : SweepsOn p old e path stamp new) where
+module _ (p : Parts) (old new : RunState) (e : ℕ) (path : List ℕ) (stamp : ℕ) (h : SweepsOn p old e path stamp new) where
   pub asked_so : asked_at p old.now e ≡ Some (Stat path)
   asked_so =
       ap (asked_by p e old.now.slots) h.now
@@ -120,23 +120,23 @@ module _ (p : Parts) (old new : Going) (e : ℕ) (path : List ℕ) (stamp : ℕ)
   pub awaits_so : IsSweptAt p new.now e
   awaits_so = (
     h.after,
-    ap (λ (g : Going). slice_get g.now.edges e) h.left ∙ get_same old.now.edges e (Active h.after) (slice_get_within old.now.edges e (Active h.before) h.now),
+    ap (λ (g : RunState). slice_get g.now.edges e) h.left ∙ get_same old.now.edges e (Active h.after) (slice_get_within old.now.edges e (Active h.before) h.now),
     h.swept.later,
   )
 
   pub runs_so : RunsTo p old (sweep_events e stamp) (sweep_marks e) new
   runs_so =
-      let between : Going = record { limits = old.limits; now = with_status old.now e (Active h.swept.between) } in
+      let between : RunState = record { limits = old.limits; now = with_status old.now e (Active h.swept.between) } in
       let heard_so : HasHeard p old e (StampIs stamp) hearing.On between = record { before = h.before; after = h.swept.between; now = h.now; made = h.swept.hears; left = refl } in
       let one : Applied p old (Hear e (reply.Stamp stamp)) (Ok (mark.Answered e)) between = hear_is p e (StampIs stamp) old between hearing.On heard_so (reply.Stamp stamp) (Ok (mark.Answered e)) between refl (refl, refl) in
-      let rushed : HasRushed p between e turned.Asked new =
+      let ran_locally : HasRunLocally p between e turned.Asked new =
       record {
         before = h.swept.between;
         after = h.after;
         now = get_same old.now.edges e (Active h.swept.between) (slice_get_within old.now.edges e (Active h.before) h.now);
         slots = old.now.slots;
-        strode = h.swept.strode old.now.slots;
+        stepped_locally = h.swept.stepped_locally old.now.slots;
         left = h.left ∙ ap (λ (xs : List Status). record { limits = old.limits; now = record { edges = xs; slots = old.now.slots } }) (sym (set_again old.now.edges e (Active h.swept.between) (Active h.after)));
       } in
-      let two : Applied p between (Step e) (Ok (mark.Asked e)) new = stride_applied p e between new turned.Asked rushed true refl in
+      let two : Applied p between (Step e) (Ok (mark.Asked e)) new = local_step_applied p e between new turned.Asked ran_locally true refl in
       follow_run p old between new (Hear e (reply.Stamp stamp)) (mark.Answered e) (Step e ∷ []) (mark.Asked e ∷ []) one (record { run = (new.now, two.0, refl); limits = two.1 })

@@ -1,4 +1,4 @@
--- A row of a sweep: the stamps of several paths, merged at once. Lemmas for src/swept_row.rt.
+-- A row of a sweep: the stamps of several paths, merged at once. Lemmas for src/edge/swept_row.rt.
 use Rattle.std.proofs.Common.{◌≡◌, ℕ, zero, suc, ◌+◌, ◌<◌, ◌≤◌, Bool, true, false, List, [], ◌∷◌, drop, length, Option, Some, None, take, refl, sym, ap, ◌∙◌, subst, arith}
 use Rattle.std.specs.Prelude.{◌||◌, ◌==◌, bytes_eq, get_or, nat_lt, slice_get, slice_set, option_map}
 use Rattle.std.specs.List.{fold}
@@ -12,10 +12,10 @@ use Rattle.plan_verify.specs.declared.value.Value.{Value}
 use Rattle.plan_verify.specs.declared.value.Value.TheVariants.{Stamp, Flag, Paths}
 use Rattle.plan_verify.specs.Members.{is_member}
 use Rattle.plan_verify.specs.Turn.{Local, Moved, Turn, Goes, Stat, goes, later, merged}
-use Rattle.plan_books.specs.declared.keeping.Books.{Books}
-use Rattle.plan_books.specs.declared.plan.Plan.{Plan}
+use Rattle.plan_schedule.specs.declared.schedule.Schedule.{Schedule}
+use Rattle.plan_schedule.specs.declared.plan.Plan.{Plan}
 use Rattle.plan_machine.specs.Depfile.{depfile}
-use Rattle.plan_machine.specs.Going.{Going}
+use Rattle.plan_machine.specs.RunState.{RunState}
 use Rattle.plan_machine.specs.Kept.{AreKept, Changed, IsStateOf, Running, phase_active, phase_of, phases_from}
 use Rattle.plan_machine.specs.Places.{at_take}
 use Rattle.plan_machine.specs.Replaying.{RunsTo}
@@ -27,7 +27,7 @@ use Rattle.plan_machine.specs.Working.{IsSweeping}
 use Rattle.plan_machine.proofs.Applies.{set_again}
 use Rattle.plan_machine.proofs.KeptLemmas.{phase_found, phases_set}
 use Rattle.plan_machine.proofs.ListLemmas.{get_inside, get_same, set_here, set_length, when_false}
-use Rattle.plan_machine.proofs.RushLemmas.{changed_state, runs_join}
+use Rattle.plan_machine.proofs.LocalRunLemmas.{changed_state, runs_join}
 use Rattle.plan_machine.proofs.SweepLemmas.{asked_so, awaits_so, runs_so, swept_asked, swept_on}
 
 -- ---- lists
@@ -186,17 +186,17 @@ one_swept p e path stamp l awaits few next =
 -- ---- the machine
 
 -- the machine in which this edge has this status
-abbrev standing : Going → ℕ → Local → Going
+abbrev standing : RunState → ℕ → Local → RunState
 standing g e l = record { limits = g.limits; now = with_status g.now e (Active l) }
 
-standing_here : (g : Going) (e : ℕ) (l : Local) → slice_get g.now.edges e ≡ Some (Active l) → standing g e l ≡ g
+standing_here : (g : RunState) (e : ℕ) (l : Local) → slice_get g.now.edges e ≡ Some (Active l) → standing g e l ≡ g
 standing_here g e l now = ap (λ (xs : List Status). record { limits = g.limits; now = record { edges = xs; slots = g.now.slots } }) (set_here g.now.edges e (Active l) now)
 
-standing_again : (g : Going) (e : ℕ) (l m : Local) → standing (standing g e l) e m ≡ standing g e m
+standing_again : (g : RunState) (e : ℕ) (l m : Local) → standing (standing g e l) e m ≡ standing g e m
 standing_again g e l m = ap (λ (xs : List Status). record { limits = g.limits; now = record { edges = xs; slots = g.now.slots } }) (set_again g.now.edges e (Active l) (Active m))
 
 module _ (p : Parts) (e : ℕ) where
-  row_by : (paths : List (List ℕ)) (stamps : List ℕ) (old : Going) (l : Local) (stack : List Value) → slice_get old.now.edges e ≡ Some (Active l) → AwaitsSwept p e l → length l.stack ≤ 64
+  row_by : (paths : List (List ℕ)) (stamps : List ℕ) (old : RunState) (l : Local) (stack : List Value) → slice_get old.now.edges e ≡ Some (Active l) → AwaitsSwept p e l → length l.stack ≤ 64
       → IsMergedRow paths stamps l.stack stack → IsSweptRow p old e paths stamps (standing old e (with_stack l stack))
   row_by paths [] old l stack now awaits few row =
       ap (λ (xs : List Value). standing old e (with_stack l xs)) row
@@ -206,7 +206,7 @@ module _ (p : Parts) (e : ℕ) where
   row_by (path ∷ paths) (stamp ∷ stamps) old l stack now awaits few row =
       let mid : Local = with_stack l (merged stamp l.stack) in
       let swept : HasSwept p e path stamp l mid = one_swept p e path stamp l awaits few row.0 in
-      let between : Going = standing old e mid in
+      let between : RunState = standing old e mid in
       let on : SweepsOn p old e path stamp between = record { before = l; after = mid; now = now; swept = swept; left = refl } in
       let there : slice_get between.now.edges e ≡ Some (Active mid) = get_same old.now.edges e (Active mid) (slice_get_within old.now.edges e (Active l) now) in
       let room : length mid.stack ≤ 64 = omega (arith, few, length_merged path stamp l.stack row.0) in (
@@ -214,15 +214,15 @@ module _ (p : Parts) (e : ℕ) where
         asked_so p old between e path stamp on,
         runs_so p old between e path stamp on,
         awaits_so p old between e path stamp on,
-        subst (λ (new : Going). IsSweptRow p between e paths stamps new) (standing_again old e mid (with_stack l stack)) (row_by paths stamps between mid stack there swept.later room row.1),
+        subst (λ (new : RunState). IsSweptRow p between e paths stamps new) (standing_again old e mid (with_stack l stack)) (row_by paths stamps between mid stack there swept.later room row.1),
       )
 
   -- a received row is a run
-  pub row_runs : (paths : List (List ℕ)) (stamps : List ℕ) (old new : Going) → IsSweptRow p old e paths stamps new → RunsTo p old (row_events e stamps) (row_marks e stamps) new
-  row_runs paths [] old new row = record { run = ap (λ (g : Going). g.now) (sym row); limits = ap (λ (g : Going). g.limits) row }
+  pub row_runs : (paths : List (List ℕ)) (stamps : List ℕ) (old new : RunState) → IsSweptRow p old e paths stamps new → RunsTo p old (row_events e stamps) (row_marks e stamps) new
+  row_runs paths [] old new row = record { run = ap (λ (g : RunState). g.now) (sym row); limits = ap (λ (g : RunState). g.limits) row }
   row_runs [] (stamp ∷ stamps) old new row = absurd row
   row_runs (path ∷ paths) (stamp ∷ stamps) old new row =
-      let between : Going = row.0 in
+      let between : RunState = row.0 in
       let rest = row_runs paths stamps between new row.4 in
       record {
         run = runs_join p old.limits old.now between.now new.now (sweep_events e stamp) (row_events e stamps) (sweep_marks e) (row_marks e stamps) row.2.run
@@ -230,7 +230,7 @@ module _ (p : Parts) (e : ℕ) where
         limits = rest.limits ∙ row.2.limits;
       }
 
-module _ (p : Parts) (old new : Going) (e : ℕ) (paths : List (List ℕ)) (stamps : List ℕ) (h : SweepsRow p old e paths stamps new) where
+module _ (p : Parts) (old new : RunState) (e : ℕ) (paths : List (List ℕ)) (stamps : List ℕ) (h : SweepsRow p old e paths stamps new) where
   after_is : h.after ≡ with_stack h.before h.after.stack
   after_is =
       h.row.left
@@ -240,10 +240,10 @@ module _ (p : Parts) (old new : Going) (e : ℕ) (paths : List (List ℕ)) (stam
   new_is = h.left ∙ ap (standing old e) after_is
 
   pub row_so : IsSweptRow p old e paths stamps new
-  row_so = subst (λ (g : Going). IsSweptRow p old e paths stamps g) (sym new_is) (row_by p e paths stamps old h.before h.after.stack h.now h.awaits h.row.few h.row.merged)
+  row_so = subst (λ (g : RunState). IsSweptRow p old e paths stamps g) (sym new_is) (row_by p e paths stamps old h.before h.after.stack h.now h.awaits h.row.few h.row.merged)
 
   there : slice_get new.now.edges e ≡ Some (Active h.after)
-  there = ap (λ (g : Going). slice_get g.now.edges e) h.left ∙ get_same old.now.edges e (Active h.after) (slice_get_within old.now.edges e (Active h.before) h.now)
+  there = ap (λ (g : RunState). slice_get g.now.edges e) h.left ∙ get_same old.now.edges e (Active h.after) (slice_get_within old.now.edges e (Active h.before) h.now)
 
   pub to_more : (all : List (List ℕ)) (n : ℕ) → HasSweptTo p old.now e all n → HasSweptTo p new.now e all (n + length stamps)
   to_more all n to =
@@ -269,33 +269,33 @@ module _ (p : Parts) (old new : Going) (e : ℕ) (paths : List (List ℕ)) (stam
   phases_same =
       let here : slice_get (phases_from p 0 old.now.edges) e ≡ Some (phase_of p e (Active h.before)) =
       phase_found p e old.now.edges ∙ ap (option_map (phase_of p e)) h.now in
-      ap (λ (g : Going). phases_from p 0 g.now.edges) h.left ∙ phases_set p e old.now.edges (Active h.after)
+      ap (λ (g : RunState). phases_from p 0 g.now.edges) h.left ∙ phases_set p e old.now.edges (Active h.after)
       ∙ ap (slice_set (phases_from p 0 old.now.edges) e) phase_same ∙ set_here (phases_from p 0 old.now.edges) e (phase_of p e (Active h.before)) here
 
   -- the schedule agrees without a change
-  kept_row : (plan : Plan) (books : Books) → AreKept p old.now plan books → AreKept p new.now plan books
-  kept_row plan books kept =
+  kept_row : (plan : Plan) (schedule : Schedule) → AreKept p old.now plan schedule → AreKept p new.now plan schedule
+  kept_row plan schedule kept =
       record {
         plan_is = kept.plan_is;
-        long = ap (λ (g : Going). length g.now.edges) h.left ∙ set_length old.now.edges e (Active h.after) ∙ kept.long;
+        long = ap (λ (g : RunState). length g.now.edges) h.left ∙ set_length old.now.edges e (Active h.after) ∙ kept.long;
         phases = kept.phases ∙ sym phases_same;
         fit = kept.fit;
       }
 
   pub changed_row : Changed old.now new.now e
-  changed_row = record { before = Active h.before; after = Active h.after; now = h.now; was_open = refl; still_wanted = refl; left = ap (λ (g : Going). g.now.edges) h.left }
+  changed_row = record { before = Active h.before; after = Active h.after; now = h.now; was_open = refl; still_wanted = refl; left = ap (λ (g : RunState). g.now.edges) h.left }
 
-pub state_row : (p : Parts) (old new : Running) (e : ℕ) (paths : List (List ℕ)) (stamps : List ℕ) → SweepsRow p old.going e paths stamps new.going → IsStateOf p old → new.plan ≡ old.plan → new.books ≡ old.books
+pub state_row : (p : Parts) (old new : Running) (e : ℕ) (paths : List (List ℕ)) (stamps : List ℕ) → SweepsRow p old.run_state e paths stamps new.run_state → IsStateOf p old → new.plan ≡ old.plan → new.schedule ≡ old.schedule
     → new.total ≡ old.total → IsStateOf p new
-state_row p old new e paths stamps h is plan books total =
-    changed_state p old new is (row_events e stamps) (row_marks e stamps) (row_runs p e paths stamps old.going new.going (row_so p old.going new.going e paths stamps h)) e
-    (changed_row p old.going new.going e paths stamps h) total
-    (subst (λ (x : Plan). AreKept p new.going.now x new.books) (sym plan)
-    (subst (λ (x : Books). AreKept p new.going.now old.plan x) (sym books) (kept_row p old.going new.going e paths stamps h old.plan old.books is.kept)))
+state_row p old new e paths stamps h is plan schedule total =
+    changed_state p old new is (row_events e stamps) (row_marks e stamps) (row_runs p e paths stamps old.run_state new.run_state (row_so p old.run_state new.run_state e paths stamps h)) e
+    (changed_row p old.run_state new.run_state e paths stamps h) total
+    (subst (λ (x : Plan). AreKept p new.run_state.now x new.schedule) (sym plan)
+    (subst (λ (x : Schedule). AreKept p new.run_state.now old.plan x) (sym schedule) (kept_row p old.run_state new.run_state e paths stamps h old.plan old.schedule is.kept)))
 
 -- ---- the facts for callers
 
-pub next_so : (p : Parts) (old new : Going) (e from n : ℕ) (paths : List (List ℕ)) (stamps : List ℕ) → n ≤ length stamps → SweepsRow p old e (drop from paths) (take n stamps) new → HasSweptTo p old.now e paths from
+pub next_so : (p : Parts) (old new : RunState) (e from n : ℕ) (paths : List (List ℕ)) (stamps : List ℕ) → n ≤ length stamps → SweepsRow p old e (drop from paths) (take n stamps) new → HasSweptTo p old.now e paths from
     → HasSweptTo p new.now e paths (from + n)
 next_so p old new e from n paths stamps few h to =
     subst (λ (k : ℕ). HasSweptTo p new.now e paths (from + k)) (length-take-le n stamps few) (to_more p old new e (drop from paths) (take n stamps) h paths from to)

@@ -4,12 +4,12 @@ use Rattle.plan_image.specs.declared.image.Parts.{Parts}
 use Rattle.plan_verify.specs.Turn.{Meaning}
 use Rattle.plan_verify.specs.WellShaped.{IsWellShaped}
 use Rattle.plan_machine.specs.Limits.{Limits}
-use Rattle.plan_machine.specs.declared.reply.Reply.{Reply}
+use Rattle.plan_machine.specs.declared.event.reply.Reply.{Reply}
 use Rattle.plan_machine.specs.declared.event.Event.{Event}
 use Rattle.plan_machine.specs.declared.event.Event.TheVariants.{Reply as Hear}
-use Rattle.plan_machine.specs.declared.mark.Mark.{Mark}
-use Rattle.plan_machine.specs.declared.mark.Outcome.{Outcome}
-use Rattle.plan_machine.specs.declared.mark.Outcome.TheVariants.{Skipped}
+use Rattle.plan_machine.specs.declared.event.mark.Mark.{Mark}
+use Rattle.plan_machine.specs.declared.event.mark.Outcome.{Outcome}
+use Rattle.plan_machine.specs.declared.event.mark.Outcome.TheVariants.{Skipped}
 use Rattle.plan_machine.specs.State.{State, has_ended, outcome_at}
 use Rattle.plan_machine.specs.Runs.{Reached}
 

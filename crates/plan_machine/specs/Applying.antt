@@ -6,23 +6,23 @@ use Rattle.plan_verify.specs.Turn.{Slots, Local, turn}
 use Rattle.plan_machine.specs.Limits.{Limits}
 use Rattle.plan_machine.specs.declared.event.Event.{Event}
 use Rattle.plan_machine.specs.declared.event.Event.TheVariants.{Skip, Stop}
-use Rattle.plan_machine.specs.declared.mark.Mark.{Mark}
-use Rattle.plan_machine.specs.declared.mark.Mark.TheVariants as mark
-use Rattle.plan_machine.specs.declared.mark.Outcome.TheVariants.{Failed}
-use Rattle.plan_machine.specs.declared.refused.Refused.{Refused}
-use Rattle.plan_machine.specs.declared.refused.Refused.TheVariants as refused
-use Rattle.plan_machine.specs.declared.turned.Turned.{Turned}
-use Rattle.plan_machine.specs.declared.turned.Turned.TheVariants as turned
+use Rattle.plan_machine.specs.declared.event.mark.Mark.{Mark}
+use Rattle.plan_machine.specs.declared.event.mark.Mark.TheVariants as mark
+use Rattle.plan_machine.specs.declared.event.mark.Outcome.TheVariants.{Failed}
+use Rattle.plan_machine.specs.declared.run.refused.Refused.{Refused}
+use Rattle.plan_machine.specs.declared.run.refused.Refused.TheVariants as refused
+use Rattle.plan_machine.specs.declared.edge.turned.Turned.{Turned}
+use Rattle.plan_machine.specs.declared.edge.turned.Turned.TheVariants as turned
 use Rattle.plan_machine.specs.State.{Status, Unbegun, Active, Over, State, with_status}
 use Rattle.plan_machine.specs.Places.{at_take, is_free}
 use Rattle.plan_machine.specs.Step.{Next, NotEnabled, ended, step}
-use Rattle.plan_machine.specs.Going.{Going}
+use Rattle.plan_machine.specs.RunState.{RunState}
 use Rattle.plan_machine.specs.Depfile.{depfile}
 use Rattle.plan_machine.specs.Turned.{IsTurned}
 use Rattle.plan_machine.specs.Working.{Works}
 
 -- An applied event has the next state and mark of the table. A refused one changes nothing.
-abbrev pub Applied : Parts → Going → Event → Result Mark Refused → Going → Type 0
+abbrev pub Applied : Parts → RunState → Event → Result Mark Refused → RunState → Type 0
 Applied p old event (Ok told) new = (step depfile p old.limits old.now event ≡ Next new.now told) × (new.limits ≡ old.limits)
 Applied p old event (Err refused.NotEnabled) new = (step depfile p old.limits old.now event ≡ NotEnabled) × (new ≡ old)
 Applied p old event (Err refused.Memory) new = new ≡ old
@@ -68,7 +68,7 @@ pub record HasStepped (p : Parts) (e : ℕ) (r : Turned) (old new : Status) (slo
   pub made : IsTurned r before later slots after (turn p e slots before)
 
 -- a running edge made a turn
-pub record HasTurned (p : Parts) (old : Going) (e : ℕ) (r : Turned) (new : Going) : Type 0 where
+pub record HasTurned (p : Parts) (old : RunState) (e : ℕ) (r : Turned) (new : RunState) : Type 0 where
   pub before : Local
   pub after : Local
   pub now : slice_get old.now.edges e ≡ Some (Active before)
@@ -77,7 +77,7 @@ pub record HasTurned (p : Parts) (old : Going) (e : ℕ) (r : Turned) (new : Goi
   pub left : new ≡ record { limits = old.limits; now = record { edges = slice_set old.now.edges e (Active after); slots = slots } }
 
 -- the mark of a turn, and the status of the edge after it
-abbrev pub Settles : Going → ℕ → Turned → Mark → Going → Type 0
+abbrev pub Settles : RunState → ℕ → Turned → Mark → RunState → Type 0
 Settles old e turned.Moved told new = (told ≡ mark.Moved e) × (new ≡ old)
 Settles old e turned.Stored told new = (told ≡ mark.Moved e) × (new ≡ old)
 Settles old e turned.Took told new = (told ≡ mark.Took e) × (new ≡ old)

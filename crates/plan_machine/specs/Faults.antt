@@ -1,7 +1,7 @@
 -- The numbers of refusals.
 use Rattle.std.specs.Prelude.{ℕ}
-use Rattle.plan_machine.specs.declared.refused.Refused.{Refused}
-use Rattle.plan_machine.specs.declared.refused.Refused.TheVariants.{NotEnabled, Memory, BadTarget}
+use Rattle.plan_machine.specs.declared.run.refused.Refused.{Refused}
+use Rattle.plan_machine.specs.declared.run.refused.Refused.TheVariants.{NotEnabled, Memory, BadTarget}
 
 abbrev pub number_of : Refused → ℕ
 number_of NotEnabled = 110

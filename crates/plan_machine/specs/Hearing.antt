@@ -3,15 +3,15 @@ use Rattle.std.specs.Prelude.{◌≡◌, ℕ, ◌<◌, length, Option, Some, Non
 use Rattle.plan_image.specs.declared.image.Parts.{Parts}
 use Rattle.plan_image.specs.Code.{code}
 use Rattle.plan_verify.specs.Turn.{Local, Turn, Goes, Moved, Fails, heard, question, Reply as Answer}
-use Rattle.plan_machine.specs.declared.mark.Mark.{Mark}
-use Rattle.plan_machine.specs.declared.mark.Mark.TheVariants as mark
-use Rattle.plan_machine.specs.declared.mark.Outcome.TheVariants.{Failed}
-use Rattle.plan_machine.specs.declared.refused.Refused.{Refused}
-use Rattle.plan_machine.specs.declared.refused.Refused.TheVariants.{NotEnabled}
-use Rattle.plan_machine.specs.declared.turned.Heard.{Heard}
-use Rattle.plan_machine.specs.declared.turned.Heard.TheVariants as hearing
+use Rattle.plan_machine.specs.declared.event.mark.Mark.{Mark}
+use Rattle.plan_machine.specs.declared.event.mark.Mark.TheVariants as mark
+use Rattle.plan_machine.specs.declared.event.mark.Outcome.TheVariants.{Failed}
+use Rattle.plan_machine.specs.declared.run.refused.Refused.{Refused}
+use Rattle.plan_machine.specs.declared.run.refused.Refused.TheVariants.{NotEnabled}
+use Rattle.plan_machine.specs.declared.edge.turned.Heard.{Heard}
+use Rattle.plan_machine.specs.declared.edge.turned.Heard.TheVariants as hearing
 use Rattle.plan_machine.specs.State.{Status, Active, Over, with_status}
-use Rattle.plan_machine.specs.Going.{Going}
+use Rattle.plan_machine.specs.RunState.{RunState}
 use Rattle.plan_machine.specs.Depfile.{depfile}
 use Rattle.plan_machine.specs.Working.{Works}
 
@@ -36,14 +36,14 @@ pub record HasAnswered (p : Parts) (e : ℕ) (a : Answer) (r : Heard) (old new :
   pub made : IsHeard r before later (heard depfile p e before a)
 
 -- a running edge received a reply
-pub record HasHeard (p : Parts) (old : Going) (e : ℕ) (a : Answer) (r : Heard) (new : Going) : Type 0 where
+pub record HasHeard (p : Parts) (old : RunState) (e : ℕ) (a : Answer) (r : Heard) (new : RunState) : Type 0 where
   pub before : Local
   pub after : Local
   pub now : slice_get old.now.edges e ≡ Some (Active before)
   pub made : IsHeard r before after (heard depfile p e before a)
   pub left : new ≡ record { limits = old.limits; now = with_status old.now e (Active after) }
 
-abbrev pub SettlesReply : Going → ℕ → Heard → Result Mark Refused → Going → Type 0
+abbrev pub SettlesReply : RunState → ℕ → Heard → Result Mark Refused → RunState → Type 0
 SettlesReply old e hearing.On told new = (told ≡ Ok (mark.Answered e)) × (new ≡ old)
 SettlesReply old e (hearing.Failed cause) told new = (told ≡ Ok (mark.Failed e cause)) × (new ≡ record { limits = old.limits; now = with_status old.now e (Over (Failed cause)) })
 SettlesReply old e hearing.Unfit told new = (told ≡ Err NotEnabled) × (new ≡ old)

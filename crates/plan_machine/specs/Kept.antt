@@ -4,45 +4,45 @@ use Rattle.plan_image.specs.declared.image.Pool.{Pool}
 use Rattle.plan_image.specs.declared.image.Parts.{Parts}
 use Rattle.plan_image.specs.Spelling.{pool_number}
 use Rattle.plan_verify.specs.Tables.{pool_of, waits_of}
-use Rattle.plan_books.specs.declared.phase.Phase.{Phase}
-use Rattle.plan_books.specs.declared.phase.Phase.TheVariants as phase
-use Rattle.plan_books.specs.declared.plan.Plan.{Plan}
-use Rattle.plan_books.specs.declared.keeping.Books.{Books}
-use Rattle.plan_books.specs.Booking.{AreBooks, IsPlan, edges_of, waits_of as waits_by}
-use Rattle.plan_machine.specs.declared.mark.Mark.{Mark}
-use Rattle.plan_machine.specs.declared.mark.Outcome.{Outcome}
-use Rattle.plan_machine.specs.declared.mark.Outcome.TheVariants.{Clean, Ran, Failed, Skipped, Stopped, NotWanted}
+use Rattle.plan_schedule.specs.declared.phase.Phase.{Phase}
+use Rattle.plan_schedule.specs.declared.phase.Phase.TheVariants as phase
+use Rattle.plan_schedule.specs.declared.plan.Plan.{Plan}
+use Rattle.plan_schedule.specs.declared.schedule.Schedule.{Schedule}
+use Rattle.plan_schedule.specs.Scheduling.{IsSchedule, IsPlan, edges_of, waits_of as waits_by}
+use Rattle.plan_machine.specs.declared.event.mark.Mark.{Mark}
+use Rattle.plan_machine.specs.declared.event.mark.Outcome.{Outcome}
+use Rattle.plan_machine.specs.declared.event.mark.Outcome.TheVariants.{Clean, Ran, Failed, Skipped, Stopped, NotWanted}
 use Rattle.plan_machine.specs.declared.event.Event.{Event}
 use Rattle.plan_machine.specs.State.{Status, Unbegun, Active, Over, State, is_over}
 use Rattle.plan_machine.specs.Places.{at_take}
-use Rattle.plan_machine.specs.Going.{Going}
+use Rattle.plan_machine.specs.RunState.{RunState}
 use Rattle.plan_machine.specs.Runs.{Reached}
 use Rattle.plan_machine.specs.Depfile.{depfile}
 use Rattle.plan_machine.specs.Total.{is_wanted, total_of}
 
 -- a running image with its schedule, and the number of commands that it may run
 pub record Running : Type 0 where
-  pub going : Going
+  pub run_state : RunState
   pub plan : Plan
-  pub books : Books
+  pub schedule : Schedule
   pub total : ℕ
 
 -- ---- phases
 
 abbrev pub phase_over : Outcome → Phase
-phase_over Clean = phase.Well
-phase_over Ran = phase.Well
+phase_over Clean = phase.Succeeded
+phase_over Ran = phase.Succeeded
 phase_over (Failed cause) = phase.Failed
-phase_over (Skipped w) = phase.Ill
-phase_over Stopped = phase.Ill
+phase_over (Skipped w) = phase.Abandoned
+phase_over Stopped = phase.Abandoned
 phase_over NotWanted = phase.NotWanted
 
 abbrev pub phase_going : Bool → Bool → Phase
 phase_going true holding = phase.AtTake holding
-phase_going false holding = phase.Going holding
+phase_going false holding = phase.Runnable holding
 
 abbrev pub phase_active : Bool → Bool → Bool → Phase
-phase_active true taking holding = phase.Asked holding
+phase_active true taking holding = phase.Waiting holding
 phase_active false taking holding = phase_going taking holding
 
 -- the phase that the schedule stores for a status
@@ -58,7 +58,7 @@ phase_in p e None = phase.NotWanted
 
 -- whether an edge may make a step, given whether a job token is free for it
 abbrev pub steps_by : Phase → Bool → Bool
-steps_by (phase.Going holding) free = true
+steps_by (phase.Runnable holding) free = true
 steps_by (phase.AtTake holding) free = free
 steps_by _ free = false
 
@@ -78,20 +78,20 @@ pub record IsPlanOf (p : Parts) (plan : Plan) : Type 0 where
   pub depths : plan.depths.items ≡ 0 ∷ map (λ (pool : Pool). pool.depth) p.pools
 
 -- each count is that over the edges of this state, and each edge is in the bucket for what it can do
-pub record AreKept (p : Parts) (s : State) (plan : Plan) (books : Books) : Type 0 where
+pub record AreKept (p : Parts) (s : State) (plan : Plan) (schedule : Schedule) : Type 0 where
   pub plan_is : IsPlanOf p plan
   pub long : length s.edges ≡ length p.edges
-  pub phases : books.phases.items ≡ phases_from p 0 s.edges
-  pub fit : AreBooks plan books
+  pub phases : schedule.phases.items ≡ phases_from p 0 s.edges
+  pub fit : IsSchedule plan schedule
 
 -- a state of this image: a run from an opening reaches it, and its schedule agrees with it
 pub record IsStateOf (p : Parts) (r : Running) : Type 0 where
   pub targets : List ℕ
   pub events : List Event
   pub marks : List Mark
-  pub reached : Reached depfile p r.going.limits targets events marks r.going.now
-  pub kept : AreKept p r.going.now r.plan r.books
-  pub counted : r.total ≡ total_of p r.going.now
+  pub reached : Reached depfile p r.run_state.limits targets events marks r.run_state.now
+  pub kept : AreKept p r.run_state.now r.plan r.schedule
+  pub counted : r.total ≡ total_of p r.run_state.now
 
 -- the status of one edge, which had no outcome, changed
 pub record Changed (s new : State) (e : ℕ) : Type 0 where
@@ -105,5 +105,5 @@ pub record Changed (s new : State) (e : ℕ) : Type 0 where
 -- the schedule agrees with an earlier state, in which only the status of one edge was different
 pub record IsBehind (p : Parts) (r : Running) (e : ℕ) : Type 0 where
   pub old : State
-  pub kept : AreKept p old r.plan r.books
-  pub changed : Changed old r.going.now e
+  pub kept : AreKept p old r.plan r.schedule
+  pub changed : Changed old r.run_state.now e

@@ -15,8 +15,8 @@ pub mod NeverStuck
 pub mod Orderly
 pub mod InBudget
 pub mod Standing
-pub mod Going
-pub mod Rested
+pub mod RunState
+pub mod ParkedLocal
 pub mod Statuses
 pub mod Applying
 pub mod Hearing
@@ -32,6 +32,6 @@ pub mod Faults
 pub mod Agreement
 pub mod Sameness
 pub mod Ends
-pub mod Rushes
+pub mod LocalRuns
 pub mod Sweeping
 pub mod Histories

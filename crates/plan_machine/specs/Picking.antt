@@ -1,18 +1,18 @@
 -- The events that can happen next, without a reply or by one.
 use Rattle.std.specs.Prelude.{◌≡◌, ℕ, Bool, true, false}
 use Rattle.plan_image.specs.declared.image.Parts.{Parts}
-use Rattle.plan_books.specs.declared.picking.Pick.{Pick}
-use Rattle.plan_books.specs.declared.picking.Pick.TheVariants as pick
+use Rattle.plan_schedule.specs.declared.schedule.picking.Pick.{Pick}
+use Rattle.plan_schedule.specs.declared.schedule.picking.Pick.TheVariants as pick
 use Rattle.plan_machine.specs.declared.event.Event.{Event}
 use Rattle.plan_machine.specs.declared.event.Event.TheVariants.{Start, Skip, Stop, Step}
-use Rattle.plan_machine.specs.declared.mark.Mark.{Mark}
+use Rattle.plan_machine.specs.declared.event.mark.Mark.{Mark}
 use Rattle.plan_machine.specs.State.{State}
-use Rattle.plan_machine.specs.Going.{Going}
+use Rattle.plan_machine.specs.RunState.{RunState}
 use Rattle.plan_machine.specs.Step.{Next, step}
 use Rattle.plan_machine.specs.Depfile.{depfile}
 
 -- the table has a next state and a mark for the event
-pub record IsEnabled (p : Parts) (g : Going) (event : Event) : Type 0 where
+pub record IsEnabled (p : Parts) (g : RunState) (event : Event) : Type 0 where
   pub after : State
   pub mark : Mark
   pub next : step depfile p g.limits g.now event ≡ Next after mark
@@ -28,5 +28,5 @@ is_step (Step e) = true
 is_step _ = false
 
 -- the event is a step, if one is enabled
-abbrev pub StepsFirst : Parts → Going → Event → Type 0
+abbrev pub StepsFirst : Parts → RunState → Event → Type 0
 StepsFirst p g event = (e : ℕ) → IsEnabled p g (Step e) → is_step event ≡ true

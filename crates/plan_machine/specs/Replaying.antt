@@ -3,25 +3,25 @@ use Rattle.std.specs.Prelude.{◌≡◌, ◌⊎◌, ℕ, ◌≤◌, List, [], �
 use Rattle.plan_image.specs.declared.image.Parts.{Parts}
 use Rattle.plan_machine.specs.Limits.{Limits}
 use Rattle.plan_machine.specs.declared.event.Event.{Event}
-use Rattle.plan_machine.specs.declared.mark.Mark.{Mark}
-use Rattle.plan_machine.specs.declared.refused.Refused.{Refused}
-use Rattle.plan_machine.specs.declared.refused.Refused.TheVariants as refused
+use Rattle.plan_machine.specs.declared.event.mark.Mark.{Mark}
+use Rattle.plan_machine.specs.declared.run.refused.Refused.{Refused}
+use Rattle.plan_machine.specs.declared.run.refused.Refused.TheVariants as refused
 use Rattle.plan_machine.specs.State.{State}
-use Rattle.plan_machine.specs.Going.{Going}
+use Rattle.plan_machine.specs.RunState.{RunState}
 use Rattle.plan_machine.specs.Step.{Next, NotEnabled, step}
 use Rattle.plan_machine.specs.Depfile.{depfile}
 use Rattle.plan_machine.specs.Runs.{Opens, Runs}
 use Rattle.plan_machine.specs.Wanted.{any_outside}
 
 -- an event was applied, and its mark was appended
-pub record Went (p : Parts) (old : Going) (event : Event) (marks : List Mark) (new : Going) (after : List Mark) : Type 0 where
+pub record Went (p : Parts) (old : RunState) (event : Event) (marks : List Mark) (new : RunState) (after : List Mark) : Type 0 where
   pub told : Mark
   pub did : step depfile p old.limits old.now event ≡ Next new.now told
   pub limits : new.limits ≡ old.limits
   pub kept : after ≡ marks ++ told ∷ []
 
 -- events were applied, one after another, and their marks were appended
-pub record RunsTo (p : Parts) (old : Going) (events : List Event) (marks : List Mark) (new : Going) : Type 0 where
+pub record RunsTo (p : Parts) (old : RunState) (events : List Event) (marks : List Mark) (new : RunState) : Type 0 where
   pub run : Runs depfile p old.limits old.now events marks new.now
   pub limits : new.limits ≡ old.limits
 

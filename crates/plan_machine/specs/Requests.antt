@@ -7,13 +7,13 @@ use Rattle.plan_verify.specs.declared.value.Value.{Value}
 use Rattle.plan_verify.specs.declared.value.Value.TheVariants.{Stamp, Text, Paths, Swept}
 use Rattle.plan_verify.specs.Turn.{Slots, Request as Question, Stat, Recall, Run, Deps, Keep, question}
 use Rattle.plan_machine.specs.Limits.{Limits}
-use Rattle.plan_machine.specs.declared.request.Request.{Request}
-use Rattle.plan_machine.specs.declared.request.Request.TheVariants as request
+use Rattle.plan_machine.specs.declared.event.request.Request.{Request}
+use Rattle.plan_machine.specs.declared.event.request.Request.TheVariants as request
 use Rattle.plan_machine.specs.declared.event.Event.{Event}
 use Rattle.plan_machine.specs.declared.event.Event.TheVariants.{Step}
 use Rattle.plan_machine.specs.State.{Status, Active, State}
-use Rattle.plan_machine.specs.declared.mark.Mark.TheVariants as mark
-use Rattle.plan_machine.specs.Going.{Going}
+use Rattle.plan_machine.specs.declared.event.mark.Mark.TheVariants as mark
+use Rattle.plan_machine.specs.RunState.{RunState}
 use Rattle.plan_machine.specs.Step.{Next, step}
 use Rattle.plan_machine.specs.Depfile.{depfile}
 use Rattle.plan_machine.specs.Applying.{may_step_by}
@@ -44,14 +44,14 @@ asks_by p limits s (Step e) = if may_step_by p limits s e (slice_get s.edges e) 
 asks_by p limits s event = None
 
 -- an event is enabled and asks: its mark is Asked, and its edge asked this question
-pub record Asks (p : Parts) (g : Going) (event : Event) (q : Question) : Type 0 where
+pub record Asks (p : Parts) (g : RunState) (event : Event) (q : Question) : Type 0 where
   pub edge : ℕ
   pub after : State
   pub next : step depfile p g.limits g.now event ≡ Next after (mark.Asked edge)
   pub asked : asked_at p after edge ≡ Some q
 
 -- an event isn't enabled, or doesn't ask
-abbrev pub AsksNothing : Parts → Going → Event → Type 0
+abbrev pub AsksNothing : Parts → RunState → Event → Type 0
 AsksNothing p g event = (edge : ℕ) (after : State) → step depfile p g.limits g.now event ≡ Next after (mark.Asked edge) → ⊥
 
 -- ---- parts of it

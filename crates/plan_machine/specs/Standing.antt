@@ -7,21 +7,21 @@ use Rattle.plan_verify.specs.Members.{is_member}
 use Rattle.plan_verify.specs.Turn.{Local}
 use Rattle.plan_verify.specs.WellShaped.{AreAllShapes}
 use Rattle.plan_verify.specs.Sound.{AreTyped, AreOwnSet, IsTyped}
-use Rattle.plan_machine.specs.declared.mark.Outcome.TheVariants.{NotWanted}
-use Rattle.plan_machine.specs.State.{Unbegun, Active, Over, State, is_well, stands}
+use Rattle.plan_machine.specs.declared.event.mark.Outcome.TheVariants.{NotWanted}
+use Rattle.plan_machine.specs.State.{Unbegun, Active, Over, State, has_succeeded, stands}
 
 -- an edge has begun: it is as the shape at its place describes, and all edges that it waits for succeeded
 pub record IsUnderWay (p : Parts) (s : State) (e : ℕ) (l : Local) : Type 0 where
   pub shapes : List Shape
   pub all : AreAllShapes p e shapes
   pub typed : IsTyped p e shapes s.slots l
-  pub waited : (w : ℕ) → is_member w (waits_of p e) ≡ true → stands is_well s w ≡ true
+  pub waited : (w : ℕ) → is_member w (waits_of p e) ≡ true → stands has_succeeded s w ≡ true
 
 pub record Stands (p : Parts) (s : State) : Type 0 where
   pub long : length s.edges ≡ length p.edges
   pub typed : AreTyped p s.slots
   pub active : (e : ℕ) (l : Local) → slice_get s.edges e ≡ Some (Active l) → IsUnderWay p s e l
   -- an edge that succeeded has set its slots
-  pub set : (e : ℕ) → stands is_well s e ≡ true → AreOwnSet p e s.slots
+  pub set : (e : ℕ) → stands has_succeeded s e ≡ true → AreOwnSet p e s.slots
   -- the waits of an edge that has not begun are in the image, and wanted
   pub needed : (e w : ℕ) → slice_get s.edges e ≡ Some Unbegun → is_member w (waits_of p e) ≡ true → slice_get s.edges w ≡ Some (Over NotWanted) → ⊥

@@ -2,8 +2,8 @@
 use Rattle.std.specs.Prelude.{ℕ, Bool, true, false, List, Option, Some, None, slice_get, slice_set}
 use Rattle.std.specs.List.{list_all}
 use Rattle.plan_verify.specs.Turn.{Slots, Local}
-use Rattle.plan_machine.specs.declared.mark.Outcome.{Outcome}
-use Rattle.plan_machine.specs.declared.mark.Outcome.TheVariants.{Clean, Ran, Failed, Skipped, Stopped}
+use Rattle.plan_machine.specs.declared.event.mark.Outcome.{Outcome}
+use Rattle.plan_machine.specs.declared.event.mark.Outcome.TheVariants.{Clean, Ran, Failed, Skipped, Stopped}
 
 -- the status of an edge: it has not begun, is running, or has its outcome
 pub data Status : Type 0 where
@@ -19,17 +19,17 @@ pub record State : Type 0 where
 -- ---- tests of the status of an edge
 
 -- it succeeded, and edges that wait for it may start
-abbrev pub is_well : Status → Bool
-is_well (Over Clean) = true
-is_well (Over Ran) = true
-is_well _ = false
+abbrev pub has_succeeded : Status → Bool
+has_succeeded (Over Clean) = true
+has_succeeded (Over Ran) = true
+has_succeeded _ = false
 
 -- it has an outcome because of which edges that wait for it are skipped
-abbrev pub is_ill : Status → Bool
-is_ill (Over (Failed cause)) = true
-is_ill (Over (Skipped w)) = true
-is_ill (Over Stopped) = true
-is_ill _ = false
+abbrev pub is_unsuccessful : Status → Bool
+is_unsuccessful (Over (Failed cause)) = true
+is_unsuccessful (Over (Skipped w)) = true
+is_unsuccessful (Over Stopped) = true
+is_unsuccessful _ = false
 
 abbrev pub has_failed : Status → Bool
 has_failed (Over (Failed cause)) = true

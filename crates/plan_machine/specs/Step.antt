@@ -7,15 +7,15 @@ use Rattle.plan_verify.specs.Tables.{waits_of}
 use Rattle.plan_verify.specs.Turn.{Local, begun, Flaw, Did, Moved, Took, Released, Turn, Goes, Sets, Asks, Ends, Fails, Wrong as Errs, Meaning, Reply as Answer, StampIs, Entry, Nothing, Exit, Signal, NotStarted, Bytes, Kept, Fault, turn, heard}
 use Rattle.plan_verify.specs.Sound.{asking}
 use Rattle.plan_machine.specs.Limits.{Limits}
-use Rattle.plan_machine.specs.declared.reply.Reply.{Reply}
-use Rattle.plan_machine.specs.declared.reply.Reply.TheVariants as reply
+use Rattle.plan_machine.specs.declared.event.reply.Reply.{Reply}
+use Rattle.plan_machine.specs.declared.event.reply.Reply.TheVariants as reply
 use Rattle.plan_machine.specs.declared.event.Event.{Event}
 use Rattle.plan_machine.specs.declared.event.Event.TheVariants.{Start, Skip, Stop, Step, Reply as Hear}
-use Rattle.plan_machine.specs.declared.mark.Mark.{Mark}
-use Rattle.plan_machine.specs.declared.mark.Mark.TheVariants as mark
-use Rattle.plan_machine.specs.declared.mark.Outcome.{Outcome}
-use Rattle.plan_machine.specs.declared.mark.Outcome.TheVariants.{Clean, Ran, Failed, Skipped, Stopped}
-use Rattle.plan_machine.specs.State.{Status, Unbegun, Active, Over, State, is_well, is_ill, stands, with_status}
+use Rattle.plan_machine.specs.declared.event.mark.Mark.{Mark}
+use Rattle.plan_machine.specs.declared.event.mark.Mark.TheVariants as mark
+use Rattle.plan_machine.specs.declared.event.mark.Outcome.{Outcome}
+use Rattle.plan_machine.specs.declared.event.mark.Outcome.TheVariants.{Clean, Ran, Failed, Skipped, Stopped}
+use Rattle.plan_machine.specs.State.{Status, Unbegun, Active, Over, State, has_succeeded, is_unsuccessful, stands, with_status}
 use Rattle.plan_machine.specs.Places.{is_spent, is_free, at_take}
 
 -- the result of an event: a state and a mark, a flaw, or nothing if it isn't enabled
@@ -56,13 +56,13 @@ hears_by s e l None = NotEnabled
 
 -- an edge all of whose waits succeeded
 abbrev pub starts : Parts → State → ℕ → Option Status → Stepped
-starts p s e (Some Unbegun) = if list_all (stands is_well s) (waits_of p e) then Next (with_status s e (Active begun)) (mark.Started e) else NotEnabled
+starts p s e (Some Unbegun) = if list_all (stands has_succeeded s) (waits_of p e) then Next (with_status s e (Active begun)) (mark.Started e) else NotEnabled
 starts p s e _ = NotEnabled
 
 -- an edge one of whose waits failed, was skipped or was stopped
 abbrev pub skips : Parts → State → ℕ → ℕ → Option Status → Stepped
 skips p s e w (Some Unbegun) =
-    if is_member w (waits_of p e) && stands is_ill s w then Next (with_status s e (Over (Skipped w))) (mark.Skipped e w) else NotEnabled
+    if is_member w (waits_of p e) && stands is_unsuccessful s w then Next (with_status s e (Over (Skipped w))) (mark.Skipped e w) else NotEnabled
 skips p s e w _ = NotEnabled
 
 -- an edge that has not begun or is at Take, when the failure limit has been reached

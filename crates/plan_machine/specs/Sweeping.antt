@@ -8,15 +8,15 @@ use Rattle.plan_verify.specs.declared.value.Value.TheVariants.{Stamp, Flag, Path
 use Rattle.plan_verify.specs.Turn.{Slots, Local, Moved, Goes, Stat, StampIs, heard, merged}
 use Rattle.plan_machine.specs.declared.event.Event.{Event}
 use Rattle.plan_machine.specs.declared.event.Event.TheVariants.{Step, Reply as Hear}
-use Rattle.plan_machine.specs.declared.reply.Reply.TheVariants as reply
-use Rattle.plan_machine.specs.declared.mark.Mark.{Mark}
-use Rattle.plan_machine.specs.declared.mark.Mark.TheVariants as mark
-use Rattle.plan_machine.specs.declared.turned.Turned.TheVariants as turned
+use Rattle.plan_machine.specs.declared.event.reply.Reply.TheVariants as reply
+use Rattle.plan_machine.specs.declared.event.mark.Mark.{Mark}
+use Rattle.plan_machine.specs.declared.event.mark.Mark.TheVariants as mark
+use Rattle.plan_machine.specs.declared.edge.turned.Turned.TheVariants as turned
 use Rattle.plan_machine.specs.Depfile.{depfile}
-use Rattle.plan_machine.specs.Going.{Going}
+use Rattle.plan_machine.specs.RunState.{RunState}
 use Rattle.plan_machine.specs.Replaying.{RunsTo}
 use Rattle.plan_machine.specs.Requests.{asked_at}
-use Rattle.plan_machine.specs.Rushes.{HasStrode}
+use Rattle.plan_machine.specs.LocalRuns.{HasMadeLocalStep}
 use Rattle.plan_machine.specs.State.{Status, Active, State, with_status}
 use Rattle.plan_machine.specs.Working.{IsSweeping}
 
@@ -57,11 +57,11 @@ pub record HasSwept (p : Parts) (e : ℕ) (path : List ℕ) (stamp : ℕ) (old n
   pub sweeps : Sweeps p e path old
   pub between : Local
   pub hears : heard depfile p e old (StampIs stamp) ≡ Some (Goes Moved between)
-  pub strode : (slots : Slots) → HasStrode p e turned.Asked between new slots slots
+  pub stepped_locally : (slots : Slots) → HasMadeLocalStep p e turned.Asked between new slots slots
   pub later : AwaitsSwept p e new
 
 -- the machine with this edge
-pub record SweepsOn (p : Parts) (old : Going) (e : ℕ) (path : List ℕ) (stamp : ℕ) (new : Going) : Type 0 where
+pub record SweepsOn (p : Parts) (old : RunState) (e : ℕ) (path : List ℕ) (stamp : ℕ) (new : RunState) : Type 0 where
   pub before : Local
   pub after : Local
   pub now : slice_get old.now.edges e ≡ Some (Active before)
@@ -87,11 +87,11 @@ abbrev pub StandsSweptTo : Parts → ℕ → Status → List (List ℕ) → ℕ 
 StandsSweptTo p e status paths n = (l : Local) × (status ≡ Active l) × AwaitsSwept p e l × (slice_get l.stack 0 ≡ Some (Paths n paths))
 
 -- An edge asked for these paths in turn, and received a stamp for each. After each stamp it asked again.
-abbrev pub IsSweptRow : Parts → Going → ℕ → List (List ℕ) → List ℕ → Going → Type 0
+abbrev pub IsSweptRow : Parts → RunState → ℕ → List (List ℕ) → List ℕ → RunState → Type 0
 IsSweptRow p old e paths [] new = new ≡ old
 IsSweptRow p old e [] (stamp ∷ stamps) new = ⊥
 IsSweptRow p old e (path ∷ paths) (stamp ∷ stamps) new =
-    (between : Going) × (asked_at p old.now e ≡ Some (Stat path)) × RunsTo p old (sweep_events e stamp) (sweep_marks e) between
+    (between : RunState) × (asked_at p old.now e ≡ Some (Stat path)) × RunsTo p old (sweep_events e stamp) (sweep_marks e) between
     × IsSweptAt p between.now e × IsSweptRow p between e paths stamps new
 
 -- the same for a stack: each stamp is merged, except that of the last path
@@ -107,7 +107,7 @@ pub record HasMergedRow (paths : List (List ℕ)) (stamps : List ℕ) (old new :
   pub left : new ≡ record { place = old.place; stack = new.stack; holding = old.holding; ran = old.ran; asked = old.asked }
 
 -- the same for the machine
-pub record SweepsRow (p : Parts) (old : Going) (e : ℕ) (paths : List (List ℕ)) (stamps : List ℕ) (new : Going) : Type 0 where
+pub record SweepsRow (p : Parts) (old : RunState) (e : ℕ) (paths : List (List ℕ)) (stamps : List ℕ) (new : RunState) : Type 0 where
   pub before : Local
   pub after : Local
   pub now : slice_get old.now.edges e ≡ Some (Active before)

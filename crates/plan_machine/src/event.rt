@@ -1,9 +1,13 @@
 //! Events. An edge is named by its number in the image.
 
+pub(crate) mod mark;
+pub(crate) mod reply;
+pub(crate) mod request;
+
 ghost use Rattle.std.specs.Prelude.{◌≡◌, IfOk};
 ghost use Rattle.plan_machine.specs.Edges.{edge_of};
 
-use crate::reply::Reply;
+use crate::event::reply::Reply;
 use std::alloc::AllocError;
 
 /// An event, which may be the next one of a run. It takes 24 bytes.

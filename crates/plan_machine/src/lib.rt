@@ -17,48 +17,23 @@
 //! docs/rules/machine.md lists the rules.
 #![tactic(auto)]
 
-mod activity;
-mod asking;
-mod edges;
-mod ends;
+mod edge;
 mod event;
 mod laws;
-mod machine;
-mod mark;
-mod options;
-mod picking;
-mod plan;
-mod refused;
-mod replaying;
-mod replies;
-mod reply;
-mod request;
-mod resting;
-mod rush;
-mod rushing;
-mod sameness;
-mod slot;
-mod stack;
-mod state;
-mod status;
-mod strides;
-mod swept_row;
-mod turned;
-mod turns;
-mod wanted;
+mod run;
 
-pub use ends::same_end;
 pub use event::Event;
+pub use event::mark::{Mark, Outcome};
+pub use event::reply::{Depfile, Recorded, Reply};
+pub use event::request::{Outputs, Request};
 pub use laws::{
     depfiles_are_frugal, each_ran_by_itself, interleavings_agree, marks_are_orderly, never_stuck,
     never_wrong, slots_stay, stays_in_budget,
 };
-pub use mark::{Mark, Outcome};
-pub use options::Options;
 pub use plan_verify::Cause;
-pub use refused::Refused;
-pub use replaying::replay;
-pub use reply::{Depfile, Recorded, Reply};
-pub use request::{Outputs, Request};
-pub use rush::Rush;
-pub use state::State;
+pub use run::ends::same_end;
+pub use run::local_run::LocalRun;
+pub use run::options::Options;
+pub use run::refused::Refused;
+pub use run::replaying::replay;
+pub use run::state::State;

@@ -3,6 +3,7 @@
 
 ghost use Rattle.std.specs.Prelude.{◌≡◌};
 
+use plan_cli::{EarlyExit, FileRequest, Request, RunWords, request_in, words_in};
 use plan_commands::{
     Buffer, Build, Compared, FileSource, IMAGE_BYTES, MANIFEST_BYTES, NewFile, PlanFault, Screen,
     Standard, TRACE_BYTES, do_commands, do_compare, do_compile, do_dump, do_replay, do_run,
@@ -11,7 +12,6 @@ use plan_commands::{
 use plan_lanes::World;
 use plan_machine::Options;
 use plan_text::{Counted, Sink};
-use plan_words::{FileRequest, NoRequest, Request, RunWords, request_in, words_in};
 use plan_world::{OpenFault, RealWorld, SystemShells};
 use std::alloc::{AllocError, Global};
 use std::process::ExitCode;
@@ -98,14 +98,14 @@ fn report<E: Print>(alloc: Global, errors: &E, fault: &PlanFault) -> u8
 
 /// Prints the help to standard output, or to standard error the reason why the words are refused. Returns the exit
 /// status.
-fn show<R: Print + Eprint + AllocGlobal, E: Print>(rt: &R, errors: &E, told: &NoRequest) -> u8 {
+fn show<R: Print + Eprint + AllocGlobal, E: Print>(rt: &R, errors: &E, told: &EarlyExit) -> u8 {
     match told {
-        NoRequest::Memory => report(rt.alloc(), errors, &no_memory(rt.alloc())),
-        NoRequest::Refused(text) => {
+        EarlyExit::Memory => report(rt.alloc(), errors, &no_memory(rt.alloc())),
+        EarlyExit::Refused(text) => {
             let _ = rt.eprint(text);
             REFUSED
         }
-        NoRequest::Help(text) => match rt.print(text) {
+        EarlyExit::Help(text) => match rt.print(text) {
             Ok(()) => 0,
             Err(_) => report(rt.alloc(), errors, &lost_output(rt.alloc())),
         },
@@ -162,7 +162,7 @@ fn run_image<
     asked: &RunWords<'_>,
     world: &W,
     screen: &Mutex<()>,
-    bell: &Parker,
+    parker: &Parker,
 ) -> Result<u8, PlanFault> {
     let alloc = rt.alloc();
     let file = NewFile::new(rt, asked.trace.unwrap_or(""));
@@ -182,7 +182,16 @@ fn run_image<
     let mut images = FileSource::new(rt, IMAGE_BYTES);
     let out = Screen::new(rt, screen);
     let mut trace = Buffer::new(Counted::new(file), room);
-    let (ran, _out) = do_run(rt, alloc, &mut images, &build, world, bell, out, &mut trace);
+    let (ran, _out) = do_run(
+        rt,
+        alloc,
+        &mut images,
+        &build,
+        world,
+        parker,
+        out,
+        &mut trace,
+    );
     let (written, _file) = trace.finish();
     match (ran, written) {
         (Ok(_), Err(_)) => Err(file_fault(alloc, build.trace.unwrap_or(b""))),
@@ -229,7 +238,7 @@ fn main(rt: HostRuntime) -> ExitCode {
                 let (read, done) = join(
                     &rt,
                     || world.read_record(),
-                    || run_image(&rt, &asked, &world, world.screen(), world.bell()),
+                    || run_image(&rt, &asked, &world, world.screen(), world.parker()),
                 );
                 advise(&rt, asked.image, &done);
                 match read {

@@ -87,7 +87,7 @@ fn at_least_zero(number: Option<u32>) -> Option<Integer>
 }
 
 /// Returns the number of digits that may have a sign before them.
-fn signed(text: &[u8], most: u32) -> Option<Integer>
+fn signed_integer(text: &[u8], most: u32) -> Option<Integer>
     ensures { result ≡ defined.signed most text.now }
 {
     match text {
@@ -105,6 +105,6 @@ pub fn integer_in(text: &[u8], most: u32) -> Option<Integer>
 {
     match text {
         [] => Some(Integer::AtLeastZero(0)),
-        _ => signed(past_white(text), most),
+        _ => signed_integer(past_white(text), most),
     }
 }

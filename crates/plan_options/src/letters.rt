@@ -59,7 +59,7 @@ impl Setting {
 }
 
 /// Copies a text.
-pub(crate) fn copied(alloc: Global, bytes: &[u8]) -> Result<Items<u8>, Memory>
+pub(crate) fn copy_text(alloc: Global, bytes: &[u8]) -> Result<Items<u8>, Memory>
     ensures { IfOk result (λ text. text ≡ bytes.now) }
 {
     Ok(Items::new(Vec::from_slice(alloc, bytes)?))
@@ -78,7 +78,7 @@ fn read_joined(
     match value {
         [] => Ok(Expected::Value(setting)),
         [_, ..] => {
-            read.push(Argument::Setting(setting, copied(alloc, value)?))?;
+            read.push(Argument::Setting(setting, copy_text(alloc, value)?))?;
             Ok(after_value(setting))
         }
     }

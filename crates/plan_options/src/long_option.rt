@@ -6,7 +6,7 @@ ghost use Rattle.plan_options.specs.LongOptions as defined;
 ghost use Rattle.plan_options.specs.Reading as reading;
 
 use crate::argument::{Argument, Flag, Misuse};
-use crate::letters::copied;
+use crate::letters::copy_text;
 use plan_text::Memory;
 use std::alloc::Global;
 
@@ -106,9 +106,9 @@ fn only(alloc: Global, flags: &[Flag], word: &[u8], value: &[u8]) -> Result<Argu
     ensures { IfOk result (λ a. a ≡ reading.only flags.now word.now value.now) }
 {
     match flags {
-        [] => Ok(Argument::Misuse(Misuse::UnknownName(copied(alloc, word)?))),
+        [] => Ok(Argument::Misuse(Misuse::UnknownName(copy_text(alloc, word)?))),
         [flag] => Ok(without_value(*flag, value)),
-        _ => Ok(Argument::Misuse(Misuse::Ambiguous(copied(alloc, word)?))),
+        _ => Ok(Argument::Misuse(Misuse::Ambiguous(copy_text(alloc, word)?))),
     }
 }
 

@@ -6,7 +6,7 @@ ghost use Rattle.plan_options.specs.Reading as defined;
 use crate::argument::{Argument, Misuse};
 use crate::expected::{Expected, after, after_value};
 use crate::form::{Form, form_of};
-use crate::letters::{copied, read_letters};
+use crate::letters::{copy_text, read_letters};
 use crate::long_option::long_argument;
 use plan_text::Memory;
 use std::alloc::Global;
@@ -37,7 +37,7 @@ fn read_any(alloc: Global, word: &[u8], read: &mut Vec<Argument>) -> Result<Expe
 {
     match form_of(word) {
         Form::Name => {
-            read.push(Argument::Target(copied(alloc, word)?))?;
+            read.push(Argument::Target(copy_text(alloc, word)?))?;
             Ok(Expected::Any)
         }
         Form::Dashes => Ok(Expected::Target),
@@ -58,15 +58,15 @@ fn read_word(
     match expected {
         Expected::Any => read_any(alloc, word, read),
         Expected::Value(setting) => {
-            read.push(Argument::Setting(setting, copied(alloc, word)?))?;
+            read.push(Argument::Setting(setting, copy_text(alloc, word)?))?;
             Ok(after_value(setting))
         }
         Expected::Target => {
-            read.push(Argument::Target(copied(alloc, word)?))?;
+            read.push(Argument::Target(copy_text(alloc, word)?))?;
             Ok(Expected::Target)
         }
         Expected::ToolWord => {
-            read.push(Argument::ToolWord(copied(alloc, word)?))?;
+            read.push(Argument::ToolWord(copy_text(alloc, word)?))?;
             Ok(Expected::ToolWord)
         }
         Expected::Nothing => Ok(Expected::Nothing),

@@ -36,7 +36,7 @@ fn begins_line_end(b: u8) -> bool
 }
 
 /// Returns the meaning of a `$` whose escape has `len` bytes after it.
-fn escaped(text: &[u8], len: usize) -> PathPart<'_>
+fn part_of_escape(text: &[u8], len: usize) -> PathPart<'_>
     requires size { escape_size text.now ≡ Some len }
     requires within { len ≤ length text.now }
     ensures sign { escape text.now ≡ Some (sign_of result, len) }
@@ -61,7 +61,7 @@ fn escape_at(text: &[u8], at: usize) -> Result<(PathPart<'_>, usize), TextFault>
     ensures { IsFirstPart at (36 ∷ text.now) result }
 {
     match escape_len(text) {
-        Some(len) => Ok((escaped(text, len), 1 + len)),
+        Some(len) => Ok((part_of_escape(text, len), 1 + len)),
         None => Err(TextFault::BadEscape(at as u64)),
     }
 }

@@ -1,4 +1,4 @@
--- The head that is read at a placed entry.
+-- The head, the paths and the spelling of the entry that begins at `start`.
 use Rattle.std.proofs.Common.{◌≡◌, ◌≤◌, ◌-◌, ◌+◌, ℕ, List, ◌++◌, length, [], take, drop, Some, None, refl, sym, ap, subst, ◌∙◌, option_map, append_assoc, arith, inl, inr}
 use Rattle.std.proofs.lemmas.Bool.{cases_lt}
 use Rattle.std.proofs.lemmas.List.{take_at, drop_at, drop_all, length-append, length-drop, drop-drop}
@@ -10,14 +10,14 @@ use Rattle.plan_record.specs.Reading.{Head, head_of, entry_at, entry_head_at, so
 use Rattle.plan_record.proofs.EntryLemmas.{IsBytes, IsBytes-drop, some_is, head_is, entry_law, head_spelling, some_paths_again, spelled_again}
 use Rattle.plan_record.proofs.ReadingLemmas.{entry_in_front}
 
--- it is that of the entry
+-- the head that was read is that of the entry
 pub head_there : (bytes : List ℕ) (start : ℕ) (head : Head) (rest : List ℕ) → IsBytes bytes → IsPlaced bytes start → Some (head, rest) ≡ entry_head_at (drop start bytes)
     → head ≡ head_of (data_of (entry_at (drop start bytes)))
 head_there bytes start head rest fits placed e =
     let is = head_is (drop start bytes) placed.0 (IsBytes-drop start bytes fits) placed.1 in
     ap (λ (p : Head × List ℕ). p.0) (some_is _ _ (e ∙ is)) ∙ ap (λ r. head_of (data_of r)) (sym placed.1)
 
--- there is one
+-- there is a head
 pub head_not_missing : (bytes : List ℕ) (start : ℕ) → IsBytes bytes → IsPlaced bytes start → None ≡ entry_head_at (drop start bytes) → ⊥
 head_not_missing bytes start fits placed e =
     let is = head_is (drop start bytes) placed.0 (IsBytes-drop start bytes fits) placed.1 in
@@ -71,7 +71,7 @@ pub record PathsThere (bytes : List ℕ) (x : EntryData) : Type 0 where
   pub rest : List ℕ
   pub read : some_paths_at (length x.paths) (drop (22 + length x.output + length x.command) bytes) ≡ Some (x.paths, rest)
 
--- The place at which the paths of a placed entry begin.
+-- The place at which the paths of the entry at `start` begin.
 pub paths_there : (bytes : List ℕ) (start : ℕ) → IsBytes bytes → IsPlaced bytes start → PathsThere (drop start bytes) (data_of (entry_at (drop start bytes)))
 unfolding spelling front_of
 paths_there bytes start fits placed =
@@ -125,7 +125,7 @@ paths_behind bytes start head place fits placed is at =
       read = ap (λ (h : Head). some_paths_at h.count (drop place bytes)) is ∙ ap (some_paths_at (length x.paths)) same ∙ there.read;
     }
 
--- The spelling of a placed entry is read as the entry, with no bytes after it.
+-- The spelling of the entry at `start` is read as that entry, with no bytes after it.
 pub spelling_reads : (bytes : List ℕ) (start : ℕ) (text : List ℕ) → IsBytes bytes → IsPlaced bytes start → text ≡ spelling (data_of (entry_at (drop start bytes))) → entry_at text ≡ Some (data_of (entry_at (drop start bytes)), [])
 spelling_reads bytes start text fits placed is =
     let t = entry_law.takes (drop start bytes) placed.0 (IsBytes-drop start bytes fits) placed.1 in

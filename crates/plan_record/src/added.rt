@@ -133,7 +133,7 @@ fn entry_at_row(
     match rows.get(number) {
         Some(numbers) => {
             let file = Arc::new(alloc, join(alloc, chunks, numbers)?)?;
-            Ok(Some(Entry::placed(file, 0)))
+            Ok(Some(Entry::at_place(file, 0)))
         }
         None => Ok(None),
     }

@@ -133,7 +133,7 @@ impl Entry {
     }
 
     /// Creates the entry at a place of a file, which must have one.
-    pub(crate) fn placed(file: Arc<Vec<u8>, Global>, start: usize) -> Entry
+    pub(crate) fn at_place(file: Arc<Vec<u8>, Global>, start: usize) -> Entry
         requires { IsPlaced (arc_value file).items start }
         ensures { result ≡ data_of (entry_at (drop start (arc_value file).items)) }
     {
@@ -166,7 +166,7 @@ impl Entry {
         ensures { IfOk result (λ paths. paths ≡ self.now.paths) }
     {
         let (first, count) = placed_paths(&self.file, self.start);
-        Ok(Paths::placed(Arc::try_clone(&self.file)?, first, count))
+        Ok(Paths::at_place(Arc::try_clone(&self.file)?, first, count))
     }
 
     /// Returns a copy, which shares the bytes.

@@ -86,7 +86,7 @@ impl Paths {
     ghost use Rattle.std.specs.Arc.{arc_value};
 
     /// Creates the list of `count` paths at a place of a file, which must be there.
-    pub(crate) fn placed(file: Arc<Vec<u8>, Global>, start: usize, count: u32) -> Paths
+    pub(crate) fn at_place(file: Arc<Vec<u8>, Global>, start: usize, count: u32) -> Paths
         requires { ArePaths count (drop start (arc_value file).items) }
         ensures { result ≡ paths_in (some_paths_at count (drop start (arc_value file).items)) }
     {

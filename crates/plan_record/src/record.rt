@@ -40,9 +40,9 @@ impl Model for Record {
     ghost invariant = { λ r. IsIndexed r.numbers.entries (r.loaded.items ++ r.added) };
 }
 
-/// Returns the entries of the good front of a record file, which is its longest prefix of whole entries, and the length
-/// of that front in bytes. The bytes after it are ignored. The entries share the bytes. The only error is running out of
-/// memory.
+/// Returns the entries of the good front of a record file, which is its longest prefix of whole entries, and the
+/// length of that front in bytes. The bytes after it are ignored. The entries share the bytes. The only error is
+/// running out of memory.
 pub fn read_entries(alloc: Global, bytes: Vec<u8>) -> Result<(Vec<Entry>, u64), Memory>
     ensures { IfOk result (λ r. IsGoodFront bytes.items r.0.items r.1) }
 {
@@ -50,7 +50,7 @@ pub fn read_entries(alloc: Global, bytes: Vec<u8>) -> Result<(Vec<Entry>, u64), 
     let mut entries = Vec::new(alloc);
     let mut start = 0usize;
     while let Some(rest) = skip_entry(bytes_from(&file, start)) {
-        let entry = Entry::placed(Arc::try_clone(&file)?, start);
+        let entry = Entry::at_place(Arc::try_clone(&file)?, start);
         let end = file.len() - rest.len();
         entries.push(entry)?;
         start = end;
@@ -215,7 +215,7 @@ impl Record {
     }
 
     /// Returns the bytes of the record's file after compaction: the last entry of each output, in their order.
-    pub fn compacted(&self, alloc: Global) -> Result<Vec<u8>, Memory>
+    pub fn compacted_bytes(&self, alloc: Global) -> Result<Vec<u8>, Memory>
         ensures { IfOk result (λ bytes. bytes.items ≡ flat_map spelling (last_entries self.now)) }
     {
         let entries = self.last_entries(alloc)?;

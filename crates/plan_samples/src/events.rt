@@ -14,7 +14,7 @@ pub enum Plain {
     Start(u32),
     /// An edge makes its next step.
     Step(u32),
-    /// An edge is skipped over one that it waits for (the second).
+    /// An edge is skipped because of an edge that it waits for (the second number).
     Skip(u32, u32),
     /// An edge is stopped.
     Stop(u32),

@@ -5,7 +5,7 @@ use plan_text::{Items, RowList};
 use plan_verify::{Verified, verify};
 use std::alloc::{AllocError, Global};
 
-/// The code of an edge that takes a place, runs a command (text 0), gives the place back and ends.
+/// The code of an edge that takes a job token, runs a command (text 0), releases the job token and ends.
 pub const RUNS: [Instr; 5] = [
     Instr::Take,
     Instr::Text(0),

@@ -1,4 +1,4 @@
--- Edges whose paths and texts are held in rows that all edges share. Used for src/manifest/edge_rows.rt and
+-- Edges whose paths and texts are held in rows that all edges share. Used for src/edge/edge_rows.rt and
 -- src/edge/build_line.rt.
 use Rattle.std.proofs.Common.{◌≡◌, ℕ, ◌<◌, ◌≤◌, List, [], ◌∷◌, ◌++◌, length, map, get_or, refl, ap, sym, subst, ◌∙◌, append_assoc, arith, length-append, Result, Ok, Err}
 use Rattle.std.specs.List.{All}
@@ -10,9 +10,9 @@ use Rattle.plan_scope.specs.declared.edge.variables.Variables.{Variables}
 use Rattle.plan_scope.specs.declared.fault.Cause.{Cause}
 use Rattle.plan_scope.specs.declared.fault.StatementFault.{StatementFault}
 use Rattle.plan_scope.specs.declared.fault.StatementFault.TheVariants.{Refused, Memory}
-use Rattle.plan_scope.specs.declared.manifest.edge_paths.PathPlaces.{PathPlaces}
-use Rattle.plan_scope.specs.declared.manifest.edge_rows.EdgeMarks.{EdgeMarks}
-use Rattle.plan_scope.specs.declared.manifest.edge_rows.EdgeRows.{EdgeRows}
+use Rattle.plan_scope.specs.declared.edge.edge_paths.PathPlaces.{PathPlaces}
+use Rattle.plan_scope.specs.declared.edge.edge_rows.EdgeMarks.{EdgeMarks}
+use Rattle.plan_scope.specs.declared.edge.edge_rows.EdgeRows.{EdgeRows}
 use Rattle.plan_scope.specs.Scopes.{Text}
 use Rattle.plan_scope.specs.Edge.{Edge}
 use Rattle.plan_scope.specs.Edges.{edge_of, is_present}

@@ -13,7 +13,7 @@ pub mod EdgeRowLemmas
 pub mod PathPartLemmas
 pub mod VariableLemmas
 pub mod ListLemmas
-pub mod StretchLemmas
+pub mod SegmentLemmas
 pub mod PoolNameLemmas
 pub mod PoolLemmas
 pub mod RuleLemmas

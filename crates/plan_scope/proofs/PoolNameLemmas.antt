@@ -1,4 +1,4 @@
--- Names in a set. Used for src/manifest/pool_names.rt.
+-- Names in a set. Used for src/edge/pool_names.rt.
 use Rattle.std.proofs.Common.{◌≡◌, Bool, true, false, ◌||◌, [], ◌∷◌, ◌++◌, map, Option, Some, None, refl, ap, sym, ◌∙◌, bytes_eq, cond, option_map}
 use Rattle.std.specs.Prelude.{is_some}
 use Rattle.std.proofs.lemmas.List.{map-append}

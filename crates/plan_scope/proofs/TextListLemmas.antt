@@ -1,4 +1,4 @@
--- Texts, of which the long ones are held as chunks. Used for src/manifest/chunks.rt, edge_text.rt and text_list.rt.
+-- Texts, of which the long ones are held as chunks. Used for src/edge/chunks.rt, edge_text.rt and text_list.rt.
 use Rattle.std.proofs.Common.{◌≡◌, ℕ, zero, suc, ◌<◌, ◌≤◌, ◌+◌, List, [], ◌∷◌, ◌++◌, length, get_or, refl, ap, sym, ◌∙◌, append_assoc, append-nil, arith, length-append, drop, map}
 use Rattle.std.specs.List.{All}
 use Rattle.std.proofs.lemmas.List.{get_or_append_left}

@@ -18,11 +18,11 @@ statement_at f s = said_at f (said_in f.parsed.value.text f.parsed.value.lists s
 abbrev pub statements_at : File → List TreeStatement
 statements_at f = map (statement_at f) f.parsed.value.statements
 
--- The joined stretches of statements.
+-- The joined segments of statements.
 abbrev pub joined : List (List TreeStatement) → List TreeStatement
-joined stretches = flat_map (λ s. s) stretches
+joined segments = flat_map (λ s. s) segments
 
--- The rest of the stretches after `passed` statements of the first one.
+-- The rest of the segments after `passed` statements of the first segment.
 abbrev pub left_of : List (List TreeStatement) → ℕ → List TreeStatement
 left_of [] passed = []
-left_of (stretch ∷ behind) passed = drop passed stretch ++ joined behind
+left_of (segment ∷ behind) passed = drop passed segment ++ joined behind

@@ -1,21 +1,13 @@
 //! Manifests: the evaluated form of a tree's statements.
 
-pub(crate) mod chunks;
 pub(crate) mod commands;
 mod defaults;
-pub(crate) mod edge_list;
-pub(crate) mod edge_paths;
-pub(crate) mod edge_rows;
-pub(crate) mod edge_text;
 pub(crate) mod evaluator;
 pub(crate) mod found_rules;
-pub(crate) mod path_range;
-pub(crate) mod pool_names;
 mod pools;
 mod rules;
-pub(crate) mod text_list;
 
-use crate::manifest::edge_list::EdgeList;
+use crate::edge::edge_list::EdgeList;
 use plan_text::{Items, SmallText};
 
 /// A pool, which limits the number of its edges that run at once.

@@ -7,19 +7,20 @@ ghost use Rattle.plan_scope.specs.KindSaid.{kind_said};
 ghost use Rattle.plan_scope.specs.FileStatements.{statement_at};
 ghost use Rattle.plan_scope.specs.declared.fault.ScopeFault.TheVariants as scope_fault;
 
+pub(crate) mod binding;
 mod loaded;
 pub(crate) mod loader;
 mod parsed;
+mod segment;
 pub(crate) mod source;
 pub(crate) mod statements;
-mod stretch;
 
 use crate::fault::{Cause, ScopeFault};
 use crate::scope::scoped_map::ScopedMap;
 use crate::scope::text::copy_of;
 use crate::tree::parsed::Parsed;
+use crate::tree::segment::Segment;
 use crate::tree::statements::Statements;
-use crate::tree::stretch::Stretch;
 use plan_parse::{BindingLine, BuildLine, CompactStatement, DirectiveKind};
 use plan_text::Items;
 use std::alloc::{AllocError, Global};
@@ -131,8 +132,8 @@ impl<'a> TreeStatement<'a> {
 /// `subninja` statement that includes it.
 #[derive(Drop)]
 pub struct Tree {
-    /// The statements in their order, as stretches of files.
-    stretches: Items<Stretch>,
+    /// The statements in their order, as segments of files.
+    segments: Items<Segment>,
     /// Their bindings.
     bound: ScopedMap<Items<u8>>,
 }
@@ -146,9 +147,9 @@ impl Model for Tree {
 
     ghost Value = { List trees.TreeStatement };
 
-    ghost view = { λ t. joined t.stretches };
+    ghost view = { λ t. joined t.segments };
 
-    ghost invariant = { λ t. KeptEqScoped t.bound (bound_by (joined t.stretches)) };
+    ghost invariant = { λ t. KeptEqScoped t.bound (bound_by (joined t.segments)) };
 }
 
 impl Tree {
@@ -156,7 +157,7 @@ impl Tree {
     pub fn statements(&self) -> Statements<'_>
         ensures { result ≡ self.now }
     {
-        Statements::new(self.stretches.as_slice())
+        Statements::new(self.segments.as_slice())
     }
 
     /// Returns the bindings of the statements.

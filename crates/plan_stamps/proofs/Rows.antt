@@ -1,7 +1,7 @@
 -- The definitions at work.
 use Rattle.std.specs.Prelude.{◌≡◌, ℕ, [], ◌∷◌, refl}
 use Rattle.plan_lanes.specs.Journals.{Rule}
-use Rattle.plan_machine.specs.declared.reply.Reply.TheVariants.{Nothing, Stamp}
+use Rattle.plan_machine.specs.declared.event.reply.Reply.TheVariants.{Nothing, Stamp}
 use Rattle.plan_stamps.specs.Stamps.{AllowsOnce}
 use Rattle.plan_verify.specs.Turn.{Stat}
 

@@ -1,7 +1,7 @@
 -- What a world over another one may reply, and the stamps that it keeps.
 use Rattle.std.specs.Prelude.{ℕ, List}
 use Rattle.plan_verify.specs.Turn.{Request}
-use Rattle.plan_machine.specs.declared.reply.Reply.{Reply}
+use Rattle.plan_machine.specs.declared.event.reply.Reply.{Reply}
 use Rattle.plan_lanes.specs.Journals.{Rule}
 
 -- a reply that a rule allows for a question under some number

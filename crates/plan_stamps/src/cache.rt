@@ -1,7 +1,7 @@
 //! The world over another one.
 
 ghost use Rattle.std.specs.Prelude.{◌≡◌, IfOk, IfSome};
-ghost use Rattle.plan_machine.specs.declared.reply.Reply.TheVariants.{Stamp};
+ghost use Rattle.plan_machine.specs.declared.event.reply.Reply.TheVariants.{Stamp};
 ghost use Rattle.plan_stamps.specs.Stamps.{AllowsOnce};
 ghost use Rattle.plan_verify.specs.Turn.{Keep, Run, Stat};
 

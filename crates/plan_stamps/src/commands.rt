@@ -24,7 +24,7 @@ fn moment_of(begun: u64, ended: u64) -> Option<Moment>
 
 impl Moment {
     /// Returns how many commands had begun.
-    pub fn begun(&self) -> u64
+    pub fn begun_count(&self) -> u64
         ensures { result ≡ self.now.begun }
     {
         self.begun

@@ -1,7 +1,7 @@
 //! Stamps that are kept.
 
 ghost use Rattle.std.specs.Prelude.{◌≡◌, IfOk, IfSome, true};
-ghost use Rattle.plan_machine.specs.declared.reply.Reply.TheVariants.{Stamp};
+ghost use Rattle.plan_machine.specs.declared.event.reply.Reply.TheVariants.{Stamp};
 ghost use Rattle.plan_stamps.specs.Stamps.{AllowsOnce};
 ghost use Rattle.plan_verify.specs.Turn.{Stat};
 
@@ -23,7 +23,7 @@ pub struct KeptStamp<W: World> {
 }
 
 impl<W: World> Model for KeptStamp<W> {
-    ghost use Rattle.plan_machine.specs.declared.reply.Reply.TheVariants.{Stamp};
+    ghost use Rattle.plan_machine.specs.declared.event.reply.Reply.TheVariants.{Stamp};
     ghost use Rattle.plan_stamps.specs.Stamps.{AllowsOnce, Kept};
     ghost use Rattle.plan_verify.specs.Turn.{Stat};
 
@@ -49,7 +49,7 @@ impl<W: World> KeptStamp<W> {
         Ok(KeptStamp {
             path,
             stamp,
-            begun: moment.begun(),
+            begun: moment.begun_count(),
             world: PhantomData,
         })
     }
@@ -58,7 +58,7 @@ impl<W: World> KeptStamp<W> {
     pub fn answers(&self, path: &[u8], moment: &Moment) -> bool
         ensures { result ≡ true → (self.now.path ≡ path.now) × (self.now.begun ≡ moment.now.begun) }
     {
-        self.begun == moment.begun() && self.path.as_slice() == path
+        self.begun == moment.begun_count() && self.path.as_slice() == path
     }
 
     /// Checks whether it is of a path.
@@ -176,11 +176,11 @@ impl<W: World> StampTable<W> {
     /// Counts a stamp that is offered, and checks whether it is to be kept: before the first command, or if many were
     /// offered in this moment.
     pub fn is_wanted(&self, moment: &Moment) -> bool {
-        if moment.begun() == 0 {
+        if moment.begun_count() == 0 {
             return true;
         }
-        if self.begun.load(Ordering::SeqCst) != moment.begun() {
-            self.begun.store(moment.begun(), Ordering::SeqCst);
+        if self.begun.load(Ordering::SeqCst) != moment.begun_count() {
+            self.begun.store(moment.begun_count(), Ordering::SeqCst);
             self.offered.store(0, Ordering::SeqCst);
         }
         self.offered.fetch_add(1, Ordering::SeqCst) >= SHORT

@@ -1,4 +1,4 @@
--- Console edges that hold their places, one mark after another. Serves src/consoles.rt.
+-- Console edges that hold job tokens, one mark after another. Serves src/consoles.rt.
 use Rattle.std.proofs.Common.{◌≡◌, ℕ, zero, suc, ◌+◌, ◌<◌, ◌≤◌, Bool, true, false, List, [], ◌∷◌, ◌++◌, length, get_or, take, refl, sym, ap, subst, ◌∙◌, ltb, arith}
 use Rattle.std.proofs.lemmas.Bool.{eq-eqb, eqb-true, ltb-true, ltb-false}
 use Rattle.std.proofs.lemmas.List.{length-append, length-set, take-append-le, length-take-le, take_all, take-take}
@@ -6,8 +6,8 @@ use Rattle.std.specs.Prelude.{◌==◌, if◌then◌else◌, slice_get, slice_se
 use Rattle.plan_image.specs.declared.image.Edge.{Edge}
 use Rattle.plan_image.specs.declared.image.Parts.{Parts}
 use Rattle.plan_verify.specs.Tables.{pool_in}
-use Rattle.plan_machine.specs.declared.mark.Mark.{Mark}
-use Rattle.plan_machine.specs.declared.mark.Mark.TheVariants as mark
+use Rattle.plan_machine.specs.declared.event.mark.Mark.{Mark}
+use Rattle.plan_machine.specs.declared.event.mark.Mark.TheVariants as mark
 use Rattle.plan_verify.specs.declared.value.Cause.{Cause}
 use Rattle.plan_machine.specs.Orderly.{holds_after, holds_by, holds_then}
 use Rattle.plan_status.specs.declared.consoles.Consoles.{Consoles}
@@ -37,7 +37,7 @@ console_within p e is = within p.edges e is
     within (x ∷ edges) zero h = omega arith
     within (x ∷ edges) (suc i) h = let on = within edges i h in omega (arith, on)
 
--- a flag is set by a mark that tells of its edge
+-- a mark says whether edge e holds a job token, and the flag of e is set to this
 pub noted_set : (p : Parts) (before : List Mark) (m : Mark) (c d : Consoles) (e : ℕ) (b : Bool)
     → AreNoted p before c → d.holding.items ≡ slice_set c.holding.items e b → d.held ≡ trues d.holding.items
     → ((f : ℕ) (held : Bool) → holds_then f held m ≡ (if e == f then b else held)) → (b ≡ true → is_console p e ≡ true)
@@ -77,7 +77,7 @@ noted_set p before m c d e b noted is count tells only = record {
     beside f other true test = here f (eqb-true e f test) ∙ lowered f other (eqb-true e f test) b refl
     beside f other false test = away f (apart f test) ∙ noted.others f other
 
--- a mark that tells of no console edge
+-- a mark that changes the job token of no console edge
 pub noted_kept : (p : Parts) (before : List Mark) (m : Mark) (c : Consoles) → AreNoted p before c
     → ((f : ℕ) (held : Bool) → is_console p f ≡ true → holds_then f held m ≡ held) → AreNoted p (before ++ m ∷ []) c
 noted_kept p before m c noted keeps = record {
@@ -87,7 +87,7 @@ noted_kept p before m c noted keeps = record {
   held = noted.held;
 }
 
--- a place taken by an edge that is none
+-- a job token is taken by an edge that is no console edge
 pub took_other : (p : Parts) (e f : ℕ) (held : Bool) → is_console p e ≡ false → is_console p f ≡ true → holds_then f held (mark.Took e) ≡ held
 took_other p e f held other console = by_place (e == f) refl
   where
@@ -95,7 +95,7 @@ took_other p e f held other console = by_place (e == f) refl
     by_place true test = no_clash (is_console p e) other (ap (is_console p) (eqb-true e f test) ∙ console)
     by_place false test = ap (λ (t : Bool). if t then true else held) test
 
--- a mark that tells of no place
+-- a mark with which no job token is taken or released
 pub silent : (m : Mark) (f : ℕ) (held : Bool) → ((x : ℕ) → m ≡ mark.Took x → ⊥) → ((x : ℕ) → m ≡ mark.Released x → ⊥) → ((x : ℕ) (cause : Cause) → m ≡ mark.Failed x cause → ⊥) → holds_then f held m ≡ held
 silent (mark.Took e) f held took released failed = absurd (took e refl)
 silent (mark.Released e) f held took released failed = absurd (released e refl)
@@ -165,7 +165,7 @@ looked_with p marks i n x c d lt one noted flags count looked free are = record 
   free = subst (λ (k : ℕ). AreFree p (take k marks) d.free) (sym looked) (subst (AreFree p (take (i + 1) marks)) (sym free) (subst (λ (ms : List Mark). AreFree p ms n) (sym one) are));
 }
 
--- none holds its place: all are free
+-- no console edge holds a job token: all marks are free
 pub looked_free : (p : Parts) (marks : List Mark) (i : ℕ) (x : Mark) (c d : Consoles) → i < length marks → take (i + 1) marks ≡ take i marks ++ x ∷ []
     → AreNoted p (take i marks ++ x ∷ []) c → d.holding.items ≡ c.holding.items → d.held ≡ c.held → c.held ≡ 0 → d.looked ≡ i + 1 → d.free ≡ i + 1 → HasLooked p marks d
 looked_free p marks i x c d lt one noted flags count none looked free =
@@ -173,7 +173,7 @@ looked_free p marks i x c d lt one noted flags count none looked free =
     let are : AreFree p (take i marks ++ x ∷ []) (i + 1) = subst (AreFree p (take i marks ++ x ∷ [])) long (free_all p (take i marks ++ x ∷ []) (free_by p (take i marks ++ x ∷ []) c noted none)) in
     looked_with p marks i (i + 1) x c d lt one noted flags count looked free are
 
--- one holds its place: as many as before
+-- a console edge holds a job token: as many marks are free as before
 pub looked_held : (p : Parts) (marks : List Mark) (i n : ℕ) (x : Mark) (c d : Consoles) → i < length marks → take (i + 1) marks ≡ take i marks ++ x ∷ []
     → AreNoted p (take i marks ++ x ∷ []) c → AreFree p (take i marks) n → d.holding.items ≡ c.holding.items → d.held ≡ c.held → (c.held ≡ 0 → ⊥) → d.looked ≡ i + 1 → d.free ≡ n → HasLooked p marks d
 looked_held p marks i n x c d lt one noted were flags count some looked free =

@@ -2,7 +2,7 @@
 use Rattle.std.proofs.Common.{◌≡◌, ℕ, ◌+◌, ◌<◌, ◌≤◌, List, [], ◌∷◌, ◌++◌, Bool, true, false, length, refl, sym, ap, ◌∙◌, append_assoc, get_or, drop, take, arith, if◌then◌else◌}
 use Rattle.std.proofs.lemmas.List.{append-nil, drop_more, take-append-drop, take_more}
 use Rattle.plan_image.specs.declared.image.Parts.{Parts}
-use Rattle.plan_machine.specs.declared.mark.Mark.{Mark}
+use Rattle.plan_machine.specs.declared.event.mark.Mark.{Mark}
 use Rattle.plan_status.specs.Lines.{ends, tells_end, line_of, lines_behind, lines_of}
 
 -- one mark more is counted
@@ -34,7 +34,7 @@ one_more p total xs i d n done whole lt count so_far =
     = append_assoc done (line_of p total n x) behind ∙ (named ∙ there) in
     rw one shifted
 
--- the lines of some marks, and of those behind them
+-- the lines of some marks, and of those after them
 pub join : (p : Parts) (total : ℕ) (before xs ys : List Mark) → lines_behind p total before (xs ++ ys) ≡ lines_behind p total before xs ++ lines_behind p total (before ++ xs) ys
 join p total before [] ys = ap (λ (zs : List Mark). lines_behind p total zs ys) (sym (append-nil before))
 join p total before (x ∷ xs) ys =

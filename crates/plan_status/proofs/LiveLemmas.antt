@@ -1,12 +1,12 @@
--- Lines on their way through a ring. Serves src/feed.rt, src/tap.rt, src/showing.rt and src/laws.rt.
+-- Lines on their way through a ring. Serves src/feed.rt, src/tap.rt, src/line_progress.rt and src/laws.rt.
 use Rattle.std.proofs.Common.{◌≡◌, ℕ, ◌≤◌, List, [], ◌∷◌, ◌++◌, length, take, drop, sym, ap, subst, ◌∙◌, append_assoc, arith}
 use Rattle.std.proofs.lemmas.List.{append-nil, length-append, take-append-le, take-append-drop}
 use Rattle.std.specs.List.{concat}
 use Rattle.plan_image.specs.declared.image.Parts.{Parts}
-use Rattle.plan_machine.specs.declared.mark.Mark.{Mark}
+use Rattle.plan_machine.specs.declared.event.mark.Mark.{Mark}
 use Rattle.plan_status.specs.declared.feed.Feed.{Feed}
 use Rattle.plan_status.specs.Lines.{ends, lines_of}
-use Rattle.plan_status.specs.Live.{EndsStay, FeedStays, FeedsJoin, IsFed, ShowingStays, ShownIsFree, UnusedIsFed}
+use Rattle.plan_status.specs.Live.{EndsStay, FeedStays, FeedsJoin, IsFed, LineProgressStays, ShownIsFree, UnusedIsFed}
 use Rattle.plan_status.proofs.ConsolesLemmas.{free_is_most, looked_stays}
 
 -- one text more
@@ -32,17 +32,17 @@ unused_is_fed p total marks f unused = record {
   ended = unused.ended ∙ ap (λ (k : ℕ). ends p (take k marks)) (sym unused.shown);
 }
 
-pub showing_stays : ShowingStays
-showing_stays p marks more s showing = record {
-  looked = looked_stays p marks more s.consoles showing.looked;
-  fed = feed_stays p s.total marks more s.feed showing.fed;
-  behind = showing.behind;
+pub line_progress_stays : LineProgressStays
+line_progress_stays p marks more s line_progress = record {
+  looked = looked_stays p marks more s.consoles line_progress.looked;
+  fed = feed_stays p s.total marks more s.feed line_progress.fed;
+  behind = line_progress.behind;
 }
 
 pub shown_is_free : ShownIsFree
-shown_is_free p marks s n showing are =
-    let few = showing.behind in
-    let most = free_is_most p marks s.consoles n showing.looked are in
+shown_is_free p marks s n line_progress are =
+    let few = line_progress.behind in
+    let most = free_is_most p marks s.consoles n line_progress.looked are in
     omega (arith, few, most)
 
 pub ends_stay : EndsStay
@@ -59,7 +59,7 @@ feeds_join f g h one other = (
   other.1 ∙ one.1,
 )
 
--- what is fed of the first marks, when these are all that may be told of, is so of all
+-- a feed that has lines of the first n marks has the same lines of all marks
 pub fed_of_all : (p : Parts) (total n : ℕ) (marks : List Mark) (f : Feed) → n ≤ length marks → IsFed p total (take n marks) f → IsFed p total marks f
 fed_of_all p total n marks f within fed =
     subst (λ (ms : List Mark). IsFed p total ms f) (take-append-drop n marks) (feed_stays p total (take n marks) (drop n marks) f fed)

@@ -1,4 +1,4 @@
--- Texts printed behind one another. Serves src/laws.rt and the calls that print.
+-- Texts printed one after another. Serves src/laws.rt and the calls that print.
 use Rattle.std.proofs.Common.{◌≡◌, ℕ, ◌+◌, List, ◌++◌, true, false, length, take, Option, Some, None, sym, subst, ◌∙◌, arith}
 use Rattle.std.proofs.lemmas.List.{length-append, take-append-le}
 use Rattle.std.proofs.KnownBytes.{Appends-trans}
@@ -35,7 +35,7 @@ pub not_stopped : (a b : ℕ × Option (List ℕ)) (xs : List ℕ) (stop : Optio
 not_stopped a b xs None none printed = printed
 not_stopped a b xs (Some fault) none printed = absurd cc
 
--- one text more is printed, behind what was taken and before what is left
+-- one more text is printed, after the text that was taken and before the text that is left
 pub stops : PrintsJoin → StopStays → (a b c : ℕ × Option (List ℕ)) (done text rest whole : List ℕ) (fault : PrintFault) → (done ++ text) ++ rest ≡ whole
     → Writes true a b done → Prints text (Some fault) b c → Prints whole (Some fault) a c
 stops joins stays a b c done text rest whole fault all h k =

@@ -3,7 +3,7 @@ use Rattle.std.specs.Prelude.{◌≡◌, ℕ, ◌<◌, ◌≤◌, Bool, true, fa
 use Rattle.plan_image.specs.declared.image.Pool.{Pool}
 use Rattle.plan_image.specs.declared.image.Parts.{Parts}
 use Rattle.plan_verify.specs.Tables.{pool_of}
-use Rattle.plan_machine.specs.declared.mark.Mark.{Mark}
+use Rattle.plan_machine.specs.declared.event.mark.Mark.{Mark}
 use Rattle.plan_machine.specs.Orderly.{holds_by}
 use Rattle.plan_status.specs.declared.consoles.Consoles.{Consoles}
 use Rattle.plan_status.specs.Trues.{trues}
@@ -21,7 +21,7 @@ is_console_pool p None = false
 abbrev pub is_console : Parts → ℕ → Bool
 is_console p e = is_console_pool p (pool_of p e)
 
--- after these marks no console edge holds its place: its command has ended, or none was begun
+-- after these marks no console edge holds a job token: its command has ended or has not begun
 abbrev pub IsFree : Parts → List Mark → Type 0
 IsFree p marks = (e : ℕ) → is_console p e ≡ true → holds_by marks e ≡ false
 
@@ -33,7 +33,7 @@ pub record AreFree (p : Parts) (marks : List Mark) (n : ℕ) : Type 0 where
 
 -- ---- what is kept while marks come
 
--- which console edges hold their places by these marks, and how many those are
+-- which console edges hold job tokens after these marks, and the number of these edges
 pub record AreNoted (p : Parts) (marks : List Mark) (c : Consoles) : Type 0 where
   pub all : length c.holding.items ≡ length p.edges
   pub holding : (e : ℕ) → is_console p e ≡ true → get_or c.holding.items e false ≡ holds_by marks e

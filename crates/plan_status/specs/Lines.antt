@@ -1,4 +1,4 @@
--- Status lines: the text that tells what the marks of a run did.
+-- Status lines: the text that reports the marks of a run.
 use Rattle.std.specs.Prelude.{ℕ, ◌+◌, Bool, true, false, ◌&&◌, List, [], ◌∷◌, ◌++◌, Option, Some, None, if◌then◌else◌, is_some, nat_lt, length, option_map, slice_get, codes}
 use Rattle.std.specs.Fmt.{decimal}
 use Rattle.plan_text.specs.Bytes.{line_feed}
@@ -7,8 +7,8 @@ use Rattle.plan_image.specs.declared.image.Parts.{Parts}
 use Rattle.plan_verify.specs.Tables.{first_output, path_of}
 use Rattle.plan_verify.specs.declared.value.Cause.{Cause}
 use Rattle.plan_verify.specs.declared.value.Cause.TheVariants.{MissingInput, StatFault, Exit, Signal, NotStarted, DepfileFault, DepfileMalformed, RecordFault}
-use Rattle.plan_machine.specs.declared.mark.Mark.{Mark}
-use Rattle.plan_machine.specs.declared.mark.Mark.TheVariants.{Ended, Failed, Skipped, Stopped}
+use Rattle.plan_machine.specs.declared.event.mark.Mark.{Mark}
+use Rattle.plan_machine.specs.declared.event.mark.Mark.TheVariants.{Ended, Failed, Skipped, Stopped}
 use Rattle.plan_machine.specs.Total.{has_command}
 
 abbrev pub missing_text : Parts → ℕ → Option (List ℕ)
@@ -28,7 +28,7 @@ plain_text DepfileFault = codes "depfile fault"
 plain_text RecordFault = codes "record fault"
 plain_text _ = codes "text too long"
 
--- why an edge failed; none where a file of that number isn't in the image
+-- why an edge failed; None if a file of that number isn't in the image
 abbrev pub cause_text : Parts → Cause → Option (List ℕ)
 cause_text p (MissingInput f) = missing_text p f
 cause_text p (Exit n) = Some (exit_text n)
@@ -39,13 +39,13 @@ abbrev pub label_in : Parts → Option Edge → Option (List ℕ)
 label_in p (Some edge) = slice_get p.texts edge.label
 label_in p None = None
 
--- the label of an edge: its description or, where that is empty, its command
+-- the label of an edge: its description or, if that is empty, its command
 abbrev pub label_of : Parts → ℕ → Option (List ℕ)
 label_of p e = label_in p (slice_get p.edges e)
 
--- ---- how many command edges came out
+-- ---- how many command edges ended
 
--- a mark says how a command edge came out, and all that it names is in the image
+-- a mark says how a command edge ended, and all that it names is in the image
 abbrev pub tells_end : Parts → Mark → Bool
 tells_end p (Ended e ran) = has_command p e
 tells_end p (Failed e cause) = has_command p e && is_some (cause_text p cause)
@@ -80,8 +80,8 @@ abbrev pub stopped_line : Option (List ℕ) → List ℕ
 stopped_line (Some name) = codes "STOPPED " ++ name ++ line_feed ∷ []
 stopped_line None = []
 
--- The line of a mark, where so many command edges came out with it. An edge's name is its first output. Nothing is said
--- of other marks, nor of a mark that names an edge or a file outside the image.
+-- The line of a mark. `n` is the number of command edges that have ended, with this one. An edge's name is its first
+-- output. Other marks have no line, nor does a mark that names an edge or a file outside the image.
 abbrev pub line_of : Parts → ℕ → ℕ → Mark → List ℕ
 line_of p total n (Ended e true) = ran_line n total (label_of p e)
 line_of p total n (Failed e cause) = failed_line (first_output p e) (cause_text p cause)
@@ -89,7 +89,7 @@ line_of p total n (Skipped e w) = if has_command p e then skipped_line (first_ou
 line_of p total n (Stopped e) = if has_command p e then stopped_line (first_output p e) else []
 line_of p total n _ = []
 
--- the lines of marks that come behind others
+-- the lines of marks that come after others
 abbrev pub lines_behind : Parts → ℕ → List Mark → List Mark → List ℕ
 lines_behind p total before [] = []
 lines_behind p total before (mark ∷ marks) = line_of p total (ends p (before ++ mark ∷ [])) mark ++ lines_behind p total (before ++ mark ∷ []) marks

@@ -3,10 +3,10 @@ use Rattle.std.specs.Prelude.{◌≡◌, ℕ, ◌≤◌, List, [], ◌++◌, Non
 use Rattle.std.specs.List.{concat}
 use Rattle.rtrb.specs.Ring.{IsPair, SameConsumer, SameProducer, received, sent}
 use Rattle.plan_image.specs.declared.image.Parts.{Parts}
-use Rattle.plan_machine.specs.declared.mark.Mark.{Mark}
+use Rattle.plan_machine.specs.declared.event.mark.Mark.{Mark}
 use Rattle.plan_status.specs.declared.feed.Feed.{Feed}
 use Rattle.plan_status.specs.declared.tap.Tap.{Tap}
-use Rattle.plan_status.specs.declared.showing.Showing.{Showing}
+use Rattle.plan_status.specs.declared.line_progress.LineProgress.{LineProgress}
 use Rattle.plan_status.specs.Consoles.{AreFree, HasLooked}
 use Rattle.plan_status.specs.Lines.{ends, lines_of}
 
@@ -30,7 +30,7 @@ abbrev pub SameTap : Tap → Tap → Type 0
 SameTap t u = SameConsumer t.ring u.ring
 
 -- What was put in is the lines of the first `shown` of these marks; `ended` counts those that say how a command edge
--- came out.
+-- ended.
 pub record IsFed (p : Parts) (total : ℕ) (marks : List Mark) (f : Feed) : Type 0 where
   pub within : f.shown ≤ length marks
   pub sent : sent_text f ≡ lines_of p total (take f.shown marks)
@@ -46,9 +46,9 @@ pub record IsUntapped (t : Tap) : Type 0 where
   pub received : received_text t ≡ []
   pub stop : t.stop ≡ None
 
--- The lines of these marks are shown as far as that went, none of them behind a mark after which a console edge held its
--- place.
-pub record IsShowing (p : Parts) (marks : List Mark) (s : Showing) : Type 0 where
+-- The feed has the lines of the first marks: at most those up to the last mark after which no console edge holds a
+-- job token.
+pub record IsLineProgress (p : Parts) (marks : List Mark) (s : LineProgress) : Type 0 where
   pub looked : HasLooked p marks s.consoles
   pub fed : IsFed p s.total marks s.feed
   pub behind : s.feed.shown ≤ s.consoles.free
@@ -59,8 +59,8 @@ pub record IsShowing (p : Parts) (marks : List Mark) (s : Showing) : Type 0 wher
 abbrev pub FeedStays : Type 0
 FeedStays = (p : Parts) (total : ℕ) (marks more : List Mark) (f : Feed) → IsFed p total marks f → IsFed p total (marks ++ more) f
 
-abbrev pub ShowingStays : Type 0
-ShowingStays = (p : Parts) (marks more : List Mark) (s : Showing) → IsShowing p marks s → IsShowing p (marks ++ more) s
+abbrev pub LineProgressStays : Type 0
+LineProgressStays = (p : Parts) (marks more : List Mark) (s : LineProgress) → IsLineProgress p marks s → IsLineProgress p (marks ++ more) s
 
 -- a feed into which nothing was put fits any run
 abbrev pub UnusedIsFed : Type 0
@@ -68,7 +68,7 @@ UnusedIsFed = (p : Parts) (total : ℕ) (marks : List Mark) (f : Feed) → IsUnu
 
 -- what is shown is free
 abbrev pub ShownIsFree : Type 0
-ShownIsFree = (p : Parts) (marks : List Mark) (s : Showing) (n : ℕ) → IsShowing p marks s → AreFree p marks n → s.feed.shown ≤ n
+ShownIsFree = (p : Parts) (marks : List Mark) (s : LineProgress) (n : ℕ) → IsLineProgress p marks s → AreFree p marks n → s.feed.shown ≤ n
 
 -- ends stay ends, and the same end stays the same
 abbrev pub EndsStay : Type 0

@@ -1,4 +1,4 @@
--- How the edges of an image came out, as text.
+-- How the edges of an image ended, as text.
 use Rattle.std.specs.Prelude.{ℕ, zero, suc, ◌+◌, Bool, true, false, ◌&&◌, List, [], ◌∷◌, ◌++◌, Option, Some, None, length, slice_get, codes}
 use Rattle.std.specs.Fmt.{decimal}
 use Rattle.plan_text.specs.Bytes.{line_feed, space}
@@ -6,8 +6,8 @@ use Rattle.plan_image.specs.declared.image.Edge.{Edge}
 use Rattle.plan_image.specs.declared.image.Parts.{Parts}
 use Rattle.plan_verify.specs.Tables.{first_path}
 use Rattle.plan_verify.specs.declared.value.Cause.{Cause}
-use Rattle.plan_machine.specs.declared.mark.Outcome.{Outcome}
-use Rattle.plan_machine.specs.declared.mark.Outcome.TheVariants.{Clean, Ran, Failed, Skipped, Stopped, NotWanted}
+use Rattle.plan_machine.specs.declared.event.mark.Outcome.{Outcome}
+use Rattle.plan_machine.specs.declared.event.mark.Outcome.TheVariants.{Clean, Ran, Failed, Skipped, Stopped, NotWanted}
 use Rattle.plan_machine.specs.State.{State, outcome_at}
 use Rattle.plan_status.specs.Lines.{cause_text}
 
@@ -28,7 +28,7 @@ plain_outcome (Some Stopped) = codes "Stopped"
 plain_outcome (Some NotWanted) = codes "NotWanted"
 plain_outcome _ = codes "Unended"
 
--- an outcome, `Unended` where there is none
+-- an outcome, or `Unended` if there is none
 abbrev pub outcome_text : Parts → Option Outcome → List ℕ
 outcome_text p (Some (Failed cause)) = failed_text p cause
 outcome_text p (Some (Skipped w)) = skipped_text w
@@ -54,7 +54,7 @@ outcomes_from p s e (edge ∷ edges) = edge_line p e edge (outcome_at (slice_get
 abbrev pub outcomes_of : Parts → State → List ℕ
 outcomes_of p s = outcomes_from p s 0 p.edges
 
--- an edge ended well, or isn't wanted
+-- an edge succeeded, or isn't wanted
 abbrev pub is_done : Option Outcome → Bool
 is_done (Some Clean) = true
 is_done (Some Ran) = true
@@ -66,6 +66,6 @@ abbrev pub are_done : State → ℕ → Bool
 are_done s zero = true
 are_done s (suc e) = are_done s e && is_done (outcome_at (slice_get s.edges e))
 
--- all wanted edges of an image ended well
+-- all wanted edges of an image succeeded
 abbrev pub all_done : Parts → State → Bool
 all_done p s = are_done s (length p.edges)

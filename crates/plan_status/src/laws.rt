@@ -1,12 +1,12 @@
 //! Laws about all lines and prints.
 
-ghost use Rattle.plan_status.specs.Live.{EndsStay, FeedStays, FeedsJoin, ShowingStays, ShownIsFree, UnusedIsFed};
+ghost use Rattle.plan_status.specs.Live.{EndsStay, FeedStays, FeedsJoin, LineProgressStays, ShownIsFree, UnusedIsFed};
 ghost use Rattle.plan_status.specs.Printing.{LinesJoin, PrintsJoin, StopStays};
 
 use plan_text::writes_join;
 
 /// States that the lines of some marks and of others after them are the lines of the former, and then those of the
-/// latter, with the count going on.
+/// latter, whose count continues that of the former.
 pub fn lines_join()
     ensures { LinesJoin }
 {}
@@ -25,7 +25,7 @@ pub fn prints_join()
 pub fn marks_may_come()
     ensures fed { FeedStays }
     ensures unused { UnusedIsFed }
-    ensures shows { ShowingStays }
+    ensures shows { LineProgressStays }
     ensures free { ShownIsFree }
 {}
 

@@ -3,11 +3,11 @@
 //! - `status_lines`: the status lines of a run's marks. `print` writes them to a sink.
 //! - `print_outcomes`: a line for each edge that says how it ended. `all_done`: whether all wanted edges succeeded.
 //! - `PrintFault`: why a text wasn't printed to its end.
-//! - `live`: a ring through which lines are printed while a run goes on. Lanes fill its `Feed`, by a `Showing`. Another
-//!   thread prints from its `Tap`, and `settle` prints the rest when lanes are done.
+//! - `live`: a ring through which lines are printed while a run goes on. Lanes fill its `Feed` by a `LineProgress`.
+//!   Another thread prints from its `Tap`, and `settle` prints the rest when lanes are done.
 //! - `is_console`, `free_marks`: edges whose commands have the terminal, and how many marks are reported meanwhile.
-//! - `lines_join`, `prints_join`, `marks_may_come`, `ends_stay`: laws about all lines, prints and rings, for the proofs of
-//!   the crates above.
+//! - `lines_join`, `prints_join`, `marks_may_come`, `ends_stay`: laws about all lines, prints and rings, for the proofs
+//!   of the crates above.
 //!
 //! The lines are this project's own. docs/rules/replay.md describes each of them.
 #![tactic(auto)]
@@ -16,18 +16,18 @@ mod consoles;
 mod fault;
 mod feed;
 mod laws;
+mod line_progress;
 mod lines;
 mod names;
 mod outcomes;
 mod printing;
-mod showing;
 mod tap;
 
 pub use consoles::{Consoles, free_marks, is_console};
 pub use fault::PrintFault;
 pub use feed::Feed;
 pub use laws::{ends_stay, lines_join, marks_may_come, prints_join};
+pub use line_progress::LineProgress;
 pub use outcomes::{all_done, print_outcomes};
 pub use printing::{print, status_lines};
-pub use showing::Showing;
 pub use tap::{Tap, live};

@@ -12,7 +12,7 @@ use plan_machine::{Cause, Mark};
 use std::alloc::{AllocError, Global};
 
 /// Joins texts.
-pub(crate) fn joined(alloc: Global, texts: &[&[u8]]) -> Result<Vec<u8>, AllocError>
+pub(crate) fn concatenate(alloc: Global, texts: &[&[u8]]) -> Result<Vec<u8>, AllocError>
     ensures { IfOk result (λ text. text.items ≡ concat (map (λ t. t.now) texts.now)) }
 {
     let mut text = Vec::new(alloc);
@@ -28,7 +28,7 @@ fn malformed_text(alloc: Global, number: u8, offset: u32) -> Result<Vec<u8>, All
 {
     let number = number.to_string(alloc)?;
     let offset = offset.to_string(alloc)?;
-    joined(
+    concatenate(
         alloc,
         &[
             b"depfile malformed ".as_slice(),
@@ -44,7 +44,7 @@ fn exit_text(alloc: Global, status: u8) -> Result<Vec<u8>, AllocError>
     ensures { IfOk result (λ text. text.items ≡ defined.exit_text status) }
 {
     let status = status.to_string(alloc)?;
-    joined(alloc, &[b"exit ".as_slice(), status.as_bytes()])
+    concatenate(alloc, &[b"exit ".as_slice(), status.as_bytes()])
 }
 
 /// Returns which input is missing. None if the file isn't in the image.
@@ -54,7 +54,7 @@ fn missing_text(alloc: Global, parts: &Parts, file: u32) -> Result<Option<Vec<u8
     let Some(path) = path_of(parts, file) else {
         return Ok(None);
     };
-    let text = joined(alloc, &[b"missing input ".as_slice(), path])?;
+    let text = concatenate(alloc, &[b"missing input ".as_slice(), path])?;
     Ok(Some(text))
 }
 
@@ -105,7 +105,7 @@ fn ran_line(
     };
     let n = n.to_string(alloc)?;
     let total = total.to_string(alloc)?;
-    joined(
+    concatenate(
         alloc,
         &[
             b"[".as_slice(),
@@ -125,7 +125,7 @@ fn failed_line(alloc: Global, parts: &Parts, edge: u32, cause: Cause) -> Result<
 {
     let cause = cause_text(alloc, parts, cause)?;
     match (name_of(parts, edge), &cause) {
-        (Some(name), Some(cause)) => joined(
+        (Some(name), Some(cause)) => concatenate(
             alloc,
             &[b"FAILED ".as_slice(), name, b": ", cause, b"\n"],
         ),
@@ -141,7 +141,7 @@ fn skipped_line(alloc: Global, parts: &Parts, edge: u32, wait: u32) -> Result<Ve
         return Ok(Vec::new(alloc));
     }
     match (name_of(parts, edge), name_of(parts, wait)) {
-        (Some(name), Some(wait)) => joined(
+        (Some(name), Some(wait)) => concatenate(
             alloc,
             &[b"SKIPPED ".as_slice(), name, b": needs ", wait, b"\n"],
         ),
@@ -157,7 +157,7 @@ fn stopped_line(alloc: Global, parts: &Parts, edge: u32) -> Result<Vec<u8>, Allo
         return Ok(Vec::new(alloc));
     }
     match name_of(parts, edge) {
-        Some(name) => joined(alloc, &[b"STOPPED ".as_slice(), name, b"\n"]),
+        Some(name) => concatenate(alloc, &[b"STOPPED ".as_slice(), name, b"\n"]),
         None => Ok(Vec::new(alloc)),
     }
 }

@@ -10,7 +10,7 @@ ghost use Rattle.plan_status.specs.Printing.{Prints};
 
 use crate::fault::PrintFault;
 use crate::laws::prints_join;
-use crate::lines::{cause_text, joined};
+use crate::lines::{cause_text, concatenate};
 use crate::names::first_path;
 use plan_image::{EdgeRef, Parts};
 use plan_machine::{Cause, Outcome, State};
@@ -23,7 +23,7 @@ fn failed_text(alloc: Global, parts: &Parts, cause: Cause) -> Result<Vec<u8>, Al
     ensures { IfOk result (λ text. text.items ≡ defined.failed_text parts.now cause) }
 {
     match cause_text(alloc, parts, cause)? {
-        Some(cause) => joined(alloc, &[b"Failed ".as_slice(), &cause]),
+        Some(cause) => concatenate(alloc, &[b"Failed ".as_slice(), &cause]),
         None => Vec::from_slice(alloc, b"Failed "),
     }
 }
@@ -33,7 +33,7 @@ fn skipped_text(alloc: Global, wait: u32) -> Result<Vec<u8>, AllocError>
     ensures { IfOk result (λ text. text.items ≡ defined.skipped_text wait) }
 {
     let wait = wait.to_string(alloc)?;
-    joined(alloc, &[b"Skipped ".as_slice(), wait.as_bytes()])
+    concatenate(alloc, &[b"Skipped ".as_slice(), wait.as_bytes()])
 }
 
 /// Returns the text of an outcome that has no number, or `Unended` if there is no outcome.
@@ -87,7 +87,7 @@ fn outcome_line(
     let number = number.to_string(alloc)?;
     let outcome = outcome_text(alloc, parts, outcome)?;
     let name = edge_name(parts, outputs);
-    joined(
+    concatenate(
         alloc,
         &[number.as_bytes(), b" ", name, b" ", &outcome, b"\n"],
     )
@@ -120,7 +120,7 @@ pub fn print_outcomes<W: Sink>(
     state: &State,
     out: &mut W,
 ) -> Result<(), PrintFault>
-    ensures { Prints (defined.outcomes_of image.now state.now.going.now) (result_err result) (W.failures out.old, W.taken out.old) (W.failures out.new, W.taken out.new) }
+    ensures { Prints (defined.outcomes_of image.now state.now.run_state.now) (result_err result) (W.failures out.old, W.taken out.old) (W.failures out.new, W.taken out.new) }
 {
     writes_join();
     prints_join();
@@ -148,7 +148,7 @@ fn is_done(outcome: Option<Outcome>) -> bool
 
 /// Checks whether all wanted edges of the image succeeded.
 pub fn all_done(image: &Verified, state: &State) -> bool
-    ensures { result ≡ defined.all_done image.now state.now.going.now }
+    ensures { result ≡ defined.all_done image.now state.now.run_state.now }
 {
     let parts = image.image().parts();
     for number in 0..parts.edges.len() {

@@ -3,7 +3,7 @@
 use plan_lanes::{Permit, World};
 use plan_machine::{Recorded, Reply};
 use plan_scope::{Source, SourceFault};
-use plan_text::{RowList, Sink, SinkFault, Tally};
+use plan_text::{GhostCounter, RowList, Sink, SinkFault};
 use plan_verify::{PathList, Words};
 use std::alloc::{AllocError, Global};
 use std::sync::atomic::{AtomicU64, Ordering};
@@ -15,14 +15,14 @@ pub type File<'a> = (&'a [u8], &'a [u8]);
 #[derive(Drop)]
 pub struct Files<'a> {
     files: &'a [File<'a>],
-    failures: Tally,
+    failures: GhostCounter,
 }
 
 impl<'a> Files<'a> {
     pub fn new(files: &'a [File<'a>]) -> Files<'a> {
         Files {
             files,
-            failures: Tally::new(),
+            failures: GhostCounter::new(),
         }
     }
 }
@@ -54,7 +54,7 @@ impl Source for Files<'_> {
 pub struct Versions<'a> {
     texts: &'a [&'a [u8]],
     reads: usize,
-    failures: Tally,
+    failures: GhostCounter,
 }
 
 impl<'a> Versions<'a> {
@@ -62,7 +62,7 @@ impl<'a> Versions<'a> {
         Versions {
             texts,
             reads: 0,
-            failures: Tally::new(),
+            failures: GhostCounter::new(),
         }
     }
 
@@ -98,14 +98,14 @@ impl Source for Versions<'_> {
 #[derive(Drop)]
 pub struct Failing {
     left: u32,
-    failures: Tally,
+    failures: GhostCounter,
 }
 
 impl Failing {
     pub fn new(left: u32) -> Failing {
         Failing {
             left,
-            failures: Tally::new(),
+            failures: GhostCounter::new(),
         }
     }
 }

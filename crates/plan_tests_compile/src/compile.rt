@@ -19,8 +19,8 @@ fn output(file: u32, stamp: u32, changed: u32) -> Output {
 }
 
 /// Returns a command edge that makes file 0 from file 1, with slots 0 to 2 and text 0.
-fn command(alloc: Global, restat: bool, generator: bool) -> Result<CommandWiring, AllocError> {
-    Ok(CommandWiring {
+fn command(alloc: Global, restat: bool, generator: bool) -> Result<CommandLayout, AllocError> {
+    Ok(CommandLayout {
         named: items(alloc, [Input::File(1)].as_slice())?,
         order_only: Items::empty(alloc),
         outputs: items(alloc, [output(0, 0, 1)].as_slice())?,
@@ -45,24 +45,24 @@ fn baseline(restat: bool) -> Baseline {
 }
 
 /// Checks whether the code of the edge is `expected`.
-fn is_code(alloc: Global, wiring: &Wiring, expected: &[Instr]) -> Result<bool, CompileFault> {
-    let code = edge_code(alloc, wiring)?;
+fn is_code(alloc: Global, layout: &EdgeLayout, expected: &[Instr]) -> Result<bool, CompileFault> {
+    let code = edge_code(alloc, layout)?;
     Ok(code.as_slice() == expected)
 }
 
 fn is_command_code(
     alloc: Global,
-    wiring: CommandWiring,
+    layout: CommandLayout,
     expected: &[Instr],
 ) -> Result<bool, CompileFault> {
-    is_code(alloc, &Wiring::Command(wiring), expected)
+    is_code(alloc, &EdgeLayout::Command(layout), expected)
 }
 
 /// Returns a command edge with one source file, one output and a depfile.
-fn compiled(alloc: Global) -> Result<CommandWiring, AllocError> {
-    let mut wiring = command(alloc, false, false)?;
-    wiring.depfile = Some(1);
-    Ok(wiring)
+fn compiled(alloc: Global) -> Result<CommandLayout, AllocError> {
+    let mut layout = command(alloc, false, false)?;
+    layout.depfile = Some(1);
+    Ok(layout)
 }
 
 #[test]
@@ -115,23 +115,23 @@ fn source_and_depfile(rt: HostRuntime) -> Result<(), AllocError> {
         Instr::Store(1),
         Instr::End,
     ];
-    let wiring = compiled(rt.alloc())?;
+    let layout = compiled(rt.alloc())?;
     assert_eq!(rt;
-        is_command_code(rt.alloc(), wiring, expected.as_slice()),
+        is_command_code(rt.alloc(), layout, expected.as_slice()),
         Ok(true)
     );
     Ok(())
 }
 
 /// Returns a command edge with two inputs that one edge makes, two outputs and an order-only source file.
-fn linked(alloc: Global) -> Result<CommandWiring, AllocError> {
-    let mut wiring = command(alloc, false, false)?;
-    wiring.named = items(alloc, [Input::Made(0, 1), Input::Made(2, 1)].as_slice())?;
-    wiring.order_only = items(alloc, [4].as_slice())?;
-    wiring.outputs = items(alloc, [output(0, 3, 4), output(1, 5, 4)].as_slice())?;
-    wiring.flags = items(alloc, [1].as_slice())?;
-    wiring.newest = 6;
-    Ok(wiring)
+fn linked(alloc: Global) -> Result<CommandLayout, AllocError> {
+    let mut layout = command(alloc, false, false)?;
+    layout.named = items(alloc, [Input::Made(0, 1), Input::Made(2, 1)].as_slice())?;
+    layout.order_only = items(alloc, [4].as_slice())?;
+    layout.outputs = items(alloc, [output(0, 3, 4), output(1, 5, 4)].as_slice())?;
+    layout.flags = items(alloc, [1].as_slice())?;
+    layout.newest = 6;
+    Ok(layout)
 }
 
 #[test]
@@ -194,9 +194,9 @@ fn made_inputs(rt: HostRuntime) -> Result<(), AllocError> {
         Instr::Store(4),
         Instr::End,
     ];
-    let wiring = linked(rt.alloc())?;
+    let layout = linked(rt.alloc())?;
     assert_eq!(rt;
-        is_command_code(rt.alloc(), wiring, expected.as_slice()),
+        is_command_code(rt.alloc(), layout, expected.as_slice()),
         Ok(true)
     );
     Ok(())
@@ -256,9 +256,9 @@ fn restat_edge(rt: HostRuntime) -> Result<(), AllocError> {
         Instr::Store(1),
         Instr::End,
     ];
-    let wiring = command(rt.alloc(), true, false)?;
+    let layout = command(rt.alloc(), true, false)?;
     assert_eq!(rt;
-        is_command_code(rt.alloc(), wiring, expected.as_slice()),
+        is_command_code(rt.alloc(), layout, expected.as_slice()),
         Ok(true)
     );
     Ok(())
@@ -266,14 +266,14 @@ fn restat_edge(rt: HostRuntime) -> Result<(), AllocError> {
 
 /// Returns a command edge with one input that an edge makes and two outputs. Its baseline is the earlier of the oldest
 /// output and the basis.
-fn joined(alloc: Global) -> Result<CommandWiring, AllocError> {
-    let mut wiring = command(alloc, false, false)?;
-    wiring.named = items(alloc, [Input::Made(0, 1)].as_slice())?;
-    wiring.outputs = items(alloc, [output(0, 2, 3), output(1, 4, 3)].as_slice())?;
-    wiring.flags = items(alloc, [1].as_slice())?;
-    wiring.newest = 5;
-    wiring.baseline = Baseline::OutputsAndBasis;
-    Ok(wiring)
+fn joined(alloc: Global) -> Result<CommandLayout, AllocError> {
+    let mut layout = command(alloc, false, false)?;
+    layout.named = items(alloc, [Input::Made(0, 1)].as_slice())?;
+    layout.outputs = items(alloc, [output(0, 2, 3), output(1, 4, 3)].as_slice())?;
+    layout.flags = items(alloc, [1].as_slice())?;
+    layout.newest = 5;
+    layout.baseline = Baseline::OutputsAndBasis;
+    Ok(layout)
 }
 
 #[test]
@@ -339,9 +339,9 @@ fn earlier_of_two_baselines(rt: HostRuntime) -> Result<(), AllocError> {
         Instr::Store(3),
         Instr::End,
     ];
-    let wiring = joined(rt.alloc())?;
+    let layout = joined(rt.alloc())?;
     assert_eq!(rt;
-        is_command_code(rt.alloc(), wiring, expected.as_slice()),
+        is_command_code(rt.alloc(), layout, expected.as_slice()),
         Ok(true)
     );
     Ok(())
@@ -359,10 +359,10 @@ fn phonies(rt: HostRuntime) -> Result<(), AllocError> {
         Instr::End,
     ];
     assert_eq!(rt;
-        is_code(rt.alloc(), &Wiring::Alone(outputs), alone.as_slice()),
+        is_code(rt.alloc(), &EdgeLayout::Alone(outputs), alone.as_slice()),
         Ok(true)
     );
-    let wiring = GatherWiring {
+    let layout = GatherLayout {
         named: items(rt.alloc(), [Input::File(3), Input::Made(0, 1)].as_slice())?,
         order_only: items(rt.alloc(), [4].as_slice())?,
         outputs: items(rt.alloc(), [output(7, 2, 3)].as_slice())?,
@@ -382,7 +382,7 @@ fn phonies(rt: HostRuntime) -> Result<(), AllocError> {
         Instr::End,
     ];
     assert_eq!(rt;
-        is_code(rt.alloc(), &Wiring::Gather(wiring), gathered.as_slice()),
+        is_code(rt.alloc(), &EdgeLayout::Gather(layout), gathered.as_slice()),
         Ok(true)
     );
     Ok(())
@@ -401,7 +401,7 @@ fn many(alloc: Global, count: u32) -> Result<Items<Output>, AllocError> {
 /// for `End`.
 fn len_alone(alloc: Global, count: u32) -> Result<usize, CompileFault> {
     let outputs = many(alloc, count)?;
-    let code = edge_code(alloc, &Wiring::Alone(outputs))?;
+    let code = edge_code(alloc, &EdgeLayout::Alone(outputs))?;
     Ok(code.len())
 }
 
@@ -416,9 +416,9 @@ fn numbers(alloc: Global, count: u32) -> Result<Items<u32>, AllocError> {
 
 /// Returns the number of instructions of a command edge with `count` order-only source files.
 fn len_ordered(alloc: Global, count: u32) -> Result<usize, CompileFault> {
-    let mut wiring = command(alloc, false, false)?;
-    wiring.order_only = numbers(alloc, count)?;
-    let code = edge_code(alloc, &Wiring::Command(wiring))?;
+    let mut layout = command(alloc, false, false)?;
+    layout.order_only = numbers(alloc, count)?;
+    let code = edge_code(alloc, &EdgeLayout::Command(layout))?;
     Ok(code.len())
 }
 

@@ -300,7 +300,7 @@ fn is_only<'a>(paths: &PathRange<'a>, wanted: &[u8]) -> bool {
 
 /// Checks whether a text of an edge has these bytes.
 fn is_text(alloc: Global, text: &EdgeText<'_>, wanted: &[u8]) -> bool {
-    match text.joined(alloc) {
+    match text.join(alloc) {
         Ok(joined) => joined.as_slice() == wanted && text.is_empty() == wanted.is_empty(),
         Err(_) => false,
     }
@@ -445,7 +445,7 @@ fn long_text_is_joined(rt: HostRuntime) -> Result<(), Fail> {
         panic!(rt; "not two edges");
     };
     let command = edge.command();
-    let joined = command.joined(rt.alloc())?;
+    let joined = command.join(rt.alloc())?;
     let text = joined.as_slice();
     assert_eq!(rt; text.len(), 40_013);
     assert!(rt; text.starts_with(b"long/name -Iaa"));

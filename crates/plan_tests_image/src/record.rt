@@ -142,12 +142,12 @@ fn compacted_record(rt: HostRuntime) -> Result<(), Fail> {
     let (record, _) = record_of(alloc, &file)?;
     assert_eq!(rt; record.count_outputs(), 3);
     assert_eq!(rt; record.last_entries(alloc)?.len(), 3);
-    assert_eq!(rt; record.compacted(alloc)?.as_slice(), left.as_slice());
+    assert_eq!(rt; record.compacted_bytes(alloc)?.as_slice(), left.as_slice());
     let (entries, len) = read_entries(alloc, Vec::from_slice(alloc, &file)?)?;
     assert_eq!(rt; len, 120);
     assert_eq!(rt; spellings(alloc, &entries)?.as_slice(), file.as_slice());
     let (again, _) = record_of(alloc, &left)?;
-    assert_eq!(rt; again.compacted(alloc)?.as_slice(), left.as_slice());
+    assert_eq!(rt; again.compacted_bytes(alloc)?.as_slice(), left.as_slice());
     Ok(())
 }
 
@@ -219,7 +219,7 @@ fn compacted_with_added_entries(rt: HostRuntime) -> Result<(), Fail> {
     record.add(alloc, &last)?;
     let mut left = Vec::from_slice(alloc, &ENTRY)?;
     left.extend_from_slice(&spelling_of(alloc, &last)?)?;
-    assert_eq!(rt; record.compacted(alloc)?.as_slice(), left.as_slice());
+    assert_eq!(rt; record.compacted_bytes(alloc)?.as_slice(), left.as_slice());
     Ok(())
 }
 
@@ -267,11 +267,11 @@ fn paths_one_by_one(rt: HostRuntime) -> Result<(), Fail> {
     let rows = entry.paths()?.into_rows(rt.alloc())?;
     assert_eq!(rt; rows.len(), 2);
     assert_eq!(rt; rows.row(1), b"b/c.h".as_slice());
-    let list = PathList::shared(rt.alloc(), rows)?.copy()?;
+    let list = PathList::of_shared_rows(rt.alloc(), rows)?.copy()?;
     assert_eq!(rt; list.len(), 2);
     assert_eq!(rt; list.path(0), b"a.h".as_slice());
     assert_eq!(rt; list.path(2), b"".as_slice());
-    let again = PathList::shared(rt.alloc(), entry.paths()?.into_rows(rt.alloc())?)?;
+    let again = PathList::of_shared_rows(rt.alloc(), entry.paths()?.into_rows(rt.alloc())?)?;
     assert!(rt; list.is_same(&again));
     assert!(rt; !list.is_same(&PathList::empty(rt.alloc())?));
     let mut paths = entry.paths()?;
@@ -302,7 +302,7 @@ fn same_lists_of_paths(rt: HostRuntime) -> Result<(), Fail> {
         named.push(Items::new(Vec::from_slice(alloc, name)?))?;
     }
     let entry = Entry::new(alloc, b"a.o", b"cc -c a.c", 5, &named)?.copy()?;
-    let shared = PathList::shared(alloc, entry.paths()?.into_rows(alloc)?)?;
+    let shared = PathList::of_shared_rows(alloc, entry.paths()?.into_rows(alloc)?)?;
     assert!(rt; shared.is_same(&own(alloc, b"a.h", b"b/c.h")?));
     assert!(rt; own(alloc, b"a.h", b"b/c.h")?.is_same(&shared));
     assert!(rt; !shared.is_same(&own(alloc, b"a.h", b"b/d.h")?));

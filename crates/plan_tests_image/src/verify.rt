@@ -288,7 +288,7 @@ fn tables_outside(rt: HostRuntime) -> Result<(), Fail> {
     Ok(())
 }
 
-/// Creates the tables of three edges that take a place of pool 0, with these pools.
+/// Creates the tables of three edges that take a job token of pool 0, with these pools.
 fn pooled_parts(alloc: Global, pools: Vec<Pool>) -> Result<Parts, AllocError> {
     let code = [
         Instr::Take,

@@ -309,7 +309,7 @@ fn all_at_once(rt: HostRuntime) -> Result<(), Fail> {
     Ok(())
 }
 
-/// A lane that has a stamp for one edge hands it in before it runs the command of the other edge. Each command waits
+/// A lane that has a stamp for one edge applies it before it runs the command of the other edge. Each command waits
 /// for the other one. Both orders of the edges are tried.
 #[test]
 fn uneven(rt: HostRuntime) -> Result<(), Fail> {
@@ -456,7 +456,7 @@ fn tells<W: World>(board: &mut Board<'_, W>, expected: &[Told]) -> Result<bool, 
 fn look(alloc: Global, number: u64, path: &[u8]) -> Result<Question, Refused> {
     Ok(Question {
         number,
-        request: Asked::Stat(Items::new(Vec::from_slice(alloc, path)?)),
+        request: OwnedRequest::Stat(Items::new(Vec::from_slice(alloc, path)?)),
     })
 }
 
@@ -536,9 +536,9 @@ fn goes_by_hand(alloc: Global, board: &mut Board<'_, Counted>) -> Result<bool, R
 /// number of events, and whether an event was enabled at first and at the end.
 fn by_hand(alloc: Global, image: &Verified) -> Result<(bool, bool, usize, bool, bool), Refused> {
     let mut board = board_of(alloc, image)?;
-    let first = board.enabled();
+    let first = board.can_advance();
     let told = goes_by_hand(alloc, &mut board)?;
-    let last = board.enabled();
+    let last = board.can_advance();
     let report = board.into_report();
     let ran = report.marks.as_slice().last() == Some(&Mark::Ended(0, true));
     Ok((told, ran, report.journal.len(), first, last))

@@ -91,8 +91,8 @@ fn both_waited_for(alloc: Global) -> Option<Verified> {
 }
 
 /// Checks whether two runs end alike in which edges 0 and 1 fail and edge 2 is skipped. In the first run, edge 0 fails
-/// with status 2, and edge 2 is skipped over edge 0. In the second run, edge 0 fails with `status`, and edge 2 is
-/// skipped over `over`.
+/// with status 2, and edge 2 is skipped because of edge 0. In the second run, edge 0 fails with `status`, and edge 2 is
+/// skipped because of `over`.
 ///
 /// # Errors
 /// Those of `told`.

@@ -33,7 +33,7 @@ fn chain(alloc: Global) -> Option<Verified> {
     image_of(alloc, &[RUNNING, second, third, RUNNING], &[2, 3])
 }
 
-/// In a pool of depth 1, an edge can take the place only after the edge that holds it has given it back.
+/// In a pool of depth 1, an edge can take the job token only after the edge that holds it has released it.
 #[test]
 fn pool_of_one(rt: HostRuntime) {
     let alloc = rt.alloc();
@@ -214,7 +214,7 @@ fn sweep(rt: HostRuntime) {
 /// # Errors
 /// `Memory`.
 fn is_journaled(alloc: Global, bytes: &[u8], paths: u32) -> Result<bool, Refused> {
-    match depfile(alloc, bytes)?.journaled(alloc)? {
+    match depfile(alloc, bytes)?.copy_for_journal(alloc)? {
         Reply::Bytes(kept) => match kept.result(alloc)? {
             Ok(found) => Ok(kept.bytes() == bytes && found.len() == paths),
             Err(_) => Ok(false),
@@ -315,19 +315,20 @@ fn questions_ahead(rt: HostRuntime) {
     assert_eq!(rt; opened_questions(rt.alloc(), &image), Ok((false, true)));
 }
 
-/// Starts edge 0, which asks for two stamps. Returns the steps of four rushes, and whether each one asked: the first
-/// rush, the rush after each of two replies, and one more.
+/// Starts edge 0, which asks for two stamps. Makes four local runs of it: one after the start, one after each of two
+/// replies, and one more. Returns, for each local run, the number of steps that asked nothing, and whether one more
+/// step asked.
 ///
 /// # Errors
 /// Those of `apply` and `follow`.
-fn rushes(image: &Verified, state: &mut State) -> Result<[(u32, bool); 4], Refused>
+fn local_runs(image: &Verified, state: &mut State) -> Result<[(u32, bool); 4], Refused>
     requires { IsStateOf image.now state.old }
 {
     let _ = state.apply(image, Event::Start(0))?;
-    let first = state.rush(image, 0);
+    let first = state.run_locally(image, 0);
     let (_answered, asks) = state.follow(image, 0, Reply::Stamp(5))?;
     let (_again, ends) = state.follow(image, 0, Reply::Stamp(3))?;
-    let still = state.rush(image, 0);
+    let still = state.run_locally(image, 0);
     Ok([
         (first.steps, first.asked),
         (asks.steps, asks.asked),
@@ -336,21 +337,21 @@ fn rushes(image: &Verified, state: &mut State) -> Result<[(u32, bool); 4], Refus
     ])
 }
 
-/// Opens a run of one job and calls `rushes`.
+/// Opens a run of one job and calls `local_runs`.
 ///
 /// # Errors
-/// Those of `State::open` and `rushes`.
-fn opened_rushes(alloc: Global, image: &Verified) -> Result<[(u32, bool); 4], Refused> {
+/// Those of `State::open` and `local_runs`.
+fn opened_local_runs(alloc: Global, image: &Verified) -> Result<[(u32, bool); 4], Refused> {
     let Some(options) = Options::new(1, 0) else {
         return Err(Refused::Memory);
     };
     let mut state = State::open(alloc, image, options, &[])?;
-    rushes(image, &mut state)
+    local_runs(image, &mut state)
 }
 
-/// A rush stops after a step that asks, or before the end of the code. Its count includes the step that asks.
+/// A local run stops after a step that asks, or before the end of the code. Its count includes the step that asks.
 #[test]
-fn edge_rushes(rt: HostRuntime) {
+fn edge_makes_local_runs(rt: HostRuntime) {
     let code = [
         Instr::Stat(0),
         Instr::Stat(0),
@@ -362,8 +363,8 @@ fn edge_rushes(rt: HostRuntime) {
         panic!(&rt; "no image");
     };
     let gone = [(0, true), (0, true), (2, false), (0, false)];
-    assert_eq!(rt; opened_rushes(rt.alloc(), &image), Ok(gone));
-    let counted = Rush {
+    assert_eq!(rt; opened_local_runs(rt.alloc(), &image), Ok(gone));
+    let counted = LocalRun {
         steps: 2,
         asked: true,
     };
@@ -475,7 +476,7 @@ fn nothing_wanted(rt: HostRuntime) {
 ///
 /// - the number of paths with a stamp, before the first row and after the second row
 /// - the number of stamps that are taken from each row
-/// - the rush up to the request for the depfile
+/// - the local run up to the request for the depfile
 ///
 /// # Errors
 /// Those of `apply` and `follow`, `Memory`, and `NotEnabled` if the edge doesn't sweep after the depfile.
@@ -483,11 +484,11 @@ fn sweeps(
     alloc: Global,
     image: &Verified,
     state: &mut State,
-) -> Result<([u32; 2], [usize; 3], Rush), Refused>
+) -> Result<([u32; 2], [usize; 3], LocalRun), Refused>
     requires { IsStateOf image.now state.old }
 {
     let _ = state.apply(image, Event::Start(0))?;
-    let read = state.rush(image, 0);
+    let read = state.run_locally(image, 0);
     let _ = state.follow(image, 0, depfile(alloc, b"a: b c d\n")?)?;
     let (paths, begun) = match state.sweeping(image, 0) {
         Some((paths, place)) => (paths.copy()?, place),
@@ -508,7 +509,10 @@ fn sweeps(
 ///
 /// # Errors
 /// Those of `State::open` and `sweeps`.
-fn opened_sweeps(alloc: Global, image: &Verified) -> Result<([u32; 2], [usize; 3], Rush), Refused> {
+fn opened_sweeps(
+    alloc: Global,
+    image: &Verified,
+) -> Result<([u32; 2], [usize; 3], LocalRun), Refused> {
     let Some(options) = Options::new(1, 0) else {
         return Err(Refused::Memory);
     };
@@ -534,7 +538,7 @@ fn rows_of_a_sweep(rt: HostRuntime) {
     let Some(image) = alone(rt.alloc(), &code) else {
         panic!(&rt; "no image");
     };
-    let read = Rush {
+    let read = LocalRun {
         steps: 3,
         asked: true,
     };

@@ -1,4 +1,4 @@
--- A proof step that the proofs of `src/tally.rt` share. Assumes `Logic`.
+-- A proof step that the proofs of `src/ghost_counter.rt` share. Assumes `Logic`.
 use Rattle.std.proofs.Common.{List, [], ◌∷◌, refl}
 use seplogic.Ra.Ura.{Ura}
 use mir.Val.{Val, vstruct, vnil}

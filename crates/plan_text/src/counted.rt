@@ -2,8 +2,8 @@
 
 ghost use Rattle.std.specs.Prelude.{◌≡◌, ℕ};
 
+use crate::ghost_counter::GhostCounter;
 use crate::sink::{Sink, SinkFault};
-use crate::tally::Tally;
 use std::io::Write;
 use std::marker::Model;
 
@@ -12,7 +12,7 @@ use std::marker::Model;
 #[derive(Drop)]
 pub struct Counted<W> {
     writer: W,
-    failures: Tally,
+    failures: GhostCounter,
 }
 
 impl<W> Model for Counted<W> {
@@ -30,7 +30,7 @@ impl<W> Counted<W> {
     {
         Counted {
             writer,
-            failures: Tally::new(),
+            failures: GhostCounter::new(),
         }
     }
 

@@ -17,7 +17,7 @@
 //!   Contracts see them as lists too.
 //! - `feed_words` feeds a text to a hasher.
 //! - `Sink` is a target of writes, `Counted` wraps a writer of std as a sink, and `write_all` writes all bytes
-//!   to a sink. Each counts failures in a `Tally`, which only proofs read.
+//!   to a sink. Each counts failures in a `GhostCounter`, which only proofs read.
 //! - `canonical_stays`, `lines_cover`, `lines_join`, `escaped_is_read`, `plain_is_read` and `writes_join` are
 //!   laws about all texts and writes, for the proofs of the crates above.
 //!
@@ -30,6 +30,7 @@ mod canonical_paths;
 mod counted;
 mod fault;
 mod front;
+mod ghost_counter;
 mod hashing;
 mod items;
 mod laws;
@@ -45,12 +46,12 @@ mod run_reader;
 mod shared_rows;
 mod sink;
 mod small_text;
-mod tally;
 
 pub use byte_search::{begins, nul_at};
 pub use canonical_paths::is_canonical;
 pub use counted::Counted;
 pub use fault::TextFault;
+pub use ghost_counter::GhostCounter;
 pub use hashing::feed_words;
 pub use items::Items;
 pub use laws::{
@@ -68,4 +69,3 @@ pub use run_reader::{Unit, run_len};
 pub use shared_rows::{Place, SharedRows};
 pub use sink::{Sink, SinkFault, write_all};
 pub use small_text::SmallText;
-pub use tally::Tally;

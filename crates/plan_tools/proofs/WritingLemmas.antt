@@ -9,7 +9,7 @@ use Rattle.plan_scope.specs.TextLists.{whole}
 use Rattle.plan_tools.specs.Json.{json_byte, json_text}
 use Rattle.plan_tools.specs.Listings.{of_first}
 
--- the bytes that are lent
+-- the bytes that are borrowed
 abbrev pub bytes_of : Bor (List ℕ) → List ℕ
 bytes_of part = part.now
 

@@ -34,7 +34,7 @@ edges_of_rules rules names edges = of_first (λ n. if has_rule rules names edges
 
 -- ---- which files
 
--- whether the path of a number is among those that count; all do if none are told
+-- whether the path of a number is among those that count; all paths count if there are no flags
 abbrev pub is_counted : Option (List Bool) → ℕ → Bool
 is_counted None number = true
 is_counted (Some flags) number = get_or flags number false

@@ -93,7 +93,7 @@ pub fn edges_of_rules(
     Ok(edges)
 }
 
-/// Whether the path of a number counts; all do if none are told.
+/// Checks whether the path of a number counts. If there are no flags, all paths count.
 fn is_counted(counted: Option<&[bool]>, number: u32) -> bool
     ensures { result ≡ defined.is_counted (option_map (λ c. c.now) counted.entry) number }
 {
@@ -167,7 +167,7 @@ fn add_text(
 {
     match text {
         Some(text) => {
-            let joined = text.joined(alloc)?;
+            let joined = text.join(alloc)?;
             add_path(joined.as_slice(), files)
         }
         None => Ok(()),
@@ -189,7 +189,8 @@ fn add_files(
     add_text(alloc, &depfile_at(manifest, edge as usize), files)
 }
 
-/// Returns the outputs of some edges, those that count if that is told, and their depfiles.
+/// Returns the outputs of some edges, and their depfiles. If `counted` has flags, leaves out the outputs that don't
+/// count.
 ///
 /// # Errors
 /// Memory runs out.

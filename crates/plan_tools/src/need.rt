@@ -128,7 +128,7 @@ impl<'a, 'g> Search<'a, 'g> {
     }
 
     /// Returns a path of the queue.
-    fn queued(&self, number: usize) -> Option<u32>
+    fn queue_entry(&self, number: usize) -> Option<u32>
         ensures value { result ≡ slice_get self.now.queue number }
         ensures needed { IfSome result (λ path. IsPathNeeded self.now.graph self.now.targets path) }
     {
@@ -141,7 +141,7 @@ impl<'a, 'g> Search<'a, 'g> {
         ensures met { OnOk result (All (IsExpanded self.new) self.new.queue) }
     {
         for number in 0..usize::MAX {
-            match self.queued(number) {
+            match self.queue_entry(number) {
                 Some(path) => self.expand(path)?,
                 None => return Ok(()),
             }

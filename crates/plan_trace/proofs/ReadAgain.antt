@@ -16,8 +16,8 @@ use Rattle.plan_machine.specs.Limits.{Limits}
 use Rattle.plan_machine.specs.Recording.{Recording}
 use Rattle.plan_machine.specs.declared.event.Event.{Event}
 use Rattle.plan_machine.specs.declared.event.Event.TheVariants.{Start, Skip, Stop, Step, Reply as Hear}
-use Rattle.plan_machine.specs.declared.reply.Reply.{Reply}
-use Rattle.plan_machine.specs.declared.reply.Reply.TheVariants as reply
+use Rattle.plan_machine.specs.declared.event.reply.Reply.{Reply}
+use Rattle.plan_machine.specs.declared.event.reply.Reply.TheVariants as reply
 use Rattle.plan_trace.specs.declared.trace.Trace.{Trace}
 use Rattle.plan_trace.specs.Laws.{are_bytes, fits, fits_event, fits_options, fits_reply, is_edge, is_stamp}
 use Rattle.plan_trace.specs.Words.{byte_by, byte_of, bytes_of, digit_value, if_spelled, number_of, onto, pairs_of, parts_at, some_pairs_of}

@@ -5,8 +5,8 @@ use Rattle.plan_text.specs.Bytes.{line_feed, space}
 use Rattle.plan_machine.specs.Limits.{Limits}
 use Rattle.plan_machine.specs.declared.event.Event.{Event}
 use Rattle.plan_machine.specs.declared.event.Event.TheVariants.{Start, Skip, Stop, Step, Reply as Hear}
-use Rattle.plan_machine.specs.declared.reply.Reply.{Reply}
-use Rattle.plan_machine.specs.declared.reply.Reply.TheVariants as reply
+use Rattle.plan_machine.specs.declared.event.reply.Reply.{Reply}
+use Rattle.plan_machine.specs.declared.event.reply.Reply.TheVariants as reply
 use Rattle.plan_trace.specs.declared.trace.Trace.{Trace}
 use Rattle.plan_trace.specs.declared.fault.TraceFault.{TraceFault}
 use Rattle.plan_trace.specs.declared.fault.TraceFault.TheVariants.{BadTrace}

@@ -1,7 +1,7 @@
 //! Reads replies from the words of a line.
 
 ghost use Rattle.std.specs.Prelude.{◌≡◌, IfOk, map, option_map};
-ghost use Rattle.plan_machine.specs.declared.reply.Reply.TheVariants as replies;
+ghost use Rattle.plan_machine.specs.declared.event.reply.Reply.TheVariants as replies;
 ghost use Rattle.plan_trace.specs.Reading as defined;
 ghost use Rattle.plan_trace.specs.Words as words;
 

@@ -96,7 +96,7 @@ fn list_of(alloc: Global, held: &[u32]) -> Result<Arc<SlotTree, Global>, AllocEr
 }
 
 /// Splits numbers into two lists: those below `middle`, and the others.
-fn halved(alloc: Global, held: &[u32], middle: u32) -> Result<SlotTree, AllocError>
+fn split_at_number(alloc: Global, held: &[u32], middle: u32) -> Result<SlotTree, AllocError>
     requires { AscendsFrom 0 held.now }
     ensures parted { IfOk result (λ t. IsParted t) }
     ensures numbers { IfOk result (λ t. numbers t ≡ held.now) }
@@ -118,7 +118,7 @@ fn list_with(alloc: Global, held: &[u32], middle: u32, number: u32) -> Result<Sl
     if more.len() <= FEW {
         Ok(SlotTree::Few(more))
     } else {
-        halved(alloc, more.as_slice(), middle)
+        split_at_number(alloc, more.as_slice(), middle)
     }
 }
 

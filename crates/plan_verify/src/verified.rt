@@ -49,7 +49,7 @@ impl Verified {
     }
 
     /// Wraps an image that was verified, with its budget.
-    fn counted(image: Image, budget: u64) -> Verified
+    fn with_budget(image: Image, budget: u64) -> Verified
         requires { IsWellShaped image × (budget ≡ image_budget image) }
         ensures { result ≡ image }
     {
@@ -127,7 +127,10 @@ fn verify_all_by<R: Threads + Sync>(
 }
 
 /// Returns the image with its budget, or the image and its fault.
-fn judged(image: Image, verdict: Result<u64, VerifyFault>) -> Result<Verified, (Image, VerifyFault)>
+fn join_verdict(
+    image: Image,
+    verdict: Result<u64, VerifyFault>,
+) -> Result<Verified, (Image, VerifyFault)>
     requires ok { OnOk verdict (IsWellShaped image) }
     requires budget { IfOk verdict (λ b. b ≡ image_budget image) }
     requires err { IfErr verdict (λ f. IsVerifyFault image f) }
@@ -138,7 +141,7 @@ fn judged(image: Image, verdict: Result<u64, VerifyFault>) -> Result<Verified, (
     ensures only { IfErr result (λ e. e.1 ≢ VerifyFault.Memory → IsWellShaped image → ⊥) }
 {
     match verdict {
-        Ok(budget) => Ok(Verified::counted(image, budget)),
+        Ok(budget) => Ok(Verified::with_budget(image, budget)),
         Err(fault) => Err((image, fault)),
     }
 }
@@ -158,7 +161,7 @@ pub fn verify(alloc: Global, image: Image) -> Result<Verified, (Image, VerifyFau
     ensures only { IfErr result (λ e. e.1 ≢ VerifyFault.Memory → IsWellShaped image → ⊥) }
 {
     let verdict = verify_all(alloc, &image);
-    judged(image, verdict)
+    join_verdict(image, verdict)
 }
 
 /// Verifies an image with the same result as `verify`. The edges are repeatedly split in halves, which are
@@ -176,5 +179,5 @@ pub fn verify_by<R: Threads + Sync>(
     ensures only { IfErr result (λ e. e.1 ≢ VerifyFault.Memory → IsWellShaped image → ⊥) }
 {
     let verdict = verify_all_by(rt, alloc, threads, &image);
-    judged(image, verdict)
+    join_verdict(image, verdict)
 }

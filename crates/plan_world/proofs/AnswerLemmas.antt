@@ -6,8 +6,8 @@ use Rattle.std.specs.declared.process.command.Command.{Command}
 use Rattle.plan_record.specs.Entries.{EntryData}
 use Rattle.plan_verify.specs.Turn.{Stat, Recall, Run, Deps}
 use Rattle.plan_machine.specs.Recording.{Recording}
-use Rattle.plan_machine.specs.declared.reply.Reply.{Reply}
-use Rattle.plan_machine.specs.declared.reply.Reply.TheVariants.{Bytes, Fault, NotStarted}
+use Rattle.plan_machine.specs.declared.event.reply.Reply.{Reply}
+use Rattle.plan_machine.specs.declared.event.reply.Reply.TheVariants.{Bytes, Fault, NotStarted}
 use Rattle.plan_world.specs.Answers.{IsAnswer, IsByShell, MayAnswer, NamesAskable}
 use Rattle.plan_world.specs.Askable.{IsRecalled, RecallsAs}
 use Rattle.plan_world.specs.Depfiles.{IsDepfileOf, IsFrontOf, longest}

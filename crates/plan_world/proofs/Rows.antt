@@ -7,9 +7,9 @@ use Rattle.plan_record.specs.Entries.{EntryData, spelling}
 use Rattle.plan_verify.specs.Seam.{suits}
 use Rattle.plan_verify.specs.Turn.{Stat, Run, Keep}
 use Rattle.plan_machine.specs.Step.{answer_of}
-use Rattle.plan_machine.specs.declared.reply.Reply.TheVariants.{Stamp, Exit, Signal, Kept}
+use Rattle.plan_machine.specs.declared.event.reply.Reply.TheVariants.{Stamp, Exit, Signal, Kept}
 use Rattle.plan_world.specs.Askable.{is_name}
-use Rattle.plan_world.specs.Begun.{begun, missing_path}
+use Rattle.plan_world.specs.StartRecorded.{begun, missing_path}
 use Rattle.plan_world.specs.Recording.{EndsWith, edge_entry}
 use Rattle.plan_world.specs.Rewriting.{restated}
 use Rattle.plan_world.specs.Shells.{ending, record_variable}

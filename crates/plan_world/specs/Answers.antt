@@ -5,13 +5,13 @@ use Rattle.std.specs.declared.process.command.Command.{Command}
 use Rattle.plan_verify.specs.Turn.{Request, Stat, Recall, Run, Deps, Keep}
 use Rattle.plan_verify.specs.Seam.{suits}
 use Rattle.plan_machine.specs.Step.{answer_of}
-use Rattle.plan_machine.specs.declared.reply.Reply.{Reply}
-use Rattle.plan_machine.specs.declared.reply.Reply.TheVariants as reply
+use Rattle.plan_machine.specs.declared.event.reply.Reply.{Reply}
+use Rattle.plan_machine.specs.declared.event.reply.Reply.TheVariants as reply
 use Rattle.plan_world.specs.Askable.{AreAskable}
 use Rattle.plan_world.specs.Depfiles.{longest}
 use Rattle.plan_world.specs.Shells.{AreTexts, IsShellOf, ending}
 
--- A reply that suits the question; a depfile is lent no further than one byte past the limit of depfiles.
+-- A reply that suits the question. The bytes of a depfile are at most one more than a depfile may have.
 pub record IsAnswer (question : Request) (r : Reply) : Type 0 where
   pub suits : suits question (answer_of r) ≡ true
   pub short : (bytes : List ℕ) → r ≡ reply.Bytes bytes → length bytes ≤ longest

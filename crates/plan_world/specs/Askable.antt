@@ -4,8 +4,8 @@ use Rattle.std.specs.List.{list_all, position_or_len}
 use Rattle.plan_text.specs.Path.{components_of}
 use Rattle.plan_record.specs.Entries.{EntryData}
 use Rattle.plan_machine.specs.Recording.{Recording}
-use Rattle.plan_machine.specs.declared.reply.Reply.{Reply}
-use Rattle.plan_machine.specs.declared.reply.Reply.TheVariants as reply
+use Rattle.plan_machine.specs.declared.event.reply.Reply.{Reply}
+use Rattle.plan_machine.specs.declared.event.reply.Reply.TheVariants as reply
 
 -- a file's name has at most 255 bytes
 abbrev pub is_name : List ℕ → Bool

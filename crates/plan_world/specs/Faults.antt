@@ -1,9 +1,9 @@
--- What is told of a file that can't be had.
+-- The reply for a file that can't be read or looked up.
 use Rattle.std.specs.Prelude.{◌≡◌, ◌⊎◌}
 use Rattle.std.specs.declared.io.ErrorKind.{ErrorKind}
 use Rattle.std.specs.declared.io.ErrorKind.TheVariants.{NotFound, NotADirectory}
-use Rattle.plan_machine.specs.declared.reply.Reply.{Reply}
-use Rattle.plan_machine.specs.declared.reply.Reply.TheVariants.{Fault}
+use Rattle.plan_machine.specs.declared.event.reply.Reply.{Reply}
+use Rattle.plan_machine.specs.declared.event.reply.Reply.TheVariants.{Fault}
 
 -- there is no file of that path, or something above it is no folder
 abbrev pub IsMissing : ErrorKind → Type 0

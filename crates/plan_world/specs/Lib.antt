@@ -1,6 +1,6 @@
 pub mod Answers
 pub mod Askable
-pub mod Begun
+pub mod StartRecorded
 pub mod Depfiles
 pub mod Faults
 pub mod Shells

@@ -3,8 +3,8 @@ use Rattle.std.specs.Prelude.{◌≡◌, ◌≢◌, ℕ, ◌<◌, nat_lt, List, 
 use Rattle.std.specs.declared.alloc.Global.{Global}
 use Rattle.std.specs.declared.process.command.Command.{Command}
 use Rattle.std.specs.Process.{command_program, command_args, command_dir, command_var, clears_env}
-use Rattle.plan_machine.specs.declared.reply.Reply.{Reply}
-use Rattle.plan_machine.specs.declared.reply.Reply.TheVariants as reply
+use Rattle.plan_machine.specs.declared.event.reply.Reply.{Reply}
+use Rattle.plan_machine.specs.declared.event.reply.Reply.TheVariants as reply
 
 -- `/bin/sh`
 abbrev pub shell : List ℕ

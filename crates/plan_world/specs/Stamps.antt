@@ -1,7 +1,7 @@
 -- When a file was changed, as a number.
 use Rattle.std.specs.Prelude.{ℕ, ◌+◌, ◌-◌, ◌*◌, ◌^◌, ◌≤◌, min, max, ℤ, pos}
-use Rattle.plan_machine.specs.declared.reply.Reply.{Reply}
-use Rattle.plan_machine.specs.declared.reply.Reply.TheVariants.{Stamp}
+use Rattle.plan_machine.specs.declared.event.reply.Reply.{Reply}
+use Rattle.plan_machine.specs.declared.event.reply.Reply.TheVariants.{Stamp}
 
 -- Nanoseconds since 1970, of seconds and nanoseconds: at least 1, since 0 says that a file is missing, and at most what
 -- a stamp can hold. What lies before 1970 is 1.

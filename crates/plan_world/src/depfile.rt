@@ -2,7 +2,7 @@
 
 ghost use Rattle.std.specs.Prelude.{◌≡◌, ◌≤◌, ◌<◌, IfOk, IsUtf8, Ok, length};
 ghost use Rattle.std.specs.Io.KnownBytes.{Consumes, IsAtEnd};
-ghost use Rattle.plan_machine.specs.declared.reply.Reply.TheVariants.{Bytes, Fault};
+ghost use Rattle.plan_machine.specs.declared.event.reply.Reply.TheVariants.{Bytes, Fault};
 ghost use Rattle.plan_verify.specs.Turn.{Deps};
 ghost use Rattle.plan_world.specs.Answers.{IsAnswer};
 ghost use Rattle.plan_world.specs.Depfiles.{IsDepfileOf, IsFrontOf};
@@ -53,7 +53,7 @@ fn gather<F: Read>(alloc: Global, file: &mut F, most: usize) -> Result<Gather, D
 }
 
 /// Returns a depfile that was read as a reply.
-fn lent(alloc: Global, gathered: Gather) -> Result<Reply, AllocError>
+fn depfile_reply(alloc: Global, gathered: Gather) -> Result<Reply, AllocError>
     ensures { IfOk result (λ r. r ≡ Bytes gathered) }
 {
     match gathered.finish() {
@@ -67,7 +67,7 @@ fn parse<F: Read>(alloc: Global, file: &mut F) -> Result<Reply, DeviceFault>
     ensures { IfOk result (λ r. IsDepfileOf (F.remaining file.old) (F.remaining file.new) r) }
 {
     let gathered = gather(alloc, file, MOST)?;
-    Ok(lent(alloc, gathered)?)
+    Ok(depfile_reply(alloc, gathered)?)
 }
 
 /// Returns the depfile at a path, or `Nothing` if it is missing.
@@ -84,7 +84,7 @@ pub(crate) fn read_depfile<R: Files + AllocGlobal>(rt: &R, path: &[u8]) -> Resul
     match fs::open(rt, path) {
         Ok(mut file) => match parse(rt.alloc(), &mut file) {
             Ok(reply) => Ok(reply),
-            Err(fault) => fault.replied(Reply::Fault),
+            Err(fault) => fault.or_reply(Reply::Fault),
         },
         Err(error) => without(error, Reply::Nothing),
     }

@@ -120,7 +120,7 @@ impl From<io::Error> for DeviceFault {
 
 impl DeviceFault {
     /// Returns the reply to the question that this fault ended: `otherwise`, or an error if memory ran out.
-    pub(crate) fn replied(self, otherwise: Reply) -> Result<Reply, AllocError>
+    pub(crate) fn or_reply(self, otherwise: Reply) -> Result<Reply, AllocError>
         ensures memory { IsErr result ↔ (self ≡ DeviceFault.Memory) }
         ensures device { IfOk result (λ r. r ≡ otherwise) }
     {

@@ -27,7 +27,7 @@ where
 }
 
 /// Returns what became of a request, and says on standard error why the record can't be changed or read.
-fn told<T, R: Eprint>(
+fn report_fault<T, R: Eprint>(
     rt: &R,
     what: &str,
     record: &str,
@@ -74,7 +74,7 @@ pub fn recompact<R: Files + Env + Clock + Eprint + AllocGlobal>(
 where
     R::File: Read + Write + Seek + OpenFile + SharedFile + Drop,
 {
-    told(
+    report_fault(
         rt,
         "can't rewrite the record",
         record,
@@ -115,7 +115,7 @@ pub fn restat<R: Files + Env + Clock + Eprint + AllocGlobal>(
 where
     R::File: Read + Write + Seek + OpenFile + SharedFile + Drop,
 {
-    told(
+    report_fault(
         rt,
         "can't rewrite the record",
         record,
@@ -152,7 +152,7 @@ pub fn recorded_outputs<R: Files + Env + Clock + Eprint + AllocGlobal>(
 where
     R::File: Read + Write + Seek + OpenFile + SharedFile + Drop,
 {
-    told(
+    report_fault(
         rt,
         "can't read the record",
         record,

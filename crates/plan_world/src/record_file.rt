@@ -5,7 +5,7 @@ ghost use Rattle.std.specs.Io.KnownBytes.{Appends};
 ghost use Rattle.std.specs.List.{flat_map};
 ghost use Rattle.plan_record.specs.Compaction.{last_entries};
 ghost use Rattle.plan_record.specs.Entries.{HasSpelling, IsGoodFront, last_of, spelling};
-ghost use Rattle.plan_world.specs.Begun.{begun};
+ghost use Rattle.plan_world.specs.StartRecorded.{begun};
 ghost use Rattle.plan_world.specs.Recording.{EndsWith, Grows, IsWritten, TakesIn, edge_entry};
 ghost use Rattle.plan_world.specs.Rewriting.{has_grown};
 
@@ -28,13 +28,13 @@ const FEW: usize = 100;
 /// A record with this many entries or fewer for each output isn't compacted.
 const MOST_EACH: u128 = 3;
 
-/// A token: the record says that the edge of this output was begun. Nothing else creates one. Contracts see the output.
+/// A token: the record has the start entry of this output's edge. Nothing else creates one. Contracts see the output.
 #[derive(Drop)]
-pub(crate) struct Begun<'a> {
+pub(crate) struct StartRecorded<'a> {
     output: &'a [u8],
 }
 
-impl<'a> Model for Begun<'a> {
+impl<'a> Model for StartRecorded<'a> {
     ghost use Rattle.std.specs.Prelude.{List, ℕ};
 
     ghost Value = { List ℕ };
@@ -171,10 +171,10 @@ impl<F> RecordFile<F> {
     }
 
     /// Returns the bytes of the record with only the last entry of each output.
-    pub(crate) fn compacted(&self, alloc: Global) -> Result<Vec<u8>, DeviceFault>
+    pub(crate) fn compacted_bytes(&self, alloc: Global) -> Result<Vec<u8>, DeviceFault>
         ensures { IfOk result (λ bytes. bytes.items ≡ flat_map spelling (last_entries self.now.entries)) }
     {
-        Ok(self.entries.compacted(alloc)?)
+        Ok(self.entries.compacted_bytes(alloc)?)
     }
 
     /// Returns the outputs that the record has entries of, each once, in the order of their last entries.
@@ -335,7 +335,7 @@ impl<F: Read + Write + Seek + OpenFile + SharedFile> RecordFile<F> {
         &mut self,
         alloc: Global,
         output: &'a [u8],
-    ) -> Result<Begun<'a>, DeviceFault>
+    ) -> Result<StartRecorded<'a>, DeviceFault>
         ensures proof { IfOk result (λ b. b ≡ output.now) }
         ensures within { OnOk result (HasSpelling (begun output.now)) }
         ensures kept { OnOk result (EndsWith self.old.entries self.new.entries (begun output.now)) }
@@ -345,6 +345,6 @@ impl<F: Read + Write + Seek + OpenFile + SharedFile> RecordFile<F> {
     {
         let begun = begun_entry(alloc, output)?;
         self.keep(alloc, begun)?;
-        Ok(Begun { output })
+        Ok(StartRecorded { output })
     }
 }

@@ -2,7 +2,7 @@
 
 ghost use Rattle.std.specs.Prelude.{◌≡◌, ◌≢◌, IfErr, IfOk, OnOk, map};
 ghost use Rattle.plan_record.specs.Entries.{HasSpelling};
-ghost use Rattle.plan_world.specs.Begun.{begun};
+ghost use Rattle.plan_world.specs.StartRecorded.{begun};
 ghost use Rattle.plan_world.specs.Recording.{edge_entry};
 ghost use Rattle.plan_world.specs.Rewriting.{is_begun};
 
@@ -25,7 +25,7 @@ pub(crate) fn recorded_of(alloc: Global, entry: &Entry) -> Result<Recorded, Devi
     ensures memory { IfErr result (λ f. f ≡ DeviceFault.Memory) }
 {
     let command = Words::of(alloc, entry.command())?;
-    let paths = PathList::shared(alloc, entry.paths()?.into_rows(alloc)?)?;
+    let paths = PathList::of_shared_rows(alloc, entry.paths()?.into_rows(alloc)?)?;
     Ok(Recorded::new(alloc, command, entry.basis(), paths)?)
 }
 

@@ -71,7 +71,7 @@ fn restated_entry(
 }
 
 /// Returns entries with the stamps of their outputs, one for each, as the bases of those whose outputs are wanted.
-pub(crate) fn restated(
+pub(crate) fn restate_entries(
     alloc: Global,
     outputs: &[&[u8]],
     stamps: &[u64],

@@ -12,7 +12,7 @@ use crate::builder_lock::BuilderLock;
 use crate::fault::DeviceFault;
 use crate::record_file::{RecordFile, open_record};
 use crate::replacing::replace_file;
-use crate::restating::{restated, stamps_for};
+use crate::restating::{restate_entries, stamps_for};
 use crate::shared_file::SharedFile;
 use plan_record::spellings;
 use std::fs::OpenFile;
@@ -30,7 +30,7 @@ where
     ensures { Grows file.old.entries file.new.entries }
 {
     file.catch_up(rt.alloc())?;
-    let bytes = file.compacted(rt.alloc())?;
+    let bytes = file.compacted_bytes(rt.alloc())?;
     replace_file(rt, path, &bytes, &file.metadata()?)
 }
 
@@ -62,7 +62,7 @@ where
 {
     let entries = file.last_entries(rt.alloc())?;
     let stamps = stamps_for(rt, outputs, &entries)?;
-    let made = restated(rt.alloc(), outputs, &stamps, &entries)?;
+    let made = restate_entries(rt.alloc(), outputs, &stamps, &entries)?;
     Ok(spellings(rt.alloc(), &made)?)
 }
 

@@ -41,7 +41,7 @@ pub(crate) fn open_shared<R: Files>(
 }
 
 /// Turns the error of a file system that has no locks into success.
-fn granted(locked: io::Result<()>) -> io::Result<()> {
+fn allow_lockless(locked: io::Result<()>) -> io::Result<()> {
     match locked {
         Err(error) if error.kind() == ErrorKind::Unsupported => Ok(()),
         locked => locked,
@@ -50,7 +50,7 @@ fn granted(locked: io::Result<()>) -> io::Result<()> {
 
 impl SharedFile for File {
     fn lock(&self) -> io::Result<()> {
-        granted(File::lock(self))
+        allow_lockless(File::lock(self))
     }
 
     fn try_lock(&self) -> io::Result<bool> {
@@ -58,13 +58,13 @@ impl SharedFile for File {
             Ok(()) => Ok(true),
             Err(TryLockError::WouldBlock) => Ok(false),
             Err(TryLockError::Error(error)) => {
-                granted(Err(error))?;
+                allow_lockless(Err(error))?;
                 Ok(true)
             }
         }
     }
 
     fn unlock(&self) -> io::Result<()> {
-        granted(File::unlock(self))
+        allow_lockless(File::unlock(self))
     }
 }

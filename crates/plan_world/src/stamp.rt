@@ -2,7 +2,7 @@
 
 ghost use Rattle.std.specs.Prelude.{◌≡◌, ◌≤◌, ◌↔◌, List, ℕ, IfErr, IfOk, IsErr, IsOkAnd, IsUtf8, Ok, OnOk};
 ghost use Rattle.std.specs.IoError.{error_kind};
-ghost use Rattle.plan_machine.specs.declared.reply.Reply.TheVariants.{Fault, Stamp};
+ghost use Rattle.plan_machine.specs.declared.event.reply.Reply.TheVariants.{Fault, Stamp};
 ghost use Rattle.plan_verify.specs.Turn.{Stat};
 ghost use Rattle.plan_world.specs.Answers.{IsAnswer};
 ghost use Rattle.plan_world.specs.Faults.{IsMissing, IsToldOf};

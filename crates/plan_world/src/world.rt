@@ -1,7 +1,7 @@
 //! The world of real files and commands.
 
 ghost use Rattle.std.specs.Prelude.{◌≡◌, [], IfErr, IfOk, IfSome, IsUtf8, None, Ok};
-ghost use Rattle.plan_machine.specs.declared.reply.Reply.TheVariants as reply;
+ghost use Rattle.plan_machine.specs.declared.event.reply.Reply.TheVariants as reply;
 ghost use Rattle.plan_verify.specs.Turn.{Keep, Recall, Run};
 ghost use Rattle.plan_world.specs.Answers.{IsAnswer, IsByShell, MayAnswer};
 ghost use Rattle.plan_world.specs.Askable.{IsRecalled, RecallsAs};
@@ -13,7 +13,7 @@ use crate::builder_lock::{BuilderLock, take_lock};
 use crate::depfile::read_depfile;
 use crate::fault::{DeviceFault, OpenFault};
 use crate::reasons::say;
-use crate::record_file::{Begun, Kept, RecordFile, open_file, open_record};
+use crate::record_file::{Kept, RecordFile, StartRecorded, open_file, open_record};
 use crate::recorded::recorded_of;
 use crate::rewriting::compact_grown;
 use crate::shared_file::SharedFile;
@@ -45,8 +45,8 @@ pub struct RealWorld<R: Files, S> {
     shells: S,
     /// Held while what a command printed is written, and as long as a console command runs.
     screen: Mutex<()>,
-    /// Rung before a command is started.
-    bell: Parker,
+    /// Unparked before a command is started.
+    parker: Parker,
     /// The path of the record.
     path: String,
     /// The record, once it was read.
@@ -79,7 +79,7 @@ where
                 rt,
                 shells,
                 screen: Mutex::new(()),
-                bell: Parker::new(),
+                parker: Parker::new(),
                 path,
                 record: Mutex::new(file),
                 lock,
@@ -193,10 +193,10 @@ impl<R: Files, S> RealWorld<R, S> {
         &self.screen
     }
 
-    /// Returns the bell that is rung before a command is started, so that a thread that prints status lines prints
-    /// those that are due before the command's output. Only one thread at a time may park on it.
-    pub fn bell(&self) -> &Parker {
-        &self.bell
+    /// Returns the parker of the thread that prints status lines. It is unparked before a command is started, so that
+    /// the thread prints the lines that are due before the command's output. Only one thread at a time may park on it.
+    pub fn parker(&self) -> &Parker {
+        &self.parker
     }
 }
 
@@ -220,7 +220,7 @@ where
         if outputs.len() == 0 || !make_folders(&self.rt, outputs) {
             return Ok(Reply::NotStarted);
         }
-        self.bell.unpark();
+        self.parker.unpark();
         match self.begin(outputs.row(0)) {
             Ok(begun) => run_shell(
                 &self.rt,
@@ -239,13 +239,13 @@ where
                     outputs.row(0),
                     fault,
                 );
-                fault.replied(Reply::NotStarted)
+                fault.or_reply(Reply::NotStarted)
             }
         }
     }
 
     /// Appends an entry to the record: the command of this output's edge is about to start.
-    fn begin<'a>(&self, output: &'a [u8]) -> Result<Begun<'a>, DeviceFault>
+    fn begin<'a>(&self, output: &'a [u8]) -> Result<StartRecorded<'a>, DeviceFault>
         ensures { IfOk result (λ b. b ≡ output.now) }
     {
         let mut record = self.record.lock(&self.rt);
@@ -291,7 +291,7 @@ fn replied_entry(recorded: Recorded) -> Reply
 }
 
 /// Returns the reply to a recall: the entry that was found for the output, if it isn't spoilt.
-fn recalled(alloc: Global, output: &[u8], found: Option<Entry>) -> Result<Reply, DeviceFault>
+fn recall_reply(alloc: Global, output: &[u8], found: Option<Entry>) -> Result<Reply, DeviceFault>
     requires { IfSome found (λ e. e.output ≡ output.now) }
     ensures suits { IfOk result (λ r. IsAnswer (Recall output.now) r) }
     ensures recalled { IfOk result (λ r. IsRecalled found r) }
@@ -313,12 +313,12 @@ where
         ensures { IfOk result (λ r. MayAnswer S.ended (Recall output.now) r) }
     {
         let found = self.last(output)?;
-        recalled(self.rt.alloc(), output, found)
+        recall_reply(self.rt.alloc(), output, found)
     }
 }
 
 /// Returns the reply that the record has the entry of an edge.
-fn told(kept: Kept<'_>, output: &[u8], command: &[u8], basis: u64, paths: &PathList) -> Reply
+fn keep_reply(kept: Kept<'_>, output: &[u8], command: &[u8], basis: u64, paths: &PathList) -> Reply
     requires { kept ≡ edge_entry output.now command.now basis paths.now }
     ensures suits { IsAnswer (Keep output.now command.now basis paths.now) result }
     ensures kept { result ≡ reply.Kept }
@@ -355,7 +355,7 @@ where
     fn recall(&self, _number: u64, output: &[u8]) -> Result<Reply, AllocError> {
         match self.recall_last(output) {
             Ok(reply) => Ok(reply),
-            Err(fault) => fault.replied(Reply::Fault),
+            Err(fault) => fault.or_reply(Reply::Fault),
         }
     }
 
@@ -384,10 +384,10 @@ where
         paths: &PathList,
     ) -> Result<Reply, AllocError> {
         match self.append(output, command, basis, paths) {
-            Ok(kept) => Ok(told(kept, output, command, basis, paths)),
+            Ok(kept) => Ok(keep_reply(kept, output, command, basis, paths)),
             Err(fault) => {
                 say(&self.rt, "can't keep the entry of", output, fault);
-                fault.replied(Reply::Fault)
+                fault.or_reply(Reply::Fault)
             }
         }
     }

@@ -1,6 +1,6 @@
 //! The tools that remove files.
 
-use crate::said::{REFUSED, complain_of, joined, reason_of};
+use crate::said::{REFUSED, complain_of, concatenate, reason_of};
 use crate::tool::fault::{ToolFault, fault_of};
 use crate::tool::loaded::{Loaded, load_manifest};
 use crate::tool::paths::paths_named;
@@ -75,7 +75,7 @@ fn files_of_rule(
 ) -> Result<Batch, ToolFault> {
     let edges = edges_of_rules(alloc, &loaded.manifest, &loaded.rules, &[name])?;
     Ok(Batch {
-        heading: joined(alloc, &[b"Rule ", name, b"\n"])?,
+        heading: concatenate(alloc, &[b"Rule ", name, b"\n"])?,
         files: files_of_edges(alloc, &loaded.manifest, graph, None, &edges)?,
     })
 }
@@ -210,7 +210,7 @@ impl Removal {
         }
         self.count = self.count.saturating_add(1);
         if self.manner.is_verbose {
-            write_all(out, &joined(alloc, &[b"Remove ", path, b"\n"])?)?;
+            write_all(out, &concatenate(alloc, &[b"Remove ", path, b"\n"])?)?;
         }
         Ok(())
     }

@@ -1,7 +1,7 @@
 //! Faults of tools.
 
 use crate::refusal::refuse;
-use crate::said::{REFUSED, complain, joined};
+use crate::said::{REFUSED, complain, concatenate};
 use plan_commands::{PlanFault, lost_output, no_memory};
 use plan_text::{Memory, SinkFault};
 use plan_tools::{OrderFault, TreeFault};
@@ -62,7 +62,7 @@ impl From<OrderFault> for ToolFault {
 
 /// Returns a fault with a sentence of these texts, or `Memory` if memory runs out.
 pub fn fault_of(alloc: Global, parts: &[&[u8]]) -> ToolFault {
-    match joined(alloc, parts) {
+    match concatenate(alloc, parts) {
         Ok(text) => ToolFault::Said(text),
         Err(_) => ToolFault::Memory,
     }

@@ -8,8 +8,8 @@ ghost use Rattle.plan_scope.specs.Kept.{kept};
 ghost use Rattle.plan_scope.specs.ShellQuoting.{quoted_as};
 
 use crate::edge::expansion::EdgeEnvironment;
-use crate::edge::spare::SpareTexts;
-use crate::scope::held_text::HeldText;
+use crate::edge::text_pool::TextPool;
+use crate::scope::cow_text::CowText;
 use crate::scope::small_map::SmallMap;
 use crate::scope::text::{Quoting, append, append_paths};
 use plan_text::Items;
@@ -65,7 +65,7 @@ pub enum CompiledRule<'a> {
 }
 
 /// Returns the text that a block binds to a name, or else `text`.
-fn near_text<'b, 'a>(block: &'b SmallMap<'a, HeldText<'a>>, name: &[u8], text: &'b [u8]) -> &'b [u8]
+fn near_text<'b, 'a>(block: &'b SmallMap<'a, CowText<'a>>, name: &[u8], text: &'b [u8]) -> &'b [u8]
     ensures { result.now ≡ unwrap_or (last_of name.now block.now) text.now }
 {
     match block.get(name) {
@@ -92,8 +92,8 @@ fn append_part<'a>(
     }
 }
 
-/// Copies a text into a spare buffer. Of a text that is too long, copies only one byte more than is allowed.
-fn spare_copy(alloc: Global, text: &[u8], spare: &mut SpareTexts) -> Result<Items<u8>, AllocError>
+/// Copies a text into a buffer of the pool. Of a text that is too long, copies only one byte more than is allowed.
+fn spare_copy(alloc: Global, text: &[u8], spare: &mut TextPool) -> Result<Items<u8>, AllocError>
     ensures { IfOk result (λ copy. kept copy ≡ kept text.now) }
 {
     match text {
@@ -112,7 +112,7 @@ fn joined_parts<'a>(
     edge: &EdgeEnvironment<'a>,
     quoting: Quoting,
     parts: &[VariablePart],
-    spare: &mut SpareTexts,
+    spare: &mut TextPool,
 ) -> Result<Items<u8>, AllocError>
     ensures { IfOk result (λ text. kept text ≡ kept (text_of_parts (quoted_as quoting) (environment_of edge.now) parts.now)) }
 {
@@ -129,7 +129,7 @@ pub fn text_of_parts<'a>(
     edge: &EdgeEnvironment<'a>,
     quoting: Quoting,
     parts: &[VariablePart],
-    spare: &mut SpareTexts,
+    spare: &mut TextPool,
 ) -> Result<Items<u8>, AllocError>
     ensures { IfOk result (λ text. kept text ≡ kept (text_of_parts (quoted_as quoting) (environment_of edge.now) parts.now)) }
 {

@@ -9,12 +9,12 @@ ghost use Rattle.plan_scope.specs.Outcomes.{Appends};
 ghost use Rattle.plan_scope.specs.Memo.{AppendsBy, IsMemo, text_by};
 ghost use Rattle.plan_scope.specs.HeldEnvironment.{environment_of};
 
+use crate::edge::edge_paths::EdgePaths;
 use crate::edge::memo::{MemoEntry, memoize, recall};
 use crate::edge::rule_variables::RuleVariables;
 use crate::fault::{Cause, StatementFault};
-use crate::manifest::edge_paths::EdgePaths;
-use crate::manifest::path_range::PathRange;
-use crate::scope::held_text::HeldText;
+use crate::scope::cow_text::CowText;
+use crate::scope::path_range::PathRange;
 use crate::scope::small_map::SmallMap;
 use crate::scope::text::{Quoting, append, append_paths};
 use crate::scope::{Scope, name_text};
@@ -27,7 +27,7 @@ pub struct EdgeEnvironment<'a> {
     /// Its canonical paths.
     pub paths: &'a EdgePaths<'a>,
     /// The variables of its build block.
-    pub block: &'a SmallMap<'a, HeldText<'a>>,
+    pub block: &'a SmallMap<'a, CowText<'a>>,
     /// The variables of its rule.
     pub rule: &'a RuleVariables<'a>,
     /// The meaning of names in its file after the whole tree was read.
@@ -36,7 +36,7 @@ pub struct EdgeEnvironment<'a> {
 
 /// Returns the paths that `in`, `out` or `in_newline` denotes, and the byte between two paths. Returns `None` for
 /// other names.
-fn listed<'a>(edge: &EdgeEnvironment<'a>, name: &[u8]) -> Option<(PathRange<'a>, u8)>
+fn paths_of_name<'a>(edge: &EdgeEnvironment<'a>, name: &[u8]) -> Option<(PathRange<'a>, u8)>
     ensures { (quoting : Text → Text) → option_map (λ l. join_with_byte l.1 (map quoting l.0)) result ≡ listed quoting (environment_of edge.now) name.now }
 {
     if name == b"in".as_slice() {
@@ -106,7 +106,7 @@ fn append_variable<'a>(
     ensures appended { AppendsBy out.old.items out.new.items left result (λ n. text_by n (meaning_of (quoted_as quoting) (environment_of edge.now)) name.now) }
     ensures memo { IsMemo (meaning_of (quoted_as quoting) (environment_of edge.now)) memo.new.items }
 {
-    match listed(edge, name) {
+    match paths_of_name(edge, name) {
         Some((paths, separator)) => return append_listed(out, quoting, &paths, separator),
         None => {}
     }

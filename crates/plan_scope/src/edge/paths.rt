@@ -14,8 +14,8 @@ ghost use Rattle.plan_chunks.specs.Joining.{HasMore};
 ghost use Rattle.plan_scope.specs.EdgeAnswers.{texts_read};
 ghost use Rattle.plan_scope.specs.ScopeNames.{names_in};
 
-use crate::manifest::edge_paths::{EdgePaths, PathPlaces};
-use crate::scope::held_text::HeldText;
+use crate::edge::edge_paths::{EdgePaths, PathPlaces};
+use crate::scope::cow_text::CowText;
 use crate::scope::small_map::SmallMap;
 use crate::scope::text::{append, front_kept, is_long};
 use crate::scope::{Scope, expand_pieces, name_text};
@@ -30,7 +30,7 @@ use std::alloc::{AllocError, Global};
 #[derive(Drop)]
 pub struct BlockTexts<'a> {
     /// Their texts, by name.
-    pub values: SmallMap<'a, HeldText<'a>>,
+    pub values: SmallMap<'a, CowText<'a>>,
     /// Whether a text of the block is too long, including texts that a later line replaces.
     pub has_long: bool,
 }
@@ -40,15 +40,15 @@ fn value_text<'a>(
     alloc: Global,
     here: Scope<'a>,
     value: ValueInText<'a>,
-) -> Result<HeldText<'a>, AllocError>
+) -> Result<CowText<'a>, AllocError>
     ensures { IfOk result (λ text. (meant : Name → Text) → KeptEqLookup (names_in here.entry) meant → kept text ≡ kept (expand meant (value_of value.entry))) }
 {
     match value {
-        ValueInText::Plain(bytes) => Ok(HeldText::lent(front_kept(bytes))),
+        ValueInText::Plain(bytes) => Ok(CowText::of_slice(front_kept(bytes))),
         ValueInText::Pieces(line) => {
             let pieces = line.read(alloc)?;
             let text = expand_pieces(alloc, here, pieces.as_slice())?;
-            Ok(HeldText::made(text))
+            Ok(CowText::of_vec(text))
         }
     }
 }
@@ -74,7 +74,7 @@ pub fn block<'a>(
 }
 
 /// Returns the text of a name on a build line. Looks it up in the line's own block first.
-fn text_near<'a>(block: &'a SmallMap<'a, HeldText<'a>>, here: Scope<'a>, name: &[u8]) -> &'a [u8]
+fn text_near<'a>(block: &'a SmallMap<'a, CowText<'a>>, here: Scope<'a>, name: &[u8]) -> &'a [u8]
     ensures { result.now ≡ near (names_in here.entry) block.now name.now }
 {
     match block.get(name) {
@@ -85,7 +85,7 @@ fn text_near<'a>(block: &'a SmallMap<'a, HeldText<'a>>, here: Scope<'a>, name: &
 
 /// Returns the text of a part of a path.
 fn part_text<'a>(
-    block: &'a SmallMap<'a, HeldText<'a>>,
+    block: &'a SmallMap<'a, CowText<'a>>,
     here: Scope<'a>,
     part: PathPart<'a>,
 ) -> &'a [u8]
@@ -100,7 +100,7 @@ fn part_text<'a>(
 /// Expands a path of a build line into a buffer, and replaces its contents. Leaves the buffer empty if the path is
 /// malformed.
 fn expand_path<'a>(
-    block: &'a SmallMap<'a, HeldText<'a>>,
+    block: &'a SmallMap<'a, CowText<'a>>,
     here: Scope<'a>,
     at: usize,
     path: &'a [u8],
@@ -220,7 +220,7 @@ fn add_path(alloc: Global, read: &mut PathRows, path: &[u8]) -> Result<(), Alloc
 /// Expands a path part by part and adds it.
 fn add_expanded<'a>(
     alloc: Global,
-    block: &'a SmallMap<'a, HeldText<'a>>,
+    block: &'a SmallMap<'a, CowText<'a>>,
     here: Scope<'a>,
     at: usize,
     path: &'a [u8],
@@ -237,7 +237,7 @@ fn add_expanded<'a>(
 /// Reads a path of a build line and adds it.
 fn read_one<'a>(
     alloc: Global,
-    block: &'a SmallMap<'a, HeldText<'a>>,
+    block: &'a SmallMap<'a, CowText<'a>>,
     here: Scope<'a>,
     path: PathInText<'a>,
     read: &mut PathRows,
@@ -254,7 +254,7 @@ fn read_one<'a>(
 /// Reads the paths of a list and appends them. Returns the number of all paths, which is where the next list begins.
 fn read_list<'a>(
     alloc: Global,
-    block: &'a SmallMap<'a, HeldText<'a>>,
+    block: &'a SmallMap<'a, CowText<'a>>,
     here: Scope<'a>,
     list: &PathsInText<'a>,
     read: &mut PathRows,
@@ -307,7 +307,7 @@ impl<'a> PathTexts<'a> {
 /// lines before, and returns their places.
 pub fn read_paths<'a>(
     alloc: Global,
-    block: &'a SmallMap<'a, HeldText<'a>>,
+    block: &'a SmallMap<'a, CowText<'a>>,
     here: Scope<'a>,
     build: &BuildLine<'a>,
     read: &mut PathRows,

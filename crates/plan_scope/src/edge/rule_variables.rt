@@ -5,7 +5,7 @@ ghost use Rattle.plan_scope.specs.Scopes.{last_of};
 ghost use Rattle.plan_scope.specs.Edges.{late};
 ghost use Rattle.plan_scope.specs.Compiled.{LeavesRule};
 
-use crate::scope::held_text::HeldText;
+use crate::scope::cow_text::CowText;
 use crate::scope::scoped_map::{MARKS, mark};
 use crate::scope::small_map::SmallMap;
 use plan_parse::Binding;
@@ -87,7 +87,7 @@ impl<'a> RuleVariables<'a> {
     }
 
     /// Checks whether a block binds none of the variables.
-    pub fn are_left_by<'b>(&self, block: &SmallMap<'b, HeldText<'b>>) -> bool
+    pub fn are_left_by<'b>(&self, block: &SmallMap<'b, CowText<'b>>) -> bool
         ensures { result ≡ true → LeavesRule self.now block.now }
     {
         for binding in self.bindings {

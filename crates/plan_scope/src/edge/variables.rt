@@ -14,7 +14,7 @@ ghost use Rattle.plan_scope.specs.ShellQuoting.{quoted_as};
 use crate::edge::compiled::{CompiledRule, RuleParts, text_of_parts};
 use crate::edge::expansion::{EdgeEnvironment, append_whole};
 use crate::edge::memo::MemoEntry;
-use crate::edge::spare::SpareTexts;
+use crate::edge::text_pool::TextPool;
 use crate::fault::StatementFault;
 use crate::scope::text::Quoting::{Plain, Shell};
 use crate::scope::text::{Quoting, is_long};
@@ -92,7 +92,7 @@ fn variable<'a>(
     quoting: Quoting,
     found: &mut Findings<'a>,
     name: &'a [u8],
-    spare: &mut SpareTexts,
+    spare: &mut TextPool,
 ) -> Result<Items<u8>, AllocError>
     requires unlisted { listed (quoted_as quoting) (environment_of edge.now) name.now ≡ None }
     requires memo { IsMemo (meaning_of (quoted_as quoting) (environment_of edge.now)) found.old.memo.items }
@@ -118,7 +118,7 @@ fn variable<'a>(
 fn expanded_variables<'a>(
     alloc: Global,
     edge: &'a EdgeEnvironment<'a>,
-    spare: &mut SpareTexts,
+    spare: &mut TextPool,
 ) -> Result<Variables, AllocError>
     ensures { IfOk result (λ v. KeptEqVariables v (variables_of (environment_of edge.now))) }
 {
@@ -143,7 +143,7 @@ fn compiled_variables<'a>(
     alloc: Global,
     edge: &EdgeEnvironment<'a>,
     parts: &RuleParts,
-    spare: &mut SpareTexts,
+    spare: &mut TextPool,
 ) -> Result<Variables, AllocError>
     requires compiled { AreCompiled (environment_of edge.now).rule (environment_of edge.now).file parts.now }
     requires left { LeavesRule (environment_of edge.now).rule (environment_of edge.now).block }
@@ -169,7 +169,7 @@ pub fn variables_of_rule<'a>(
     alloc: Global,
     edge: &'a EdgeEnvironment<'a>,
     compiled: &CompiledRule,
-    spare: &mut SpareTexts,
+    spare: &mut TextPool,
 ) -> Result<Variables, AllocError>
     requires { IsCompiledRule (environment_of edge.now).rule (environment_of edge.now).file compiled.now }
     ensures { IfOk result (λ v. KeptEqVariables v (variables_of (environment_of edge.now))) }
@@ -186,7 +186,7 @@ pub fn variables_of_rule<'a>(
 pub fn variables_of_phony<'a>(
     alloc: Global,
     edge: &'a EdgeEnvironment<'a>,
-    spare: &mut SpareTexts,
+    spare: &mut TextPool,
 ) -> Result<Variables, AllocError>
     ensures { IfOk result (λ v. KeptEqVariables v (phony_variables (environment_of edge.now))) }
 {
@@ -245,7 +245,7 @@ pub fn has_long_text(variables: &Variables) -> bool
 }
 
 /// Keeps the buffers of the texts of variables that are no longer needed.
-pub fn keep_room(variables: Variables, spare: &mut SpareTexts) {
+pub fn keep_room(variables: Variables, spare: &mut TextPool) {
     spare.keep(variables.command);
     spare.keep(variables.depfile);
     spare.keep(variables.deps);

@@ -6,9 +6,9 @@ ghost use Rattle.plan_text.specs.Sinks.{Writes};
 ghost use Rattle.plan_scope.specs.Edges.{command_line, commands_of};
 ghost use Rattle.plan_scope.specs.TextLists.{whole};
 
+use crate::edge::edge_list::EdgeRef;
+use crate::edge::edge_text::{EdgeText, write_text};
 use crate::manifest::Manifest;
-use crate::manifest::edge_list::EdgeRef;
-use crate::manifest::edge_text::{EdgeText, write_text};
 use plan_text::{Sink, SinkFault, write_all, writes_join};
 
 /// A write to the sink failed.

@@ -8,9 +8,9 @@ ghost use Rattle.plan_scope.specs.Evaluation.{depth_by};
 ghost use Rattle.plan_scope.specs.Outcomes.{Gives};
 ghost use Rattle.plan_scope.specs.ScopeNames.{names_in};
 
+use crate::edge::pool_names::PoolNames;
 use crate::fault::{Cause, StatementFault};
 use crate::manifest::Pool;
-use crate::manifest::pool_names::PoolNames;
 use crate::scope::text::{copy_of, is_long};
 use crate::scope::{Scope, expand_pieces};
 use plan_text::number_in;

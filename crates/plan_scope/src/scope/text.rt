@@ -9,7 +9,7 @@ ghost use Rattle.plan_scope.specs.Kept.{kept};
 ghost use Rattle.plan_scope.specs.ShellQuoting.{quoted_as};
 ghost use Rattle.std.specs.Prelude.{map, flat_map, [], ◌∷◌, if◌then◌else◌};
 
-use crate::manifest::path_range::PathRange;
+use crate::scope::path_range::PathRange;
 use plan_text::{Items, MAX_TEXT};
 use std::alloc::{AllocError, Global};
 

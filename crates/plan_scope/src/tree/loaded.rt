@@ -10,7 +10,7 @@ ghost use Rattle.plan_scope.specs.Scopes.{bound_by};
 
 use crate::scope::scoped_map::ScopedMap;
 use crate::tree::parsed::Parsed;
-use crate::tree::stretch::Stretch;
+use crate::tree::segment::Segment;
 use crate::tree::{File, Tree};
 use indexmap::IndexMap;
 use plan_text::Items;
@@ -18,17 +18,17 @@ use std::alloc::{AllocError, Global};
 use std::marker::Model;
 use std::rc::Rc;
 
-/// Statements in their order, as stretches of files.
+/// Statements in their order, as segments of files.
 #[derive(Drop)]
-pub struct Stretches {
-    stretches: Vec<Stretch>,
+pub struct Segments {
+    segments: Vec<Segment>,
     /// The greatest of their own scopes.
     greatest: usize,
     /// The file that was parsed first under each path.
     read: IndexMap<Vec<u8>, Rc<Parsed>>,
 }
 
-impl Model for Stretches {
+impl Model for Segments {
     ghost use Rattle.std.specs.Prelude.{◌≡◌, List};
     ghost use Rattle.plan_scope.specs.FileStatements.{joined};
     ghost use Rattle.plan_scope.specs.Loading.{greatest_scope};
@@ -36,9 +36,9 @@ impl Model for Stretches {
 
     ghost Value = { List trees.TreeStatement };
 
-    ghost view = { λ s. joined s.stretches.items };
+    ghost view = { λ s. joined s.segments.items };
 
-    ghost invariant = { λ s. s.greatest ≡ greatest_scope (joined s.stretches.items) };
+    ghost invariant = { λ s. s.greatest ≡ greatest_scope (joined s.segments.items) };
 }
 
 /// Returns the own scope of a statement that sees these scopes.
@@ -51,13 +51,13 @@ pub fn own_scope(scopes: &[usize]) -> usize
     }
 }
 
-impl Stretches {
+impl Segments {
     /// Creates an empty list.
     pub fn new(alloc: Global) -> Self
         ensures { result ≡ [] }
     {
-        Stretches {
-            stretches: Vec::new(alloc),
+        Segments {
+            segments: Vec::new(alloc),
             greatest: 0,
             read: IndexMap::new(alloc),
         }
@@ -106,8 +106,7 @@ impl Stretches {
             return Ok(());
         }
         self.remember(alloc, file.as_ref())?;
-        self.stretches
-            .push(Stretch::new(file.clone()?, start, end))?;
+        self.segments.push(Segment::new(file.clone()?, start, end))?;
         self.greatest = self
             .greatest
             .max(own_scope(file.as_ref().scopes.as_slice()));
@@ -130,7 +129,7 @@ impl Stretches {
 #[derive(Drop)]
 pub struct Loaded {
     /// The statements.
-    pub statements: Stretches,
+    pub statements: Segments,
     /// Their bindings.
     pub bound: ScopedMap<Items<u8>>,
 }
@@ -154,13 +153,13 @@ impl Loaded {
         ensures { result ≡ [] }
     {
         Loaded {
-            statements: Stretches::new(alloc),
+            statements: Segments::new(alloc),
             bound: ScopedMap::new(alloc),
         }
     }
 
     /// Returns the statements.
-    pub fn statements(&self) -> &Stretches
+    pub fn statements(&self) -> &Segments
         ensures { result.now ≡ self.now }
     {
         &self.statements
@@ -178,14 +177,14 @@ impl Loaded {
         ensures { result ≡ self }
     {
         let Loaded { statements, bound } = self;
-        let Stretches {
-            mut stretches,
+        let Segments {
+            mut segments,
             greatest: _,
             read: _,
         } = statements;
-        stretches.shrink_to_fit();
+        segments.shrink_to_fit();
         Tree {
-            stretches: Items::new(stretches),
+            segments: Items::new(segments),
             bound,
         }
     }

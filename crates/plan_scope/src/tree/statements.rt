@@ -4,14 +4,14 @@ ghost use Rattle.std.specs.Prelude.{◌≡◌};
 ghost use Rattle.plan_scope.specs.FileStatements.{joined};
 
 use crate::tree::TreeStatement;
-use crate::tree::stretch::Stretch;
+use crate::tree::segment::Segment;
 use std::marker::Model;
 
 /// The statements of a tree that are still to come, in their order.
 #[derive(Drop)]
 pub struct Statements<'a> {
-    stretches: &'a [Stretch],
-    /// The number of statements of the first stretch that were returned.
+    segments: &'a [Segment],
+    /// The number of statements of the first segment that were returned.
     given: usize,
 }
 
@@ -22,18 +22,15 @@ impl<'a> Model for Statements<'a> {
 
     ghost Value = { List trees.TreeStatement };
 
-    ghost view = { λ s. left_of s.stretches.now s.given };
+    ghost view = { λ s. left_of s.segments.now s.given };
 }
 
 impl<'a> Statements<'a> {
-    /// Creates the statements of these stretches.
-    pub fn new(stretches: &'a [Stretch]) -> Self
-        ensures { result ≡ joined stretches.now }
+    /// Creates the statements of these segments.
+    pub fn new(segments: &'a [Segment]) -> Self
+        ensures { result ≡ joined segments.now }
     {
-        Statements {
-            stretches,
-            given: 0,
-        }
+        Statements { segments, given: 0 }
     }
 }
 
@@ -47,13 +44,13 @@ impl<'a> Iterator for Statements<'a> {
     ghost remaining = { item_count (λ s. s) };
 
     fn next(&mut self) -> Option<TreeStatement<'a>> {
-        while let [stretch, behind @ ..] = self.stretches {
+        while let [segment, behind @ ..] = self.segments {
             let number = self.given;
-            if number < stretch.len() {
+            if number < segment.len() {
                 self.given = number + 1;
-                return Some(stretch.statement(number));
+                return Some(segment.statement(number));
             }
-            self.stretches = behind;
+            self.segments = behind;
             self.given = 0;
         }
         None

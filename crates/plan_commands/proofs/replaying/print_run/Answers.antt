@@ -9,7 +9,7 @@ use Rattle.plan_commands.proofs.replaying.print_run.Goals as goal
 pub returns-in-Ok : goal.returns-in-Ok
 returns-in-Ok g c =
     let p = c.args.image.now in
-    let end = c.args.state.now.going.now in
+    let end = c.args.state.now.run_state.now in
     let marks = c.args.marks.now in
     let old : ℕ × Option (List ℕ) = (g.W.Sink.failures c.args.out.now, g.W.Sink.taken c.args.out.now) in
     let mid : ℕ × Option (List ℕ) = (g.W.Sink.failures c.print.new.out, g.W.Sink.taken c.print.new.out) in

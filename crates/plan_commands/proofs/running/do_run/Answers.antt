@@ -10,8 +10,8 @@ pub returns-clause-done : goal.returns-clause-done
 returns-clause-done g c =
     run_done (g.S.Source.gives c.args.source.now) g.W.World.allows _ _ _ _ _ _
     (with_targets (g.S.Source.gives c.args.source.now) _ _ _ _ _ c.as_slice-edges.ensures.value c.in-Ok.ensures.opened)
-    c.play_for-played.ensures.run c.play_for-played.ensures.ended
-    (told_all _ c.in-Ok.opened.0 _ _ _ _ _ _ _ c.play_for-played.ensures.printed c.told-status.ensures.ended) c.told-status.ensures.err
+    c.run_for_build-run_result.ensures.run c.run_for_build-run_result.ensures.ended
+    (told_all _ c.in-Ok.opened.0 _ _ _ _ _ _ _ c.run_for_build-run_result.ensures.printed c.finish_run-status.ensures.ended) c.finish_run-status.ensures.err
 
 pub returns-clause-refused : goal.returns-clause-refused
 returns-clause-refused g c =
@@ -19,6 +19,6 @@ returns-clause-refused g c =
     (IsMissing (g.S.Source.gives c.args.source.now) (g.S.Source.fails c.args.source.now) (g.S.Source.failures c.args.source.now) (g.S.Source.failures c.opened_at.new.source))
     g.W.World.allows _ _ _ _ _ _
     (with_targets (g.S.Source.gives c.args.source.now) _ _ _ _ _ c.as_slice-edges.ensures.value c.in-Ok.ensures.opened)
-    c.play_for-played.ensures.run c.play_for-played.ensures.ended c.play_for-played.ensures.fault
-    (told_all _ c.in-Ok.opened.0 _ _ _ _ _ _ _ c.play_for-played.ensures.printed c.told-status.ensures.ended) c.told-status.ensures.err
-    (told_some _ c.in-Ok.opened.0 _ _ _ _ _ _ c.play_for-played.ensures.printed c.told-status.ensures.some) (told_none _ _ _ c.play_for-played.ensures.silent c.told-status.ensures.none)
+    c.run_for_build-run_result.ensures.run c.run_for_build-run_result.ensures.ended c.run_for_build-run_result.ensures.fault
+    (told_all _ c.in-Ok.opened.0 _ _ _ _ _ _ _ c.run_for_build-run_result.ensures.printed c.finish_run-status.ensures.ended) c.finish_run-status.ensures.err
+    (told_some _ c.in-Ok.opened.0 _ _ _ _ _ _ c.run_for_build-run_result.ensures.printed c.finish_run-status.ensures.some) (told_none _ _ _ c.run_for_build-run_result.ensures.silent c.finish_run-status.ensures.none)

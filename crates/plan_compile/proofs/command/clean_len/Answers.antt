@@ -2,5 +2,5 @@ use Rattle.std.proofs.Common.{◌*◌, sym, ap, ◌∙◌}
 use Rattle.plan_compile.proofs.Lengths.{clean_restat}
 use Rattle.plan_compile.proofs.command.clean_len.Goals as goal
 
-pub returns-then-wiring-clause-len : goal.returns-then-wiring-clause-len
-returns-then-wiring-clause-len c = ap (λ n. 2 * n) c.len-count.ensures ∙ sym (clean_restat c.args.wiring.now c.if-wiring.true)
+pub returns-then-layout-clause-len : goal.returns-then-layout-clause-len
+returns-then-layout-clause-len c = ap (λ n. 2 * n) c.len-count.ensures ∙ sym (clean_restat c.args.layout.now c.if-layout.true)

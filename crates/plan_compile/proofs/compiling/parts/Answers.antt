@@ -41,7 +41,7 @@ returns-clause-parts c =
     let edges : coded.edges ≡ edges_in (used_bodies (codes t.edges)) ks (codes t.edges) t.edges =
     c.in_ok-coded.ensures.edges ∙ ap (λ (xs : List Build). edges_in (used_bodies (codes xs)) ks (codes xs) xs) all in
     let pools : tables.pools ≡ map (declared t.pools) (used_pools t.edges) = c.in_ok-tables.ensures.pools ∙ ap (λ (ns : List Text). map (declared t.pools) ns) used in
-    c.assembled.ensures
+    c.assemble.ensures
     ∙ image_is t sound c.len-3.result tables.texts tables.files tables.pools coded.slots.items (table t.edges) ks (newest_from zero t.edges) coded.bodies coded.edges tables.defaults count
     (c.in_ok-tables.ensures.texts ∙ texts) c.in_ok-tables.ensures.files pools slots refl numbers refl bodies edges c.in_ok-tables.ensures.defaults
 

@@ -5,7 +5,7 @@ use Rattle.std.proofs.lemmas.Result.{err_from_is_err_and}
 use Rattle.plan_compile.specs.declared.numbers.Numbers.{Numbers}
 use Rattle.plan_compile.specs.Builds.{Build}
 use Rattle.plan_compile.specs.Emit.{code_of, emitted}
-use Rattle.plan_compile.specs.Assembling.{codes_in, wire_in}
+use Rattle.plan_compile.specs.Assembling.{codes_in, layout_in}
 use Rattle.plan_compile.specs.OutputTable.{Table}
 use Rattle.plan_compile.specs.Slots.{form_of}
 use Rattle.plan_compile.specs.declared.fault.CompileFault.{CompileFault}
@@ -29,8 +29,8 @@ loop-number-preserved c =
     let named : slice_get ks n ≡ Some k = c.numbers_at-named.ensures in
     let ltn : n < length ns = omega (arith, lt, c.requires.long) in
     let at : slice_get ns n ≡ Some slot = slice_get_read ns (length ns) n slot refl ltn c.index.ensures in
-    let is : c.put_code.new.code ≡ code_of (wire_in (form_of x) k table slot x) =
-    emitted_is (code_of (wire_in (form_of x) k c.deref.result.now slot x)) c.put_code.new.code c.in_ok-lists.ensures ∙ ap (λ (t : Table). code_of (wire_in (form_of x) k t slot x)) c.deref.ensures.value in
+    let is : c.put_code.new.code ≡ code_of (layout_in (form_of x) k table slot x) =
+    emitted_is (code_of (layout_in (form_of x) k c.deref.result.now slot x)) c.put_code.new.code c.in_ok-lists.ensures ∙ ap (λ (t : Table). code_of (layout_in (form_of x) k t slot x)) c.deref.ensures.value in
     let bodies = bodies_step table ks ns xs n slot k x c.put_code.new.code c.loop-number.bodies c.push_edge.new.bodies _ named at here is c.in_ok-push_edge.ensures.bodies c.loop-number.invariant.0 in (
       bodies,
       edges_step table ks ns xs n slot k x c.put_code.new.code c.loop-number.bodies c.push_edge.new.bodies _ c.loop-number.edges c.push_edge.new.edges _ named at here is
@@ -56,4 +56,4 @@ returns-in_err-lists-clause-refused c =
     let p = err_from_is_err_and c.from_residual-in_err-lists.result c.from_residual-in_err-lists.ensures.1 in
     subst (λ r. IfErr r (λ (fault : CompileFault). RefusesCodes fault (codes_in table ks ns xs))) (sym (p.1 ∙ ap (λ e. Err e) p.2))
     (code_refused c.in_err-lists.field-0.0 table ks ns xs n slot k x named at here
-    (subst (λ (t : Table). (c.in_err-lists.field-0.0 ≡ Memory → ⊥) → emitted (code_of (wire_in (form_of x) k t slot x)) ≡ Err c.in_err-lists.field-0.0) c.deref.ensures.value c.in_err-lists.ensures))
+    (subst (λ (t : Table). (c.in_err-lists.field-0.0 ≡ Memory → ⊥) → emitted (code_of (layout_in (form_of x) k t slot x)) ≡ Err c.in_err-lists.field-0.0) c.deref.ensures.value c.in_err-lists.ensures))

@@ -2,42 +2,42 @@ use Rattle.std.proofs.Common.{◌∙◌, List, [], ◌∷◌, ◌++◌, Option, 
 use Rattle.plan_lanes.specs.declared.board.Advance.{Advance}
 use Rattle.plan_lanes.specs.declared.board.Advance.TheVariants as advance
 use Rattle.plan_lanes.specs.declared.board.Permit.{Permit}
-use Rattle.plan_lanes.specs.Hands.{Gathers, Held}
+use Rattle.plan_lanes.specs.Batches.{Gathers, Held}
 use Rattle.plan_lanes.specs.Proceeds.{Proceeds}
-use Rattle.plan_lanes.proofs.HandLemmas.{gathers_moved, gathers_none, takes_held, takes_nothing, takes_run}
+use Rattle.plan_lanes.proofs.BatchLemmas.{gathers_moved, gathers_none, takes_held, takes_nothing, takes_run}
 use Rattle.plan_lanes.proofs.lanes.take.Goals as goal
 
 pub loop-init : goal.loop-init
-loop-init g c = (tt, tt, gathers_none c.args.desk.now.run c.args.hand.now)
+loop-init g c = (tt, tt, gathers_none c.args.shared.now.run c.args.batch.now)
 
 pub loop-preserved-in-Ok-Moved : goal.loop-preserved-in-Ok-Moved
 loop-preserved-in-Ok-Moved g c =
-    let sofar : Gathers c.args.desk.now.run c.loop.desk.run c.args.hand.now c.advance.new.self [] =
-    subst (λ (hand : List Held). Gathers c.args.desk.now.run c.loop.desk.run c.args.hand.now hand []) (sym c.advance.ensures.same) c.loop.invariant.2 in
-    let moved = subst (λ (x : Advance). Proceeds c.loop.desk.run c.advance.new.desk.run x) c.in-Ok-Moved.field-0-is c.in-Ok-Moved.ensures.ok in
-    (tt, tt, gathers_moved c.args.desk.now.run c.loop.desk.run c.advance.new.desk.run c.args.hand.now c.advance.new.self sofar moved)
+    let sofar : Gathers c.args.shared.now.run c.loop.shared.run c.args.batch.now c.advance.new.self [] =
+    subst (λ (batch : List Held). Gathers c.args.shared.now.run c.loop.shared.run c.args.batch.now batch []) (sym c.advance.ensures.same) c.loop.invariant.2 in
+    let moved = subst (λ (x : Advance). Proceeds c.loop.shared.run c.advance.new.shared.run x) c.in-Ok-Moved.field-0-is c.in-Ok-Moved.ensures.ok in
+    (tt, tt, gathers_moved c.args.shared.now.run c.loop.shared.run c.advance.new.shared.run c.args.batch.now c.advance.new.self sofar moved)
 
 pub returns-in-Some-permit : goal.returns-in-Some-permit
 returns-in-Some-permit g c =
-    let sofar : Gathers c.args.desk.now.run c.loop.desk.run c.args.hand.now c.advance.new.self [] =
-    subst (λ (hand : List Held). Gathers c.args.desk.now.run c.loop.desk.run c.args.hand.now hand []) (sym c.advance.ensures.same) c.loop.invariant.2 in
-    let job : Proceeds c.loop.desk.run c.advance.new.desk.run (advance.Job c.in-Ok-Job.edge c.in-Ok-Job.question c.in-Ok-Job.permit) =
-    subst (λ (x : Advance). Proceeds c.loop.desk.run c.advance.new.desk.run x) c.in-Ok-Job.field-0-is c.in-Ok-Job.ensures.ok in
-    let run = subst (λ (o : Option Permit). Proceeds c.loop.desk.run c.advance.new.desk.run (advance.Job c.in-Ok-Job.edge c.in-Ok-Job.question o)) c.in-Some-permit.is job in
-    takes_run c.args.desk.now.run c.loop.desk.run c.advance.new.desk.run c.args.hand.now c.advance.new.self sofar c.in-Ok-Job.edge c.in-Ok-Job.question c.in-Some-permit.permit run
+    let sofar : Gathers c.args.shared.now.run c.loop.shared.run c.args.batch.now c.advance.new.self [] =
+    subst (λ (batch : List Held). Gathers c.args.shared.now.run c.loop.shared.run c.args.batch.now batch []) (sym c.advance.ensures.same) c.loop.invariant.2 in
+    let job : Proceeds c.loop.shared.run c.advance.new.shared.run (advance.Job c.in-Ok-Job.edge c.in-Ok-Job.question c.in-Ok-Job.permit) =
+    subst (λ (x : Advance). Proceeds c.loop.shared.run c.advance.new.shared.run x) c.in-Ok-Job.field-0-is c.in-Ok-Job.ensures.ok in
+    let run = subst (λ (o : Option Permit). Proceeds c.loop.shared.run c.advance.new.shared.run (advance.Job c.in-Ok-Job.edge c.in-Ok-Job.question o)) c.in-Some-permit.is job in
+    takes_run c.args.shared.now.run c.loop.shared.run c.advance.new.shared.run c.args.batch.now c.advance.new.self sofar c.in-Ok-Job.edge c.in-Ok-Job.question c.in-Some-permit.permit run
 
 pub returns-then-not-push : goal.returns-then-not-push
-returns-then-not-push g c = takes_nothing c.args.desk.now.run c.loop.desk.run c.advance.new.desk.run c.args.hand.now c.loop.hand c.loop.invariant.2 c.advance.ensures.goes
+returns-then-not-push g c = takes_nothing c.args.shared.now.run c.loop.shared.run c.advance.new.shared.run c.args.batch.now c.loop.batch c.loop.invariant.2 c.advance.ensures.goes
 
 pub loop-preserved : goal.loop-preserved
 loop-preserved g c =
-    let sofar : Gathers c.args.desk.now.run c.loop.desk.run c.args.hand.now c.advance.new.self [] =
-    subst (λ (hand : List Held). Gathers c.args.desk.now.run c.loop.desk.run c.args.hand.now hand []) (sym c.advance.ensures.same) c.loop.invariant.2 in
-    let job : Proceeds c.loop.desk.run c.advance.new.desk.run (advance.Job c.in-Ok-Job.edge c.in-Ok-Job.question c.in-Ok-Job.permit) =
-    subst (λ (x : Advance). Proceeds c.loop.desk.run c.advance.new.desk.run x) c.in-Ok-Job.field-0-is c.in-Ok-Job.ensures.ok in
-    let asked = subst (λ (o : Option Permit). Proceeds c.loop.desk.run c.advance.new.desk.run (advance.Job c.in-Ok-Job.edge c.in-Ok-Job.question o)) c.in-None-permit.is job in
+    let sofar : Gathers c.args.shared.now.run c.loop.shared.run c.args.batch.now c.advance.new.self [] =
+    subst (λ (batch : List Held). Gathers c.args.shared.now.run c.loop.shared.run c.args.batch.now batch []) (sym c.advance.ensures.same) c.loop.invariant.2 in
+    let job : Proceeds c.loop.shared.run c.advance.new.shared.run (advance.Job c.in-Ok-Job.edge c.in-Ok-Job.question c.in-Ok-Job.permit) =
+    subst (λ (x : Advance). Proceeds c.loop.shared.run c.advance.new.shared.run x) c.in-Ok-Job.field-0-is c.in-Ok-Job.ensures.ok in
+    let asked = subst (λ (o : Option Permit). Proceeds c.loop.shared.run c.advance.new.shared.run (advance.Job c.in-Ok-Job.edge c.in-Ok-Job.question o)) c.in-None-permit.is job in
     let longer = c.push.ensures c.if-not-push.false ∙ ap (λ (m : Held). c.advance.new.self ++ m ∷ []) c.open.ensures in
-    (tt, tt, takes_held c.args.desk.now.run c.loop.desk.run c.advance.new.desk.run c.args.hand.now c.advance.new.self sofar c.in-Ok-Job.edge c.in-Ok-Job.question asked c.push.new.self longer)
+    (tt, tt, takes_held c.args.shared.now.run c.loop.shared.run c.advance.new.shared.run c.args.batch.now c.advance.new.self sofar c.in-Ok-Job.edge c.in-Ok-Job.question asked c.push.new.self longer)
 
 pub returns-in-Err : goal.returns-in-Err
-returns-in-Err g c = takes_nothing c.args.desk.now.run c.loop.desk.run c.advance.new.desk.run c.args.hand.now c.loop.hand c.loop.invariant.2 c.advance.ensures.goes
+returns-in-Err g c = takes_nothing c.args.shared.now.run c.loop.shared.run c.advance.new.shared.run c.args.batch.now c.loop.batch c.loop.invariant.2 c.advance.ensures.goes

@@ -1,7 +1,7 @@
 use Rattle.std.proofs.Common.{rules, ◌≡◌, ◌+◌, ◌-◌, ◌<◌, ℕ, List, [], ◌∷◌, ◌++◌, drop, get_or, length, length-append, inr, ap, arith, sym, subst, ◌∙◌}
 use Rattle.std.proofs.lemmas.List.{get_or-drop, length-drop}
 use Rattle.plan_verify.specs.Turn.{Stat}
-use Rattle.plan_machine.specs.declared.reply.Reply.TheVariants.{Stamp}
+use Rattle.plan_machine.specs.declared.event.reply.Reply.TheVariants.{Stamp}
 use Rattle.plan_lanes.specs.StampRows.{HaveStamps}
 use Rattle.plan_lanes.proofs.StampRowLemmas.{have_more}
 use Rattle.plan_lanes.proofs.stamp_row.stamps_from.Goals as goal

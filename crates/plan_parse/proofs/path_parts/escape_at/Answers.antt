@@ -7,5 +7,5 @@ returns-in-Some c =
     let within = c.in-Some.ensures.within in (
       omega arith,
       omega (arith, within),
-      escape_part c.args.at c.args.text.now c.escaped.result c.in-Some.len within c.escaped.ensures.sign c.escaped.ensures.short,
+      escape_part c.args.at c.args.text.now c.part_of_escape.result c.in-Some.len within c.part_of_escape.ensures.sign c.part_of_escape.ensures.short,
     )

@@ -7,7 +7,7 @@ use Rattle.plan_status.proofs.outcomes.all_done.Goals as goal
 
 pub returns-then-not-is_done : goal.returns-then-not-is_done
 returns-then-not-is_done c =
-    let s = c.args.state.now.going.now in
+    let s = c.args.state.now.run_state.now in
     let e = c.loop-number.number in
     let same : c.parts-parts.result.now ≡ c.args.image.now = c.parts-parts.ensures.tables ∙ c.image.ensures.same in
     let below : e < length c.args.image.now.edges
@@ -18,4 +18,4 @@ returns-then-not-is_done c =
 pub loop-number-preserved : goal.loop-number-preserved
 loop-number-preserved c =
     let told = c.is_done.ensures ∙ ap is_done c.outcome.ensures in
-    one_done c.args.state.now.going.now c.loop-number.number c.is_done.result c.loop-number.invariant told c.if-not-is_done.false
+    one_done c.args.state.now.run_state.now c.loop-number.number c.is_done.result c.loop-number.invariant told c.if-not-is_done.false

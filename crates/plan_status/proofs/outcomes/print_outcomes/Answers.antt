@@ -12,7 +12,7 @@ pub returns-in-Err : goal.returns-in-Err
 returns-in-Err g c =
     let so_far = c.loop-number.invariant in
     let p = c.args.image.now in
-    let s = c.args.state.now.going.now in
+    let s = c.args.state.now.run_state.now in
     let i = c.loop-number.number in
     let edge : Edge = lent c.edge-edge.result in
     let same : c.parts-parts.result.now ≡ p = c.parts-parts.ensures.tables ∙ c.image.ensures.same in
@@ -31,7 +31,7 @@ pub loop-number-preserved : goal.loop-number-preserved
 loop-number-preserved g c =
     let so_far = c.loop-number.invariant in
     let p = c.args.image.now in
-    let s = c.args.state.now.going.now in
+    let s = c.args.state.now.run_state.now in
     let i = c.loop-number.number in
     let edge : Edge = lent c.edge-edge.result in
     let same : c.parts-parts.result.now ≡ p = c.parts-parts.ensures.tables ∙ c.image.ensures.same in

@@ -3,7 +3,7 @@ use Rattle.plan_text.specs.Sinks.{Writes}
 use Rattle.plan_status.specs.Lines.{ends, lines_behind}
 use Rattle.plan_status.proofs.printing.print_behind.Given as goal
 
--- how many ends were told, and what was written with what is left
+-- the number of ends so far, and the text that was written, followed by the text that is still to be written
 abbrev pub invariant-loop-at : goal.invariant-loop-at
 invariant-loop-at g l =
     (done : List ℕ) × (l.n ≡ ends l.image (take l.at l.marks)) × (l.fn.from ≤ l.at)

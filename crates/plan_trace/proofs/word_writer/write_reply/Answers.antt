@@ -1,6 +1,6 @@
 use Rattle.std.proofs.Common.{is_ok, sym, subst}
 use Rattle.plan_text.specs.Sinks.{Writes}
-use Rattle.plan_machine.specs.declared.reply.Reply.{Reply}
+use Rattle.plan_machine.specs.declared.event.reply.Reply.{Reply}
 use Rattle.plan_trace.specs.Spelling.{behind, reply_words}
 use Rattle.plan_trace.proofs.word_writer.write_reply.Goals as goal
 

@@ -1,5 +1,5 @@
 use Rattle.std.proofs.Common.{◌≡◌, ◌∙◌, ◌≤◌, ◌+◌, List, ap, sym, subst, arith, length, bytes_eq}
-use Rattle.plan_compile.specs.declared.key.HeldKey.{HeldKey}
+use Rattle.plan_compile.specs.declared.text_key.HeldKey.{HeldKey}
 use Rattle.plan_compile.specs.Names.{Text, text_number}
 use Rattle.plan_compile.specs.Numbering.{with_item}
 use Rattle.plan_compile.proofs.TextLemmas.{shown, shown_insert, number_shown, number_put_shown, number_most, item_more}

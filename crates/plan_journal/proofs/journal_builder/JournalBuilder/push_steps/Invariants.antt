@@ -1,5 +1,5 @@
 use Rattle.std.proofs.Common.{◌≡◌, ◌-◌, ◌++◌}
-use Rattle.plan_machine.specs.Rushes.{steps_of}
+use Rattle.plan_machine.specs.LocalRuns.{steps_of}
 use Rattle.plan_journal.specs.Drafts.{HasRoom}
 use Rattle.plan_journal.proofs.journal_builder.JournalBuilder.push_steps.Given as goal
 

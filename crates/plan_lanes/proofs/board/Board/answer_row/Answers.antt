@@ -1,6 +1,6 @@
 use Rattle.plan_machine.specs.declared.event.Event.TheVariants.{Reply as Hear}
-use Rattle.plan_lanes.proofs.HandLemmas.{goes_on}
-use Rattle.plan_lanes.proofs.RushLemmas.{goes_one}
+use Rattle.plan_lanes.proofs.BatchLemmas.{goes_on}
+use Rattle.plan_lanes.proofs.LocalRunLemmas.{goes_one}
 use Rattle.plan_lanes.proofs.board.Board.answer_row.Goals as goal
 
 pub returns-in_ok-answer_to-in-Some-clause-goes : goal.returns-in_ok-answer_to-in-Some-clause-goes

@@ -1,6 +1,6 @@
 use Rattle.std.proofs.Common.{refl}
 use Rattle.plan_machine.specs.declared.event.Event.TheVariants.{Reply as Hear}
-use Rattle.plan_lanes.proofs.RushLemmas.{goes_none, goes_result}
+use Rattle.plan_lanes.proofs.LocalRunLemmas.{goes_none, goes_result}
 use Rattle.plan_lanes.proofs.board.Board.answer_to.Goals as goal
 
 pub returns-then-not-is_open-clause-goes : goal.returns-then-not-is_open-clause-goes

@@ -1,4 +1,4 @@
-use Rattle.plan_lanes.proofs.HandLemmas.{goes_on}
+use Rattle.plan_lanes.proofs.BatchLemmas.{goes_on}
 use Rattle.plan_lanes.proofs.board.Board.follow_row.Goals as goal
 
 pub returns-in-Some-clause-goes : goal.returns-in-Some-clause-goes

@@ -1,13 +1,13 @@
 use Rattle.std.proofs.Common.{◌≡◌, ◌∙◌, ℕ, ap, length, refl, subst, sym}
-use Rattle.plan_machine.specs.declared.mark.Mark.TheVariants as mark
+use Rattle.plan_machine.specs.declared.event.mark.Mark.TheVariants as mark
 use Rattle.std.specs.Prelude.{IfSome}
 use Rattle.plan_image.specs.declared.image.Parts.{Parts}
 use Rattle.plan_status.specs.Consoles.{is_console}
 use Rattle.plan_lanes.specs.Advances.{WouldAsk}
-use Rattle.plan_lanes.specs.Progress.{Progress, going_of}
+use Rattle.plan_lanes.specs.Progress.{Progress, run_state_of}
 use Rattle.plan_lanes.specs.Questions.{shown}
 use Rattle.plan_lanes.proofs.ProceedLemmas.{applied_asks, applied_moves}
-use Rattle.plan_lanes.proofs.RushLemmas.{goes_none, goes_one}
+use Rattle.plan_lanes.proofs.LocalRunLemmas.{goes_none, goes_one}
 use Rattle.plan_lanes.proofs.StepLemmas.{asks_job, asks_told}
 use Rattle.plan_lanes.proofs.board.Board.go_on.Goals as goal
 
@@ -30,8 +30,8 @@ returns-in-Some-clause-proceeds g c =
     let told = c.in_ok-record.field-0 in
     let e = c.edge_of-edge.result in
     let a = c.in-Some.request in
-    let asks = subst (WouldAsk old.opened.parts (going_of old) c.args.event) c.in-Some.is c.in_ok-asked.ensures in
-    let is = asks_told old.opened.parts (going_of old) c.args.event (shown a) new.state told asks c.in_ok-record.ensures.ok.next ∙ ap (λ (f : ℕ). mark.Asked f) (sym c.edge_of-edge.ensures) in
+    let asks = subst (WouldAsk old.opened.parts (run_state_of old) c.args.event) c.in-Some.is c.in_ok-asked.ensures in
+    let is = asks_told old.opened.parts (run_state_of old) c.args.event (shown a) new.state told asks c.in_ok-record.ensures.ok.next ∙ ap (λ (f : ℕ). mark.Asked f) (sym c.edge_of-edge.ensures) in
     let number = c.len-number.ensures ∙ ap (λ (b : Progress). length b.journal) c.self.view_is in
     let asked = asks_job old new c.args.event told c.in_ok-asked.asked a e c.in-Some.is c.in_ok-asked.ensures c.in_ok-record.ensures.ok c.edge_of-edge.ensures in
     let same : c.self.inside.image.now ≡ old.opened.parts = ap (λ (b : Progress). b.opened.parts) c.self.view_is in (
@@ -42,7 +42,7 @@ returns-in-Some-clause-proceeds g c =
 pub returns-in-None-clause-proceeds : goal.returns-in-None-clause-proceeds
 returns-in-None-clause-proceeds g c =
     applied_moves c.args.self.now c.record.new.self c.args.event c.in_ok-record.field-0 c.in_ok-record.ensures.ok
-    (subst (WouldAsk c.args.self.now.opened.parts (going_of c.args.self.now) c.args.event) c.in-None.is c.in_ok-asked.ensures)
+    (subst (WouldAsk c.args.self.now.opened.parts (run_state_of c.args.self.now) c.args.event) c.in-None.is c.in_ok-asked.ensures)
 
 pub returns-in_err-asked-clause-goes : goal.returns-in_err-asked-clause-goes
 returns-in_err-asked-clause-goes g c = goes_none c.args.self.now c.args.self.now refl

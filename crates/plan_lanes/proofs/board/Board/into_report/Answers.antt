@@ -12,5 +12,5 @@ returns-clause-run g c =
     let r : Report = record { state = b.state; journal = c.finish-journal.result.0; kept = c.finish-journal.result.1; marks = b.marks } in
     let laws : MachineLaws = record { wrong = c.never_wrong.ensures; orderly = c.marks_are_orderly.ensures; budget = c.stays_in_budget.ensures; frugal = c.depfiles_are_frugal.ensures } in
     run_so g.W.World.allows b.numbers.items b.image.now b.targets.items r c.args.self
-    (subst (λ (l : List Event). IsKept g.W.World.allows b.numbers.items b.state (progress b.image.now b.targets.items b.state.going l b.marks.items)) (sym c.finish-journal.ensures.journal) c.self.invariant)
-    (ap (λ (l : List Event). progress b.image.now b.targets.items b.state.going l b.marks.items) c.finish-journal.ensures.journal ∙ c.self.view_is) c.image-tables.ensures.shaped laws
+    (subst (λ (l : List Event). IsKept g.W.World.allows b.numbers.items b.state (progress b.image.now b.targets.items b.state.run_state l b.marks.items)) (sym c.finish-journal.ensures.journal) c.self.invariant)
+    (ap (λ (l : List Event). progress b.image.now b.targets.items b.state.run_state l b.marks.items) c.finish-journal.ensures.journal ∙ c.self.view_is) c.image-tables.ensures.shaped laws

@@ -1,7 +1,7 @@
 use Rattle.std.proofs.Common.{◌≡◌, ◌<◌, List, ℕ, take, arith, subst}
 use Rattle.std.proofs.lemmas.List.{take_all}
-use Rattle.plan_lanes.specs.Rushes.{SweepsRow}
-use Rattle.plan_lanes.proofs.RushLemmas.{goes_none}
+use Rattle.plan_lanes.specs.LocalRuns.{SweepsRow}
+use Rattle.plan_lanes.proofs.LocalRunLemmas.{goes_none}
 use Rattle.plan_lanes.proofs.board.Board.take_row.Goals as goal
 
 pub returns-in_err-count-clause-goes : goal.returns-in_err-count-clause-goes

@@ -3,7 +3,7 @@ use Rattle.std.specs.Prelude.{slice_get}
 use Rattle.std.proofs.lemmas.List.{get_or-drop}
 use Rattle.std.proofs.lemmas.Option.{slice_get_read}
 use Rattle.plan_verify.specs.Turn.{Stat}
-use Rattle.plan_machine.specs.declared.reply.Reply.TheVariants.{Stamp}
+use Rattle.plan_machine.specs.declared.event.reply.Reply.TheVariants.{Stamp}
 use Rattle.plan_lanes.proofs.StampRowLemmas.{have_at}
 use Rattle.plan_lanes.proofs.stamp_row.StampRow.into_reply.Goals as goal
 

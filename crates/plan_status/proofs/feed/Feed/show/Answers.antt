@@ -1,8 +1,8 @@
 use Rattle.std.proofs.Common.{rules, ◌≡◌, ◌≤◌, ◌+◌, ◌++◌, List, ℕ, ap, arith, get_or, if◌then◌else◌, refl, sym, take, ◌∙◌}
 use Rattle.std.proofs.lemmas.List.{length-take-le}
 use Rattle.plan_image.specs.declared.image.Parts.{Parts}
-use Rattle.plan_machine.specs.declared.mark.Mark.{Mark}
-use Rattle.plan_machine.specs.declared.mark.Mark.TheVariants.{Started}
+use Rattle.plan_machine.specs.declared.event.mark.Mark.{Mark}
+use Rattle.plan_machine.specs.declared.event.mark.Mark.TheVariants.{Started}
 use Rattle.plan_status.specs.Lines.{ends, line_of, lines_of, tells_end}
 use Rattle.plan_status.specs.Live.{sent_text}
 use Rattle.plan_status.proofs.LinesLemmas.{counted_next, ends_few, line_next}

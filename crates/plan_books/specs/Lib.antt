@@ -1,9 +1,0 @@
-pub mod Filing
-pub mod Seating
-pub mod Leaving
-pub mod Phases
-pub mod Counts
-pub mod Filed
-pub mod Booking
-pub mod Picking
-pub mod Opening

@@ -1,0 +1,14 @@
+use Rattle.std.proofs.Common.{drop, arith}
+use Rattle.plan_compile.specs.Slots.{pairs}
+use Rattle.plan_compile.proofs.PlanLemmas.{room_left}
+use Rattle.plan_compile.proofs.slots.add_own_slots.Goals as goal
+
+pub slot-requires : goal.slot-requires
+slot-requires c =
+    let room = room_left c.args.slots.now.items c.loop-file.slots.items c.args.owner (pairs (drop c.loop-file.file-index c.args.files.now)) (pairs c.args.files.now) c.loop-file.invariant.0 in
+    omega (arith, room, c.requires)
+
+pub slot-requires-in-loop-file : goal.slot-requires-in-loop-file
+slot-requires-in-loop-file c =
+    let room = room_left c.args.slots.now.items c.loop-file.slots.items c.args.owner (pairs (drop c.loop-file.file-index c.args.files.now)) (pairs c.args.files.now) c.loop-file.invariant.0 in
+    omega (arith, room, c.requires, c.in_ok-stamp.ensures.more)

@@ -1,5 +1,0 @@
-use Rattle.std.specs.Prelude.{option_map}
-use Rattle.plan_lanes.proofs.shown_run.ShownRun.run.Given as goal
-
-abbrev pub ghosts-run_named : goal.ghosts-run_named
-ghosts-run_named g a = record { run = a.board.opened; feed = option_map (λ s. s.feed) a.showing }

@@ -1,0 +1,344 @@
+//! Batches: the questions that a lane holds while it doesn't have the lock.
+
+ghost use Rattle.std.specs.Prelude.{◌≡◌, ◌≢◌, ◌≤◌, ◌⊎◌, ◌++◌, ◌∷◌, [], IfErr, IfOk, IfSome, None, false, length, true};
+ghost use Rattle.plan_machine.specs.Requests.{asked_at};
+ghost use Rattle.plan_lanes.specs.Batches.{AppliesReply, IsHeldOpen, held};
+ghost use Rattle.plan_lanes.specs.Proceeds.{Proceeds};
+ghost use Rattle.plan_lanes.specs.Questions.{shown};
+ghost use Rattle.plan_lanes.specs.LocalRuns.{GoesOn};
+
+use crate::board::Advance;
+use crate::owned_request::{OwnedRequest, Question};
+use crate::shared_run::{RunBrand, SharedRun, Stopped};
+use crate::stamp_row::StampRow;
+use crate::world::World;
+use plan_machine::{Refused, Reply};
+use std::alloc::{AllocError, Global};
+use std::collections::VecDeque;
+use std::marker::Model;
+
+/// A question of an edge. After the world was asked, the item also has the reply, or the stamps of a row of paths that
+/// begins with the path of the question. The world's rule allows them for this question.
+#[derive(Drop)]
+pub struct BatchItem<W: World> {
+    edge: u32,
+    question: Question,
+    asked: bool,
+    reply: Option<Reply>,
+    row: Option<StampRow<W>>,
+}
+
+impl<W: World> Model for BatchItem<W> {
+    ghost use Rattle.plan_lanes.specs.Batches.{Held, IsHeard, held};
+    ghost use Rattle.plan_lanes.specs.Questions.{shown};
+
+    ghost Value = { Held };
+
+    ghost view = { λ m. held m.edge m.question.number (shown m.question.request) };
+
+    ghost invariant = { λ m. IsHeard W.allows (held m.edge m.question.number (shown m.question.request)) m.reply m.row };
+}
+
+/// Returns the world's reply to a question that isn't to run a command. None if memory ran out.
+fn reply_of<W: World>(world: &W, question: &Question) -> Option<Reply>
+    ensures { IfSome result (λ r. W.allows question.now.number (shown question.now.request) r) }
+{
+    let number = question.number;
+    let reply = match &question.request {
+        OwnedRequest::Stat(path) => world.stat(number, path.as_slice()),
+        OwnedRequest::Sweep(paths, place) => world.stat(number, paths.path(*place)),
+        OwnedRequest::Recall(output) => world.recall(number, output.as_slice()),
+        OwnedRequest::Deps(path) => world.read_depfile(number, path.as_slice()),
+        OwnedRequest::Keep(output, command, basis, paths) => {
+            world.keep(number, output.as_slice(), command.as_slice(), *basis, paths)
+        }
+        OwnedRequest::Run(..) => return None,
+    };
+    reply.ok()
+}
+
+impl<W: World> BatchItem<W> {
+    /// Creates a question without a reply.
+    pub fn open(edge: u32, question: Question) -> BatchItem<W>
+        ensures { result ≡ held edge question.number (shown question.request) }
+    {
+        BatchItem {
+            edge,
+            question,
+            asked: false,
+            reply: None,
+            row: None,
+        }
+    }
+
+    /// Creates a question for which the world was asked, with its reply. The reply is none if memory ran out.
+    pub fn with_reply(edge: u32, question: Question, reply: Option<Reply>) -> BatchItem<W>
+        requires { IfSome reply (λ r. W.allows question.number (shown question.request) r) }
+        ensures { result ≡ held edge question.number (shown question.request) }
+    {
+        BatchItem {
+            edge,
+            question,
+            asked: true,
+            reply,
+            row: None,
+        }
+    }
+
+    /// Checks whether the world was asked.
+    pub fn is_asked(&self) -> bool {
+        self.asked
+    }
+
+    /// Returns the number of questions that the world is asked for it.
+    pub fn count(&self) -> usize {
+        self.question.request.count()
+    }
+
+    /// Asks the world.
+    pub fn ask(&mut self, alloc: Global, world: &W)
+        ensures { self.new ≡ self.old }
+    {
+        self.asked = true;
+        self.row = StampRow::ask(alloc, world, self.edge, &self.question);
+        if self.row.is_none() {
+            self.reply = reply_of(world, &self.question);
+        }
+    }
+
+    /// Applies the reply or the stamps. If the edge then asks for the next path of a sweep, that question becomes the
+    /// question of the item, and the result is true. If there is neither a reply nor a stamp, lanes stop.
+    pub fn apply_replies<J: RunBrand>(&mut self, shared: &mut SharedRun<'_, W, J>) -> bool
+        ensures goes { GoesOn shared.old.run shared.new.run }
+        ensures edge { self.new.edge ≡ self.old.edge }
+        ensures asks { result ≡ true → IsHeldOpen shared.new.run self.new }
+        ensures applied { result ≡ false → (shared.new.stopped ≢ Stopped.No) ⊎ AppliesReply W.allows shared.old.run shared.new.run self.old }
+    {
+        self.asked = false;
+        let reply = self.reply.take();
+        if let Some(row) = self.row.take() {
+            return shared.answer_row(&mut self.question, row);
+        }
+        let Some(reply) = reply else {
+            shared.stop(Stopped::Memory);
+            return false;
+        };
+        shared.answer(self.edge, &self.question, reply);
+        false
+    }
+
+    /// Applies the reply or the stamps, and makes the local steps of the edge. If the edge then asks a question, that
+    /// question becomes the question of the item, and the result is true. If there is neither a reply nor a stamp,
+    /// lanes stop.
+    pub fn follow<J: RunBrand>(&mut self, shared: &mut SharedRun<'_, W, J>) -> bool
+        ensures goes { GoesOn shared.old.run shared.new.run }
+        ensures edge { self.new.edge ≡ self.old.edge }
+        ensures asks { result ≡ true → IsHeldOpen shared.new.run self.new }
+        ensures rests { result ≡ false → (shared.new.stopped ≢ Stopped.No) ⊎ (asked_at shared.new.run.opened.parts shared.new.run.state self.old.edge ≡ None) }
+    {
+        self.asked = false;
+        let reply = self.reply.take();
+        if let Some(row) = self.row.take() {
+            return shared.follow_row(&mut self.question, row);
+        }
+        let Some(reply) = reply else {
+            shared.stop(Stopped::Memory);
+            return false;
+        };
+        shared.follow(self.edge, &mut self.question, reply)
+    }
+}
+
+/// Asks the world up to `most` questions that it wasn't asked yet. A row of paths may exceed that number. Returns
+/// whether others are left.
+fn ask_some<W: World>(
+    requests: &mut VecDeque<BatchItem<W>>,
+    alloc: Global,
+    world: &W,
+    most: usize,
+) -> bool {
+    let mut count = 0usize;
+    for at in 0..requests.len() {
+        let Some(pending) = requests.get_mut(at) else {
+            return false;
+        };
+        if pending.is_asked() {
+            continue;
+        }
+        if count >= most {
+            return true;
+        }
+        count = count.saturating_add(pending.count());
+        pending.ask(alloc, world);
+    }
+    false
+}
+
+/// Moves the request at an index to the requests whose reply was applied. The first request takes its place.
+fn set_aside<W: World>(
+    requests: &mut VecDeque<BatchItem<W>>,
+    applied: &mut Vec<BatchItem<W>>,
+    at: usize,
+) {
+    if let Some(pending) = requests.swap_remove_front(at) {
+        let _ = applied.push(pending);
+    }
+}
+
+/// Applies the replies of all requests. If an edge then asks for the next path of a sweep, its request stays, with that
+/// question. All other requests move to `applied`. Takes the number of questions to the world that the requests need,
+/// and returns that number for the requests that stay.
+fn answer_all<W: World, J: RunBrand>(
+    requests: &mut VecDeque<BatchItem<W>>,
+    applied: &mut Vec<BatchItem<W>>,
+    mut count: usize,
+    shared: &mut SharedRun<'_, W, J>,
+) -> usize {
+    let mut kept = 0;
+    for at in 0..requests.len() {
+        let Some(pending) = requests.get_mut(kept) else {
+            return count;
+        };
+        count = count.saturating_sub(pending.count());
+        if pending.apply_replies(shared) {
+            count = count.saturating_add(pending.count());
+            kept += 1;
+        } else {
+            set_aside(requests, applied, kept);
+        }
+    }
+    count
+}
+
+/// Applies the replies of the first requests, up to the first one for which the world wasn't asked, and makes the local
+/// steps of their edges. If an edge then asks a question, its request stays, with that question, before the requests
+/// for which the world wasn't asked. Each other applied request moves to `applied`. Takes the number of questions to
+/// the world that the requests need, and returns that number for the requests that stay.
+fn follow_all<W: World, J: RunBrand>(
+    requests: &mut VecDeque<BatchItem<W>>,
+    applied: &mut Vec<BatchItem<W>>,
+    mut count: usize,
+    shared: &mut SharedRun<'_, W, J>,
+) -> usize {
+    let mut kept = 0;
+    for at in 0..requests.len() {
+        let Some(pending) = requests.get_mut(kept) else {
+            return count;
+        };
+        if !pending.is_asked() {
+            return count;
+        }
+        count = count.saturating_sub(pending.count());
+        if pending.follow(shared) {
+            count = count.saturating_add(pending.count());
+            kept += 1;
+        } else {
+            set_aside(requests, applied, kept);
+        }
+    }
+    count
+}
+
+/// The number of questions that a lane asks before it tries to take the lock again. A row of paths may exceed it.
+const QUESTIONS: usize = 64;
+
+/// The number of questions at which a batch is full.
+const FULL: usize = 256;
+
+/// The requests that a lane holds, and the requests whose reply was applied. The lane drops the applied requests after
+/// it released the lock. A contract sees only the requests that the lane holds.
+#[derive(Drop)]
+pub struct Batch<W: World> {
+    alloc: Global,
+    held: VecDeque<BatchItem<W>>,
+    applied: Vec<BatchItem<W>>,
+    /// The number of questions to the world that the held requests need.
+    count: usize,
+}
+
+impl<W: World> Model for Batch<W> {
+    ghost use Rattle.std.specs.Prelude.{List};
+    ghost use Rattle.plan_lanes.specs.Batches.{Held};
+
+    ghost Value = { List Held };
+
+    ghost view = { λ h. h.held.items };
+}
+
+impl<W: World> Batch<W> {
+    /// Creates an empty batch.
+    pub fn new(alloc: Global) -> Result<Batch<W>, AllocError>
+        ensures { IfOk result (λ h. h ≡ []) }
+    {
+        let held = VecDeque::with_capacity(alloc, QUESTIONS)?;
+        let mut applied = Vec::new(alloc);
+        applied.reserve(QUESTIONS)?;
+        Ok(Batch {
+            alloc,
+            held,
+            applied,
+            count: 0,
+        })
+    }
+
+    /// Checks whether it holds no question.
+    pub fn is_empty(&self) -> bool {
+        self.held.is_empty()
+    }
+
+    /// Checks whether it holds as many questions as it should.
+    pub fn is_full(&self) -> bool {
+        self.count >= FULL
+    }
+
+    /// Adds a question. Returns false if memory ran out.
+    pub fn push(&mut self, pending: BatchItem<W>) -> bool
+        ensures { result ≡ true → self.new ≡ self.old ++ pending ∷ [] }
+    {
+        self.count = self.count.saturating_add(pending.count());
+        self.held.push_back(pending).is_ok()
+    }
+
+    /// Asks the world all questions.
+    pub fn ask(&mut self, world: &W) {
+        ask_some(&mut self.held, self.alloc, world, usize::MAX);
+    }
+
+    /// Asks the world some of the questions that it wasn't asked yet. Returns whether others are left.
+    pub fn ask_some(&mut self, world: &W) -> bool {
+        ask_some(&mut self.held, self.alloc, world, QUESTIONS)
+    }
+
+    /// Applies the replies of all held requests. Keeps the next question of each sweep that continues.
+    pub fn apply_replies<J: RunBrand>(&mut self, shared: &mut SharedRun<'_, W, J>) {
+        self.count = answer_all(&mut self.held, &mut self.applied, self.count, shared);
+    }
+
+    /// Applies the replies of the requests that the world was asked for, and makes the local steps of their edges.
+    /// Keeps the questions that these edges then ask.
+    pub fn follow<J: RunBrand>(&mut self, shared: &mut SharedRun<'_, W, J>) {
+        self.count = follow_all(&mut self.held, &mut self.applied, self.count, shared);
+    }
+
+    /// Does what can be done next without a reply.
+    pub fn advance<J: RunBrand>(
+        &mut self,
+        shared: &mut SharedRun<'_, W, J>,
+    ) -> Result<Advance, Refused>
+        ensures goes { GoesOn shared.old.run shared.new.run }
+        ensures ok { IfOk result (λ a. Proceeds shared.old.run shared.new.run a) }
+        ensures memory { IfErr result (λ r. r ≡ Refused.Memory) }
+        ensures named { shared.new.run.opened ≡ J.run }
+        ensures stopped { shared.new.stopped ≡ shared.old.stopped }
+        ensures same { self.new ≡ self.old }
+    {
+        shared.advance()
+    }
+
+    /// Drops the requests whose reply was applied.
+    pub fn drop_applied(&mut self)
+        ensures { self.new ≡ self.old }
+    {
+        self.applied.clear();
+    }
+}

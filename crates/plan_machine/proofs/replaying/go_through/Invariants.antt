@@ -1,7 +1,0 @@
-use Rattle.std.proofs.Common.{take}
-use Rattle.plan_machine.specs.Kept.{IsStateOf}
-use Rattle.plan_machine.specs.Replaying.{RunsTo}
-use Rattle.plan_machine.proofs.replaying.go_through.Given as goal
-
-abbrev pub invariant-loop-i : goal.invariant-loop-i
-invariant-loop-i l = RunsTo l.image l.fn.state.going (take l.i l.events) l.marks.items l.state.going × IsStateOf l.image l.state

@@ -1,9 +1,0 @@
-use Rattle.std.proofs.Common.{ap, ◌∙◌}
-use Rattle.plan_machine.specs.Kept.{Running}
-use Rattle.plan_machine.proofs.KeptLemmas.{holders_are}
-use Rattle.plan_machine.proofs.state.State.holders.Goals as goal
-
-pub returns : goal.returns
-returns c =
-    let r = c.args.self.now in
-    ap (λ (x : Running). x.books.counts.holders) c.self.view_is ∙ holders_are c.args._image.now r.going.now r.plan r.books c.requires

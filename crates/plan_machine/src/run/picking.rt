@@ -1,0 +1,110 @@
+//! The events that can happen next: those that need no reply, and the questions that await one.
+
+ghost use Rattle.std.specs.Prelude.{◌≡◌, ◌⊎◌, ℕ, IfNone, IfSome, IsSome, Some, option_map, slice_get, true};
+ghost use Rattle.plan_verify.specs.Turn.{Local};
+ghost use Rattle.plan_machine.specs.Applying.{CanTurn};
+ghost use Rattle.plan_machine.specs.Kept.{AreKept, IsStateOf};
+ghost use Rattle.plan_machine.specs.NeverStuck.{Awaits, is_own};
+ghost use Rattle.plan_machine.specs.Picking.{IsEnabled, StepsFirst, event_of};
+ghost use Rattle.plan_machine.specs.Requests.{Asks, AsksNothing, asked_at, asks_by, shown};
+ghost use Rattle.plan_machine.specs.State.{Active, has_ended};
+
+use crate::event::Event;
+use crate::event::request::Request;
+use crate::run::state::State;
+use plan_image::Image;
+use plan_schedule::Pick;
+use plan_verify::{
+    Verified, all_turns_pay, instructions_fit, replies_are_safe, stays_typed, steps_are_safe,
+    tables_are_in_range,
+};
+
+/// Converts a pick of the schedule to an event.
+fn event_of(pick: Pick) -> Event
+    ensures { result ≡ event_of pick }
+{
+    match pick {
+        Pick::Start(edge) => Event::Start(edge),
+        Pick::Skip(edge, wait) => Event::Skip(edge, wait),
+        Pick::Stop(edge) => Event::Stop(edge),
+        Pick::Step(edge) => Event::Step(edge),
+    }
+}
+
+impl State {
+    /// Returns an enabled event that needs no reply. It is a step if one is enabled, and else a start, a skip
+    /// or a stop. Returns None if and only if no such event is enabled. Then the run has ended, or an edge
+    /// awaits a reply. It takes no memory and constant time.
+    pub fn pick(&self, image: &Verified) -> Option<Event>
+        requires { IsStateOf image.now self.now }
+        ensures enabled { IfSome result (λ event. IsEnabled image.now self.now.run_state event) }
+        ensures own { IfSome result (λ event. is_own event ≡ true) }
+        ensures steps { IfSome result (λ event. StepsFirst image.now self.now.run_state event) }
+        ensures none { IfNone result ((event : Event) → is_own event ≡ true → IsEnabled image.now self.now.run_state event → ⊥) }
+        ensures waits { IfNone result ((has_ended self.now.run_state.now ≡ true) ⊎ Awaits self.now.run_state.now) }
+    {
+        all_turns_pay();
+        instructions_fit();
+        replies_are_safe();
+        stays_typed();
+        steps_are_safe();
+        tables_are_in_range();
+        let _tables = image.image();
+        let jobs = self.machine.jobs();
+        let keep = self.machine.keep();
+        match self.schedule.pick(&self.plan, jobs, keep) {
+            Some(pick) => Some(event_of(pick)),
+            None => None,
+        }
+    }
+
+    /// Returns the question of an edge if and only if it awaits a reply. It takes no memory.
+    pub fn request<'a>(&'a self, image: &'a Verified, edge: u32) -> Option<Request<'a>>
+        requires { IsStateOf image.now self.now }
+        ensures asked { option_map shown result ≡ asked_at image.now self.now.run_state.now edge }
+        ensures some { (l : Local) → slice_get self.now.run_state.now.edges edge ≡ Some (Active l) → l.asked ≡ true → IsSome result }
+    {
+        all_turns_pay();
+        instructions_fit();
+        replies_are_safe();
+        stays_typed();
+        steps_are_safe();
+        tables_are_in_range();
+        let tables = image.image();
+        self.machine.awaited_request(tables, edge)
+    }
+
+    /// Returns the question that an event would ask, given the status of its edge.
+    fn asked_by<'a>(&'a self, image: &'a Image, event: &Event) -> Option<Request<'a>>
+        requires kept { AreKept image.now self.now.run_state.now self.now.plan self.now.schedule }
+        requires turns { (e : ℕ) (l : Local) → slice_get self.now.run_state.now.edges e ≡ Some (Active l) → CanTurn image.now self.now.run_state.now.slots e l }
+        ensures { option_map shown result ≡ asks_by image.now self.now.run_state.limits self.now.run_state.now event.now }
+    {
+        match event {
+            Event::Step(edge) => {
+                if !self.can_step(image, *edge) {
+                    return None;
+                }
+                self.machine.step_request(image, *edge)
+            }
+            _ => None,
+        }
+    }
+
+    /// Returns the question that an event would ask. Returns None if the event isn't enabled or asks nothing.
+    /// Only steps ask. It takes no memory.
+    pub fn asks<'a>(&'a self, image: &'a Verified, event: &Event) -> Option<Request<'a>>
+        requires { IsStateOf image.now self.now }
+        ensures asks { IfSome result (λ r. Asks image.now self.now.run_state event.now (shown r)) }
+        ensures none { IfNone result (AsksNothing image.now self.now.run_state event.now) }
+    {
+        all_turns_pay();
+        instructions_fit();
+        replies_are_safe();
+        stays_typed();
+        steps_are_safe();
+        tables_are_in_range();
+        let tables = image.image();
+        self.asked_by(tables, event)
+    }
+}

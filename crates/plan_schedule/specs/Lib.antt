@@ -1,0 +1,9 @@
+pub mod BucketContents
+pub mod Positions
+pub mod Removal
+pub mod Phases
+pub mod Counts
+pub mod BucketRules
+pub mod Scheduling
+pub mod Picking
+pub mod Opening

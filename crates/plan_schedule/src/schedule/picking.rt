@@ -1,0 +1,137 @@
+//! The next event without a reply.
+
+ghost use Rattle.std.specs.Prelude.{◌≡◌, ◌<◌, ◌≤◌, ◌⊎◌, Bool, ℕ, IfNone, IfSome, IsTrue, IsFalse, length, slice_index};
+ghost use Rattle.plan_schedule.specs.Scheduling.{IsSchedule, IsPlan, edges_of};
+ghost use Rattle.plan_schedule.specs.Phases.{phase_at};
+ghost use Rattle.plan_schedule.specs.Picking.{AtTakeStays, IsEmptyBucket, IsEnabled, StepsFirst, UnbegunStays, is_spent};
+
+use crate::phase::Phase;
+use crate::plan::Plan;
+use crate::schedule::Schedule;
+
+/// An event that can happen next without a reply from outside.
+#[derive(Clone, Copy, Debug, PartialEq, Eq)]
+pub enum Pick {
+    /// An edge begins.
+    Start(u32),
+    /// An edge is skipped, because an edge that it waits for (the second number) failed, was skipped or was
+    /// stopped.
+    Skip(u32, u32),
+    /// An edge is stopped.
+    Stop(u32),
+    /// An edge makes a step.
+    Step(u32),
+}
+
+impl Schedule {
+    /// Returns whether the failure limit has been reached.
+    fn is_spent(&self, plan: &Plan, keep: u32) -> bool
+        requires { IsSchedule plan.now self.now }
+        ensures { result ≡ is_spent keep self.now.phases.items }
+    {
+        keep > 0 && keep <= self.counts.failures
+    }
+
+    /// Returns an edge in one of the first five buckets. Returns None if the bucket is empty.
+    fn edge_in_bucket(&self, plan: &Plan, bucket: u32) -> Option<u32>
+        requires schedule { IsSchedule plan.now self.now }
+        requires bucket { bucket < 5 }
+        ensures some { IfSome result (λ e. (e < edges_of plan.now) × (slice_index self.now.buckets.bucket e ≡ bucket)) }
+        ensures none { IfNone result (IsEmptyBucket self.now.buckets.bucket bucket) }
+    {
+        self.buckets.top(bucket)
+    }
+
+    /// Returns an edge at Take whose pool is in this bucket of pools. Returns None if the bucket is empty.
+    fn at_take(&self, plan: &Plan, pool_bucket: u32) -> Option<u32>
+        requires plan { IsPlan plan.now }
+        requires schedule { IsSchedule plan.now self.now }
+        requires bucket { pool_bucket < 3 }
+        requires taken { 0 < pool_bucket }
+        ensures some { IfSome result (λ e. (e < edges_of plan.now) × ((h : Bool) × (phase_at self.now.phases.items e ≡ Phase.AtTake h)) × (slice_index self.now.pool_buckets.bucket (slice_index plan.now.pools.items e) ≡ pool_bucket)) }
+        ensures none { IfNone result (IsEmptyBucket self.now.pool_buckets.bucket pool_bucket) }
+    {
+        match self.pool_buckets.top(pool_bucket) {
+            Some(pool) => self.buckets.top(5 + pool),
+            None => None,
+        }
+    }
+
+    /// Returns the event of an edge at Take that can take a job token, or that can be stopped because the
+    /// failure limit has been reached.
+    fn pick_at_take(&self, plan: &Plan, jobs: u32, keep: u32) -> Option<Pick>
+        requires plan { IsPlan plan.now }
+        requires schedule { IsSchedule plan.now self.now }
+        ensures some { IfSome result (λ pick. IsEnabled plan.now self.now.phases.items jobs keep pick) }
+        ensures steps { IsEmptyBucket self.now.buckets.bucket 4 → IfSome result (λ pick. StepsFirst plan.now self.now.phases.items jobs keep pick) }
+        ensures none { IfNone result (AtTakeStays plan.now self.now jobs keep) }
+    {
+        if self.is_spent(plan, keep) {
+            return match self.at_take(plan, 1) {
+                Some(edge) => Some(Pick::Stop(edge)),
+                None => match self.at_take(plan, 2) {
+                    Some(edge) => Some(Pick::Stop(edge)),
+                    None => None,
+                },
+            };
+        }
+        if self.counts.holders >= jobs {
+            return None;
+        }
+        match self.at_take(plan, 1) {
+            Some(edge) => Some(Pick::Step(edge)),
+            None => None,
+        }
+    }
+
+    /// Returns the event of an edge that hasn't begun and can start, be skipped or be stopped.
+    fn pick_unbegun(&self, plan: &Plan, jobs: u32, keep: u32) -> Option<Pick>
+        requires plan { IsPlan plan.now }
+        requires schedule { IsSchedule plan.now self.now }
+        ensures some { IfSome result (λ pick. IsEnabled plan.now self.now.phases.items jobs keep pick) }
+        ensures none { IfNone result (UnbegunStays self.now keep) }
+    {
+        if let Some(edge) = self.edge_in_bucket(plan, 3) {
+            return match self.failed_wait[edge as usize] {
+                Some(wait) => Some(Pick::Skip(edge, wait)),
+                None => unreachable!(),
+            };
+        }
+        let spent = self.is_spent(plan, keep);
+        match self.edge_in_bucket(plan, 2) {
+            Some(edge) => {
+                if spent {
+                    return Some(Pick::Stop(edge));
+                }
+                Some(Pick::Start(edge))
+            }
+            None => {
+                if !spent {
+                    return None;
+                }
+                match self.edge_in_bucket(plan, 1) {
+                    Some(edge) => Some(Pick::Stop(edge)),
+                    None => None,
+                }
+            }
+        }
+    }
+
+    /// Returns an enabled Start, Skip, Stop or Step: a Step if one is enabled. Returns None if nothing is
+    /// enabled. Edges that have begun come before those that haven't.
+    pub fn pick(&self, plan: &Plan, jobs: u32, keep: u32) -> Option<Pick>
+        requires plan { IsPlan plan.now }
+        requires schedule { IsSchedule plan.now self.now }
+        ensures some { IfSome result (λ pick. IsEnabled plan.now self.now.phases.items jobs keep pick) }
+        ensures steps { IfSome result (λ pick. StepsFirst plan.now self.now.phases.items jobs keep pick) }
+        ensures none { IfNone result ((pick : Pick) → IsEnabled plan.now self.now.phases.items jobs keep pick → ⊥) }
+    {
+        match self.edge_in_bucket(plan, 4) {
+            Some(edge) => Some(Pick::Step(edge)),
+            None => match self.pick_at_take(plan, jobs, keep) {
+                Some(pick) => Some(pick),
+                None => self.pick_unbegun(plan, jobs, keep),
+            },
+        }
+    }
+}
