@@ -9,6 +9,7 @@ mod pointing;
 mod refusal;
 mod said;
 mod sentences;
+mod shells;
 mod stopping;
 mod tool;
 mod words;
@@ -16,6 +17,7 @@ mod words;
 use crate::building::Builder;
 use crate::refusal::{refuse, refuse_loading, refuse_record};
 use crate::said::{REFUSED, complain, complain_of, say};
+use crate::shells::{BuildShells, wants_escapes};
 use crate::stopping::{stop_at, warn};
 use crate::tool::{request_in, run_tool, tool_named, unknown_tool};
 use crate::words::{MANIFEST, RECORD, after_name, manifest_in, name_in, words_in};
@@ -23,7 +25,7 @@ use plan_commands::{no_memory, open_streams};
 use plan_lanes::World;
 use plan_options::{CommandLine, Flag, Setting};
 use plan_stamps::StampCache;
-use plan_world::{RealWorld, SystemShells};
+use plan_world::RealWorld;
 use std::alloc::{AllocError, Global};
 use std::io::ErrorKind;
 use std::process::ExitCode;
@@ -110,7 +112,7 @@ fn missing<R: Files>(rt: &R, manifest: &[u8]) -> Option<ErrorKind> {
 }
 
 /// The world of real files and commands.
-type SystemWorld = RealWorld<HostRuntime, SystemShells<HostRuntime>>;
+type SystemWorld = RealWorld<HostRuntime, BuildShells<HostRuntime>>;
 
 /// Opens the world of real files and commands, with the record in the folder of the build. If the manifest is missing,
 /// no record is created.
@@ -132,7 +134,8 @@ fn open_world<E: Print>(
     let (Ok(own), Ok(other)) = (own, other) else {
         return Err(refuse(rt, errors, manifest, &no_memory(alloc)));
     };
-    match RealWorld::open(own, SystemShells::new(other), RECORD) {
+    let shells = BuildShells::new(alloc, other, wants_escapes(rt));
+    match RealWorld::open(own, shells, RECORD) {
         Ok(world) => Ok(world),
         Err(fault) => Err(refuse_record(rt, errors, manifest, fault)),
     }
@@ -291,7 +294,7 @@ fn main(rt: HostRuntime) -> ExitCode {
         errors: &errors,
         world: &world,
         screen: world.inner().screen(),
-        bell: world.inner().bell(),
+        parker: world.inner().parker(),
     };
     let status = if is_long {
         let threads = threads_ahead(&rt, &line, line.jobs().unwrap_or(jobs));

@@ -30,7 +30,7 @@ mod world;
 pub use fault::OpenFault;
 pub use maintenance::{recompact, recorded_outputs, restat};
 pub use shared_file::SharedFile;
-pub use shells::{Shells, SystemShells};
+pub use shells::{Printed, Shells, SystemShells};
 pub use world::RealWorld;
 
 #[cfg(test)]

@@ -1,8 +1,8 @@
 //! Commands, run by a shell.
 
-ghost use Rattle.std.specs.Prelude.{◌≡◌, ◌↔◌, ◌++◌, true, IfErr, IfOk, IsErr, IsUtf8, Ok, OnOk, Some, slice_get};
+ghost use Rattle.std.specs.Prelude.{◌≡◌, ◌↔◌, true, IfErr, IfOk, IsErr, IsUtf8, Ok, OnOk, Some, slice_get};
 ghost use Rattle.std.specs.Io.KnownBytes.{Appends};
-ghost use Rattle.plan_machine.specs.declared.reply.Reply.TheVariants.{NotStarted};
+ghost use Rattle.plan_machine.specs.declared.event.reply.Reply.TheVariants.{NotStarted};
 ghost use Rattle.plan_verify.specs.Turn.{Run};
 ghost use Rattle.plan_world.specs.Answers.{IsAnswer, IsByShell};
 ghost use Rattle.plan_world.specs.Shells.{AreTexts, IsShellOf, ending};
@@ -10,14 +10,15 @@ ghost use Rattle.plan_world.specs.Shells.{AreTexts, IsShellOf, ending};
 use crate::builder_lock::VARIABLE;
 use crate::fault::DeviceFault;
 use crate::reasons::say;
-use crate::record_file::Begun;
-use crate::shells::Shells;
+use crate::record_file::StartRecorded;
+use crate::shells::{Printed, Shells};
 use plan_machine::Reply;
+use plan_output::shown_output;
 use plan_text::RowList;
 use std::alloc::{AllocError, Global};
 use std::io::{self, Write};
 use std::path::Path;
-use std::process::{Command, Output};
+use std::process::Command;
 use std::rt::Files;
 use std::sync::{Mutex, Wait};
 use std::{fs, str};
@@ -34,7 +35,7 @@ fn shell_of(alloc: Global, text: &str, records: &str) -> Result<Command, AllocEr
 }
 
 /// Returns the reply to a command whose shell ended with this exit code. None if a signal ended it.
-fn how_ended(code: Option<i32>) -> Reply
+fn exit_reply(code: Option<i32>) -> Reply
     ensures { result ≡ ending code }
 {
     match code {
@@ -47,37 +48,42 @@ fn how_ended(code: Option<i32>) -> Reply
 }
 
 /// Returns the reply to a command, by how its shell ended or why it could not be run.
-fn replied(ended: Result<Option<i32>, DeviceFault>) -> Result<Reply, AllocError>
+fn reply_of_shell(ended: Result<Option<i32>, DeviceFault>) -> Result<Reply, AllocError>
     ensures run { IfOk ended (λ code. result ≡ Ok (ending code)) }
     ensures not { IfErr ended (λ _. IfOk result (λ r. r ≡ NotStarted)) }
     ensures memory { IfErr ended (λ e. IsErr result ↔ (e ≡ DeviceFault.Memory)) }
 {
     match ended {
-        Ok(code) => Ok(how_ended(code)),
-        Err(fault) => fault.replied(Reply::NotStarted),
+        Ok(code) => Ok(exit_reply(code)),
+        Err(fault) => fault.or_reply(Reply::NotStarted),
     }
 }
 
-/// Writes what a command printed: first its standard output, then its standard error.
-fn write_printed<W: Write>(out: &mut W, printed: &Output) -> io::Result<()>
-    ensures { OnOk result (Appends (W.contents out.old) (W.contents out.new) (printed.now.stdout.items ++ printed.now.stderr.items)) }
+/// Writes what a command printed.
+fn write_printed<W: Write>(out: &mut W, text: &[u8]) -> io::Result<()>
+    ensures { OnOk result (Appends (W.contents out.old) (W.contents out.new) text.now) }
 {
-    out.write_all(&printed.stdout)?;
-    out.write_all(&printed.stderr)?;
+    out.write_all(text)?;
     out.flush()
 }
 
-/// Writes what a command printed to this program's standard output. The screen is locked meanwhile, so that no other
-/// command's output comes between. A write that fails is ignored here: the status lines that follow fail as well, and
-/// report it.
-fn show<R: Print + Wait>(rt: &R, screen: &Mutex<()>, printed: &Output) {
-    if printed.stdout.is_empty() && printed.stderr.is_empty() {
-        return;
+/// Writes what a command printed to this program's standard output, and a line feed if its last line has none. The
+/// screen is locked meanwhile, so that no other command's output comes between. A write that fails is ignored here: the
+/// status lines that follow fail as well, and report it.
+fn show<R: Print + Wait + AllocGlobal>(
+    rt: &R,
+    screen: &Mutex<()>,
+    text: Vec<u8>,
+) -> Result<(), AllocError> {
+    if text.is_empty() {
+        return Ok(());
     }
+    let text = shown_output(rt.alloc(), text, true)?;
     let guard = screen.lock(rt);
     let mut out = io::writer(rt);
-    let _ = write_printed(&mut out, printed);
+    let _ = write_printed(&mut out, &text);
     drop(guard);
+    Ok(())
 }
 
 /// Creates the folder of a path, if it is missing, or returns why it can't be created.
@@ -118,17 +124,18 @@ pub(crate) fn make_folders<R: Files + Eprint>(rt: &R, files: &RowList<u8>) -> bo
 
 /// Runs a shell with empty standard input, shows what its command printed, and returns its exit code. None if a signal
 /// ended it.
-fn run_aside<R: Print + Wait, S: Shells>(
+fn run_aside<R: Print + Wait + AllocGlobal, S: Shells>(
     rt: &R,
     screen: &Mutex<()>,
     shells: &S,
     shell: Command,
+    edge: &[u8],
 ) -> Result<Option<i32>, DeviceFault>
     ensures { IfOk result (λ code. S.ended shell code) }
 {
-    let printed = shells.output(shell)?;
-    show(rt, screen, &printed);
-    Ok(printed.status.code())
+    let Printed { status, text } = shells.output(shell, edge)?;
+    show(rt, screen, text)?;
+    Ok(status.code())
 }
 
 /// Runs a shell whose command has this program's own standard input, output and error, and returns its exit code. None
@@ -155,23 +162,24 @@ fn say_if_lost<R: Eprint>(rt: &R, output: &[u8], ended: Result<Option<i32>, Devi
 }
 
 /// Runs a shell, on the terminal if its command is a console command.
-fn run_where<R: Print + Wait, S: Shells>(
+fn run_where<R: Print + Wait + AllocGlobal, S: Shells>(
     rt: &R,
     screen: &Mutex<()>,
     shells: &S,
     shell: Command,
     console: bool,
+    edge: &[u8],
 ) -> Result<Option<i32>, DeviceFault>
     ensures { IfOk result (λ code. S.ended shell code) }
 {
     if console {
         return run_on_terminal(rt, screen, shells, shell);
     }
-    run_aside(rt, screen, shells, shell)
+    run_aside(rt, screen, shells, shell, edge)
 }
 
-/// Runs the command of an edge that was begun by the record: a console command on the terminal, any other with empty
-/// standard input, and then shows what it printed. If the shell can't be started, standard error says why.
+/// Runs the command of an edge whose start entry is in the record: a console command on the terminal, any other with
+/// empty standard input, and then shows what it printed. If the shell can't be started, standard error says why.
 ///
 /// # Errors
 /// Only that memory ran out, also for what the command printed: then the command was killed.
@@ -183,7 +191,7 @@ pub(crate) fn run_shell<R: Print + Eprint + Wait + AllocGlobal, S: Shells>(
     console: bool,
     outputs: &RowList<u8>,
     records: &str,
-    begun: Begun<'_>,
+    begun: StartRecorded<'_>,
 ) -> Result<Reply, AllocError>
     requires { slice_get outputs.now 0 ≡ Some begun }
     ensures suits { IfOk result (λ r. IsAnswer (Run command.now outputs.now) r) }
@@ -194,7 +202,7 @@ pub(crate) fn run_shell<R: Print + Eprint + Wait + AllocGlobal, S: Shells>(
         return Ok(Reply::NotStarted);
     };
     let shell = shell_of(rt.alloc(), text, records)?;
-    let ended = run_where(rt, screen, shells, shell, console);
+    let ended = run_where(rt, screen, shells, shell, console, outputs.row(0));
     say_if_lost(rt, outputs.row(0), ended);
-    replied(ended)
+    reply_of_shell(ended)
 }

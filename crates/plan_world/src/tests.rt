@@ -3,7 +3,8 @@
 use crate::builder_lock::is_named;
 use crate::record_file::{RecordFile, load_file};
 use crate::{
-    OpenFault, RealWorld, SharedFile, Shells, SystemShells, recompact, recorded_outputs, restat,
+    OpenFault, Printed, RealWorld, SharedFile, Shells, SystemShells, recompact, recorded_outputs,
+    restat,
 };
 use plan_lanes::World;
 use plan_machine::{Recorded, Reply};
@@ -12,7 +13,7 @@ use plan_verify::PathList;
 use std::alloc::{AllocError, Global};
 use std::fs::{File, Metadata, OpenFile, OpenOptions};
 use std::io::{self, ErrorKind, Read, Seek, SeekFrom, Write};
-use std::process::{Command, ExitStatus, Output, Processes};
+use std::process::{Command, ExitStatus, Processes};
 use std::rt::Files;
 use std::sync::Wait;
 use std::sync::atomic::{AtomicU64, Ordering};
@@ -63,7 +64,7 @@ fn said(alloc: Global, reply: Reply) -> Result<String, AllocError> {
 /// Lanes may ask it at once.
 fn shared<W: World + Send + Sync>(_world: &W) {}
 
-/// It can be lent to threads.
+/// Threads can borrow it.
 #[test]
 fn lent_to_lanes(rt: HostRuntime) -> Result<(), Fail> {
     let folder = folder(&rt, "lent")?;
@@ -642,7 +643,7 @@ struct NoShells;
 impl Shells for NoShells {
     ghost ended = { λ _ _. ⊥ };
 
-    fn output(&self, _shell: Command) -> io::Result<Output> {
+    fn output(&self, _shell: Command, _edge: &[u8]) -> io::Result<Printed> {
         Err(io::Error::from(ErrorKind::NotFound))
     }
 
@@ -785,5 +786,20 @@ fn begun_is_not_restated(rt: HostRuntime) -> Result<(), Fail> {
         BEGUN_ENTRY.as_slice()
     );
     fs::remove_dir_all(&rt, folder.as_str())?;
+    Ok(())
+}
+
+/// What a command writes to both of its streams stays in its order.
+#[test]
+fn both_streams_in_order(rt: HostRuntime) -> Result<(), Fail> {
+    let alloc = rt.alloc();
+    let mut shell = Command::new(alloc, "/bin/sh")?;
+    shell
+        .arg("-c")?
+        .arg("echo a; echo b >&2; echo c; echo d >&2; exit 7")?;
+    let shells = SystemShells::new(rt.clone()?);
+    let Printed { status, text } = shells.output(shell, b"out")?;
+    assert_eq!(rt; status.code(), Some(7));
+    assert_eq!(rt; text.as_slice(), b"a\nb\nc\nd\n".as_slice());
     Ok(())
 }

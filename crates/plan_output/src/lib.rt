@@ -1,0 +1,11 @@
+//! What a program shows of what commands print.
+//!
+//! - `shown_output` returns the text of a command's output as it is shown: without the escape sequences of terminals,
+//!   if they aren't wanted, and with a line feed at its end.
+#![tactic(auto)]
+
+mod escapes;
+#[cfg(test)]
+mod tests;
+
+pub use escapes::shown_output;

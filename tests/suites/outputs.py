@@ -1,0 +1,110 @@
+"""Builds trees whose commands print, and looks at what is shown of it: in a pipe, and on a terminal.
+
+What a command writes to standard output and to standard error stays in its order. Its last line ends before the next
+label begins. plan_build removes escape sequences, unless standard output is a terminal or CLICOLOR_FORCE is set.
+"""
+from __future__ import annotations
+
+import functools
+import os
+import pathlib
+import pty
+import subprocess
+from collections.abc import Iterator
+from typing import Dict, List
+
+from lib import programs
+from lib.suite import Case, Setting
+
+ALONE = True
+COLOURS = ("CLICOLOR_FORCE", "TERM")
+RED = r"\033[1;31mred\033[0m"
+LINK = r"\033]8;;file:a\033\\link\033]8;;\033\\"
+SHOWN = {"order": ("echo a; echo b >&2; echo c; echo d >&2", b"a\nb\nc\nd\n"),
+         "no line feed": ("printf end", b"end\n"),
+         "nothing": ("true", b"")}
+SEQUENCES = {"colour": (RED, b"red\n", b"\x1b[1;31mred\x1b[0m\n"),
+             "link": (LINK, b"link\n", b"\x1b]8;;file:a\x1b\\link\x1b]8;;\x1b\\\n"),
+             "cut": (r"\033]0;title\nend", b"\nend\n", b"\x1b]0;title\nend\n")}
+
+
+def manifest(command: str) -> str:
+    """Returns a manifest with one edge, whose label is `label`."""
+    return f"rule r\n  command = {command}\n  description = label\nbuild out: r\n"
+
+
+def environment(variables: Dict[str, str]) -> Dict[str, str]:
+    """Returns the environment, of the variables that decide about colours with these only."""
+    return {**{name: value for name, value in os.environ.items() if name not in COLOURS}, **variables}
+
+
+def piped(words: List[str], folder: pathlib.Path, variables: Dict[str, str]) -> bytes:
+    """Returns what a program writes to a pipe."""
+    done = subprocess.run(words, cwd=folder, stdin=subprocess.DEVNULL, stdout=subprocess.PIPE,
+                          stderr=subprocess.STDOUT, timeout=programs.SECONDS, env=environment(variables))
+    return done.stdout
+
+
+def on_terminal(words: List[str], folder: pathlib.Path, variables: Dict[str, str]) -> bytes:
+    """Returns what a program writes to a terminal, without the returns that the terminal adds."""
+    master, slave = pty.openpty()
+    child = subprocess.Popen(words, cwd=folder, stdin=subprocess.DEVNULL, stdout=slave, stderr=slave,
+                             env=environment(variables))
+    os.close(slave)
+    found = b""
+    while True:
+        try:
+            part = os.read(master, 4096)
+        except OSError:  # the end, if the other side is closed
+            break
+        if not part:
+            break
+        found += part
+    os.close(master)
+    child.wait(timeout=programs.SECONDS)
+    return found.replace(b"\r\n", b"\n")
+
+
+def without_label(found: bytes) -> bytes:
+    """Returns the lines of a command, without those of the program."""
+    return b"".join(line for line in found.splitlines(True) if not line.startswith(b"[1/1] "))
+
+
+def compared(found: bytes, wanted: bytes) -> str:
+    """Returns what is wrong, or an empty text."""
+    return "" if without_label(found) == wanted else f"it printed {found!r}, wanted {wanted!r}"
+
+
+def shown_by_run(program: str, command: str, wanted: bytes, folder: pathlib.Path) -> str:
+    """`plan_ninja run` shows this of a command."""
+    programs.write({"build.ninja": manifest(command)}, folder)
+    programs.printed_lines([program, "compile", "build.ninja", "-o", "plan.img"], folder)
+    return compared(piped([program, "run", "plan.img"], folder, {}), wanted)
+
+
+def shown_by_build(builder: str, command: str, wanted: bytes, folder: pathlib.Path) -> str:
+    """plan_build shows this of a command."""
+    programs.write({"build.ninja": manifest(command)}, folder)
+    return compared(piped([builder], folder, {}), wanted)
+
+
+def sequences(builder: str, text: str, plain: bytes, whole: bytes, folder: pathlib.Path) -> Iterator[str]:
+    """plan_build keeps escape sequences only if they are wanted."""
+    programs.write({"build.ninja": manifest(f"printf '{text}'; rm -f out")}, folder)
+    yield compared(piped([builder], folder, {"TERM": "xterm"}), plain)
+    yield compared(piped([builder], folder, {"CLICOLOR_FORCE": "0"}), plain)
+    yield compared(piped([builder], folder, {"CLICOLOR_FORCE": "1"}), whole)
+    yield compared(on_terminal([builder], folder, {"TERM": "xterm"}), whole)
+    yield compared(on_terminal([builder], folder, {"TERM": "dumb"}), plain)
+    yield compared(on_terminal([builder], folder, {}), plain)
+
+
+def cases(setting: Setting) -> Iterator[Case]:
+    """Yields a case for each command, with each program."""
+    builder = programs.front(setting.program)
+    for name, (command, wanted) in SHOWN.items():
+        yield Case(f"run, {name}", functools.partial(shown_by_run, setting.program, command, wanted))
+    for name, (command, wanted) in SHOWN.items():
+        yield Case(f"build, {name}", functools.partial(shown_by_build, builder, command, wanted))
+    for name, (text, plain, whole) in SEQUENCES.items():
+        yield Case(f"sequences, {name}", functools.partial(sequences, builder, text, plain, whole))
