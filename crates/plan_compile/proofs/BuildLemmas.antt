@@ -1,8 +1,7 @@
 -- Building an edge with its numbers.
-use Rattle.std.proofs.Common.{◌≡◌, ◌++◌, ◌∷◌, [], ℕ, zero, suc, ◌+◌, ◌-◌, ◌<◌, List, length, take, drop, map, Some, refl, sym, ap, ◌∙◌, arith}
-use Rattle.std.specs.Prelude.{slice_get, slice_range}
-use Rattle.std.proofs.lemmas.List.{append_assoc, length-append}
-use Rattle.std.proofs.Math.Seq.{take-append_seam, drop-append_seam}
+use Rattle.std.proofs.Common.{◌≡◌, ◌++◌, ◌∷◌, [], ℕ, zero, suc, ◌+◌, ◌<◌, List, length, drop, map, Some, refl, sym, ap, ◌∙◌, arith}
+use Rattle.std.specs.Prelude.{slice_get}
+use Rattle.std.proofs.lemmas.List.{append_assoc}
 use Rattle.plan_scope.specs.Edge.{Edge as ManifestEdge}
 use Rattle.plan_graph.specs.declared.graph_data.Graph.{Graph}
 use Rattle.plan_compile.specs.declared.baseline.Baseline.{Baseline}
@@ -49,30 +48,3 @@ mapped_step {A = A} {B = B} f xs n x old new whole at pushed h =
 pub map_long : {A B : Type 0} (f : A → B) (xs : List A) → length (map f xs) ≡ length xs
 map_long f [] = refl
 map_long f (x ∷ xs) = ap suc (map_long f xs)
-
--- a list between two others
-between : (xs ys zs all : List ℕ) (a b : ℕ) → all ≡ (xs ++ ys) ++ zs → a ≡ length xs → b ≡ length (xs ++ ys) → slice_range all a b ≡ ys
-between xs ys zs all a b is ha hb =
-    let long : length (xs ++ ys) - length xs ≡ length ys = let l = length-append xs ys in omega (arith, l) in
-    ap (λ (ns : List ℕ). slice_range ns a b) (is ∙ append_assoc xs ys zs) ∙ ap (λ (i : ℕ). slice_range (xs ++ (ys ++ zs)) i b) ha ∙ ap (λ (j : ℕ). slice_range (xs ++ (ys ++ zs)) (length xs) j) hb
-    ∙ ap (λ (n : ℕ). take n (drop (length xs) (xs ++ (ys ++ zs)))) long ∙ ap (λ (ns : List ℕ). take (length ys) ns) (drop-append_seam xs (ys ++ zs)) ∙ take-append_seam ys zs
-
--- four appended lists, cut out again
-pub record AreCut (all o n d w : List ℕ) (a b c : ℕ) : Type 0 where
-  pub outputs : slice_range all 0 a ≡ o
-  pub named : slice_range all a b ≡ n
-  pub order_only : slice_range all b c ≡ d
-  pub waits : drop c all ≡ w
-
-pub cuts : (v0 v1 v2 v3 v4 o n d w : List ℕ) (a b c : ℕ) → v0 ≡ [] → v1 ≡ v0 ++ o → a ≡ length v1 → v2 ≡ v1 ++ n → b ≡ length v2 → v3 ≡ v2 ++ d → c ≡ length v3 → v4 ≡ v3 ++ w → AreCut v4 o n d w a b c
-cuts v0 v1 v2 v3 v4 o n d w a b c h0 h1 ha h2 hb h3 hc h4 =
-    let third : v4 ≡ (v2 ++ d) ++ w = h4 ∙ ap (λ (v : List ℕ). v ++ w) h3 in
-    let second : v4 ≡ (v1 ++ n) ++ (d ++ w) = third ∙ append_assoc v2 d w ∙ ap (λ (v : List ℕ). v ++ (d ++ w)) h2 in
-    let one : v1 ≡ [] ++ o = h1 ∙ ap (λ (v : List ℕ). v ++ o) h0 in
-    let first : v4 ≡ ([] ++ o) ++ (n ++ (d ++ w)) = second ∙ append_assoc v1 n (d ++ w) ∙ ap (λ (v : List ℕ). v ++ (n ++ (d ++ w))) one in
-    record {
-      outputs = between [] o (n ++ (d ++ w)) v4 0 a first refl (ha ∙ ap (λ (v : List ℕ). length v) one);
-      named = between v1 n (d ++ w) v4 a b second ha (hb ∙ ap (λ (v : List ℕ). length v) h2);
-      order_only = between v2 d w v4 b c third hb (hc ∙ ap (λ (v : List ℕ). length v) h3);
-      waits = ap (λ (i : ℕ). drop i v4) hc ∙ ap (λ (v : List ℕ). drop (length v3) v) h4 ∙ drop-append_seam v3 w;
-    }

@@ -1,9 +1,10 @@
-pub mod Talk
+pub mod InteractionTree
 pub mod Rule
 pub mod Emit
 pub mod Means
 pub mod Laws
 pub mod Stricter
+pub mod HeldNumbers
 pub mod Builds
 pub mod Slots
 pub mod Numbering

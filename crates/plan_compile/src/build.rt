@@ -1,6 +1,6 @@
 //! The edges of a manifest, with their files by number.
 
-ghost use Rattle.std.specs.Prelude.{◌≡◌, ◌<◌, ◌≤◌, ◌++◌, IfOk, OnOk, drop, filter, get_or, length, not, slice_get, slice_index, slice_range, take};
+ghost use Rattle.std.specs.Prelude.{◌≡◌, ◌<◌, IfOk, drop, filter, length, not, slice_get, slice_index, take};
 ghost use Rattle.plan_scope.specs.Edge.{Edge as EdgeMeant};
 ghost use Rattle.plan_graph.specs.Graph.{IsGraph};
 ghost use Rattle.plan_graph.specs.Files.{producer_at};
@@ -9,6 +9,7 @@ ghost use Rattle.plan_compile.specs.Builds.{build_at, builds_from, is_maker, wit
 ghost use Rattle.plan_compile.specs.Rule.{baseline_by};
 
 use crate::baseline::{Baseline, OutOfDateRule};
+use crate::file_numbers::FileNumbers;
 use plan_graph::{Files, Graph, files_complete, producers_numbered};
 use plan_scope::{EdgeList, EdgeRef, Manifest};
 use plan_text::Items;
@@ -21,32 +22,23 @@ pub(crate) struct Build<'a> {
     edges: &'a EdgeList,
     /// The number of the edge in the list.
     number: u32,
-    /// The outputs, the named inputs, the order-only inputs and the waits, as consecutive lists.
-    numbers: Vec<u32>,
-    named_at: usize,
-    order_only_at: usize,
-    waits_at: usize,
+    outputs: &'a [u32],
+    named: FileNumbers<'a>,
+    order_only: FileNumbers<'a>,
+    waits: &'a [u32],
     rank: u32,
     baseline: Baseline,
 }
 
 impl<'a> Model for Build<'a> {
-    ghost use Rattle.std.specs.Prelude.{◌<◌, ◌≤◌, drop, get_or, length, slice_range};
+    ghost use Rattle.std.specs.Prelude.{◌<◌, get_or, length};
     ghost use Rattle.plan_compile.specs.Builds.{Build, no_edge};
 
     ghost Value = { Build };
 
-    ghost view = { λ b. record { edge = get_or b.edges.now b.number no_edge; outputs = slice_range b.numbers.items 0 b.named_at; named = slice_range b.numbers.items b.named_at b.order_only_at; order_only = slice_range b.numbers.items b.order_only_at b.waits_at; waits = drop b.waits_at b.numbers.items; rank = b.rank; baseline = b.baseline } };
+    ghost view = { λ b. record { edge = get_or b.edges.now b.number no_edge; outputs = b.outputs.now; named = b.named; order_only = b.order_only; waits = b.waits.now; rank = b.rank; baseline = b.baseline } };
 
-    ghost invariant = { λ b. (b.number < length b.edges.now) × (b.named_at ≤ b.order_only_at) × (b.order_only_at ≤ b.waits_at) × (b.waits_at ≤ length b.numbers.items) };
-}
-
-/// Returns the numbers from `start` up to `end`.
-fn cut(numbers: &[u32], start: usize, end: usize) -> &[u32]
-    requires { (start ≤ end) × (end ≤ length numbers.now) }
-    ensures { result.now ≡ slice_range numbers.now start end }
-{
-    &numbers[start..end]
+    ghost invariant = { λ b. b.number < length b.edges.now };
 }
 
 impl<'a> Build<'a> {
@@ -63,28 +55,28 @@ impl<'a> Build<'a> {
     pub(crate) fn outputs(&self) -> &[u32]
         ensures { result.now ≡ self.now.outputs }
     {
-        cut(&self.numbers, 0, self.named_at)
+        self.outputs
     }
 
     /// Returns the numbers of its explicit and implicit inputs.
     pub(crate) fn named(&self) -> &[u32]
         ensures { result.now ≡ self.now.named }
     {
-        cut(&self.numbers, self.named_at, self.order_only_at)
+        self.named.as_slice()
     }
 
     /// Returns the numbers of its order-only inputs.
     pub(crate) fn order_only(&self) -> &[u32]
         ensures { result.now ≡ self.now.order_only }
     {
-        cut(&self.numbers, self.order_only_at, self.waits_at)
+        self.order_only.as_slice()
     }
 
     /// Returns the edges that it waits for.
     pub(crate) fn waits(&self) -> &[u32]
         ensures { result.now ≡ self.now.waits }
     {
-        &self.numbers[self.waits_at..]
+        self.waits
     }
 
     /// Returns its rank.
@@ -117,15 +109,6 @@ pub(crate) fn words(alloc: Global, numbers: &[u32]) -> Result<Items<u32>, AllocE
     Ok(Items::new(Vec::from_slice(alloc, numbers)?))
 }
 
-/// Appends numbers, and returns the length of the list after that.
-fn push_words(words: &mut Vec<u32>, numbers: &[u32]) -> Result<usize, AllocError>
-    ensures more { OnOk result (words.new.items ≡ words.old.items ++ numbers.now) }
-    ensures len { IfOk result (λ len. len ≡ length words.new.items) }
-{
-    words.extend_from_slice(numbers)?;
-    Ok(words.len())
-}
-
 /// Returns whether edge `edge` has a file as an output.
 fn makes<'a>(files: &Files<'a>, edge: u32, file: u32) -> bool
     ensures { result ≡ is_maker (producer_at files.now file) edge }
@@ -136,22 +119,22 @@ fn makes<'a>(files: &Files<'a>, edge: u32, file: u32) -> bool
     }
 }
 
-/// Appends the numbers of files, except outputs of edge `edge`. Returns the length of the list after that.
-fn push_not_made_by<'a>(
-    words: &mut Vec<u32>,
+/// Returns the numbers of files, except outputs of edge `edge`.
+fn not_made_by<'a>(
+    alloc: Global,
     files: &Files<'a>,
     edge: u32,
     numbers: &[u32],
-) -> Result<usize, AllocError>
-    ensures more { OnOk result (words.new.items ≡ words.old.items ++ filter (λ f. not (is_maker (producer_at files.now f) edge)) numbers.now) }
-    ensures len { IfOk result (λ len. len ≡ length words.new.items) }
+) -> Result<Vec<u32>, AllocError>
+    ensures { IfOk result (λ kept. kept.items ≡ filter (λ f. not (is_maker (producer_at files.now f) edge)) numbers.now) }
 {
+    let mut kept = Vec::with_capacity(alloc, numbers.len())?;
     for number in numbers {
         if !makes(files, edge, *number) {
-            words.push(*number)?;
+            kept.push(*number)?;
         }
     }
-    Ok(words.len())
+    Ok(kept)
 }
 
 /// Returns the first `count` numbers, or all if there are fewer.
@@ -186,22 +169,21 @@ fn number_at(numbers: &[u32], place: usize) -> u32
     }
 }
 
-/// Appends numbers of files. If the edge is a phony, its own outputs are left out. Returns the length of the
-/// list after that.
-fn push_kept<'a>(
-    words: &mut Vec<u32>,
-    files: &Files<'a>,
+/// Returns numbers of files. If the edge is a phony, its own outputs are left out.
+fn kept<'a, 'b>(
+    alloc: Global,
+    files: &Files<'b>,
     edge: u32,
     phony: bool,
-    numbers: &[u32],
-) -> Result<usize, AllocError>
-    ensures more { OnOk result (words.new.items ≡ words.old.items ++ without_made files.now edge phony numbers.now) }
-    ensures len { IfOk result (λ len. len ≡ length words.new.items) }
+    numbers: &'a [u32],
+) -> Result<FileNumbers<'a>, AllocError>
+    ensures { IfOk result (λ kept. kept ≡ without_made files.now edge phony numbers.now) }
 {
     if phony {
-        push_not_made_by(words, files, edge, numbers)
+        let numbers = not_made_by(alloc, files, edge, numbers)?;
+        Ok(FileNumbers::of_vec(numbers))
     } else {
-        push_words(words, numbers)
+        Ok(FileNumbers::of_slice(numbers))
     }
 }
 
@@ -222,10 +204,10 @@ fn baseline_by(restat: bool, generator: bool, rule: OutOfDateRule) -> Baseline
 }
 
 /// Returns edge `number` of the manifest.
-fn numbered<'a, 'b>(
+fn build_at_number<'a, 'b>(
     alloc: Global,
     manifest: &'a Manifest,
-    graph: &Graph<'b>,
+    graph: &'a Graph<'b>,
     rule: OutOfDateRule,
     number: usize,
 ) -> Result<Build<'a>, AllocError>
@@ -238,24 +220,17 @@ fn numbered<'a, 'b>(
     let edge = manifest.edges.edge(number);
     let phony = edge.is_phony();
     let own = word(number);
-    let outputs = graph.outputs.row(number);
     let inputs = graph.inputs.row(number);
-    let waits = graph.waits.row(number);
     let count = inputs.len().saturating_sub(edge.order_only_inputs().len());
-    let mut numbers = Vec::with_capacity(alloc, outputs.len() + inputs.len() + waits.len())?;
-    let named_at = push_words(&mut numbers, outputs)?;
-    let named = front(inputs, count);
-    let order_only_at = push_kept(&mut numbers, &graph.files, own, phony, named)?;
-    let order_only = back(inputs, count);
-    let waits_at = push_kept(&mut numbers, &graph.files, own, phony, order_only)?;
-    push_words(&mut numbers, waits)?;
+    let named = kept(alloc, &graph.files, own, phony, front(inputs, count))?;
+    let order_only = kept(alloc, &graph.files, own, phony, back(inputs, count))?;
     Ok(Build {
         edges: &manifest.edges,
         number: own,
-        numbers,
-        named_at,
-        order_only_at,
-        waits_at,
+        outputs: graph.outputs.row(number),
+        named,
+        order_only,
+        waits: graph.waits.row(number),
         rank: number_at(graph.ranks.as_slice(), number),
         baseline: baseline_by(edge.has_restat(), edge.is_generator(), rule),
     })
@@ -265,7 +240,7 @@ fn numbered<'a, 'b>(
 pub(crate) fn builds<'a, 'b>(
     alloc: Global,
     manifest: &'a Manifest,
-    graph: &Graph<'b>,
+    graph: &'a Graph<'b>,
     rule: OutOfDateRule,
 ) -> Result<Vec<Build<'a>>, AllocError>
     requires { IsGraph manifest.now graph.now }
@@ -274,7 +249,7 @@ pub(crate) fn builds<'a, 'b>(
     let count = manifest.edges.len();
     let mut builds = Vec::with_capacity(alloc, count)?;
     for number in 0..count {
-        builds.push(numbered(alloc, manifest, graph, rule, number)?)?;
+        builds.push(build_at_number(alloc, manifest, graph, rule, number)?)?;
     }
     Ok(builds)
 }

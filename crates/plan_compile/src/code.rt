@@ -5,11 +5,33 @@ ghost use Rattle.plan_image.specs.Bodies.{leave_open, open_operand, with_operand
 ghost use Rattle.plan_image.specs.declared.instr.BodyInstr.TheVariants as member;
 ghost use Rattle.plan_compile.specs.BodyKeys.{body_at, IsSmall, member_number};
 
-use crate::members::{fixed_number, member_at, open_number};
+use crate::opcodes::{fixed_number, member_at, open_number};
 use plan_image::{Body, BodyInstr, Instr, Opening, split_law};
 use plan_text::Memory;
 use std::alloc::{AllocError, Global};
 use std::marker::Model;
+
+/// Appends a number to a full list. It is a function of its own, so that `push_number` is short.
+#[cold]
+#[inline(never)]
+fn push_growing<N: Copy>(numbers: &mut Vec<N>, number: N) -> Result<(), AllocError>
+    ensures { OnOk result (numbers.new.items ≡ numbers.old.items ++ number ∷ []) }
+{
+    numbers.push(number)?;
+    Ok(())
+}
+
+/// Appends a number.
+#[inline]
+fn push_number<N: Copy>(numbers: &mut Vec<N>, number: N) -> Result<(), AllocError>
+    ensures { OnOk result (numbers.new.items ≡ numbers.old.items ++ number ∷ []) }
+{
+    if numbers.len() == numbers.capacity() {
+        return push_growing(numbers, number);
+    }
+    numbers.push(number)?;
+    Ok(())
+}
 
 /// Appends an instruction that the body has with its operand.
 #[inline(always)]
@@ -17,8 +39,7 @@ fn put_fixed(key: &mut Vec<u64>, instr: Instr) -> Result<(), AllocError>
     ensures key { OnOk result (key.new.items ≡ key.old.items ++ member_number (member.Fixed instr) ∷ []) }
     ensures small { IsSmall (member_number (member.Fixed instr)) }
 {
-    key.push(fixed_number(instr))?;
-    Ok(())
+    push_number(key, fixed_number(instr))
 }
 
 /// Appends an instruction that the body leaves open, and its operand.
@@ -33,9 +54,8 @@ fn put_open(
     ensures operands { OnOk result (operands.new.items ≡ operands.old.items ++ operand ∷ []) }
     ensures small { IsSmall (member_number (member.Open opening)) }
 {
-    key.push(open_number(opening))?;
-    operands.push(operand)?;
-    Ok(())
+    push_number(key, open_number(opening))?;
+    push_number(operands, operand)
 }
 
 /// Appends an instruction to the body, and its operand to the operands if it is left open.
@@ -68,7 +88,7 @@ fn members_of(alloc: Global, key: &[u64]) -> Result<Vec<BodyInstr>, AllocError>
 }
 
 /// Returns the instructions of a body with these operands filled in.
-fn filled(alloc: Global, body: &Body, operands: &[u32]) -> Result<Vec<Instr>, AllocError>
+fn fill_body(alloc: Global, body: &Body, operands: &[u32]) -> Result<Vec<Instr>, AllocError>
     ensures { IfOk result (λ instrs. instrs.items ≡ with_operands body.now operands.now) }
 {
     let mut instrs = Vec::with_capacity(alloc, body.len())?;
@@ -175,7 +195,7 @@ impl Code {
     {
         split_law();
         let body = self.body(alloc)?;
-        let instrs = filled(alloc, &body, self.operands())?;
+        let instrs = fill_body(alloc, &body, self.operands())?;
         Ok(instrs)
     }
 }

@@ -21,7 +21,7 @@ use crate::edges::edges_of;
 use crate::fault::CompileFault;
 use crate::image_laws::{image_is_spelled, manifests_are_sound};
 use crate::names::{Names, Texts, names_of, pool_table};
-use crate::slots::{planned, slot_count};
+use crate::slots::{plan_slots, slot_count};
 use plan_graph::{Files, Graph};
 use plan_image::{Edges, Image, Parts, Pool, Slot};
 use plan_scope::Manifest;
@@ -70,7 +70,7 @@ struct Named<'a> {
 fn name_all<'a, 'b>(
     alloc: Global,
     manifest: &'a Manifest,
-    graph: &Graph<'b>,
+    graph: &'a Graph<'b>,
     rule: OutOfDateRule,
 ) -> Result<Named<'a>, AllocError>
     requires { IsGraph manifest.now graph.now }
@@ -108,7 +108,7 @@ fn code_all<'a>(alloc: Global, files: usize, named: &Named<'a>) -> Result<Coded,
     let Some(count) = slot_count(&named.builds) else {
         return Err(CompileFault::Limit);
     };
-    let plan = planned(alloc, files, count, &named.builds)?;
+    let plan = plan_slots(alloc, files, count, &named.builds)?;
     let (edges, bodies) = edges_of(alloc, &plan, &named.names.numbers, &named.builds)?;
     Ok(Coded {
         slots: plan.slots,
@@ -152,7 +152,7 @@ fn tables_of<'a, 'b>(
 }
 
 /// Assembles the tables of the image.
-fn assembled(tables: Tables, coded: Coded) -> Parts
+fn assemble(tables: Tables, coded: Coded) -> Parts
     ensures { result ≡ record { texts = tables.texts; files = tables.files; pools = tables.pools; slots = coded.slots.items; bodies = Some coded.bodies; edges = coded.edges; defaults = tables.defaults } }
 {
     Parts {
@@ -188,7 +188,7 @@ fn parts<'a>(
     }
     let coded = code_all(alloc, graph.files.len(), &named)?;
     let tables = tables_of(alloc, manifest, graph, &named.names)?;
-    Ok(assembled(tables, coded))
+    Ok(assemble(tables, coded))
 }
 
 /// Compiles a manifest with its graph to an image of version 2, for an out-of-date rule. The edges have the

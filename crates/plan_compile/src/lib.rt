@@ -2,8 +2,8 @@
 //! rule requires.
 //!
 //! - `compile` returns the image of a manifest with its graph, or a `CompileFault`.
-//! - `Wiring` is an edge by its numbers in an image's tables. It has one form for each sort of edge:
-//!   `CommandWiring`, `GatherWiring`, or the outputs of a phony without inputs. `Input` and `Output` are its
+//! - `EdgeLayout` is an edge by its numbers in an image's tables. It has one variant for each sort of edge:
+//!   `CommandLayout`, `GatherLayout`, or the outputs of a phony without inputs. `Input` and `Output` are its
 //!   inputs and outputs.
 //! - `OutOfDateRule` is the rule that an image is compiled for, and `Baseline` is the baseline of an edge under
 //!   it.
@@ -25,35 +25,36 @@ mod build;
 mod code;
 mod command;
 mod compiling;
-mod edge_wiring;
+mod edge_layout;
 mod edges;
 mod emitting;
 mod fault;
-mod form;
+mod file_numbers;
 mod image_laws;
 mod inputs;
-mod key;
 mod laws;
+mod layout;
 mod lists;
 mod lookups;
-mod members;
 mod names;
 mod numbers;
+mod opcodes;
 mod outputs;
+mod slot_pattern;
 mod slots;
-mod wiring;
+mod text_key;
 
 pub use baseline::{Baseline, OutOfDateRule};
 pub use compiling::compile;
 pub use emitting::edge_code;
 pub use fault::CompileFault;
-pub use form::Form;
 pub use image_laws::{
-    image_is_faithful, image_is_shaped, image_is_spelled, image_is_wired, image_keeps_to_rule,
+    image_is_faithful, image_is_laid_out, image_is_shaped, image_is_spelled, image_keeps_to_rule,
     image_means, manifests_are_sound, one_assignment,
 };
 pub use laws::{
     changes_are_seen, command_means, command_shaped, phony_means, phony_shaped, runs_keep_to_rule,
     stricter_is_no_laxer, unchanged_is_clean,
 };
-pub use wiring::{CommandWiring, GatherWiring, Input, Output, Wiring};
+pub use layout::{CommandLayout, EdgeLayout, GatherLayout, Input, Output};
+pub use slot_pattern::SlotPattern;

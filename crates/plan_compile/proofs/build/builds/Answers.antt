@@ -10,4 +10,4 @@ loop-number-preserved c =
     let lt : n < length es = omega (arith, c.loop-number-test.true, c.len-count.ensures) in
     let at = get_at es n lt in
     builds_step c.args.rule c.args.graph.now es n at.0 c.loop-number.builds.items c.push.new.self.items _ at.1
-    (c.in_ok-push.ensures.items ∙ ap (λ (b : Build). c.loop-number.builds.items ++ b ∷ []) (c.in_ok-numbered.ensures at.0 at.1)) c.loop-number.invariant
+    (c.in_ok-push.ensures.items ∙ ap (λ (b : Build). c.loop-number.builds.items ++ b ∷ []) (c.in_ok-build_at_number.ensures at.0 at.1)) c.loop-number.invariant

@@ -3,11 +3,11 @@ use Rattle.std.specs.Prelude.{slice_index}
 use Rattle.plan_scope.specs.Edge.{Edge as EdgeMeant}
 use Rattle.plan_compile.specs.Rule.{baseline_by}
 use Rattle.plan_compile.specs.Builds.{named_count, no_edge, without_made, without_own}
-use Rattle.plan_compile.proofs.BuildLemmas.{AreCut, cuts, same_build}
+use Rattle.plan_compile.proofs.BuildLemmas.{same_build}
 use Rattle.plan_compile.proofs.ListLemmas.{some_is}
 use Rattle.plan_compile.proofs.MemberLemmas.{index_or, in_take, in_drop}
 use Rattle.plan_compile.proofs.SoundLemmas.{without_same}
-use Rattle.plan_compile.proofs.build.numbered.Goals as goal
+use Rattle.plan_compile.proofs.build.build_at_number.Goals as goal
 
 pub returns : goal.returns
 returns c = λ edge at.
@@ -24,19 +24,15 @@ returns c = λ edge at.
     let count : c.saturating_sub-count.result ≡ few =
     c.saturating_sub-count.ensures ∙ ap (λ (k : ℕ). length c.row-inputs.result.now - k) (c.len.ensures ∙ ap length c.order_only_inputs.ensures ∙ ap (λ (e : EdgeMeant). length e.paths.order_only_inputs) found)
     ∙ ap (λ (fs : List ℕ). length fs - length edge.paths.order_only_inputs) c.row-inputs.ensures in
-    let front : c.front-named.result.now ≡ take few row = c.front-named.ensures ∙ ap (λ (k : ℕ). take k c.row-inputs.result.now) count ∙ ap (λ (fs : List ℕ). take few fs) c.row-inputs.ensures in
-    let back : c.back-order_only.result.now ≡ drop few row = c.back-order_only.ensures ∙ ap (λ (k : ℕ). drop k c.row-inputs.result.now) count ∙ ap (λ (fs : List ℕ). drop few fs) c.row-inputs.ensures in
-    let named : without_made g.files own phony c.front-named.result.now ≡ without_own edge.phony (get_or g.outputs n []) (take few row) =
-    ap (λ (k : ℕ). without_made g.files k phony c.front-named.result.now) c.word-own.ensures ∙ ap (λ (fs : List ℕ). without_made g.files n phony fs) front ∙ ap (λ (b : Bool). without_made g.files n b (take few row)) is_phony
+    let front : c.front.result.now ≡ take few row = c.front.ensures ∙ ap (λ (k : ℕ). take k c.row-inputs.result.now) count ∙ ap (λ (fs : List ℕ). take few fs) c.row-inputs.ensures in
+    let back : c.back.result.now ≡ drop few row = c.back.ensures ∙ ap (λ (k : ℕ). drop k c.row-inputs.result.now) count ∙ ap (λ (fs : List ℕ). drop few fs) c.row-inputs.ensures in
+    let named : without_made g.files own phony c.front.result.now ≡ without_own edge.phony (get_or g.outputs n []) (take few row) =
+    ap (λ (k : ℕ). without_made g.files k phony c.front.result.now) c.word-own.ensures ∙ ap (λ (fs : List ℕ). without_made g.files n phony fs) front ∙ ap (λ (b : Bool). without_made g.files n b (take few row)) is_phony
     ∙ without_same c.args.rule m g c.requires.graph c.files_complete.ensures c.producers_numbered.ensures n edge (take few row) at (λ f i. in_take few row f i) edge.phony in
-    let order_only : without_made g.files own phony c.back-order_only.result.now ≡ without_own edge.phony (get_or g.outputs n []) (drop few row) =
-    ap (λ (k : ℕ). without_made g.files k phony c.back-order_only.result.now) c.word-own.ensures ∙ ap (λ (fs : List ℕ). without_made g.files n phony fs) back ∙ ap (λ (b : Bool). without_made g.files n b (drop few row)) is_phony
+    let order_only : without_made g.files own phony c.back.result.now ≡ without_own edge.phony (get_or g.outputs n []) (drop few row) =
+    ap (λ (k : ℕ). without_made g.files k phony c.back.result.now) c.word-own.ensures ∙ ap (λ (fs : List ℕ). without_made g.files n phony fs) back ∙ ap (λ (b : Bool). without_made g.files n b (drop few row)) is_phony
     ∙ without_same c.args.rule m g c.requires.graph c.files_complete.ensures c.producers_numbered.ensures n edge (drop few row) at (λ f i. in_drop few row f i) edge.phony in
-    let cut : AreCut c.push_words-2.new.words.items c.row-outputs.result.now (without_made g.files own phony c.front-named.result.now) (without_made g.files own phony c.back-order_only.result.now) c.row-waits.result.now
-    c.in_ok-named_at.named_at c.in_ok-order_only_at.order_only_at c.in_ok-waits_at.waits_at =
-    cuts _ _ _ _ _ _ _ _ _ _ _ _ c.in_ok-numbers.ensures.items c.in_ok-named_at.ensures.more c.in_ok-named_at.ensures.len c.in_ok-order_only_at.ensures.more c.in_ok-order_only_at.ensures.len
-    c.in_ok-waits_at.ensures.more c.in_ok-waits_at.ensures.len c.in_ok-push_words.ensures.more in
-    same_build (get_or m.edges c.word-own.result no_edge) edge _ _ _ _ _ _ _ _ _ _ _ _ built (cut.outputs ∙ c.row-outputs.ensures) (cut.named ∙ named) (cut.order_only ∙ order_only) (cut.waits ∙ c.row-waits.ensures)
+    same_build (get_or m.edges c.word-own.result no_edge) edge _ _ _ _ _ _ _ _ _ _ _ _ built c.row.ensures (c.in_ok-named.ensures ∙ named) (c.in_ok-order_only.ensures ∙ order_only) c.row-2.ensures
     (c.number_at.ensures ∙ ap (λ (rs : List ℕ). slice_index rs n) c.as_slice.ensures)
     (c.baseline_by.ensures ∙ ap (λ (b : Bool). baseline_by b c.is_generator.result c.args.rule) (c.has_restat.ensures ∙ ap (λ (e : EdgeMeant). e.restat) found) ∙ ap (λ (b : Bool). baseline_by edge.restat b c.args.rule) (c.is_generator.ensures ∙ ap (λ (e : EdgeMeant). e.generator) found))
 
